@@ -52,8 +52,8 @@ fn replace_file(
 }
 
 /// Writes the answer to the file of this name. A file is replaced as a whole, also where a link leads to it; what is no
-/// file, as a pipe, takes the answer. Errors: those of the file, after which it stands as before; a folder. Cost: linear
-/// in the answer.
+/// file, as a pipe, takes the answer. Errors: those of the file, after which it stands as before; a folder. Cost:
+/// linear in the answer.
 pub fn write_file(rt: &HostRuntime, name: &str, answer: &[u8]) -> io::Result<()> {
     match fs::metadata(rt, name) {
         Ok(metadata) if metadata.is_dir() => Err(io::Error::from(ErrorKind::IsADirectory)),

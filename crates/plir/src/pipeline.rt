@@ -8,8 +8,8 @@ fn is_separator(letter: char) -> bool {
     matches!(letter, ',' | '(' | ')' | '<' | '>' | ':')
 }
 
-/// The pipeline without the blanks at its ends and beside commas, brackets and colons. Errors: allocation failure. Cost:
-/// linear in it.
+/// The pipeline without the blanks at its ends and beside commas, brackets and colons. Errors: allocation failure.
+/// Cost: linear in it.
 pub fn without_blanks(alloc: Global, pipeline: &str) -> Result<String, AllocError> {
     let mut text = String::new(alloc);
     let mut has_gap = false;
@@ -39,8 +39,8 @@ fn is_pipeline(alloc: Global, argument: &str) -> Result<bool, AllocError> {
     }
 }
 
-/// The pipeline and the file that the arguments name; the file is `-` where none is named. The pipeline stands first, but
-/// where the second argument is one and the first isn't. Errors: allocation failure. Cost: linear in them.
+/// The pipeline and the file that the arguments name; the file is `-` where none is named. The pipeline stands first,
+/// but where the second argument is one and the first isn't. Errors: allocation failure. Cost: linear in them.
 pub fn pipeline_and_file<'a>(
     alloc: Global,
     matches: &ArgMatches<'a>,

@@ -50,11 +50,11 @@ pub extern "C" fn plir_optimise(
     optimise_into::<BenchNotation>(alloc, pipeline, text, output, needed).number()
 }
 
-/// Puts what `plir_opt graph` writes for a graph into the buffer: its orders, its search numbers, the kinds of its edges
-/// and its components. Answers and tells as `plir_optimise` does.
+/// Puts what `plir_opt graph` writes for a graph into the buffer: its orders, its search numbers, the kinds of its
+/// edges and its components. Answers and tells as `plir_optimise` does.
 ///
-/// Nothing is written to the buffer unless the whole answer fits. Cost: linear in the text, but for an ordered map of the
-/// numbers of its nodes and for sorting each component.
+/// Nothing is written to the buffer unless the whole answer fits. Cost: linear in the text, but for an ordered map of
+/// the numbers of its nodes and for sorting each component.
 #[unsafe(no_mangle)]
 pub extern "C" fn plir_graph(
     alloc: Global,
@@ -67,8 +67,9 @@ pub extern "C" fn plir_graph(
     describe_graph_into(alloc, text, output, needed).number()
 }
 
-/// Tells where a text of the bench notation leaves it, or is too long, and puts what was to stand there into the buffer;
-/// of a text that is read the place is all zeros, and nothing is put. Answers and tells as `plir_optimise` does.
+/// Tells where a text of the bench notation leaves it, or is too long, and puts what was to stand there into the
+/// buffer; of a text that is read the place is all zeros, and nothing is put. Answers and tells as `plir_optimise`
+/// does.
 ///
 /// Nothing is written to the buffer unless all fits. It fails on allocation failure alone. Cost: that of reading.
 #[unsafe(no_mangle)]

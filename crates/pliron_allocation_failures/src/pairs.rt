@@ -35,7 +35,8 @@ impl ConstFoldInterface for Pairs {
 
     ghost constant_head = { bench_constant_head };
 
-    ghost outcome = { materialising_outcome bench (λ s known. Some (Int (pos 1)) ∷ Some (Int (pos 2)) ∷ []) bench_accepts bench_constant_head };
+    ghost outcome = { materialising_outcome bench (λ s known. Some (Int (pos 1)) ∷ Some (Int (pos 2)) ∷ [])
+        bench_accepts bench_constant_head };
 
     fn folds(op: Ptr<Operation>, ctx: &Context) -> bool {
         Bench::is_kind(op, ctx, BenchKind::Pair)

@@ -20,7 +20,8 @@ fn if_move(
     memo: &Datum,
     input: &[Datum],
 ) -> Result<Move, AllocError>
-    ensures { IfOk result (λ next. MovesBy counts.now (move_of next) (λ s. if_act s (datum_of_value memo.now) (map datum_of_value input.now))) }
+    ensures { IfOk result (λ next. MovesBy counts.now (move_of next) (λ s. if_act s (datum_of_value memo.now)
+        (map datum_of_value input.now))) }
 {
     let region = choice_by_input(input);
     let rest = behind_first(input);
@@ -32,8 +33,9 @@ fn if_move(
 
 // The region once more, unless the first value says that it is over.
 fn again_move(alloc: Global, counts: &ShapeCounts, input: &[Datum]) -> Result<Move, AllocError>
-    ensures { IfOk result (λ next. MovesBy counts.now (move_of next) (λ s. again_unless (is_zero (condition_of (map datum_of_value input.now))) s (drop 1
-        (map datum_of_value input.now)))) }
+    ensures { IfOk result (λ next. MovesBy counts.now (move_of next)
+        (λ s. again_unless (is_zero (condition_of (map datum_of_value input.now))) s
+        (drop 1 (map datum_of_value input.now)))) }
 {
     let rest = behind_first(input);
     if is_over(input) {
@@ -50,7 +52,8 @@ fn while_move(
     memo: &Datum,
     input: &[Datum],
 ) -> Result<Move, AllocError>
-    ensures { IfOk result (λ next. MovesBy counts.now (move_of next) (λ s. while_act s (datum_of_value memo.now) (map datum_of_value input.now))) }
+    ensures { IfOk result (λ next. MovesBy counts.now (move_of next) (λ s. while_act s (datum_of_value memo.now)
+        (map datum_of_value input.now))) }
 {
     match memo {
         Datum::Empty => visit(alloc, counts, 0, input),

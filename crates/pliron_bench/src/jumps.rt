@@ -103,7 +103,8 @@ pub fn operands_at(
     requires live { IsLive ctx.now.tree op }
     requires within { (j : ℕ) → j < places.count → places.first + j < length (operands_of ctx.now.tree op) }
     requires fits { places.first + places.count ≤ 18446744073709551615 }
-    ensures { IfOk result (λ values. map Some values.items ≡ pick (range_with_len places.first places.count) (operands_of ctx.now.tree op)) }
+    ensures { IfOk result (λ values. map Some values.items ≡ pick (range_with_len places.first places.count)
+        (operands_of ctx.now.tree op)) }
 {
     let mut values = Vec::new(alloc);
     for j in 0..places.count {
@@ -118,7 +119,8 @@ pub fn operand_among(op: Ptr<Operation>, ctx: &Context, places: Places, j: usize
     requires live { IsLive ctx.now.tree op }
     requires within { (k : ℕ) → k < places.count → places.first + k < length (operands_of ctx.now.tree op) }
     requires fits { places.first + places.count ≤ 18446744073709551615 }
-    ensures { option_map Some result ≡ slice_get (pick (range_with_len places.first places.count) (operands_of ctx.now.tree op)) j }
+    ensures { option_map Some result ≡ slice_get (pick (range_with_len places.first places.count)
+        (operands_of ctx.now.tree op)) j }
 {
     if j < places.count {
         Some(op.get_operand(ctx, places.first + j))

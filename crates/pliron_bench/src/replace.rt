@@ -54,7 +54,8 @@ fn put_jump<R: Rewriter>(
     requires target { IsBlock ctx.old.tree target }
     requires free { parent_of ctx.old.tree jump ≡ None }
     requires point { IsPointFor ctx.old.tree (R.point rewriter.old) jump }
-    ensures ok { OnOk result (ctx.new.tree ≡ after_inserting (with_edges ctx.old.tree jump values.now (target ∷ [])) (R.point rewriter.old) jump) }
+    ensures ok { OnOk result (ctx.new.tree ≡ after_inserting (with_edges ctx.old.tree jump values.now (target ∷ []))
+        (R.point rewriter.old) jump) }
     ensures err { OnErr result ((given blocks : List ℕ) × (ctx.new.tree ≡ with_edges ctx.old.tree jump given blocks)) }
     ensures point { R.point rewriter.new ≡ R.point rewriter.old }
 {
@@ -82,7 +83,8 @@ pub fn jump_in_place<R: Rewriter + Room>(
     requires no_results { results_of ctx.old.tree op ≡ [] }
     requires no_regions { regions_of ctx.old.tree op ≡ [] }
     requires point { R.point rewriter.old ≡ BeforeOperation op }
-    ensures ok { OnOk result ((o : OperationOf) → op_at ctx.old.tree op ≡ Some o → BecomesJump ctx.old.tree ctx.new.tree op o edge) }
+    ensures ok { OnOk result ((o : OperationOf) → op_at ctx.old.tree op ≡ Some o → BecomesJump ctx.old.tree ctx.new.tree
+        op o edge) }
     ensures refused { OnErr result (IsSameTree ctx.old.tree ctx.new.tree) }
     ensures memory { IsOkUnless result OptError.Memory }
     ensures longer { length ctx.old.tree.operations ≤ length ctx.new.tree.operations }

@@ -13,8 +13,8 @@ use pliron_core::{Context, Operation, Ptr};
 fn edge_fits(op: Ptr<Operation>, ctx: &Context, i: usize) -> bool
     requires live { IsLive ctx.now.tree op }
     requires edge { i < length (successors_of ctx.now.tree op) }
-    ensures { (h : HeadOf) (b : ℕ) → head_of ctx.now.tree op ≡ Some h → slice_get (successors_of ctx.now.tree op) i ≡ Some b → IsTrue result ↔
-        (length (edge_places ctx.now.tree op h i) ≡ length (arguments_of ctx.now.tree b)) }
+    ensures { (h : HeadOf) (b : ℕ) → head_of ctx.now.tree op ≡ Some h → slice_get (successors_of ctx.now.tree op) i
+        ≡ Some b → IsTrue result ↔ (length (edge_places ctx.now.tree op h i) ≡ length (arguments_of ctx.now.tree b)) }
 {
     let target = op.get_successor(ctx, i);
     places_at(op, ctx, i).count == target.num_argument(ctx)

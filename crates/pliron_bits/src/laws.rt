@@ -6,11 +6,14 @@ ghost use Rattle.pliron_bits.specs.Numbers.{signed_value, is_signed, bits_of};
 /// its bits are, read as signed. Cost: constant.
 pub fn readings_are_inverse()
     ensures bits { (width n : ℕ) → n < 2 ^ width → bits_of width (signed_value width n) ≡ n }
-    ensures signed { (width : ℕ) (z : ℤ) → 1 ≤ width → IsTrue (is_signed width z) → signed_value width (bits_of width z) ≡ z }
+    ensures signed { (width : ℕ) (z : ℤ) → 1 ≤ width → IsTrue (is_signed width z) → signed_value width (bits_of width z)
+        ≡ z }
 {}
 
 /// Sums and differences of numbers read as signed have the bits of the unsigned ones. Cost: constant.
 pub fn signed_results_agree()
-    ensures sums { (width a b : ℕ) → bits_of width (signed_value width a +ℤ signed_value width b) ≡ (a + b) % 2 ^ width }
-    ensures differences { (width a b : ℕ) → b < 2 ^ width → bits_of width (signed_value width a -ℤ signed_value width b) ≡ (a + (2 ^ width - b)) % 2 ^ width }
+    ensures sums { (width a b : ℕ) → bits_of width (signed_value width a +ℤ signed_value width b) ≡ (a + b) % 2 ^
+        width }
+    ensures differences { (width a b : ℕ) → b < 2 ^ width → bits_of width (signed_value width a -ℤ signed_value width b)
+        ≡ (a + (2 ^ width - b)) % 2 ^ width }
 {}

@@ -74,8 +74,8 @@ fn place_in(text: &[u8], start: usize, len: usize) -> Place
     }
 }
 
-/// Tells where a text of the bench notation leaves it, or is too long, and puts what was to stand there into the buffer;
-/// of a text that is read the place is no part, and nothing is put.
+/// Tells where a text of the bench notation leaves it, or is too long, and puts what was to stand there into the
+/// buffer; of a text that is read the place is no part, and nothing is put.
 ///
 /// Nothing is written to the buffer unless all fits. It fails on allocation failure alone. Cost: that of reading.
 pub fn find_fault_into(

@@ -62,15 +62,16 @@ fn fold_known<D: Dialect, R: Rewriter + Room>(
     rewriter: &mut R,
 ) -> Result<IRStatus, OptError>
     requires known { known.now ≡ constants_of D.meaning D.can_fold D.constants ctx.old.tree op }
-    requires branch { (root : ℕ) × IsWellLinked D.meaning ctx.old.tree root × IsBranchInside D.can_fold_branch ctx.old.tree root op }
+    requires branch { (root : ℕ) × IsWellLinked D.meaning ctx.old.tree root × IsBranchInside D.can_fold_branch
+        ctx.old.tree root op }
     ensures ok { IfOk result (λ status. D.BranchOpFoldInterface.outcome ctx.old.tree ctx.new.tree op
         (constants_of D.meaning D.can_fold D.constants ctx.old.tree op) (Some status)) }
     ensures refused { OnErr result (D.BranchOpFoldInterface.outcome ctx.old.tree ctx.new.tree op
         (constants_of D.meaning D.can_fold D.constants ctx.old.tree op) None) }
     ensures memory { IsOkUnless result OptError.Memory }
     ensures told { IfOk result (λ status. ReportsAnyErased status ctx.old.tree ctx.new.tree) }
-    ensures step { (root : ℕ) → IsWellLinked D.meaning ctx.old.tree root → IsBranchInside D.can_fold_branch ctx.old.tree root op →
-        IsBranchFoldStep D.meaning D.can_fold_branch ctx.old.tree ctx.new.tree root op }
+    ensures step { (root : ℕ) → IsWellLinked D.meaning ctx.old.tree root → IsBranchInside D.can_fold_branch ctx.old.tree
+        root op → IsBranchFoldStep D.meaning D.can_fold_branch ctx.old.tree ctx.new.tree root op }
 {
     ctx.well_formed();
     rewriter.set_insertion_point_before_operation(op);
@@ -86,15 +87,16 @@ fn fold_one<D: Dialect, R: Rewriter + Room>(
     ctx: &mut Context,
     rewriter: &mut R,
 ) -> Result<IRStatus, OptError>
-    requires branch { (root : ℕ) × IsWellLinked D.meaning ctx.old.tree root × IsBranchInside D.can_fold_branch ctx.old.tree root op }
+    requires branch { (root : ℕ) × IsWellLinked D.meaning ctx.old.tree root × IsBranchInside D.can_fold_branch
+        ctx.old.tree root op }
     ensures ok { IfOk result (λ status. D.BranchOpFoldInterface.outcome ctx.old.tree ctx.new.tree op
         (constants_of D.meaning D.can_fold D.constants ctx.old.tree op) (Some status)) }
-    ensures refused { OnErr result (ctx.new.tree ≡ ctx.old.tree ⊎ D.BranchOpFoldInterface.outcome ctx.old.tree ctx.new.tree op
-        (constants_of D.meaning D.can_fold D.constants ctx.old.tree op) None) }
+    ensures refused { OnErr result (ctx.new.tree ≡ ctx.old.tree ⊎ D.BranchOpFoldInterface.outcome ctx.old.tree
+        ctx.new.tree op (constants_of D.meaning D.can_fold D.constants ctx.old.tree op) None) }
     ensures memory { IsOkUnless result OptError.Memory }
     ensures told { IfOk result (λ status. ReportsAnyErased status ctx.old.tree ctx.new.tree) }
-    ensures step { (root : ℕ) → IsWellLinked D.meaning ctx.old.tree root → IsBranchInside D.can_fold_branch ctx.old.tree root op →
-        IsBranchFoldStep D.meaning D.can_fold_branch ctx.old.tree ctx.new.tree root op }
+    ensures step { (root : ℕ) → IsWellLinked D.meaning ctx.old.tree root → IsBranchInside D.can_fold_branch ctx.old.tree
+        root op → IsBranchFoldStep D.meaning D.can_fold_branch ctx.old.tree ctx.new.tree root op }
 {
     ctx.well_formed();
     let known = known_operands::<D>(alloc, op, ctx)?;
@@ -129,7 +131,8 @@ pub fn fold_branches<D: Dialect, R: Rewriter + Room>(
         (branches_of D.can_fold_branch ctx.old.tree root) ctx.old.tree ctx.new.tree) }
     ensures memory { IsOkUnless result OptError.Memory }
     ensures change { IsWholeChange D.meaning ctx.old.tree ctx.new.tree root }
-    ensures links { (r : ℕ) → IsLive ctx.old.tree r → IsWellLinked D.meaning ctx.old.tree r → IsLive ctx.new.tree r → IsWellLinked D.meaning ctx.new.tree r }
+    ensures links { (r : ℕ) → IsLive ctx.old.tree r → IsWellLinked D.meaning ctx.old.tree r → IsLive ctx.new.tree r
+        → IsWellLinked D.meaning ctx.new.tree r }
 {
     ctx.well_formed();
     let branches = branches_inside::<D>(alloc, root, ctx)?;

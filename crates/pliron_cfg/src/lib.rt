@@ -48,10 +48,10 @@ pub fn simplify_cfg<D: Dialect>(
 ) -> Result<IRStatus, OptError>
     requires live { IsLive ctx.old.tree op }
     requires linked { IsWellLinked D.meaning ctx.old.tree op }
-    ensures ok { IfOk result (λ status. Simplifies D.meaning D.can_fold D.can_fold_branch D.constants D.BranchOpFoldInterface.outcome op ctx.old.tree
-        ctx.new.tree status) }
-    ensures err { IfErr result (λ e. SimplifyFails D.meaning D.can_fold D.can_fold_branch D.constants D.BranchOpFoldInterface.outcome op ctx.old.tree
-        ctx.new.tree e) }
+    ensures ok { IfOk result (λ status. Simplifies D.meaning D.can_fold D.can_fold_branch D.constants
+        D.BranchOpFoldInterface.outcome op ctx.old.tree ctx.new.tree status) }
+    ensures err { IfErr result (λ e. SimplifyFails D.meaning D.can_fold D.can_fold_branch D.constants
+        D.BranchOpFoldInterface.outcome op ctx.old.tree ctx.new.tree e) }
     ensures change { IsWholeChange D.meaning ctx.old.tree ctx.new.tree op }
 {
     ctx.well_formed();

@@ -39,9 +39,10 @@ fn merge_at<D: Dialect, R: Rewriter + Room>(
     rewriter: &mut R,
 ) -> Result<IRStatus, OptError>
     requires block { IsBlock ctx.old.tree first }
-    requires linked { (holder : ℕ) → block_parent_operation_of ctx.old.tree first ≡ Some holder → IsWellLinked D.meaning ctx.old.tree holder }
-    ensures ok { IfOk result (λ status. MergesAmong D.meaning (first ∷ []) ctx.old.tree ctx.new.tree ×
-        HasNoPairAmong D.meaning (first ∷ []) ctx.new.tree × ReportsMerged D.meaning (first ∷ []) ctx.old.tree ctx.new.tree status) }
+    requires linked { (holder : ℕ) → block_parent_operation_of ctx.old.tree first ≡ Some holder → IsWellLinked D.meaning
+        ctx.old.tree holder }
+    ensures ok { IfOk result (λ status. MergesAmong D.meaning (first ∷ []) ctx.old.tree ctx.new.tree × HasNoPairAmong
+        D.meaning (first ∷ []) ctx.new.tree × ReportsMerged D.meaning (first ∷ []) ctx.old.tree ctx.new.tree status) }
     ensures refused { OnErr result (MergesAmongPartly D.meaning (first ∷ []) ctx.old.tree ctx.new.tree) }
     ensures memory { IsOkUnless result OptError.Memory }
 {
@@ -63,9 +64,10 @@ fn merge_among<D: Dialect, R: Rewriter + Room>(
     ctx: &mut Context,
     rewriter: &mut R,
 ) -> Result<IRStatus, OptError>
-    requires linked { (c holder : ℕ) → In c blocks.now → block_parent_operation_of ctx.old.tree c ≡ Some holder → IsWellLinked D.meaning ctx.old.tree holder }
-    ensures ok { IfOk result (λ status. MergesAmong D.meaning blocks.now ctx.old.tree ctx.new.tree ×
-        HasNoPairAmong D.meaning blocks.now ctx.new.tree × ReportsMerged D.meaning blocks.now ctx.old.tree ctx.new.tree status) }
+    requires linked { (c holder : ℕ) → In c blocks.now → block_parent_operation_of ctx.old.tree c ≡ Some holder
+        → IsWellLinked D.meaning ctx.old.tree holder }
+    ensures ok { IfOk result (λ status. MergesAmong D.meaning blocks.now ctx.old.tree ctx.new.tree × HasNoPairAmong
+        D.meaning blocks.now ctx.new.tree × ReportsMerged D.meaning blocks.now ctx.old.tree ctx.new.tree status) }
     ensures refused { OnErr result (MergesAmongPartly D.meaning blocks.now ctx.old.tree ctx.new.tree) }
     ensures memory { IsOkUnless result OptError.Memory }
 {
@@ -109,7 +111,8 @@ pub fn merge_inside_op<D: Dialect, R: Rewriter + Room>(
     requires linked { IsWellLinked D.meaning ctx.old.tree op }
     ensures ok { IfOk result (λ status. MergesAll (OfOperation op) D.meaning ctx.old.tree ctx.new.tree status) }
     ensures told { IfOk result (λ status. LosesOperation status ctx.old.tree ctx.new.tree) }
-    ensures unreachable { OnOk result ((b : ℕ) → IsUnreachable (OfOperation op) ctx.new.tree b → IsUnreachable (OfOperation op) ctx.old.tree b) }
+    ensures unreachable { OnOk result ((b : ℕ) → IsUnreachable (OfOperation op) ctx.new.tree b → IsUnreachable
+        (OfOperation op) ctx.old.tree b) }
     ensures blocks { OnOk result ((b : ℕ) → IsBlock ctx.new.tree b → IsBlock ctx.old.tree b) }
     ensures refused { OnErr result (MergesPartly (OfOperation op) D.meaning ctx.old.tree ctx.new.tree) }
     ensures memory { IsOkUnless result OptError.Memory }
@@ -132,14 +135,17 @@ pub fn merge_inside_block<D: Dialect, R: Rewriter + Room>(
     rewriter: &mut R,
 ) -> Result<IRStatus, OptError>
     requires block { IsBlock ctx.old.tree block }
-    requires linked { (holder : ℕ) → block_parent_operation_of ctx.old.tree block ≡ Some holder → IsWellLinked D.meaning ctx.old.tree holder }
+    requires linked { (holder : ℕ) → block_parent_operation_of ctx.old.tree block ≡ Some holder → IsWellLinked D.meaning
+        ctx.old.tree holder }
     ensures ok { IfOk result (λ status. MergesAll (OfBlock block) D.meaning ctx.old.tree ctx.new.tree status) }
     ensures told { IfOk result (λ status. LosesOperation status ctx.old.tree ctx.new.tree) }
-    ensures unreachable { OnOk result ((b : ℕ) → IsUnreachable (OfBlock block) ctx.new.tree b → IsUnreachable (OfBlock block) ctx.old.tree b) }
+    ensures unreachable { OnOk result ((b : ℕ) → IsUnreachable (OfBlock block) ctx.new.tree b → IsUnreachable
+        (OfBlock block) ctx.old.tree b) }
     ensures blocks { OnOk result ((b : ℕ) → IsBlock ctx.new.tree b → IsBlock ctx.old.tree b) }
     ensures refused { OnErr result (MergesPartly (OfBlock block) D.meaning ctx.old.tree ctx.new.tree) }
     ensures memory { IsOkUnless result OptError.Memory }
-    ensures change { (holder : ℕ) → block_parent_operation_of ctx.old.tree block ≡ Some holder → IsWholeChange D.meaning ctx.old.tree ctx.new.tree holder }
+    ensures change { (holder : ℕ) → block_parent_operation_of ctx.old.tree block ≡ Some holder → IsWholeChange D.meaning
+        ctx.old.tree ctx.new.tree holder }
     ensures links { KeepsLinks D.meaning ctx.old.tree ctx.new.tree }
 {
     ctx.well_formed();
@@ -158,14 +164,17 @@ pub fn merge_inside_region<D: Dialect, R: Rewriter + Room>(
     rewriter: &mut R,
 ) -> Result<IRStatus, OptError>
     requires region { IsRegion ctx.old.tree region }
-    requires linked { (holder : ℕ) → region_parent_of ctx.old.tree region ≡ Some holder → IsWellLinked D.meaning ctx.old.tree holder }
+    requires linked { (holder : ℕ) → region_parent_of ctx.old.tree region ≡ Some holder → IsWellLinked D.meaning
+        ctx.old.tree holder }
     ensures ok { IfOk result (λ status. MergesAll (OfRegion region) D.meaning ctx.old.tree ctx.new.tree status) }
     ensures told { IfOk result (λ status. LosesOperation status ctx.old.tree ctx.new.tree) }
-    ensures unreachable { OnOk result ((b : ℕ) → IsUnreachable (OfRegion region) ctx.new.tree b → IsUnreachable (OfRegion region) ctx.old.tree b) }
+    ensures unreachable { OnOk result ((b : ℕ) → IsUnreachable (OfRegion region) ctx.new.tree b → IsUnreachable
+        (OfRegion region) ctx.old.tree b) }
     ensures blocks { OnOk result ((b : ℕ) → IsBlock ctx.new.tree b → IsBlock ctx.old.tree b) }
     ensures refused { OnErr result (MergesPartly (OfRegion region) D.meaning ctx.old.tree ctx.new.tree) }
     ensures memory { IsOkUnless result OptError.Memory }
-    ensures change { (holder : ℕ) → region_parent_of ctx.old.tree region ≡ Some holder → IsWholeChange D.meaning ctx.old.tree ctx.new.tree holder }
+    ensures change { (holder : ℕ) → region_parent_of ctx.old.tree region ≡ Some holder → IsWholeChange D.meaning
+        ctx.old.tree ctx.new.tree holder }
     ensures links { KeepsLinks D.meaning ctx.old.tree ctx.new.tree }
 {
     ctx.well_formed();

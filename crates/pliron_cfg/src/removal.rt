@@ -52,11 +52,13 @@ fn clear_regions<D: Dialect, R: Rewriter + Room>(
     rewriter: &mut R,
 ) -> Result<IRStatus, OptError>
     requires stands { ScopeStands ctx.old.tree scope.now }
-    requires linked { (holder : ℕ) → IsHolder ctx.old.tree scope.now holder → IsWellLinked D.meaning ctx.old.tree holder }
+    requires linked { (holder : ℕ) → IsHolder ctx.old.tree scope.now holder → IsWellLinked D.meaning ctx.old.tree
+        holder }
     requires visits { AreVisits ctx.old.tree (start_of scope.now ctx.old.tree) regions.items reached.now.keys }
     ensures ok { IfOk result (λ status. RemovesAll (start_of scope.now) ctx.old.tree ctx.new.tree status) }
     ensures err { IfErr result (λ e. RemovalFails (start_of scope.now) ctx.old.tree ctx.new.tree e) }
-    ensures change { (holder : ℕ) → IsHolder ctx.old.tree scope.now holder → IsWholeChange D.meaning ctx.old.tree ctx.new.tree holder }
+    ensures change { (holder : ℕ) → IsHolder ctx.old.tree scope.now holder → IsWholeChange D.meaning ctx.old.tree
+        ctx.new.tree holder }
     ensures links { KeepsLinks D.meaning ctx.old.tree ctx.new.tree }
 {
     whole_passes_compose();
@@ -82,11 +84,13 @@ fn remove_blocks_in<D: Dialect, R: Rewriter + Room>(
     rewriter: &mut R,
 ) -> Result<IRStatus, OptError>
     requires stands { ScopeStands ctx.old.tree scope.now }
-    requires linked { (holder : ℕ) → IsHolder ctx.old.tree scope.now holder → IsWellLinked D.meaning ctx.old.tree holder }
+    requires linked { (holder : ℕ) → IsHolder ctx.old.tree scope.now holder → IsWellLinked D.meaning ctx.old.tree
+        holder }
     ensures ok { IfOk result (λ status. RemovesAll (start_of scope.now) ctx.old.tree ctx.new.tree status) }
     ensures err { IfErr result (λ e. RemovalFails (start_of scope.now) ctx.old.tree ctx.new.tree e) }
     ensures tells { IfOk result (λ a. (a ≡ Unchanged) ↔ (ctx.new.tree ≡ ctx.old.tree)) }
-    ensures change { (holder : ℕ) → IsHolder ctx.old.tree scope.now holder → IsWholeChange D.meaning ctx.old.tree ctx.new.tree holder }
+    ensures change { (holder : ℕ) → IsHolder ctx.old.tree scope.now holder → IsWholeChange D.meaning ctx.old.tree
+        ctx.new.tree holder }
     ensures links { KeepsLinks D.meaning ctx.old.tree ctx.new.tree }
 {
     whole_passes_compose();
@@ -138,11 +142,13 @@ pub fn remove_blocks_inside_block<D: Dialect, R: Rewriter + Room>(
     rewriter: &mut R,
 ) -> Result<IRStatus, OptError>
     requires block { IsBlock ctx.old.tree block }
-    requires linked { (holder : ℕ) → block_parent_operation_of ctx.old.tree block ≡ Some holder → IsWellLinked D.meaning ctx.old.tree holder }
+    requires linked { (holder : ℕ) → block_parent_operation_of ctx.old.tree block ≡ Some holder → IsWellLinked D.meaning
+        ctx.old.tree holder }
     ensures ok { IfOk result (λ status. RemovesAll (OfBlock block) ctx.old.tree ctx.new.tree status) }
     ensures err { IfErr result (λ e. RemovalFails (OfBlock block) ctx.old.tree ctx.new.tree e) }
     ensures tells { IfOk result (λ a. (a ≡ Unchanged) ↔ (ctx.new.tree ≡ ctx.old.tree)) }
-    ensures change { (holder : ℕ) → block_parent_operation_of ctx.old.tree block ≡ Some holder → IsWholeChange D.meaning ctx.old.tree ctx.new.tree holder }
+    ensures change { (holder : ℕ) → block_parent_operation_of ctx.old.tree block ≡ Some holder → IsWholeChange D.meaning
+        ctx.old.tree ctx.new.tree holder }
     ensures links { KeepsLinks D.meaning ctx.old.tree ctx.new.tree }
 {
     remove_blocks_in::<D, R>(alloc, &RemovalScope::Block(block), ctx, rewriter)
@@ -161,11 +167,13 @@ pub fn remove_blocks_inside_region<D: Dialect, R: Rewriter + Room>(
     rewriter: &mut R,
 ) -> Result<IRStatus, OptError>
     requires region { IsRegion ctx.old.tree region }
-    requires linked { (holder : ℕ) → region_parent_of ctx.old.tree region ≡ Some holder → IsWellLinked D.meaning ctx.old.tree holder }
+    requires linked { (holder : ℕ) → region_parent_of ctx.old.tree region ≡ Some holder → IsWellLinked D.meaning
+        ctx.old.tree holder }
     ensures ok { IfOk result (λ status. RemovesAll (OfRegion region) ctx.old.tree ctx.new.tree status) }
     ensures err { IfErr result (λ e. RemovalFails (OfRegion region) ctx.old.tree ctx.new.tree e) }
     ensures tells { IfOk result (λ a. (a ≡ Unchanged) ↔ (ctx.new.tree ≡ ctx.old.tree)) }
-    ensures change { (holder : ℕ) → region_parent_of ctx.old.tree region ≡ Some holder → IsWholeChange D.meaning ctx.old.tree ctx.new.tree holder }
+    ensures change { (holder : ℕ) → region_parent_of ctx.old.tree region ≡ Some holder → IsWholeChange D.meaning
+        ctx.old.tree ctx.new.tree holder }
     ensures links { KeepsLinks D.meaning ctx.old.tree ctx.new.tree }
 {
     remove_blocks_in::<D, R>(alloc, &RemovalScope::Region(region), ctx, rewriter)

@@ -60,7 +60,8 @@ fn push_nested(
     regions: &mut Vec<Ptr<Region>>,
 ) -> Result<(), OptError>
     requires { IsBlock ctx.now.tree block }
-    ensures items { OnOk result (regions.new.items ≡ regions.old.items ++ flat_map (λ k. regions_of ctx.now.tree k) (body_of ctx.now.tree block)) }
+    ensures items { OnOk result (regions.new.items ≡ regions.old.items ++ flat_map (λ k. regions_of ctx.now.tree k)
+        (body_of ctx.now.tree block)) }
     ensures memory { IsOkUnless result OptError.Memory }
 {
     ctx.well_formed();
@@ -149,9 +150,10 @@ fn enter(
     postponed: &mut Vec<Postponed>,
 ) -> Result<(), OptError>
     requires { (b : ℕ) → In b entered.now → IsBlock ctx.now.tree b }
-    ensures grown { OnOk result (HasGrown (flat_map (λ b. flat_map (λ k. regions_of ctx.now.tree k) (body_of ctx.now.tree b)) entered.now)
-        seen.old.keys waiting.old.items seen.new.keys waiting.new.items) }
-    ensures listed { OnOk result (IsTrue listed → blocks_postponed postponed.new.items ≡ blocks_postponed postponed.old.items ++ entered.now) }
+    ensures grown { OnOk result (HasGrown (flat_map (λ b. flat_map (λ k. regions_of ctx.now.tree k)
+        (body_of ctx.now.tree b)) entered.now) seen.old.keys waiting.old.items seen.new.keys waiting.new.items) }
+    ensures listed { OnOk result (IsTrue listed → blocks_postponed postponed.new.items ≡ blocks_postponed
+        postponed.old.items ++ entered.now) }
     ensures other { OnOk result ((IsTrue listed → ⊥) → postponed.new.items ≡ postponed.old.items) }
     ensures memory { IsOkUnless result OptError.Memory }
 {
@@ -175,7 +177,8 @@ fn list_postponed(
     waiting: usize,
     blocks: &mut Vec<Ptr<BasicBlock>>,
 ) -> Result<(), OptError>
-    ensures same { OnOk result ((b : ℕ) → In b (blocks.new.items ++ blocks_postponed postponed.new.items) ↔ In b (blocks.old.items ++ blocks_postponed postponed.old.items)) }
+    ensures same { OnOk result ((b : ℕ) → In b (blocks.new.items ++ blocks_postponed postponed.new.items) ↔ In b
+        (blocks.old.items ++ blocks_postponed postponed.old.items)) }
     ensures all { OnOk result (waiting ≡ 0 → postponed.new.items ≡ []) }
     ensures memory { IsOkUnless result OptError.Memory }
 {
@@ -237,7 +240,8 @@ pub fn visits_inside_op(
 ) -> Result<Visits, OptError>
     requires live { IsLive ctx.now.tree op }
     requires edges { EdgesLast ctx.now.tree op }
-    ensures visits { IfOk result (λ v. AreVisits ctx.now.tree (OfOperation op ctx.now.tree) v.regions.items v.blocks.items) }
+    ensures visits { IfOk result (λ v. AreVisits ctx.now.tree (OfOperation op ctx.now.tree) v.regions.items
+        v.blocks.items) }
     ensures memory { IsOkUnless result OptError.Memory }
 {
     ctx.well_formed();
@@ -257,8 +261,10 @@ pub fn visits_inside_block(
     block: Ptr<BasicBlock>,
 ) -> Result<Visits, OptError>
     requires block { IsBlock ctx.now.tree block }
-    requires edges { (holder : ℕ) → block_parent_operation_of ctx.now.tree block ≡ Some holder → EdgesLast ctx.now.tree holder }
-    ensures visits { IfOk result (λ v. AreVisits ctx.now.tree (OfBlock block ctx.now.tree) v.regions.items v.blocks.items) }
+    requires edges { (holder : ℕ) → block_parent_operation_of ctx.now.tree block ≡ Some holder → EdgesLast ctx.now.tree
+        holder }
+    ensures visits { IfOk result (λ v. AreVisits ctx.now.tree (OfBlock block ctx.now.tree) v.regions.items
+        v.blocks.items) }
     ensures memory { IsOkUnless result OptError.Memory }
 {
     ctx.well_formed();
@@ -279,7 +285,8 @@ pub fn visits_inside_region(
 ) -> Result<Visits, OptError>
     requires region { IsRegion ctx.now.tree region }
     requires edges { (holder : ℕ) → region_parent_of ctx.now.tree region ≡ Some holder → EdgesLast ctx.now.tree holder }
-    ensures visits { IfOk result (λ v. AreVisits ctx.now.tree (OfRegion region ctx.now.tree) v.regions.items v.blocks.items) }
+    ensures visits { IfOk result (λ v. AreVisits ctx.now.tree (OfRegion region ctx.now.tree) v.regions.items
+        v.blocks.items) }
     ensures memory { IsOkUnless result OptError.Memory }
 {
     ctx.well_formed();

@@ -86,8 +86,8 @@ fn find_message_in<N: Shown>(
 /// with its place.
 ///
 /// Statuses: 0 where nothing keeps it; 1 where memory was refused; 2 for an unreadable text; 3 where something does.
-/// With all but 0 nothing is to be written to the output. Errors: allocation failure for what is told. Cost: reading, and
-/// that of `find_violation`.
+/// With all but 0 nothing is to be written to the output. Errors: allocation failure for what is told. Cost: reading,
+/// and that of `find_violation`.
 #[tactic(auto, using(crate::proofs::CommandLemmas::says_fit, crate::proofs::CommandLemmas::says_unfit))]
 pub fn check<N: Shown>(alloc: Global, source: &Source) -> Result<Outcome, AllocError>
     ensures { IfOk result (λ outcome. Ends (IsFitText N.reads N.D.meaning source.now.text.now ×

@@ -112,10 +112,11 @@ fn likeness_of(sights: &Sights) -> Likeness
     Likeness::Different
 }
 
-/// Reads a text of any notation into the context, and answers what is seen of a run of its operation, and of one after the
-/// passes of the schedule; `None` of an unreadable text.
+/// Reads a text of any notation into the context, and answers what is seen of a run of its operation, and of one after
+/// the passes of the schedule; `None` of an unreadable text.
 ///
-/// Asks that the context is empty. Errors: those of the passes; allocation failure. Cost: reading, two runs, and the passes.
+/// Asks that the context is empty. Errors: those of the passes; allocation failure. Cost: reading, two runs, and the
+/// passes.
 #[tactic(auto, using(crate::proofs::CommandLemmas::are_seen))]
 pub fn compare_text<N: Shown>(
     alloc: Global,
@@ -268,13 +269,13 @@ fn compare_by<N: Shown>(
     }
 }
 
-/// Runs the operation of a text, and again after the passes that the word asks for, and answers what is seen and whether
-/// it is the same.
+/// Runs the operation of a text, and again after the passes that the word asks for, and answers what is seen and
+/// whether it is the same.
 ///
-/// Statuses: 0 where both runs ended or trapped, and the same is seen of them; 1 where memory or the passes were refused;
-/// 2 for a word that asks for no passes or an unreadable text; 3 where a run was cut off or something differs. With 1 and
-/// 2 nothing is to be written to the output. Errors: allocation failure for what is told. Cost: reading, two runs by
-/// `evaluate_noting`, and the passes.
+/// Statuses: 0 where both runs ended or trapped, and the same is seen of them; 1 where memory or the passes were
+/// refused; 2 for a word that asks for no passes or an unreadable text; 3 where a run was cut off or something differs.
+/// With 1 and 2 nothing is to be written to the output. Errors: allocation failure for what is told. Cost: reading, two
+/// runs by `evaluate_noting`, and the passes.
 #[tactic(auto, using(crate::proofs::CommandLemmas::is_asked, crate::proofs::CommandLemmas::no_plan))]
 pub fn compare<N: Shown>(
     alloc: Global,

@@ -41,8 +41,8 @@ impl DrawFailure<'_> {
     }
 }
 
-/// The outcome of a command without an answer: nothing is to be written, and what went wrong is told. Errors: allocation
-/// failure. Cost: that of reading the text.
+/// The outcome of a command without an answer: nothing is to be written, and what went wrong is told. Errors:
+/// allocation failure. Cost: that of reading the text.
 #[tactic(auto, using(crate::proofs::EndingLemmas::ends_badly_by))]
 pub fn draw_failure_outcome(
     alloc: Global,

@@ -1,7 +1,7 @@
 //! The work of each command of `plir`, the command-line program, as functions from texts and options to texts.
 //!
-//! It knows what users want to see of texts and runs, and of notations how to read, print and run their texts; of words,
-//! files and streams it knows nothing.
+//! It knows what users want to see of texts and runs, and of notations how to read, print and run their texts; of
+//! words, files and streams it knows nothing.
 #![tactic(auto)]
 
 mod checking;

@@ -45,8 +45,8 @@ fn misspelling_message(alloc: Global, word: &str, fault: &WordFault) -> Result<S
     mark_source(alloc, word.as_bytes(), &mark)
 }
 
-/// The outcome for a word that plans no passes: nothing is to be written, and the part that is wrong is told. Errors: allocation
-/// failure. Cost: linear in the word.
+/// The outcome for a word that plans no passes: nothing is to be written, and the part that is wrong is told. Errors:
+/// allocation failure. Cost: linear in the word.
 pub fn misspelling_outcome(
     alloc: Global,
     word: &str,
@@ -216,8 +216,8 @@ pub(crate) fn opt_after<N: Shown, C: Progress + Copy + Drop>(
 /// Runs the passes that the word asks for on a text, and answers the tree that they leave, printed.
 ///
 /// Statuses: 0; 1 where memory or the passes were refused; 2 for a word that asks for no passes or an unreadable text;
-/// 3 where verifying found something. With all but 0 nothing is to be written to the output. Errors: allocation failure for
-/// what is told. Cost: reading, the passes, what is recorded, and printing.
+/// 3 where verifying found something. With all but 0 nothing is to be written to the output. Errors: allocation failure
+/// for what is told. Cost: reading, the passes, what is recorded, and printing.
 pub fn opt<N: Shown, C: Progress + Copy + Drop>(
     alloc: Global,
     source: &Source,

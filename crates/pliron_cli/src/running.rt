@@ -21,8 +21,8 @@ fn status_of_end(end: End) -> u8
 /// Runs the text, and answers its effects as they come, and how it ends.
 ///
 /// Statuses: 0 where it ends with values; 1 where memory was refused; 2 for an unreadable text; 3 where it traps, or
-/// the steps or the world's answers are used up. With 1 and 2 nothing is to be written to the output. Errors: allocation
-/// failure for what is told. Cost: reading, and that of `evaluate_noting`.
+/// the steps or the world's answers are used up. With 1 and 2 nothing is to be written to the output. Errors:
+/// allocation failure for what is told. Cost: reading, and that of `evaluate_noting`.
 #[tactic(auto, using(crate::proofs::CommandLemmas::ends_by))]
 pub fn run(alloc: Global, source: &Source, options: &RunOptions) -> Result<Outcome, AllocError>
     ensures { IfOk result (Ends ⊤ ⊤) }

@@ -56,8 +56,8 @@ impl Unchecked {
         Ok(())
     }
 
-    /// The first of the operations that isn't fit to run, with what keeps it from that; of a container the first directly
-    /// inside it.
+    /// The first of the operations that isn't fit to run, with what keeps it from that; of a container the first
+    /// directly inside it.
     fn first_unfit<D: Dialect>(
         &mut self,
         ctx: &Context,
@@ -79,8 +79,8 @@ impl Unchecked {
     }
 }
 
-/// A warning of what keeps the text's operation from being fit to run, or, of a `mod`, one of its functions; empty where
-/// nothing does, and of an unreadable text. Asks that the context is empty. Errors: allocation failure.
+/// A warning of what keeps the text's operation from being fit to run, or, of a `mod`, one of its functions; empty
+/// where nothing does, and of an unreadable text. Asks that the context is empty. Errors: allocation failure.
 fn warning_in<N: Shown>(
     alloc: Global,
     source: &Source,
@@ -134,12 +134,12 @@ fn opt_if_fit<N: Shown, C: Progress + Copy + Drop>(
     }
 }
 
-/// Runs passes as `opt` does, after a check: what keeps the text's operation from being fit to run, or, of a `mod`, one of its
-/// functions, is told as a warning before what `opt` tells. With `is_strict` no pass runs where the operation isn't fit
-/// to run, as `check` finds it, and that is told as an error.
+/// Runs passes as `opt` does, after a check: what keeps the text's operation from being fit to run, or, of a `mod`, one
+/// of its functions, is told as a warning before what `opt` tells. With `is_strict` no pass runs where the operation
+/// isn't fit to run, as `check` finds it, and that is told as an error.
 ///
-/// Statuses: those of `opt`; with `is_strict` 3 where the operation isn't fit to run. With all but 0 nothing is to be written
-/// to the output. Errors: allocation failure for what is told. Cost: that of `check` and that of `opt`.
+/// Statuses: those of `opt`; with `is_strict` 3 where the operation isn't fit to run. With all but 0 nothing is to be
+/// written to the output. Errors: allocation failure for what is told. Cost: that of `check` and that of `opt`.
 pub fn opt_with_check<N: Shown, C: Progress + Copy + Drop>(
     alloc: Global,
     source: &Source,

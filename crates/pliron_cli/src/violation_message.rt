@@ -1,4 +1,5 @@
-//! What is told of a violation: the operand by its number and its name, where it is defined, and of an edge both counts.
+//! What is told of a violation: the operand by its number and its name, where it is defined, and of an edge both
+//! counts.
 use crate::shown::Shown;
 use pliron_core::{BasicBlock, Context, Def, Operation, Ptr, Region, Value};
 use pliron_diagnostics::{Source, SourceMark, mark_source_as};
@@ -330,8 +331,8 @@ impl ViolationText<'_> {
     }
 }
 
-/// What is told of a violation of an operation that was read from the text into an empty context: this word for how bad it
-/// is, the operation with a mark under it, what helps, and where the operand is defined or the block begins.
+/// What is told of a violation of an operation that was read from the text into an empty context: this word for how bad
+/// it is, the operation with a mark under it, what helps, and where the operand is defined or the block begins.
 ///
 /// Errors: allocation failure. Cost: linear in the text, and the depth of the operation.
 pub fn violation_message<N: Shown>(

@@ -29,9 +29,9 @@ fn expect_compared(rt: &impl Abort, alloc: Global, pipeline: &str, text: &str, w
     assert!(rt; found.as_str() == status, "{text}");
 }
 
-/// Passes, texts, statuses, and what is written of the runs of each on 3 in a world that answers 7 and 8, up to 20 moves.
-/// The last text isn't fit to run: a branch gives its block no value, so the run traps there, and dead code elimination
-/// takes the argument away.
+/// Passes, texts, statuses, and what is written of the runs of each on 3 in a world that answers 7 and 8, up to 20
+/// moves. The last text isn't fit to run: a branch gives its block no value, so the run traps there, and dead code
+/// elimination takes the argument away.
 static COMPARED: &str = "\
 sccp | func { b0(x): c = const 2; d = mul c c; e = mul d x; ret e } => 0 ended with 12|the same before and after|
 nested(dce) | func { b0(x): print x; print x; ret } => 0 effect (print 3)|effect (print 3)|ended with nothing|the same before and after|

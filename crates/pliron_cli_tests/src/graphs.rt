@@ -3,8 +3,8 @@ use pliron_cli::{Source, draw_graph};
 use std::alloc::Global;
 use std::process::Abort;
 
-/// Texts, where a bar stands for the end of a line, and the lines of their pictures but the first two and the last, where a
-/// bar parts lines and `'` stands for a quote.
+/// Texts, where a bar stands for the end of a line, and the lines of their pictures but the first two and the last,
+/// where a bar parts lines and `'` stands for a quote.
 static PICTURES: &str = "\
 3: => 3 [peripheries='2'];
 1: 2|2: 1 3|3: 1|4: 3 => 4 [color='grey', fontcolor='grey'];|subgraph cluster0 {|1 [peripheries='2'];|2;|3;|}|1 -> 2 [color='black'];|2 -> 1 [color='red'];|2 -> 3 [color='black'];|3 -> 1 [color='red'];|4 -> 3 [color='grey', fontcolor='grey'];

@@ -63,8 +63,8 @@ fn trees_after_a_pass(rt: HostRuntime) {
     expect_report(&rt, rt.alloc(), TWO, &options, TREES);
 }
 
-/// Counts over both functions, with 4 and 3 operations, 3 blocks, 2 arguments and one edge: propagation makes a constant
-/// beside the product, and then both are dead.
+/// Counts over both functions, with 4 and 3 operations, 3 blocks, 2 arguments and one edge: propagation makes a
+/// constant beside the product, and then both are dead.
 static COUNTS: &str = "\
 round  pass          runs  changed  operations  blocks  arguments   edges\
 |    1  sccp             2        1      7 -> 8  3 -> 3     2 -> 2  1 -> 1\
@@ -114,11 +114,12 @@ fn rewritten_rows(rt: &impl Abort, alloc: Global, report: &str) -> String {
     found
 }
 
-/// Passes, texts, and the operations that each pass made, erased and moved, the operands that it changed, and the blocks and
-/// arguments that it erased. In the first, propagation puts 5 for `p` and for `q`, each used once. Then `x`, `y` and the 5 in
-/// `b1` have no use, once the arguments went and the three branches pass nothing. At last the condition and the two branches
-/// left go, with three blocks, and a constant and `ret` move to the first. In the second a branch is defined in the place of a
-/// condition. In the third it goes again as its block is joined, `print` and `ret` take `x`, and the last branches go.
+/// Passes, texts, and the operations that each pass made, erased and moved, the operands that it changed, and the
+/// blocks and arguments that it erased. In the first, propagation puts 5 for `p` and for `q`, each used once. Then `x`,
+/// `y` and the 5 in `b1` have no use, once the arguments went and the three branches pass nothing. At last the
+/// condition and the two branches left go, with three blocks, and a constant and `ret` move to the first. In the second
+/// a branch is defined in the place of a condition. In the third it goes again as its block is joined, `print` and
+/// `ret` take `x`, and the last branches go.
 static REWRITTEN: &str = "\
 sccp,dce,simplify-cfg | func { b0(): c = const 1; x = const 5; cbr c b1(x) b2(); b1(p): br b3(p); b2(): y = const 6; br b3(y); b3(q): ret q } => sccp 2 0 0 2 0 0 dce 0 3 0 3 0 2 simplify-cfg 0 3 2 0 3 0
 simplify-cfg | func { b0(x): c = const 1; cbr c b1(x) b2(); b1(p): cbr p b1(p) b2(); b2(): ret } => simplify-cfg 1 1 0 0 0 0

@@ -141,7 +141,10 @@ impl Arguments {
         count: usize,
     ) -> Result<InlineList<Value>, AllocError>
         ensures keys { IfOk result (λ row. row ≡ range_with_len (length self.old.definitions) count) }
-        ensures ok { OnOk result (self.new ≡ record self.old { definitions = self.old.definitions ++ result_definitions op count }) }
+        ensures ok { OnOk result (self.new ≡ record self.old {
+          definitions = self.old.definitions ++ result_definitions
+              op count;
+        }) }
         ensures err { OnErr result (self.new ≡ self.old) }
     {
         self.written.reserve(count)?;
@@ -158,8 +161,10 @@ impl Arguments {
     ///
     /// Errors: allocation failure, which changes nothing. Cost: one step for each, amortised.
     pub fn add_block(&mut self, alloc: Global, count: usize) -> Result<(), AllocError>
-        ensures rows { OnOk result (self.new.rows ≡ self.old.rows ++ range_with_len (length self.old.definitions) count ∷ []) }
-        ensures definitions { OnOk result (self.new.definitions ≡ self.old.definitions ++ argument_definitions (length self.old.rows) count) }
+        ensures rows { OnOk result (self.new.rows ≡ self.old.rows ++ range_with_len (length self.old.definitions) count
+            ∷ []) }
+        ensures definitions { OnOk result (self.new.definitions ≡ self.old.definitions ++ argument_definitions
+            (length self.old.rows) count) }
         ensures err { OnErr result (self.new ≡ self.old) }
     {
         self.written.reserve(count)?;
@@ -203,7 +208,8 @@ impl Arguments {
         requires block { block < length self.old.rows }
         requires index { i < length (argument_row_of self.old block) }
         ensures rows { self.new.rows ≡ slice_set self.old.rows block (remove (argument_row_of self.old block) i) }
-        ensures definitions { self.new.definitions ≡ argument_definitions_from self.old.definitions block i (drop (i + 1) (argument_row_of self.old block)) }
+        ensures definitions { self.new.definitions ≡ argument_definitions_from self.old.definitions block i
+            (drop (i + 1) (argument_row_of self.old block)) }
     {
         self.lists.agree();
         let value = self.lists.remove(block.index(), i);

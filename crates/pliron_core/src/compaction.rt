@@ -28,8 +28,8 @@ pub(super) fn move_down(
     ensures len { length (slice_index_or places.new.items user []) ≡ length (slice_index_or places.old.items user []) }
     ensures others { (u : ℕ) → u ≢ user → slice_index_or places.new.items u [] ≡ slice_index_or places.old.items u [] }
     ensures count { length uses.new.items ≡ length uses.old.items }
-    ensures rooms { (vec_len places.new ≡ vec_len places.old) × (vec_capacity places.new ≡ vec_capacity places.old) × (vec_len uses.new ≡
-        vec_len uses.old) × (vec_capacity uses.new ≡ vec_capacity uses.old) }
+    ensures rooms { (vec_len places.new ≡ vec_len places.old) × (vec_capacity places.new ≡ vec_capacity places.old)
+        × (vec_len uses.new ≡ vec_len uses.old) × (vec_capacity uses.new ≡ vec_capacity uses.old) }
 {
     let mut taken = 0;
     for from in 0..places[user].len() {

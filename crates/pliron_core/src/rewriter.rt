@@ -54,7 +54,10 @@ pub trait Rewriter {
         requires live { IsLive ctx.old.tree op }
         requires free { parent_of ctx.old.tree op ≡ None }
         requires point { IsPointFor ctx.old.tree (point self.old) op }
-        ensures ok { OnOk result (ctx.new ≡ record ctx.old { tree = after_inserting ctx.old.tree (point self.old) op }) }
+        ensures ok { OnOk result (ctx.new ≡ record ctx.old {
+          tree = after_inserting ctx.old.tree (point self.old)
+              op;
+        }) }
         ensures err { OnErr result (ctx.new ≡ ctx.old) }
         ensures point { point self.new ≡ point self.old };
 

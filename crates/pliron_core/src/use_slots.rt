@@ -199,10 +199,11 @@ pub(super) fn relocate(
     requires from { (p : PlaceOf) × (at places.old.items user from ≡ Some p) × (p.target ≢ no_target) }
     requires to { (p : PlaceOf) × (at places.old.items user to ≡ Some p) × (p.target ≡ no_target) }
     ensures linked { IsLinked places.new.items uses.new.items }
-    ensures moved { (p : PlaceOf) → at places.old.items user from ≡ Some p → places.new.items ≡ put (put places.old.items user to p) user from free_place }
+    ensures moved { (p : PlaceOf) → at places.old.items user from ≡ Some p → places.new.items ≡ put
+        (put places.old.items user to p) user from free_place }
     ensures count { length uses.new.items ≡ length uses.old.items }
-    ensures rooms { (vec_len places.new ≡ vec_len places.old) × (vec_capacity places.new ≡ vec_capacity places.old) × (vec_len uses.new ≡
-        vec_len uses.old) × (vec_capacity uses.new ≡ vec_capacity uses.old) }
+    ensures rooms { (vec_len places.new ≡ vec_len places.old) × (vec_capacity places.new ≡ vec_capacity places.old)
+        × (vec_len uses.new ≡ vec_len uses.old) × (vec_capacity uses.new ≡ vec_capacity uses.old) }
 {
     let UseSlot { target, at } = entry(places, user, from);
     set_entry(uses, target, at, Use { user, place: to });
@@ -223,7 +224,11 @@ pub(super) fn lower_gap(
     requires start { 0 < (gap_of holes.old.items user).start }
     ensures linked { AreLinked places.new.items holes.new.items uses.new.items }
     ensures targets { targets_in places.new.items ≡ targets_in places.old.items }
-    ensures gap { gap_of holes.new.items user ≡ record { start = (gap_of holes.old.items user).start - 1; len = (gap_of holes.old.items user).len } }
+    ensures gap { gap_of holes.new.items user ≡ record {
+      start = (gap_of holes.old.items user).start - 1;
+      len =
+          (gap_of holes.old.items user).len;
+    } }
     ensures count { length uses.new.items ≡ length uses.old.items }
     ensures rooms { KeepRooms places.old places.new holes.old holes.new uses.old uses.new }
 {
@@ -245,10 +250,15 @@ pub(super) fn raise_gap(
     requires linked { AreLinked places.old.items holes.old.items uses.old.items }
     requires user { user < length holes.old.items }
     requires len { 0 < (gap_of holes.old.items user).len }
-    requires start { (gap_of holes.old.items user).start < length (targets_held (slice_index_or places.old.items user [])) }
+    requires start { (gap_of holes.old.items user).start < length
+        (targets_held (slice_index_or places.old.items user [])) }
     ensures linked { AreLinked places.new.items holes.new.items uses.new.items }
     ensures targets { targets_in places.new.items ≡ targets_in places.old.items }
-    ensures gap { gap_of holes.new.items user ≡ record { start = (gap_of holes.old.items user).start + 1; len = (gap_of holes.old.items user).len } }
+    ensures gap { gap_of holes.new.items user ≡ record {
+      start = (gap_of holes.old.items user).start + 1;
+      len =
+          (gap_of holes.old.items user).len;
+    } }
     ensures count { length uses.new.items ≡ length uses.old.items }
     ensures rooms { KeepRooms places.old places.new holes.old holes.new uses.old uses.new }
 {
@@ -304,13 +314,15 @@ pub(super) fn vacate(
     requires linked { IsLinked places.old.items uses.old.items }
     requires taken { (p : PlaceOf) × (at places.old.items user place ≡ Some p) × (p.target ≢ no_target) }
     ensures linked { IsLinked places.new.items uses.new.items }
-    ensures target { slice_get (targets_held (slice_index_or places.old.items user [])) (rank (slice_index_or places.old.items user []) place) ≡ Some result }
+    ensures target { slice_get (targets_held (slice_index_or places.old.items user []))
+        (rank (slice_index_or places.old.items user []) place) ≡ Some result }
     ensures targets { targets_in places.new.items ≡ slice_set (targets_in places.old.items) user (remove (slice_index_or
         (targets_in places.old.items) user []) (rank (slice_index_or places.old.items user []) place)) }
-    ensures marks { marks_in places.new.items ≡ slice_set (marks_in places.old.items) user (slice_set (marks (slice_index_or places.old.items user [])) place 0) }
+    ensures marks { marks_in places.new.items ≡ slice_set (marks_in places.old.items) user
+        (slice_set (marks (slice_index_or places.old.items user [])) place 0) }
     ensures count { length uses.new.items ≡ length uses.old.items }
-    ensures rooms { (vec_len places.new ≡ vec_len places.old) × (vec_capacity places.new ≡ vec_capacity places.old) × (vec_len uses.new ≡
-        vec_len uses.old) × (vec_capacity uses.new ≡ vec_capacity uses.old) }
+    ensures rooms { (vec_len places.new ≡ vec_len places.old) × (vec_capacity places.new ≡ vec_capacity places.old)
+        × (vec_len uses.new ≡ vec_len uses.old) × (vec_capacity uses.new ≡ vec_capacity uses.old) }
 {
     let UseSlot { target, at } = entry(places, user, place);
     let end = uses[target].len() - 1;
@@ -333,9 +345,11 @@ pub(super) fn widen_gap(
     requires linked { AreLinked places.old.items holes.old.items uses.old.items }
     requires user { user < length holes.old.items }
     requires gapped { is_counted holes.old.items user ≡ false }
-    requires start { (gap_of holes.old.items user).start < length (targets_held (slice_index_or places.old.items user [])) }
+    requires start { (gap_of holes.old.items user).start < length
+        (targets_held (slice_index_or places.old.items user [])) }
     ensures linked { AreLinked places.new.items holes.new.items uses.new.items }
-    ensures target { slice_get (targets_held (slice_index_or places.old.items user [])) (gap_of holes.old.items user).start ≡ Some result }
+    ensures target { slice_get (targets_held (slice_index_or places.old.items user []))
+        (gap_of holes.old.items user).start ≡ Some result }
     ensures targets { targets_in places.new.items ≡ slice_set (targets_in places.old.items) user (remove (slice_index_or
         (targets_in places.old.items) user []) (gap_of holes.old.items user).start) }
     ensures gapped { is_counted holes.new.items user ≡ false }
@@ -357,12 +371,14 @@ pub(super) fn close_gap(places: &mut Vec<InlineList<UseSlot>>, holes: &mut Vec<H
     requires holes { HaveHoles places.old.items holes.old.items }
     requires user { user < length holes.old.items }
     requires gapped { is_counted holes.old.items user ≡ false }
-    requires end { (gap_of holes.old.items user).start ≡ length (targets_held (slice_index_or places.old.items user [])) }
-    ensures places { places.new.items ≡ slice_set places.old.items user (take (gap_of holes.old.items user).start (slice_index_or places.old.items user [])) }
+    requires end { (gap_of holes.old.items user).start ≡ length
+        (targets_held (slice_index_or places.old.items user [])) }
+    ensures places { places.new.items ≡ slice_set places.old.items user (take (gap_of holes.old.items user).start
+        (slice_index_or places.old.items user [])) }
     ensures holes { HaveHoles places.new.items holes.new.items }
     ensures gapped { is_counted holes.new.items user ≡ false }
-    ensures rooms { (vec_len places.new ≡ vec_len places.old) × (vec_capacity places.new ≡ vec_capacity places.old) × (vec_len holes.new ≡
-        vec_len holes.old) × (vec_capacity holes.new ≡ vec_capacity holes.old) }
+    ensures rooms { (vec_len places.new ≡ vec_len places.old) × (vec_capacity places.new ≡ vec_capacity places.old)
+        × (vec_len holes.new ≡ vec_len holes.old) × (vec_capacity holes.new ≡ vec_capacity holes.old) }
 {
     let start = gap_at(places, holes, user).start;
     places[user].truncate(start);
@@ -403,11 +419,13 @@ pub(super) fn retarget(
     new: usize,
     first: usize,
 )
-    requires listed { (k : ℕ) (u : Use) → slice_get moved.now k ≡ Some u → at places.old.items u.user u.place ≡ Some (record { target = old; at = k }) }
-    requires placed { (k user place : ℕ) → at places.old.items user place ≡ Some (record { target = old; at = k }) → slice_get moved.now k ≡
-        Some (record { user = user; place = place }) }
+    requires listed { (k : ℕ) (u : Use) → slice_get moved.now k ≡ Some u → at places.old.items u.user u.place ≡ Some
+        (record { target = old; at = k }) }
+    requires placed { (k user place : ℕ) → at places.old.items user place ≡ Some (record { target = old; at = k })
+        → slice_get moved.now k ≡ Some (record { user = user; place = place }) }
     requires fits { first + length moved.now < 2 ^ 64 }
-    ensures each { (user place : ℕ) → at places.new.items user place ≡ option_map (retarget_slot old new first (length moved.now)) (at places.old.items user place) }
+    ensures each { (user place : ℕ) → at places.new.items user place ≡ option_map (retarget_slot old new first
+        (length moved.now)) (at places.old.items user place) }
     ensures len { length places.new.items ≡ length places.old.items }
     ensures capacity { vec_capacity places.new ≡ vec_capacity places.old }
 {

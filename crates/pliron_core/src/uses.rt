@@ -139,7 +139,11 @@ impl Uses {
     /// Cost: constant per user or target, amortised.
     #[inline(always)]
     pub fn reserve(&mut self, users: usize, targets: usize) -> Result<(), AllocError>
-        ensures kept { self.new ≡ record self.old { user_room = self.new.user_room; target_room = self.new.target_room } }
+        ensures kept { self.new ≡ record self.old {
+          user_room = self.new.user_room;
+          target_room =
+              self.new.target_room;
+        } }
         ensures room { OnOk result ((users ≤ self.new.user_room) × (targets ≤ self.new.target_room)) }
     {
         self.places.reserve(users)?;
@@ -152,7 +156,11 @@ impl Uses {
     pub fn add_user(&mut self, alloc: Global) -> usize
         requires { 0 < self.old.user_room }
         ensures key { result ≡ length self.old.targets }
-        ensures added { self.new ≡ record self.old { targets = self.old.targets ++ [] ∷ []; user_room = self.old.user_room - 1 } }
+        ensures added { self.new ≡ record self.old {
+          targets = self.old.targets ++ [] ∷ [];
+          user_room =
+              self.old.user_room - 1;
+        } }
     {
         let key = self.places.len();
         self.places.push_reserved(InlineList::new(alloc));
@@ -165,7 +173,11 @@ impl Uses {
     pub fn add_target(&mut self, alloc: Global) -> usize
         requires { 0 < self.old.target_room }
         ensures key { result ≡ length self.old.uses }
-        ensures added { self.new ≡ record self.old { uses = self.old.uses ++ [] ∷ []; target_room = self.old.target_room - 1 } }
+        ensures added { self.new ≡ record self.old {
+          uses = self.old.uses ++ [] ∷ [];
+          target_room = self.old.target_room
+              - 1;
+        } }
     {
         let key = self.uses.len();
         self.uses.push_reserved(InlineList::new(alloc));
@@ -176,7 +188,11 @@ impl Uses {
     #[inline(always)]
     pub fn add_targets(&mut self, alloc: Global, count: usize)
         requires { count ≤ self.old.target_room }
-        ensures { self.new ≡ record self.old { uses = self.old.uses ++ replicate count []; target_room = self.old.target_room - count } }
+        ensures { self.new ≡ record self.old {
+          uses = self.old.uses ++ replicate count [];
+          target_room =
+              self.old.target_room - count;
+        } }
     {
         for _ in 0..count {
             self.add_target(alloc);
@@ -188,7 +204,8 @@ impl Uses {
     /// Errors: allocation failure, which leaves users, targets and uses as they were. Cost: one step for
     /// each target, amortised.
     pub fn add_user_with(&mut self, alloc: Global, count: usize) -> Result<(), AllocError>
-        ensures targets { OnOk result (self.new.targets ≡ self.old.targets ++ range_with_len (length self.old.uses) count ∷ []) }
+        ensures targets { OnOk result (self.new.targets ≡ self.old.targets ++ range_with_len (length self.old.uses)
+            count ∷ []) }
         ensures count { OnOk result (length self.new.uses ≡ length self.old.uses + count) }
         ensures err { OnErr result ((self.new.targets ≡ self.old.targets) × (self.new.uses ≡ self.old.uses)) }
     {
@@ -211,7 +228,8 @@ impl Uses {
     pub fn push(&mut self, user: usize, target: usize) -> Result<(), AllocError>
         requires user { user < length self.old.targets }
         requires target { target < length self.old.uses }
-        ensures targets { OnOk result (self.new.targets ≡ slice_set self.old.targets user (targets_of self.old user ++ target ∷ [])) }
+        ensures targets { OnOk result (self.new.targets ≡ slice_set self.old.targets user
+            (targets_of self.old user ++ target ∷ [])) }
         ensures count { length self.new.uses ≡ length self.old.uses }
         ensures rooms { (self.new.user_room ≡ self.old.user_room) × (self.new.target_room ≡ self.old.target_room) }
         ensures err { OnErr result (self.new ≡ self.old) }

@@ -154,7 +154,8 @@ fn push_values(words: &mut Vec<u64>, op: Ptr<Operation>, ctx: &Context) -> Resul
 // The operands, or where there are none the region.
 fn push_operands(words: &mut Vec<u64>, op: Ptr<Operation>, ctx: &Context) -> Result<(), OptError>
     requires { IsLive ctx.now.tree op }
-    ensures words { OnOk result (words.new.items ≡ words.old.items ++ operand_words (operands_of ctx.now.tree op) (region_around ctx.now.tree op)) }
+    ensures words { OnOk result (words.new.items ≡ words.old.items ++ operand_words (operands_of ctx.now.tree op)
+        (region_around ctx.now.tree op)) }
     ensures memory { IsOkUnless result OptError.Memory }
 {
     let count = op.num_operand(ctx);

@@ -32,7 +32,8 @@ impl Leaders {
     /// The operation at this place leads those with this key. Errors: allocation failure. Cost: one table look-up.
     pub fn put(&mut self, key: Vec<u64>, place: usize) -> Result<(), OptError>
         ensures put { OnOk result (leader_with self.new key.items ≡ Some place) }
-        ensures others { OnOk result ((other : List ℕ) → other ≢ key.items → leader_with self.new other ≡ leader_with self.old other) }
+        ensures others { OnOk result ((other : List ℕ) → other ≢ key.items → leader_with self.new other ≡ leader_with
+            self.old other) }
         ensures memory { IsOkUnless result OptError.Memory }
     {
         self.places.insert(key, place)?;

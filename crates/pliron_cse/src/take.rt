@@ -73,8 +73,10 @@ fn leader_at<D: Dialect>(
     requires place { place < length order.now.operations.items }
     requires counted { length order.now.ends.items ≡ length order.now.operations.items }
     requires live { IsLive ctx.now.tree (get_or order.now.operations.items place 0) }
-    ensures some { IfSome result (λ a. (a ≡ get_or order.now.operations.items leader 0) × LeadsAt D.side_effects ctx.now.tree order.now.operations.items order.now.ends.items leader place) }
-    ensures none { IfNone result (LeadsAt D.side_effects ctx.now.tree order.now.operations.items order.now.ends.items leader place → ⊥) }
+    ensures some { IfSome result (λ a. (a ≡ get_or order.now.operations.items leader 0) × LeadsAt D.side_effects
+        ctx.now.tree order.now.operations.items order.now.ends.items leader place) }
+    ensures none { IfNone result (LeadsAt D.side_effects ctx.now.tree order.now.operations.items order.now.ends.items
+        leader place → ⊥) }
 {
     if place <= leader || order.ends[leader] <= place {
         return None;
@@ -100,8 +102,10 @@ fn leader_of<D: Dialect>(
     requires place { place < length order.now.operations.items }
     requires counted { length order.now.ends.items ≡ length order.now.operations.items }
     requires live { IsLive ctx.now.tree (get_or order.now.operations.items place 0) }
-    ensures some { IfSome result (λ a. (i : ℕ) × (a ≡ get_or order.now.operations.items i 0) × LeadsAt D.side_effects ctx.now.tree order.now.operations.items order.now.ends.items i place) }
-    ensures none { IfNone result ((i : ℕ) → leader_with leaders.now key.now.items ≡ Some i → LeadsAt D.side_effects ctx.now.tree order.now.operations.items order.now.ends.items i place → ⊥) }
+    ensures some { IfSome result (λ a. (i : ℕ) × (a ≡ get_or order.now.operations.items i 0) × LeadsAt D.side_effects
+        ctx.now.tree order.now.operations.items order.now.ends.items i place) }
+    ensures none { IfNone result ((i : ℕ) → leader_with leaders.now key.now.items ≡ Some i → LeadsAt D.side_effects
+        ctx.now.tree order.now.operations.items order.now.ends.items i place → ⊥) }
 {
     match leaders.find(key) {
         Some(leader) => leader_at::<D>(order, leader, place, ctx),
@@ -120,9 +124,12 @@ fn take_at<D: Dialect, R: Rewriter + Room>(
 ) -> Result<bool, OptError>
     requires place { place < length order.now.operations.items }
     requires ordered { (root : ℕ) × IsOrdered ctx.old.tree root order.now.operations.items order.now.ends.items place }
-    ensures taken { IfOk result (λ taken. TakesOrStays D.side_effects ctx.old.tree ctx.new.tree order.now.operations.items order.now.ends.items place taken) }
-    ensures leaders { IfOk result (λ taken. LeadsOn D.side_effects ctx.old.tree order.now.operations.items order.now.ends.items place (λ key. leader_with leaders.old key) (λ key. leader_with leaders.new key) taken) }
-    ensures refused { OnErr result (TakesInPart D.side_effects ctx.old.tree ctx.new.tree order.now.operations.items order.now.ends.items place) }
+    ensures taken { IfOk result (λ taken. TakesOrStays D.side_effects ctx.old.tree ctx.new.tree
+        order.now.operations.items order.now.ends.items place taken) }
+    ensures leaders { IfOk result (λ taken. LeadsOn D.side_effects ctx.old.tree order.now.operations.items
+        order.now.ends.items place (λ key. leader_with leaders.old key) (λ key. leader_with leaders.new key) taken) }
+    ensures refused { OnErr result (TakesInPart D.side_effects ctx.old.tree ctx.new.tree order.now.operations.items
+        order.now.ends.items place) }
     ensures memory { IsOkUnless result OptError.Memory }
 {
     ctx.well_formed();
@@ -160,7 +167,8 @@ pub fn take_all<D: Dialect, R: Rewriter + Room>(
     requires live { IsLive ctx.old.tree root }
     requires linked { IsWellLinked D.meaning ctx.old.tree root }
     requires ordered { IsOrdered ctx.old.tree root order.now.operations.items order.now.ends.items 0 }
-    ensures taken { (xs : List Pair) × IsTakenSoFar D.side_effects root xs ctx.old.tree ctx.new.tree × OnOk result (TakeInTurn D.side_effects root xs ctx.old.tree ctx.new.tree) }
+    ensures taken { (xs : List Pair) × IsTakenSoFar D.side_effects root xs ctx.old.tree ctx.new.tree × OnOk result
+        (TakeInTurn D.side_effects root xs ctx.old.tree ctx.new.tree) }
     ensures way { IsOnWay D.meaning ctx.old.tree ctx.new.tree root }
     ensures tells { IfOk result (λ a. ReportsErased ctx.old.tree ctx.new.tree a) }
     ensures none { IfOk result (λ a. LeavesNoTwin D.side_effects ctx.old.tree ctx.new.tree root) }

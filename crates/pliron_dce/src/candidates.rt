@@ -47,7 +47,8 @@ fn push_region(
     ctx: &Context,
 ) -> Result<(), AllocError>
     requires { IsRegion ctx.now.tree region }
-    ensures { OnOk result (AddsArguments ctx.now.tree (λ b. block_parent_of ctx.now.tree b ≡ Some region) worklist.old.items worklist.new.items) }
+    ensures { OnOk result (AddsArguments ctx.now.tree (λ b. block_parent_of ctx.now.tree b ≡ Some region)
+        worklist.old.items worklist.new.items) }
 {
     ctx.well_formed();
     let mut at = region.get_head(ctx);
@@ -68,7 +69,8 @@ fn push_contents_of(
     ctx: &Context,
 ) -> Result<(), AllocError>
     requires { IsLive ctx.now.tree op }
-    ensures { OnOk result (AddsArguments ctx.now.tree (λ b. block_parent_operation_of ctx.now.tree b ≡ Some op) worklist.old.items worklist.new.items) }
+    ensures { OnOk result (AddsArguments ctx.now.tree (λ b. block_parent_operation_of ctx.now.tree b ≡ Some op)
+        worklist.old.items worklist.new.items) }
 {
     ctx.well_formed();
     for i in 0..op.num_region(ctx) {
@@ -87,7 +89,8 @@ fn push_operation(
     ctx: &Context,
 ) -> Result<(), AllocError>
     requires { IsLive ctx.now.tree op }
-    ensures kept { OnOk result ((x : Item) → Among x (items_of worklist.old.items) → Among x (items_of worklist.new.items)) }
+    ensures kept { OnOk result ((x : Item) → Among x (items_of worklist.old.items) → Among x
+        (items_of worklist.new.items)) }
     ensures covered { OnOk result (IsCovered ctx.now.tree root (items_of worklist.new.items) op) }
 {
     push_contents_of(worklist, wide, op, ctx)?;

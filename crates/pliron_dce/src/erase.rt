@@ -128,7 +128,8 @@ pub(crate) fn erase_dead_argument<D: Dialect>(
     ctx: &mut Context,
 ) -> Result<Vec<Value>, OptError>
     requires linked { IsWellLinked D.meaning ctx.old.tree root }
-    requires ready { (v : ℕ) → slice_get (arguments_of ctx.old.tree block) index ≡ Some v → IsReadyArgument D.meaning D.removable ctx.old.tree root v }
+    requires ready { (v : ℕ) → slice_get (arguments_of ctx.old.tree block) index ≡ Some v → IsReadyArgument D.meaning
+        D.removable ctx.old.tree root v }
     requires block { IsBlock ctx.old.tree block }
     requires index { index < length (arguments_of ctx.old.tree block) }
     requires edges { AreIncoming D.meaning ctx.old.tree block (edges_of edges.now) }

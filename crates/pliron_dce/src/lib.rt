@@ -104,7 +104,8 @@ pub fn dce<D: Dialect>(
     ensures none { IfOk result (λ a. LeavesNoDead D.meaning D.side_effects D.removable ctx.old.tree ctx.new.tree op) }
     ensures status { IfOk result (λ a. ReportsDead D.meaning D.side_effects D.removable ctx.old.tree op a) }
     ensures tells { IfOk result (λ a. (a ≡ Unchanged) ↔ (ctx.new.tree ≡ ctx.old.tree)) }
-    ensures links { (root : ℕ) → IsWellLinked D.meaning ctx.old.tree root → IsLive ctx.new.tree root → IsWellLinked D.meaning ctx.new.tree root }
+    ensures links { (root : ℕ) → IsWellLinked D.meaning ctx.old.tree root → IsLive ctx.new.tree root
+        → IsWellLinked D.meaning ctx.new.tree root }
     ensures memory { IsOkUnless result OptError.Memory }
 {
     let (status, _) = dce_with_regions::<D>(alloc, op, ctx)?;
@@ -124,13 +125,15 @@ pub fn dce_with_regions<D: Dialect>(
     requires live { IsLive ctx.old.tree op }
     requires linked { IsWellLinked D.meaning ctx.old.tree op }
     ensures change { IsWholeChange D.meaning ctx.old.tree ctx.new.tree op }
-    ensures gone { (gone : List Item) × EraseInTurn D.meaning D.shortened gone ctx.old.tree ctx.new.tree ×
-        AreDeadItems D.meaning D.side_effects D.removable ctx.old.tree op gone × IfOk result (λ a. IsTrue a.1 ↔ SomeHasRegions ctx.old.tree gone) }
+    ensures gone { (gone : List Item) × EraseInTurn D.meaning D.shortened gone ctx.old.tree ctx.new.tree
+        × AreDeadItems D.meaning D.side_effects D.removable ctx.old.tree op gone × IfOk result
+        (λ a. IsTrue a.1 ↔ SomeHasRegions ctx.old.tree gone) }
     ensures none { IfOk result (λ a. LeavesNoDead D.meaning D.side_effects D.removable ctx.old.tree ctx.new.tree op) }
     ensures status { IfOk result (λ a. ReportsDead D.meaning D.side_effects D.removable ctx.old.tree op a.0) }
     ensures tells { IfOk result (λ a. (a.0 ≡ Unchanged) ↔ (ctx.new.tree ≡ ctx.old.tree)) }
     ensures edges { IfOk result (λ a. (IsTrue a.1 → ⊥) → KeepsEdges ctx.old.tree ctx.new.tree) }
-    ensures links { (root : ℕ) → IsWellLinked D.meaning ctx.old.tree root → IsLive ctx.new.tree root → IsWellLinked D.meaning ctx.new.tree root }
+    ensures links { (root : ℕ) → IsWellLinked D.meaning ctx.old.tree root → IsLive ctx.new.tree root
+        → IsWellLinked D.meaning ctx.new.tree root }
     ensures memory { IsOkUnless result OptError.Memory }
 {
     let mut wide = Vec::new(alloc);

@@ -47,15 +47,18 @@ fn erase_one<D: Dialect>(
 ) -> Result<bool, OptError>
     requires linked { IsWellLinked D.meaning ctx.old.tree root }
     requires ready { IsReady D.meaning D.side_effects D.removable ctx.old.tree root (item_of next) }
-    requires all { HasReady D.meaning D.side_effects D.removable ctx.old.tree root (pending_candidates worklist.old ++ next ∷ []) }
+    requires all { HasReady D.meaning D.side_effects D.removable ctx.old.tree root
+        (pending_candidates worklist.old ++ next ∷ []) }
     requires closed { AreClosed ctx.old.tree worklist.old.around.keys }
     requires known { AreKnown D.meaning ctx.old.tree root (λ b. list_of incoming.old b) }
     ensures goes { OnOk result (ErasesItem D.meaning D.shortened ctx.old.tree ctx.new.tree (item_of next)) }
-    ensures all { OnOk result (HasReady D.meaning D.side_effects D.removable ctx.new.tree root (pending_candidates worklist.new)) }
+    ensures all { OnOk result (HasReady D.meaning D.side_effects D.removable ctx.new.tree root
+        (pending_candidates worklist.new)) }
     ensures closed { OnOk result (AreClosed ctx.new.tree worklist.new.around.keys) }
     ensures known { OnOk result (AreKnown D.meaning ctx.new.tree root (λ b. list_of incoming.new b)) }
     ensures regions { IfOk result (λ had. IsTrue had ↔ HasRegions ctx.old.tree (item_of next)) }
-    ensures refused { OnErr result ((ctx.new.tree ≡ ctx.old.tree) ⊎ ErasesItem D.meaning D.shortened ctx.old.tree ctx.new.tree (item_of next)) }
+    ensures refused { OnErr result ((ctx.new.tree ≡ ctx.old.tree) ⊎ ErasesItem D.meaning D.shortened ctx.old.tree
+        ctx.new.tree (item_of next)) }
     ensures memory { IsOkUnless result OptError.Memory }
 {
     ctx.well_formed();
@@ -96,9 +99,9 @@ fn erase_all_dead<D: Dialect>(
     requires closed { AreClosed ctx.old.tree worklist.old.around.keys }
     requires known { AreKnown D.meaning ctx.old.tree root (λ b. list_of incoming.old b) }
     requires marked { AreMarked D.meaning ctx.old.tree root (λ b. mark_of predecessors.now b) }
-    ensures gone { (gone : List Item) × IsSweptSoFar D.meaning D.shortened D.side_effects D.removable ctx.old.tree ctx.new.tree root gone ×
-        IfOk result (λ a. LeavesNoDead D.meaning D.side_effects D.removable ctx.old.tree ctx.new.tree root × ReportsErased gone a.0 × (IsTrue a.1 ↔
-        SomeHasRegions ctx.old.tree gone)) }
+    ensures gone { (gone : List Item) × IsSweptSoFar D.meaning D.shortened D.side_effects D.removable ctx.old.tree
+        ctx.new.tree root gone × IfOk result (λ a. LeavesNoDead D.meaning D.side_effects D.removable ctx.old.tree
+        ctx.new.tree root × ReportsErased gone a.0 × (IsTrue a.1 ↔ SomeHasRegions ctx.old.tree gone)) }
     ensures edges { IfOk result (λ a. (IsTrue a.1 → ⊥) → KeepsEdges ctx.old.tree ctx.new.tree) }
     ensures memory { IsOkUnless result OptError.Memory }
 {
@@ -130,9 +133,9 @@ pub(crate) fn sweep<D: Dialect>(
     requires linked { IsWellLinked D.meaning ctx.old.tree root }
     requires all { HasReady D.meaning D.side_effects D.removable ctx.old.tree root candidates.items }
     requires marked { AreMarked D.meaning ctx.old.tree root (λ b. mark_of predecessors.now b) }
-    ensures gone { (gone : List Item) × IsSweptSoFar D.meaning D.shortened D.side_effects D.removable ctx.old.tree ctx.new.tree root gone ×
-        IfOk result (λ a. LeavesNoDead D.meaning D.side_effects D.removable ctx.old.tree ctx.new.tree root × ReportsErased gone a.0 × (IsTrue a.1 ↔
-        SomeHasRegions ctx.old.tree gone)) }
+    ensures gone { (gone : List Item) × IsSweptSoFar D.meaning D.shortened D.side_effects D.removable ctx.old.tree
+        ctx.new.tree root gone × IfOk result (λ a. LeavesNoDead D.meaning D.side_effects D.removable ctx.old.tree
+        ctx.new.tree root × ReportsErased gone a.0 × (IsTrue a.1 ↔ SomeHasRegions ctx.old.tree gone)) }
     ensures edges { IfOk result (λ a. (IsTrue a.1 → ⊥) → KeepsEdges ctx.old.tree ctx.new.tree) }
     ensures memory { IsOkUnless result OptError.Memory }
 {

@@ -66,7 +66,8 @@ impl Worklist {
     // The candidate is visited in the next round.
     #[inline(always)]
     fn add(&mut self, candidate: DeadCandidate) -> Result<(), AllocError>
-        ensures kept { OnOk result ((x : Item) → Among x (items_of (pending_candidates self.old)) → Among x (items_of (pending_candidates self.new))) }
+        ensures kept { OnOk result ((x : Item) → Among x (items_of (pending_candidates self.old)) → Among x
+            (items_of (pending_candidates self.new))) }
         ensures added { OnOk result (Among (item_of candidate) (items_of (pending_candidates self.new))) }
         ensures around { OnOk result (self.new.around.keys ≡ self.old.around.keys) }
     {
@@ -105,9 +106,12 @@ fn next_in_round<D: Dialect>(
 ) -> Option<DeadCandidate>
     requires linked { IsWellLinked D.meaning ctx.now.tree root }
     requires marked { AreMarked D.meaning ctx.now.tree root (λ b. mark_of predecessors.now b) }
-    ensures some { IfSome result (λ next. IsReady D.meaning D.side_effects D.removable ctx.now.tree root (item_of next)) }
-    ensures kept { IfSome result (λ next. KeepsReady D.meaning D.side_effects D.removable ctx.now.tree root round.old.items (round.new.items ++ next ∷ [])) }
-    ensures none { IfNone result (KeepsReady D.meaning D.side_effects D.removable ctx.now.tree root round.old.items []) }
+    ensures some { IfSome result (λ next. IsReady D.meaning D.side_effects D.removable ctx.now.tree root
+        (item_of next)) }
+    ensures kept { IfSome result (λ next. KeepsReady D.meaning D.side_effects D.removable ctx.now.tree root
+        round.old.items (round.new.items ++ next ∷ [])) }
+    ensures none { IfNone result (KeepsReady D.meaning D.side_effects D.removable ctx.now.tree root round.old.items
+        []) }
     ensures empty { IfNone result (round.new.items ≡ []) }
 {
     while let Some(next) = round.pop() {
@@ -139,7 +143,8 @@ fn push_ready<D: Dialect>(
 ) -> Result<(), AllocError>
     requires linked { IsWellLinked D.meaning ctx.now.tree root }
     requires marked { AreMarked D.meaning ctx.now.tree root (λ b. mark_of predecessors.now b) }
-    ensures { OnOk result (KeepsReady D.meaning D.side_effects D.removable ctx.now.tree root (candidates.now ++ round.old.items) round.new.items) }
+    ensures { OnOk result (KeepsReady D.meaning D.side_effects D.removable ctx.now.tree root
+        (candidates.now ++ round.old.items) round.new.items) }
 {
     for candidate in candidates {
         if is_ready::<D>(candidate, scans, predecessors, root, ctx) {
@@ -158,7 +163,8 @@ fn begin_round<D: Dialect>(
 ) -> Result<(), AllocError>
     requires linked { IsWellLinked D.meaning ctx.now.tree root }
     requires marked { AreMarked D.meaning ctx.now.tree root (λ b. mark_of predecessors.now b) }
-    ensures kept { OnOk result (KeepsReady D.meaning D.side_effects D.removable ctx.now.tree root (pending_candidates worklist.old) (pending_candidates worklist.new)) }
+    ensures kept { OnOk result (KeepsReady D.meaning D.side_effects D.removable ctx.now.tree root
+        (pending_candidates worklist.old) (pending_candidates worklist.new)) }
     ensures later { OnOk result (worklist.new.later.items ≡ []) }
     ensures around { OnOk result (worklist.new.around.keys ≡ worklist.old.around.keys) }
 {
@@ -185,9 +191,12 @@ fn next_of<D: Dialect>(
 ) -> Option<DeadCandidate>
     requires linked { IsWellLinked D.meaning ctx.now.tree root }
     requires marked { AreMarked D.meaning ctx.now.tree root (λ b. mark_of predecessors.now b) }
-    ensures some { IfSome result (λ next. IsReady D.meaning D.side_effects D.removable ctx.now.tree root (item_of next)) }
-    ensures kept { IfSome result (λ next. KeepsReady D.meaning D.side_effects D.removable ctx.now.tree root (pending_candidates worklist.old) (pending_candidates worklist.new ++ next ∷ [])) }
-    ensures none { IfNone result (KeepsReady D.meaning D.side_effects D.removable ctx.now.tree root (pending_candidates worklist.old) (pending_candidates worklist.new)) }
+    ensures some { IfSome result (λ next. IsReady D.meaning D.side_effects D.removable ctx.now.tree root
+        (item_of next)) }
+    ensures kept { IfSome result (λ next. KeepsReady D.meaning D.side_effects D.removable ctx.now.tree root
+        (pending_candidates worklist.old) (pending_candidates worklist.new ++ next ∷ [])) }
+    ensures none { IfNone result (KeepsReady D.meaning D.side_effects D.removable ctx.now.tree root
+        (pending_candidates worklist.old) (pending_candidates worklist.new)) }
     ensures empty { IfNone result (worklist.new.round.items ≡ []) }
     ensures later { worklist.new.later ≡ worklist.old.later }
     ensures around { worklist.new.around ≡ worklist.old.around }
@@ -214,7 +223,8 @@ fn push_operations(round: &mut Vec<DeadCandidate>, ops: &[Ptr<Operation>]) -> Re
 // The operations around what lost uses come into the round. Their set begins anew, since emptying one costs as
 // much as it ever held.
 fn begin_around(alloc: Global, worklist: &mut Worklist) -> Result<(), AllocError>
-    ensures kept { OnOk result ((x : Item) → Among x (items_of (pending_candidates worklist.old)) → Among x (items_of (pending_candidates worklist.new))) }
+    ensures kept { OnOk result ((x : Item) → Among x (items_of (pending_candidates worklist.old)) → Among x
+        (items_of (pending_candidates worklist.new))) }
     ensures later { worklist.new.later ≡ worklist.old.later }
     ensures around { OnOk result (worklist.new.around.keys ≡ []) }
 {
@@ -236,10 +246,12 @@ pub(crate) fn next_ready<D: Dialect>(
     requires marked { AreMarked D.meaning ctx.now.tree root (λ b. mark_of predecessors.now b) }
     requires all { HasReady D.meaning D.side_effects D.removable ctx.now.tree root (pending_candidates worklist.old) }
     requires closed { AreClosed ctx.now.tree worklist.old.around.keys }
-    ensures some { IfOk result (λ found. IfSome found (λ next. IsReady D.meaning D.side_effects D.removable ctx.now.tree root (item_of next))) }
-    ensures all { IfOk result (λ found. IfSome found (λ next.
-        HasReady D.meaning D.side_effects D.removable ctx.now.tree root (pending_candidates worklist.new ++ next ∷ []))) }
-    ensures none { IfOk result (λ found. IfNone found ((x : Item) → IsReady D.meaning D.side_effects D.removable ctx.now.tree root x → ⊥)) }
+    ensures some { IfOk result (λ found. IfSome found (λ next. IsReady D.meaning D.side_effects D.removable ctx.now.tree
+        root (item_of next))) }
+    ensures all { IfOk result (λ found. IfSome found (λ next. HasReady D.meaning D.side_effects D.removable ctx.now.tree
+        root (pending_candidates worklist.new ++ next ∷ []))) }
+    ensures none { IfOk result (λ found. IfNone found ((x : Item) → IsReady D.meaning D.side_effects D.removable
+        ctx.now.tree root x → ⊥)) }
     ensures closed { OnOk result (AreClosed ctx.now.tree worklist.new.around.keys) }
 {
     if let Some(next) = next_of::<D>(worklist, predecessors, root, ctx) {
@@ -310,7 +322,8 @@ fn push_around(
 #[inline(always)]
 pub(crate) fn note(worklist: &mut Worklist, used: &[Value], ctx: &Context) -> Result<(), AllocError>
     requires closed { AreClosed ctx.now.tree worklist.old.around.keys }
-    ensures kept { OnOk result ((x : Item) → Among x (items_of (pending_candidates worklist.old)) → Among x (items_of (pending_candidates worklist.new))) }
+    ensures kept { OnOk result ((x : Item) → Among x (items_of (pending_candidates worklist.old)) → Among x
+        (items_of (pending_candidates worklist.new))) }
     ensures looked { OnOk result (AreRevisited ctx.now.tree used.now (items_of (pending_candidates worklist.new))) }
     ensures closed { OnOk result (AreClosed ctx.now.tree worklist.new.around.keys) }
 {

@@ -120,8 +120,8 @@ pub enum End {
 pub struct RunReport {
     /// Its effects as they came, and how it ended.
     pub seen: String,
-    /// Its moves, where the options ask for them, and a mark under the operation that made the last one where the run didn't
-    /// end with values: why it trapped, or what cut it off.
+    /// Its moves, where the options ask for them, and a mark under the operation that made the last one where the run
+    /// didn't end with values: why it trapped, or what cut it off.
     pub report: String,
     pub end: End,
 }
@@ -247,8 +247,8 @@ fn last_move(
     })
 }
 
-/// What is told beside what is seen: the moves that are noted, and a mark under the operation that made the last one where the
-/// run didn't end with values.
+/// What is told beside what is seen: the moves that are noted, and a mark under the operation that made the last one
+/// where the run didn't end with values.
 fn report_of(alloc: Global, ctx: &Context, run: &FinishedRun) -> Result<String, OptError> {
     let places = operation_places(alloc, run.source.text)?;
     let mut report = String::new(alloc);

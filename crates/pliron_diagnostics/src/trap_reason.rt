@@ -59,8 +59,8 @@ fn earlier_moves(moves: &[Noted]) -> &[Noted] {
     moves.get(..moves.len().saturating_sub(1)).unwrap_or(moves)
 }
 
-/// Whether one of the moves before the last one was made by the operation that defines the value, or one of all in the block
-/// whose argument it is.
+/// Whether one of the moves before the last one was made by the operation that defines the value, or one of all in the
+/// block whose argument it is.
 fn is_defined_by(ctx: &Context, moves: &[Noted], value: Value) -> bool {
     if !value.is_live(ctx) {
         return false;

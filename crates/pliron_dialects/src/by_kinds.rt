@@ -383,9 +383,11 @@ impl<K: Kinds> Dialect for ByKinds<K> {
 
     ghost answers_jumps = { answers_jumps (role_at K.tables) };
 
-    ghost folds_in_place = { folds_in_place (role_at K.tables) (K.tables.number_of K.tables.constant) (K.tables.number_of K.tables.jump) (jump_named K.tables K.keeps_tables) };
+    ghost folds_in_place = { folds_in_place (role_at K.tables) (K.tables.number_of K.tables.constant)
+        (K.tables.number_of K.tables.jump) (jump_named K.tables K.keeps_tables) };
 
-    ghost makes_constants = { makes_constants (role_at K.tables) (K.tables.number_of K.tables.constant) (constant_named K.tables K.keeps_tables) };
+    ghost makes_constants = { makes_constants (role_at K.tables) (K.tables.number_of K.tables.constant)
+        (constant_named K.tables K.keeps_tables) };
 
     ghost names_operands = { names_operands (role_at K.tables) };
 

@@ -81,8 +81,8 @@ fn places_in_form(form: Form, attrs: &Attrs, operands: usize, i: usize) -> EdgeR
 /// Cost: constant.
 pub fn places_at<K: Kinds>(op: Ptr<Operation>, ctx: &Context, i: usize) -> EdgeRange
     requires { IsLive ctx.now.tree op }
-    ensures places { ReadsHead (λ h. by_form forwards_nothing places_by_form (form_by (role_at K.tables) h.kind) h.attrs (length
-        (operands_of ctx.now.tree op)) i) ctx.now.tree op (range_with_len result.first result.count) }
+    ensures places { ReadsHead (λ h. by_form forwards_nothing places_by_form (form_by (role_at K.tables) h.kind) h.attrs
+        (length (operands_of ctx.now.tree op)) i) ctx.now.tree op (range_with_len result.first result.count) }
     ensures within { (j : ℕ) → j < result.count → result.first + j < length (operands_of ctx.now.tree op) }
     ensures fits { result.first + result.count ≤ 18446744073709551615 }
 {
@@ -103,7 +103,8 @@ pub fn operands_at(
     requires live { IsLive ctx.now.tree op }
     requires within { (j : ℕ) → j < places.count → places.first + j < length (operands_of ctx.now.tree op) }
     requires fits { places.first + places.count ≤ 18446744073709551615 }
-    ensures { IfOk result (λ values. map Some values.items ≡ pick (range_with_len places.first places.count) (operands_of ctx.now.tree op)) }
+    ensures { IfOk result (λ values. map Some values.items ≡ pick (range_with_len places.first places.count)
+        (operands_of ctx.now.tree op)) }
 {
     let mut values = Vec::new(alloc);
     for j in 0..places.count {
@@ -123,7 +124,8 @@ pub fn operand_among(
     requires live { IsLive ctx.now.tree op }
     requires within { (k : ℕ) → k < places.count → places.first + k < length (operands_of ctx.now.tree op) }
     requires fits { places.first + places.count ≤ 18446744073709551615 }
-    ensures { option_map Some result ≡ slice_get (pick (range_with_len places.first places.count) (operands_of ctx.now.tree op)) j }
+    ensures { option_map Some result ≡ slice_get (pick (range_with_len places.first places.count)
+        (operands_of ctx.now.tree op)) j }
 {
     if j < places.count {
         Some(op.get_operand(ctx, places.first + j))

@@ -32,7 +32,8 @@ fn compute_fold<K: Kinds>(
     kind: K,
     operand_attrs: &[Option<AttrObj>],
 ) -> Result<Option<AttrObj>, AllocFailed<i64>>
-    ensures { IfOk result (λ answer. answer ≡ option_map (λ ns. Int (value_of (K.tables.role_of kind) ns)) (all_known operand_attrs.now)) }
+    ensures { IfOk result (λ answer. answer ≡ option_map (λ ns. Int (value_of (K.tables.role_of kind) ns))
+        (all_known operand_attrs.now)) }
 {
     match known_numbers(alloc, operand_attrs)? {
         Some(numbers) => Ok(Some(AttrObj::Int(kind.value(&numbers) as i128))),
@@ -48,7 +49,8 @@ pub fn answer_of<K: Kinds>(
     head: &Head,
     operand_attrs: &[Option<AttrObj>],
 ) -> Result<Option<AttrObj>, OptError>
-    ensures ok { IfOk result (λ answer. answer ≡ answer_in (form_of (K.tables.role_of kind)) (value_of (K.tables.role_of kind)) head.now operand_attrs.now) }
+    ensures ok { IfOk result (λ answer. answer ≡ answer_in (form_of (K.tables.role_of kind))
+        (value_of (K.tables.role_of kind)) head.now operand_attrs.now) }
     ensures memory { IsOkUnless result OptError.Memory }
 {
     match kind.form() {

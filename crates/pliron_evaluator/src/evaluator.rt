@@ -35,7 +35,8 @@ pub fn evaluate<D: Evaluate>(
     world: Vec<Datum>,
     fuel: usize,
 ) -> Result<Sight, AllocError>
-    ensures { IfOk result (λ sight. sight_of sight ≡ sight_after (run D.meaning ctx.now.tree root (map datum_of_value inputs.items) (map datum_of_value world.items) fuel)) }
+    ensures { IfOk result (λ sight. sight_of sight ≡ sight_after (run D.meaning ctx.now.tree root
+        (map datum_of_value inputs.items) (map datum_of_value world.items) fuel)) }
 {
     let mut notes = Notes::of_last(alloc);
     evaluate_noting::<D>(alloc, ctx, root, inputs, world, fuel, &mut notes)
@@ -54,7 +55,8 @@ pub fn evaluate_noting<D: Evaluate>(
     fuel: usize,
     notes: &mut Notes,
 ) -> Result<Sight, AllocError>
-    ensures { IfOk result (λ sight. sight_of sight ≡ sight_after (run D.meaning ctx.now.tree root (map datum_of_value inputs.items) (map datum_of_value world.items) fuel)) }
+    ensures { IfOk result (λ sight. sight_of sight ≡ sight_after (run D.meaning ctx.now.tree root
+        (map datum_of_value inputs.items) (map datum_of_value world.items) fuel)) }
 {
     let mut state = start(alloc, root, inputs, world)?;
     for _ in 0..fuel {

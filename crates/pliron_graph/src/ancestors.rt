@@ -70,7 +70,8 @@ pub fn find_ancestor_op_of_op_in_region(
     region: Ptr<Region>,
 ) -> Option<Ptr<Operation>>
     requires { IsLive ctx.now.tree op }
-    ensures nearest { FindsNearest (IsInside ctx.now.tree) (IsAtOrAbove ctx.now.tree op) (IsDirectlyInRegion ctx.now.tree region) result }
+    ensures nearest { FindsNearest (IsInside ctx.now.tree) (IsAtOrAbove ctx.now.tree op)
+        (IsDirectlyInRegion ctx.now.tree region) result }
     ensures stands { IfSome result (λ a. IsLive ctx.now.tree a) }
 {
     ctx.well_formed();
@@ -94,7 +95,8 @@ pub fn find_ancestor_op_of_op_in_block(
     block: Ptr<BasicBlock>,
 ) -> Option<Ptr<Operation>>
     requires { IsLive ctx.now.tree op }
-    ensures nearest { FindsNearest (IsInside ctx.now.tree) (IsAtOrAbove ctx.now.tree op) (IsDirectlyInBlock ctx.now.tree block) result }
+    ensures nearest { FindsNearest (IsInside ctx.now.tree) (IsAtOrAbove ctx.now.tree op)
+        (IsDirectlyInBlock ctx.now.tree block) result }
     ensures stands { IfSome result (λ a. IsLive ctx.now.tree a) }
 {
     ctx.well_formed();
@@ -118,7 +120,8 @@ pub fn find_ancestor_block_of_op_in_region(
     region: Ptr<Region>,
 ) -> Option<Ptr<BasicBlock>>
     requires { IsLive ctx.now.tree op }
-    ensures nearest { FindsNearest (IsBlockInside ctx.now.tree) (λ b. StandsIn ctx.now.tree b op) (IsDirectlyIn ctx.now.tree region) result }
+    ensures nearest { FindsNearest (IsBlockInside ctx.now.tree) (λ b. StandsIn ctx.now.tree b op)
+        (IsDirectlyIn ctx.now.tree region) result }
     ensures stands { IfSome result (λ b. IsBlock ctx.now.tree b) }
 {
     ctx.well_formed();
@@ -136,7 +139,8 @@ pub fn find_ancestor_block_of_block_in_region(
     region: Ptr<Region>,
 ) -> Option<Ptr<BasicBlock>>
     requires { IsBlock ctx.now.tree block }
-    ensures nearest { FindsNearest (IsBlockInside ctx.now.tree) (λ b. IsBlockWithin ctx.now.tree b block) (IsDirectlyIn ctx.now.tree region) result }
+    ensures nearest { FindsNearest (IsBlockInside ctx.now.tree) (λ b. IsBlockWithin ctx.now.tree b block)
+        (IsDirectlyIn ctx.now.tree region) result }
     ensures stands { IfSome result (λ b. IsBlock ctx.now.tree b) }
 {
     ctx.well_formed();
@@ -157,7 +161,8 @@ pub fn find_ancestor_of_op_type<D: Dialect>(
     kind: D::Kind,
 ) -> Option<Ptr<Operation>>
     requires { IsLive ctx.now.tree op }
-    ensures nearest { FindsNearest (IsInside ctx.now.tree) (IsAncestor ctx.now.tree op) (HeadPasses (λ h. D.is_of_kind h kind) ctx.now.tree) result }
+    ensures nearest { FindsNearest (IsInside ctx.now.tree) (IsAncestor ctx.now.tree op)
+        (HeadPasses (λ h. D.is_of_kind h kind) ctx.now.tree) result }
     ensures stands { IfSome result (λ a. IsLive ctx.now.tree a) }
 {
     ctx.well_formed();
@@ -181,7 +186,8 @@ pub fn find_ancestor_of_op_interface<D: Dialect>(
     interface: Interface,
 ) -> Option<Ptr<Operation>>
     requires { IsLive ctx.now.tree op }
-    ensures nearest { FindsNearest (IsInside ctx.now.tree) (IsAncestor ctx.now.tree op) (HeadPasses (λ h. D.has_interface h interface) ctx.now.tree) result }
+    ensures nearest { FindsNearest (IsInside ctx.now.tree) (IsAncestor ctx.now.tree op)
+        (HeadPasses (λ h. D.has_interface h interface) ctx.now.tree) result }
     ensures stands { IfSome result (λ a. IsLive ctx.now.tree a) }
 {
     ctx.well_formed();

@@ -114,7 +114,8 @@ fn search_all<C, G: ControlFlowGraph<C>, S: ListedSet<G::Node>>(
     graph: &G,
 ) -> Result<(S, Vec<G::Node>), OptError>
     requires { G.is_lawful graph.now ctx.now }
-    ensures grew { IfOk result (λ r. Grew G.Node.eq (G.graph graph.now ctx.now) (entry_then_nodes (G.graph graph.now ctx.now)) [] [] (S.listed r.0) r.1.items) }
+    ensures grew { IfOk result (λ r. Grew G.Node.eq (G.graph graph.now ctx.now)
+        (entry_then_nodes (G.graph graph.now ctx.now)) [] [] (S.listed r.0) r.1.items) }
     ensures memory { IsOkUnless result OptError.Memory }
 {
     let roots = roots(alloc, ctx, graph)?;
@@ -139,7 +140,8 @@ fn take_components<C, G: ControlFlowGraph<C>, S: ListedSet<G::Node>>(
     mut post: Vec<G::Node>,
 ) -> Result<Vec<Scc<G::Node>>, OptError>
     requires lawful { G.is_lawful graph.now ctx.now }
-    requires grew { Grew G.Node.eq (G.graph graph.now ctx.now) (entry_then_nodes (G.graph graph.now ctx.now)) [] [] (S.listed pre.now) post.items }
+    requires grew { Grew G.Node.eq (G.graph graph.now ctx.now) (entry_then_nodes (G.graph graph.now ctx.now)) [] []
+        (S.listed pre.now) post.items }
     ensures found { IfOk result (λ r. AreNumberedComponents G.Node.eq (G.graph graph.now ctx.now) r.items) }
     ensures memory { IsOkUnless result OptError.Memory }
 {
@@ -167,7 +169,8 @@ fn take_component<C, G: ControlFlowGraph<C>, S: ListedSet<G::Node>>(
     requires member { Contains (G.graph graph.now ctx.now).nodes root }
     requires unheld { list_any (G.Node.eq root) (S.listed held.old) ≡ false }
     requires listed { All (IsListed G.Node.eq (S.listed pre.now)) (G.graph graph.now ctx.now).nodes }
-    ensures taken { IfOk result (λ c. IsTaken (G.graph graph.now ctx.now) G.Node.eq (S.listed pre.now) root (S.listed held.old) (S.listed held.new) c) }
+    ensures taken { IfOk result (λ c. IsTaken (G.graph graph.now ctx.now) G.Node.eq (S.listed pre.now) root
+        (S.listed held.old) (S.listed held.new) c) }
     ensures memory { IsOkUnless result OptError.Memory }
 {
     let first = held.len();
@@ -187,7 +190,8 @@ fn collect<C, G: ControlFlowGraph<C>, S: ListedSet<G::Node>>(
     requires lawful { G.is_lawful graph.now ctx.now }
     requires member { Contains (G.graph graph.now ctx.now).nodes root }
     requires unheld { list_any (G.Node.eq root) (S.listed held.old) ≡ false }
-    ensures collected { OnOk result (Collects (G.graph graph.now ctx.now) G.Node.eq root (S.listed held.old) (S.listed held.new)) }
+    ensures collected { OnOk result (Collects (G.graph graph.now ctx.now) G.Node.eq root (S.listed held.old)
+        (S.listed held.new)) }
     ensures memory { IsOkUnless result OptError.Memory }
 {
     let mut next = held.len();
@@ -209,7 +213,8 @@ fn hold_predecessors<C, G: ControlFlowGraph<C>, S: ListedSet<G::Node>>(
 ) -> Result<(), OptError>
     requires lawful { G.is_lawful graph.now ctx.now }
     requires member { Contains (G.graph graph.now ctx.now).nodes node.now }
-    ensures holds { OnOk result (TakesIn G.Node.eq ((G.graph graph.now ctx.now).pred node.now) (S.listed held.old) (S.listed held.new)) }
+    ensures holds { OnOk result (TakesIn G.Node.eq ((G.graph graph.now ctx.now).pred node.now) (S.listed held.old)
+        (S.listed held.new)) }
     ensures memory { IsOkUnless result OptError.Memory }
 {
     for i in 0..graph.num_predecessors(ctx, node) {

@@ -76,6 +76,6 @@ pub fn equality_of_reverse_nodes<N: Eq>()
 
 /// Equal nodes of a [`ReverseGraph`](crate::ReverseGraph) write the same to a hasher.
 pub fn hashing_of_reverse_nodes<N: Eq + Hash>()
-    ensures { (x y : ReverseNode N) → IsTrue (⟦<ReverseNode<N> as PartialEq>⟧.eq x y) → ⟦<ReverseNode<N> as Hash>⟧.hash_input x ≡
-        ⟦<ReverseNode<N> as Hash>⟧.hash_input y }
+    ensures { (x y : ReverseNode N) → IsTrue (⟦<ReverseNode<N> as PartialEq>⟧.eq x y)
+        → ⟦<ReverseNode<N> as Hash>⟧.hash_input x ≡ ⟦<ReverseNode<N> as Hash>⟧.hash_input y }
 {}

@@ -136,7 +136,8 @@ fn places_of(
 /// Errors: allocation failure. Cost: linear, but for an ordered map of the numbers, which the input chooses.
 pub fn read_graph(alloc: Global, text: &[u8]) -> Result<Option<NumberedGraph>, OptError>
     ensures lawful { IfOk result (λ found. IfSome found (λ graph. AreInverse graph.edges)) }
-    ensures numbered { IfOk result (λ found. IfSome found (λ graph. length graph.numbers.items ≡ length graph.edges.succ)) }
+    ensures numbered { IfOk result (λ found. IfSome found (λ graph. length graph.numbers.items ≡ length
+        graph.edges.succ)) }
 {
     let Some(lines) = lines(alloc, text)? else {
         return Ok(None);

@@ -93,7 +93,8 @@ fn last_of_sink<C, G: ControlFlowGraph<C>, S: ListedSet<G::Node>>(
 ) -> Option<G::Node>
     requires lawful { G.is_lawful graph.now ctx.now }
     requires places { S.listed places.now ≡ (G.graph graph.now ctx.now).nodes }
-    requires owned { (v : G.Node) → Contains (G.graph graph.now ctx.now).nodes v → ((owner_in G.Node.eq (S.listed places.now) owners.now v ≡ owner) ↔ Contains members.now v) }
+    requires owned { (v : G.Node) → Contains (G.graph graph.now ctx.now).nodes v
+        → ((owner_in G.Node.eq (S.listed places.now) owners.now v ≡ owner) ↔ Contains members.now v) }
     requires not_empty { 0 < length members.now }
     requires nodes { All (λ v. Contains (G.graph graph.now ctx.now).nodes v) members.now }
     ensures { (v : G.Node) → ((result ≡ Some v) ↔ (IsSink (G.graph graph.now ctx.now) members.now ×
@@ -129,7 +130,8 @@ fn is_sink<C, G: ControlFlowGraph<C>, S: ListedSet<G::Node>>(
 ) -> bool
     requires lawful { G.is_lawful graph.now ctx.now }
     requires nodes { All (λ v. Contains (G.graph graph.now ctx.now).nodes v) members.now }
-    ensures { IsTrue result ↔ All (λ u. All (λ v. owner_in G.Node.eq (S.listed places.now) owners.now v ≡ owner) ((G.graph graph.now ctx.now).succ u)) members.now }
+    ensures { IsTrue result ↔ All (λ u. All (λ v. owner_in G.Node.eq (S.listed places.now) owners.now v ≡ owner)
+        ((G.graph graph.now ctx.now).succ u)) members.now }
 {
     for node in members {
         if !stays_inside(ctx, graph, places, owners, owner, node) {
@@ -150,7 +152,8 @@ fn stays_inside<C, G: ControlFlowGraph<C>, S: ListedSet<G::Node>>(
 ) -> bool
     requires lawful { G.is_lawful graph.now ctx.now }
     requires member { Contains (G.graph graph.now ctx.now).nodes node.now }
-    ensures { IsTrue result ↔ All (λ v. owner_in G.Node.eq (S.listed places.now) owners.now v ≡ owner) ((G.graph graph.now ctx.now).succ node.now) }
+    ensures { IsTrue result ↔ All (λ v. owner_in G.Node.eq (S.listed places.now) owners.now v ≡ owner)
+        ((G.graph graph.now ctx.now).succ node.now) }
 {
     for i in 0..graph.num_successors(ctx, node) {
         if owner_of(places, owners, &graph.get_successor(ctx, node, i)) != owner {
@@ -164,7 +167,8 @@ fn stays_inside<C, G: ControlFlowGraph<C>, S: ListedSet<G::Node>>(
 fn last_listed<N: Eq + Copy, S: ListedSet<N>>(places: &S, members: &[N]) -> N
     requires not_empty { 0 < length members.now }
     ensures among { Contains members.now result }
-    ensures last { All (λ v. number_in N.eq (S.listed places.now) v ≤ number_in N.eq (S.listed places.now) result) members.now }
+    ensures last { All (λ v. number_in N.eq (S.listed places.now) v ≤ number_in N.eq (S.listed places.now) result)
+        members.now }
 {
     let mut last = members[0];
     for node in members {

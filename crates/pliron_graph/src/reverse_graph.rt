@@ -51,7 +51,8 @@ impl<'a, G: ControlFlowGraph<C>, C> ReverseGraph<'a, G, C> {
         requires { G.is_lawful graph.now ctx.now }
         ensures lawful { IfOk result (λ r. ⟦<ReverseGraph<'a, G, C> as ControlFlowGraph<C>>⟧.is_lawful r ctx.now) }
         ensures original { IfOk result (λ r. r.original ≡ graph.now) }
-        ensures pre_sentinels { IfOk result (λ r. ArePreSentinels G.Node.eq (G.graph graph.now ctx.now) r.pre_sentinels) }
+        ensures pre_sentinels { IfOk result (λ r. ArePreSentinels G.Node.eq (G.graph graph.now ctx.now)
+            r.pre_sentinels) }
         ensures memory { IsOkUnless result OptError.Memory }
     {
         let listed = graph.nodes(alloc, ctx)?;
@@ -153,8 +154,8 @@ fn predecessor_lists<C, G: ControlFlowGraph<C>>(
 ) -> Result<Vec<Vec<ReverseNode<G::Node>>>, OptError>
     requires lawful { G.is_lawful graph.now ctx.now }
     requires listed { nodes.now ≡ (G.graph graph.now ctx.now).nodes }
-    ensures lists { IfOk result (λ r. map (λ list. list.items) r.items ≡
-        map (λ v. reverse_pred G.Node.eq (G.graph graph.now ctx.now) pre_sentinels.now.keys (ReverseNode.Real v)) nodes.now) }
+    ensures lists { IfOk result (λ r. map (λ list. list.items) r.items ≡ map (λ v. reverse_pred G.Node.eq
+        (G.graph graph.now ctx.now) pre_sentinels.now.keys (ReverseNode.Real v)) nodes.now) }
     ensures memory { IsOkUnless result OptError.Memory }
 {
     let mut lists = Vec::with_capacity(alloc, nodes.len())?;
@@ -174,7 +175,8 @@ fn predecessor_list<C, G: ControlFlowGraph<C>>(
 ) -> Result<Vec<ReverseNode<G::Node>>, OptError>
     requires lawful { G.is_lawful graph.now ctx.now }
     requires member { Contains (G.graph graph.now ctx.now).nodes node.now }
-    ensures list { IfOk result (λ r. r.items ≡ reverse_pred G.Node.eq (G.graph graph.now ctx.now) pre_sentinels.now.keys (ReverseNode.Real node.now)) }
+    ensures list { IfOk result (λ r. r.items ≡ reverse_pred G.Node.eq (G.graph graph.now ctx.now) pre_sentinels.now.keys
+        (ReverseNode.Real node.now)) }
     ensures memory { IsOkUnless result OptError.Memory }
 {
     let mut list = Vec::new(alloc);

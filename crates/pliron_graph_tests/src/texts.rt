@@ -266,7 +266,8 @@ fn push_edges_of<C, G: ControlFlowGraph<C>>(
 )
     requires lawful { G.is_lawful graph.now ctx.now }
     requires member { Contains (G.graph graph.now ctx.now).nodes node.now }
-    requires search { IsSearch G.Node.eq (G.graph graph.now ctx.now) (option_to_list (G.graph graph.now ctx.now).entry) search.now }
+    requires search { IsSearch G.Node.eq (G.graph graph.now ctx.now) (option_to_list (G.graph graph.now ctx.now).entry)
+        search.now }
     requires reached { IsListed G.Node.eq search.now.pre node.now }
 {
     for i in 0..graph.num_successors(ctx, node) {

@@ -223,9 +223,9 @@ fn explain_in(
 /// What changed in a text: for each operation and argument that changed or went when these passes were run, a line with
 /// its place and the reason; `None` of an unreadable text.
 ///
-/// Each pass is made of its own calls, what stood before each is compared with what stands after it, and the reason is what
-/// that call does. Errors: allocation failure, and those of the passes. Cost: reading, and for each pass its own cost and a step
-/// for all that stands.
+/// Each pass is made of its own calls, what stood before each is compared with what stands after it, and the reason is
+/// what that call does. Errors: allocation failure, and those of the passes. Cost: reading, and for each pass its own
+/// cost and a step for all that stands.
 pub fn explain_changes(
     alloc: Global,
     text: &[u8],

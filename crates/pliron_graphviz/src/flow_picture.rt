@@ -201,7 +201,8 @@ impl FlowPicture<'_> {
 }
 
 /// The picture of a region of the text's operation. Asks that it stands, and that edges stand last in the operation
-/// that holds it (`edges_last` tests it). Errors: allocation failure. Cost: linear in the text, and that of `graph_rows`.
+/// that holds it (`edges_last` tests it). Errors: allocation failure. Cost: linear in the text, and that of
+/// `graph_rows`.
 pub fn flow_picture(
     alloc: Global,
     text: &[u8],

@@ -1,8 +1,8 @@
-//! Texts as pictures, and what passes did to them: the control flow of a region and numbered graphs in the dot language of
-//! Graphviz, and a reason for each operation and argument that changed or went.
+//! Texts as pictures, and what passes did to them: the control flow of a region and numbered graphs in the dot language
+//! of Graphviz, and a reason for each operation and argument that changed or went.
 //!
-//! It knows the bench notation, graphs with their searches and dominators, the dot language, and the calls of which passes
-//! are made; of words, files, streams and statuses it knows nothing.
+//! It knows the bench notation, graphs with their searches and dominators, the dot language, and the calls of which
+//! passes are made; of words, files, streams and statuses it knows nothing.
 #![tactic(auto)]
 
 pub mod dot;

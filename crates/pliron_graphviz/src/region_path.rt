@@ -70,8 +70,8 @@ fn further(
     })
 }
 
-/// The region at the end of a path from an operation, if there is one. Errors: allocation failure. Cost: linear in the path
-/// and in the regions on it.
+/// The region at the end of a path from an operation, if there is one. Errors: allocation failure. Cost: linear in the
+/// path and in the regions on it.
 pub fn region_at(
     alloc: Global,
     ctx: &Context,

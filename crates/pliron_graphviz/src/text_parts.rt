@@ -29,8 +29,9 @@ pub struct ValueName {
     pub block: Option<usize>,
 }
 
-/// The parts of a text. It is one that the notation has, and each kind stands in the order in which it is written, which
-/// is the order in which `read_text` makes what they name: so the number of each is its key in the tree that was read.
+/// The parts of a text. It is one that the notation has, and each kind stands in the order in which it is written,
+/// which is the order in which `read_text` makes what they name: so the number of each is its key in the tree that was
+/// read.
 #[derive(Drop)]
 pub struct TextParts {
     /// The operations, up to their regions.
@@ -226,8 +227,8 @@ pub fn parts_of(alloc: Global, text: &[u8]) -> Result<TextParts, AllocError> {
     Ok(words)
 }
 
-/// Adds the bytes with each run of blanks as one blank, without those around them. Errors: allocation failure. Cost: linear
-/// in them.
+/// Adds the bytes with each run of blanks as one blank, without those around them. Errors: allocation failure. Cost:
+/// linear in them.
 pub fn push_on_one_line(line: &mut String, bytes: &[u8]) -> Result<(), AllocError> {
     let mut gap = "";
     let mut next_gap = "";

@@ -88,8 +88,8 @@ impl TreeState {
     }
 }
 
-/// The operation and what it holds, as these stand. Asks that it stands (`is_live` tests it). Errors: allocation failure.
-/// Cost: linear in all that.
+/// The operation and what it holds, as these stand. Asks that it stands (`is_live` tests it). Errors: allocation
+/// failure. Cost: linear in all that.
 pub fn tree_state(alloc: Global, root: Ptr<Operation>, ctx: &Context) -> Result<TreeState, OptError>
     requires { IsLive ctx.now.tree root }
 {

@@ -35,8 +35,8 @@ fn pipelines_report_accurately<N: Notation, C: Progress + Drop>()
     lists_report_accurately::<N, C>();
 }
 
-/// Each schedule reports accurately: where it answers `Unchanged`, the tree is the same but for erased handles. A law: it does
-/// nothing. Cost: constant.
+/// Each schedule reports accurately: where it answers `Unchanged`, the tree is the same but for erased handles. A law:
+/// it does nothing. Cost: constant.
 pub fn schedules_report_accurately<N: Notation, C: Progress + Drop>()
     ensures { IsAccurate ⟦<InstrumentedSchedule<N, C> as Pass>⟧.outcome }
 {

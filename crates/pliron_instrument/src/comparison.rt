@@ -167,8 +167,8 @@ impl Snapshot {
         self.add_arguments(ctx)
     }
 
-    /// The operation and all that stands inside it. Asks that it stands (`is_live` tests it). Errors: allocation failure.
-    /// Cost: linear in all that.
+    /// The operation and all that stands inside it. Asks that it stands (`is_live` tests it). Errors: allocation
+    /// failure. Cost: linear in all that.
     pub(crate) fn of(alloc: Global, op: Ptr<Operation>, ctx: &Context) -> Result<Self, AllocError>
         requires { IsLive ctx.now.tree op }
     {

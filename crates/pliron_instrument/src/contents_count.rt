@@ -4,7 +4,8 @@ ghost use Rattle.pliron_core.specs.Tree.{IsLive, IsRegion};
 use pliron_core::{Context, Operation, Ptr, Region};
 use pliron_walks::Contents;
 
-/// How much stands inside operations: these themselves and the operations inside them, blocks, arguments of blocks, and edges.
+/// How much stands inside operations: these themselves and the operations inside them, blocks, arguments of blocks, and
+/// edges.
 #[derive(Clone, Copy, Debug, Drop, PartialEq, Eq)]
 pub struct ContentsCount {
     pub operations: usize,

@@ -86,7 +86,8 @@ fn text_before_bracket(text: &str) -> Option<&str>
     text.strip_suffix(')')
 }
 
-/// The runs that the rest of a word behind `repeat:` asks for, and what is run. Errors: it asks for none; allocation failure.
+/// The runs that the rest of a word behind `repeat:` asks for, and what is run. Errors: it asks for none; allocation
+/// failure.
 fn counted_by_colon<'w>(alloc: Global, rest: &'w str) -> Result<(usize, RestOfWord<'w>), PlanError>
     ensures whole { IfOk result (λ read. rest.now ≡ decimal read.0 ++ (codes ":" ++ read.1.text.now)) }
     ensures few { IfOk result (λ read. (1 ≤ read.0) × (read.0 ≤ 64)) }
@@ -118,7 +119,8 @@ fn counted_in_brackets<'w>(
     }
 }
 
-/// The runs that the word asks for, if it does, and what is run. Errors: it asks for none that can be; allocation failure.
+/// The runs that the word asks for, if it does, and what is run. Errors: it asks for none that can be; allocation
+/// failure.
 fn read_runs<'w>(alloc: Global, word: &'w str) -> Result<(Option<usize>, RestOfWord<'w>), PlanError>
     ensures { IfOk result (λ read. Counts word.now read.0 read.1.text.now) }
 {
@@ -161,7 +163,8 @@ fn is_pass(name: &str) -> bool {
 
 /// The names that commas set apart. Errors: one that no pass has; allocation failure.
 fn names<'w>(alloc: Global, list: RestOfWord<'w>) -> Result<Vec<&'w str>, PlanError>
-    ensures { IfOk result (λ names. map (λ name. name.now) names.items ≡ slice_split (λ b. b == 44) list.entry.text.now) }
+    ensures { IfOk result (λ names. map (λ name. name.now) names.items ≡ slice_split
+        (λ b. b == 44) list.entry.text.now) }
 {
     let mut names = Vec::new(alloc);
     let mut start = list.start;

@@ -76,8 +76,8 @@ impl InstrumentationRecord {
         }
     }
 
-    /// Adds a run: to the last row, or to a new one where the pass begins with its first operation again. Errors: allocation
-    /// failure.
+    /// Adds a run: to the last row, or to a new one where the pass begins with its first operation again. Errors:
+    /// allocation failure.
     pub(crate) fn add_run(&mut self, run: &RunMeasure) -> Result<(), AllocError> {
         if self.first.is_none() {
             self.first = Some(run.op);

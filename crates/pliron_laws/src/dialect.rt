@@ -136,7 +136,8 @@ pub trait ConstFoldInterface: HasMeaning {
         requires live { IsLive ctx.now.tree op }
         requires folds { HeadPasses can_fold ctx.now.tree op }
         requires entries { length operand_attrs.now ≡ length (operands_of ctx.now.tree op) }
-        ensures ok { IfOk result (λ answers. ReadsShape Self.meaning (λ s. constants s operand_attrs.now) ctx.now.tree op answers.items) }
+        ensures ok { IfOk result (λ answers. ReadsShape Self.meaning (λ s. constants s operand_attrs.now) ctx.now.tree
+            op answers.items) }
         ensures memory { IsOkUnless result OptError.Memory };
 
     /// Folds the operation in place, if its operands have these constants. Asks that the operation folds, for
@@ -180,9 +181,10 @@ pub trait ConstFoldInterface: HasMeaning {
         requires folds { HeadPasses can_fold ctx.old.tree op }
         requires entries { length operand_attrs.now ≡ length (operands_of ctx.old.tree op) }
         requires point { R.point rewriter.old ≡ BeforeOperation op }
-        ensures ok { IfOk result (λ status. materialising_outcome Self.meaning constants accepts constant_head ctx.old.tree ctx.new.tree op operand_attrs.now
-            (Some status)) }
-        ensures refused { OnErr result (materialising_outcome Self.meaning constants accepts constant_head ctx.old.tree ctx.new.tree op operand_attrs.now Option.None) }
+        ensures ok { IfOk result (λ status. materialising_outcome Self.meaning constants accepts constant_head
+            ctx.old.tree ctx.new.tree op operand_attrs.now (Some status)) }
+        ensures refused { OnErr result (materialising_outcome Self.meaning constants accepts constant_head ctx.old.tree
+            ctx.new.tree op operand_attrs.now Option.None) }
         ensures memory { IsOkUnless result OptError.Memory }
         ensures longer { length ctx.old.tree.operations ≤ length ctx.new.tree.operations }
         ensures point { R.point rewriter.new ≡ R.point rewriter.old }
@@ -217,8 +219,10 @@ pub trait ConstFoldInterface: HasMeaning {
         requires placed { IsSome (parent_of ctx.old.tree op) }
         requires point { R.point rewriter.old ≡ BeforeOperation op }
         requires none { made.old.items ≡ [] }
-        ensures ok { OnOk result (IsStoodIn accepts constant_head op answers.now ctx.old.tree made.new.items ctx.new.tree) }
-        ensures refused { OnErr result ((u : Tree) × AreStanding op ctx.old.tree made.new.items u × IsRestored u ctx.new.tree) }
+        ensures ok { OnOk result (IsStoodIn accepts constant_head op answers.now ctx.old.tree made.new.items
+            ctx.new.tree) }
+        ensures refused { OnErr result ((u : Tree) × AreStanding op ctx.old.tree made.new.items u
+            × IsRestored u ctx.new.tree) }
         ensures memory { IsOkUnless result OptError.Memory }
         ensures point { R.point rewriter.new ≡ R.point rewriter.old }
     {
@@ -247,7 +251,8 @@ pub trait ConstFoldInterface: HasMeaning {
         attr: &AttrObj,
         ctx: &mut Context,
     ) -> Result<Option<Ptr<Operation>>, OptError>
-        ensures ok { IfOk result (λ made. IsMaterialised accepts constant_head attr.now ctx.old.tree ctx.new.tree made) }
+        ensures ok { IfOk result (λ made. IsMaterialised accepts constant_head attr.now ctx.old.tree ctx.new.tree
+            made) }
         ensures refused { OnErr result (ctx.new ≡ ctx.old) }
         ensures memory { IsOkUnless result OptError.Memory };
 
@@ -291,7 +296,8 @@ pub trait BranchOpFoldInterface: HasMeaning {
         requires live { IsLive ctx.now.tree op }
         requires folds { HeadPasses can_fold_branch ctx.now.tree op }
         requires entries { length operand_attrs.now ≡ length (operands_of ctx.now.tree op) }
-        ensures ok { IfOk result (λ blocks. ReadsEdges Self.meaning (λ s targets. feasible s targets operand_attrs.now) ctx.now.tree op blocks.items) }
+        ensures ok { IfOk result (λ blocks. ReadsEdges Self.meaning (λ s targets. feasible s targets operand_attrs.now)
+            ctx.now.tree op blocks.items) }
         ensures memory { IsOkUnless result OptError.Memory };
 
     /// Folds the branch in place, if its operands have these constants. Asks that the operation folds as a
@@ -489,8 +495,8 @@ pub trait Dialect: SideEffects
 
     // Folding in place puts constants for results, or another branch in the place of one, or nothing; so too on
     // allocation failure, where what was begun is whole.
-    ghost folds_in_place: { FoldsInPlace Self.meaning Self.constants Self.accepts Self.constant_head Self.ConstFoldInterface.outcome
-        Self.BranchOpFoldInterface.outcome };
+    ghost folds_in_place: { FoldsInPlace Self.meaning Self.constants Self.accepts Self.constant_head
+        Self.ConstFoldInterface.outcome Self.BranchOpFoldInterface.outcome };
 
     // What is made for an attribute is a constant that gives its datum.
     ghost makes_constants: { MakesConstants Self.meaning Self.accepts Self.constant_head };

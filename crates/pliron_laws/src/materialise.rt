@@ -60,10 +60,11 @@ pub fn put_constant<R: Rewriter>(
 ) -> Result<(), NoMemory>
     requires fresh { (t : Tree) × (head : Head) × IsFreshConstant t ctx.old.tree constant old head }
     requires point { IsPointFor ctx.old.tree (R.point rewriter.old) constant }
-    ensures ok { OnOk result ((t : Tree) (head : Head) → IsFreshConstant t ctx.old.tree constant old head → ctx.new.tree ≡
-        materialised_at t (R.point rewriter.old) old head) }
+    ensures ok { OnOk result ((t : Tree) (head : Head) → IsFreshConstant t ctx.old.tree constant old head
+        → ctx.new.tree ≡ materialised_at t (R.point rewriter.old) old head) }
     ensures tree { OnOk result (IsTree (after_inserting ctx.old.tree (R.point rewriter.old) constant)) }
-    ensures err { OnErr result ((t : Tree) (head : Head) → IsFreshConstant t ctx.old.tree constant old head → IsSameTree t ctx.new.tree) }
+    ensures err { OnErr result ((t : Tree) (head : Head) → IsFreshConstant t ctx.old.tree constant old head
+        → IsSameTree t ctx.new.tree) }
     ensures longer { length ctx.old.tree.operations ≤ length ctx.new.tree.operations }
     ensures point { R.point rewriter.new ≡ R.point rewriter.old }
 {

@@ -104,7 +104,8 @@ pub fn push_layouts(
     blocks: &mut Vec<Ptr<BasicBlock>>,
 ) -> Result<(), AllocError>
     requires { IsLive ctx.now.tree op }
-    ensures { OnOk result (blocks.new.items ≡ blocks.old.items ++ flat_map (λ r. layout_of ctx.now.tree r) (regions_of ctx.now.tree op)) }
+    ensures { OnOk result (blocks.new.items ≡ blocks.old.items ++ flat_map (λ r. layout_of ctx.now.tree r)
+        (regions_of ctx.now.tree op)) }
 {
     for i in 0..op.num_region(ctx) {
         push_layout(op.get_region(ctx, i), ctx, blocks)?;

@@ -54,8 +54,8 @@ pub(crate) fn stand_in<R: Rewriter>(
     requires point { IsPointFor ctx.old.tree (R.point rewriter.old) constant }
     requires room { vec_len made.old < vec_capacity made.old }
     ensures ok { OnOk result (ctx.new.tree ≡ after_inserting ctx.old.tree (R.point rewriter.old) constant) }
-    ensures made { OnOk result ((t : Tree) (head : Head) → IsMadeConstant t ctx.old.tree constant head → made.new.items ≡ made.old.items ++
-        stand_in_for t old ∷ []) }
+    ensures made { OnOk result ((t : Tree) (head : Head) → IsMadeConstant t ctx.old.tree constant head → made.new.items
+        ≡ made.old.items ++ stand_in_for t old ∷ []) }
     ensures err { OnErr result (ctx.new.tree ≡ after_erasing ctx.old.tree constant) }
     ensures kept { OnErr result (made.new.items ≡ made.old.items) }
     ensures point { R.point rewriter.new ≡ R.point rewriter.old }
@@ -89,7 +89,8 @@ pub(crate) fn hand_over_all<R: Rewriter>(
 // The constants are erased again, the last one first. Takes no memory.
 pub(crate) fn erase_all<R: Rewriter>(ctx: &mut Context, mut made: Vec<StandIn>, rewriter: &mut R)
     requires { (op : ℕ) × (t : Tree) × (u : Tree) × AreStanding op t made.items u × IsRestored u ctx.old.tree }
-    ensures restored { (op : ℕ) (t u : Tree) → AreStanding op t made.items u → IsRestored u ctx.old.tree → IsRestored t ctx.new.tree }
+    ensures restored { (op : ℕ) (t u : Tree) → AreStanding op t made.items u → IsRestored u ctx.old.tree
+        → IsRestored t ctx.new.tree }
     ensures point { R.point rewriter.new ≡ R.point rewriter.old }
 {
     while let Some(last) = made.pop() {

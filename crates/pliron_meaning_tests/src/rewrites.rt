@@ -31,7 +31,8 @@ fn sight_of_root(rt: &impl Abort, alloc: Global, ctx: &Context, root: Ptr<Operat
 /// Whether the operation is a constant of this number.
 fn makes(ctx: &Context, op: Ptr<Operation>, number: i128) -> bool
     requires { IsLive ctx.now.tree op }
-    ensures { (h : Head) → head_of ctx.now.tree op ≡ Some h → IsTrue result → (kind_of h.kind ≡ Some Const) × (first_attribute h.attrs ≡ Int number) }
+    ensures { (h : Head) → head_of ctx.now.tree op ≡ Some h → IsTrue result → (kind_of h.kind ≡ Some Const)
+        × (first_attribute h.attrs ≡ Int number) }
 {
     let head = op.head(ctx);
     matches!(TinyKind::of(head.kind), Some(TinyKind::Const))

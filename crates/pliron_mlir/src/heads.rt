@@ -85,8 +85,8 @@ pub fn cast_head(
     head_with(alloc, Class::Cast(cast), &numbers)
 }
 
-/// The head of a branch that passes so many operands where its condition is 1, and so many where it is 0. Errors: allocation
-/// failure. Cost: constant.
+/// The head of a branch that passes so many operands where its condition is 1, and so many where it is 0. Errors:
+/// allocation failure. Cost: constant.
 pub fn branch_head(
     alloc: Global,
     on_true: usize,
@@ -120,8 +120,8 @@ fn push_cases(attrs: &mut Vec<AttrObj>, cases: &[u64]) -> Result<(), AllocFailed
 }
 
 /// The head of a switch over integers of this width: how many operands each edge passes, that of the default first,
-/// and the bits of each case. A width of 0 says nothing of cases. Errors: allocation failure. Cost: linear in the lengths
-/// of both.
+/// and the bits of each case. A width of 0 says nothing of cases. Errors: allocation failure. Cost: linear in the
+/// lengths of both.
 pub fn switch_head(
     alloc: Global,
     counts: &[usize],

@@ -9,8 +9,11 @@ use pliron_roles::ByRoles;
 /// Knowing more operands keeps each constant that folding answers, and adds no block that a branch may go to: so the
 /// facts that sparse constant propagation finds are the most precise ones. Cost: constant.
 pub fn folds_are_monotone<I: Interpretation>()
-    ensures { FoldsMonotonely ⟦<ByRoles<MlirKind<I>> as HasMeaning>⟧.meaning ⟦<ByRoles<MlirKind<I>> as ConstFoldInterface>⟧.can_fold ⟦<ByRoles<MlirKind<I>> as BranchOpFoldInterface>⟧.can_fold_branch
-        ⟦<ByRoles<MlirKind<I>> as ConstFoldInterface>⟧.constants ⟦<ByRoles<MlirKind<I>> as BranchOpFoldInterface>⟧.feasible }
+    ensures { FoldsMonotonely ⟦<ByRoles<MlirKind<I>> as HasMeaning>⟧.meaning
+        ⟦<ByRoles<MlirKind<I>> as ConstFoldInterface>⟧.can_fold
+        ⟦<ByRoles<MlirKind<I>> as BranchOpFoldInterface>⟧.can_fold_branch
+        ⟦<ByRoles<MlirKind<I>> as ConstFoldInterface>⟧.constants
+        ⟦<ByRoles<MlirKind<I>> as BranchOpFoldInterface>⟧.feasible }
 {
     pliron_roles::laws::folds_are_monotone::<MlirKind<I>>()
 }

@@ -48,8 +48,8 @@ impl ModuleFailure {
         }
     }
 
-    /// A line that says why, of a text that is called so. Errors: allocation failure. Cost: linear in the text before the
-    /// place.
+    /// A line that says why, of a text that is called so. Errors: allocation failure. Cost: linear in the text before
+    /// the place.
     pub fn message(self, alloc: Global, name: &str, text: &[u8]) -> Result<String, AllocError> {
         match self {
             ModuleFailure::Text(at, expected) => {

@@ -79,8 +79,8 @@ fn add_all<D: Dialect>(
     Ok(())
 }
 
-/// Writes how many functions are fit to run, and a line for each other one. Errors: allocation failure. Cost: linear in the
-/// text, once for each line.
+/// Writes how many functions are fit to run, and a line for each other one. Errors: allocation failure. Cost: linear in
+/// the text, once for each line.
 pub fn write_fitness(
     report: &mut String,
     fitness: &Fitness,

@@ -63,8 +63,8 @@ pub fn optimise<D: Dialect, C: Progress + Drop>(
     options: &ModuleOptions,
 ) -> Result<Optimised, ModuleFailure>
     ensures { IfOk result (λ made. IsOptimised (ReadsKinds D.meaning) PrintsKinds D.meaning
-        (RunsAlone ⟦<BenchFactKind as PartialEq>⟧.eq ⟦<InstrumentedSchedule<GenericForm<D>, C> as Pass>⟧.outcome schedule.old) text.now
-        (made.printed.items ++ status_line made.status)) }
+        (RunsAlone ⟦<BenchFactKind as PartialEq>⟧.eq ⟦<InstrumentedSchedule<GenericForm<D>, C> as Pass>⟧.outcome
+        schedule.old) text.now (made.printed.items ++ status_line made.status)) }
 {
     let mut ctx = Context::new(alloc);
     optimise_in(alloc, schedule, text, options, &mut ctx)
@@ -80,8 +80,8 @@ fn optimise_in<D: Dialect, C: Progress + Drop>(
 ) -> Result<Optimised, ModuleFailure>
     requires { ctx.old.tree ≡ no_tree }
     ensures { IfOk result (λ made. IsOptimised (ReadsKinds D.meaning) PrintsKinds D.meaning
-        (RunsAlone ⟦<BenchFactKind as PartialEq>⟧.eq ⟦<InstrumentedSchedule<GenericForm<D>, C> as Pass>⟧.outcome schedule.old) text.now
-        (made.printed.items ++ status_line made.status)) }
+        (RunsAlone ⟦<BenchFactKind as PartialEq>⟧.eq ⟦<InstrumentedSchedule<GenericForm<D>, C> as Pass>⟧.outcome
+        schedule.old) text.now (made.printed.items ++ status_line made.status)) }
 {
     match read_module::<D>(alloc, text, ctx) {
         Ok(module) => optimise_module(alloc, schedule, text, &module, options, ctx),
@@ -208,8 +208,8 @@ fn optimise_module<D: Dialect, C: Progress + Drop>(
     requires live { IsLive ctx.old.tree loaded.now.root }
     requires linked { IsWellLinked D.meaning ctx.old.tree loaded.now.root }
     ensures { IfOk result (λ made. IsOptimised (ReadsKinds D.meaning) PrintsKinds D.meaning
-        (RunsAlone ⟦<BenchFactKind as PartialEq>⟧.eq ⟦<InstrumentedSchedule<GenericForm<D>, C> as Pass>⟧.outcome schedule.old) text.now
-        (made.printed.items ++ status_line made.status)) }
+        (RunsAlone ⟦<BenchFactKind as PartialEq>⟧.eq ⟦<InstrumentedSchedule<GenericForm<D>, C> as Pass>⟧.outcome
+        schedule.old) text.now (made.printed.items ++ status_line made.status)) }
 {
     let before = counts_before::<D>(alloc, loaded, options, ctx)?;
     let status = run_instrumented(alloc, schedule, loaded.root, ctx)?;

@@ -106,7 +106,8 @@ fn run_schedule<D: Dialect, C: Progress + Copy + Drop>(
     schedule: &mut InstrumentedSchedule<GenericForm<D>, C>,
 ) -> Result<Outcome, AllocError>
     ensures { IfOk result (EndsOptimised (ReadsKinds D.meaning) PrintsKinds D.meaning
-        (RunsAlone ⟦<BenchFactKind as PartialEq>⟧.eq ⟦<InstrumentedSchedule<GenericForm<D>, C> as Pass>⟧.outcome schedule.old) source.now.text.now) }
+        (RunsAlone ⟦<BenchFactKind as PartialEq>⟧.eq ⟦<InstrumentedSchedule<GenericForm<D>, C> as Pass>⟧.outcome
+        schedule.old) source.now.text.now) }
 {
     let made = optimise::<D, C>(alloc, schedule, source.text, options);
     let passes = instrumented_passes(schedule);
@@ -127,9 +128,9 @@ fn run_schedule<D: Dialect, C: Progress + Copy + Drop>(
 
 /// Runs the passes that the plan asks for on the module that the text says, and answers the module that they leave.
 ///
-/// Statuses: 0; 1 where memory or the passes were refused; 2 for a text that can't be used; 3 where verifying or reading
-/// again found a fault. With all but 0 nothing is to be written to the output. Errors: allocation failure for what is
-/// told. Cost: reading, the passes, what is counted, and printing.
+/// Statuses: 0; 1 where memory or the passes were refused; 2 for a text that can't be used; 3 where verifying or
+/// reading again found a fault. With all but 0 nothing is to be written to the output. Errors: allocation failure for
+/// what is told. Cost: reading, the passes, what is counted, and printing.
 #[tactic(auto, using(crate::proofs::OutcomeLemmas::ends_planned, crate::proofs::OutcomeLemmas::ends_unplanned))]
 pub fn run_passes<D: Dialect, C: Progress + Copy + Drop>(
     alloc: Global,
@@ -138,9 +139,10 @@ pub fn run_passes<D: Dialect, C: Progress + Copy + Drop>(
     plan: &PipelineText,
     clock: C,
 ) -> Result<Outcome, AllocError>
-    ensures { IfOk result (EndsByPlan ⟦<Instrumented<GenericForm<D>, C> as Pass>⟧.name (λ schedule. EndsOptimised (ReadsKinds D.meaning)
-        PrintsKinds D.meaning (RunsAlone ⟦<BenchFactKind as PartialEq>⟧.eq ⟦<InstrumentedSchedule<GenericForm<D>, C> as Pass>⟧.outcome schedule)
-        source.now.text.now) plan.now.runs plan.now.nested (map (λ name. name.now) plan.now.names.items)) }
+    ensures { IfOk result (EndsByPlan ⟦<Instrumented<GenericForm<D>, C> as Pass>⟧.name
+        (λ schedule. EndsOptimised (ReadsKinds D.meaning) PrintsKinds D.meaning
+        (RunsAlone ⟦<BenchFactKind as PartialEq>⟧.eq ⟦<InstrumentedSchedule<GenericForm<D>, C> as Pass>⟧.outcome
+        schedule) source.now.text.now) plan.now.runs plan.now.nested (map (λ name. name.now) plan.now.names.items)) }
 {
     let watch = InstrumentationOptions {
         counts: options.counts,

@@ -45,7 +45,8 @@ pub fn is_same_module<'m>(
     first: &ModuleView<'m>,
     second: &ModuleView<'m>,
 ) -> Result<bool, AllocError>
-    ensures { IfOk result (λ same. same ≡ true → (IsLive first.now.ctx.now.tree first.now.root) × (IsLive second.now.ctx.now.tree second.now.root)) }
+    ensures { IfOk result (λ same. same ≡ true → (IsLive first.now.ctx.now.tree first.now.root)
+        × (IsLive second.now.ctx.now.tree second.now.root)) }
 {
     let mut counterparts = Counterparts {
         values: HashMap::new(alloc),

@@ -80,9 +80,9 @@ impl<'t> Reader<'t> {
         }
     }
 
-    /// Reads all of the text. Errors: where it leaves the grammar, and what was expected; allocation failure. Cost: linear
-    /// in the text, but for uses that stand in regions inside the one that defines their value, which cost a step for
-    /// each region between.
+    /// Reads all of the text. Errors: where it leaves the grammar, and what was expected; allocation failure. Cost:
+    /// linear in the text, but for uses that stand in regions inside the one that defines their value, which cost a
+    /// step for each region between.
     pub fn read(&mut self) -> Result<(), Fault> {
         self.before()?;
         self.values.open()?;

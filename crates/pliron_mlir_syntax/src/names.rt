@@ -167,8 +167,8 @@ impl Names {
     }
 
     /// The region ends: uses get their answers in the slots, and its names stand for what they stood for before.
-    /// Answers the place of a use that is unresolved, for the region around. Cost: the unresolved uses, and the names that
-    /// the region defined.
+    /// Answers the place of a use that is unresolved, for the region around. Cost: the unresolved uses, and the names
+    /// that the region defined.
     pub fn close(&mut self, slots: &mut [usize]) -> Option<usize> {
         let scope = self.scopes.last().copied()?;
         self.settle(scope.pending, slots);

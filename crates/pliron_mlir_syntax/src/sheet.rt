@@ -162,7 +162,8 @@ impl Sheet {
         self.places.get(usize::try_from(key).ok()?).copied()
     }
 
-    /// The next value in the order of keys is an argument with this location. Errors: allocation failure. Cost: constant.
+    /// The next value in the order of keys is an argument with this location. Errors: allocation failure. Cost:
+    /// constant.
     pub fn push_location(&mut self, number: usize) -> Result<(), AllocError> {
         let key = self.types.len();
         self.locations.push((key, number))?;

@@ -115,9 +115,10 @@ fn fill(
     requires sound { IsSoundSyntax syntax.now }
     requires live { IsLive ctx.old.tree root }
     requires region { length (regions_of ctx.old.tree root) ≡ 1 }
-    ensures grown { (t : Tree) (head : TreeHead) → IsTree t → root ≡ length t.operations → ctx.old.tree ≡ after_creating t head 0 1 → IsGrown t ctx.new.tree root }
-    ensures laid { OnOk result ((t : Tree) → IsTree t → root ≡ length t.operations → ctx.old.tree ≡ after_creating t (head_without syntax.now.root) 0 1 →
-        IsAllLaid syntax.now t ctx.new.tree root) }
+    ensures grown { (t : Tree) (head : TreeHead) → IsTree t → root ≡ length t.operations → ctx.old.tree ≡ after_creating
+        t head 0 1 → IsGrown t ctx.new.tree root }
+    ensures laid { OnOk result ((t : Tree) → IsTree t → root ≡ length t.operations → ctx.old.tree ≡ after_creating t
+        (head_without syntax.now.root) 0 1 → IsAllLaid syntax.now t ctx.new.tree root) }
 {
     ctx.well_formed();
     let mut built = Built {
@@ -163,7 +164,8 @@ fn connect_all(syntax: &Syntax, ctx: &mut Context, built: &Built) -> Result<(), 
     requires made { HasAllMade syntax.now built.now }
     requires standing { AreStanding ctx.old.tree built.now }
     ensures goes_on { BuildingGoesOn ctx.old.tree built.now ctx.new.tree built.now }
-    ensures wired { OnOk result (Wires syntax.now 0 (length syntax.now.operations.items) ctx.old.tree ctx.new.tree built.now) }
+    ensures wired { OnOk result (Wires syntax.now 0 (length syntax.now.operations.items) ctx.old.tree ctx.new.tree
+        built.now) }
 {
     for number in 0..syntax.operations.len() {
         connect(ctx, built, number, &syntax.operations[number])?;
@@ -214,8 +216,10 @@ fn add_operation(
     ensures standing { AreStanding ctx.new.tree built.new }
     ensures operations { OnOk result (length built.new.operations.items ≡ length built.old.operations.items + 1) }
     ensures blocks { built.new.blocks.items ≡ built.old.blocks.items }
-    ensures regions { OnOk result (length built.new.regions.items ≡ length built.old.regions.items + kind_regions text.now.kind) }
-    ensures values { OnOk result (length built.new.values.items ≡ length built.old.values.items + result_count text.now.kind) }
+    ensures regions { OnOk result (length built.new.regions.items ≡ length built.old.regions.items + kind_regions
+        text.now.kind) }
+    ensures values { OnOk result (length built.new.values.items ≡ length built.old.values.items + result_count
+        text.now.kind) }
     ensures laid { OnOk result (LaysOperation text.now ctx.old.tree built.old ctx.new.tree built.new) }
 {
     ctx.well_formed();
@@ -238,8 +242,10 @@ fn remember_operation(ctx: &Context, built: &mut Built, op: Ptr<Operation>) -> R
     ensures operation { OnOk result (built.new.operations.items ≡ built.old.operations.items ++ op ∷ []) }
     ensures kept_regions { KeepsEntries built.old.regions.items built.new.regions.items }
     ensures operation_count { OnOk result (length built.new.operations.items ≡ length built.old.operations.items + 1) }
-    ensures region_count { OnOk result (length built.new.regions.items ≡ length built.old.regions.items + length (regions_of ctx.now.tree op)) }
-    ensures value_count { OnOk result (length built.new.values.items ≡ length built.old.values.items + length (results_of ctx.now.tree op)) }
+    ensures region_count { OnOk result (length built.new.regions.items ≡ length built.old.regions.items + length
+        (regions_of ctx.now.tree op)) }
+    ensures value_count { OnOk result (length built.new.values.items ≡ length built.old.values.items + length
+        (results_of ctx.now.tree op)) }
 {
     remember(&mut built.operations, op)?;
     remember_results(ctx, &mut built.values, op)?;
@@ -253,7 +259,8 @@ fn remember_results(
 ) -> Result<(), NoMemory>
     requires { IsLive ctx.now.tree op }
     ensures added { AddsOnly values.old.items values.new.items (results_of ctx.now.tree op) }
-    ensures count { OnOk result (length values.new.items ≡ length values.old.items + length (results_of ctx.now.tree op)) }
+    ensures count { OnOk result (length values.new.items ≡ length values.old.items + length
+        (results_of ctx.now.tree op)) }
 {
     for i in 0..op.num_result(ctx) {
         remember(values, op.get_result(ctx, i))?;
@@ -269,7 +276,8 @@ fn remember_regions(
     requires { IsLive ctx.now.tree op }
     ensures added { AddsOnly regions.old.items regions.new.items (regions_of ctx.now.tree op) }
     ensures kept { KeepsEntries regions.old.items regions.new.items }
-    ensures count { OnOk result (length regions.new.items ≡ length regions.old.items + length (regions_of ctx.now.tree op)) }
+    ensures count { OnOk result (length regions.new.items ≡ length regions.old.items + length
+        (regions_of ctx.now.tree op)) }
 {
     for i in 0..op.num_region(ctx) {
         remember(regions, op.get_region(ctx, i))?;
@@ -284,7 +292,8 @@ fn remember_arguments(
 ) -> Result<(), NoMemory>
     requires { IsBlock ctx.now.tree block }
     ensures added { AddsOnly values.old.items values.new.items (arguments_of ctx.now.tree block) }
-    ensures count { OnOk result (length values.new.items ≡ length values.old.items + length (arguments_of ctx.now.tree block)) }
+    ensures count { OnOk result (length values.new.items ≡ length values.old.items + length
+        (arguments_of ctx.now.tree block)) }
 {
     for i in 0..block.num_argument(ctx) {
         remember(values, block.get_argument(ctx, i))?;
@@ -364,7 +373,8 @@ fn add_successors(
     requires standing { AreStanding ctx.old.tree built.now }
     ensures goes_on { BuildingGoesOn ctx.old.tree built.now ctx.new.tree built.now }
     ensures standing { AreStanding ctx.new.tree built.now }
-    ensures added { OnOk result (HasMoreSuccessors built.now ctx.old.tree ctx.new.tree op (length successors.now) successors.now) }
+    ensures added { OnOk result (HasMoreSuccessors built.now ctx.old.tree ctx.new.tree op (length successors.now)
+        successors.now) }
 {
     for number in successors {
         ctx.well_formed();

@@ -54,7 +54,8 @@ pub fn read_text(
 ///
 /// Errors: allocation failure. Cost: that of reading.
 pub fn find_text_fault(alloc: Global, text: &[u8]) -> Result<Option<TextFault>, OptError>
-    ensures within { IfOk result (λ found. IfSome found (λ fault. fault.span.start + fault.span.len ≤ length text.now)) }
+    ensures within { IfOk result (λ found. IfSome found (λ fault. fault.span.start + fault.span.len ≤ length
+        text.now)) }
     ensures memory { IsOkUnless result OptError.Memory }
 {
     match read_syntax(alloc, text) {

@@ -155,8 +155,9 @@ impl OperationText {
 
     /// Whether an operation with this head may have so many operands.
     fn is_count_right(&self) -> bool
-        ensures { IsTrue result → IsTrue (takes_attributes self.now.kind (head_with self.now.kind self.now.number (pos self.now.first_edge)).attrs
-            (length self.now.operands.items) && takes_operands self.now.kind (length self.now.operands.items)) }
+        ensures { IsTrue result → IsTrue (takes_attributes self.now.kind (head_with self.now.kind self.now.number
+            (pos self.now.first_edge)).attrs (length self.now.operands.items) && takes_operands self.now.kind
+            (length self.now.operands.items)) }
     {
         // The contract needs that a constant has 64 bits.
         let _number = self.number;

@@ -45,7 +45,8 @@ fn answer<N: Notation>(
     text: &[u8],
 ) -> Result<Option<String>, OptError>
     ensures { IfOk result (λ found. IfSome found (λ answer. Answers N.reads N.prints N.D.meaning
-        (RunsAlone ⟦<BenchFactKind as PartialEq>⟧.eq ⟦<Schedule<N::D, BenchFacts> as Pass>⟧.outcome) command text.now (string_bytes answer))) }
+        (RunsAlone ⟦<BenchFactKind as PartialEq>⟧.eq ⟦<Schedule<N::D, BenchFacts> as Pass>⟧.outcome) command text.now
+        (string_bytes answer))) }
 {
     match command {
         Command::Optimise(schedule) => optimise_text::<N>(alloc, schedule, text),
@@ -60,8 +61,8 @@ fn answer_to_input<N: Notation, R: Read>(
     input: &mut R,
 ) -> Result<String, Failure>
     ensures { IfOk result (λ answer. IsAnswer AskFor (Answers N.reads N.prints N.D.meaning
-        (RunsAlone ⟦<BenchFactKind as PartialEq>⟧.eq ⟦<Schedule<N::D, BenchFacts> as Pass>⟧.outcome)) (map string_bytes words.now)
-        (R.remaining input.old) (string_bytes answer)) }
+        (RunsAlone ⟦<BenchFactKind as PartialEq>⟧.eq ⟦<Schedule<N::D, BenchFacts> as Pass>⟧.outcome))
+        (map string_bytes words.now) (R.remaining input.old) (string_bytes answer)) }
 {
     let Some(command) = read_command(alloc, words)? else {
         return Err(Failure::Arguments);
@@ -96,9 +97,9 @@ pub fn run_optimiser<N: Notation, R: Read, W: Write, E: Write>(
     output: &mut W,
     errors: &mut E,
 ) -> u8
-    ensures { Ends (IsAnswer AskFor (Answers N.reads N.prints N.D.meaning
-        (RunsAlone ⟦<BenchFactKind as PartialEq>⟧.eq ⟦<Schedule<N::D, BenchFacts> as Pass>⟧.outcome)) (map string_bytes args.now)
-        (R.remaining input.old)) (W.contents output.old) (W.contents output.new) result }
+    ensures { Ends (IsAnswer AskFor (Answers N.reads N.prints N.D.meaning (RunsAlone ⟦<BenchFactKind as PartialEq>⟧.eq
+        ⟦<Schedule<N::D, BenchFacts> as Pass>⟧.outcome)) (map string_bytes args.now) (R.remaining input.old))
+        (W.contents output.old) (W.contents output.new) result }
 {
     match answer_to_input::<N, R>(alloc, args, input) {
         Ok(answer) => match write_answer(answer.as_bytes(), output) {
@@ -120,9 +121,9 @@ pub fn plir_run<R: Read, W: Write, E: Write>(
     output: &mut W,
     errors: &mut E,
 ) -> u8
-    ensures { Ends (IsAnswer AskFor (Answers ReadsBench PrintsBench bench
-        (RunsAlone ⟦<BenchFactKind as PartialEq>⟧.eq ⟦<Schedule<Bench, BenchFacts> as Pass>⟧.outcome)) (map string_bytes args.now)
-        (R.remaining input.old)) (W.contents output.old) (W.contents output.new) result }
+    ensures { Ends (IsAnswer AskFor (Answers ReadsBench PrintsBench bench (RunsAlone ⟦<BenchFactKind as PartialEq>⟧.eq
+        ⟦<Schedule<Bench, BenchFacts> as Pass>⟧.outcome)) (map string_bytes args.now) (R.remaining input.old))
+        (W.contents output.old) (W.contents output.new) result }
 {
     run_optimiser::<BenchNotation, R, W, E>(alloc, "plir_opt", args, input, output, errors)
 }

@@ -64,17 +64,19 @@ pub trait Analyses: AnalysisKind {
         requires live { IsLive ctx.now.tree op }
         requires needs { HasNeeds Self.Kind.eq needs need kind op manager.now.cache.entries }
         ensures kind { IfOk result (λ e. Self.Kind.eq (Self.kind e) kind ≡ true) }
-        ensures holds { IfOk result (λ e. IsFresh Self.Kind.eq Self.kind holds ctx.now.tree manager.now.cache.entries → holds e op ctx.now.tree) };
+        ensures holds { IfOk result (λ e. IsFresh Self.Kind.eq Self.kind holds ctx.now.tree manager.now.cache.entries
+            → holds e op ctx.now.tree) };
 
     // Kinds that are equal are one.
     ghost same: { (a b : Self.Kind) → Self.Kind.eq a b ≡ true → a ≡ b };
 
     // Spent keys are nothing to an analysis.
-    ghost stays: { (e : Self) (o : ℕ) (t u : Tree) → IsTree t → IsTree u → IsSameTree t u → IsLive u o → holds e o t → holds e o u };
+    ghost stays: { (e : Self) (o : ℕ) (t u : Tree) → IsTree t → IsTree u → IsSameTree t u → IsLive u o → holds e o t
+        → holds e o u };
 
     // What reads edges alone goes on holding while the blocks and edges inside the operation stay.
-    ghost keeps: { (e : Self) (o : ℕ) (t u : Tree) → IsTree t → IsTree u → reads_edges_alone (Self.kind e) ≡ true → IsLive t o → IsLive u o →
-        edges_inside u o ≡ edges_inside t o → holds e o t → holds e o u };
+    ghost keeps: { (e : Self) (o : ℕ) (t u : Tree) → IsTree t → IsTree u → reads_edges_alone (Self.kind e) ≡ true
+        → IsLive t o → IsLive u o → edges_inside u o ≡ edges_inside t o → holds e o t → holds e o u };
 
     // Each need has a lower rank.
     ghost lower: { (k : Self.Kind) (i : ℕ) → i < needs k → rank (need k i) < rank k };
@@ -97,9 +99,11 @@ impl<E: Analyses + Drop> AnalysisManager<E> {
         ensures fresh { IsFresh E.Kind.eq E.kind E.holds ctx.now.tree self.old.cache.entries →
             IsFresh E.Kind.eq E.kind E.holds ctx.now.tree self.new.cache.entries }
         ensures found { IsSome (cached_at E.Kind.eq self.old.cache.entries kind op) → IsOk result }
-        ensures computed { OnOk result (Computes E.Kind.eq E.needs E.need op kind self.old.cache.entries self.new.cache.entries) }
+        ensures computed { OnOk result (Computes E.Kind.eq E.needs E.need op kind self.old.cache.entries
+            self.new.cache.entries) }
         ensures grows { AddsLowerRanks E.rank op (E.rank kind + 1) self.old.cache.entries self.new.cache.entries }
-        ensures refused { OnErr result (AddsLowerRanks E.rank op (E.rank kind) self.old.cache.entries self.new.cache.entries) }
+        ensures refused { OnErr result (AddsLowerRanks E.rank op (E.rank kind) self.old.cache.entries
+            self.new.cache.entries) }
         ensures data { self.new.pm_data ≡ self.old.pm_data }
     {
         if self.cache.contains_key(&(kind, op)) {
@@ -115,8 +119,8 @@ impl<E: Analyses + Drop> AnalysisManager<E> {
 
     // Names the ith kind as preserved, if it reads edges alone.
     fn keep_edge_kind(&self, i: usize, answer: &mut PassResult<E::Kind>) -> Result<(), OptError>
-        ensures kept { OnOk result (kept_kinds answer.new ≡ with_edge_kind E.Kind.eq E.reads_edges_alone (kept_kinds answer.old) (option_map
-            (λ p. p.0.0) (slice_get self.now.cache.entries i))) }
+        ensures kept { OnOk result (kept_kinds answer.new ≡ with_edge_kind E.Kind.eq E.reads_edges_alone
+            (kept_kinds answer.old) (option_map (λ p. p.0.0) (slice_get self.now.cache.entries i))) }
         ensures changed { has_changed answer.new ≡ has_changed answer.old }
         ensures memory { IsOkUnless result OptError.Memory }
     {
@@ -137,7 +141,8 @@ impl<E: Analyses + Drop> AnalysisManager<E> {
     /// Errors: allocation failure. Cost: the number of entries in the cache.
     pub fn keep_edge_kinds(&self, changed: IRStatus) -> Result<PassResult<E::Kind>, OptError>
         ensures changed { IfOk result (λ r. has_changed r ≡ changed) }
-        ensures kept { IfOk result (λ r. kept_kinds r ≡ edge_kinds E.Kind.eq E.reads_edges_alone self.now.cache.entries) }
+        ensures kept { IfOk result (λ r. kept_kinds r ≡ edge_kinds E.Kind.eq E.reads_edges_alone
+            self.now.cache.entries) }
         ensures memory { IsOkUnless result OptError.Memory }
     {
         let mut result = PassResult::new(self.alloc);
@@ -159,9 +164,9 @@ impl<E: Analyses + Drop> AnalysisManager<E> {
         ctx: &Context,
     ) -> Result<&mut E, OptError>
         requires { IsLive ctx.now.tree op }
-        ensures* writes_back { sem 𝓛 (LendsComputed E.row E.Kind.row E.Kind.Eq.own E.Kind.PartialEq E.Kind.Hash.own self.entry
-            (λ es es'. IsFresh E.Kind.eq E.kind E.holds ctx.now.tree es →
-            IsFresh E.Kind.eq E.kind E.holds ctx.now.tree es') (λ es es'. Computes E.Kind.eq E.needs E.need op kind es es')
+        ensures* writes_back { sem 𝓛 (LendsComputed E.row E.Kind.row E.Kind.Eq.own E.Kind.PartialEq E.Kind.Hash.own
+            self.entry (λ es es'. IsFresh E.Kind.eq E.kind E.holds ctx.now.tree es → IsFresh E.Kind.eq E.kind E.holds
+            ctx.now.tree es') (λ es es'. Computes E.Kind.eq E.needs E.need op kind es es')
             (λ es es'. AddsLowerRanks E.rank op (E.rank kind) es es') kind op result) }
     {
         self.compute_analysis(kind, op, ctx)?;
@@ -183,9 +188,9 @@ impl<E: Analyses + Drop> AnalysisManager<E> {
     ) -> Result<&E, OptError>
         requires { IsLive ctx.now.tree op }
         ensures* ends { sem 𝓛 (EndsComputed E.row E.Kind.row E.Kind.Eq.own E.Kind.PartialEq E.Kind.Hash.own self.entry
-            (λ es es'. IsFresh E.Kind.eq E.kind E.holds ctx.now.tree es →
-            IsFresh E.Kind.eq E.kind E.holds ctx.now.tree es') (λ es es'. Computes E.Kind.eq E.needs E.need op kind es es')
-            (λ es es'. AddsLowerRanks E.rank op (E.rank kind) es es') kind op result) }
+            (λ es es'. IsFresh E.Kind.eq E.kind E.holds ctx.now.tree es → IsFresh E.Kind.eq E.kind E.holds ctx.now.tree
+            es') (λ es es'. Computes E.Kind.eq E.needs E.need op kind es es') (λ es es'. AddsLowerRanks E.rank op
+            (E.rank kind) es es') kind op result) }
     {
         self.compute_analysis(kind, op, ctx)?;
         match self.cache.get(&(kind, op)) {

@@ -104,7 +104,8 @@ fn count_inside(op: Ptr<Operation>, ctx: &Context) -> usize
 impl AnalysisManager<BenchFacts> {
     // How many pairs the cached edges have; none where something else was written there.
     fn cached_pairs(&self, op: Ptr<Operation>) -> usize
-        ensures { result ≡ pairs_in (cached_at ⟦<BenchFactKind as PartialEq>⟧.eq self.now.cache.entries BenchFactKind.Edges op) }
+        ensures { result ≡ pairs_in (cached_at ⟦<BenchFactKind as PartialEq>⟧.eq self.now.cache.entries
+            BenchFactKind.Edges op) }
     {
         match self.try_get_analysis(BenchFactKind::Edges, op) {
             Some(BenchFacts::Edges(pairs)) => pairs.len(),
@@ -114,7 +115,8 @@ impl AnalysisManager<BenchFacts> {
 
     // How many operations the cached size counts; none where something else was written there.
     fn cached_size(&self, op: Ptr<Operation>) -> usize
-        ensures { result ≡ operations_in (cached_at ⟦<BenchFactKind as PartialEq>⟧.eq self.now.cache.entries BenchFactKind.Size op) }
+        ensures { result ≡ operations_in (cached_at ⟦<BenchFactKind as PartialEq>⟧.eq self.now.cache.entries
+            BenchFactKind.Size op) }
     {
         match self.try_get_analysis(BenchFactKind::Size, op) {
             Some(BenchFacts::Size(count)) => *count,
@@ -201,10 +203,11 @@ impl Analyses for BenchFacts {
         manager: &AnalysisManager<BenchFacts>,
     ) -> Result<BenchFacts, OptError>
         requires live { IsLive ctx.now.tree op }
-        requires needs { HasNeeds ⟦<BenchFactKind as PartialEq>⟧.eq fact_needs fact_need kind op manager.now.cache.entries }
+        requires needs { HasNeeds ⟦<BenchFactKind as PartialEq>⟧.eq fact_needs fact_need kind op
+            manager.now.cache.entries }
         ensures kind { IfOk result (λ e. ⟦<BenchFactKind as PartialEq>⟧.eq (fact_kind e) kind ≡ true) }
-        ensures holds { IfOk result (λ e. IsFresh ⟦<BenchFactKind as PartialEq>⟧.eq fact_kind HoldsFact ctx.now.tree manager.now.cache.entries →
-            HoldsFact e op ctx.now.tree) }
+        ensures holds { IfOk result (λ e. IsFresh ⟦<BenchFactKind as PartialEq>⟧.eq fact_kind HoldsFact ctx.now.tree
+            manager.now.cache.entries → HoldsFact e op ctx.now.tree) }
         ensures memory { IsOkUnless result OptError.Memory }
     {
         match kind {

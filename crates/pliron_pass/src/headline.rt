@@ -44,7 +44,8 @@ pub fn run_pipeline<P: Pass>(
     ensures inside { IsInsideChange ctx.old.tree ctx.new.tree op }
     ensures fresh { OnOk result (IsFresh P.E.Kind.eq P.E.kind P.E.holds ctx.old.tree analyses.old.cache.entries →
         IsFresh P.E.Kind.eq P.E.kind P.E.holds ctx.new.tree analyses.new.cache.entries) }
-    ensures outcome { Steps P.E.Kind.eq ⟦<P as Managed>⟧.runs pass.old pass.new op (stage ctx.old analyses.old) (stage ctx.new analyses.new) result }
+    ensures outcome { Steps P.E.Kind.eq ⟦<P as Managed>⟧.runs pass.old pass.new op (stage ctx.old analyses.old)
+        (stage ctx.new analyses.new) result }
     ensures change { IsPassChange P.D.meaning ctx.old.tree ctx.new.tree op }
 {
     let answer = PassManager::run_pass(pass, alloc, op, ctx, analyses)?;

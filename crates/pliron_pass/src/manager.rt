@@ -61,7 +61,8 @@ impl<E: AnalysisKind> AnalysisManager<E> {
 
     /// The same, to be written. Cost: constant.
     pub fn pm_data_mut(&mut self) -> &mut PMData
-        ensures* writes_back { sem 𝓛 (LendsData E.row E.Kind.row E.Kind.Eq.own E.Kind.PartialEq E.Kind.Hash.own self.entry result) }
+        ensures* writes_back { sem 𝓛 (LendsData E.row E.Kind.row E.Kind.Eq.own E.Kind.PartialEq E.Kind.Hash.own
+            self.entry result) }
         ensures value { result.now ≡ self.old.pm_data }
     {
         &mut self.pm_data
@@ -82,7 +83,8 @@ impl<E: AnalysisKind> AnalysisManager<E> {
     pub fn retain_preserved(&mut self, answer: &PassResult<E::Kind>)
     where
         E: Drop,
-        ensures cache { self.new.cache.entries ≡ retained E.Kind.eq (has_changed answer.now) (kept_kinds answer.now) self.old.cache.entries }
+        ensures cache { self.new.cache.entries ≡ retained E.Kind.eq (has_changed answer.now) (kept_kinds answer.now)
+            self.old.cache.entries }
         ensures data { self.new.pm_data ≡ self.old.pm_data }
     {
         match answer.ir_changed {
@@ -91,7 +93,8 @@ impl<E: AnalysisKind> AnalysisManager<E> {
                 let preserved = &answer.preserved;
                 self.cache.retain(
                     |key: &(E::Kind, Ptr<Operation>), value: &mut E| -> bool
-                        ensures { (result ≡ list_any (E.Kind.eq key.now.0) preserved.entry.now.keys) × (value.new ≡ value.old) }
+                        ensures { (result ≡ list_any (E.Kind.eq key.now.0) preserved.entry.now.keys)
+                            × (value.new ≡ value.old) }
                     { preserved.contains(&key.0) },
                 );
             }
@@ -117,15 +120,16 @@ impl<E: AnalysisKind> AnalysisManager<E> {
 
     /// The entry, which can be written, where one is cached. Cost: one look-up.
     pub fn try_get_analysis_mut(&mut self, kind: E::Kind, op: Ptr<Operation>) -> Option<&mut E>
-        ensures* writes_back { sem 𝓛 (LendsEntry E.row E.Kind.row E.Kind.Eq.own E.Kind.PartialEq E.Kind.Hash.own self.entry kind op result) }
+        ensures* writes_back { sem 𝓛 (LendsEntry E.row E.Kind.row E.Kind.Eq.own E.Kind.PartialEq E.Kind.Hash.own
+            self.entry kind op result) }
         ensures value { option_copied_mut result ≡ cached_at E.Kind.eq self.old.cache.entries kind op }
     {
         self.cache.get_mut(&(kind, op))
     }
 
     fn keep_one(&self, i: usize, answer: &mut PassResult<E::Kind>) -> Result<(), OptError>
-        ensures kept { OnOk result (kept_kinds answer.new ≡ with_kind E.Kind.eq (kept_kinds answer.old) (option_map (λ p. p.0.0)
-            (slice_get self.now.cache.entries i))) }
+        ensures kept { OnOk result (kept_kinds answer.new ≡ with_kind E.Kind.eq (kept_kinds answer.old)
+            (option_map (λ p. p.0.0) (slice_get self.now.cache.entries i))) }
         ensures changed { has_changed answer.new ≡ has_changed answer.old }
         ensures memory { IsOkUnless result OptError.Memory }
     {

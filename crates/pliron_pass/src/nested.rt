@@ -57,7 +57,8 @@ fn run_held<P: Pass>(
     ensures children { children ctx.new.tree holder ≡ children ctx.old.tree holder }
     ensures fresh { OnOk result (IsFresh P.E.Kind.eq P.E.kind P.E.holds ctx.old.tree analyses.old.cache.entries →
         IsFresh P.E.Kind.eq P.E.kind P.E.holds ctx.new.tree analyses.new.cache.entries) }
-    ensures outcome { Steps P.E.Kind.eq ⟦<P as Managed>⟧.runs pass.old pass.new op (stage ctx.old analyses.old) (stage ctx.new analyses.new) result }
+    ensures outcome { Steps P.E.Kind.eq ⟦<P as Managed>⟧.runs pass.old pass.new op (stage ctx.old analyses.old)
+        (stage ctx.new analyses.new) result }
 {
     ctx.well_formed();
     let ran = run_pipeline(pass, alloc, op, ctx, analyses);
@@ -78,8 +79,8 @@ fn run_nested<P: Pass>(
     ensures change { IsPassChange P.D.meaning ctx.old.tree ctx.new.tree op }
     ensures fresh { OnOk result (IsFresh P.E.Kind.eq P.E.kind P.E.holds ctx.old.tree analyses.old.cache.entries →
         IsFresh P.E.Kind.eq P.E.kind P.E.holds ctx.new.tree analyses.new.cache.entries) }
-    ensures outcome { RunsOverAll P.E.Kind.eq ⟦<P as Managed>⟧.runs (children ctx.old.tree op) pass.old pass.new (stage ctx.old analyses.old)
-        (stage ctx.new analyses.new) result }
+    ensures outcome { RunsOverAll P.E.Kind.eq ⟦<P as Managed>⟧.runs (children ctx.old.tree op) pass.old pass.new
+        (stage ctx.old analyses.old) (stage ctx.new analyses.new) result }
 {
     ctx.well_formed();
     let mut changed = IRStatus::Unchanged;

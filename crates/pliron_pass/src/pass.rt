@@ -28,7 +28,8 @@ pub trait Pass {
     ghost name: { Self → List ℕ };
 
     // itself before and after, the operation, what it finds and leaves, and its answer
-    ghost outcome: { Self → Self → ℕ → Stage Self.E.Kind Self.E → Stage Self.E.Kind Self.E → Result (AnswerOf Self.E.Kind) FaultName → Type 0 };
+    ghost outcome: { Self → Self → ℕ → Stage Self.E.Kind Self.E → Stage Self.E.Kind Self.E → Result
+        (AnswerOf Self.E.Kind) FaultName → Type 0 };
 
     /// The name of the pass.
     fn name(&self) -> &str
@@ -47,9 +48,10 @@ pub trait Pass {
         requires live { IsLive ctx.old.tree op }
         requires linked { IsWellLinked Self.D.meaning ctx.old.tree op }
         ensures change { IsPassChange Self.D.meaning ctx.old.tree ctx.new.tree op }
-        ensures fresh { IfOk result (λ a. FreshAfter Self.E.Kind.eq Self.E.kind Self.E.holds ctx.old.tree analyses.old.cache.entries ctx.new.tree
-            analyses.new.cache.entries a) }
-        ensures outcome { outcome self.old self.new op (stage ctx.old analyses.old) (stage ctx.new analyses.new) result };
+        ensures fresh { IfOk result (λ a. FreshAfter Self.E.Kind.eq Self.E.kind Self.E.holds ctx.old.tree
+            analyses.old.cache.entries ctx.new.tree analyses.new.cache.entries a) }
+        ensures outcome { outcome self.old self.new op (stage ctx.old analyses.old) (stage ctx.new analyses.new)
+            result };
 
     /// Whether it runs other passes, by `PassManager::run_pass`.
     fn is_pass_manager(&self) -> bool

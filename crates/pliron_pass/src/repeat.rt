@@ -66,8 +66,8 @@ fn run_repeated<P: Pass>(
     ensures change { IsPassChange P.D.meaning ctx.old.tree ctx.new.tree op }
     ensures fresh { OnOk result (IsFresh P.E.Kind.eq P.E.kind P.E.holds ctx.old.tree analyses.old.cache.entries →
         IsFresh P.E.Kind.eq P.E.kind P.E.holds ctx.new.tree analyses.new.cache.entries) }
-    ensures outcome { RepeatsTo P.E.Kind.eq ⟦<P as Managed>⟧.runs max op pass.old pass.new (stage ctx.old analyses.old) runs.new
-        (stage ctx.new analyses.new) result }
+    ensures outcome { RepeatsTo P.E.Kind.eq ⟦<P as Managed>⟧.runs max op pass.old pass.new (stage ctx.old analyses.old)
+        runs.new (stage ctx.new analyses.new) result }
     ensures at_most { runs.new ≤ max }
 {
     let mut changed = IRStatus::Unchanged;
@@ -91,8 +91,8 @@ impl<P: Pass> Pass for Repeat<P> {
 
     ghost name = { λ p. repeat_name };
 
-    ghost outcome = { λ p p' op s s' r. (p'.max ≡ p.max) × (p'.runs ≤ p.max) ×
-        Closes P.E.Kind.eq (λ u ran. RepeatsTo P.E.Kind.eq ⟦<P as Managed>⟧.runs p.max op p.pass p'.pass s p'.runs u ran) s' r };
+    ghost outcome = { λ p p' op s s' r. (p'.max ≡ p.max) × (p'.runs ≤ p.max) × Closes P.E.Kind.eq
+        (λ u ran. RepeatsTo P.E.Kind.eq ⟦<P as Managed>⟧.runs p.max op p.pass p'.pass s p'.runs u ran) s' r };
 
     fn name(&self) -> &str {
         "repeat"

@@ -31,7 +31,8 @@ impl<K: Copy + Eq + Hash> PassResult<K> {
     ///
     /// Errors: allocation failure, which changes nothing. Cost: one look-up, amortised.
     pub fn set_preserved(&mut self, kind: K) -> Result<(), OptError>
-        ensures kept { kept_kinds self.new ≡ (if is_ok result then insert_key K.eq (kept_kinds self.old) kind else kept_kinds self.old) }
+        ensures kept { kept_kinds self.new ≡ (if is_ok result then insert_key K.eq (kept_kinds self.old) kind else
+            kept_kinds self.old) }
         ensures changed { has_changed self.new ≡ has_changed self.old }
         ensures memory { IsOkUnless result OptError.Memory }
     {

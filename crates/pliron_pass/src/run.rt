@@ -51,10 +51,10 @@ fn run_plain<P: Pass>(
     requires live { IsLive ctx.old.tree op }
     requires linked { IsWellLinked P.D.meaning ctx.old.tree op }
     ensures change { IsPassChange P.D.meaning ctx.old.tree ctx.new.tree op }
-    ensures fresh { IfOk result (λ a. FreshAfter P.E.Kind.eq P.E.kind P.E.holds ctx.old.tree analyses.old.cache.entries ctx.new.tree
-        analyses.new.cache.entries a) }
-    ensures outcome { RunsPlain P.name P.outcome ⟦<P::D as Verified>⟧.verifies pass.old pass.new op (stage ctx.old analyses.old)
-        (stage ctx.new analyses.new) result }
+    ensures fresh { IfOk result (λ a. FreshAfter P.E.Kind.eq P.E.kind P.E.holds ctx.old.tree analyses.old.cache.entries
+        ctx.new.tree analyses.new.cache.entries a) }
+    ensures outcome { RunsPlain P.name P.outcome ⟦<P::D as Verified>⟧.verifies pass.old pass.new op
+        (stage ctx.old analyses.old) (stage ctx.new analyses.new) result }
 {
     let plan = analyses.pm_data.plan(pass.name());
     if plan.skips {
@@ -98,9 +98,10 @@ impl PassManager {
         requires live { IsLive ctx.old.tree op }
         requires linked { IsWellLinked P.D.meaning ctx.old.tree op }
         ensures change { IsPassChange P.D.meaning ctx.old.tree ctx.new.tree op }
-        ensures fresh { IfOk result (λ a. FreshAfter P.E.Kind.eq P.E.kind P.E.holds ctx.old.tree analyses.old.cache.entries ctx.new.tree
-            analyses.new.cache.entries a) }
-        ensures outcome { ⟦<P as Managed>⟧.runs pass.old pass.new op (stage ctx.old analyses.old) (stage ctx.new analyses.new) result }
+        ensures fresh { IfOk result (λ a. FreshAfter P.E.Kind.eq P.E.kind P.E.holds ctx.old.tree
+            analyses.old.cache.entries ctx.new.tree analyses.new.cache.entries a) }
+        ensures outcome { ⟦<P as Managed>⟧.runs pass.old pass.new op (stage ctx.old analyses.old)
+            (stage ctx.new analyses.new) result }
     {
         if pass.is_pass_manager() {
             pass.run(alloc, op, ctx, analyses)
@@ -119,7 +120,8 @@ pub fn close<E: AnalysisKind + Drop>(
     analyses: &mut AnalysisManager<E>,
 ) -> Result<PassResult<E::Kind>, OptError>
     ensures data { analyses.new.pm_data ≡ analyses.old.pm_data }
-    ensures kept { IfOk result (λ r. retained E.Kind.eq (has_changed r) (kept_kinds r) analyses.new.cache.entries ≡ analyses.old.cache.entries) }
+    ensures kept { IfOk result (λ r. retained E.Kind.eq (has_changed r) (kept_kinds r) analyses.new.cache.entries
+        ≡ analyses.old.cache.entries) }
     ensures ok { OnOk result (IsOk ran) }
     ensures closed { IsClosed E.Kind.eq ran analyses.old.cache.entries analyses.new.cache.entries result }
 {

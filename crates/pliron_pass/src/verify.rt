@@ -21,11 +21,11 @@ pub trait Verified {
 }
 
 impl<D: Dialect> Verified for D {
-    ghost verdict = { verdict_by D.SideEffects.verdict D.BlockArgRemoval.verdict D.ConstFoldInterface.verdict D.BranchOpFoldInterface.verdict
-        D.RegionBranchOpInterface.verdict };
+    ghost verdict = { verdict_by D.SideEffects.verdict D.BlockArgRemoval.verdict D.ConstFoldInterface.verdict
+        D.BranchOpFoldInterface.verdict D.RegionBranchOpInterface.verdict };
 
-    ghost verifies = { IsFirstFault D.has_interface (verdict_by D.SideEffects.verdict D.BlockArgRemoval.verdict D.ConstFoldInterface.verdict
-        D.BranchOpFoldInterface.verdict D.RegionBranchOpInterface.verdict) };
+    ghost verifies = { IsFirstFault D.has_interface (verdict_by D.SideEffects.verdict D.BlockArgRemoval.verdict
+        D.ConstFoldInterface.verdict D.BranchOpFoldInterface.verdict D.RegionBranchOpInterface.verdict) };
 }
 
 // The check of an interface. Those of branches and terminators have none.

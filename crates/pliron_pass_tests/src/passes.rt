@@ -179,10 +179,33 @@ impl Pass for Step {
     ] };
 
     ghost outcome = { elim [
-      | AIdle p ↦ elim [ AIdle q ↦ ⟦<Idle as Pass>⟧.outcome p q | ATouch q ↦ λ op s s' r. ⊥ | AFail q ↦ λ op s s' r. ⊥ | ATally q ↦ λ op s s' r. ⊥ ]
-      | ATouch p ↦ elim [ AIdle q ↦ λ op s s' r. ⊥ | ATouch q ↦ ⟦<Touch as Pass>⟧.outcome p q | AFail q ↦ λ op s s' r. ⊥ | ATally q ↦ λ op s s' r. ⊥ ]
-      | AFail p ↦ elim [ AIdle q ↦ λ op s s' r. ⊥ | ATouch q ↦ λ op s s' r. ⊥ | AFail q ↦ ⟦<FailAlways as Pass>⟧.outcome p q | ATally q ↦ λ op s s' r. ⊥ ]
-      | ATally p ↦ elim [ AIdle q ↦ λ op s s' r. ⊥ | ATouch q ↦ λ op s s' r. ⊥ | AFail q ↦ λ op s s' r. ⊥ | ATally q ↦ ⟦<Tally as Pass>⟧.outcome p q ]
+      | AIdle p ↦ elim [
+        | AIdle q ↦ ⟦<Idle as Pass>⟧.outcome p q
+        | ATouch q ↦ λ op s s' r. ⊥
+        | AFail q ↦ λ op s s' r. ⊥
+        | ATally q ↦ λ op s s' r. ⊥
+      ]
+      | ATouch p ↦ elim [
+        | AIdle q ↦ λ op s s' r. ⊥
+        | ATouch q ↦
+            ⟦<Touch as Pass>⟧.outcome p q
+        | AFail q ↦ λ op s s' r. ⊥
+        | ATally q ↦ λ op s s' r. ⊥
+      ]
+      | AFail p ↦ elim [
+        | AIdle q ↦ λ op s s' r. ⊥
+        | ATouch q ↦ λ op s s' r. ⊥
+        | AFail q ↦ ⟦<FailAlways as Pass>⟧.outcome p q
+        | ATally q
+            ↦ λ op s s' r. ⊥
+      ]
+      | ATally p ↦ elim [
+        | AIdle q ↦ λ op s s' r. ⊥
+        | ATouch q ↦ λ op s s' r. ⊥
+        | AFail q ↦
+            λ op s s' r. ⊥
+        | ATally q ↦ ⟦<Tally as Pass>⟧.outcome p q
+      ]
     ] };
 
     fn name(&self) -> &str {

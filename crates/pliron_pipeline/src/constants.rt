@@ -20,7 +20,8 @@ impl<D: Dialect> Optimisation for Constants<D> {
 
     ghost name = { sccp_name };
 
-    ghost outcome = { λ t t' op r. PropagatesConstants ⟦<D as HasFolding>⟧.folding D.accepts D.constant_head D.ConstFoldInterface.outcome t t' op r };
+    ghost outcome = { λ t t' op r. PropagatesConstants ⟦<D as HasFolding>⟧.folding D.accepts D.constant_head
+        D.ConstFoldInterface.outcome t t' op r };
 
     fn name() -> &'static str {
         "sccp"

@@ -19,7 +19,8 @@ impl<D: Dialect> Optimisation for ControlFlow<D> {
 
     ghost name = { simplify_cfg_name };
 
-    ghost outcome = { λ t t' op r. SimplifiesControlFlow D.meaning D.can_fold D.can_fold_branch D.constants D.BranchOpFoldInterface.outcome t t' op r };
+    ghost outcome = { λ t t' op r. SimplifiesControlFlow D.meaning D.can_fold D.can_fold_branch D.constants
+        D.BranchOpFoldInterface.outcome t t' op r };
 
     fn name() -> &'static str {
         "simplify-cfg"

@@ -161,8 +161,9 @@ fn places_in_form(form: Form, attrs: &Attrs, operands: usize, edges: usize, i: u
 /// Cost: the number of edges before it.
 pub fn places_at<K: Roles>(op: Ptr<Operation>, ctx: &Context, i: usize) -> EdgeRange
     requires { IsLive ctx.now.tree op }
-    ensures places { ReadsHead (λ h. by_form no_places places_by_form (form_by (role_at K.tables) h.kind) h.attrs (length
-        (operands_of ctx.now.tree op)) (length (successors_of ctx.now.tree op)) i) ctx.now.tree op (range_with_len result.first result.count) }
+    ensures places { ReadsHead (λ h. by_form no_places places_by_form (form_by (role_at K.tables) h.kind) h.attrs
+        (length (operands_of ctx.now.tree op)) (length (successors_of ctx.now.tree op)) i) ctx.now.tree op
+        (range_with_len result.first result.count) }
     ensures within { (j : ℕ) → j < result.count → result.first + j < length (operands_of ctx.now.tree op) }
     ensures fits { result.first + result.count ≤ 18446744073709551615 }
 {
@@ -189,7 +190,8 @@ pub fn operands_at(
     requires live { IsLive ctx.now.tree op }
     requires within { (j : ℕ) → j < places.count → places.first + j < length (operands_of ctx.now.tree op) }
     requires fits { places.first + places.count ≤ 18446744073709551615 }
-    ensures { IfOk result (λ values. map Some values.items ≡ pick (range_with_len places.first places.count) (operands_of ctx.now.tree op)) }
+    ensures { IfOk result (λ values. map Some values.items ≡ pick (range_with_len places.first places.count)
+        (operands_of ctx.now.tree op)) }
 {
     let mut values = Vec::new(alloc);
     for j in 0..places.count {
@@ -209,7 +211,8 @@ pub fn operand_among(
     requires live { IsLive ctx.now.tree op }
     requires within { (k : ℕ) → k < places.count → places.first + k < length (operands_of ctx.now.tree op) }
     requires fits { places.first + places.count ≤ 18446744073709551615 }
-    ensures { option_map Some result ≡ slice_get (pick (range_with_len places.first places.count) (operands_of ctx.now.tree op)) j }
+    ensures { option_map Some result ≡ slice_get (pick (range_with_len places.first places.count)
+        (operands_of ctx.now.tree op)) j }
 {
     if j < places.count {
         Some(op.get_operand(ctx, places.first + j))
@@ -289,8 +292,9 @@ fn one_fewer(attr: &AttrObj) -> AttrObj
 pub fn shorten<K: Roles>(op: Ptr<Operation>, ctx: &mut Context, i: usize)
     requires live { IsLive ctx.old.tree op }
     requires edge { i < length (successors_of ctx.old.tree op) }
-    ensures head { (h : HeadOf) → head_of ctx.old.tree op ≡ Some h → ctx.new.tree ≡
-        with_head ctx.old.tree op (by_form h (shortened_by_form h (length (successors_of ctx.old.tree op)) i) (form_by (role_at K.tables) h.kind)) }
+    ensures head { (h : HeadOf) → head_of ctx.old.tree op ≡ Some h → ctx.new.tree ≡ with_head ctx.old.tree op
+        (by_form h (shortened_by_form h (length (successors_of ctx.old.tree op)) i)
+        (form_by (role_at K.tables) h.kind)) }
     ensures block_uses { ctx.new.block_uses ≡ ctx.old.block_uses }
 {
     if let Some(Form::Chooses) = form_at::<K>(op, ctx) {

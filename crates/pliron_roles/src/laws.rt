@@ -7,5 +7,6 @@ use crate::roles::Roles;
 /// Knowing more operands keeps each constant that folding answers, and adds no block that a branch may go to: so the
 /// facts that sparse constant propagation finds are the most precise ones. Cost: constant.
 pub fn folds_are_monotone<K: Roles>()
-    ensures { FoldsMonotonely (meaning_by K.tables.value (role_at K.tables)) (folds_by (role_at K.tables)) (branch_folds_by (role_at K.tables)) (constants_by (role_at K.tables)) (feasible_by (role_at K.tables)) }
+    ensures { FoldsMonotonely (meaning_by K.tables.value (role_at K.tables)) (folds_by (role_at K.tables))
+        (branch_folds_by (role_at K.tables)) (constants_by (role_at K.tables)) (feasible_by (role_at K.tables)) }
 {}

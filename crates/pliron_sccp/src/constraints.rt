@@ -78,7 +78,8 @@ fn constrain_entry(
     constraints: &mut Vec<Constraint>,
 ) -> Result<(), OptError>
     requires { IsBlock ctx.now.tree block }
-    ensures ok { OnOk result (AlwaysAdds constraints.old.items constraints.new.items (λ now. IsEntryExecutable ctx.now.tree now block)) }
+    ensures ok { OnOk result (AlwaysAdds constraints.old.items constraints.new.items
+        (λ now. IsEntryExecutable ctx.now.tree now block)) }
     ensures memory { IsOkUnless result OptError.Memory }
 {
     constraints.push(Constraint::Enter(block))?;
@@ -95,7 +96,8 @@ fn constrain_unknown(
     constraints: &mut Vec<Constraint>,
 ) -> Result<(), OptError>
     requires { IsLive ctx.now.tree op }
-    ensures ok { OnOk result (AlwaysAdds constraints.old.items constraints.new.items (λ now. (v : ℕ) → In v (results_of ctx.now.tree op) → now.lattice_value v ≡ Varies)) }
+    ensures ok { OnOk result (AlwaysAdds constraints.old.items constraints.new.items
+        (λ now. (v : ℕ) → In v (results_of ctx.now.tree op) → now.lattice_value v ≡ Varies)) }
     ensures memory { IsOkUnless result OptError.Memory }
 {
     for i in 0..op.num_result(ctx) {
@@ -111,7 +113,8 @@ fn constrain_region(
     constraints: &mut Vec<Constraint>,
 ) -> Result<(), OptError>
     requires { IsRegion ctx.now.tree region }
-    ensures ok { OnOk result (AlwaysAdds constraints.old.items constraints.new.items (λ now. EntryIsExecutable ctx.now.tree now 0 region)) }
+    ensures ok { OnOk result (AlwaysAdds constraints.old.items constraints.new.items
+        (λ now. EntryIsExecutable ctx.now.tree now 0 region)) }
     ensures memory { IsOkUnless result OptError.Memory }
 {
     match region.get_head(ctx) {
@@ -130,7 +133,8 @@ pub fn constrain_entries(
     constraints: &mut Vec<Constraint>,
 ) -> Result<(), OptError>
     requires { IsLive ctx.now.tree op }
-    ensures ok { OnOk result (AlwaysAdds constraints.old.items constraints.new.items (λ now. ConstrainsEntries ctx.now.tree op now)) }
+    ensures ok { OnOk result (AlwaysAdds constraints.old.items constraints.new.items
+        (λ now. ConstrainsEntries ctx.now.tree op now)) }
     ensures memory { IsOkUnless result OptError.Memory }
 {
     for i in 0..op.num_region(ctx) {
@@ -141,7 +145,8 @@ pub fn constrain_entries(
 
 /// The value is no constant.
 fn constrain_varying(value: Value, constraints: &mut Vec<Constraint>) -> Result<(), OptError>
-    ensures ok { OnOk result (AlwaysAdds constraints.old.items constraints.new.items (λ now. now.lattice_value value ≡ Varies)) }
+    ensures ok { OnOk result (AlwaysAdds constraints.old.items constraints.new.items
+        (λ now. now.lattice_value value ≡ Varies)) }
     ensures memory { IsOkUnless result OptError.Memory }
 {
     constraints.push(Constraint::Lower(value, LatticeCell::NotAConstant))?;
@@ -158,8 +163,8 @@ fn constrain_operand(
     constraints: &mut Vec<Constraint>,
 ) -> Result<(), OptError>
     requires { IsLive ctx.now.tree op }
-    ensures ok { OnOk result (Adds (known_constants tables.now) constraints.old.items constraints.new.items (λ now. GetsForwarded (lattice_values_of tables.now)
-        (operands_of ctx.now.tree op) now place value)) }
+    ensures ok { OnOk result (Adds (known_constants tables.now) constraints.old.items constraints.new.items
+        (λ now. GetsForwarded (lattice_values_of tables.now) (operands_of ctx.now.tree op) now place value)) }
     ensures memory { IsOkUnless result OptError.Memory }
 {
     if place < op.num_operand(ctx) {
@@ -183,8 +188,10 @@ fn constrain_named<D: Dialect>(
     requires block { IsBlock ctx.now.tree entry }
     requires entry { IsEntryOf ctx.now.tree op region entry }
     requires argument { index < length (arguments_of ctx.now.tree entry) }
-    ensures ok { OnOk result ((o : OperationOf) → op_at ctx.now.tree op ≡ Some o → (v : ℕ) → slice_get (arguments_of ctx.now.tree entry) index ≡ Some v →
-        Adds (known_constants tables.now) constraints.old.items constraints.new.items (λ now. GetsNamed ⟦<D as HasFolding>⟧.folding ctx.now.tree (lattice_values_of tables.now) o region now index v)) }
+    ensures ok { OnOk result ((o : OperationOf) → op_at ctx.now.tree op ≡ Some o → (v : ℕ) → slice_get
+        (arguments_of ctx.now.tree entry) index ≡ Some v → Adds (known_constants tables.now) constraints.old.items
+        constraints.new.items (λ now. GetsNamed ⟦<D as HasFolding>⟧.folding ctx.now.tree (lattice_values_of tables.now)
+        o region now index v)) }
     ensures memory { IsOkUnless result OptError.Memory }
 {
     let argument = entry.get_argument(ctx, index);
@@ -206,8 +213,10 @@ fn constrain_named_entry<D: Dialect>(
     requires live { IsLive ctx.now.tree op }
     requires block { IsBlock ctx.now.tree entry }
     requires entry { IsEntryOf ctx.now.tree op region entry }
-    ensures ok { OnOk result ((o : OperationOf) → op_at ctx.now.tree op ≡ Some o → Adds (known_constants tables.now) constraints.old.items constraints.new.items (λ now.
-        IsTrue (now.is_executable entry) × AreBelowNamed ⟦<D as HasFolding>⟧.folding ctx.now.tree now.lattice_value (lattice_values_of tables.now).lattice_value o region entry)) }
+    ensures ok { OnOk result ((o : OperationOf) → op_at ctx.now.tree op ≡ Some o → Adds (known_constants tables.now)
+        constraints.old.items constraints.new.items (λ now. IsTrue (now.is_executable entry) × AreBelowNamed
+        ⟦<D as HasFolding>⟧.folding ctx.now.tree now.lattice_value (lattice_values_of tables.now).lattice_value o region
+        entry)) }
     ensures memory { IsOkUnless result OptError.Memory }
 {
     constraints.push(Constraint::Enter(entry))?;
@@ -227,8 +236,10 @@ fn constrain_invocation<D: Dialect>(
 ) -> Result<(), OptError>
     requires live { IsLive ctx.now.tree op }
     requires region { region < length (regions_of ctx.now.tree op) }
-    ensures ok { OnOk result ((o : OperationOf) → op_at ctx.now.tree op ≡ Some o → (r : ℕ) → slice_get (regions_of ctx.now.tree op) region ≡ Some r →
-        Adds (known_constants tables.now) constraints.old.items constraints.new.items (λ now. InvocationIsExecutable ⟦<D as HasFolding>⟧.folding ctx.now.tree (lattice_values_of tables.now) o now region r)) }
+    ensures ok { OnOk result ((o : OperationOf) → op_at ctx.now.tree op ≡ Some o → (r : ℕ) → slice_get
+        (regions_of ctx.now.tree op) region ≡ Some r → Adds (known_constants tables.now) constraints.old.items
+        constraints.new.items (λ now. InvocationIsExecutable ⟦<D as HasFolding>⟧.folding ctx.now.tree
+        (lattice_values_of tables.now) o now region r)) }
     ensures memory { IsOkUnless result OptError.Memory }
 {
     match op.get_region(ctx, region).get_head(ctx) {
@@ -245,8 +256,9 @@ fn constrain_invocations<D: Dialect>(
     constraints: &mut Vec<Constraint>,
 ) -> Result<(), OptError>
     requires { IsLive ctx.now.tree op }
-    ensures ok { OnOk result ((o : OperationOf) → op_at ctx.now.tree op ≡ Some o →
-        Adds (known_constants tables.now) constraints.old.items constraints.new.items (λ now. ConstrainsInvocations ⟦<D as HasFolding>⟧.folding ctx.now.tree (lattice_values_of tables.now) o now)) }
+    ensures ok { OnOk result ((o : OperationOf) → op_at ctx.now.tree op ≡ Some o → Adds (known_constants tables.now)
+        constraints.old.items constraints.new.items (λ now. ConstrainsInvocations ⟦<D as HasFolding>⟧.folding
+        ctx.now.tree (lattice_values_of tables.now) o now)) }
     ensures memory { IsOkUnless result OptError.Memory }
 {
     for region in 0..op.num_region(ctx) {
@@ -283,10 +295,12 @@ fn constrain_jump(
     constraints: &mut Vec<Constraint>,
 ) -> Result<(), OptError>
     requires { IsBlock ctx.now.tree block }
-    ensures ok { OnOk result ((constants : List AttrObj) (f : LatticeValues) → AreEntriesExecutableWhere constants ctx.now.tree f constraints.old.items entered.old →
-        AddsUnder f constants constraints.old.items constraints.new.items (λ now. IsEntryExecutable ctx.now.tree now block)) }
-    ensures entered { OnOk result ((constants : List AttrObj) (f : LatticeValues) → AreEntriesExecutableWhere constants ctx.now.tree f constraints.old.items entered.old →
-        AreEntriesExecutableWhere constants ctx.now.tree f constraints.new.items entered.new) }
+    ensures ok { OnOk result ((constants : List AttrObj) (f : LatticeValues) → AreEntriesExecutableWhere constants
+        ctx.now.tree f constraints.old.items entered.old → AddsUnder f constants constraints.old.items
+        constraints.new.items (λ now. IsEntryExecutable ctx.now.tree now block)) }
+    ensures entered { OnOk result ((constants : List AttrObj) (f : LatticeValues) → AreEntriesExecutableWhere constants
+        ctx.now.tree f constraints.old.items entered.old → AreEntriesExecutableWhere constants ctx.now.tree f
+        constraints.new.items entered.new) }
     ensures memory { IsOkUnless result OptError.Memory }
 {
     if record_entry(block, ctx, entered)? {
@@ -304,10 +318,11 @@ fn constrain_jumps(
     constraints: &mut Vec<Constraint>,
 ) -> Result<(), OptError>
     requires { IsLive ctx.now.tree op }
-    ensures ok { OnOk result ((constants : List AttrObj) (f : LatticeValues) → AreEntriesExecutable ctx.now.tree f entered.old →
-        AddsUnder f constants constraints.old.items constraints.new.items (λ now. ConstrainsJumps ctx.now.tree op now)) }
-    ensures entered { OnOk result ((constants : List AttrObj) (f : LatticeValues) → AreEntriesExecutable ctx.now.tree f entered.old →
-        AreEntriesExecutableWhere constants ctx.now.tree f constraints.new.items entered.new) }
+    ensures ok { OnOk result ((constants : List AttrObj) (f : LatticeValues) → AreEntriesExecutable ctx.now.tree f
+        entered.old → AddsUnder f constants constraints.old.items constraints.new.items
+        (λ now. ConstrainsJumps ctx.now.tree op now)) }
+    ensures entered { OnOk result ((constants : List AttrObj) (f : LatticeValues) → AreEntriesExecutable ctx.now.tree f
+        entered.old → AreEntriesExecutableWhere constants ctx.now.tree f constraints.new.items entered.new) }
     ensures memory { IsOkUnless result OptError.Memory }
 {
     for i in 0..op.num_successor(ctx) {
@@ -342,7 +357,8 @@ pub(crate) fn add_known(
     attrs: &mut Vec<Option<AttrObj>>,
 ) -> Result<(), OptError>
     requires { IsLive ctx.now.tree op }
-    ensures ok { OnOk result (attrs.new.items ≡ attrs.old.items ++ operand_constants (lattice_values_of tables.now) (operands_of ctx.now.tree op)) }
+    ensures ok { OnOk result (attrs.new.items ≡ attrs.old.items ++ operand_constants (lattice_values_of tables.now)
+        (operands_of ctx.now.tree op)) }
     ensures memory { IsOkUnless result OptError.Memory }
 {
     for i in 0..op.num_operand(ctx) {
@@ -354,7 +370,8 @@ pub(crate) fn add_known(
 /// What is known of one of these values.
 fn forwarded_cell(values: &[Value], j: usize, tables: &Tables) -> LatticeCell
     requires { j < length values.now }
-    ensures { (w : ℕ) → slice_get values.now j ≡ Some w → Means (known_constants tables.now) result (lattice_value_in tables.now w) }
+    ensures { (w : ℕ) → slice_get values.now j ≡ Some w → Means (known_constants tables.now) result
+        (lattice_value_in tables.now w) }
 {
     tables.cell(values[j])
 }
@@ -369,7 +386,8 @@ fn constrain_forwarded(
     constraints: &mut Vec<Constraint>,
 ) -> Result<(), OptError>
     requires { IsBlock ctx.now.tree block }
-    ensures ok { OnOk result (Adds (known_constants tables.now) constraints.old.items constraints.new.items (λ now. ConstrainsForwarded ctx.now.tree (lattice_values_of tables.now) block values.now now)) }
+    ensures ok { OnOk result (Adds (known_constants tables.now) constraints.old.items constraints.new.items
+        (λ now. ConstrainsForwarded ctx.now.tree (lattice_values_of tables.now) block values.now now)) }
     ensures memory { IsOkUnless result OptError.Memory }
 {
     constraints.push(Constraint::Enter(block))?;
@@ -383,7 +401,8 @@ fn constrain_forwarded(
 
 /// One block more.
 fn add_block(blocks: &mut HashSet<u64>, block: Ptr<BasicBlock>) -> Result<(), OptError>
-    ensures ok { OnOk result ((b : ℕ) → contains nat_eq blocks.new b ≡ (if nat_eq block b then true else contains nat_eq blocks.old b)) }
+    ensures ok { OnOk result ((b : ℕ) → contains nat_eq blocks.new b ≡ (if nat_eq block b then true else contains nat_eq
+        blocks.old b)) }
     ensures memory { IsOkUnless result OptError.Memory }
 {
     blocks.insert(block.key())?;
@@ -400,8 +419,8 @@ fn branch_blocks<D: Dialect>(
     requires live { IsLive ctx.now.tree op }
     requires folds { HeadPasses D.can_fold_branch ctx.now.tree op }
     requires entries { length known.now ≡ length (operands_of ctx.now.tree op) }
-    ensures ok { IfOk result (λ blocks. (o : OperationOf) → op_at ctx.now.tree op ≡ Some o → (b : ℕ) → IsTrue (contains nat_eq blocks b) ↔
-        In b (D.feasible (shape_of D.meaning ctx.now.tree o) o.successors known.now)) }
+    ensures ok { IfOk result (λ blocks. (o : OperationOf) → op_at ctx.now.tree op ≡ Some o → (b : ℕ) → IsTrue
+        (contains nat_eq blocks b) ↔ In b (D.feasible (shape_of D.meaning ctx.now.tree o) o.successors known.now)) }
     ensures memory { IsOkUnless result OptError.Memory }
 {
     let targets = <D as BranchOpFoldInterface>::check_fold(alloc, op, ctx, known)?;
@@ -421,7 +440,8 @@ fn feasible_blocks<D: Dialect>(
 ) -> Result<Option<HashSet<u64>>, OptError>
     requires live { IsLive ctx.now.tree op }
     requires entries { length known.now ≡ length (operands_of ctx.now.tree op) }
-    ensures ok { IfOk result (λ blocks. AreFeasible D.meaning D.can_fold_branch D.feasible ctx.now.tree op known.now blocks) }
+    ensures ok { IfOk result (λ blocks. AreFeasible D.meaning D.can_fold_branch D.feasible ctx.now.tree op known.now
+        blocks) }
     ensures memory { IsOkUnless result OptError.Memory }
 {
     if D::folds_branch(op, ctx) {
@@ -458,8 +478,10 @@ fn constrain_edge<D: Dialect>(
     requires edge { i < length (successors_of ctx.now.tree op) }
     requires known { known.now ≡ operand_constants (lattice_values_of tables.now) (operands_of ctx.now.tree op) }
     requires feasible { AreFeasible D.meaning D.can_fold_branch D.feasible ctx.now.tree op known.now feasible.now }
-    ensures ok { OnOk result ((o : OperationOf) → op_at ctx.now.tree op ≡ Some o → (b : ℕ) → slice_get (successors_of ctx.now.tree op) i ≡ Some b →
-        Adds (known_constants tables.now) constraints.old.items constraints.new.items (λ now. FollowsEdge ⟦<D as HasFolding>⟧.folding ctx.now.tree (lattice_values_of tables.now) o now i b)) }
+    ensures ok { OnOk result ((o : OperationOf) → op_at ctx.now.tree op ≡ Some o → (b : ℕ) → slice_get
+        (successors_of ctx.now.tree op) i ≡ Some b → Adds (known_constants tables.now) constraints.old.items
+        constraints.new.items (λ now. FollowsEdge ⟦<D as HasFolding>⟧.folding ctx.now.tree
+        (lattice_values_of tables.now) o now i b)) }
     ensures memory { IsOkUnless result OptError.Memory }
 {
     let block = op.get_successor(ctx, i);
@@ -485,8 +507,9 @@ fn constrain_each_edge<D: Dialect>(
     requires branch { HeadPasses D.meaning.is_branch ctx.now.tree op }
     requires known { known.now ≡ operand_constants (lattice_values_of tables.now) (operands_of ctx.now.tree op) }
     requires feasible { AreFeasible D.meaning D.can_fold_branch D.feasible ctx.now.tree op known.now feasible.now }
-    ensures ok { OnOk result ((o : OperationOf) → op_at ctx.now.tree op ≡ Some o →
-        Adds (known_constants tables.now) constraints.old.items constraints.new.items (λ now. ConstrainsBranches ⟦<D as HasFolding>⟧.folding ctx.now.tree (lattice_values_of tables.now) o now)) }
+    ensures ok { OnOk result ((o : OperationOf) → op_at ctx.now.tree op ≡ Some o → Adds (known_constants tables.now)
+        constraints.old.items constraints.new.items (λ now. ConstrainsBranches ⟦<D as HasFolding>⟧.folding ctx.now.tree
+        (lattice_values_of tables.now) o now)) }
     ensures memory { IsOkUnless result OptError.Memory }
 {
     for i in 0..op.num_successor(ctx) {
@@ -509,9 +532,11 @@ fn constrain_branches<D: Dialect>(
     requires live { IsLive ctx.now.tree op }
     requires branch { HeadPasses D.meaning.is_branch ctx.now.tree op }
     requires known { known.now ≡ operand_constants (lattice_values_of tables.now) (operands_of ctx.now.tree op) }
-    ensures ok { OnOk result ((o : OperationOf) → op_at ctx.now.tree op ≡ Some o →
-        Adds (known_constants tables.now) constraints.old.items constraints.new.items (λ now. ConstrainsBranches ⟦<D as HasFolding>⟧.folding ctx.now.tree (lattice_values_of tables.now) o now)) }
-    ensures feasible { OnOk result (AreFound ⟦<D as HasFolding>⟧.folding ctx.now.tree (lattice_values_of tables.now) op feasible.new) }
+    ensures ok { OnOk result ((o : OperationOf) → op_at ctx.now.tree op ≡ Some o → Adds (known_constants tables.now)
+        constraints.old.items constraints.new.items (λ now. ConstrainsBranches ⟦<D as HasFolding>⟧.folding ctx.now.tree
+        (lattice_values_of tables.now) o now)) }
+    ensures feasible { OnOk result (AreFound ⟦<D as HasFolding>⟧.folding ctx.now.tree (lattice_values_of tables.now) op
+        feasible.new) }
     ensures memory { IsOkUnless result OptError.Memory }
 {
     let found = feasible_blocks::<D>(alloc, op, ctx, known)?;
@@ -530,8 +555,8 @@ fn constrain_answer(
     constraints: &mut Vec<Constraint>,
 ) -> Result<(), OptError>
     requires { IsLive ctx.now.tree op }
-    ensures ok { OnOk result (AlwaysAdds constraints.old.items constraints.new.items (λ now. (v : ℕ) → slice_get (results_of ctx.now.tree op) i ≡ Some v →
-        AtMost (now.lattice_value v) (value_of_answer answer))) }
+    ensures ok { OnOk result (AlwaysAdds constraints.old.items constraints.new.items (λ now. (v : ℕ) → slice_get
+        (results_of ctx.now.tree op) i ≡ Some v → AtMost (now.lattice_value v) (value_of_answer answer))) }
     ensures memory { IsOkUnless result OptError.Memory }
 {
     if i >= op.num_result(ctx) {
@@ -554,7 +579,8 @@ fn constrain_answers(
     constraints: &mut Vec<Constraint>,
 ) -> Result<(), OptError>
     requires { IsLive ctx.now.tree op }
-    ensures ok { OnOk result (AlwaysAdds constraints.old.items constraints.new.items (λ now. ConstrainsAnswers (results_of ctx.now.tree op) answers.items now)) }
+    ensures ok { OnOk result (AlwaysAdds constraints.old.items constraints.new.items
+        (λ now. ConstrainsAnswers (results_of ctx.now.tree op) answers.items now)) }
     ensures memory { IsOkUnless result OptError.Memory }
 {
     let mut rest = answers;
@@ -575,8 +601,9 @@ fn constrain_results<D: Dialect>(
 ) -> Result<(), OptError>
     requires live { IsLive ctx.now.tree op }
     requires entries { length known.now ≡ length (operands_of ctx.now.tree op) }
-    ensures ok { OnOk result ((o : OperationOf) → op_at ctx.now.tree op ≡ Some o →
-        AlwaysAdds constraints.old.items constraints.new.items (λ now. ConstrainsResults D.can_fold (D.constants (shape_of D.meaning ctx.now.tree o) known.now) o now)) }
+    ensures ok { OnOk result ((o : OperationOf) → op_at ctx.now.tree op ≡ Some o → AlwaysAdds constraints.old.items
+        constraints.new.items (λ now. ConstrainsResults D.can_fold (D.constants (shape_of D.meaning ctx.now.tree o)
+        known.now) o now)) }
     ensures memory { IsOkUnless result OptError.Memory }
 {
     if D::folds(op, ctx) {
@@ -603,10 +630,13 @@ fn constrain_edges<D: Dialect>(
     requires known { known.now ≡ operand_constants (lattice_values_of tables.now) (operands_of ctx.now.tree op) }
     requires none { feasible.old ≡ None }
     requires entered { AreEntriesExecutable ctx.now.tree (lattice_values_of tables.now) entered.old }
-    ensures ok { OnOk result ((o : OperationOf) → op_at ctx.now.tree op ≡ Some o →
-        AddsUnder (lattice_values_of tables.now) (known_constants tables.now) constraints.old.items constraints.new.items (λ now. ConstrainsEdges ⟦<D as HasFolding>⟧.folding ctx.now.tree (lattice_values_of tables.now) op o now)) }
-    ensures feasible { OnOk result (AreFound ⟦<D as HasFolding>⟧.folding ctx.now.tree (lattice_values_of tables.now) op feasible.new) }
-    ensures entered { OnOk result (AreEntriesExecutableWhere (known_constants tables.now) ctx.now.tree (lattice_values_of tables.now) constraints.new.items entered.new) }
+    ensures ok { OnOk result ((o : OperationOf) → op_at ctx.now.tree op ≡ Some o → AddsUnder
+        (lattice_values_of tables.now) (known_constants tables.now) constraints.old.items constraints.new.items
+        (λ now. ConstrainsEdges ⟦<D as HasFolding>⟧.folding ctx.now.tree (lattice_values_of tables.now) op o now)) }
+    ensures feasible { OnOk result (AreFound ⟦<D as HasFolding>⟧.folding ctx.now.tree (lattice_values_of tables.now) op
+        feasible.new) }
+    ensures entered { OnOk result (AreEntriesExecutableWhere (known_constants tables.now) ctx.now.tree
+        (lattice_values_of tables.now) constraints.new.items entered.new) }
     ensures memory { IsOkUnless result OptError.Memory }
 {
     if D::is_branch(op, ctx) {
@@ -637,9 +667,12 @@ pub fn constraints_of<D: Dialect>(
     requires live { IsLive ctx.now.tree op }
     requires none { feasible.old ≡ None }
     requires entered { AreEntriesExecutable ctx.now.tree (lattice_values_of tables.now) scratch.old.entered }
-    ensures ok { OnOk result (Constrains (known_constants tables.now) ⟦<D as HasFolding>⟧.folding ctx.now.tree (lattice_values_of tables.now) op scratch.new.constraints.items) }
-    ensures feasible { OnOk result (AreFound ⟦<D as HasFolding>⟧.folding ctx.now.tree (lattice_values_of tables.now) op feasible.new) }
-    ensures entered { OnOk result (AreEntriesExecutableWhere (known_constants tables.now) ctx.now.tree (lattice_values_of tables.now) scratch.new.constraints.items scratch.new.entered) }
+    ensures ok { OnOk result (Constrains (known_constants tables.now) ⟦<D as HasFolding>⟧.folding ctx.now.tree
+        (lattice_values_of tables.now) op scratch.new.constraints.items) }
+    ensures feasible { OnOk result (AreFound ⟦<D as HasFolding>⟧.folding ctx.now.tree (lattice_values_of tables.now) op
+        feasible.new) }
+    ensures entered { OnOk result (AreEntriesExecutableWhere (known_constants tables.now) ctx.now.tree
+        (lattice_values_of tables.now) scratch.new.constraints.items scratch.new.entered) }
     ensures memory { IsOkUnless result OptError.Memory }
 {
     scratch.known.clear();

@@ -6,14 +6,14 @@
 //! at most seventeen visits, since each is lowered twice at most, so shorter operations are never deferred. The
 //! search ends since what can still be popped counts 2^64 times as much as what is deferred.
 //!
-//! A deferred visit is no lattice value, and this is no worklist of values or blocks. Each block that is entered and each
-//! value that is lowered waits in `Tables`, by its number, with the room reserved beforehand; it is popped there one by
-//! one, and counted, before an operation is visited for it or deferred. A visit pops nothing and is not counted, whether
-//! it was deferred or not.
+//! A deferred visit is no lattice value, and this is no worklist of values or blocks. Each block that is entered and
+//! each value that is lowered waits in `Tables`, by its number, with the room reserved beforehand; it is popped there
+//! one by one, and counted, before an operation is visited for it or deferred. A visit pops nothing and is not counted,
+//! whether it was deferred or not.
 //!
-//! The sets are by key, and grow: operations have no numbers here, and a number for each would cost each text a table as
-//! long as itself, while few operations have so many operands. So deferring may fail to allocate. No rewrite was begun
-//! by then, so the tree is as before.
+//! The sets are by key, and grow: operations have no numbers here, and a number for each would cost each text a table
+//! as long as itself, while few operations have so many operands. So deferring may fail to allocate. No rewrite was
+//! begun by then, so the tree is as before.
 ghost use Rattle.std.specs.Prelude.{◌≡◌, ◌<◌, ◌≤◌, ◌+◌, ℕ, [], IfNone, IfOk, IfSome, OnOk, IsOkUnless, IsTrue, Some, ◌↔◌, length, slice_get};
 ghost use Rattle.pliron_sccp.specs.Deferring.{HasFirst, Defers, PopsDeferred, deferred_operations};
 
@@ -80,7 +80,8 @@ impl DeferredOperations {
     /// Takes one of those with the fewest operands, to within a factor of two, or else of the last set; `None` where
     /// nothing is deferred. Cost: constant, since there are at most 65 sets.
     pub fn take(&mut self) -> Option<Ptr<Operation>>
-        ensures some { IfSome result (λ op. PopsDeferred op (deferred_operations self.old) (deferred_operations self.new)) }
+        ensures some { IfSome result (λ op. PopsDeferred op (deferred_operations self.old)
+            (deferred_operations self.new)) }
         ensures none { IfNone result (deferred_operations self.old ≡ []) }
     {
         let i = self.first()?;

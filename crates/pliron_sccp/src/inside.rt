@@ -55,7 +55,8 @@ fn list_body(
     blocks: &mut Vec<Ptr<BasicBlock>>,
 ) -> Result<(), OptError>
     requires { IsBlock ctx.now.tree block }
-    ensures ok { OnOk result (blocks.new.items ≡ blocks.old.items ++ flat_map (λ k. blocks_directly_in ctx.now.tree k) (body_of ctx.now.tree block)) }
+    ensures ok { OnOk result (blocks.new.items ≡ blocks.old.items ++ flat_map (λ k. blocks_directly_in ctx.now.tree k)
+        (body_of ctx.now.tree block)) }
     ensures memory { IsOkUnless result OptError.Memory }
 {
     ctx.well_formed();
@@ -104,7 +105,8 @@ fn stack_body(
     stack: &mut Vec<Ptr<BasicBlock>>,
 ) -> Result<(), OptError>
     requires { IsBlock ctx.now.tree block }
-    ensures ok { OnOk result (stack.new.items ≡ stack.old.items ++ reverse (flat_map (λ k. blocks_directly_in ctx.now.tree k) (body_of ctx.now.tree block))) }
+    ensures ok { OnOk result (stack.new.items ≡ stack.old.items ++ reverse
+        (flat_map (λ k. blocks_directly_in ctx.now.tree k) (body_of ctx.now.tree block))) }
     ensures memory { IsOkUnless result OptError.Memory }
 {
     let mut blocks = Vec::new(alloc);
@@ -232,7 +234,8 @@ fn list_operations(
     parts: &mut Vec<Part>,
 ) -> Result<(), OptError>
     requires { IsBlock ctx.now.tree block }
-    ensures ok { OnOk result (parts.new.items ≡ parts.old.items ++ map (λ k. OperationOf k) (body_of ctx.now.tree block)) }
+    ensures ok { OnOk result (parts.new.items ≡ parts.old.items ++ map (λ k. OperationOf k)
+        (body_of ctx.now.tree block)) }
     ensures memory { IsOkUnless result OptError.Memory }
 {
     ctx.well_formed();
@@ -252,7 +255,8 @@ fn list_blocks(
     parts: &mut Vec<Part>,
 ) -> Result<(), OptError>
     requires { IsLive ctx.now.tree op }
-    ensures ok { OnOk result (parts.new.items ≡ parts.old.items ++ map (λ b. BlockOf b) (blocks_directly_in ctx.now.tree op)) }
+    ensures ok { OnOk result (parts.new.items ≡ parts.old.items ++ map (λ b. BlockOf b)
+        (blocks_directly_in ctx.now.tree op)) }
     ensures memory { IsOkUnless result OptError.Memory }
 {
     let mut blocks = Vec::new(alloc);
@@ -312,8 +316,8 @@ pub fn count_values(blocks: &[Ptr<BasicBlock>], ctx: &Context) -> usize
 /// The values inside the root, each with a number, in pre-order: a block's arguments come before its operations, and an
 /// operation's results before what stands in its regions.
 ///
-/// Asks that the root stands; `count` says for how many values there is room at first. Errors: allocation failure. Cost: one
-/// step for each operation, block and value inside it; the depth takes memory on a list alone.
+/// Asks that the root stands; `count` says for how many values there is room at first. Errors: allocation failure.
+/// Cost: one step for each operation, block and value inside it; the depth takes memory on a list alone.
 pub fn value_numbers(
     alloc: Global,
     root: Ptr<Operation>,

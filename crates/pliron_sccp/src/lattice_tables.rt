@@ -71,8 +71,10 @@ pub struct Tables {
     ghost fallen: { length values_on_worklist.items ≡ length values.keys },
     ghost block_numbers: { (n b : ℕ) → slice_get blocks.keys n ≡ Some b → index_of nat_eq blocks b ≡ Some n },
     ghost value_numbers: { (n v : ℕ) → slice_get values.keys n ≡ Some v → index_of nat_eq values v ≡ Some n },
-    ghost blocks_wait: { (n : ℕ) → list_any (nat_eq n) block_worklist.items ≡ is_waiting (mark_at marks.items (Some n)) },
-    ghost values_wait: { (n : ℕ) → list_any (nat_eq n) value_worklist.items ≡ is_lowered_at values_on_worklist.items (Some n) },
+    ghost blocks_wait: { (n : ℕ) → list_any (nat_eq n) block_worklist.items ≡ is_waiting
+        (mark_at marks.items (Some n)) },
+    ghost values_wait: { (n : ℕ) → list_any (nat_eq n) value_worklist.items ≡ is_lowered_at values_on_worklist.items
+        (Some n) },
     ghost blocks_once: { AreOnce block_worklist.items },
     ghost values_once: { AreOnce value_worklist.items },
     ghost blocks_room: { length blocks.keys ≤ vec_capacity block_worklist },
@@ -288,9 +290,11 @@ impl Tables {
     fn lowered_value(&self, old: LatticeCell, to: LatticeCell) -> Option<LatticeCell>
         requires old { (f : LatticeValue) × Means (known_constants self.now) old f }
         requires to { (g : LatticeValue) × Means (known_constants self.now) to g }
-        ensures values_on_worklist { IfSome result (λ new. (f g : LatticeValue) → Means (known_constants self.now) old f → Means (known_constants self.now) to g →
-            (m : LatticeValue) × Means (known_constants self.now) new m × LowersTo f g m) }
-        ensures stays { IfNone result ((f g : LatticeValue) → Means (known_constants self.now) old f → Means (known_constants self.now) to g → AtMost f g) }
+        ensures values_on_worklist { IfSome result (λ new. (f g : LatticeValue) → Means (known_constants self.now) old f
+            → Means (known_constants self.now) to g → (m : LatticeValue) × Means (known_constants self.now) new m
+            × LowersTo f g m) }
+        ensures stays { IfNone result ((f g : LatticeValue) → Means (known_constants self.now) old f → Means
+            (known_constants self.now) to g → AtMost f g) }
     {
         match to {
             LatticeCell::Undetermined => None,

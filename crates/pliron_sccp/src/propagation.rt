@@ -23,10 +23,10 @@ fn propagate<D: Dialect, R: Rewriter + Room>(
 ) -> Result<(IRStatus, u128), OptError>
     requires live { IsLive ctx.old.tree op }
     requires linked { IsWellLinked D.meaning ctx.old.tree op }
-    ensures propagated { IfOk result (λ a. IsPropagated ⟦<D as HasFolding>⟧.folding D.accepts D.constant_head D.ConstFoldInterface.outcome
-        ctx.old.tree op ctx.new.tree a.1) }
-    ensures partly { OnErr result (IsPartlyPropagated ⟦<D as HasFolding>⟧.folding D.accepts D.constant_head D.ConstFoldInterface.outcome ctx.old.tree
-        op ctx.new.tree) }
+    ensures propagated { IfOk result (λ a. IsPropagated ⟦<D as HasFolding>⟧.folding D.accepts D.constant_head
+        D.ConstFoldInterface.outcome ctx.old.tree op ctx.new.tree a.1) }
+    ensures partly { OnErr result (IsPartlyPropagated ⟦<D as HasFolding>⟧.folding D.accepts D.constant_head
+        D.ConstFoldInterface.outcome ctx.old.tree op ctx.new.tree) }
     ensures change { IsPassChange D.meaning ctx.old.tree ctx.new.tree op }
     ensures tells { IfOk result (λ a. ReportsChange (Some a.0) ctx.old.tree ctx.new.tree) }
     ensures edges { KeepsEdges ctx.old.tree ctx.new.tree }
@@ -51,10 +51,10 @@ pub fn sccp_counted<D: Dialect>(
 ) -> Result<(IRStatus, u128), OptError>
     requires live { IsLive ctx.old.tree op }
     requires linked { IsWellLinked D.meaning ctx.old.tree op }
-    ensures propagated { IfOk result (λ a. IsPropagated ⟦<D as HasFolding>⟧.folding D.accepts D.constant_head D.ConstFoldInterface.outcome
-        ctx.old.tree op ctx.new.tree a.1) }
-    ensures partly { OnErr result (IsPartlyPropagated ⟦<D as HasFolding>⟧.folding D.accepts D.constant_head D.ConstFoldInterface.outcome ctx.old.tree
-        op ctx.new.tree) }
+    ensures propagated { IfOk result (λ a. IsPropagated ⟦<D as HasFolding>⟧.folding D.accepts D.constant_head
+        D.ConstFoldInterface.outcome ctx.old.tree op ctx.new.tree a.1) }
+    ensures partly { OnErr result (IsPartlyPropagated ⟦<D as HasFolding>⟧.folding D.accepts D.constant_head
+        D.ConstFoldInterface.outcome ctx.old.tree op ctx.new.tree) }
     ensures change { IsPassChange D.meaning ctx.old.tree ctx.new.tree op }
     ensures tells { IfOk result (λ a. ReportsChange (Some a.0) ctx.old.tree ctx.new.tree) }
     ensures edges { KeepsEdges ctx.old.tree ctx.new.tree }
@@ -78,10 +78,10 @@ pub fn sccp_through<D: Dialect, R: Rewriter + Room>(
 ) -> Result<IRStatus, OptError>
     requires live { IsLive ctx.old.tree op }
     requires linked { IsWellLinked D.meaning ctx.old.tree op }
-    ensures propagated { OnOk result ((pops : ℕ) × IsPropagated ⟦<D as HasFolding>⟧.folding D.accepts D.constant_head D.ConstFoldInterface.outcome
-        ctx.old.tree op ctx.new.tree pops) }
-    ensures partly { OnErr result (IsPartlyPropagated ⟦<D as HasFolding>⟧.folding D.accepts D.constant_head D.ConstFoldInterface.outcome ctx.old.tree
-        op ctx.new.tree) }
+    ensures propagated { OnOk result ((pops : ℕ) × IsPropagated ⟦<D as HasFolding>⟧.folding D.accepts D.constant_head
+        D.ConstFoldInterface.outcome ctx.old.tree op ctx.new.tree pops) }
+    ensures partly { OnErr result (IsPartlyPropagated ⟦<D as HasFolding>⟧.folding D.accepts D.constant_head
+        D.ConstFoldInterface.outcome ctx.old.tree op ctx.new.tree) }
     ensures change { IsPassChange D.meaning ctx.old.tree ctx.new.tree op }
     ensures tells { IfOk result (λ a. ReportsChange (Some a) ctx.old.tree ctx.new.tree) }
     ensures edges { KeepsEdges ctx.old.tree ctx.new.tree }
@@ -118,10 +118,10 @@ pub fn sccp<D: Dialect>(
 ) -> Result<IRStatus, OptError>
     requires live { IsLive ctx.old.tree op }
     requires linked { IsWellLinked D.meaning ctx.old.tree op }
-    ensures propagated { OnOk result ((pops : ℕ) × IsPropagated ⟦<D as HasFolding>⟧.folding D.accepts D.constant_head D.ConstFoldInterface.outcome
-        ctx.old.tree op ctx.new.tree pops) }
-    ensures partly { OnErr result (IsPartlyPropagated ⟦<D as HasFolding>⟧.folding D.accepts D.constant_head D.ConstFoldInterface.outcome ctx.old.tree
-        op ctx.new.tree) }
+    ensures propagated { OnOk result ((pops : ℕ) × IsPropagated ⟦<D as HasFolding>⟧.folding D.accepts D.constant_head
+        D.ConstFoldInterface.outcome ctx.old.tree op ctx.new.tree pops) }
+    ensures partly { OnErr result (IsPartlyPropagated ⟦<D as HasFolding>⟧.folding D.accepts D.constant_head
+        D.ConstFoldInterface.outcome ctx.old.tree op ctx.new.tree) }
     ensures change { IsPassChange D.meaning ctx.old.tree ctx.new.tree op }
     ensures tells { IfOk result (λ a. ReportsChange (Some a) ctx.old.tree ctx.new.tree) }
     ensures edges { KeepsEdges ctx.old.tree ctx.new.tree }

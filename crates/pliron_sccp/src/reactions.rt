@@ -53,7 +53,8 @@ pub enum Reaction {
 /// operands for the entries of its regions.
 fn reads_all<D: Dialect>(op: Ptr<Operation>, ctx: &Context) -> bool
     requires { IsLive ctx.now.tree op }
-    ensures { ReadsHead (λ h. either (D.can_fold h) (either (D.can_fold_branch h) (D.has_interface h RegionBranch))) ctx.now.tree op result }
+    ensures { ReadsHead (λ h. either (D.can_fold h) (either (D.can_fold_branch h) (D.has_interface h RegionBranch)))
+        ctx.now.tree op result }
 {
     D::folds(op, ctx) || D::folds_branch(op, ctx) || D::implements(op, ctx, Interface::RegionBranch)
 }
@@ -87,9 +88,10 @@ fn constrain_argument(
 ) -> Result<(), OptError>
     requires live { IsLive ctx.now.tree op }
     requires edge { edge < length (successors_of ctx.now.tree op) }
-    ensures ok { OnOk result (Adds (known_constants tables.now) constraints.old.items constraints.new.items (λ now. (b a : ℕ) →
-        slice_get (successors_of ctx.now.tree op) edge ≡ Some b → slice_get (arguments_of ctx.now.tree b) index ≡ Some a →
-        AtMost (now.lattice_value a) (lattice_value_in tables.now value))) }
+    ensures ok { OnOk result (Adds (known_constants tables.now) constraints.old.items constraints.new.items
+        (λ now. (b a : ℕ) → slice_get (successors_of ctx.now.tree op) edge ≡ Some b → slice_get
+        (arguments_of ctx.now.tree b) index ≡ Some a → AtMost (now.lattice_value a)
+        (lattice_value_in tables.now value))) }
     ensures memory { IsOkUnless result OptError.Memory }
 {
     let block = op.get_successor(ctx, edge);
@@ -123,7 +125,8 @@ fn named_argument<D: Dialect>(
     ctx: &Context,
 ) -> Option<Value>
     requires { IsLive ctx.now.tree op }
-    ensures { IfSome result (λ a. (o : OperationOf) → op_at ctx.now.tree op ≡ Some o → IsNamed ⟦<D as HasFolding>⟧.folding ctx.now.tree o place a) }
+    ensures { IfSome result (λ a. (o : OperationOf) → op_at ctx.now.tree op ≡ Some o
+        → IsNamed ⟦<D as HasFolding>⟧.folding ctx.now.tree o place a) }
 {
     let EntryCandidate { region, index, .. } = candidate;
     if region >= op.num_region(ctx) {
@@ -150,7 +153,8 @@ fn constrain_candidate<D: Dialect>(
     constraints: &mut Vec<Constraint>,
 ) -> Result<(), OptError>
     requires { IsLive ctx.now.tree op }
-    ensures ok { OnOk result ((edges : FeasibleEdges) → ConstrainsEagerly ⟦<D as HasFolding>⟧.folding ctx.now.tree tables.now edges op place value constraints.old.items constraints.new.items) }
+    ensures ok { OnOk result ((edges : FeasibleEdges) → ConstrainsEagerly ⟦<D as HasFolding>⟧.folding ctx.now.tree
+        tables.now edges op place value constraints.old.items constraints.new.items) }
     ensures memory { IsOkUnless result OptError.Memory }
 {
     let Some(argument) = named_argument::<D>(op, place, candidate, ctx) else {
@@ -173,7 +177,8 @@ fn propagate_named_eagerly<D: Dialect>(
     constraints: &mut Vec<Constraint>,
 ) -> Result<(), OptError>
     requires { IsLive ctx.now.tree op }
-    ensures ok { OnOk result (ConstrainsEagerly ⟦<D as HasFolding>⟧.folding ctx.now.tree tables.now edges.now op place value constraints.old.items constraints.new.items) }
+    ensures ok { OnOk result (ConstrainsEagerly ⟦<D as HasFolding>⟧.folding ctx.now.tree tables.now edges.now op place
+        value constraints.old.items constraints.new.items) }
     ensures memory { IsOkUnless result OptError.Memory }
 {
     let Some(candidates) = edges.entry_candidates(op) else {
@@ -198,7 +203,8 @@ fn propagate_forwarded_eagerly<D: Dialect>(
     constraints: &mut Vec<Constraint>,
 ) -> Result<(), OptError>
     requires { IsLive ctx.now.tree op }
-    ensures ok { OnOk result (ConstrainsEagerly ⟦<D as HasFolding>⟧.folding ctx.now.tree tables.now edges.now op place value constraints.old.items constraints.new.items) }
+    ensures ok { OnOk result (ConstrainsEagerly ⟦<D as HasFolding>⟧.folding ctx.now.tree tables.now edges.now op place
+        value constraints.old.items constraints.new.items) }
     ensures memory { IsOkUnless result OptError.Memory }
 {
     if !D::is_branch(op, ctx) {
@@ -226,7 +232,8 @@ fn propagate_eagerly<D: Dialect>(
     constraints: &mut Vec<Constraint>,
 ) -> Result<(), OptError>
     requires { IsLive ctx.now.tree op }
-    ensures ok { OnOk result (ConstrainsEagerly ⟦<D as HasFolding>⟧.folding ctx.now.tree tables.now edges.now op place value constraints.old.items constraints.new.items) }
+    ensures ok { OnOk result (ConstrainsEagerly ⟦<D as HasFolding>⟧.folding ctx.now.tree tables.now edges.now op place
+        value constraints.old.items constraints.new.items) }
     ensures memory { IsOkUnless result OptError.Memory }
 {
     if edges.is_empty() || op.num_operand(ctx) <= FEW_OPERANDS {
@@ -298,8 +305,8 @@ fn add_use<D: Dialect>(
     constraints: &mut Vec<Constraint>,
 ) -> Result<(), OptError>
     requires { IsLive ctx.now.tree op }
-    ensures ok { OnOk result (SchedulesUses ⟦<D as HasFolding>⟧.folding ctx.now.tree tables.now edges.now value (λ k p. (k ≡ op) × (p ≡ place))
-        users.old.keys constraints.old.items users.new.keys constraints.new.items) }
+    ensures ok { OnOk result (SchedulesUses ⟦<D as HasFolding>⟧.folding ctx.now.tree tables.now edges.now value
+        (λ k p. (k ≡ op) × (p ≡ place)) users.old.keys constraints.old.items users.new.keys constraints.new.items) }
     ensures memory { IsOkUnless result OptError.Memory }
 {
     if was_visited_since_lowered(op, value, ctx, tables) {
@@ -337,8 +344,8 @@ pub(crate) fn add_uses<D: Dialect>(
     urgent: &mut HashSet<u64>,
     constraints: &mut Vec<Constraint>,
 ) -> Result<(), OptError>
-    ensures ok { OnOk result (SchedulesUses ⟦<D as HasFolding>⟧.folding ctx.now.tree tables.now edges.now value (IsUseOf ctx.now.tree value)
-        users.old.keys constraints.old.items users.new.keys constraints.new.items) }
+    ensures ok { OnOk result (SchedulesUses ⟦<D as HasFolding>⟧.folding ctx.now.tree tables.now edges.now value
+        (IsUseOf ctx.now.tree value) users.old.keys constraints.old.items users.new.keys constraints.new.items) }
     ensures memory { IsOkUnless result OptError.Memory }
 {
     ctx.well_formed();

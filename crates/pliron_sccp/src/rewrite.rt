@@ -101,7 +101,8 @@ fn add_fold<D: Dialect>(
     folds: &mut Folds,
 ) -> Result<(), OptError>
     requires { IsLive ctx.now.tree op }
-    ensures ok { OnOk result (AddsFold ⟦<D as HasFolding>⟧.folding ctx.now.tree (lattice_values_of tables.now) op folds.old folds.new) }
+    ensures ok { OnOk result (AddsFold ⟦<D as HasFolding>⟧.folding ctx.now.tree (lattice_values_of tables.now) op
+        folds.old folds.new) }
     ensures memory { IsOkUnless result OptError.Memory }
 {
     if is_folded::<D>(op, ctx, tables) {
@@ -121,7 +122,8 @@ pub(crate) fn all_folds<D: Dialect>(
     tables: &Tables,
 ) -> Result<Folds, OptError>
     requires { IsLive ctx.now.tree root }
-    ensures ok { IfOk result (λ folds. AreFolds ⟦<D as HasFolding>⟧.folding ctx.now.tree root (lattice_values_of tables.now) folds) }
+    ensures ok { IfOk result (λ folds. AreFolds ⟦<D as HasFolding>⟧.folding ctx.now.tree root
+        (lattice_values_of tables.now) folds) }
     ensures memory { IsOkUnless result OptError.Memory }
 {
     ctx.well_formed();
@@ -143,7 +145,8 @@ fn add_arguments(
     arguments: &mut Vec<ConstantArgument>,
 ) -> Result<(), OptError>
     requires { IsBlock ctx.now.tree block }
-    ensures ok { OnOk result (AddsKnown ctx.now.tree (lattice_values_of tables.now) block arguments.old.items arguments.new.items) }
+    ensures ok { OnOk result (AddsKnown ctx.now.tree (lattice_values_of tables.now) block arguments.old.items
+        arguments.new.items) }
     ensures memory { IsOkUnless result OptError.Memory }
 {
     if !tables.is_executable(block) {
@@ -166,8 +169,8 @@ pub(crate) fn all_arguments(
     tables: &Tables,
 ) -> Result<Vec<ConstantArgument>, OptError>
     requires { IsLive ctx.now.tree root }
-    ensures ok { IfOk result (λ arguments. AreArguments ctx.now.tree (lattice_values_of tables.now) arguments.items (known_arguments ctx.now.tree root
-        (lattice_values_of tables.now))) }
+    ensures ok { IfOk result (λ arguments. AreArguments ctx.now.tree (lattice_values_of tables.now) arguments.items
+        (known_arguments ctx.now.tree root (lattice_values_of tables.now))) }
     ensures memory { IsOkUnless result OptError.Memory }
 {
     ctx.well_formed();
@@ -193,14 +196,16 @@ pub fn fold_one<D: Dialect, R: Rewriter + Room>(
     known: &[Option<AttrObj>],
     rewriter: &mut R,
 ) -> Result<IRStatus, OptError>
-    requires step { (t₀ : Tree) × (root : ℕ) × (f₀ : LatticeValues) × IsFoldStep ⟦<D as HasFolding>⟧.folding t₀ root f₀ ctx.old.tree op known.now }
-    ensures ok { IfOk result (λ status. D.ConstFoldInterface.outcome ctx.old.tree ctx.new.tree op known.now (Some status)) }
+    requires step { (t₀ : Tree) × (root : ℕ) × (f₀ : LatticeValues) × IsFoldStep ⟦<D as HasFolding>⟧.folding t₀ root f₀
+        ctx.old.tree op known.now }
+    ensures ok { IfOk result (λ status. D.ConstFoldInterface.outcome ctx.old.tree ctx.new.tree op known.now
+        (Some status)) }
     ensures refused { OnErr result (D.ConstFoldInterface.outcome ctx.old.tree ctx.new.tree op known.now None) }
     ensures told { IfOk result (λ status. ReportsCreated status ctx.old.tree ctx.new.tree) }
     ensures stays { (k : ℕ) → IsLive ctx.old.tree k → IsLive ctx.new.tree k }
     ensures memory { IsOkUnless result OptError.Memory }
-    ensures follows { (t₀ : Tree) (root : ℕ) (f₀ : LatticeValues) → IsFoldStep ⟦<D as HasFolding>⟧.folding t₀ root f₀ ctx.old.tree op known.now →
-        Follows ⟦<D as HasFolding>⟧.folding t₀ root f₀ ctx.new.tree }
+    ensures follows { (t₀ : Tree) (root : ℕ) (f₀ : LatticeValues) → IsFoldStep ⟦<D as HasFolding>⟧.folding t₀ root f₀
+        ctx.old.tree op known.now → Follows ⟦<D as HasFolding>⟧.folding t₀ root f₀ ctx.new.tree }
 {
     ctx.well_formed();
     rewriter.set_insertion_point_before_operation(op);
@@ -221,16 +226,20 @@ pub fn fold_all<D: Dialect, R: Rewriter + Room>(
     ctx: &mut Context,
     rewriter: &mut R,
 ) -> Result<IRStatus, OptError>
-    requires steps { (t₀ : Tree) × (root : ℕ) × (f₀ : LatticeValues) × AreFoldSteps ⟦<D as HasFolding>⟧.folding t₀ root f₀ ctx.old.tree folds.now }
-    ensures folded { OnOk result ((t₀ : Tree) (root : ℕ) (f₀ : LatticeValues) → AreFoldSteps ⟦<D as HasFolding>⟧.folding t₀ root f₀ ctx.old.tree folds.now →
-        FoldsInTurn D.ConstFoldInterface.outcome t₀ f₀ (map (λ fold. fold.op) folds.now.rows.items) ctx.old.tree ctx.new.tree) }
-    ensures refused { OnErr result ((t₀ : Tree) (root : ℕ) (f₀ : LatticeValues) → AreFoldSteps ⟦<D as HasFolding>⟧.folding t₀ root f₀ ctx.old.tree folds.now →
-        FoldsPartly D.ConstFoldInterface.outcome t₀ f₀ (map (λ fold. fold.op) folds.now.rows.items) ctx.old.tree ctx.new.tree) }
+    requires steps { (t₀ : Tree) × (root : ℕ) × (f₀ : LatticeValues) × AreFoldSteps ⟦<D as HasFolding>⟧.folding t₀ root
+        f₀ ctx.old.tree folds.now }
+    ensures folded { OnOk result ((t₀ : Tree) (root : ℕ) (f₀ : LatticeValues) → AreFoldSteps ⟦<D as HasFolding>⟧.folding
+        t₀ root f₀ ctx.old.tree folds.now → FoldsInTurn D.ConstFoldInterface.outcome t₀ f₀
+        (map (λ fold. fold.op) folds.now.rows.items) ctx.old.tree ctx.new.tree) }
+    ensures refused { OnErr result ((t₀ : Tree) (root : ℕ) (f₀ : LatticeValues)
+        → AreFoldSteps ⟦<D as HasFolding>⟧.folding t₀ root f₀ ctx.old.tree folds.now
+        → FoldsPartly D.ConstFoldInterface.outcome t₀ f₀ (map (λ fold. fold.op) folds.now.rows.items) ctx.old.tree
+        ctx.new.tree) }
     ensures told { IfOk result (λ status. ReportsCreated status ctx.old.tree ctx.new.tree) }
     ensures stays { (k : ℕ) → IsLive ctx.old.tree k → IsLive ctx.new.tree k }
     ensures memory { IsOkUnless result OptError.Memory }
-    ensures follows { (t₀ : Tree) (root : ℕ) (f₀ : LatticeValues) → AreFoldSteps ⟦<D as HasFolding>⟧.folding t₀ root f₀ ctx.old.tree folds.now →
-        Follows ⟦<D as HasFolding>⟧.folding t₀ root f₀ ctx.new.tree }
+    ensures follows { (t₀ : Tree) (root : ℕ) (f₀ : LatticeValues) → AreFoldSteps ⟦<D as HasFolding>⟧.folding t₀ root f₀
+        ctx.old.tree folds.now → Follows ⟦<D as HasFolding>⟧.folding t₀ root f₀ ctx.new.tree }
 {
     let mut status = IRStatus::Unchanged;
     for i in 0..folds.rows.len() {
@@ -253,15 +262,16 @@ pub fn put_argument<D: Dialect, R: Rewriter + Room>(
     ctx: &mut Context,
     rewriter: &mut R,
 ) -> Result<IRStatus, OptError>
-    requires step { (t₀ : Tree) × (root : ℕ) × (f₀ : LatticeValues) × IsArgumentStep ⟦<D as HasFolding>⟧.folding t₀ root f₀ ctx.old.tree argument.now }
-    ensures ok { IfOk result (λ status. ReplacesArgument D.accepts D.constant_head argument.now.attr argument.now.block argument.now.index
-        ctx.old.tree ctx.new.tree status) }
+    requires step { (t₀ : Tree) × (root : ℕ) × (f₀ : LatticeValues) × IsArgumentStep ⟦<D as HasFolding>⟧.folding t₀ root
+        f₀ ctx.old.tree argument.now }
+    ensures ok { IfOk result (λ status. ReplacesArgument D.accepts D.constant_head argument.now.attr argument.now.block
+        argument.now.index ctx.old.tree ctx.new.tree status) }
     ensures refused { OnErr result (IsSameTree ctx.old.tree ctx.new.tree) }
     ensures told { IfOk result (λ status. ReportsCreated status ctx.old.tree ctx.new.tree) }
     ensures stays { (k : ℕ) → IsLive ctx.old.tree k → IsLive ctx.new.tree k }
     ensures memory { IsOkUnless result OptError.Memory }
-    ensures follows { (t₀ : Tree) (root : ℕ) (f₀ : LatticeValues) → IsArgumentStep ⟦<D as HasFolding>⟧.folding t₀ root f₀ ctx.old.tree argument.now →
-        Follows ⟦<D as HasFolding>⟧.folding t₀ root f₀ ctx.new.tree }
+    ensures follows { (t₀ : Tree) (root : ℕ) (f₀ : LatticeValues) → IsArgumentStep ⟦<D as HasFolding>⟧.folding t₀ root
+        f₀ ctx.old.tree argument.now → Follows ⟦<D as HasFolding>⟧.folding t₀ root f₀ ctx.new.tree }
 {
     let done = replace_argument_by_constant::<D, R>(
         alloc,
@@ -286,18 +296,19 @@ pub fn put_all<D: Dialect, R: Rewriter + Room>(
     ctx: &mut Context,
     rewriter: &mut R,
 ) -> Result<IRStatus, OptError>
-    requires steps { (t₀ : Tree) × (root : ℕ) × (f₀ : LatticeValues) × AreArgumentSteps ⟦<D as HasFolding>⟧.folding t₀ root f₀ ctx.old.tree arguments.now }
-    ensures puts { OnOk result ((t₀ : Tree) (root : ℕ) (f₀ : LatticeValues) → AreArgumentSteps ⟦<D as HasFolding>⟧.folding t₀ root f₀ ctx.old.tree
-        arguments.now → (known : List KnownArgument) → StandForEach t₀ arguments.now known → ctx.new.tree ≡
-        all_put D.accepts D.constant_head known ctx.old.tree) }
-    ensures refused { OnErr result ((t₀ : Tree) (root : ℕ) (f₀ : LatticeValues) →
-        AreArgumentSteps ⟦<D as HasFolding>⟧.folding t₀ root f₀ ctx.old.tree arguments.now → (known : List KnownArgument) →
-        StandForEach t₀ arguments.now known → IsPartlyPut D.accepts D.constant_head known ctx.old.tree ctx.new.tree) }
+    requires steps { (t₀ : Tree) × (root : ℕ) × (f₀ : LatticeValues) × AreArgumentSteps ⟦<D as HasFolding>⟧.folding t₀
+        root f₀ ctx.old.tree arguments.now }
+    ensures puts { OnOk result ((t₀ : Tree) (root : ℕ) (f₀ : LatticeValues) → AreArgumentSteps
+        ⟦<D as HasFolding>⟧.folding t₀ root f₀ ctx.old.tree arguments.now → (known : List KnownArgument)
+        → StandForEach t₀ arguments.now known → ctx.new.tree ≡ all_put D.accepts D.constant_head known ctx.old.tree) }
+    ensures refused { OnErr result ((t₀ : Tree) (root : ℕ) (f₀ : LatticeValues) → AreArgumentSteps
+        ⟦<D as HasFolding>⟧.folding t₀ root f₀ ctx.old.tree arguments.now → (known : List KnownArgument)
+        → StandForEach t₀ arguments.now known → IsPartlyPut D.accepts D.constant_head known ctx.old.tree ctx.new.tree) }
     ensures told { IfOk result (λ status. ReportsCreated status ctx.old.tree ctx.new.tree) }
     ensures stays { (k : ℕ) → IsLive ctx.old.tree k → IsLive ctx.new.tree k }
     ensures memory { IsOkUnless result OptError.Memory }
-    ensures follows { (t₀ : Tree) (root : ℕ) (f₀ : LatticeValues) → AreArgumentSteps ⟦<D as HasFolding>⟧.folding t₀ root f₀ ctx.old.tree arguments.now →
-        Follows ⟦<D as HasFolding>⟧.folding t₀ root f₀ ctx.new.tree }
+    ensures follows { (t₀ : Tree) (root : ℕ) (f₀ : LatticeValues) → AreArgumentSteps ⟦<D as HasFolding>⟧.folding t₀ root
+        f₀ ctx.old.tree arguments.now → Follows ⟦<D as HasFolding>⟧.folding t₀ root f₀ ctx.new.tree }
 {
     let mut status = IRStatus::Unchanged;
     for i in 0..arguments.len() {
@@ -316,15 +327,18 @@ pub fn rewrite<D: Dialect, R: Rewriter + Room>(
     ctx: &mut Context,
     rewriter: &mut R,
 ) -> Result<IRStatus, OptError>
-    requires found { (root : ℕ) × (f : LatticeValues) × IsFound ⟦<D as HasFolding>⟧.folding D.can_fold ctx.old.tree root f found.now }
-    ensures rewritten { OnOk result ((root : ℕ) (f : LatticeValues) → IsFound ⟦<D as HasFolding>⟧.folding D.can_fold ctx.old.tree root f found.now →
-        IsRewritten D.can_fold D.accepts D.constant_head D.ConstFoldInterface.outcome ctx.old.tree root f ctx.new.tree) }
-    ensures refused { OnErr result ((root : ℕ) (f : LatticeValues) → IsFound ⟦<D as HasFolding>⟧.folding D.can_fold ctx.old.tree root f found.now →
-        IsPartlyRewritten D.can_fold D.accepts D.constant_head D.ConstFoldInterface.outcome ctx.old.tree root f ctx.new.tree) }
+    requires found { (root : ℕ) × (f : LatticeValues) × IsFound ⟦<D as HasFolding>⟧.folding D.can_fold ctx.old.tree root
+        f found.now }
+    ensures rewritten { OnOk result ((root : ℕ) (f : LatticeValues) → IsFound ⟦<D as HasFolding>⟧.folding D.can_fold
+        ctx.old.tree root f found.now → IsRewritten D.can_fold D.accepts D.constant_head D.ConstFoldInterface.outcome
+        ctx.old.tree root f ctx.new.tree) }
+    ensures refused { OnErr result ((root : ℕ) (f : LatticeValues) → IsFound ⟦<D as HasFolding>⟧.folding D.can_fold
+        ctx.old.tree root f found.now → IsPartlyRewritten D.can_fold D.accepts D.constant_head
+        D.ConstFoldInterface.outcome ctx.old.tree root f ctx.new.tree) }
     ensures told { IfOk result (λ status. ReportsChange (Some status) ctx.old.tree ctx.new.tree) }
     ensures memory { IsOkUnless result OptError.Memory }
-    ensures follows { (root : ℕ) (f : LatticeValues) → IsFound ⟦<D as HasFolding>⟧.folding D.can_fold ctx.old.tree root f found.now →
-        Follows ⟦<D as HasFolding>⟧.folding ctx.old.tree root f ctx.new.tree }
+    ensures follows { (root : ℕ) (f : LatticeValues) → IsFound ⟦<D as HasFolding>⟧.folding D.can_fold ctx.old.tree root
+        f found.now → Follows ⟦<D as HasFolding>⟧.folding ctx.old.tree root f ctx.new.tree }
 {
     ctx.well_formed();
     let mut status = fold_all::<D, R>(alloc, &found.folds, ctx, rewriter)?;

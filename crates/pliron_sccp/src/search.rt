@@ -92,7 +92,8 @@ fn take_values<D: Dialect>(
     edges: &FeasibleEdges,
     urgent: &mut HashSet<u64>,
 ) -> Result<(IndexSet<Ptr<Operation>>, Vec<Constraint>, u128), OptError>
-    ensures ok { IfOk result (λ r. PopsUsers ⟦<D as HasFolding>⟧.folding ctx.now.tree edges.now r.0.keys r.1.items tables.old tables.new r.2) }
+    ensures ok { IfOk result (λ r. PopsUsers ⟦<D as HasFolding>⟧.folding ctx.now.tree edges.now r.0.keys r.1.items
+        tables.old tables.new r.2) }
     ensures memory { IsOkUnless result OptError.Memory }
 {
     let mut users = IndexSet::new(alloc);
@@ -143,8 +144,10 @@ fn visit_operation<D: Dialect>(
     requires none { feasible.old ≡ None }
     requires entered { AreEntriesExecutable ctx.now.tree (lattice_values_of tables.old) scratch.old.entered }
     ensures ok { OnOk result (VisitsOperation ⟦<D as HasFolding>⟧.folding ctx.now.tree op tables.old tables.new) }
-    ensures feasible { OnOk result (AreFound ⟦<D as HasFolding>⟧.folding ctx.now.tree (lattice_values_of tables.old) op feasible.new) }
-    ensures entered { OnOk result (AreEntriesExecutable ctx.now.tree (lattice_values_of tables.new) scratch.new.entered) }
+    ensures feasible { OnOk result (AreFound ⟦<D as HasFolding>⟧.folding ctx.now.tree (lattice_values_of tables.old) op
+        feasible.new) }
+    ensures entered { OnOk result (AreEntriesExecutable ctx.now.tree (lattice_values_of tables.new)
+        scratch.new.entered) }
     ensures memory { IsOkUnless result OptError.Memory }
 {
     constraints_of::<D>(alloc, op, ctx, tables, scratch, feasible)?;
@@ -168,7 +171,8 @@ fn visit_with_scratch<D: Dialect>(
     requires targets { HasNumberedTargets ctx.now.tree tables.old op }
     requires entered { AreEntriesExecutable ctx.now.tree (lattice_values_of tables.old) scratch.old.entered }
     ensures ok { OnOk result (VisitsOperation ⟦<D as HasFolding>⟧.folding ctx.now.tree op tables.old tables.new) }
-    ensures entered { OnOk result (AreEntriesExecutable ctx.now.tree (lattice_values_of tables.new) scratch.new.entered) }
+    ensures entered { OnOk result (AreEntriesExecutable ctx.now.tree (lattice_values_of tables.new)
+        scratch.new.entered) }
     ensures memory { IsOkUnless result OptError.Memory }
 {
     let mut feasible = None;
@@ -229,9 +233,12 @@ fn visit_and_keep<D: Dialect>(
     requires live { IsLive ctx.now.tree op }
     requires targets { HasNumberedTargets ctx.now.tree tables.old op }
     requires entered { AreEntriesExecutable ctx.now.tree (lattice_values_of tables.old) scratch.old.entered }
-    ensures visit_stamps { OnOk result (VisitsOperation ⟦<D as HasFolding>⟧.folding ctx.now.tree op tables.old tables.new) }
-    ensures keeps { OnOk result (KeepsFeasible ⟦<D as HasFolding>⟧.folding ctx.now.tree (lattice_values_of tables.old) op edges.old edges.new) }
-    ensures entered { OnOk result (AreEntriesExecutable ctx.now.tree (lattice_values_of tables.new) scratch.new.entered) }
+    ensures visit_stamps { OnOk result (VisitsOperation ⟦<D as HasFolding>⟧.folding ctx.now.tree op tables.old
+        tables.new) }
+    ensures keeps { OnOk result (KeepsFeasible ⟦<D as HasFolding>⟧.folding ctx.now.tree (lattice_values_of tables.old)
+        op edges.old edges.new) }
+    ensures entered { OnOk result (AreEntriesExecutable ctx.now.tree (lattice_values_of tables.new)
+        scratch.new.entered) }
     ensures memory { IsOkUnless result OptError.Memory }
 {
     let mut feasible = None;
@@ -254,8 +261,10 @@ fn visit_or_defer<D: Dialect>(
     requires live { IsLive ctx.now.tree op }
     requires targets { HasNumberedTargets ctx.now.tree tables.old op }
     requires entered { AreEntriesExecutable ctx.now.tree (lattice_values_of tables.old) scratch.old.entered }
-    ensures ok { OnOk result (IsVisitedOrDeferred ⟦<D as HasFolding>⟧.folding ctx.now.tree op tables.old tables.new delays.old delays.new) }
-    ensures entered { OnOk result (AreEntriesExecutable ctx.now.tree (lattice_values_of tables.new) scratch.new.entered) }
+    ensures ok { OnOk result (IsVisitedOrDeferred ⟦<D as HasFolding>⟧.folding ctx.now.tree op tables.old tables.new
+        delays.old delays.new) }
+    ensures entered { OnOk result (AreEntriesExecutable ctx.now.tree (lattice_values_of tables.new)
+        scratch.new.entered) }
     ensures memory { IsOkUnless result OptError.Memory }
 {
     let operands = op.num_operand(ctx);
@@ -280,8 +289,10 @@ fn visit_or_defer_all<D: Dialect>(
     requires live { (k : ℕ) → In k ops.now → IsLive ctx.now.tree k }
     requires targets { (k : ℕ) → In k ops.now → HasNumberedTargets ctx.now.tree tables.old k }
     requires entered { AreEntriesExecutable ctx.now.tree (lattice_values_of tables.old) scratch.old.entered }
-    ensures ok { OnOk result (VisitsOrDefersAll ⟦<D as HasFolding>⟧.folding ctx.now.tree ops.now tables.old tables.new delays.old delays.new) }
-    ensures entered { OnOk result (AreEntriesExecutable ctx.now.tree (lattice_values_of tables.new) scratch.new.entered) }
+    ensures ok { OnOk result (VisitsOrDefersAll ⟦<D as HasFolding>⟧.folding ctx.now.tree ops.now tables.old tables.new
+        delays.old delays.new) }
+    ensures entered { OnOk result (AreEntriesExecutable ctx.now.tree (lattice_values_of tables.new)
+        scratch.new.entered) }
     ensures memory { IsOkUnless result OptError.Memory }
 {
     for i in 0..ops.len() {
@@ -304,8 +315,10 @@ fn visit_block<D: Dialect>(
     requires block { IsBlock ctx.now.tree block }
     requires targets { (k : ℕ) → In k (body_of ctx.now.tree block) → HasNumberedTargets ctx.now.tree tables.old k }
     requires entered { AreEntriesExecutable ctx.now.tree (lattice_values_of tables.old) scratch.old.entered }
-    ensures ok { OnOk result (VisitsInTurnAndKeeps ⟦<D as HasFolding>⟧.folding ctx.now.tree (body_of ctx.now.tree block) tables.old tables.new edges.old edges.new) }
-    ensures entered { OnOk result (AreEntriesExecutable ctx.now.tree (lattice_values_of tables.new) scratch.new.entered) }
+    ensures ok { OnOk result (VisitsInTurnAndKeeps ⟦<D as HasFolding>⟧.folding ctx.now.tree (body_of ctx.now.tree block)
+        tables.old tables.new edges.old edges.new) }
+    ensures entered { OnOk result (AreEntriesExecutable ctx.now.tree (lattice_values_of tables.new)
+        scratch.new.entered) }
     ensures memory { IsOkUnless result OptError.Memory }
 {
     ctx.well_formed();
@@ -329,8 +342,10 @@ fn visit_values<D: Dialect>(
 ) -> Result<u128, OptError>
     requires targets { AreTargetsNumbered ctx.now.tree tables.old }
     requires entered { AreEntriesExecutable ctx.now.tree (lattice_values_of tables.old) scratch.old.entered }
-    ensures ok { IfOk result (λ taken. VisitsValues ⟦<D as HasFolding>⟧.folding ctx.now.tree edges.now tables.old tables.new delays.old delays.new taken) }
-    ensures entered { OnOk result (AreEntriesExecutable ctx.now.tree (lattice_values_of tables.new) scratch.new.entered) }
+    ensures ok { IfOk result (λ taken. VisitsValues ⟦<D as HasFolding>⟧.folding ctx.now.tree edges.now tables.old
+        tables.new delays.old delays.new taken) }
+    ensures entered { OnOk result (AreEntriesExecutable ctx.now.tree (lattice_values_of tables.new)
+        scratch.new.entered) }
     ensures memory { IsOkUnless result OptError.Memory }
 {
     ctx.well_formed();
@@ -362,8 +377,10 @@ fn step<D: Dialect>(
     requires blocks { (b : ℕ) → is_block_on_worklist tables.old b ≡ true → IsBlock ctx.now.tree b }
     requires targets { AreTargetsNumbered ctx.now.tree tables.old }
     requires entered { AreEntriesExecutable ctx.now.tree (lattice_values_of tables.old) scratch.old.entered }
-    ensures ok { IfOk result (λ taken. TakesTurn ⟦<D as HasFolding>⟧.folding ctx.now.tree tables.old tables.new delays.old delays.new edges.old edges.new taken) }
-    ensures entered { OnOk result (AreEntriesExecutable ctx.now.tree (lattice_values_of tables.new) scratch.new.entered) }
+    ensures ok { IfOk result (λ taken. TakesTurn ⟦<D as HasFolding>⟧.folding ctx.now.tree tables.old tables.new
+        delays.old delays.new edges.old edges.new taken) }
+    ensures entered { OnOk result (AreEntriesExecutable ctx.now.tree (lattice_values_of tables.new)
+        scratch.new.entered) }
     ensures memory { IsOkUnless result OptError.Memory }
 {
     ctx.well_formed();
@@ -389,8 +406,10 @@ fn visit_deferred<D: Dialect>(
     requires placed { (k : ℕ) → In k (deferred_operations delays.old) → WasVisited ctx.now.tree tables.old k }
     requires targets { AreTargetsNumbered ctx.now.tree tables.old }
     requires entered { AreEntriesExecutable ctx.now.tree (lattice_values_of tables.old) scratch.old.entered }
-    ensures ok { IfOk result (λ looked. VisitsDeferred ⟦<D as HasFolding>⟧.folding ctx.now.tree tables.old tables.new delays.old delays.new edges.old edges.new looked) }
-    ensures entered { OnOk result (AreEntriesExecutable ctx.now.tree (lattice_values_of tables.new) scratch.new.entered) }
+    ensures ok { IfOk result (λ looked. VisitsDeferred ⟦<D as HasFolding>⟧.folding ctx.now.tree tables.old tables.new
+        delays.old delays.new edges.old edges.new looked) }
+    ensures entered { OnOk result (AreEntriesExecutable ctx.now.tree (lattice_values_of tables.new)
+        scratch.new.entered) }
     ensures memory { IsOkUnless result OptError.Memory }
 {
     ctx.well_formed();

@@ -1,5 +1,5 @@
-//! `sccp_through` on all texts: it leaves and answers what `sccp` does, and each change comes through the rewriter, which was asked
-//! for room before.
+//! `sccp_through` on all texts: it leaves and answers what `sccp` does, and each change comes through the rewriter,
+//! which was asked for room before.
 use super::cases::{HOSTILE, ROWS};
 use super::random_cases::MADE;
 use pliron_bench::Bench;

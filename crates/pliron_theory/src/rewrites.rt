@@ -64,8 +64,10 @@ pub fn replace_result_by_constant<D: Dialect, R: Rewriter + Room>(
     requires live { IsLive ctx.old.tree op }
     requires placed { IsSome (parent_of ctx.old.tree op) }
     requires index { index < length (results_of ctx.old.tree op) }
-    requires constant { (v : ℕ) → slice_get (results_of ctx.old.tree op) index ≡ Some v → IsConstant D.meaning ctx.old.tree v attr.now }
-    ensures ok { IfOk result (λ status. ReplacesResult D.accepts D.constant_head attr.now op index ctx.old.tree ctx.new.tree status) }
+    requires constant { (v : ℕ) → slice_get (results_of ctx.old.tree op) index ≡ Some v → IsConstant D.meaning
+        ctx.old.tree v attr.now }
+    ensures ok { IfOk result (λ status. ReplacesResult D.accepts D.constant_head attr.now op index ctx.old.tree
+        ctx.new.tree status) }
     ensures refused { OnErr result (IsSameTree ctx.old.tree ctx.new.tree) }
     ensures memory { IsOkUnless result OptError.Memory }
     ensures runs { KeepsRuns D.meaning ctx.old.tree ctx.new.tree }
@@ -94,8 +96,10 @@ pub fn replace_argument_by_constant<D: Dialect, R: Rewriter + Room>(
 ) -> Result<IRStatus, OptError>
     requires block { IsBlock ctx.old.tree block }
     requires index { index < length (arguments_of ctx.old.tree block) }
-    requires constant { (v : ℕ) → slice_get (arguments_of ctx.old.tree block) index ≡ Some v → IsConstant D.meaning ctx.old.tree v attr.now }
-    ensures ok { IfOk result (λ status. ReplacesArgument D.accepts D.constant_head attr.now block index ctx.old.tree ctx.new.tree status) }
+    requires constant { (v : ℕ) → slice_get (arguments_of ctx.old.tree block) index ≡ Some v → IsConstant D.meaning
+        ctx.old.tree v attr.now }
+    ensures ok { IfOk result (λ status. ReplacesArgument D.accepts D.constant_head attr.now block index ctx.old.tree
+        ctx.new.tree status) }
     ensures refused { OnErr result (IsSameTree ctx.old.tree ctx.new.tree) }
     ensures memory { IsOkUnless result OptError.Memory }
     ensures runs { KeepsRuns D.meaning ctx.old.tree ctx.new.tree }
@@ -117,9 +121,10 @@ fn replace_by_constant<D: Dialect, R: Rewriter + Room>(
 ) -> Result<IRStatus, OptError>
     requires old { IsDefined ctx.old.tree old }
     requires point { IsPoint ctx.old.tree (R.point rewriter.old) }
-    requires keeps { IsTrue (D.accepts attr.now) → PutKeepsRuns D.meaning ctx.old.tree (R.point rewriter.old) old (D.constant_head attr.now) }
-    ensures ok { IfOk result (λ status. BecomesIfAccepted D.accepts attr.now (materialised_at ctx.old.tree (R.point rewriter.old) old
-        (D.constant_head attr.now)) ctx.old.tree ctx.new.tree status) }
+    requires keeps { IsTrue (D.accepts attr.now) → PutKeepsRuns D.meaning ctx.old.tree (R.point rewriter.old) old
+        (D.constant_head attr.now) }
+    ensures ok { IfOk result (λ status. BecomesIfAccepted D.accepts attr.now (materialised_at ctx.old.tree
+        (R.point rewriter.old) old (D.constant_head attr.now)) ctx.old.tree ctx.new.tree status) }
     ensures refused { OnErr result (IsSameTree ctx.old.tree ctx.new.tree) }
     ensures memory { IsOkUnless result OptError.Memory }
     ensures runs { KeepsRuns D.meaning ctx.old.tree ctx.new.tree }

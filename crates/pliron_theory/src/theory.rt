@@ -32,8 +32,8 @@ pub fn fewer_roots_kept()
 /// The laws of a dialect on runs, those of the calls below that name it, hold whatever heads are chosen
 /// to be those of roots.
 pub fn roots_may_be_chosen<D: Dialect>()
-    ensures { ChosenRootsLaw D.meaning D.can_fold D.can_fold_branch D.constants D.feasible D.shortened D.removable D.ConstFoldInterface.outcome
-        D.BranchOpFoldInterface.outcome }
+    ensures { ChosenRootsLaw D.meaning D.can_fold D.can_fold_branch D.constants D.feasible D.shortened D.removable
+        D.ConstFoldInterface.outcome D.BranchOpFoldInterface.outcome }
 {}
 
 /// In a root that is fit to run, each operand has a datum when an operation first reads it.

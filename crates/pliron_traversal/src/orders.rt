@@ -42,7 +42,8 @@ fn find_walks<C, G: ControlFlowGraph<C>, S: ListedSet<G::Node>>(
     graph: &G,
 ) -> Result<Vec<Vec<G::Node>>, OptError>
     requires { G.is_lawful graph.now ctx.now }
-    ensures found { IfOk result (λ r. AreFoundWalks G.Node.eq (G.graph graph.now ctx.now) (map (λ w. w.items) r.items)) }
+    ensures found { IfOk result (λ r. AreFoundWalks G.Node.eq (G.graph graph.now ctx.now)
+        (map (λ w. w.items) r.items)) }
     ensures memory { IsOkUnless result OptError.Memory }
 {
     let mut seen = S::empty(alloc);
@@ -67,7 +68,8 @@ fn named_walks<N: Copy>(
     walks: &[Vec<u32>],
 ) -> Result<Vec<Vec<N>>, OptError>
     requires { All (λ w. All (λ k. k < length nodes.now) w.items) walks.now }
-    ensures named { IfOk result (λ r. AreNamedLists nodes.now (map (λ w. w.items) walks.now) (map (λ w. w.items) r.items)) }
+    ensures named { IfOk result (λ r. AreNamedLists nodes.now (map (λ w. w.items) walks.now)
+        (map (λ w. w.items) r.items)) }
     ensures memory { IsOkUnless result OptError.Memory }
 {
     let mut all = Vec::with_capacity(alloc, walks.len())?;
@@ -90,7 +92,8 @@ pub fn topological_order_by_component<C, G: ControlFlowGraph<C>>(
     graph: &G,
 ) -> Result<Vec<Vec<G::Node>>, OptError>
     requires { G.is_lawful graph.now ctx.now }
-    ensures walks { IfOk result (λ r. AreReversedWalks G.Node.eq (G.graph graph.now ctx.now) (map (λ w. w.items) r.items)) }
+    ensures walks { IfOk result (λ r. AreReversedWalks G.Node.eq (G.graph graph.now ctx.now)
+        (map (λ w. w.items) r.items)) }
     ensures memory { IsOkUnless result OptError.Memory }
 {
     let mut walks = post_order_by_component(alloc, ctx, graph)?;

@@ -54,7 +54,8 @@ pub fn walk<C, G: ControlFlowGraph<C>, S: ListedSet<G::Node>>(
     requires lawful { G.is_lawful graph.now ctx.now }
     requires member { Contains (G.graph graph.now ctx.now).nodes root }
     requires unseen { list_any (G.Node.eq root) (S.listed seen.old) ≡ false }
-    ensures grew { OnOk result (Grew G.Node.eq (G.graph graph.now ctx.now) (root ∷ []) (S.listed seen.old) post.old.items (S.listed seen.new) post.new.items) }
+    ensures grew { OnOk result (Grew G.Node.eq (G.graph graph.now ctx.now) (root ∷ []) (S.listed seen.old)
+        post.old.items (S.listed seen.new) post.new.items) }
     ensures memory { IsOkUnless result OptError.Memory }
 {
     let mut stack = Vec::new(alloc);
@@ -77,7 +78,8 @@ pub fn walk_over<C, G: ControlFlowGraph<C>, S: ListedSet<G::Node>>(
     requires member { Contains (G.graph graph.now ctx.now).nodes root }
     requires unseen { list_any (G.Node.eq root) (S.listed seen.old) ≡ false }
     requires empty { stack.old.items ≡ [] }
-    ensures grew { OnOk result (Grew G.Node.eq (G.graph graph.now ctx.now) (root ∷ []) (S.listed seen.old) post.old.items (S.listed seen.new) post.new.items) }
+    ensures grew { OnOk result (Grew G.Node.eq (G.graph graph.now ctx.now) (root ∷ []) (S.listed seen.old)
+        post.old.items (S.listed seen.new) post.new.items) }
     ensures empty { OnOk result (stack.new.items ≡ []) }
     ensures memory { IsOkUnless result OptError.Memory }
 {

@@ -30,7 +30,8 @@ fn answer_without_constants<D: Dialect>(
 ) -> Result<Option<AttrObj>, OptError>
     requires live { IsLive ctx.now.tree op }
     requires folds { HeadPasses D.can_fold ctx.now.tree op }
-    ensures ok { IfOk result (λ attr. attr ≡ answered_for D.meaning D.constants ctx.now.tree (op_at ctx.now.tree op) index) }
+    ensures ok { IfOk result (λ attr. attr ≡ answered_for D.meaning D.constants ctx.now.tree (op_at ctx.now.tree op)
+        index) }
     ensures memory { IsOkUnless result OptError.Memory }
 {
     let nothing = nothing_known(alloc, op.num_operand(ctx))?;
@@ -49,7 +50,8 @@ fn known_of<D: Dialect>(
     ctx: &Context,
 ) -> Result<Option<AttrObj>, OptError>
     requires { IsDefined ctx.now.tree value }
-    ensures ok { IfOk result (λ attr. attr ≡ constant_of D.meaning D.can_fold D.constants ctx.now.tree (definition_of ctx.now.tree value)) }
+    ensures ok { IfOk result (λ attr. attr ≡ constant_of D.meaning D.can_fold D.constants ctx.now.tree
+        (definition_of ctx.now.tree value)) }
     ensures memory { IsOkUnless result OptError.Memory }
 {
     ctx.well_formed();

@@ -34,8 +34,10 @@ fn forward_uses<D: Dialect, R: Rewriter + Room>(
     pair: &Pair,
     rewriter: &mut R,
 ) -> Result<(), OptError>
-    requires pair { IsMergeable D.meaning ctx.old.tree pair.now.first pair.now.second pair.now.jump pair.now.values.items }
-    ensures ok { OnOk result (ctx.new.tree ≡ forwarded_uses ctx.old.tree (arguments_of ctx.old.tree pair.now.second) pair.now.values.items) }
+    requires pair { IsMergeable D.meaning ctx.old.tree pair.now.first pair.now.second pair.now.jump
+        pair.now.values.items }
+    ensures ok { OnOk result (ctx.new.tree ≡ forwarded_uses ctx.old.tree (arguments_of ctx.old.tree pair.now.second)
+        pair.now.values.items) }
     ensures refused { OnErr result ((n : ℕ) × (ctx.new.tree ≡ forwarded_uses ctx.old.tree (take n
         (arguments_of ctx.old.tree pair.now.second)) pair.now.values.items)) }
     ensures memory { IsOkUnless result OptError.Memory }
@@ -98,11 +100,15 @@ pub(crate) fn merge_pair<D: Dialect, R: Rewriter + Room>(
     pair: &Pair,
     rewriter: &mut R,
 ) -> Result<(), OptError>
-    requires pair { IsMergeable D.meaning ctx.old.tree pair.now.first pair.now.second pair.now.jump pair.now.values.items }
-    requires linked { (holder : ℕ) → block_parent_operation_of ctx.old.tree pair.now.first ≡ Some holder → IsWellLinked D.meaning ctx.old.tree holder }
-    ensures ok { OnOk result (ctx.new.tree ≡ after_merging ctx.old.tree pair.now.first pair.now.second pair.now.jump pair.now.values.items) }
+    requires pair { IsMergeable D.meaning ctx.old.tree pair.now.first pair.now.second pair.now.jump
+        pair.now.values.items }
+    requires linked { (holder : ℕ) → block_parent_operation_of ctx.old.tree pair.now.first ≡ Some holder
+        → IsWellLinked D.meaning ctx.old.tree holder }
+    ensures ok { OnOk result (ctx.new.tree ≡ after_merging ctx.old.tree pair.now.first pair.now.second pair.now.jump
+        pair.now.values.items) }
     ensures well { OnOk result (JoinsWell D.meaning (forwarded_uses ctx.old.tree
-        (arguments_of ctx.old.tree pair.now.second) pair.now.values.items) pair.now.first pair.now.second pair.now.jump) }
+        (arguments_of ctx.old.tree pair.now.second) pair.now.values.items) pair.now.first pair.now.second
+        pair.now.jump) }
     ensures refused { OnErr result ((n : ℕ) × (ctx.new.tree ≡ forwarded_uses ctx.old.tree (take n
         (arguments_of ctx.old.tree pair.now.second)) pair.now.values.items)) }
     ensures memory { IsOkUnless result OptError.Memory }

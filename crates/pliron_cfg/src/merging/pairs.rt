@@ -41,7 +41,8 @@ fn is_entry(block: Ptr<BasicBlock>, ctx: &Context) -> bool
 fn has_no_other_way(block: Ptr<BasicBlock>, jump: Ptr<Operation>, ctx: &Context) -> bool
     requires block { IsBlock ctx.now.tree block }
     requires goes { successors_of ctx.now.tree jump ≡ block ∷ [] }
-    requires edges { (holder : ℕ) → block_parent_operation_of ctx.now.tree block ≡ Some holder → EdgesLast ctx.now.tree holder }
+    requires edges { (holder : ℕ) → block_parent_operation_of ctx.now.tree block ≡ Some holder → EdgesLast ctx.now.tree
+        holder }
     ensures { IsTrue result ↔ (length (preds_of ctx.now.tree block) ≡ 1) }
 {
     ctx.well_formed();
@@ -51,7 +52,8 @@ fn has_no_other_way(block: Ptr<BasicBlock>, jump: Ptr<Operation>, ctx: &Context)
 // The jump that ends the block, and the block that it leads to alone, where nothing else leads.
 fn only_way<D: Dialect>(first: Ptr<BasicBlock>, ctx: &Context) -> Option<Way>
     requires block { IsBlock ctx.now.tree first }
-    requires edges { (holder : ℕ) → block_parent_operation_of ctx.now.tree first ≡ Some holder → EdgesLast ctx.now.tree holder }
+    requires edges { (holder : ℕ) → block_parent_operation_of ctx.now.tree first ≡ Some holder → EdgesLast ctx.now.tree
+        holder }
     ensures { MatchOption result ((b jump : ℕ) → IsOnlyWay D.meaning ctx.now.tree first b jump →
         ⊥) (λ way. IsOnlyWay D.meaning ctx.now.tree first way.second way.jump) }
 {
@@ -92,9 +94,11 @@ pub(crate) fn find_pair<D: Dialect>(
     ctx: &Context,
 ) -> Result<Option<Pair>, OptError>
     requires block { IsBlock ctx.now.tree first }
-    requires edges { (holder : ℕ) → block_parent_operation_of ctx.now.tree first ≡ Some holder → EdgesLast ctx.now.tree holder }
-    ensures ok { IfOk result (λ found. MatchOption found ((b jump : ℕ) (values : List ℕ) → IsMergeable D.meaning ctx.now.tree first b jump values →
-        ⊥) (λ pair. IsMergeable D.meaning ctx.now.tree first pair.second pair.jump pair.values.items × (pair.first ≡ first))) }
+    requires edges { (holder : ℕ) → block_parent_operation_of ctx.now.tree first ≡ Some holder → EdgesLast ctx.now.tree
+        holder }
+    ensures ok { IfOk result (λ found. MatchOption found ((b jump : ℕ) (values : List ℕ) → IsMergeable D.meaning
+        ctx.now.tree first b jump values → ⊥) (λ pair. IsMergeable D.meaning ctx.now.tree first pair.second pair.jump
+        pair.values.items × (pair.first ≡ first))) }
     ensures memory { IsOkUnless result OptError.Memory }
 {
     ctx.well_formed();

@@ -73,7 +73,8 @@ pub(crate) fn push_inner_blocks(
     blocks: &mut Vec<Ptr<BasicBlock>>,
 ) -> Result<(), OptError>
     requires { (k : ℕ) → In k ops.now → IsLive ctx.now.tree k }
-    ensures items { OnOk result (blocks.new.items ≡ blocks.old.items ++ flat_map (λ k. blocks_directly_in ctx.now.tree k) ops.now) }
+    ensures items { OnOk result (blocks.new.items ≡ blocks.old.items ++ flat_map
+        (λ k. blocks_directly_in ctx.now.tree k) ops.now) }
     ensures memory { IsOkUnless result OptError.Memory }
 {
     for op in ops {
@@ -155,7 +156,8 @@ pub(crate) fn blocks_left(
     reached: &IndexSet<Ptr<BasicBlock>>,
 ) -> Result<Vec<Ptr<BasicBlock>>, OptError>
     requires { IsRegion ctx.now.tree region }
-    ensures members { IfOk result (λ r. (b : ℕ) → In b r.items ↔ (In b (layout_of ctx.now.tree region) × (In b reached.now.keys → ⊥))) }
+    ensures members { IfOk result (λ r. (b : ℕ) → In b r.items ↔ (In b (layout_of ctx.now.tree region)
+        × (In b reached.now.keys → ⊥))) }
     ensures distinct { IfOk result (λ r. IsDistinct r.items) }
     ensures memory { IsOkUnless result OptError.Memory }
 {

@@ -50,9 +50,11 @@ pub(crate) fn clear_region<D: Dialect, R: Rewriter + Room>(
     rewriter: &mut R,
 ) -> Result<IRStatus, OptError>
     requires lawful { IsLawfulRegion ctx.old.tree region }
-    requires reached { (b : ℕ) → block_parent_of ctx.old.tree b ≡ Some region → (In b reached.now.keys ↔ IsReachedIn ctx.old.tree region b) }
+    requires reached { (b : ℕ) → block_parent_of ctx.old.tree b ≡ Some region
+        → (In b reached.now.keys ↔ IsReachedIn ctx.old.tree region b) }
     ensures ok { IfOk result (λ status. ClearsRegion D.meaning ctx.old.tree ctx.new.tree region status) }
-    ensures err { IfErr result (λ e. (ctx.new.tree ≡ ctx.old.tree) × ((e ≡ Memory) ⊎ ((e ≡ LiveUse) × HasLiveUse ctx.old.tree region))) }
+    ensures err { IfErr result (λ e. (ctx.new.tree ≡ ctx.old.tree)
+        × ((e ≡ Memory) ⊎ ((e ≡ LiveUse) × HasLiveUse ctx.old.tree region))) }
 {
     ctx.well_formed();
     let blocks = blocks_left(alloc, ctx, region, reached)?;

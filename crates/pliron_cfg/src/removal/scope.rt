@@ -22,7 +22,8 @@ impl RemovalScope {
     pub(crate) fn visits(&self, alloc: Global, ctx: &Context) -> Result<Visits, OptError>
         requires stands { ScopeStands ctx.now.tree self.now }
         requires edges { (holder : ℕ) → IsHolder ctx.now.tree self.now holder → EdgesLast ctx.now.tree holder }
-        ensures visits { IfOk result (λ v. AreVisits ctx.now.tree (start_of self.now ctx.now.tree) v.regions.items v.blocks.items) }
+        ensures visits { IfOk result (λ v. AreVisits ctx.now.tree (start_of self.now ctx.now.tree) v.regions.items
+            v.blocks.items) }
         ensures memory { IsOkUnless result OptError.Memory }
     {
         match *self {

@@ -39,7 +39,8 @@ pub(crate) fn check_values(
 ) -> Result<(), OptError>
     requires { (v : ℕ) → In v values.now → IsDefined ctx.now.tree v }
     ensures ok { OnOk result ((v : ℕ) → In v values.now → IsUsedWithin ctx.now.tree inside.now.keys v) }
-    ensures err { IfErr result (λ e. (e ≡ LiveUse) × ((v : ℕ) × In v values.now × HasUseOutside ctx.now.tree inside.now.keys v)) }
+    ensures err { IfErr result (λ e. (e ≡ LiveUse) × ((v : ℕ) × In v values.now × HasUseOutside ctx.now.tree
+        inside.now.keys v)) }
 {
     for value in values {
         check_value(ctx, *value, inside)?;

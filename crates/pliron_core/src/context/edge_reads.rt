@@ -27,7 +27,8 @@ impl Value {
     pub fn get_use(self, ctx: &Context, i: usize) -> (Ptr<Operation>, usize)
         requires live { IsDefined ctx.now.tree self }
         requires index { i < length (uses_of ctx.now.value_uses self) }
-        ensures listed { slice_get (uses_of ctx.now.value_uses self) i ≡ Some (record { user = result.0; place = result.1 }) }
+        ensures listed { slice_get (uses_of ctx.now.value_uses self) i ≡ Some
+            (record { user = result.0; place = result.1 }) }
         ensures stands { IsLive ctx.now.tree result.0 }
     {
         ctx.well_formed();
@@ -50,7 +51,8 @@ impl Ptr<BasicBlock> {
     pub fn get_use(self, ctx: &Context, i: usize) -> (Ptr<Operation>, usize)
         requires live { IsBlock ctx.now.tree self }
         requires index { i < length (uses_of ctx.now.block_uses self) }
-        ensures listed { slice_get (uses_of ctx.now.block_uses self) i ≡ Some (record { user = result.0; place = result.1 }) }
+        ensures listed { slice_get (uses_of ctx.now.block_uses self) i ≡ Some
+            (record { user = result.0; place = result.1 }) }
         ensures stands { IsLive ctx.now.tree result.0 }
     {
         ctx.well_formed();
@@ -155,7 +157,8 @@ fn edge_source(
 ) -> Option<Ptr<BasicBlock>>
     requires block { IsBlock ctx.now.tree block }
     requires user { IsLive ctx.now.tree user }
-    ensures { MatchOption result ((a : ℕ) → IsSource ctx.now.tree block user a → ⊥) (λ a. IsSource ctx.now.tree block user a) }
+    ensures { MatchOption result ((a : ℕ) → IsSource ctx.now.tree block user a → ⊥)
+        (λ a. IsSource ctx.now.tree block user a) }
 {
     let source = user.get_parent_block(ctx)?;
     let last = source.get_tail(ctx)?;

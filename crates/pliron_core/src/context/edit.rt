@@ -160,7 +160,8 @@ impl BasicBlock {
     pub fn remove_argument(ctx: &mut Context, block: Ptr<BasicBlock>, i: usize)
         requires block { IsBlock ctx.old.tree block }
         requires index { i < length (arguments_of ctx.old.tree block) }
-        requires unused { IfSome (slice_get (arguments_of ctx.old.tree block) i) (λ v. uses_of ctx.old.value_uses v ≡ []) }
+        requires unused { IfSome (slice_get (arguments_of ctx.old.tree block) i)
+            (λ v. uses_of ctx.old.value_uses v ≡ []) }
         ensures { ctx.new ≡ record ctx.old { tree = argument_removed ctx.old.tree block i } }
     {
         ctx.operands.agree();

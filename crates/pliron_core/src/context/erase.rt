@@ -31,7 +31,8 @@ fn bury(ctx: &mut Context, op: Ptr<Operation>)
     requires operands { operands_of ctx.old.tree op ≡ [] }
     requires successors { successors_of ctx.old.tree op ≡ [] }
     requires regions { regions_of ctx.old.tree op ≡ [] }
-    requires unnamed { (x v i : ℕ) → In v (operands_of ctx.old.tree x) → definition_of ctx.old.tree v ≡ Some (Result op i) → ⊥ }
+    requires unnamed { (x v i : ℕ) → In v (operands_of ctx.old.tree x) → definition_of ctx.old.tree v ≡ Some
+        (Result op i) → ⊥ }
     ensures { ctx.new ≡ record ctx.old { tree = after_dismantling ctx.old.tree op } }
 {
     let alloc = ctx.alloc;
@@ -59,7 +60,8 @@ fn remove_block(ctx: &mut Context, block: Ptr<BasicBlock>)
     requires block { IsBlock ctx.old.tree block }
     requires empty { body_of ctx.old.tree block ≡ [] }
     requires not_named { (x : ℕ) → In block (successors_of ctx.old.tree x) → ⊥ }
-    requires unnamed { (x v i : ℕ) → In v (operands_of ctx.old.tree x) → definition_of ctx.old.tree v ≡ Some (Argument block i) → ⊥ }
+    requires unnamed { (x v i : ℕ) → In v (operands_of ctx.old.tree x) → definition_of ctx.old.tree v ≡ Some
+        (Argument block i) → ⊥ }
     ensures { ctx.new ≡ record ctx.old { tree = block_taken_out ctx.old.tree block } }
 {
     ctx.layout.agree();

@@ -65,7 +65,10 @@ pub(crate) fn place_before(
     requires live { IsLive ctx.old.tree op }
     requires free { parent_of ctx.old.tree op ≡ None }
     requires outside { HoldsBlock ctx.old.tree op block → ⊥ }
-    ensures { ctx.new ≡ record ctx.old { tree = after_placing ctx.old.tree op block (put_before at op (body_of ctx.old.tree block)) } }
+    ensures { ctx.new ≡ record ctx.old {
+      tree = after_placing ctx.old.tree op block
+          (put_before at op (body_of ctx.old.tree block));
+    } }
 {
     ctx.order
         .insert_before(block.index(), at.index(), op.index());

@@ -94,15 +94,17 @@ fn memo_when_done() -> Datum
 
 // The first region is visited.
 fn visit(alloc: Global, count: usize, input: &[Datum]) -> Result<Move, AllocError>
-    ensures { IfOk result (λ next. move_of next ≡ Visit 0 (fit_data count (map datum_of_value input.now)) memo_when_done) }
+    ensures { IfOk result (λ next. move_of next ≡ Visit 0 (fit_data count (map datum_of_value input.now))
+        memo_when_done) }
 {
     let values = fit_data(alloc, count, input)?;
     Ok(Move::Visit(0, values, memo_when_done()))
 }
 
 fn func_move(alloc: Global, memo: &Datum, count: usize, input: &[Datum]) -> Result<Move, AllocError>
-    ensures { IfOk result (λ next. move_of next ≡ once (datum_of_value memo.now) (Visit 0 (fit_data count (map datum_of_value input.now)) memo_when_done) (Leave
-        (map datum_of_value input.now))) }
+    ensures { IfOk result (λ next. move_of next ≡ once (datum_of_value memo.now)
+        (Visit 0 (fit_data count (map datum_of_value input.now)) memo_when_done)
+        (Leave (map datum_of_value input.now))) }
 {
     match memo {
         Datum::Empty => visit(alloc, count, input),
@@ -116,7 +118,8 @@ fn scope_move(
     count: usize,
     input: &[Datum],
 ) -> Result<Move, AllocError>
-    ensures { IfOk result (λ next. move_of next ≡ once (datum_of_value memo.now) (Visit 0 (fit_data count (map datum_of_value input.now)) memo_when_done) (Give [])) }
+    ensures { IfOk result (λ next. move_of next ≡ once (datum_of_value memo.now)
+        (Visit 0 (fit_data count (map datum_of_value input.now)) memo_when_done) (Give [])) }
 {
     match memo {
         Datum::Empty => visit(alloc, count, input),
@@ -125,7 +128,8 @@ fn scope_move(
 }
 
 fn read_move(alloc: Global, memo: &Datum, input: &[Datum]) -> Result<Move, AllocError>
-    ensures { IfOk result (λ next. move_of next ≡ once (datum_of_value memo.now) (Emit read_word memo_when_done) (Give (datum_at (map datum_of_value input.now) 0 ∷ []))) }
+    ensures { IfOk result (λ next. move_of next ≡ once (datum_of_value memo.now) (Emit read_word memo_when_done)
+        (Give (datum_at (map datum_of_value input.now) 0 ∷ []))) }
 {
     match memo {
         Datum::Empty => Ok(Move::Emit(word(alloc, "read")?, memo_when_done())),
@@ -137,7 +141,8 @@ fn read_move(alloc: Global, memo: &Datum, input: &[Datum]) -> Result<Move, Alloc
 }
 
 fn print_move(alloc: Global, memo: &Datum, input: &[Datum]) -> Result<Move, AllocError>
-    ensures { IfOk result (λ next. move_of next ≡ once (datum_of_value memo.now) (Emit (JoinOf print_word (datum_at (map datum_of_value input.now) 0)) memo_when_done) (Give [])) }
+    ensures { IfOk result (λ next. move_of next ≡ once (datum_of_value memo.now)
+        (Emit (JoinOf print_word (datum_at (map datum_of_value input.now) 0)) memo_when_done) (Give [])) }
 {
     match memo {
         Datum::Empty => {
@@ -162,22 +167,25 @@ fn const_move(alloc: Global, attrs: &Attrs) -> Result<Move, AllocError>
 }
 
 fn add_move(alloc: Global, input: &[Datum]) -> Result<Move, AllocError>
-    ensures { IfOk result (λ next. move_of next ≡ Give (NumberOf (sum_of (number_at (map datum_of_value input.now) 0) (number_at (map datum_of_value input.now) 1)) ∷ [])) }
+    ensures { IfOk result (λ next. move_of next ≡ Give (NumberOf (sum_of (number_at (map datum_of_value input.now) 0)
+        (number_at (map datum_of_value input.now) 1)) ∷ [])) }
 {
     let number = sum(number_at(input, 0), number_at(input, 1));
     Ok(Move::Give(one_number(alloc, number)?))
 }
 
 fn mul_move(alloc: Global, input: &[Datum]) -> Result<Move, AllocError>
-    ensures { IfOk result (λ next. move_of next ≡ Give (NumberOf (product_of (number_at (map datum_of_value input.now) 0) (number_at
-        (map datum_of_value input.now) 1)) ∷ [])) }
+    ensures { IfOk result (λ next. move_of next ≡ Give
+        (NumberOf (product_of (number_at (map datum_of_value input.now) 0) (number_at (map datum_of_value input.now) 1))
+        ∷ [])) }
 {
     let number = product(number_at(input, 0), number_at(input, 1));
     Ok(Move::Give(one_number(alloc, number)?))
 }
 
 fn div_move(alloc: Global, input: &[Datum]) -> Result<Move, AllocError>
-    ensures { IfOk result (λ next. move_of next ≡ give_or_trap (quotient_of (number_at (map datum_of_value input.now) 0) (number_at (map datum_of_value input.now) 1))) }
+    ensures { IfOk result (λ next. move_of next ≡ give_or_trap (quotient_of (number_at (map datum_of_value input.now) 0)
+        (number_at (map datum_of_value input.now) 1))) }
 {
     match quotient(number_at(input, 0), number_at(input, 1)) {
         Some(number) => Ok(Move::Give(one_number(alloc, number)?)),
@@ -213,8 +221,9 @@ fn values_along<'a>(attrs: &Attrs, edge: usize, values: &'a [Datum]) -> &'a [Dat
 }
 
 fn cbr_move(alloc: Global, attrs: &Attrs, input: &[Datum]) -> Result<Move, AllocError>
-    ensures { IfOk result (λ next. move_of next ≡ Goto (edge_in (number_at (map datum_of_value input.now) 0)) (edge_values (first_count_of attrs.now)
-        (edge_in (number_at (map datum_of_value input.now) 0)) (drop 1 (map datum_of_value input.now)))) }
+    ensures { IfOk result (λ next. move_of next ≡ Goto (edge_in (number_at (map datum_of_value input.now) 0))
+        (edge_values (first_count_of attrs.now) (edge_in (number_at (map datum_of_value input.now) 0))
+        (drop 1 (map datum_of_value input.now)))) }
 {
     let edge = edge_of(number_at(input, 0));
     let values = values_along(attrs, edge, behind_first(input));
@@ -228,8 +237,9 @@ fn fork_move(
     input: &[Datum],
 ) -> Result<Move, AllocError>
     requires { IsLive ctx.now.tree op }
-    ensures { IfOk result (λ next. move_of next ≡ Goto (edge_in (number_at (map datum_of_value input.now) 0)) (replicate (slice_index_or (map
-        (λ b. count_arguments (block_at ctx.now.tree b)) (successors_of ctx.now.tree op)) (edge_in (number_at (map datum_of_value input.now) 0)) 0)
+    ensures { IfOk result (λ next. move_of next ≡ Goto (edge_in (number_at (map datum_of_value input.now) 0))
+        (replicate (slice_index_or (map (λ b. count_arguments (block_at ctx.now.tree b))
+        (successors_of ctx.now.tree op)) (edge_in (number_at (map datum_of_value input.now) 0)) 0)
         (datum_at (map datum_of_value input.now) 0))) }
 {
     let edge = edge_of(number_at(input, 0));

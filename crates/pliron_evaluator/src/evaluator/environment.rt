@@ -19,7 +19,8 @@ pub(super) fn put_first<T: Drop>(items: &mut VecDeque<T>, item: T) -> Result<(),
 
 /// Takes the first item out, if there is one.
 pub(super) fn take_first<T>(items: &mut VecDeque<T>) -> Option<T>
-    ensures { MatchOption result ((items.old.items ≡ []) × (items.new.items ≡ [])) (λ item. items.old.items ≡ item ∷ items.new.items) }
+    ensures { MatchOption result ((items.old.items ≡ []) × (items.new.items ≡ []))
+        (λ item. items.old.items ≡ item ∷ items.new.items) }
 {
     items.pop_front()
 }
@@ -48,7 +49,8 @@ fn bind_one(
     value: Value,
     datum: &Datum,
 ) -> Result<(), AllocError>
-    ensures { OnOk result (environment_of environment.new ≡ environment_with (environment_of environment.old) value (datum_of_value datum.now)) }
+    ensures { OnOk result (environment_of environment.new ≡ environment_with (environment_of environment.old) value
+        (datum_of_value datum.now)) }
 {
     let copy = datum.copy(alloc)?;
     environment.insert(value, copy)?;

@@ -41,7 +41,8 @@ fn numbers_of(alloc: Global, input: &[Datum]) -> Result<Vec<i64>, AllocError>
 
 // What the kind computes of the data.
 fn computed_move<K: Kinds>(alloc: Global, kind: K, input: &[Datum]) -> Result<Move, AllocError>
-    ensures { IfOk result (λ next. move_of next ≡ Give (NumberOf (value_of (K.tables.role_of kind) (map whole_number_of (map datum_of_value input.now))) ∷ [])) }
+    ensures { IfOk result (λ next. move_of next ≡ Give
+        (NumberOf (value_of (K.tables.role_of kind) (map whole_number_of (map datum_of_value input.now))) ∷ [])) }
 {
     let numbers = numbers_of(alloc, input)?;
     let datum = Datum::Number(kind.value(&numbers) as i128);
@@ -61,8 +62,9 @@ fn values_along<'a>(attrs: &Attrs, edge: usize, values: &'a [Datum]) -> &'a [Dat
 }
 
 fn branch_move(alloc: Global, attrs: &Attrs, input: &[Datum]) -> Result<Move, AllocError>
-    ensures { IfOk result (λ next. move_of next ≡ Goto (edge_by_condition (condition_of (map datum_of_value input.now))) (edge_values (first_edge_operands attrs.now)
-        (edge_by_condition (condition_of (map datum_of_value input.now))) (drop 1 (map datum_of_value input.now)))) }
+    ensures { IfOk result (λ next. move_of next ≡ Goto (edge_by_condition (condition_of (map datum_of_value input.now)))
+        (edge_values (first_edge_operands attrs.now) (edge_by_condition (condition_of (map datum_of_value input.now)))
+        (drop 1 (map datum_of_value input.now)))) }
 {
     let edge = choice_by_input(input);
     let values = values_along(attrs, edge, behind_first(input));
@@ -79,8 +81,9 @@ fn act<K: OwnMoves>(
     input: &[Datum],
 ) -> Result<Move, AllocError>
     requires { IsLive ctx.now.tree op }
-    ensures { IfOk result (λ next. (o : OperationRecord) → op_at ctx.now.tree op ≡ Some o → move_of next ≡
-        act_of (K.tables.role_of kind) (shape_of (meaning_by (role_at K.tables)) ctx.now.tree o) (datum_of_value memo.now) (map datum_of_value input.now)) }
+    ensures { IfOk result (λ next. (o : OperationRecord) → op_at ctx.now.tree op ≡ Some o → move_of next ≡ act_of
+        (K.tables.role_of kind) (shape_of (meaning_by (role_at K.tables)) ctx.now.tree o) (datum_of_value memo.now)
+        (map datum_of_value input.now)) }
 {
     match kind.form() {
         Form::Constant => constant_move(alloc, &op.head(ctx).attrs),

@@ -49,8 +49,8 @@ pub trait OwnMoves: Kinds {
         memo: &Datum,
         input: &[Datum],
     ) -> Result<Move, AllocError>
-        ensures { IfOk result (λ next. MovesBy counts.now (move_of next) (λ s. own_act (Self.tables.role_of self) s (datum_of_value memo.now)
-            (map datum_of_value input.now))) };
+        ensures { IfOk result (λ next. MovesBy counts.now (move_of next) (λ s. own_act (Self.tables.role_of self) s
+            (datum_of_value memo.now) (map datum_of_value input.now))) };
 }
 
 // The datum as a number of 64 signed bits, by default 0.
@@ -119,7 +119,8 @@ fn fitted_to(alloc: Global, count: usize, input: &[Datum]) -> Result<Vec<Datum>,
 
 /// The results are given, these values as far as there are results. Errors: allocation failure. Cost: that of copies.
 pub fn give(alloc: Global, counts: &ShapeCounts, values: &[Datum]) -> Result<Move, AllocError>
-    ensures { IfOk result (λ next. MovesBy counts.now (move_of next) (λ s. Give (fit_data s.results (map datum_of_value values.now)))) }
+    ensures { IfOk result (λ next. MovesBy counts.now (move_of next)
+        (λ s. Give (fit_data s.results (map datum_of_value values.now)))) }
 {
     Ok(Move::Give(fitted_to(alloc, counts.results, values)?))
 }
@@ -132,7 +133,8 @@ pub fn visit(
     region: usize,
     values: &[Datum],
 ) -> Result<Move, AllocError>
-    ensures { IfOk result (λ next. MovesBy counts.now (move_of next) (λ s. visit_of region s (map datum_of_value values.now))) }
+    ensures { IfOk result (λ next. MovesBy counts.now (move_of next)
+        (λ s. visit_of region s (map datum_of_value values.now))) }
 {
     let passed = fitted_to(alloc, counts.entry_argument(region), values)?;
     Ok(Move::Visit(region, passed, Datum::Number(1)))
@@ -147,8 +149,8 @@ pub fn visit_and_leave(
     memo: &Datum,
     input: &[Datum],
 ) -> Result<Move, AllocError>
-    ensures { IfOk result (λ next. MovesBy counts.now (move_of next) (λ s. once (datum_of_value memo.now) (visit_of region s (map datum_of_value input.now)) (Leave
-        (map datum_of_value input.now)))) }
+    ensures { IfOk result (λ next. MovesBy counts.now (move_of next) (λ s. once (datum_of_value memo.now)
+        (visit_of region s (map datum_of_value input.now)) (Leave (map datum_of_value input.now)))) }
 {
     match memo {
         Datum::Empty => visit(alloc, counts, region, input),
@@ -164,7 +166,8 @@ pub(super) fn counts_of(
 ) -> Result<ShapeCounts, AllocError>
     requires { IsLive ctx.now.tree op }
     ensures results { IfOk result (λ counts. counts.results ≡ length (results_of ctx.now.tree op)) }
-    ensures entries { IfOk result (λ counts. counts.entry_arguments.items ≡ map (λ r. number_of_arguments (entry_block ctx.now.tree r)) (regions_of ctx.now.tree op)) }
+    ensures entries { IfOk result (λ counts. counts.entry_arguments.items ≡ map
+        (λ r. number_of_arguments (entry_block ctx.now.tree r)) (regions_of ctx.now.tree op)) }
 {
     let mut entry_arguments = Vec::new(alloc);
     for i in 0..op.num_region(ctx) {

@@ -19,7 +19,8 @@ pub(super) fn num_region_argument(ctx: &Context, region: Ptr<Region>) -> usize
 /// How many arguments the entry block of the region with this index has, 0 if there is none.
 pub(super) fn num_entry_argument(ctx: &Context, op: Ptr<Operation>, i: usize) -> usize
     requires { IsLive ctx.now.tree op }
-    ensures { result ≡ slice_index_or (map (λ r. count_arguments (entry_block ctx.now.tree r)) (regions_of ctx.now.tree op)) i 0 }
+    ensures { result ≡ slice_index_or (map (λ r. count_arguments (entry_block ctx.now.tree r))
+        (regions_of ctx.now.tree op)) i 0 }
 {
     if i < op.num_region(ctx) {
         num_region_argument(ctx, op.get_region(ctx, i))
@@ -31,7 +32,8 @@ pub(super) fn num_entry_argument(ctx: &Context, op: Ptr<Operation>, i: usize) ->
 /// How many arguments the successor with this index has, 0 if there is none.
 pub(super) fn num_target_argument(ctx: &Context, op: Ptr<Operation>, i: usize) -> usize
     requires { IsLive ctx.now.tree op }
-    ensures { result ≡ slice_index_or (map (λ b. count_arguments (block_at ctx.now.tree b)) (successors_of ctx.now.tree op)) i 0 }
+    ensures { result ≡ slice_index_or (map (λ b. count_arguments (block_at ctx.now.tree b))
+        (successors_of ctx.now.tree op)) i 0 }
 {
     if i < op.num_successor(ctx) {
         op.get_successor(ctx, i).num_argument(ctx)

@@ -51,7 +51,8 @@ fn trap(state: State) -> Next
 
 // The next operation begins, at its first move.
 fn at_rest(state: State) -> State
-    ensures { state_of result ≡ at_rest (state_of state) (environment_of state.environment) state.rest.items (map waiting_of state.waiting.items) }
+    ensures { state_of result ≡ at_rest (state_of state) (environment_of state.environment) state.rest.items
+        (map waiting_of state.waiting.items) }
 {
     State {
         memo: Datum::Empty,
@@ -62,7 +63,8 @@ fn at_rest(state: State) -> State
 
 // An invocation ends with these values, or the run where no invocation is open.
 fn leave(mut state: State, values: Vec<Datum>) -> Next
-    ensures { next_of_value result ≡ leave (state_of state) (map waiting_of state.waiting.items) (map datum_of_value values.items) }
+    ensures { next_of_value result ≡ leave (state_of state) (map waiting_of state.waiting.items)
+        (map datum_of_value values.items) }
 {
     match take_first(&mut state.waiting) {
         Some(waiting) => Next::Goes(State {
@@ -85,8 +87,9 @@ fn give(
 ) -> Result<Next, AllocError>
     requires live { IsLive ctx.now.tree op }
     requires first { slice_get state.rest.items 0 ≡ Some op }
-    ensures { IfOk result (λ next. next_of_value next ≡ after_giving (state_of state) (drop 1 state.rest.items) (map waiting_of state.waiting.items)
-        (map datum_of_value values.items) (bind (environment_of state.environment) (results_of ctx.now.tree op) (map datum_of_value values.items))) }
+    ensures { IfOk result (λ next. next_of_value next ≡ after_giving (state_of state) (drop 1 state.rest.items)
+        (map waiting_of state.waiting.items) (map datum_of_value values.items) (bind (environment_of state.environment)
+        (results_of ctx.now.tree op) (map datum_of_value values.items))) }
 {
     let results = all_results(alloc, op, ctx)?;
     if !bind(
@@ -113,8 +116,8 @@ fn enter(
     values: Vec<Datum>,
 ) -> Result<Next, AllocError>
     requires { ForSome block (λ b. IsBlock ctx.now.tree b) }
-    ensures { IfOk result (λ next. next_of_value next ≡ enter (state_of state) (and_block ctx.now.tree block) (map datum_of_value values.items)
-        (map waiting_of state.waiting.items)) }
+    ensures { IfOk result (λ next. next_of_value next ≡ enter (state_of state) (and_block ctx.now.tree block)
+        (map datum_of_value values.items) (map waiting_of state.waiting.items)) }
 {
     let Some(block) = block else {
         return Ok(trap(state));
@@ -169,8 +172,9 @@ fn visit(
     memo: Datum,
 ) -> Result<Next, AllocError>
     requires { IsLive ctx.now.tree op }
-    ensures { IfOk result (λ next. next_of_value next ≡ enter (state_of state) (entry_in ctx.now.tree (slice_get (regions_of ctx.now.tree op) i))
-        (map datum_of_value values.items) (record { rest = state.rest.items; memo = datum_of_value memo } ∷ map waiting_of state.waiting.items)) }
+    ensures { IfOk result (λ next. next_of_value next ≡ enter (state_of state)
+        (entry_in ctx.now.tree (slice_get (regions_of ctx.now.tree op) i)) (map datum_of_value values.items)
+        (record { rest = state.rest.items; memo = datum_of_value memo } ∷ map waiting_of state.waiting.items)) }
 {
     let rest = mem::replace(&mut state.rest, VecDeque::new(alloc));
     put_first(&mut state.waiting, Waiting { rest, memo })?;
@@ -187,8 +191,9 @@ fn go_to(
     values: Vec<Datum>,
 ) -> Result<Next, AllocError>
     requires { IsLive ctx.now.tree op }
-    ensures { IfOk result (λ next. next_of_value next ≡ go_to ctx.now.tree (state_of state) (slice_get (successors_of ctx.now.tree op) i)
-        (map datum_of_value values.items) (map waiting_of state.waiting.items)) }
+    ensures { IfOk result (λ next. next_of_value next ≡ go_to ctx.now.tree (state_of state)
+        (slice_get (successors_of ctx.now.tree op) i) (map datum_of_value values.items)
+        (map waiting_of state.waiting.items)) }
 {
     if first(&state.waiting).is_none() {
         return Ok(trap(state));
@@ -198,7 +203,8 @@ fn go_to(
 
 // The effect is emitted, and the environment answers, or the run makes no further move.
 fn emit(alloc: Global, mut state: State, effect: Datum, memo: Datum) -> Result<Next, AllocError>
-    ensures { IfOk result (λ next. next_of_value next ≡ emit (state_of state) (datum_of_value effect) (datum_of_value memo) (map datum_of_value state.world.items)) }
+    ensures { IfOk result (λ next. next_of_value next ≡ emit (state_of state) (datum_of_value effect)
+        (datum_of_value memo) (map datum_of_value state.world.items)) }
 {
     put_first(&mut state.effects, effect)?;
     match take_first(&mut state.world) {
@@ -245,8 +251,8 @@ pub(super) fn input_of(
     op: Ptr<Operation>,
 ) -> Result<Option<Vec<Datum>>, AllocError>
     requires { IsLive ctx.now.tree op }
-    ensures { IfOk result (λ input. answer_of_values input ≡ input_of (environment_of state.now.environment) (operands_of ctx.now.tree op)
-        (answer_of_values state.now.answer)) }
+    ensures { IfOk result (λ input. answer_of_values input ≡ input_of (environment_of state.now.environment)
+        (operands_of ctx.now.tree op) (answer_of_values state.now.answer)) }
 {
     match &state.answer {
         Some(answer) => Ok(Some(all_copies(alloc, answer.as_slice())?)),
@@ -265,7 +271,8 @@ fn turn<D: Evaluate>(
     op: Ptr<Operation>,
 ) -> Result<Next, AllocError>
     requires { slice_get state.rest.items 0 ≡ Some op }
-    ensures { IfOk result (λ after. next_of_value after ≡ turn D.meaning ctx.now.tree (state_of state) op (drop 1 state.rest.items) (op_at ctx.now.tree op)) }
+    ensures { IfOk result (λ after. next_of_value after ≡ turn D.meaning ctx.now.tree (state_of state) op
+        (drop 1 state.rest.items) (op_at ctx.now.tree op)) }
 {
     if !op.is_live(ctx) {
         return Ok(trap(state));
@@ -298,7 +305,8 @@ pub(super) fn start(
     inputs: Vec<Datum>,
     world: Vec<Datum>,
 ) -> Result<State, AllocError>
-    ensures { IfOk result (λ state. state_of state ≡ start root (map datum_of_value inputs.items) (map datum_of_value world.items)) }
+    ensures { IfOk result (λ state. state_of state ≡ start root (map datum_of_value inputs.items)
+        (map datum_of_value world.items)) }
 {
     let mut rest = VecDeque::new(alloc);
     rest.push_back(root)?;

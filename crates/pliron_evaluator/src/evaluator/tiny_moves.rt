@@ -16,7 +16,8 @@ use std::alloc::{AllocError, Global};
 // The datum of the first attribute, by default 0.
 fn constant(alloc: Global, ctx: &Context, op: Ptr<Operation>) -> Result<Datum, AllocError>
     requires { IsLive ctx.now.tree op }
-    ensures { IfOk result (λ datum. ReadsHead (λ h. content_of (first_attribute h.attrs)) ctx.now.tree op (datum_of_value datum)) }
+    ensures { IfOk result (λ datum. ReadsHead (λ h. content_of (first_attribute h.attrs)) ctx.now.tree op
+        (datum_of_value datum)) }
 {
     let attrs = &op.head(ctx).attrs;
     if attrs.is_empty() {
@@ -39,7 +40,8 @@ fn datum_or_empty(alloc: Global, input: &[Datum], i: usize) -> Result<Datum, All
 
 // So many data, cut or filled.
 fn fit_data(alloc: Global, count: usize, input: &[Datum]) -> Result<Vec<Datum>, AllocError>
-    ensures { IfOk result (λ values. map datum_of_value values.items ≡ fitted_or_empty count (map datum_of_value input.now)) }
+    ensures { IfOk result (λ values. map datum_of_value values.items ≡ fitted_or_empty count
+        (map datum_of_value input.now)) }
 {
     let mut data = Vec::new(alloc);
     for i in 0..count {
@@ -66,7 +68,8 @@ fn memo_when_begun() -> Datum
 }
 
 fn ask_move(alloc: Global, memo: &Datum, input: &[Datum]) -> Result<Move, AllocError>
-    ensures { IfOk result (λ next. move_of next ≡ ask_move (has_begun (datum_of_value memo.now)) (map datum_of_value input.now)) }
+    ensures { IfOk result (λ next. move_of next ≡ ask_move (has_begun (datum_of_value memo.now))
+        (map datum_of_value input.now)) }
 {
     let datum = datum_or_empty(alloc, input, 0)?;
     if has_begun(memo) {
@@ -82,7 +85,8 @@ fn scope_move(
     count: usize,
     input: &[Datum],
 ) -> Result<Move, AllocError>
-    ensures { IfOk result (λ next. move_of next ≡ scope_move (has_begun (datum_of_value memo.now)) count (map datum_of_value input.now)) }
+    ensures { IfOk result (λ next. move_of next ≡ scope_move (has_begun (datum_of_value memo.now)) count
+        (map datum_of_value input.now)) }
 {
     if has_begun(memo) {
         Ok(Move::Give(Vec::new(alloc)))
@@ -108,8 +112,8 @@ fn visit_with(
     memo: Datum,
 ) -> Result<Move, AllocError>
     requires { IsLive ctx.now.tree op }
-    ensures { IfOk result (λ next. move_of next ≡ visit_with (map (λ r. count_arguments (entry_block ctx.now.tree r)) (regions_of ctx.now.tree op)) region
-        (datum_of_value datum) (datum_of_value memo)) }
+    ensures { IfOk result (λ next. move_of next ≡ visit_with (map (λ r. count_arguments (entry_block ctx.now.tree r))
+        (regions_of ctx.now.tree op)) region (datum_of_value datum) (datum_of_value memo)) }
 {
     let count = num_entry_argument(ctx, op, region);
     let passed = one(alloc, datum)?;
@@ -124,8 +128,9 @@ fn both_move(
     input: &[Datum],
 ) -> Result<Move, AllocError>
     requires { IsLive ctx.now.tree op }
-    ensures { IfOk result (λ next. move_of next ≡ both_move (datum_of_value memo.now) (map (λ r. count_arguments (entry_block ctx.now.tree r))
-        (regions_of ctx.now.tree op)) (map datum_of_value input.now)) }
+    ensures { IfOk result (λ next. move_of next ≡ both_move (datum_of_value memo.now)
+        (map (λ r. count_arguments (entry_block ctx.now.tree r)) (regions_of ctx.now.tree op))
+        (map datum_of_value input.now)) }
 {
     match memo {
         Datum::Empty => {
@@ -145,8 +150,9 @@ fn twice_move(
     input: &[Datum],
 ) -> Result<Move, AllocError>
     requires { IsLive ctx.now.tree op }
-    ensures { IfOk result (λ next. move_of next ≡ twice_move (datum_of_value memo.now) (map (λ r. count_arguments (entry_block ctx.now.tree r))
-        (regions_of ctx.now.tree op)) (map datum_of_value input.now)) }
+    ensures { IfOk result (λ next. move_of next ≡ twice_move (datum_of_value memo.now)
+        (map (λ r. count_arguments (entry_block ctx.now.tree r)) (regions_of ctx.now.tree op))
+        (map datum_of_value input.now)) }
 {
     match memo {
         Datum::Empty => {

@@ -108,8 +108,8 @@ pub trait Evaluate: HasMeaning {
         input: &[Datum],
     ) -> Result<Move, AllocError>
         requires { IsLive ctx.now.tree op }
-        ensures { IfOk result (λ next. ReadsShape Self.meaning (λ s. Self.meaning.act s (datum_of_value memo.now) (map datum_of_value input.now)) ctx.now.tree op
-            (move_of next)) };
+        ensures { IfOk result (λ next. ReadsShape Self.meaning (λ s. Self.meaning.act s (datum_of_value memo.now)
+            (map datum_of_value input.now)) ctx.now.tree op (move_of next)) };
 }
 
 /// Copies of the data, in order.

@@ -79,7 +79,8 @@ fn push_edges_of(
     text: &mut String,
 ) -> Result<(), OptError>
     requires lawful { AreInverse graph.now.edges }
-    requires search { IsSearch nat_eq (graph_of graph.now.edges) (option_to_list (graph_of graph.now.edges).entry) search.now }
+    requires search { IsSearch nat_eq (graph_of graph.now.edges) (option_to_list (graph_of graph.now.edges).entry)
+        search.now }
     requires member { Contains (graph_of graph.now.edges).nodes node }
     requires reached { IsListed nat_eq search.now.pre node }
 {
@@ -100,7 +101,8 @@ fn push_edges(
     text: &mut String,
 ) -> Result<(), OptError>
     requires lawful { AreInverse graph.now.edges }
-    requires search { IsSearch nat_eq (graph_of graph.now.edges) (option_to_list (graph_of graph.now.edges).entry) search.now }
+    requires search { IsSearch nat_eq (graph_of graph.now.edges) (option_to_list (graph_of graph.now.edges).entry)
+        search.now }
 {
     text.push_str("\nedges:")?;
     for node in &graph.edges.nodes(alloc, &())? {

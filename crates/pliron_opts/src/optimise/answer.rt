@@ -31,8 +31,8 @@ fn run_schedule<D: Dialect>(
     ensures stands { IsLive ctx.new.tree root }
     ensures links { IsWellLinked D.meaning ctx.new.tree root }
     ensures inside { IsInsideChange ctx.old.tree ctx.new.tree root }
-    ensures ran { IfOk result (λ status. RunsAlone ⟦<BenchFactKind as PartialEq>⟧.eq ⟦<Schedule<D, BenchFacts> as Pass>⟧.outcome schedule root
-        ctx.old.tree ctx.new.tree status) }
+    ensures ran { IfOk result (λ status. RunsAlone ⟦<BenchFactKind as PartialEq>⟧.eq ⟦<Schedule<D, BenchFacts> as
+        Pass>⟧.outcome schedule root ctx.old.tree ctx.new.tree status) }
     ensures truly { IfOk result (λ status. status ≡ Unchanged → IsSameTree ctx.old.tree ctx.new.tree) }
 {
     schedules_report_accurately::<D, BenchFacts>();
@@ -59,7 +59,8 @@ pub fn optimise_text<N: Notation>(
     text: &[u8],
 ) -> Result<Option<String>, OptError>
     ensures { IfOk result (λ found. IfSome found (λ answer. IsOptimised N.reads N.prints N.D.meaning
-        (RunsAlone ⟦<BenchFactKind as PartialEq>⟧.eq ⟦<Schedule<N::D, BenchFacts> as Pass>⟧.outcome schedule) text.now (string_bytes answer))) }
+        (RunsAlone ⟦<BenchFactKind as PartialEq>⟧.eq ⟦<Schedule<N::D, BenchFacts> as Pass>⟧.outcome schedule) text.now
+        (string_bytes answer))) }
 {
     let mut ctx = Context::new(alloc);
     optimised_in::<N>(alloc, schedule, text, &mut ctx)
@@ -74,7 +75,8 @@ fn optimised_in<N: Notation>(
 ) -> Result<Option<String>, OptError>
     requires { ctx.old.tree ≡ no_tree }
     ensures { IfOk result (λ found. IfSome found (λ answer. IsOptimised N.reads N.prints N.D.meaning
-        (RunsAlone ⟦<BenchFactKind as PartialEq>⟧.eq ⟦<Schedule<N::D, BenchFacts> as Pass>⟧.outcome schedule) text.now (string_bytes answer))) }
+        (RunsAlone ⟦<BenchFactKind as PartialEq>⟧.eq ⟦<Schedule<N::D, BenchFacts> as Pass>⟧.outcome schedule) text.now
+        (string_bytes answer))) }
 {
     let Some(root) = N::read(alloc, text, ctx)? else {
         return Ok(None);

@@ -19,7 +19,8 @@ pub enum Command<D: Dialect> {
     Graph,
 }
 
-/// Whether the word is the name of a pass in the words of the program, which are fixed: a pipeline of the library has more.
+/// Whether the word is the name of a pass in the words of the program, which are fixed: a pipeline of the library has
+/// more.
 fn is_word(name: &str) -> bool {
     matches!(name, "sccp" | "dce" | "simplify-cfg")
 }
@@ -29,7 +30,8 @@ fn passes<D: Dialect>(
     alloc: Global,
     names: &[&str],
 ) -> Result<Option<Passes<PassStep<D, BenchFacts>>>, AllocError>
-    ensures { IfOk result (λ found. IfSome found (λ passes. map step_name passes.passes.items ≡ map (λ name. name.now) names.now)) }
+    ensures { IfOk result (λ found. IfSome found (λ passes. map step_name passes.passes.items ≡ map (λ name. name.now)
+        names.now)) }
 {
     let mut passes = Passes::new(alloc);
     for name in names {
@@ -54,7 +56,8 @@ fn pipeline<D: Dialect>(
     names: &[&str],
 ) -> Result<Option<Pipeline<D, BenchFacts>>, AllocError>
     ensures inside { IfOk result (λ found. IfSome found (λ pipeline. is_nested pipeline ≡ nested)) }
-    ensures names { IfOk result (λ found. IfSome found (λ pipeline. names_of pipeline ≡ map (λ name. name.now) names.now)) }
+    ensures names { IfOk result (λ found. IfSome found (λ pipeline. names_of pipeline ≡ map (λ name. name.now)
+        names.now)) }
 {
     let Some(passes) = passes(alloc, names)? else {
         return Ok(None);

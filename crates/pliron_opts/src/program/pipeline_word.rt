@@ -61,7 +61,8 @@ fn names(alloc: Global, list: &str) -> Result<Vec<&str>, AllocError>
 
 /// The number of runs and what follows it, after `repeat:` where there is one.
 fn split_repeat(alloc: Global, word: &str) -> Result<Option<(usize, &str)>, AllocError>
-    ensures { IfOk result (λ found. IfSome found (λ read. (word.now ≡ decimal read.0 ++ (codes ":" ++ read.1.now)) × (1 ≤ read.0) × (read.0 ≤ 64))) }
+    ensures { IfOk result (λ found. IfSome found (λ read. (word.now ≡ decimal read.0 ++ (codes ":" ++ read.1.now))
+        × (1 ≤ read.0) × (read.0 ≤ 64))) }
 {
     let Some((digits, rest)) = word.split_once(':') else {
         return Ok(None);
@@ -93,7 +94,8 @@ impl<'t> PipelineWord<'t> {
     ///
     /// Errors: allocation failure. Cost: linear in the word.
     pub fn read(alloc: Global, word: &'t str) -> Result<Option<Self>, AllocError>
-        ensures { IfOk result (λ found. IfSome found (λ plan. IsPlan word.now plan.runs plan.nested (map (λ name. name.now) plan.names.items))) }
+        ensures { IfOk result (λ found. IfSome found (λ plan. IsPlan word.now plan.runs plan.nested
+            (map (λ name. name.now) plan.names.items))) }
     {
         let Some(rest) = word.strip_prefix("repeat:") else {
             let once = PipelineWord::of(alloc, None, word)?;

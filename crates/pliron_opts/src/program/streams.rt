@@ -15,7 +15,8 @@ pub const MAX_TEXT: usize = 1_048_576;
 pub fn read_input<R: Read>(alloc: Global, input: &mut R) -> Result<Vec<u8>, Failure>
     ensures read { IfOk result (λ text. Consumes (R.remaining input.old) (R.remaining input.new) text.items) }
     ensures few { IfOk result (λ text. length text.items ≤ 1048577) }
-    ensures whole { IfOk result (λ text. length text.items ≤ 1048576 → IsRestOfInput (R.remaining input.old) text.items) }
+    ensures whole { IfOk result (λ text. length text.items ≤ 1048576 → IsRestOfInput (R.remaining input.old)
+        text.items) }
 {
     let mut text = Vec::new(alloc);
     let mut buffer = [0u8; 4096];
