@@ -8,23 +8,23 @@ use crate::{ControlFlowGraph, ListedSet};
 use pliron_laws::OptError;
 use std::alloc::Global;
 
-// Takes the successor at `i` of a node that was taken from the stack, or leaves the node where all its
-// successors are done.
+// Takes the next successor of a node that was taken from the stack, or leaves the node where all its successors
+// are done.
 fn step<C, G: ControlFlowGraph<C>, S: ListedSet<G::Node>>(
     ctx: &C,
     graph: &G,
-    node: G::Node,
-    i: usize,
+    top: (G::Node, usize),
     seen: &mut S,
     post: &mut Vec<G::Node>,
     stack: &mut Vec<(G::Node, usize)>,
 ) -> Result<(), OptError>
     requires lawful { G.is_lawful graph.now ctx.now }
-    requires member { Contains (G.graph graph.now ctx.now).nodes node }
-    ensures step { OnOk result (IsStep G.Node.eq (G.graph graph.now ctx.now) (stack.old.items ++ (node, i) ∷ [])
+    requires member { Contains (G.graph graph.now ctx.now).nodes top.0 }
+    ensures step { OnOk result (IsStep G.Node.eq (G.graph graph.now ctx.now) (stack.old.items ++ top ∷ [])
         (S.listed seen.old) post.old.items stack.new.items (S.listed seen.new) post.new.items) }
     ensures memory { IsOkUnless result OptError.Memory }
 {
+    let (node, i) = top;
     if i < graph.num_successors(ctx, &node) {
         stack.push((node, i + 1))?;
         let next = graph.get_successor(ctx, &node, i);
@@ -85,8 +85,8 @@ pub fn walk_over<C, G: ControlFlowGraph<C>, S: ListedSet<G::Node>>(
 {
     seen.insert(root)?;
     stack.push((root, 0))?;
-    while let Some((node, i)) = stack.pop() {
-        step(ctx, graph, node, i, seen, post, stack)?;
+    while let Some(top) = stack.pop() {
+        step(ctx, graph, top, seen, post, stack)?;
     }
     Ok(())
 }
