@@ -1,0 +1,2 @@
+pub mod OneValue
+pub mod ArgumentLaws
