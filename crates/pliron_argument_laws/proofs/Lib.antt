@@ -1,0 +1,5 @@
+mod FirstWays
+mod ArgumentEdges
+mod ArgumentData
+mod ArgumentKeeps
+mod ArgumentChanges
