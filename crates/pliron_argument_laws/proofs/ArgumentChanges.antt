@@ -31,5 +31,5 @@ one_value_changes m can_fold SameTests shortened law = record {
   };
   links = λ t block index v h. replaced_links m t h.argument v;
   edges = λ t block index v h. record { grows = omega arith; regions = λ op. refl; layouts = λ r. refl; successors = λ b. refl; bodies = λ b. refl };
-  unused = λ t block index v h ne k i. old_unused t h.argument v ne k i;
+  unused = λ t block index v h k i. old_unused t h.argument v h.apart k i;
 }

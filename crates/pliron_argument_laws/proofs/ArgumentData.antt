@@ -9,7 +9,7 @@ use Rattle.pliron_core.specs.Invariant.{IsTree}
 use Rattle.pliron_core.proofs.ListLemmas.{In-right, decide_in}
 use Rattle.pliron_core.proofs.HoldingLemmas.{some_is, not_none, in_slice, slice_in, holder_by, inside_up, inside_by, deeper, within_inside, not_itself}
 use Rattle.pliron_laws.specs.Datum.{Datum, Empty, Head, Shape, Meaning, Move, Visit, Goto, Emit}
-use Rattle.pliron_laws.specs.Tree.{Operation, Block, op_at, shape_of}
+use Rattle.pliron_laws.specs.Tree.{Operation, Block, op_at, entry_block, count_arguments, shape_of}
 use Rattle.pliron_laws.specs.States.{Environment, Waiting, State, bind, data_of, input_of}
 use Rattle.pliron_laws.specs.Machine.{start}
 use Rattle.pliron_laws.specs.Paths.{Path, Leads}
@@ -199,7 +199,7 @@ module _ (m : Meaning) (can_fold : Head → Bool) (SameTests : Head → Head →
   visits_nothing : (k : ℕ) → In b (successors_of t k) → IsWithin t root k → (o : Operation) → op_at t k ≡ Some o → (n r : ℕ) → slice_get o.regions n ≡ Some r → ⊥
   unfolding shape_of
   visits_nothing k j within o e n r re =
-      no_region o.regions n r (none_mapped _ o.regions (law.alone (shape_of m t o) (admitted_shape m t k o e (f.linked.admitted k within)) (is_branch k j o e)).1) re
+      no_region o.regions n r (none_mapped (λ z. count_arguments (entry_block t z)) o.regions (law.alone (shape_of m t o) (admitted_shape m t k o e (f.linked.admitted k within)) (is_branch k j o e)).1) re
 
   -- from where it came to its move
   record Came (env : Environment) (memo : Datum) (o : Operation) (input : List Datum) : Type 0 where
@@ -431,7 +431,7 @@ module _ (m : Meaning) (can_fold : Head → Bool) (SameTests : Head → Head →
 
   -- wherever an operation reads the argument, the value has the same datum
   pub same_datum : (s : State) → RunReaches m t root s → (k : ℕ) (rest : List ℕ) → s.rest ≡ k ∷ rest → s.answer ≡ None → In p (operands_of t k) → s.environment p ≡ s.environment v
-  same_datum s r k rest e none use = ⊎_elim
+  same_datum s r k rest e none named = ⊎_elim
       (λ y. found y.0 y.1 y.2 y.3)
       (λ y. absurd (not_root y))
       (find s.environment k dom.around dom.holds rest g.holder s.waiting (subst (IsAt t root s.environment g.holder) e g.place.0) (subst (OfPlace s.environment g.holder) e g.place.2) g.below)
@@ -443,7 +443,7 @@ module _ (m : Meaning) (can_fold : Head → Bool) (SameTests : Head → Head →
       user_inside = (ready_when_reached m t root w f s r k rest e none).inside
 
       dom : IsDominated t k p
-      dom = f.defined.dominated k p use (f.defined.own_values k p user_inside use)
+      dom = f.defined.dominated k p named (f.defined.own_values k p user_inside named)
 
       in_here : dom.region ≡ here
       in_here = some_is (sym dom.defined ∙ ap (λ z. up_from (defining_block t z) (λ c. block_parent_of t c)) made ∙ (leading.held m t w b i v h).2)

@@ -163,8 +163,8 @@ module _ (m : Meaning) (t : Tree) (w : IsTree t) (b i v : ℕ) (h : IsOneValue m
 
         -- a path to a branch that uses the argument passed the block
         pub argument_passed : (k x : ℕ) (part : List ℕ) → In b (successors_of t k) → In p (operands_of t k) → parent_of t k ≡ Some x → Path t entry x part → In b (x ∷ part)
-        argument_passed k x part j use pk path =
-            let d = f.defined.dominated k p use (argument_of_block holds) in
+        argument_passed k x part j named pk path =
+            let d = f.defined.dominated k p named (argument_of_block holds) in
             let e : d.region ≡ here = some_is (sym d.defined ∙ ap (λ z. up_from (defining_block t z) (λ c. block_parent_of t c)) made ∙ held.2) in
             let s = split_at k (body_of t x) (w.bodies.listed k x pk) in
             subst (λ z. HasPassed t z part x s.0) made (passed_by k p x s.0 s.1 part j d e pk s.2 path)
@@ -279,10 +279,10 @@ module _ (m : Meaning) (t : Tree) (w : IsTree t) (b i v : ℕ) (h : IsOneValue m
               }
 
     pub may_use : (user : ℕ) → In p (operands_of t user) → MayUse t root user v
-    may_use user use = record {
-      own = λ inside. value_inside (block_of_argument (f.defined.own_values user p inside use));
+    may_use user named = record {
+      own = λ inside. value_inside (block_of_argument (f.defined.own_values user p inside named));
       no_jumper = λ k inside ne r. f.defined.unused k v source inside ne r source_uses;
       dominated = λ x.
           let holds = block_of_value x in
-          dominated_too holds user (f.defined.dominated user p use (argument_of_block holds));
+          dominated_too holds user (f.defined.dominated user p named (argument_of_block holds));
     }

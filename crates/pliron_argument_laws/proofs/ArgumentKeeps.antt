@@ -26,17 +26,18 @@ module _ (m : Meaning) (can_fold : Head → Bool) (SameTests : Head → Head →
 
   pub one_value_keeps : KeepsRuns m t (after_replacing t h.argument v)
   one_value_keeps = replaced_keeps m t h.argument v
-      (λ root f user use. may_use m t w b i v h root f user use)
-      (λ root f f' s s' k rest r r' same e e' none none' use.
+      (λ root f user named. may_use m t w b i v h root f user named)
+      (λ root f f' s s' k rest r r' same e e' none none' named.
       let ready = ready_when_reached m t root w f s r k rest e none in
-      let holds : HoldsBlock t root b = block_of_argument m t w b i v h root f (f.defined.own_values k h.argument ready.inside use) in
-      same_datum m can_fold SameTests shortened law t w b i v h root f holds entry.0 entry.1 s r k rest e none use)
+      let holds : HoldsBlock t root b = block_of_argument m t w b i v h root f (f.defined.own_values k h.argument ready.inside named) in
+      same_datum m can_fold SameTests shortened law t w b i v h root f holds entry.0 entry.1 s r k rest e none named)
 
 -- whichever heads may be those of roots
 same_there : (m : Meaning) (chosen : Head → Bool) (t : Tree) (b i v : ℕ) → IsOneValue m t b i v → IsOneValue (with_roots m chosen) t b i v
 unfolding shape_of
 same_there m chosen t b i v h = record {
   argument = h.argument;
+  apart = h.apart;
   there = h.there;
   no_entry = h.no_entry;
   branches = h.branches;
@@ -45,5 +46,6 @@ same_there m chosen t b i v h = record {
 }
 
 pub one_value : (m : Meaning) (can_fold : Head → Bool) (SameTests : Head → Head → Type 0) (shortened : Shape → ℕ → ℕ → Head) → ForwardsOperands m can_fold SameTests shortened → OneValueLaw m
+unfolding same_there
 one_value m can_fold SameTests shortened law t b i v w h = λ chosen.
     one_value_keeps (with_roots m chosen) can_fold SameTests shortened (chosen_forwards m chosen can_fold SameTests shortened law) t w b i v (same_there m chosen t b i v h)

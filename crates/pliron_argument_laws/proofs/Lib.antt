@@ -3,3 +3,4 @@ mod ArgumentEdges
 mod ArgumentData
 mod ArgumentKeeps
 mod ArgumentChanges
+mod FindingLemmas

@@ -1,5 +1,5 @@
 -- What giving the uses of an argument to its one value keeps.
-use Rattle.std.specs.Prelude.{◌≡◌, ◌≢◌, ℕ}
+use Rattle.std.specs.Prelude.{ℕ}
 use Rattle.pliron_core.specs.Tree.{Tree, In, IsLive, HoldsBlock, operands_of}
 use Rattle.pliron_core.specs.Invariant.{IsTree}
 use Rattle.pliron_core.specs.Writes.{after_replacing}
@@ -16,9 +16,9 @@ abbrev pub OneValueLaw : Meaning → Type 0
 OneValueLaw m = (t : Tree) (block index v : ℕ) → IsTree t → (h : IsOneValue m t block index v) → KeepsAllRuns m t (after_replacing t h.argument v)
 
 -- inside an operation that stands, is well linked and holds the block, this is what a pass may do; links and edges
--- stay, and nothing uses the argument any more, unless it is the value itself
+-- stay, and nothing uses the argument any more
 pub record OneValueChanges (m : Meaning) : Type 0 where
   pub change : (t : Tree) (op block index v : ℕ) → IsTree t → IsLive t op → IsWellLinked m t op → HoldsBlock t op block → (h : IsOneValue m t block index v) → IsWholeChange m t (after_replacing t h.argument v) op
   pub links : (t : Tree) (block index v : ℕ) (h : IsOneValue m t block index v) → KeepsLinks m t (after_replacing t h.argument v)
   pub edges : (t : Tree) (block index v : ℕ) (h : IsOneValue m t block index v) → EdgesAlike t (after_replacing t h.argument v)
-  pub unused : (t : Tree) (block index v : ℕ) (h : IsOneValue m t block index v) → h.argument ≢ v → (k : ℕ) → In h.argument (operands_of (after_replacing t h.argument v) k) → ⊥
+  pub unused : (t : Tree) (block index v : ℕ) (h : IsOneValue m t block index v) (k : ℕ) → In h.argument (operands_of (after_replacing t h.argument v) k) → ⊥

@@ -1,2 +1,3 @@
 pub mod OneValue
 pub mod ArgumentLaws
+pub mod Finding

@@ -13,9 +13,10 @@ pub record IsForwardedThere (m : Meaning) (t : Tree) (block index v : ℕ) : Typ
   pub forwards : IsForwardedAt m t branch edge index (Some v)
 
 -- the block is no entry, only branches lead to it, and each edge to it forwards this value to its argument at this
--- index, or that argument itself; some edge forwards the value
+-- index, or that argument itself; some edge forwards the value, which is not the argument
 pub record IsOneValue (m : Meaning) (t : Tree) (block index v : ℕ) : Type 0 where
   pub argument : ℕ
+  pub apart : argument ≢ v
   pub there : slice_get (arguments_of t block) index ≡ Some argument
   pub no_entry : (r : ℕ) → block_parent_of t block ≡ Some r → first_of (layout_of t r) None ≢ Some block
   pub branches : (k : ℕ) → In block (successors_of t k) → HeadPasses m.is_branch t k

@@ -7,6 +7,7 @@
 //! It knows the theory of runs and the laws of dialects, and no graph, no dialect and no optimisation.
 #![tactic(auto)]
 
+pub mod finding;
 pub mod rewrites;
 
 ghost use Rattle.pliron_argument_laws.specs.ArgumentLaws.{OneValueLaw, OneValueChanges};
