@@ -1,5 +1,5 @@
 -- What stays where the uses of an argument go to its one value.
-use Rattle.std.proofs.Common.{◌≡◌, ◌≢◌, ℕ, Bool, map, if◌then◌else◌, ⊎_elim, refl, sym, ap, ◌∙◌, subst, arith}
+use Rattle.std.proofs.Common.{◌≢◌, ℕ, Bool, map, if◌then◌else◌, ⊎_elim, refl, sym, ap, ◌∙◌, subst, arith}
 use Rattle.std.proofs.lemmas.Bool.Decides.{eqb_tells}
 use Rattle.pliron_core.specs.Tree.{Tree, In, operands_of}
 use Rattle.pliron_core.specs.Uses.{replace_target}

@@ -1,14 +1,13 @@
 -- Wherever an argument that is one value is read, it has the datum of the value.
-use Rattle.std.proofs.Common.{◌≡◌, ◌≢◌, ◌⊎◌, inl, inr, ⊎_elim, ℕ, zero, suc, Bool, true, false, List, [], ◌∷◌, ◌++◌, map, Option, Some, None, IsTrue, length, slice_get, refl, sym, ap, ◌∙◌, subst, arith}
+use Rattle.std.proofs.Common.{◌≡◌, ◌≢◌, ◌⊎◌, inl, inr, ⊎_elim, ℕ, zero, suc, Bool, true, false, List, [], ◌∷◌, map, Option, Some, None, IsTrue, length, slice_get, refl, sym, ap, ◌∙◌, subst, arith}
 use Rattle.std.proofs.lemmas.Bool.{cases_eq}
 use Rattle.pliron_core.specs.declared.context.Def.TheVariants.{Result, Argument}
-use Rattle.pliron_core.specs.Changes.{IsDefiningOperationInside}
 use Rattle.pliron_core.specs.Tree.{Tree, In, first_of, IsInside, IsWithin, HoldsBlock, operands_of, successors_of, results_of, parent_of, body_of, arguments_of, block_parent_of, layout_of, region_parent_of, block_parent_operation_of, parent_operation_of, definition_of, up_from, op_of_slot}
 use Rattle.pliron_core.specs.Edges.{succs_from}
 use Rattle.pliron_core.specs.Invariant.{IsTree}
 use Rattle.pliron_core.proofs.ListLemmas.{In-right, decide_in}
 use Rattle.pliron_core.proofs.HoldingLemmas.{some_is, not_none, in_slice, slice_in, holder_by, inside_up, inside_by, deeper, within_inside, not_itself}
-use Rattle.pliron_laws.specs.Datum.{Datum, Empty, Head, Shape, Meaning, Move, Visit, Goto, Emit}
+use Rattle.pliron_laws.specs.Datum.{Datum, Empty, Head, Shape, Meaning, Move, Goto, Emit}
 use Rattle.pliron_laws.specs.Tree.{Operation, Block, op_at, entry_block, count_arguments, shape_of}
 use Rattle.pliron_laws.specs.States.{Environment, Waiting, State, bind, data_of, input_of}
 use Rattle.pliron_laws.specs.Machine.{start}
@@ -16,7 +15,7 @@ use Rattle.pliron_laws.specs.Paths.{Path, Leads}
 use Rattle.pliron_laws.specs.Root.{defining_block, HasPassed, IsDominated}
 use Rattle.pliron_laws.specs.Linked.{EndsBlock}
 use Rattle.pliron_laws.specs.Acting.{Comes, Begins, Told, pick}
-use Rattle.pliron_laws.specs.Laws.{Admitted, ForwardsOperands}
+use Rattle.pliron_laws.specs.Laws.{ForwardsOperands}
 use Rattle.pliron_laws.specs.Answers.{IsForwardedAt}
 use Rattle.pliron_laws.proofs.Records.{op_shows, block_shows, entry_shows, ShowsEntry}
 use Rattle.pliron_laws.proofs.BindingLemmas.{bind_other, bind_at, bind_has_datum, data_at}
@@ -376,9 +375,14 @@ module _ (m : Meaning) (can_fold : Head → Bool) (SameTests : Head → Head →
         let bound : bind env (arguments_of t a0.key) ds ≡ Some env1 = ap (λ vs. bind env vs ds) s.arguments ∙ e in
         let held_r : region_parent_of t r ≡ Some k = ap op_of_slot (w.joined.regions k n r (ap (λ l. slice_get l n) (op_shows t k x.operation x.stands).regions ∙ re)) in
         (tt, (y.1.0, y.1.1, subst (OfHead env1) s.operations (entered_claim env1 r blk a0), at_rest env1 blk.operations), (y.2, kept_place env env1 (arguments_of t a0.key) ds bound g k rest (λ hj i'. no_entry_p r blk a0 i') (λ hj i'. deep_entry k k r blk a0 held_r (inl refl) hj i') q.2, λ k' others ek j. visits_nothing k (subst (λ z. In b (successors_of t z)) (sym (head_is k k' rest others ek)) j) (at_within t w root env g k rest q.0) x.operation x.stands n r re), λ o j rs z dj wt. (y.3 o j rs z dj.0 wt.0, kept_place env env1 (arguments_of t a0.key) ds bound o j rs (λ hj i'. no_entry_p r blk a0 i') (λ hj i'. deep_entry j k r blk a0 held_r (inr dj.1) hj i') wt.1, wt.2));
-    tells = λ env g k rest memo answer told next d' so q x. (q.0, has_some g (d' ∷ []), q.2, λ k' others ek j.
-        let s = head_is k k' rest others ek in
-        inr (subst (λ z. Begun env z next (Some (d' ∷ []))) s (told_on env k memo answer told next d' x (q.3 k rest refl (subst (λ z. In b (successors_of t z)) (sym s) j)))));
+    tells = λ env g k rest memo answer told next d' so q x. (
+      q.0,
+      has_some g (d' ∷ []),
+      q.2,
+      λ k' others ek j.
+          let s = head_is k k' rest others ek in
+          inr (subst (λ z. Begun env z next (Some (d' ∷ []))) s (told_on env k memo answer told next d' x (q.3 k rest refl (subst (λ z. In b (successors_of t z)) (sym s) j)))),
+    );
     resumes = λ env g rest memo ds q. (q.0, has_some g ds, q.1, λ k others e j. absurd (q.2 k others e j));
   }
     where

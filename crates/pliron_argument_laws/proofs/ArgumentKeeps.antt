@@ -1,17 +1,17 @@
 -- The uses of an argument that is one value may go to the value.
-use Rattle.std.proofs.Common.{◌≡◌, ℕ, List, [], ◌∷◌, Bool, Some, None, inl, refl}
-use Rattle.pliron_core.specs.Tree.{Tree, In, first_of, HoldsBlock, operands_of, layout_of}
+use Rattle.std.proofs.Common.{◌≡◌, ℕ, List, [], ◌∷◌, Bool, Some, None, refl, slice_get, sym, ap, ◌∙◌, subst}
+use Rattle.pliron_core.specs.Tree.{Tree, In, first_of, HoldsBlock, layout_of, arguments_of}
 use Rattle.pliron_core.specs.Invariant.{IsTree}
 use Rattle.pliron_core.specs.Writes.{after_replacing}
-use Rattle.pliron_core.proofs.HoldingLemmas.{not_none}
+use Rattle.pliron_core.proofs.HoldingLemmas.{some_is}
 use Rattle.pliron_laws.specs.Datum.{Head, Shape, Meaning}
 use Rattle.pliron_laws.specs.Tree.{shape_of}
 use Rattle.pliron_laws.specs.Laws.{ForwardsOperands}
-use Rattle.pliron_theory.specs.Keeps.{IsFit, KeepsRuns, with_roots}
+use Rattle.pliron_theory.specs.Keeps.{KeepsRuns, with_roots, KeepsAllRuns}
 use Rattle.pliron_theory.proofs.ChosenRoots.{forwards_operands as chosen_forwards}
 use Rattle.pliron_theory.proofs.Reading.{ready_when_reached}
 use Rattle.pliron_theory.proofs.ReplacedKeeps.{replaced_keeps}
-use Rattle.pliron_argument_laws.specs.OneValue.{IsForwardedThere, IsOneValue}
+use Rattle.pliron_argument_laws.specs.OneValue.{IsOneValue}
 use Rattle.pliron_argument_laws.specs.ArgumentLaws.{OneValueLaw}
 use Rattle.pliron_argument_laws.proofs.ArgumentEdges.{here, held, block_of_argument, may_use}
 use Rattle.pliron_argument_laws.proofs.ArgumentData.{same_datum}
@@ -49,3 +49,10 @@ pub one_value : (m : Meaning) (can_fold : Head → Bool) (SameTests : Head → H
 unfolding same_there
 one_value m can_fold SameTests shortened law t b i v w h = λ chosen.
     one_value_keeps (with_roots m chosen) can_fold SameTests shortened (chosen_forwards m chosen can_fold SameTests shortened law) t w b i v (same_there m chosen t b i v h)
+
+-- what such a rewrite leaves
+pub rewrite_keeps : (m : Meaning) (can_fold : Head → Bool) (SameTests : Head → Head → Type 0) (shortened : Shape → ℕ → ℕ → Head) → ForwardsOperands m can_fold SameTests shortened → (t t' : Tree) (b i v argument : ℕ) → IsTree t → IsOneValue m t b i v → slice_get (arguments_of t b) i ≡ Some argument → t' ≡ after_replacing t argument v → KeepsAllRuns m t t'
+rewrite_keeps m can_fold SameTests shortened law t t' b i v argument w h at is = λ chosen.
+    let same : argument ≡ h.argument = some_is (sym at ∙ h.there) in
+    let left : t' ≡ after_replacing t h.argument v = is ∙ ap (λ z. after_replacing t z v) same in
+    subst (λ z. KeepsRuns (with_roots m chosen) t z) (sym left) (one_value m can_fold SameTests shortened law t b i v w h chosen)

@@ -1,18 +1,18 @@
 -- Edges that all forward one value, or an argument itself.
-use Rattle.std.proofs.Common.{◌≡◌, ◌≢◌, ◌⊎◌, ◌<◌, ◌≤◌, ◌+◌, inl, inr, ⊎_elim, ℕ, zero, suc, List, [], ◌∷◌, Option, Some, None, IsTrue, length, slice_get, refl, sym, ap, ◌∙◌, subst, arith}
-use Rattle.std.proofs.lemmas.Bool.{cases_eq}
+use Rattle.std.proofs.Common.{◌≡◌, ◌≢◌, ◌⊎◌, ◌<◌, ◌≤◌, ◌+◌, inl, inr, ⊎_elim, ℕ, zero, suc, List, [], ◌∷◌, Bool, true, false, nat_eq, Option, Some, None, IfSome, IfNone, length, slice_get, true≢false, refl, sym, ap, ◌∙◌, subst, arith}
+use Rattle.std.proofs.lemmas.Bool.Decides.{eqb_tells}
 use Rattle.std.specs.Option.{option_map}
 use Rattle.pliron_core.specs.declared.uses.Use.{Use}
-use Rattle.pliron_core.specs.Tree.{Tree, In, IsLive, first_of, head_of, successors_of, arguments_of, block_parent_of, layout_of}
-use Rattle.pliron_core.specs.Invariant.{IsTree}
+use Rattle.pliron_core.specs.Tree.{Tree, View, In, IsLive, first_of, head_of, uses_of, successors_of, arguments_of, block_parent_of, layout_of}
+use Rattle.pliron_core.specs.Invariant.{IsTree, HaveUses}
 use Rattle.pliron_core.proofs.HoldingLemmas.{some_is, not_none, some_of, in_slice, slice_in}
 use Rattle.pliron_laws.specs.Datum.{Head, Meaning}
-use Rattle.pliron_laws.specs.Tree.{Operation, op_at}
-use Rattle.pliron_laws.specs.Answers.{HeadPasses, IsForwardedAt}
+use Rattle.pliron_laws.specs.Tree.{op_at}
+use Rattle.pliron_laws.specs.Answers.{HeadPasses, ReadsHead, IsForwardedAt}
 use Rattle.pliron_laws.proofs.Records.{operation_of, make_op}
 use Rattle.pliron_theory.specs.Dropping.{AreEdgesTo}
 use Rattle.pliron_argument_laws.specs.OneValue.{IsOneValue}
-use Rattle.pliron_argument_laws.specs.Finding.{EdgeForwards, AreOneSoFar}
+use Rattle.pliron_argument_laws.specs.Finding.{EdgeForwards, AreOneSoFar, IsEntry}
 
 within : {A : Type 0} (xs : List A) (n : ℕ) (x : A) → slice_get xs n ≡ Some x → n < length xs
 within [] n x e = absurd (not_none e)
@@ -21,6 +21,36 @@ within (y ∷ xs) (suc n) x e = let l = within xs n x e in omega (arith, l)
 
 below_next : (k n : ℕ) → k < n + 1 → (k < n) ⊎ (k ≡ n)
 below_next k n l = grind (arith, l)
+
+-- what is no branch
+pub no_branch : (m : Meaning) (t : Tree) (op : ℕ) (answer : Bool) → IsLive t op → ReadsHead m.is_branch t op answer → answer ≡ false → HeadPasses m.is_branch t op → ⊥
+no_branch m t op answer live reads isnt passes =
+    let x = some_of (head_of t op) live in
+    true≢false (sym (passes x.0 x.1) ∙ sym (reads x.0 x.1) ∙ isnt)
+
+-- the uses of a block are the edges to it
+pub edges_to : (v : View) → HaveUses v → (block : ℕ) → AreEdgesTo v.tree block (uses_of v.block_uses block)
+edges_to v h block = record {
+  listed = λ n e at. h.block_uses.listed block n e at;
+  once = λ n l e a b. h.block_uses.once block n l e a b;
+  complete = λ k i at. h.block_uses.complete k i block at;
+}
+
+pub some_there : (xs : List Use) (n : ℕ) → n < length xs → (e : Use) × (slice_get xs n ≡ Some e)
+some_there [] n l = absurd (omega (arith, l))
+some_there (x ∷ xs) zero l = (x, refl)
+some_there (x ∷ xs) (suc n) l = some_there xs n (omega (arith, l))
+
+pub told_same : (a b : ℕ) (r : Bool) → r ≡ nat_eq a b → r ≡ true → a ≡ b
+told_same a b r is e = ⊎_elim (λ y. y.1) (λ y. absurd (true≢false (sym e ∙ is ∙ y.0))) (eqb_tells a b)
+
+pub told_apart : (a b : ℕ) (r : Bool) → r ≡ nat_eq a b → r ≡ false → b ≢ a
+told_apart a b r is e = ⊎_elim (λ y. absurd (true≢false (sym y.0 ∙ sym is ∙ e))) (λ y. λ s. y.1 (sym s)) (eqb_tells a b)
+
+-- what was found is not the value
+pub other_found : (found : Option ℕ) (v : ℕ) → (((first : ℕ) → found ≡ Some first → first ≡ v) → ⊥) → (first : ℕ) × (found ≡ Some first) × (first ≢ v)
+other_found None v isnt = absurd (isnt (λ first e. absurd (not_none e)))
+other_found (Some x) v isnt = (x, refl, λ e. isnt (λ first y. sym (some_is y) ∙ e))
 
 module _ (m : Meaning) (t : Tree) (w : IsTree t) (block index argument : ℕ) (edges : List Use) (a : AreEdgesTo t block edges) where
   user_live : (n : ℕ) (e : Use) → slice_get edges n ≡ Some e → (x : Head) × (head_of t e.user ≡ Some x)
@@ -136,3 +166,12 @@ module _ (m : Meaning) (t : Tree) (w : IsTree t) (block index argument : ℕ) (e
     not_two n found u e s at f ne two =
         let o = s.one found refl in
         two (other_is o.1.0 o.1.1 found o.1.2 o.1.3 o.0 ∙ sym (other_is n e u at f ne))
+
+  -- what is found when all edges were asked
+  pub ends_some : (found : Option ℕ) (n : ℕ) → length edges ≤ n → slice_get (arguments_of t block) index ≡ Some argument → (IsEntry t block → ⊥) → AreOneSoFar m t edges index argument found n → IfSome found (λ v. IsOneValue m t block index v)
+  ends_some None n long there inner s = tt
+  ends_some (Some v) n long there inner s = all_one n v long there (λ r br fr. inner (r, br, fr)) s
+
+  pub ends_none : (found : Option ℕ) (n : ℕ) → length edges ≤ n → slice_get (arguments_of t block) index ≡ Some argument → AreOneSoFar m t edges index argument found n → IfNone found ((v : ℕ) → IsOneValue m t block index v → ⊥)
+  ends_none None n long there s = λ v h. not_itself_alone there v h n long s
+  ends_none (Some v) n long there s = tt
