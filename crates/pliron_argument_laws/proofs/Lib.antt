@@ -4,3 +4,4 @@ mod ArgumentData
 mod ArgumentKeeps
 mod ArgumentChanges
 mod FindingLemmas
+mod ArgumentStays

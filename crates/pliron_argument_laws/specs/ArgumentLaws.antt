@@ -1,6 +1,6 @@
 -- What giving the uses of an argument to its one value keeps.
-use Rattle.std.specs.Prelude.{ℕ}
-use Rattle.pliron_core.specs.Tree.{Tree, In, IsLive, HoldsBlock, operands_of}
+use Rattle.std.specs.Prelude.{◌↔◌, ℕ}
+use Rattle.pliron_core.specs.Tree.{Tree, In, IsLive, HoldsBlock, operands_of, successors_of}
 use Rattle.pliron_core.specs.Invariant.{IsTree}
 use Rattle.pliron_core.specs.Writes.{after_replacing}
 use Rattle.pliron_laws.specs.Datum.{Meaning}
@@ -22,3 +22,8 @@ pub record OneValueChanges (m : Meaning) : Type 0 where
   pub links : (t : Tree) (block index v : ℕ) (h : IsOneValue m t block index v) → KeepsLinks m t (after_replacing t h.argument v)
   pub edges : (t : Tree) (block index v : ℕ) (h : IsOneValue m t block index v) → EdgesAlike t (after_replacing t h.argument v)
   pub unused : (t : Tree) (block index v : ℕ) (h : IsOneValue m t block index v) (k : ℕ) → In h.argument (operands_of (after_replacing t h.argument v) k) → ⊥
+
+-- where no branch to the block uses a value whose uses become uses of another one, the block's arguments are one value
+-- as before
+abbrev pub OneValueStays : Type 0
+OneValueStays = (m : Meaning) (t : Tree) (old new block index v : ℕ) → ((k : ℕ) → In block (successors_of t k) → In old (operands_of t k) → ⊥) → IsOneValue m t block index v ↔ IsOneValue m (after_replacing t old new) block index v

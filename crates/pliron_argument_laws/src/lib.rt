@@ -10,7 +10,7 @@
 pub mod finding;
 pub mod rewrites;
 
-ghost use Rattle.pliron_argument_laws.specs.ArgumentLaws.{OneValueLaw, OneValueChanges};
+ghost use Rattle.pliron_argument_laws.specs.ArgumentLaws.{OneValueLaw, OneValueChanges, OneValueStays};
 
 use pliron_laws::Dialect;
 
@@ -25,4 +25,10 @@ pub fn one_value_stands_for_argument<D: Dialect>()
 /// This is a change that a pass may make to an operation around the block, and links and edges stay.
 pub fn one_value_changes_inside<D: Dialect>()
     ensures { OneValueChanges D.meaning }
+{}
+
+/// Where the uses of a value become uses of another one, which arguments are one value stays as it was, but in blocks
+/// to which an operation leads that used the value.
+pub fn one_value_stays()
+    ensures { OneValueStays }
 {}
