@@ -1,0 +1,3 @@
+pub mod OneValue
+pub mod ArgumentLaws
+pub mod Finding
