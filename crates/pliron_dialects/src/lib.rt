@@ -11,6 +11,7 @@ mod form;
 pub mod heads;
 mod kinds;
 pub mod numbers;
+mod operand_folds;
 mod replace;
 mod tables;
 

@@ -1,5 +1,5 @@
 -- The law of a dialect on results that are operands, or that equal operands decide.
-use Rattle.std.specs.Prelude.{◌≡◌, ◌<◌, ℕ, Bool, List, [], Option, Some, length, slice_get}
+use Rattle.std.proofs.Common.{◌≡◌, ◌<◌, ℕ, Bool, List, [], Option, Some, length, slice_get, arith}
 use Rattle.pliron_core.specs.declared.attrs.AttrObj.{AttrObj}
 use Rattle.pliron_core.specs.Tree.{Tree}
 use Rattle.pliron_laws.specs.Datum.{Datum, datum_of, Shape, Give, Meaning}
@@ -50,3 +50,7 @@ ReadsOperands m folds known t op answers = (o : Operation) → op_at t op ≡ So
 -- no result is known to be an operand
 abbrev pub no_operand_folds : OperandFolds
 no_operand_folds s known operands = []
+
+-- the law of a dialect that answers of none
+pub none_answered : (m : Meaning) → AnswersOperands m no_operand_folds
+none_answered m = λ s h known operands l k i answer e. grind arith

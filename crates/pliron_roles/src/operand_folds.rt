@@ -1,0 +1,29 @@
+//! Results that are one of the operands: none is said to be one.
+ghost use Rattle.std.specs.Prelude.{◌≡◌, IfOk, IsOkUnless, length};
+ghost use Rattle.pliron_core.specs.Tree.{IsLive, operands_of};
+ghost use Rattle.pliron_laws.specs.declared.fault.OptError.{OptError as FaultName};
+ghost use Rattle.pliron_operand_folding.specs.OperandFolding.{no_operand_folds, none_answered};
+ghost use Rattle.pliron_roles.specs.Roles.{role_at, meaning_by};
+
+use crate::by_roles::ByRoles;
+use crate::roles::Roles;
+use pliron_core::{AttrObj, Context, Operation, Ptr};
+use pliron_laws::OptError;
+use pliron_operand_folding::{OpFoldResult, OperandFoldInterface};
+use std::alloc::Global;
+
+impl<K: Roles> OperandFoldInterface for ByRoles<K> {
+    ghost operand_folds = { no_operand_folds };
+
+    /// No answers. Cost: constant.
+    fn fold_to_operand(
+        alloc: Global,
+        _op: Ptr<Operation>,
+        _ctx: &Context,
+        _operand_attrs: &[Option<AttrObj>],
+    ) -> Result<Vec<Option<OpFoldResult>>, OptError> {
+        Ok(Vec::new(alloc))
+    }
+
+    ghost answers_operands = { none_answered (meaning_by K.tables.value (role_at K.tables)) };
+}
