@@ -28,7 +28,7 @@ module _ (side_effects : Head → Option Bool) (t : Tree) (ops ends : List ℕ) 
     none = λ h i q. never (subst (MayRepeat side_effects t) (sym is) (alike_repeats side_effects t (get_or ops i 0) (get_or ops place 0) q.alike).1);
   }
 
-  -- one that leads no twin before it, and is found by its key now
+  -- one that no leader stands before, and is found by its key now
   module _ (find find' : List ℕ → Option ℕ) (key : List ℕ) (words : key ≡ key_words t op) (low : place < length ops) (live : IsLive t op) (repeats : MayRepeat side_effects t op) (none : (i : ℕ) → find key ≡ Some i → LeadsAt side_effects t ops ends i place → ⊥) (put : find' key ≡ Some place) (others : (other : List ℕ) → other ≢ key → find' other ≡ find other) where
     words_at : (i : ℕ) → i ≡ place → key_words t (get_or ops i 0) ≡ key
     words_at i e = ap (λ z. key_words t (get_or ops z 0)) e ∙ ap (key_words t) (sym is) ∙ sym words

@@ -1,4 +1,4 @@
--- No twin is left, where uses are behind definitions.
+-- No redundant operation is left, where uses are behind definitions.
 use Rattle.std.proofs.Common.{◌≡◌, ◌≢◌, ◌⊎◌, ℕ, ◌<◌, ◌≤◌, ◌+◌, Bool, List, [], ◌∷◌, ◌++◌, length, get_or, map, Option, Some, refl, sym, ap, ◌∙◌, subst, inl, inr, ⊎_elim, arith}
 use Rattle.pliron_core.specs.declared.attrs.IRStatus.{IRStatus}
 use Rattle.pliron_core.specs.declared.attrs.IRStatus.TheVariants.{Changed, Unchanged}
@@ -19,13 +19,13 @@ use Rattle.pliron_equivalence.proofs.Standing.{stands_trans}
 use Rattle.pliron_order.proofs.NumberLemmas.{at_in}
 use Rattle.pliron_order.proofs.PreorderLemmas.{in_at}
 use Rattle.pliron_cse.specs.Keys.{head_words_of, operand_words, key_words, region_around}
-use Rattle.pliron_cse.specs.Left.{HasTwins, UsesAreBehind, LeavesNoTwin, ReportsEquivalent}
-use Rattle.pliron_cse.specs.Steps.{MayRepeat, AreNearAlike, LeadsAt, AreFound, StaysAlone, AreNoTwins, IsOrdered, IsExact}
+use Rattle.pliron_cse.specs.Left.{HasRedundancy, UsesAreBehind, LeavesNoRedundancy, ReportsEquivalent}
+use Rattle.pliron_cse.specs.Steps.{MayRepeat, AreNearAlike, LeadsAt, AreFound, StaysAlone, AreNotRedundant, IsOrdered, IsExact}
 use Rattle.pliron_cse.specs.Taking.{IsPair}
 use Rattle.pliron_cse.proofs.Moved.{moved_regions, moved_successors}
 use Rattle.pliron_cse.proofs.OnWay.{merged_stands, merged_seen, merged_gone, merged_fewer, row_of_merged, operands_of_merged, successors_of_merged, place_of_merged}
 
--- the operation is as it was, as far as twins are told by it
+-- the operation is as it was, as far as it tells what is redundant
 pub record LooksAlike (t u : Tree) (k : ℕ) : Type 0 where
   pub head : head_of u k ≡ head_of t k
   pub operands : operands_of u k ≡ operands_of t k
@@ -137,14 +137,14 @@ module _ (m : Meaning) (side_effects : Head → Option Bool) (counts : KeepsCoun
       (λ q.
       let same : k ≡ a = one_maker v k a made' q.0 in
       let below : StandsBefore t b user = h b q.1.0 user pair.second su' q.1.1 q.1.2 in
-      subst (λ z. StandsBefore t z user) (sym same) (stands_trans t w a b user pair.twin.before below))
-      (λ q. absurd (pair.twin.apart (sym (one_maker q.1.0 b a q.1.1 (subst (λ z. In z (results_of t a)) (sym q.1.2.2) q.1.2.1)))))
+      subst (λ z. StandsBefore t z user) (sym same) (stands_trans t w a b user pair.leads.before below))
+      (λ q. absurd (pair.leads.apart (sym (one_maker q.1.0 b a q.1.1 (subst (λ z. In z (results_of t a)) (sym q.1.2.2) q.1.2.1)))))
       r)
       (used_before (results_of t b) (results_of t a) t user v used') in
       (merged_stands m side_effects counts free t a b root w live linked pair w' k user nk nu).0 there
 
   module _ (ops ends : List ℕ) (place : ℕ) (low : place < length ops) (at : b ≡ get_or ops place 0) (o : IsOrdered t root ops ends place) (behind : UsesAreBehind t root) where
-    -- what comes before the twin uses none of its results
+    -- what comes before the redundant one uses none of its results
     looks_before : (i : ℕ) → i < place → IsLive (after_merging t a b) (get_or ops i 0) → LooksAlike t (after_merging t a b) (get_or ops i 0)
     looks_before i lt l =
         let k = get_or ops i 0 in
@@ -171,7 +171,7 @@ module _ (m : Meaning) (side_effects : Head → Option Bool) (counts : KeepsCoun
         (λ e. inr (omega (arith, e)))
         (h i lt' li (fewer k l) (looks_repeats side_effects t (after_merging t a b) k look r))
 
-    pub none_merged : AreNoTwins side_effects t ops ends place → AreNoTwins side_effects (after_merging t a b) ops ends (place + 1)
+    pub none_merged : AreNotRedundant side_effects t ops ends place → AreNotRedundant side_effects (after_merging t a b) ops ends (place + 1)
     none_merged h i j lt lj l q =
         let lt' = before j lt l in
         h i j lt' lj (fewer (get_or ops j 0) l) (record {
@@ -193,9 +193,9 @@ module _ (m : Meaning) (side_effects : Head → Option Bool) (counts : KeepsCoun
       uses (inl h) = h
       uses (inr e) = absurd (gone b (subst (λ z. IsLive z b) (sym e) (before_all b (w.joined.standing b pair.second.block pair.second.in_block).0)) refl)
 
-      had : (s : IRStatus) → status ≡ s → HasTwins side_effects t0 root
+      had : (s : IRStatus) → status ≡ s → HasRedundancy side_effects t0 root
       had Changed e = x.had e
-      had Unchanged e = subst (λ z. HasTwins side_effects z root) (unchanged e) (a, b, pair)
+      had Unchanged e = subst (λ z. HasRedundancy side_effects z root) (unchanged e) (a, b, pair)
 
 module _ (side_effects : Head → Option Bool) where
   pub exact_start : (t : Tree) (root : ℕ) (ops ends : List ℕ) (find : List ℕ → Option ℕ) → IsExact side_effects t t root ops ends 0 find Unchanged
@@ -217,16 +217,16 @@ module _ (side_effects : Head → Option Bool) where
       cases : (x y : ℕ) → (x ≡ y) ⊎ (x ≢ y)
       cases x y = grind arith
 
-  -- twins are told by their places
-  twins_lead : (t : Tree) (w : IsTree t) (root : ℕ) (ops ends : List ℕ) (place : ℕ) → IsOrdered t root ops ends place → HasTwins side_effects t root → (i j : ℕ) × (j < length ops) × IsLive t (get_or ops j 0) × LeadsAt side_effects t ops ends i j
-  twins_lead t w root ops ends place o (a, b, p) =
+  -- what is redundant is told by its place
+  redundancy_leads : (t : Tree) (w : IsTree t) (root : ℕ) (ops ends : List ℕ) (place : ℕ) → IsOrdered t root ops ends place → HasRedundancy side_effects t root → (i j : ℕ) × (j < length ops) × IsLive t (get_or ops j 0) × LeadsAt side_effects t ops ends i j
+  redundancy_leads t w root ops ends place o (a, b, p) =
       let ia = in_at ops a (o.each a p.first) in
       let ib = in_at ops b (o.each b p.second) in
       let la = (w.joined.standing a p.first.block p.first.in_block).0 in
       let lb = (w.joined.standing b p.second.block p.second.in_block).0 in
       let la' : IsLive t (get_or ops ia.0 0) = subst (IsLive t) (sym ia.2) la in
       let lb' : IsLive t (get_or ops ib.0 0) = subst (IsLive t) (sym ib.2) lb in
-      let s : StandsBefore t (get_or ops ia.0 0) (get_or ops ib.0 0) = subst (λ z. StandsBefore t z (get_or ops ib.0 0)) (sym ia.2) (subst (StandsBefore t a) (sym ib.2) p.twin.before) in
+      let s : StandsBefore t (get_or ops ia.0 0) (get_or ops ib.0 0) = subst (λ z. StandsBefore t z (get_or ops ib.0 0)) (sym ia.2) (subst (StandsBefore t a) (sym ib.2) p.leads.before) in
       let q = (o.standing ia.0 ib.0 ia.1 ib.1 la' lb').1 s in (
         ia.0,
         ib.0,
@@ -237,22 +237,22 @@ module _ (side_effects : Head → Option Bool) where
           within = q.1;
           live = la';
           alike = subst (λ z. AreNearAlike side_effects t z (get_or ops ib.0 0)) (sym ia.2) (subst (AreNearAlike side_effects t a) (sym ib.2) (record {
-            alike = p.twin.alike;
+            alike = p.leads.alike;
             near = λ e.
-                let around = p.twin.near e in
-                let home : region_around t a ≡ Some p.twin.before.region = ap (λ o. up_from o (λ c. block_parent_of t c)) p.twin.before.in_home ∙ p.twin.before.home_region in
-                let own : region_around t b ≡ Some p.twin.before.region = ap (λ z. region_around t z) (sym around) ∙ ap (λ o. up_from o (λ c. block_parent_of t c)) p.twin.before.in_block ∙ p.twin.before.in_region in
+                let around = p.leads.near e in
+                let home : region_around t a ≡ Some p.leads.before.region = ap (λ o. up_from o (λ c. block_parent_of t c)) p.leads.before.in_home ∙ p.leads.before.home_region in
+                let own : region_around t b ≡ Some p.leads.before.region = ap (λ z. region_around t z) (sym around) ∙ ap (λ o. up_from o (λ c. block_parent_of t c)) p.leads.before.in_block ∙ p.leads.before.in_region in
                 home ∙ sym own;
           }));
         },
       )
 
-  pub exact_end : (t0 t : Tree) (w : IsTree t) (root : ℕ) (ops ends : List ℕ) (place : ℕ) (find : List ℕ → Option ℕ) (status : IRStatus) → length ops ≤ place → IsOrdered t root ops ends place → (status ≡ Unchanged → t ≡ t0) → IsExact side_effects t0 t root ops ends place find status → LeavesNoTwin side_effects t0 t root × ReportsEquivalent side_effects t0 root status
-  exact_end t0 t w root ops ends place find status all o unchanged x = (λ h twins. over (inl h) twins, (λ e. x.had e, λ twins. told status refl twins))
+  pub exact_end : (t0 t : Tree) (w : IsTree t) (root : ℕ) (ops ends : List ℕ) (place : ℕ) (find : List ℕ → Option ℕ) (status : IRStatus) → length ops ≤ place → IsOrdered t root ops ends place → (status ≡ Unchanged → t ≡ t0) → IsExact side_effects t0 t root ops ends place find status → LeavesNoRedundancy side_effects t0 t root × ReportsEquivalent side_effects t0 root status
+  exact_end t0 t w root ops ends place find status all o unchanged x = (λ h redundancy. over (inl h) redundancy, (λ e. x.had e, λ redundancy. told status refl redundancy))
     where
-      over : UsesAreBehind t0 root ⊎ (t ≡ t0) → HasTwins side_effects t root → ⊥
-      over h twins = let q = twins_lead t w root ops ends place o twins in x.none h q.0 q.1 (omega (arith, q.2, all)) q.2 q.3 q.4
+      over : UsesAreBehind t0 root ⊎ (t ≡ t0) → HasRedundancy side_effects t root → ⊥
+      over h redundancy = let q = redundancy_leads t w root ops ends place o redundancy in x.none h q.0 q.1 (omega (arith, q.2, all)) q.2 q.3 q.4
 
-      told : (s : IRStatus) → status ≡ s → HasTwins side_effects t0 root → status ≡ Changed
-      told Changed e twins = e
-      told Unchanged e twins = absurd (over (inr (unchanged e)) (subst (λ z. HasTwins side_effects z root) (sym (unchanged e)) twins))
+      told : (s : IRStatus) → status ≡ s → HasRedundancy side_effects t0 root → status ≡ Changed
+      told Changed e redundancy = e
+      told Unchanged e redundancy = absurd (over (inr (unchanged e)) (subst (λ z. HasRedundancy side_effects z root) (sym (unchanged e)) redundancy))

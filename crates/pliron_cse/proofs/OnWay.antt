@@ -16,7 +16,7 @@ use Rattle.pliron_theory.proofs.EdgeLemmas.{edges_alike, edges_transitive}
 use Rattle.pliron_theory.proofs.ErasedKeeps.{erased_gone}
 use Rattle.pliron_theory.proofs.WholeChanges.{whole_refl, whole_trans}
 use Rattle.pliron_equivalence.specs.Standing.{StandsBefore}
-use Rattle.pliron_equivalence.specs.Twins.{IsTwin}
+use Rattle.pliron_equivalence.specs.Redundancy.{IsLeader}
 use Rattle.pliron_equivalence.specs.Merging.{replaced_all, partly_merged, results_merged, after_merging}
 use Rattle.pliron_equivalence.proofs.Merging.{tree_all, own_pairs, contained_all, merged_lives, partly}
 use Rattle.pliron_equivalence.proofs.Standing.{stands_holder}
@@ -33,7 +33,7 @@ use Rattle.pliron_cse.proofs.ErasedEdges.{erased_alike}
 use Rattle.pliron_cse.proofs.Moved.{moved_regions, moved_successors, moved_stands, moved_seen, moved_alike, moved_live, moved_around, taken_pairs}
 use Rattle.pliron_cse.proofs.SeenStays.{seen_stays}
 use Rattle.pliron_cse.proofs.Staying.{is, lives, parents, regions_same, stands_forth, stands_back}
-use Rattle.pliron_cse.proofs.Taken.{near_twin}
+use Rattle.pliron_cse.proofs.Taken.{near_leader}
 
 alike_itself : (t : Tree) → EdgesAlike t t
 alike_itself t = record { grows = omega arith; regions = λ op. refl; layouts = λ r. refl; successors = λ b. refl; bodies = λ b. refl }
@@ -52,8 +52,8 @@ module _ (m : Meaning) where
 
 -- one whole rewrite
 module _ (m : Meaning) (side_effects : Head → Option Bool) (counts : KeepsCounts m) (free : GivesAtOnce m side_effects) (t : Tree) (a b root : ℕ) (w : IsTree t) (live : IsLive t root) (linked : IsWellLinked m t root) (pair : IsPair side_effects t root a b) where
-  twin : IsTwin side_effects t a b
-  twin = near_twin side_effects t a b w pair.twin
+  leads : IsLeader side_effects t a b
+  leads = near_leader side_effects t a b w pair.leads
 
   inside : IsInside t root b
   inside = seen_inside t w root b pair.second
@@ -65,7 +65,7 @@ module _ (m : Meaning) (side_effects : Head → Option Bool) (counts : KeepsCoun
       stands = (moved_live vs xs t root).0 live;
       linked = links_all m vs xs t root linked;
       inside = (inside_all side_effects a b root vs xs t w (taken_pairs side_effects t a b n) inside).0;
-      runs = partly m side_effects counts free t a b n w twin;
+      runs = partly m side_effects counts free t a b n w leads;
     };
     links = links_all m vs xs t;
     edges = edges_alike t (partly_merged t a b n) w w' (moved_alike vs xs t (alike_itself t));
@@ -86,16 +86,16 @@ module _ (m : Meaning) (side_effects : Head → Option Bool) (counts : KeepsCoun
     tree = tree_all side_effects a b (results_of t b) (results_of t a) t w (own_pairs side_effects a b t)
 
     none : regions_of (results_merged t a b) b ≡ []
-    none = moved_regions (results_of t b) (results_of t a) t b ∙ pair.twin.alike.no_regions
+    none = moved_regions (results_of t b) (results_of t a) t b ∙ pair.leads.alike.no_regions
 
     next : successors_of (results_merged t a b) b ≡ []
-    next = moved_successors (results_of t b) (results_of t a) t b ∙ pair.twin.alike.no_successors
+    next = moved_successors (results_of t b) (results_of t a) t b ∙ pair.leads.alike.no_successors
 
     lives_still : IsLive (results_merged t a b) b
-    lives_still = merged_lives side_effects t a b w twin
+    lives_still = merged_lives side_effects t a b w leads
 
     contained : IsSelfContained (results_merged t a b) b
-    contained = contained_all side_effects a b t w twin
+    contained = contained_all side_effects a b t w leads
 
     edges_last : EdgesLast (results_merged t a b) root
     edges_last = (links_all m (results_of t b) (results_of t a) t root linked).edges
@@ -112,7 +112,7 @@ module _ (m : Meaning) (side_effects : Head → Option Bool) (counts : KeepsCoun
 
     pub merged_seen : (k : ℕ) → k ≢ b → IsSeen t root k ↔ IsSeen (after_merging t a b) root k
     merged_seen k ne =
-        let s = moved_seen (results_of t b) (results_of t a) t b root k pair.twin.alike.no_regions ne in
+        let s = moved_seen (results_of t b) (results_of t a) t b root k pair.leads.alike.no_regions ne in
         let e = seen_stays (results_merged t a b) b tree none next lives_still contained w' root edges_last inside_still k ne in
         (λ p. e.0 (s.0 p), λ p. s.1 (e.1 p))
 
@@ -157,7 +157,7 @@ module _ (m : Meaning) (side_effects : Head → Option Bool) (counts : KeepsCoun
 
     pub way_merged : IsOnWay m t (after_merging t a b) root
     way_merged = record {
-      change = changing m side_effects counts free t root a b w w' live linked inside pair.twin;
+      change = changing m side_effects counts free t root a b w w' live linked inside pair.leads;
       links = merged_links;
       edges = merged_edges;
       fewer = merged_fewer;
@@ -217,7 +217,7 @@ pub pair_of : (side_effects : Head → Option Bool) (t : Tree) → IsTree t → 
 pair_of side_effects t w root ops ends i j a b o lt low within is_a is_b live near = record {
   first = o.seen a (subst (λ z. In z ops) (sym is_a) (at_in ops i (omega (arith, lt, low)))) live;
   second = second;
-  twin = record {
+  leads = record {
     apart = λ e. let same : i ≡ j = distinct_at ops o.distinct i j (omega (arith, lt, low)) low (sym is_a ∙ e ∙ is_b) in omega (arith, same, lt);
     alike = near.alike;
     before = before;
@@ -240,10 +240,10 @@ pair_of side_effects t w root ops ends i j a b o lt low within is_a is_b live ne
     around_b : (s : IsSeen t root b) → region_around t b ≡ Some s.region
     around_b s = ap (λ o. up_from o (λ c. block_parent_of t c)) s.in_block ∙ s.in_region
 
--- twins that went, and one more
-pub turn_more : (side_effects : Head → Option Bool) (root : ℕ) (xs : List Pair) (x : Pair) (t u : Tree) → TakeInTurn side_effects root xs t u → IsPair side_effects u root x.leader x.twin → TakeInTurn side_effects root (xs ++ x ∷ []) t (after_merging u x.leader x.twin)
-turn_more side_effects root [] x t u e p = (subst (λ z. IsPair side_effects z root x.leader x.twin) e p, ap (λ z. after_merging z x.leader x.twin) e)
-turn_more side_effects root (y ∷ ys) x t u h p = (h.0, turn_more side_effects root ys x (after_merging t y.leader y.twin) u h.1 p)
+-- redundant operations that went, and one more
+pub turn_more : (side_effects : Head → Option Bool) (root : ℕ) (xs : List Pair) (x : Pair) (t u : Tree) → TakeInTurn side_effects root xs t u → IsPair side_effects u root x.leader x.redundant → TakeInTurn side_effects root (xs ++ x ∷ []) t (after_merging u x.leader x.redundant)
+turn_more side_effects root [] x t u e p = (subst (λ z. IsPair side_effects z root x.leader x.redundant) e p, ap (λ z. after_merging z x.leader x.redundant) e)
+turn_more side_effects root (y ∷ ys) x t u h p = (h.0, turn_more side_effects root ys x (after_merging t y.leader y.redundant) u h.1 p)
 
 -- no more than all results move
 pub part_within : (t : Tree) (a b n : ℕ) → length (results_of t b) ≡ length (results_of t a) → (k : ℕ) × (k ≤ length (results_of t b)) × (partly_merged t a b n ≡ partly_merged t a b k)

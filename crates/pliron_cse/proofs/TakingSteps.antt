@@ -8,7 +8,7 @@ use Rattle.pliron_laws.specs.Datum.{Head, Meaning}
 use Rattle.pliron_laws.specs.Laws.{KeepsCounts, GivesAtOnce}
 use Rattle.pliron_laws.specs.Linked.{IsWellLinked}
 use Rattle.pliron_equivalence.specs.Merging.{after_merging, partly_merged}
-use Rattle.pliron_cse.specs.Left.{LeavesNoTwin, ReportsEquivalent}
+use Rattle.pliron_cse.specs.Left.{LeavesNoRedundancy, ReportsEquivalent}
 use Rattle.pliron_cse.specs.Steps.{IsOnWay, IsOrdered, IsTaking, LeadsAt, LeadsOn, TakesInPart, TakesOrStays, ReportsErased, status_after}
 use Rattle.pliron_cse.specs.Taking.{IsPair, IsTakenSoFar, Pair}
 use Rattle.pliron_cse.proofs.Exact.{exact_start, exact_merged, exact_stays, exact_end}
@@ -39,7 +39,7 @@ module _ (m : Meaning) (side_effects : Head → Option Bool) (counts : KeepsCoun
     taken_one : (a : ℕ) → IsPair side_effects t root a (get_or ops place 0) → IsTree (after_merging t a (get_or ops place 0)) → ((key : List ℕ) → find' key ≡ find key) → IsTaking m side_effects t0 (after_merging t a (get_or ops place 0)) root ops ends (place + 1) find' Changed
     taken_one a p w' same = record {
       way = way_more m t0 t (after_merging t a b) root h.way (way_merged m side_effects counts free t a b root w live_now linked_now p w');
-      taken = (h.taken.0 ++ record { leader = a; twin = b } ∷ [], turn_more side_effects root h.taken.0 (record { leader = a; twin = b }) t0 t h.taken.1 p);
+      taken = (h.taken.0 ++ record { leader = a; redundant = b } ∷ [], turn_more side_effects root h.taken.0 (record { leader = a; redundant = b }) t0 t h.taken.1 p);
       tells = (b, h.way.fewer b lives, λ l. merged_gone m side_effects counts free t a b root w live_now linked_now p w' b l refl);
       ordered = ordered_merged m side_effects counts free t a b root w live_now linked_now p w' ops ends place low refl h.ordered;
       exact = exact_merged m side_effects counts free t a b root w live_now linked_now p w' t0 ops ends place find find' status low refl h.ordered h.way.fewer (tells_unchanged t0 t status h.tells) same h.exact;
@@ -70,7 +70,7 @@ module _ (m : Meaning) (side_effects : Head → Option Bool) (counts : KeepsCoun
     refused_taken t' (inl e) = (h.taken.0, (t, h.taken.1, inl e))
     refused_taken t' (inr (i, q, part)) =
         let k = part_within t (get_or ops i 0) (get_or ops place 0) part.0 q.alike.alike.results in
-        (h.taken.0, (t, h.taken.1, inr (record { leader = get_or ops i 0; twin = get_or ops place 0 }, k.0, pair i q, k.1, part.1 ∙ k.2)))
+        (h.taken.0, (t, h.taken.1, inr (record { leader = get_or ops i 0; redundant = get_or ops place 0 }, k.0, pair i q, k.1, part.1 ∙ k.2)))
 
-  pub taking_end : (t : Tree) (place : ℕ) (find : List ℕ → Option ℕ) (status : IRStatus) → IsTree t → length ops ≤ place → IsTaking m side_effects t0 t root ops ends place find status → LeavesNoTwin side_effects t0 t root × ReportsEquivalent side_effects t0 root status
+  pub taking_end : (t : Tree) (place : ℕ) (find : List ℕ → Option ℕ) (status : IRStatus) → IsTree t → length ops ≤ place → IsTaking m side_effects t0 t root ops ends place find status → LeavesNoRedundancy side_effects t0 t root × ReportsEquivalent side_effects t0 root status
   taking_end t place find status w all h = exact_end side_effects t0 t w root ops ends place find status all h.ordered (tells_unchanged t0 t status h.tells) h.exact

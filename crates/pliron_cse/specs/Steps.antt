@@ -10,11 +10,11 @@ use Rattle.pliron_theory.specs.Change.{IsWholeChange}
 use Rattle.pliron_theory.specs.Edges.{KeepsEdges}
 use Rattle.pliron_theory.specs.Rewrites.{HasNoSideEffects}
 use Rattle.pliron_equivalence.specs.Standing.{StandsBefore}
-use Rattle.pliron_equivalence.specs.Twins.{AreAlike}
+use Rattle.pliron_equivalence.specs.Redundancy.{AreAlike}
 use Rattle.pliron_equivalence.specs.Merging.{after_merging, IsPartlyMerged}
 use Rattle.pliron_order.specs.Seen.{IsSeen}
 use Rattle.pliron_cse.specs.Keys.{key_words, region_around}
-use Rattle.pliron_cse.specs.Left.{UsesAreBehind, HasTwins}
+use Rattle.pliron_cse.specs.Left.{UsesAreBehind, HasRedundancy}
 use Rattle.pliron_cse.specs.Taking.{Pair, TakeInTurn}
 
 -- the operation holds nothing, leads nowhere and has no side effects
@@ -28,7 +28,7 @@ pub record AreNearAlike (side_effects : Head → Option Bool) (t : Tree) (a b : 
   pub alike : AreAlike side_effects t a b
   pub near : operands_of t b ≡ [] → region_around t a ≡ region_around t b
 
--- the operation at the second place is a twin of the one at the first
+-- the operation at the first place is a leader of the one at the second
 pub record LeadsAt (side_effects : Head → Option Bool) (t : Tree) (ops ends : List ℕ) (i place : ℕ) : Type 0 where
   pub first : i < place
   pub within : place < get_or ends i 0
@@ -39,7 +39,7 @@ pub record LeadsAt (side_effects : Head → Option Bool) (t : Tree) (ops ends : 
 abbrev pub AreFound : (Head → Option Bool) → Tree → (ops ends : List ℕ) → ℕ → (List ℕ → Option ℕ) → Type 0
 AreFound side_effects t ops ends place find = (i : ℕ) → i < place → i < length ops → IsLive t (get_or ops i 0) → MayRepeat side_effects t (get_or ops i 0) → (find (key_words t (get_or ops i 0)) ≡ Some i) ⊎ (get_or ends i 0 ≤ place)
 
--- where leaders are found, one that stays is no twin, and leaders are found from the next place on
+-- where leaders are found, one that stays is not redundant, and leaders are found from the next place on
 pub record StaysAlone (side_effects : Head → Option Bool) (t : Tree) (ops ends : List ℕ) (place : ℕ) (find find' : List ℕ → Option ℕ) : Type 0 where
   pub found : AreFound side_effects t ops ends place find → AreFound side_effects t ops ends (place + 1) find'
   pub none : AreFound side_effects t ops ends place find → (i : ℕ) → LeadsAt side_effects t ops ends i place → ⊥
@@ -49,9 +49,9 @@ abbrev pub LeadsOn : (Head → Option Bool) → Tree → (ops ends : List ℕ) �
 LeadsOn side_effects t ops ends place find find' true = (key : List ℕ) → find' key ≡ find key
 LeadsOn side_effects t ops ends place find find' false = StaysAlone side_effects t ops ends place find find'
 
--- no operation before the place is a twin of another
-abbrev pub AreNoTwins : (Head → Option Bool) → Tree → (ops ends : List ℕ) → ℕ → Type 0
-AreNoTwins side_effects t ops ends place = (i j : ℕ) → j < place → j < length ops → IsLive t (get_or ops j 0) → LeadsAt side_effects t ops ends i j → ⊥
+-- no operation before the place is redundant
+abbrev pub AreNotRedundant : (Head → Option Bool) → Tree → (ops ends : List ℕ) → ℕ → Type 0
+AreNotRedundant side_effects t ops ends place = (i j : ℕ) → j < place → j < length ops → IsLive t (get_or ops j 0) → LeadsAt side_effects t ops ends i j → ⊥
 
 -- of the operations in dominance order those that stand are seen, and all from this place on stand
 pub record IsOrdered (t : Tree) (root : ℕ) (ops ends : List ℕ) (place : ℕ) : Type 0 where
@@ -62,7 +62,7 @@ pub record IsOrdered (t : Tree) (root : ℕ) (ops ends : List ℕ) (place : ℕ)
   pub standing : (i j : ℕ) → i < length ops → j < length ops → IsLive t (get_or ops i 0) → IsLive t (get_or ops j 0) → ((i < j) × (j < get_or ends i 0)) ↔ StandsBefore t (get_or ops i 0) (get_or ops j 0)
   pub left : (j : ℕ) → place ≤ j → j < length ops → IsLive t (get_or ops j 0)
 
--- the operation at the place went as a twin of one before it, or nothing changed
+-- the operation at the place went as redundant, or nothing changed
 abbrev pub TakesOrStays : (Head → Option Bool) → (t t' : Tree) → (ops ends : List ℕ) → ℕ → Bool → Type 0
 TakesOrStays side_effects t t' ops ends place true = (i : ℕ) × LeadsAt side_effects t ops ends i place × (t' ≡ after_merging t (get_or ops i 0) (get_or ops place 0))
 TakesOrStays side_effects t t' ops ends place false = t' ≡ t
@@ -83,12 +83,12 @@ abbrev pub ReportsErased : (t0 t : Tree) → IRStatus → Type 0
 ReportsErased t0 t Changed = (b : ℕ) × IsLive t0 b × (IsLive t b → ⊥)
 ReportsErased t0 t Unchanged = t ≡ t0
 
--- where uses were behind, or nothing changed yet, leaders are found and no twin is left before the place
+-- where uses were behind, or nothing changed yet, leaders are found and no redundant operation is left before the place
 pub record IsExact (side_effects : Head → Option Bool) (t0 t : Tree) (root : ℕ) (ops ends : List ℕ) (place : ℕ) (find : List ℕ → Option ℕ) (status : IRStatus) : Type 0 where
   pub behind : UsesAreBehind t0 root → UsesAreBehind t root
   pub found : UsesAreBehind t0 root ⊎ (t ≡ t0) → AreFound side_effects t ops ends place find
-  pub none : UsesAreBehind t0 root ⊎ (t ≡ t0) → AreNoTwins side_effects t ops ends place
-  pub had : status ≡ Changed → HasTwins side_effects t0 root
+  pub none : UsesAreBehind t0 root ⊎ (t ≡ t0) → AreNotRedundant side_effects t ops ends place
+  pub had : status ≡ Changed → HasRedundancy side_effects t0 root
 
 -- what holds when the operations before the place were visited
 pub record IsTaking (m : Meaning) (side_effects : Head → Option Bool) (t0 t : Tree) (root : ℕ) (ops ends : List ℕ) (place : ℕ) (find : List ℕ → Option ℕ) (status : IRStatus) : Type 0 where

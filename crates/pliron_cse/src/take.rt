@@ -1,9 +1,9 @@
-//! Twins go, one after the other.
+//! Redundant operations go, one after the other.
 ghost use Rattle.std.specs.Prelude.{◌≡◌, ◌⊎◌, ◌↔◌, ◌+◌, ◌<◌, ℕ, List, IfOk, OnOk, OnErr, IfSome, IfNone, Some, IsOkUnless, IsTrue, length, get_or};
 ghost use Rattle.pliron_core.specs.Tree.{IsLive};
 ghost use Rattle.pliron_laws.specs.Linked.{IsWellLinked};
 ghost use Rattle.pliron_cse.specs.Leaders.{leader_with};
-ghost use Rattle.pliron_cse.specs.Left.{LeavesNoTwin, ReportsEquivalent};
+ghost use Rattle.pliron_cse.specs.Left.{LeavesNoRedundancy, ReportsEquivalent};
 ghost use Rattle.pliron_cse.specs.Steps.{AreNearAlike, IsOnWay, IsOrdered, LeadsAt, LeadsOn, MayRepeat, TakesInPart, TakesOrStays, ReportsErased, status_after};
 ghost use Rattle.pliron_cse.specs.Taking.{IsTakenSoFar, Pair, TakeInTurn};
 
@@ -11,7 +11,7 @@ use crate::keys::{key_of, region_of_operation};
 use crate::leaders::Leaders;
 use pliron_core::{Context, IRStatus, Operation, Ptr, Region, Rewriter};
 use pliron_equivalence::alike::are_alike;
-use pliron_equivalence::rewrites::merge_twin;
+use pliron_equivalence::rewrites::merge_into_leader;
 use pliron_laws::{Dialect, OptError, Room};
 use pliron_order::DominanceOrder;
 use std::alloc::Global;
@@ -63,7 +63,7 @@ fn operation_at(order: &DominanceOrder, place: usize) -> Ptr<Operation>
     order.operations[place]
 }
 
-// The operation at the first place, if the one at the second is its twin.
+// The operation at the first place, if it is a leader of the one at the second.
 fn leader_at<D: Dialect>(
     order: &DominanceOrder,
     leader: usize,
@@ -91,7 +91,7 @@ fn leader_at<D: Dialect>(
     Some(first)
 }
 
-// The operation whose twin the one at this place is, by its key.
+// A leader of the operation at this place, by its key.
 fn leader_of<D: Dialect>(
     order: &DominanceOrder,
     leaders: &Leaders,
@@ -113,7 +113,7 @@ fn leader_of<D: Dialect>(
     }
 }
 
-// The operation at this place goes if it is a twin, and else it leads those behind it. Answers whether it went.
+// The operation at this place goes if it is redundant, and else it leads those behind it. Answers whether it went.
 fn take_at<D: Dialect, R: Rewriter + Room>(
     alloc: Global,
     order: &DominanceOrder,
@@ -139,7 +139,7 @@ fn take_at<D: Dialect, R: Rewriter + Room>(
     }
     let key = key_of(alloc, op, ctx)?;
     if let Some(first) = leader_of::<D>(order, leaders, &key, place, ctx) {
-        merge_twin::<D, R>(alloc, first, op, ctx, rewriter)?;
+        merge_into_leader::<D, R>(alloc, first, op, ctx, rewriter)?;
         return Ok(true);
     }
     leaders.put(key, place)?;
@@ -153,7 +153,7 @@ fn status_with(status: IRStatus, taken: bool) -> IRStatus
     if taken { IRStatus::Changed } else { status }
 }
 
-/// The twins among these operations go. Answers whether one went.
+/// The redundant ones among these operations go. Answers whether one went.
 ///
 /// Asks for the dominance order of what is inside the root, and that the root stands and is well linked. Errors:
 /// allocation failure. Cost: a look-up of the key of each operation, and a step for each use that moves.
@@ -171,7 +171,7 @@ pub fn take_all<D: Dialect, R: Rewriter + Room>(
         (TakeInTurn D.side_effects root xs ctx.old.tree ctx.new.tree) }
     ensures way { IsOnWay D.meaning ctx.old.tree ctx.new.tree root }
     ensures tells { IfOk result (λ a. ReportsErased ctx.old.tree ctx.new.tree a) }
-    ensures none { IfOk result (λ a. LeavesNoTwin D.side_effects ctx.old.tree ctx.new.tree root) }
+    ensures none { IfOk result (λ a. LeavesNoRedundancy D.side_effects ctx.old.tree ctx.new.tree root) }
     ensures status { IfOk result (λ a. ReportsEquivalent D.side_effects ctx.old.tree root a) }
     ensures memory { IsOkUnless result OptError.Memory }
 {

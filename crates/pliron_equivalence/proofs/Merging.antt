@@ -1,4 +1,4 @@
--- The uses of all results of a twin go to those of the operation that stands before it.
+-- The uses of all results of a redundant operation go to those of the operation that stands before it.
 use Rattle.std.proofs.Common.{◌≡◌, ◌≢◌, ◌⊎◌, ℕ, zero, suc, Bool, List, [], ◌∷◌, length, take, Option, Some, None, IsSome, inl, inr, ⊎_elim, slice_get, refl, sym, ap, ◌∙◌, subst, arith}
 use Rattle.pliron_core.specs.declared.context.Def.{Def}
 use Rattle.pliron_core.specs.declared.context.Def.TheVariants.{Result, Argument}
@@ -16,10 +16,10 @@ use Rattle.pliron_theory.proofs.ErasedKeeps.{erased_keeps}
 use Rattle.pliron_theory.specs.Keeps.{KeepsAllRuns, with_roots}
 use Rattle.pliron_theory.proofs.Keeping.{keeps_refl, keeps_trans}
 use Rattle.pliron_theory.proofs.SweptParts.{block_place_of}
-use Rattle.pliron_equivalence.specs.Twins.{IsTwin}
+use Rattle.pliron_equivalence.specs.Redundancy.{IsLeader}
 use Rattle.pliron_equivalence.specs.Merging.{replaced_all, partly_merged, results_merged, after_merging, MergingLaw}
-use Rattle.pliron_equivalence.proofs.Replaced.{IsUnused, tree_kept, old_unused, still_unused, new_defined, twin_kept}
-use Rattle.pliron_equivalence.proofs.Twins.{twins, chosen_counts}
+use Rattle.pliron_equivalence.proofs.Replaced.{IsUnused, tree_kept, old_unused, still_unused, new_defined, leader_kept}
+use Rattle.pliron_equivalence.proofs.Redundancy.{leaders_stand, chosen_counts}
 
 -- what has no regions holds nothing
 pub nothing_inside : (t : Tree) (b x : ℕ) → IsTree t → regions_of t b ≡ [] → IsInside t b x → ⊥
@@ -60,21 +60,21 @@ module _ (side_effects : Head → Option Bool) (a b : ℕ) where
       let p = pairs zero v x refl refl in
       tree_all vs xs (after_replacing t v x) (tree_kept t v x w (new_defined t v x side_effects a b p.0 w p.1 p.2)) (λ i y z e f. pairs (suc i) y z e f)
 
-  twin_all : (vs xs : List ℕ) (t : Tree) → IsTree t → ArePairs t vs xs → IsTwin side_effects t a b → IsTwin side_effects (replaced_all t vs xs) a b
-  twin_all [] xs t w pairs twin = twin
-  twin_all (v ∷ vs) [] t w pairs twin = twin
-  twin_all (v ∷ vs) (x ∷ xs) t w pairs twin =
+  leader_all : (vs xs : List ℕ) (t : Tree) → IsTree t → ArePairs t vs xs → IsLeader side_effects t a b → IsLeader side_effects (replaced_all t vs xs) a b
+  leader_all [] xs t w pairs leads = leads
+  leader_all (v ∷ vs) [] t w pairs leads = leads
+  leader_all (v ∷ vs) (x ∷ xs) t w pairs leads =
       let p = pairs zero v x refl refl in
-      twin_all vs xs (after_replacing t v x) (tree_kept t v x w (new_defined t v x side_effects a b p.0 w p.1 p.2)) (λ i y z e f. pairs (suc i) y z e f) (twin_kept t v x side_effects a b p.0 w p.1 p.2 twin)
+      leader_all vs xs (after_replacing t v x) (tree_kept t v x w (new_defined t v x side_effects a b p.0 w p.1 p.2)) (λ i y z e f. pairs (suc i) y z e f) (leader_kept t v x side_effects a b p.0 w p.1 p.2 leads)
 
-  pub runs_all : (m : Meaning) → KeepsCounts m → GivesAtOnce m side_effects → (vs xs : List ℕ) (t : Tree) → IsTree t → ArePairs t vs xs → IsTwin side_effects t a b → KeepsAllRuns m t (replaced_all t vs xs)
-  runs_all m counts free [] xs t w pairs twin = λ chosen. keeps_refl (with_roots m chosen) t
-  runs_all m counts free (v ∷ vs) [] t w pairs twin = λ chosen. keeps_refl (with_roots m chosen) t
-  runs_all m counts free (v ∷ vs) (x ∷ xs) t w pairs twin = λ chosen.
+  pub runs_all : (m : Meaning) → KeepsCounts m → GivesAtOnce m side_effects → (vs xs : List ℕ) (t : Tree) → IsTree t → ArePairs t vs xs → IsLeader side_effects t a b → KeepsAllRuns m t (replaced_all t vs xs)
+  runs_all m counts free [] xs t w pairs leads = λ chosen. keeps_refl (with_roots m chosen) t
+  runs_all m counts free (v ∷ vs) [] t w pairs leads = λ chosen. keeps_refl (with_roots m chosen) t
+  runs_all m counts free (v ∷ vs) (x ∷ xs) t w pairs leads = λ chosen.
       let p = pairs zero v x refl refl in
       keeps_trans (with_roots m chosen) t (after_replacing t v x) (replaced_all (after_replacing t v x) vs xs)
-      (twins m side_effects counts free t a b p.0 v x w twin p.1 p.2 chosen)
-      (runs_all m counts free vs xs (after_replacing t v x) (tree_kept t v x w (new_defined t v x side_effects a b p.0 w p.1 p.2)) (λ i y z e f. pairs (suc i) y z e f) (twin_kept t v x side_effects a b p.0 w p.1 p.2 twin) chosen)
+      (leaders_stand m side_effects counts free t a b p.0 v x w leads p.1 p.2 chosen)
+      (runs_all m counts free vs xs (after_replacing t v x) (tree_kept t v x w (new_defined t v x side_effects a b p.0 w p.1 p.2)) (λ i y z e f. pairs (suc i) y z e f) (leader_kept t v x side_effects a b p.0 w p.1 p.2 leads) chosen)
 
   -- none of the values is used any more
   unused_all : (vs xs : List ℕ) (t : Tree) → IsTree t → a ≢ b → ArePairs t vs xs → length vs ≡ length xs → (u i : ℕ) → slice_get (results_of t b) i ≡ Some u → In u vs ⊎ IsUnused t u → IsUnused (replaced_all t vs xs) u
@@ -94,8 +94,8 @@ module _ (side_effects : Head → Option Bool) (a b : ℕ) where
   pub own_pairs : (t : Tree) → ArePairs t (results_of t b) (results_of t a)
   own_pairs t i v x p q = (i, p, q)
 
-  pub contained_all : (t : Tree) → IsTree t → IsTwin side_effects t a b → IsSelfContained (results_merged t a b) b
-  contained_all t w twin = record { values = λ x v i within. values x v i (definition_of u v) refl within; blocks = λ x c i held. absurd (nothing_held u b c tree after.alike.no_regions held) }
+  pub contained_all : (t : Tree) → IsTree t → IsLeader side_effects t a b → IsSelfContained (results_merged t a b) b
+  contained_all t w leads = record { values = λ x v i within. values x v i (definition_of u v) refl within; blocks = λ x c i held. absurd (nothing_held u b c tree after.alike.no_regions held) }
     where
       u : Tree
       u = results_merged t a b
@@ -103,8 +103,8 @@ module _ (side_effects : Head → Option Bool) (a b : ℕ) where
       tree : IsTree (results_merged t a b)
       tree = tree_all (results_of t b) (results_of t a) t w (own_pairs t)
 
-      after : IsTwin side_effects (results_merged t a b) a b
-      after = twin_all (results_of t b) (results_of t a) t w (own_pairs t) twin
+      after : IsLeader side_effects (results_merged t a b) a b
+      after = leader_all (results_of t b) (results_of t a) t w (own_pairs t) leads
 
       values : (x v : ℕ) → In v (operands_of (results_merged t a b) x) → (d : Option Def) → definition_of (results_merged t a b) v ≡ d → IsDefinedWithin (results_merged t a b) b d → IsWithin (results_merged t a b) b x
       values x v i None e within = absurd within
@@ -122,18 +122,18 @@ module _ (side_effects : Head → Option Bool) (a b : ℕ) where
           at = ap (λ l. slice_get l j) (sym same) ∙ ap (λ z. slice_get (results_of (results_merged t a b) z) j) (sym s) ∙ made
 
           gone : IsUnused (results_merged t a b) v
-          gone = unused_all (results_of t b) (results_of t a) t w twin.apart (own_pairs t) twin.alike.results v j at (inl (in_slice (results_of t b) j v at))
+          gone = unused_all (results_of t b) (results_of t a) t w leads.apart (own_pairs t) leads.alike.results v j at (inl (in_slice (results_of t b) j v at))
 
 module _ (m : Meaning) (side_effects : Head → Option Bool) (counts : KeepsCounts m) (free : GivesAtOnce m side_effects) where
-  pub gone : (t : Tree) (a b : ℕ) → IsTree t → IsTree (after_merging t a b) → IsTwin side_effects t a b → KeepsAllRuns m t (after_merging t a b)
-  gone t a b w w' twin = λ chosen.
+  pub gone : (t : Tree) (a b : ℕ) → IsTree t → IsTree (after_merging t a b) → IsLeader side_effects t a b → KeepsAllRuns m t (after_merging t a b)
+  gone t a b w w' leads = λ chosen.
       let tree = tree_all side_effects a b (results_of t b) (results_of t a) t w (own_pairs side_effects a b t) in
-      let after = twin_all side_effects a b (results_of t b) (results_of t a) t w (own_pairs side_effects a b t) twin in
+      let after = leader_all side_effects a b (results_of t b) (results_of t a) t w (own_pairs side_effects a b t) leads in
       keeps_trans (with_roots m chosen) t (results_merged t a b) (after_merging t a b)
-      (runs_all side_effects a b m counts free (results_of t b) (results_of t a) t w (own_pairs side_effects a b t) twin chosen)
-      (erased_keeps (results_merged t a b) b tree (live (results_merged t a b) tree after) (contained_all side_effects a b t w twin) (with_roots m chosen) w' (λ root f i. gives_now (with_roots m chosen) side_effects (chosen_counts m chosen counts) free (results_merged t a b) b (f.linked.admitted b (inr i)) (λ o e. after.alike.harmless o.head (op_shows (results_merged t a b) b o e).head)))
+      (runs_all side_effects a b m counts free (results_of t b) (results_of t a) t w (own_pairs side_effects a b t) leads chosen)
+      (erased_keeps (results_merged t a b) b tree (live (results_merged t a b) tree after) (contained_all side_effects a b t w leads) (with_roots m chosen) w' (λ root f i. gives_now (with_roots m chosen) side_effects (chosen_counts m chosen counts) free (results_merged t a b) b (f.linked.admitted b (inr i)) (λ o e. after.alike.harmless o.head (op_shows (results_merged t a b) b o e).head)))
     where
-      live : (u : Tree) → IsTree u → IsTwin side_effects u a b → IsLive u b
+      live : (u : Tree) → IsTree u → IsLeader side_effects u a b → IsLive u b
       live u tree x = subst (λ h. IsSome h) (sym x.alike.head) (tree.joined.standing a x.before.home x.before.in_home).0
 
   taken_first : (t : Tree) (a b n : ℕ) → ArePairs side_effects a b t (take n (results_of t b)) (take n (results_of t a))
@@ -145,8 +145,8 @@ module _ (m : Meaning) (side_effects : Head → Option Bool) (counts : KeepsCoun
       first (suc n) (x ∷ xs) zero v e = e
       first (suc n) (x ∷ xs) (suc i) v e = first n xs i v e
 
-  pub partly : (t : Tree) (a b n : ℕ) → IsTree t → IsTwin side_effects t a b → KeepsAllRuns m t (partly_merged t a b n)
-  partly t a b n w twin = runs_all side_effects a b m counts free (take n (results_of t b)) (take n (results_of t a)) t w (taken_first t a b n) twin
+  pub partly : (t : Tree) (a b n : ℕ) → IsTree t → IsLeader side_effects t a b → KeepsAllRuns m t (partly_merged t a b n)
+  partly t a b n w leads = runs_all side_effects a b m counts free (take n (results_of t b)) (take n (results_of t a)) t w (taken_first t a b n) leads
 
 -- one more result
 pub one_more : (t : Tree) (vs xs : List ℕ) (n v x : ℕ) → slice_get vs n ≡ Some v → slice_get xs n ≡ Some x → replaced_all t (take (suc n) vs) (take (suc n) xs) ≡ after_replacing (replaced_all t (take n vs) (take n xs)) v x
@@ -161,23 +161,23 @@ rows_same (v ∷ vs) [] t k = refl
 rows_same (v ∷ vs) (x ∷ xs) t k = rows_same vs xs (after_replacing t v x) k
 
 -- both stand on the way
-pub leader_lives : (side_effects : Head → Option Bool) (t : Tree) (a b n : ℕ) → IsTree t → IsTwin side_effects t a b → IsLive (partly_merged t a b n) a
-leader_lives side_effects t a b n w twin = subst (λ h. IsSome h) (sym (rows_same (take n (results_of t b)) (take n (results_of t a)) t a)) (w.joined.standing a twin.before.home twin.before.in_home).0
+pub leader_lives : (side_effects : Head → Option Bool) (t : Tree) (a b n : ℕ) → IsTree t → IsLeader side_effects t a b → IsLive (partly_merged t a b n) a
+leader_lives side_effects t a b n w leads = subst (λ h. IsSome h) (sym (rows_same (take n (results_of t b)) (take n (results_of t a)) t a)) (w.joined.standing a leads.before.home leads.before.in_home).0
 
-pub twin_lives : (side_effects : Head → Option Bool) (t : Tree) (a b n : ℕ) → IsTree t → IsTwin side_effects t a b → IsLive (partly_merged t a b n) b
-twin_lives side_effects t a b n w twin = subst (λ h. IsSome h) (sym (rows_same (take n (results_of t b)) (take n (results_of t a)) t b ∙ twin.alike.head)) (w.joined.standing a twin.before.home twin.before.in_home).0
+pub redundant_lives : (side_effects : Head → Option Bool) (t : Tree) (a b n : ℕ) → IsTree t → IsLeader side_effects t a b → IsLive (partly_merged t a b n) b
+redundant_lives side_effects t a b n w leads = subst (λ h. IsSome h) (sym (rows_same (take n (results_of t b)) (take n (results_of t a)) t b ∙ leads.alike.head)) (w.joined.standing a leads.before.home leads.before.in_home).0
 
 pub partly_results : (t : Tree) (a b n k : ℕ) → results_of (partly_merged t a b n) k ≡ results_of t k
 partly_results t a b n k = results_same (take n (results_of t b)) (take n (results_of t a)) t k
 
-pub merged_lives : (side_effects : Head → Option Bool) (t : Tree) (a b : ℕ) → IsTree t → IsTwin side_effects t a b → IsLive (results_merged t a b) b
-merged_lives side_effects t a b w twin = subst (λ h. IsSome h) (sym (rows_same (results_of t b) (results_of t a) t b ∙ twin.alike.head)) (w.joined.standing a twin.before.home twin.before.in_home).0
+pub merged_lives : (side_effects : Head → Option Bool) (t : Tree) (a b : ℕ) → IsTree t → IsLeader side_effects t a b → IsLive (results_merged t a b) b
+merged_lives side_effects t a b w leads = subst (λ h. IsSome h) (sym (rows_same (results_of t b) (results_of t a) t b ∙ leads.alike.head)) (w.joined.standing a leads.before.home leads.before.in_home).0
 
 pub merging : (m : Meaning) (side_effects : Head → Option Bool) → KeepsCounts m → GivesAtOnce m side_effects → MergingLaw m side_effects
 merging m side_effects counts free = record {
-  runs = λ t a b w twin. runs_all side_effects a b m counts free (results_of t b) (results_of t a) t w (own_pairs side_effects a b t) twin;
-  twin = λ t a b w twin. twin_all side_effects a b (results_of t b) (results_of t a) t w (own_pairs side_effects a b t) twin;
-  partly = λ t a b n w twin. partly m side_effects counts free t a b n w twin;
-  gone = λ t a b w w' twin. gone m side_effects counts free t a b w w' twin;
-  contained = λ t a b w twin. contained_all side_effects a b t w twin;
+  runs = λ t a b w leads. runs_all side_effects a b m counts free (results_of t b) (results_of t a) t w (own_pairs side_effects a b t) leads;
+  leads = λ t a b w leads. leader_all side_effects a b (results_of t b) (results_of t a) t w (own_pairs side_effects a b t) leads;
+  partly = λ t a b n w leads. partly m side_effects counts free t a b n w leads;
+  gone = λ t a b w w' leads. gone m side_effects counts free t a b w w' leads;
+  contained = λ t a b w leads. contained_all side_effects a b t w leads;
 }

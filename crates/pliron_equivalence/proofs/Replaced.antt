@@ -14,7 +14,7 @@ use Rattle.pliron_laws.specs.Paths.{Path}
 use Rattle.pliron_laws.specs.Root.{HasPassed}
 use Rattle.pliron_theory.proofs.KeptPlaces.{KeepsPlaces, inside_forth, inside_back, within_forth, within_back, same_block_holder}
 use Rattle.pliron_equivalence.specs.Standing.{StandsBefore}
-use Rattle.pliron_equivalence.specs.Twins.{IsOpen, IsTwin}
+use Rattle.pliron_equivalence.specs.Redundancy.{IsOpen, IsLeader}
 
 -- nothing uses the value
 abbrev pub IsUnused : Tree → ℕ → Type 0
@@ -94,22 +94,22 @@ module _ (t : Tree) (old new : ℕ) where
     pub new_defined : IsDefined t new
     new_defined = subst (IsMadeBy t new) (sym made_a) at_a
 
-    pub twin_kept : IsTwin side_effects t a b → IsTwin side_effects (after_replacing t old new) a b
-    twin_kept twin = record {
-      apart = twin.apart;
+    pub leader_kept : IsLeader side_effects t a b → IsLeader side_effects (after_replacing t old new) a b
+    leader_kept leads = record {
+      apart = leads.apart;
       alike = record {
-        head = twin.alike.head;
-        operands = operands_replaced b ∙ ap (map (replace_target old new)) twin.alike.operands ∙ sym (operands_replaced a);
-        results = twin.alike.results;
-        no_successors = twin.alike.no_successors;
-        none_of_first = twin.alike.none_of_first;
-        no_regions = twin.alike.no_regions;
-        no_region_of_first = twin.alike.no_region_of_first;
-        harmless = twin.alike.harmless;
+        head = leads.alike.head;
+        operands = operands_replaced b ∙ ap (map (replace_target old new)) leads.alike.operands ∙ sym (operands_replaced a);
+        results = leads.alike.results;
+        no_successors = leads.alike.no_successors;
+        none_of_first = leads.alike.none_of_first;
+        no_regions = leads.alike.no_regions;
+        no_region_of_first = leads.alike.no_region_of_first;
+        harmless = leads.alike.harmless;
       };
-      before = stands_kept a b twin.before;
+      before = stands_kept a b leads.before;
       near = λ e h ib na.
-          let z = twin.near (none_mapped (replace_target old new) (operands_of t b) (sym (operands_replaced b) ∙ e)) h (inside_back places_kept h b ib) (λ ia. na (inside_forth places_kept h a ia)) in
+          let z = leads.near (none_mapped (replace_target old new) (operands_of t b) (sym (operands_replaced b) ∙ e)) h (inside_back places_kept h b ib) (λ ia. na (inside_forth places_kept h a ia)) in
           opened h na z;
     }
       where

@@ -6,7 +6,7 @@ use Rattle.pliron_core.specs.Writes.{after_replacing}
 use Rattle.pliron_core.specs.Erased.{after_erasing, IsSelfContained}
 use Rattle.pliron_laws.specs.Datum.{Head, Meaning}
 use Rattle.pliron_theory.specs.Keeps.{KeepsAllRuns}
-use Rattle.pliron_equivalence.specs.Twins.{IsTwin}
+use Rattle.pliron_equivalence.specs.Redundancy.{IsLeader}
 
 -- the uses of each of these values become uses of the one at its place among those
 abbrev pub replaced_all : Tree → List ℕ → List ℕ → Tree
@@ -30,10 +30,10 @@ results_merged t a b = replaced_all t (results_of t b) (results_of t a)
 abbrev pub after_merging : Tree → (a b : ℕ) → Tree
 after_merging t a b = after_erasing (results_merged t a b) b
 
--- where b is a twin of a, this keeps the runs of all roots; b is a twin of a still, and nothing uses its results
+-- where a is a leader of b, this keeps the runs of all roots; a is one still, and nothing uses the results of b
 pub record MergingLaw (m : Meaning) (side_effects : Head → Option Bool) : Type 0 where
-  pub runs : (t : Tree) (a b : ℕ) → IsTree t → IsTwin side_effects t a b → KeepsAllRuns m t (results_merged t a b)
-  pub twin : (t : Tree) (a b : ℕ) → IsTree t → IsTwin side_effects t a b → IsTwin side_effects (results_merged t a b) a b
-  pub partly : (t : Tree) (a b n : ℕ) → IsTree t → IsTwin side_effects t a b → KeepsAllRuns m t (partly_merged t a b n)
-  pub gone : (t : Tree) (a b : ℕ) → IsTree t → IsTree (after_merging t a b) → IsTwin side_effects t a b → KeepsAllRuns m t (after_merging t a b)
-  pub contained : (t : Tree) (a b : ℕ) → IsTree t → IsTwin side_effects t a b → IsSelfContained (results_merged t a b) b
+  pub runs : (t : Tree) (a b : ℕ) → IsTree t → IsLeader side_effects t a b → KeepsAllRuns m t (results_merged t a b)
+  pub leads : (t : Tree) (a b : ℕ) → IsTree t → IsLeader side_effects t a b → IsLeader side_effects (results_merged t a b) a b
+  pub partly : (t : Tree) (a b n : ℕ) → IsTree t → IsLeader side_effects t a b → KeepsAllRuns m t (partly_merged t a b n)
+  pub gone : (t : Tree) (a b : ℕ) → IsTree t → IsTree (after_merging t a b) → IsLeader side_effects t a b → KeepsAllRuns m t (after_merging t a b)
+  pub contained : (t : Tree) (a b : ℕ) → IsTree t → IsLeader side_effects t a b → IsSelfContained (results_merged t a b) b

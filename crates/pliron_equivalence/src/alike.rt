@@ -1,7 +1,7 @@
 //! Whether two operations do the same.
 ghost use Rattle.std.specs.Prelude.{◌≡◌, ◌↔◌, IsTrue};
 ghost use Rattle.pliron_core.specs.Tree.{IsLive, operands_of};
-ghost use Rattle.pliron_equivalence.specs.Twins.{AreAlike};
+ghost use Rattle.pliron_equivalence.specs.Redundancy.{AreAlike};
 
 use pliron_core::{Attrs, Context, Head, Operation, Ptr};
 use pliron_laws::Dialect;

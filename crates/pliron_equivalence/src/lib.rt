@@ -5,7 +5,7 @@
 //!
 //! It knows the theory of runs and the laws of dialects, and no graph, no dialect and no optimisation.
 //!
-//! "Twins" are equivalent operations, and the leader of a twin is the one that dominates it.
+//! An operation is redundant if an equivalent one dominates it: its leader.
 #![tactic(auto)]
 
 pub mod alike;
@@ -13,7 +13,7 @@ pub mod rewrites;
 
 ghost use Rattle.pliron_equivalence.specs.Given.{GivenLaw};
 ghost use Rattle.pliron_equivalence.specs.Current.{CurrentLaw};
-ghost use Rattle.pliron_equivalence.specs.Twins.{AlikeLaw, TwinLaw};
+ghost use Rattle.pliron_equivalence.specs.Redundancy.{AlikeLaw, LeaderLaw};
 ghost use Rattle.pliron_equivalence.specs.Merging.{MergingLaw};
 ghost use Rattle.pliron_equivalence.specs.Putting.{InsertingLaw};
 ghost use Rattle.pliron_equivalence.specs.Passing.{PassingLaw};
@@ -34,12 +34,12 @@ pub fn results_are_current()
 
 /// The uses of a result of an operation may become uses of the same result of one that dominates it and does
 /// the same.
-pub fn twins_stand_for_one_another<D: Dialect>()
-    ensures { TwinLaw D.meaning D.side_effects }
+pub fn leaders_stand_for_redundant_operations<D: Dialect>()
+    ensures { LeaderLaw D.meaning D.side_effects }
 {}
 
 /// The uses of all results of an operation may become uses of those of its leader, and then nothing uses it.
-pub fn twins_merge<D: Dialect>()
+pub fn redundant_operations_merge<D: Dialect>()
     ensures { MergingLaw D.meaning D.side_effects }
 {}
 

@@ -4,15 +4,15 @@ use Rattle.pliron_core.specs.Tree.{Tree}
 use Rattle.pliron_laws.specs.Datum.{Head}
 use Rattle.pliron_laws.specs.declared.fault.OptError.{OptError}
 use Rattle.pliron_laws.specs.declared.fault.OptError.TheVariants.{Memory}
-use Rattle.pliron_cse.specs.Left.{LeavesNoTwin, ReportsEquivalent}
+use Rattle.pliron_cse.specs.Left.{LeavesNoRedundancy, ReportsEquivalent}
 use Rattle.pliron_cse.specs.Taking.{Pair, TakeInTurn, IsTakenSoFar}
 use Rattle.pliron_pipeline.specs.declared.optimisation.Effect.{Effect}
 
 -- operations that do what one before them did went in turn, and where uses are behind definitions none is left; the status
 -- tells whether there was one, and all edges stay; or memory was refused, and some are gone
-abbrev pub EliminatesTwins : (Head → Option Bool) → (t t' : Tree) → ℕ → Result Effect OptError → Type 0
-EliminatesTwins side_effects t t' root (Ok effect) = ((xs : List Pair) × TakeInTurn side_effects root xs t t') × LeavesNoTwin side_effects t t' root × ReportsEquivalent side_effects t root effect.status × (effect.keeps_edges ≡ true)
-EliminatesTwins side_effects t t' root (Err e) = (e ≡ Memory) × ((xs : List Pair) × IsTakenSoFar side_effects root xs t t')
+abbrev pub EliminatesRedundancy : (Head → Option Bool) → (t t' : Tree) → ℕ → Result Effect OptError → Type 0
+EliminatesRedundancy side_effects t t' root (Ok effect) = ((xs : List Pair) × TakeInTurn side_effects root xs t t') × LeavesNoRedundancy side_effects t t' root × ReportsEquivalent side_effects t root effect.status × (effect.keeps_edges ≡ true)
+EliminatesRedundancy side_effects t t' root (Err e) = (e ≡ Memory) × ((xs : List Pair) × IsTakenSoFar side_effects root xs t t')
 
 abbrev pub cse_name : List ℕ
 cse_name = 0x63 ∷ 0x73 ∷ 0x65 ∷ []

@@ -1,5 +1,5 @@
 //! Common subexpression elimination as a pass.
-ghost use Rattle.pliron_pipeline.specs.CommonSubexpressions.{EliminatesTwins, cse_name};
+ghost use Rattle.pliron_pipeline.specs.CommonSubexpressions.{EliminatesRedundancy, cse_name};
 
 use crate::optimisation::{Effect, Optimisation, OptimisingPass};
 use pliron_core::{Context, Operation, Ptr};
@@ -19,7 +19,7 @@ impl<D: Dialect> Optimisation for CommonSubexpressions<D> {
 
     ghost name = { cse_name };
 
-    ghost outcome = { λ t t' op r. EliminatesTwins D.side_effects t t' op r };
+    ghost outcome = { λ t t' op r. EliminatesRedundancy D.side_effects t t' op r };
 
     fn name() -> &'static str {
         "cse"

@@ -1,4 +1,4 @@
-use Rattle.pliron_equivalence.proofs.Twins.{alike_keep}
+use Rattle.pliron_equivalence.proofs.Redundancy.{alike_keep}
 use Rattle.pliron_equivalence.proofs.alike_results_stand_for_one_another.Goals as goal
 
 pub returns : goal.returns

@@ -3,11 +3,11 @@ use Rattle.pliron_core.specs.Tree.{IsLive}
 use Rattle.pliron_laws.proofs.FoldLemmas.{on_err}
 use Rattle.pliron_cse.specs.Leaders.{leader_with}
 use Rattle.pliron_cse.specs.Steps.{LeadsAt}
-use Rattle.pliron_equivalence.specs.Twins.{IsTwin}
+use Rattle.pliron_equivalence.specs.Redundancy.{IsLeader}
 use Rattle.pliron_equivalence.specs.Merging.{IsPartlyMerged, after_merging}
 use Rattle.pliron_cse.proofs.Alone.{alone_other, alone_leads}
 use Rattle.pliron_cse.proofs.OnWay.{pair_of}
-use Rattle.pliron_cse.proofs.Taken.{near_twin}
+use Rattle.pliron_cse.proofs.Taken.{near_leader}
 use Rattle.pliron_cse.proofs.take.take_at.Goals as goal
 
 pub may_repeat-requires : goal.may_repeat-requires
@@ -24,29 +24,29 @@ returns-then-not-may_repeat-clause-leaders g c =
     alone_other g.D.SideEffects.side_effects c.args.ctx.now.tree c.args.order.now.operations.items c.args.order.now.ends.items c.args.place c.operation_at-op.result c.operation_at-op.ensures (λ key. leader_with c.args.leaders.now key)
     (λ r. true≢false (sym (c.may_repeat.ensures.1 r) ∙ c.if-not-may_repeat.true))
 
-pub merge_twin-requires : goal.merge_twin-requires
-merge_twin-requires g c =
+pub merge_into_leader-requires : goal.merge_into_leader-requires
+merge_into_leader-requires g c =
     let t = c.args.ctx.now.tree in
     let ops = c.args.order.now.operations.items in
     let ends = c.args.order.now.ends.items in
     let se = g.D.SideEffects.side_effects in
     let w = c.well_formed-2.ensures.tree in
     let leads = c.in-Some.ensures.some in
-    let twin = near_twin se t (get_or ops leads.0 0) (get_or ops c.args.place 0) w
-    (pair_of se t w c.requires.ordered.0 ops ends leads.0 c.args.place (get_or ops leads.0 0) (get_or ops c.args.place 0) c.requires.ordered.1 leads.2.first c.requires.place leads.2.within refl refl leads.2.live leads.2.alike).twin in
-    record { twin = subst (λ z. IsTwin se t z c.operation_at-op.result) (sym leads.1) (subst (IsTwin se t (get_or ops leads.0 0)) (sym c.operation_at-op.ensures) twin) }
+    let leader = near_leader se t (get_or ops leads.0 0) (get_or ops c.args.place 0) w
+    (pair_of se t w c.requires.ordered.0 ops ends leads.0 c.args.place (get_or ops leads.0 0) (get_or ops c.args.place 0) c.requires.ordered.1 leads.2.first c.requires.place leads.2.within refl refl leads.2.live leads.2.alike).leads in
+    record { leads = subst (λ z. IsLeader se t z c.operation_at-op.result) (sym leads.1) (subst (IsLeader se t (get_or ops leads.0 0)) (sym c.operation_at-op.ensures) leader) }
 
 pub returns-in-Some-clause-taken : goal.returns-in-Some-clause-taken
 returns-in-Some-clause-taken g c =
     let leads = c.in-Some.ensures.some in
-    (leads.0, leads.2, c.in_ok-merge_twin.ensures.ok ∙ ap (λ z. after_merging c.args.ctx.now.tree z c.operation_at-op.result) leads.1 ∙ ap (after_merging c.args.ctx.now.tree (get_or c.args.order.now.operations.items leads.0 0)) c.operation_at-op.ensures)
+    (leads.0, leads.2, c.in_ok-merge_into_leader.ensures.ok ∙ ap (λ z. after_merging c.args.ctx.now.tree z c.operation_at-op.result) leads.1 ∙ ap (after_merging c.args.ctx.now.tree (get_or c.args.order.now.operations.items leads.0 0)) c.operation_at-op.ensures)
 
-pub returns-in_err-merge_twin-clause-refused : goal.returns-in_err-merge_twin-clause-refused
-returns-in_err-merge_twin-clause-refused g c =
+pub returns-in_err-merge_into_leader-clause-refused : goal.returns-in_err-merge_into_leader-clause-refused
+returns-in_err-merge_into_leader-clause-refused g c =
     let t = c.args.ctx.now.tree in
     let leads = c.in-Some.ensures.some in
-    let part = subst (λ z. IsPartlyMerged t c.merge_twin.new.ctx.tree z c.operation_at-op.result) leads.1 c.in_err-merge_twin.ensures.err in
-    on_err _ c.from_residual-in_err-merge_twin.result (inr (leads.0, leads.2, subst (IsPartlyMerged t c.merge_twin.new.ctx.tree (get_or c.args.order.now.operations.items leads.0 0)) c.operation_at-op.ensures part))
+    let part = subst (λ z. IsPartlyMerged t c.merge_into_leader.new.ctx.tree z c.operation_at-op.result) leads.1 c.in_err-merge_into_leader.ensures.err in
+    on_err _ c.from_residual-in_err-merge_into_leader.result (inr (leads.0, leads.2, subst (IsPartlyMerged t c.merge_into_leader.new.ctx.tree (get_or c.args.order.now.operations.items leads.0 0)) c.operation_at-op.ensures part))
 
 pub returns-clause-leaders : goal.returns-clause-leaders
 returns-clause-leaders g c =

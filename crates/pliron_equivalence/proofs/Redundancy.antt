@@ -1,4 +1,4 @@
--- The results of a twin have the data of those of the operation that stands before it.
+-- The results of a redundant operation have the data of those of its leader.
 use Rattle.std.proofs.Common.{◌≡◌, ℕ, Bool, List, [], ◌∷◌, length, map, Option, Some, None, IsSome, false, inl, inr, ⊎_elim, ⊎_elim, slice_get, refl, sym, ap, ap₂, ◌∙◌, subst}
 use Rattle.pliron_core.specs.declared.context.Def.TheVariants.{Result}
 use Rattle.pliron_core.specs.Changes.{IsDefiningOperationInside}
@@ -21,7 +21,7 @@ use Rattle.pliron_theory.proofs.ReplacedKeeps.{replaced_keeps}
 use Rattle.pliron_theory.proofs.SweptKeeps.{gives_now}
 use Rattle.pliron_equivalence.specs.Standing.{StandsBefore}
 use Rattle.pliron_equivalence.specs.Current.{IsCurrent}
-use Rattle.pliron_equivalence.specs.Twins.{AreAlike, AlikeLaw, IsTwin, TwinLaw}
+use Rattle.pliron_equivalence.specs.Redundancy.{AreAlike, AlikeLaw, IsLeader, LeaderLaw}
 use Rattle.pliron_equivalence.proofs.Standing.{dominated_stands, stands_dominated, stands_holder, stands_trans}
 use Rattle.pliron_equivalence.proofs.Current.{results_current}
 
@@ -106,13 +106,13 @@ alike_keep m side_effects counts free t a b i old new w alike at_b at_a own befo
     (λ root f user uses. may_use m side_effects counts free t a b i old new w alike at_b at_a root f (own root f) (before root f) user uses)
     (λ root f f' s s' k rest r r' same e e' none none' uses. same_datum m side_effects counts free t a b i old new w alike at_b at_a root f (own root f) (before root f) s k rest r e none uses)
 
-module _ (m : Meaning) (side_effects : Head → Option Bool) (t : Tree) (a b i old new : ℕ) (w : IsTree t) (twin : IsTwin side_effects t a b) (at_b : slice_get (results_of t b) i ≡ Some old) (root : ℕ) (f : IsFit m t root) where
+module _ (m : Meaning) (side_effects : Head → Option Bool) (t : Tree) (a b i old new : ℕ) (w : IsTree t) (leads : IsLeader side_effects t a b) (at_b : slice_get (results_of t b) i ≡ Some old) (root : ℕ) (f : IsFit m t root) where
   b_inside : IsInside t root a → IsInside t root b
   b_inside x =
-      let h = stands_holder t w a b twin.before in
+      let h = stands_holder t w a b leads.before in
       let u = inside_up x in
       let s : u.0 ≡ h.0 = some_is (sym u.1 ∙ h.1) in
-      within_inside (inside_by h.0 h.2 (subst (IsWithin t root) s u.2)) twin.before.holds
+      within_inside (inside_by h.0 h.2 (subst (IsWithin t root) s u.2)) leads.before.holds
 
   a_inside : IsInside t root b → IsInside t root a
   a_inside x = go (operands_of t b) refl
@@ -121,13 +121,13 @@ module _ (m : Meaning) (side_effects : Head → Option Bool) (t : Tree) (a b i o
       go [] e = ⊎_elim
           (λ y. y)
           (λ out.
-          let z = twin.near e root x out in
+          let z = leads.near e root x out in
           absurd (z.4 (f.defined.own_values z.0 z.1 z.2 z.3)))
           (inside_or t root a w.joined.rooted)
       go (v ∷ vs) e =
           let used : In v (operands_of t b) = subst (In v) (sym e) (inl refl) in
           let made = f.defined.own_values b v x used in
-          let d : IsDominated t a v = f.defined.dominated a v (subst (In v) twin.alike.operands used) made in
+          let d : IsDominated t a v = f.defined.dominated a v (subst (In v) leads.alike.operands used) made in
           let y = block_held t d.block w.joined (subst IsSome (sym d.in_region) refl) in
           let r : y.0 ≡ d.region = some_is (sym y.2 ∙ d.in_region) in
           let above : IsWithin t root y.1 = made_within t root d.region y.1 (definition_of t v) (ap (region_parent_of t) (sym r) ∙ y.4) d.defined made in
@@ -136,13 +136,13 @@ module _ (m : Meaning) (side_effects : Head → Option Bool) (t : Tree) (a b i o
   behind_a : IsInside t root a → (user : ℕ) → In old (operands_of t user) → StandsBefore t a user
   behind_a x user uses =
       let e : definition_of t old ≡ Some (Result b i) = w.joined.results b i old at_b in
-      stands_trans t w a b user twin.before (dominated_stands t b i user old e (f.defined.dominated user old uses (subst (IsDefiningOperationInside t root) (sym e) (b_inside x))))
+      stands_trans t w a b user leads.before (dominated_stands t b i user old e (f.defined.dominated user old uses (subst (IsDefiningOperationInside t root) (sym e) (b_inside x))))
 
 pub chosen_counts : (m : Meaning) (chosen : Head → Bool) → KeepsCounts m → KeepsCounts (with_roots m chosen)
 chosen_counts m chosen c = record { successors = c.successors; moves = c.moves }
 
-pub twins : (m : Meaning) (side_effects : Head → Option Bool) → KeepsCounts m → GivesAtOnce m side_effects → TwinLaw m side_effects
-twins m side_effects counts free t a b i old new w twin at_b at_a = λ chosen.
-    alike_keep (with_roots m chosen) side_effects (chosen_counts m chosen counts) free t a b i old new w twin.alike at_b at_a
-    (λ root f x. a_inside (with_roots m chosen) side_effects t a b i old new w twin at_b root f x)
-    (λ root f x user uses. behind_a (with_roots m chosen) side_effects t a b i old new w twin at_b root f x user uses)
+pub leaders_stand : (m : Meaning) (side_effects : Head → Option Bool) → KeepsCounts m → GivesAtOnce m side_effects → LeaderLaw m side_effects
+leaders_stand m side_effects counts free t a b i old new w leads at_b at_a = λ chosen.
+    alike_keep (with_roots m chosen) side_effects (chosen_counts m chosen counts) free t a b i old new w leads.alike at_b at_a
+    (λ root f x. a_inside (with_roots m chosen) side_effects t a b i old new w leads at_b root f x)
+    (λ root f x user uses. behind_a (with_roots m chosen) side_effects t a b i old new w leads at_b root f x user uses)

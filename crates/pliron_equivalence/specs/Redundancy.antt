@@ -25,7 +25,7 @@ abbrev pub IsOpen : Tree → ℕ → Type 0
 IsOpen t h = (user v : ℕ) × IsInside t h user × In v (operands_of t user) × (IsDefinedInside t h v → ⊥)
 
 -- a stands before b and does the same; where it has no operands, each operation that has b alone inside is open
-pub record IsTwin (side_effects : Head → Option Bool) (t : Tree) (a b : ℕ) : Type 0 where
+pub record IsLeader (side_effects : Head → Option Bool) (t : Tree) (a b : ℕ) : Type 0 where
   pub apart : a ≢ b
   pub alike : AreAlike side_effects t a b
   pub before : StandsBefore t a b
@@ -36,6 +36,6 @@ pub record IsTwin (side_effects : Head → Option Bool) (t : Tree) (a b : ℕ) :
 abbrev pub AlikeLaw : Meaning → (Head → Option Bool) → Type 0
 AlikeLaw m side_effects = (t : Tree) (a b i old new : ℕ) → IsTree t → AreAlike side_effects t a b → slice_get (results_of t b) i ≡ Some old → slice_get (results_of t a) i ≡ Some new → ((root : ℕ) → IsFit m t root → IsInside t root b → IsInside t root a) → ((root : ℕ) → IsFit m t root → IsInside t root a → (user : ℕ) → In old (operands_of t user) → StandsBefore t a user) → KeepsRuns m t (after_replacing t old new)
 
--- the uses of a result of an operation may go to the same result of one whose twin it is
-abbrev pub TwinLaw : Meaning → (Head → Option Bool) → Type 0
-TwinLaw m side_effects = (t : Tree) (a b i old new : ℕ) → IsTree t → IsTwin side_effects t a b → slice_get (results_of t b) i ≡ Some old → slice_get (results_of t a) i ≡ Some new → KeepsAllRuns m t (after_replacing t old new)
+-- the uses of a result of an operation may go to the same result of its leader
+abbrev pub LeaderLaw : Meaning → (Head → Option Bool) → Type 0
+LeaderLaw m side_effects = (t : Tree) (a b i old new : ℕ) → IsTree t → IsLeader side_effects t a b → slice_get (results_of t b) i ≡ Some old → slice_get (results_of t a) i ≡ Some new → KeepsAllRuns m t (after_replacing t old new)
