@@ -1,6 +1,5 @@
 -- What holds on the way, as one operation after the other goes.
-use Rattle.std.proofs.Common.{◌≡◌, ◌≢◌, ◌⊎◌, ◌↔◌, ℕ, ◌≤◌, ◌<◌, ◌+◌, Bool, List, [], ◌∷◌, ◌++◌, length, get_or, take, Option, Some, None, IsSome, inl, ⊎_elim, refl, sym, ap, ◌∙◌, subst, arith}
-use Rattle.std.proofs.lemmas.List.{take_all}
+use Rattle.std.proofs.Common.{◌≡◌, ◌≢◌, ◌⊎◌, ◌↔◌, ℕ, ◌<◌, ◌+◌, Bool, List, [], ◌∷◌, ◌++◌, length, get_or, take, Option, Some, None, IsSome, inl, ⊎_elim, refl, sym, ap, ◌∙◌, subst, arith}
 use Rattle.pliron_core.specs.Erased.{IsSelfContained}
 use Rattle.pliron_core.specs.Invariant.{IsTree}
 use Rattle.pliron_core.specs.Tree.{Tree, In, IsLive, IsInside, IsWithin, head_of, row_of, parent_operation_of, parent_of, block_parent_of, block_parent_operation_of, up_from, operands_of, regions_of, successors_of, results_of}
@@ -17,7 +16,7 @@ use Rattle.pliron_theory.proofs.ErasedKeeps.{erased_gone}
 use Rattle.pliron_theory.proofs.WholeChanges.{whole_refl, whole_trans}
 use Rattle.pliron_equivalence.specs.Standing.{StandsBefore}
 use Rattle.pliron_equivalence.specs.Redundancy.{IsLeader}
-use Rattle.pliron_equivalence.specs.Merging.{replaced_all, partly_merged, results_merged, after_merging}
+use Rattle.pliron_equivalence.specs.Merging.{partly_merged, results_merged, after_merging}
 use Rattle.pliron_equivalence.proofs.Merging.{tree_all, own_pairs, contained_all, merged_lives, partly}
 use Rattle.pliron_equivalence.proofs.Standing.{stands_holder}
 use Rattle.pliron_order.specs.Order.{IsOrder}
@@ -244,16 +243,3 @@ pair_of side_effects t w root ops ends i j a b o lt low within is_a is_b live ne
 pub turn_more : (side_effects : Head → Option Bool) (root : ℕ) (xs : List Pair) (x : Pair) (t u : Tree) → TakeInTurn side_effects root xs t u → IsPair side_effects u root x.leader x.redundant → TakeInTurn side_effects root (xs ++ x ∷ []) t (after_merging u x.leader x.redundant)
 turn_more side_effects root [] x t u e p = (subst (λ z. IsPair side_effects z root x.leader x.redundant) e p, ap (λ z. after_merging z x.leader x.redundant) e)
 turn_more side_effects root (y ∷ ys) x t u h p = (h.0, turn_more side_effects root ys x (after_merging t y.leader y.redundant) u h.1 p)
-
--- no more than all results move
-pub part_within : (t : Tree) (a b n : ℕ) → length (results_of t b) ≡ length (results_of t a) → (k : ℕ) × (k ≤ length (results_of t b)) × (partly_merged t a b n ≡ partly_merged t a b k)
-part_within t a b n same = ⊎_elim
-    (λ l. (n, l, refl))
-    (λ l. (length (results_of t b), omega arith, all n (omega (arith, l)) ∙ sym (all (length (results_of t b)) (omega arith))))
-    (side n (length (results_of t b)))
-  where
-    side : (x y : ℕ) → (x ≤ y) ⊎ (y < x)
-    side x y = grind arith
-
-    all : (n : ℕ) → length (results_of t b) ≤ n → partly_merged t a b n ≡ results_merged t a b
-    all n l = ap (λ z. replaced_all t z (take n (results_of t a))) (take_all n (results_of t b) l) ∙ ap (λ z. replaced_all t (results_of t b) z) (take_all n (results_of t a) (omega (arith, l, same)))

@@ -12,7 +12,7 @@ use Rattle.pliron_cse.specs.Left.{LeavesNoRedundancy, ReportsEquivalent}
 use Rattle.pliron_cse.specs.Steps.{IsOnWay, IsOrdered, IsTaking, LeadsAt, LeadsOn, TakesInPart, TakesOrStays, ReportsErased, status_after}
 use Rattle.pliron_cse.specs.Taking.{IsPair, IsTakenSoFar, Pair}
 use Rattle.pliron_cse.proofs.Exact.{exact_start, exact_merged, exact_stays, exact_end}
-use Rattle.pliron_cse.proofs.OnWay.{way_start, way_more, way_merged, way_partly, ordered_merged, ordered_on, merged_gone, pair_of, turn_more, part_within}
+use Rattle.pliron_cse.proofs.OnWay.{way_start, way_more, way_merged, way_partly, ordered_merged, ordered_on, merged_gone, pair_of, turn_more}
 
 pub tells_unchanged : (t0 t : Tree) (status : IRStatus) → ReportsErased t0 t status → status ≡ Unchanged → t ≡ t0
 tells_unchanged t0 t Unchanged told e = told
@@ -64,13 +64,11 @@ module _ (m : Meaning) (side_effects : Head → Option Bool) (counts : KeepsCoun
     -- memory was refused
     pub refused_way : (t' : Tree) → IsTree t' → TakesInPart side_effects t t' ops ends place → IsOnWay m t0 t' root
     refused_way t' w' (inl e) = subst (λ z. IsOnWay m t0 z root) (sym e) h.way
-    refused_way t' w' (inr (i, q, part)) = subst (λ z. IsOnWay m t0 z root) (sym part.1) (way_more m t0 t (partly_merged t (get_or ops i 0) (get_or ops place 0) part.0) root h.way (way_partly m side_effects counts free t (get_or ops i 0) (get_or ops place 0) root w live_now linked_now (pair i q) part.0 (subst IsTree part.1 w')))
+    refused_way t' w' (inr (i, q, part)) = subst (λ z. IsOnWay m t0 z root) (sym part.tree) (way_more m t0 t (partly_merged t (get_or ops i 0) (get_or ops place 0) part.count) root h.way (way_partly m side_effects counts free t (get_or ops i 0) (get_or ops place 0) root w live_now linked_now (pair i q) part.count (subst IsTree part.tree w')))
 
     pub refused_taken : (t' : Tree) → TakesInPart side_effects t t' ops ends place → (xs : List Pair) × IsTakenSoFar side_effects root xs t0 t'
     refused_taken t' (inl e) = (h.taken.0, (t, h.taken.1, inl e))
-    refused_taken t' (inr (i, q, part)) =
-        let k = part_within t (get_or ops i 0) (get_or ops place 0) part.0 q.alike.alike.results in
-        (h.taken.0, (t, h.taken.1, inr (record { leader = get_or ops i 0; redundant = get_or ops place 0 }, k.0, pair i q, k.1, part.1 ∙ k.2)))
+    refused_taken t' (inr (i, q, part)) = (h.taken.0, (t, h.taken.1, inr (record { leader = get_or ops i 0; redundant = get_or ops place 0 }, pair i q, part)))
 
   pub taking_end : (t : Tree) (place : ℕ) (find : List ℕ → Option ℕ) (status : IRStatus) → IsTree t → length ops ≤ place → IsTaking m side_effects t0 t root ops ends place find status → LeavesNoRedundancy side_effects t0 t root × ReportsEquivalent side_effects t0 root status
   taking_end t place find status w all h = exact_end side_effects t0 t w root ops ends place find status all h.ordered (tells_unchanged t0 t status h.tells) h.exact

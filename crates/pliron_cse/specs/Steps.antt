@@ -11,7 +11,7 @@ use Rattle.pliron_theory.specs.Edges.{KeepsEdges}
 use Rattle.pliron_theory.specs.Rewrites.{HasNoSideEffects}
 use Rattle.pliron_equivalence.specs.Standing.{StandsBefore}
 use Rattle.pliron_equivalence.specs.Redundancy.{AreAlike}
-use Rattle.pliron_equivalence.specs.Merging.{after_merging, IsPartlyMerged}
+use Rattle.pliron_equivalence.specs.Merging.{after_merging, AreHandedOver}
 use Rattle.pliron_order.specs.Seen.{IsSeen}
 use Rattle.pliron_cse.specs.Keys.{key_words, region_around}
 use Rattle.pliron_cse.specs.Left.{UsesAreBehind, HasRedundancy}
@@ -67,9 +67,9 @@ abbrev pub TakesOrStays : (Head → Option Bool) → (t t' : Tree) → (ops ends
 TakesOrStays side_effects t t' ops ends place true = (i : ℕ) × LeadsAt side_effects t ops ends i place × (t' ≡ after_merging t (get_or ops i 0) (get_or ops place 0))
 TakesOrStays side_effects t t' ops ends place false = t' ≡ t
 
--- nothing changed, or the uses of its first results became uses of those of one before it
+-- nothing changed, or of its several results the uses of the first ones became uses of those of a leader
 abbrev pub TakesInPart : (Head → Option Bool) → (t t' : Tree) → (ops ends : List ℕ) → ℕ → Type 0
-TakesInPart side_effects t t' ops ends place = (t' ≡ t) ⊎ ((i : ℕ) × LeadsAt side_effects t ops ends i place × IsPartlyMerged t t' (get_or ops i 0) (get_or ops place 0))
+TakesInPart side_effects t t' ops ends place = (t' ≡ t) ⊎ ((i : ℕ) × LeadsAt side_effects t ops ends i place × AreHandedOver t t' (get_or ops i 0) (get_or ops place 0))
 
 -- what holds all the way from the tree t0
 pub record IsOnWay (m : Meaning) (t0 t : Tree) (root : ℕ) : Type 0 where

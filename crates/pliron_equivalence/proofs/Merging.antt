@@ -1,5 +1,5 @@
 -- The uses of all results of a redundant operation go to those of the operation that stands before it.
-use Rattle.std.proofs.Common.{◌≡◌, ◌≢◌, ◌⊎◌, ℕ, zero, suc, Bool, List, [], ◌∷◌, length, take, Option, Some, None, IsSome, inl, inr, ⊎_elim, slice_get, refl, sym, ap, ◌∙◌, subst, arith}
+use Rattle.std.proofs.Common.{◌≡◌, ◌≢◌, ◌⊎◌, ◌<◌, ℕ, zero, suc, Bool, List, [], ◌∷◌, length, take, Option, Some, None, IsSome, inl, inr, ⊎_elim, slice_get, refl, sym, ap, ◌∙◌, subst, arith}
 use Rattle.pliron_core.specs.declared.context.Def.{Def}
 use Rattle.pliron_core.specs.declared.context.Def.TheVariants.{Result, Argument}
 use Rattle.pliron_core.specs.Tree.{Tree, In, IsLive, head_of, IsInside, IsWithin, IsMadeBy, IsDefinedWithin, HoldsBlock, operands_of, results_of, regions_of, definition_of}
@@ -13,11 +13,11 @@ use Rattle.pliron_laws.specs.Laws.{KeepsCounts, GivesAtOnce}
 use Rattle.pliron_laws.proofs.Records.{op_shows}
 use Rattle.pliron_theory.proofs.SweptKeeps.{gives_now}
 use Rattle.pliron_theory.proofs.ErasedKeeps.{erased_keeps}
-use Rattle.pliron_theory.specs.Keeps.{KeepsAllRuns, with_roots}
+use Rattle.pliron_theory.specs.Keeps.{KeepsRuns, KeepsAllRuns, with_roots}
 use Rattle.pliron_theory.proofs.Keeping.{keeps_refl, keeps_trans}
 use Rattle.pliron_theory.proofs.SweptParts.{block_place_of}
 use Rattle.pliron_equivalence.specs.Redundancy.{IsLeader}
-use Rattle.pliron_equivalence.specs.Merging.{replaced_all, partly_merged, results_merged, after_merging, MergingLaw}
+use Rattle.pliron_equivalence.specs.Merging.{replaced_all, partly_merged, IsPartlyMerged, results_merged, after_merging, MergingLaw}
 use Rattle.pliron_equivalence.proofs.Replaced.{IsUnused, tree_kept, old_unused, still_unused, new_defined, leader_kept}
 use Rattle.pliron_equivalence.proofs.Redundancy.{leaders_stand, chosen_counts}
 
@@ -147,6 +147,15 @@ module _ (m : Meaning) (side_effects : Head → Option Bool) (counts : KeepsCoun
 
   pub partly : (t : Tree) (a b n : ℕ) → IsTree t → IsLeader side_effects t a b → KeepsAllRuns m t (partly_merged t a b n)
   partly t a b n w leads = runs_all side_effects a b m counts free (take n (results_of t b)) (take n (results_of t a)) t w (taken_first t a b n) leads
+
+-- some results of several, or none
+pub part_of : (t t' : Tree) (a b n : ℕ) → n < length (results_of t b) → t' ≡ partly_merged t a b n → IsPartlyMerged t t' a b
+part_of t t' a b zero l e = inl e
+part_of t t' a b (suc n) l e = inr (record { count = suc n; some = omega arith; fewer = l; tree = e })
+
+pub part_keeps : (m : Meaning) (side_effects : Head → Option Bool) → KeepsCounts m → GivesAtOnce m side_effects → (t t' : Tree) (a b : ℕ) → IsTree t → IsLeader side_effects t a b → IsPartlyMerged t t' a b → KeepsAllRuns m t t'
+part_keeps m side_effects counts free t t' a b w leads (inl e) = λ chosen. subst (λ z. KeepsRuns (with_roots m chosen) t z) (sym e) (keeps_refl (with_roots m chosen) t)
+part_keeps m side_effects counts free t t' a b w leads (inr h) = λ chosen. subst (λ z. KeepsRuns (with_roots m chosen) t z) (sym h.tree) (partly m side_effects counts free t a b h.count w leads chosen)
 
 -- one more result
 pub one_more : (t : Tree) (vs xs : List ℕ) (n v x : ℕ) → slice_get vs n ≡ Some v → slice_get xs n ≡ Some x → replaced_all t (take (suc n) vs) (take (suc n) xs) ≡ after_replacing (replaced_all t (take n vs) (take n xs)) v x

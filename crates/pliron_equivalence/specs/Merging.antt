@@ -1,5 +1,5 @@
 -- All uses of an operation's results become uses of those of another, and it is erased.
-use Rattle.std.specs.Prelude.{◌≡◌, ℕ, Bool, List, [], ◌∷◌, Option, take}
+use Rattle.std.specs.Prelude.{◌≡◌, ◌⊎◌, ◌<◌, ℕ, Bool, List, [], ◌∷◌, Option, take, length}
 use Rattle.pliron_core.specs.Tree.{Tree, results_of}
 use Rattle.pliron_core.specs.Invariant.{IsTree}
 use Rattle.pliron_core.specs.Writes.{after_replacing}
@@ -18,9 +18,16 @@ replaced_all t (v ∷ vs) (w ∷ ws) = replaced_all (after_replacing t v w) vs w
 abbrev pub partly_merged : Tree → (a b n : ℕ) → Tree
 partly_merged t a b n = replaced_all t (take n (results_of t b)) (take n (results_of t a))
 
--- the uses of some first results of b became uses of those of a
+-- of several results of b, the uses of the first ones became uses of those of a, those of one result after the other
+pub record AreHandedOver (t t' : Tree) (a b : ℕ) : Type 0 where
+  pub count : ℕ
+  pub some : 0 < count
+  pub fewer : count < length (results_of t b)
+  pub tree : t' ≡ partly_merged t a b count
+
+-- nothing changed, unless b has several results
 abbrev pub IsPartlyMerged : (t t' : Tree) → (a b : ℕ) → Type 0
-IsPartlyMerged t t' a b = (n : ℕ) × (t' ≡ partly_merged t a b n)
+IsPartlyMerged t t' a b = (t' ≡ t) ⊎ AreHandedOver t t' a b
 
 -- the uses of all results of b become uses of those of a
 abbrev pub results_merged : Tree → (a b : ℕ) → Tree

@@ -35,7 +35,8 @@ fn hand_over<D: Dialect, R: Rewriter>(
 /// and erases it.
 ///
 /// Asks that the leader is one. The rewriter inserts where it did.
-/// Errors: allocation failure. The uses of some of its first results have moved then, and it is live.
+/// Errors: allocation failure, which changes nothing where it has one result or none. Of several results the uses
+/// of the first ones may have moved then, those of one result after the other, and it is live.
 /// Cost: the uses of its results, and its operands.
 pub fn merge_into_leader<D: Dialect, R: Rewriter + Room>(
     alloc: Global,

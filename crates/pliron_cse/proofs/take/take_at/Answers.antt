@@ -1,4 +1,4 @@
-use Rattle.std.proofs.Common.{◌≡◌, true≢false, sym, ap, ◌∙◌, subst, refl, inr, get_or, Some, IfNone, ℕ, arith}
+use Rattle.std.proofs.Common.{◌≡◌, true≢false, sym, ap, ◌∙◌, subst, refl, inl, inr, ⊎_elim, get_or, Some, IfNone, ℕ, arith}
 use Rattle.pliron_core.specs.Tree.{IsLive}
 use Rattle.pliron_laws.proofs.FoldLemmas.{on_err}
 use Rattle.pliron_cse.specs.Leaders.{leader_with}
@@ -46,7 +46,7 @@ returns-in_err-merge_into_leader-clause-refused g c =
     let t = c.args.ctx.now.tree in
     let leads = c.in-Some.ensures.some in
     let part = subst (λ z. IsPartlyMerged t c.merge_into_leader.new.ctx.tree z c.operation_at-op.result) leads.1 c.in_err-merge_into_leader.ensures.err in
-    on_err _ c.from_residual-in_err-merge_into_leader.result (inr (leads.0, leads.2, subst (IsPartlyMerged t c.merge_into_leader.new.ctx.tree (get_or c.args.order.now.operations.items leads.0 0)) c.operation_at-op.ensures part))
+    on_err _ c.from_residual-in_err-merge_into_leader.result (⊎_elim (λ e. inl e) (λ h. inr (leads.0, leads.2, h)) (subst (IsPartlyMerged t c.merge_into_leader.new.ctx.tree (get_or c.args.order.now.operations.items leads.0 0)) c.operation_at-op.ensures part))
 
 pub returns-clause-leaders : goal.returns-clause-leaders
 returns-clause-leaders g c =

@@ -4,7 +4,7 @@ use Rattle.pliron_laws.proofs.FoldLemmas.{on_err}
 use Rattle.pliron_core.specs.Tree.{IsLive, results_of}
 use Rattle.pliron_core.specs.Writes.{after_replacing}
 use Rattle.pliron_equivalence.specs.Merging.{replaced_all, partly_merged}
-use Rattle.pliron_equivalence.proofs.Merging.{leader_lives, redundant_lives, partly_results, one_more}
+use Rattle.pliron_equivalence.proofs.Merging.{leader_lives, redundant_lives, partly_results, one_more, part_of}
 use Rattle.pliron_equivalence.proofs.rewrites.hand_over.Goals as goal
 
 pub num_result-i-end-requires : goal.num_result-i-end-requires
@@ -35,7 +35,10 @@ get_result-new-requires-clause-index g c =
     subst (λ z. c.loop-i.i < length z) (sym (partly_results c.args.ctx.now.tree c.args.leader c.args.redundant c.loop-i.i c.args.leader) ∙ ap (λ z. results_of z c.args.leader) (sym c.loop-i.invariant.tree)) n
 
 pub returns-in_err-replace_value_uses_with-clause-err : goal.returns-in_err-replace_value_uses_with-clause-err
-returns-in_err-replace_value_uses_with-clause-err g c = on_err _ c.from_residual.result (c.loop-i.i, ap (λ z. z.tree) c.in_err-replace_value_uses_with.ensures.err ∙ c.loop-i.invariant.tree)
+returns-in_err-replace_value_uses_with-clause-err g c =
+    let e = c.num_result-i-end.ensures in
+    let l = c.loop-i-test.true in
+    on_err _ c.from_residual.result (part_of c.args.ctx.now.tree c.replace_value_uses_with.new.ctx.tree c.args.leader c.args.redundant c.loop-i.i (omega (arith, e, l)) (ap (λ z. z.tree) c.in_err-replace_value_uses_with.ensures.err ∙ c.loop-i.invariant.tree))
 
 pub returns-in_err-replace_value_uses_with-clause-point : goal.returns-in_err-replace_value_uses_with-clause-point
 returns-in_err-replace_value_uses_with-clause-point g c = c.replace_value_uses_with.ensures.point ∙ c.loop-i.invariant.point
