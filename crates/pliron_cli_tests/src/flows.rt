@@ -40,7 +40,9 @@ fn lines_of(rt: &impl Abort, alloc: Global, lines: &str) -> String {
             };
             text.push(letter).expect(rt, "memory");
         }
-        text.push_str(";\n").expect(rt, "memory");
+        let is_brace = line.ends_with('{') || line == "}";
+        text.push_str(if is_brace { "\n" } else { ";\n" })
+            .expect(rt, "memory");
     }
     text.push_str(END).expect(rt, "memory");
     text
@@ -55,7 +57,7 @@ static PICTURES: &str = "\
 0 => func { a(): ret; lost(): x = const 1; br a() } => 0 [label='a():/lret/l', peripheries='2']|1 [label='lost():/lx = const 1/lbr a()/l', color='grey', fontcolor='grey']|1 -> 0 [color='grey', fontcolor='grey']
 0 => mod { m(): func { f(): ret }; func { g(): ret } } => 0 [label='m():/lfunc { 0.0.0 }/lfunc { 0.1.0 }/l', peripheries='2']
 0.1.0 => mod { m(): func { f(): ret }; func { g(): ret } } => 2 [label='g():/lret/l', peripheries='2']
-+0 => mod { m(): func { f(): box { b(): ret }; ret }; func { g(): ret } } => 0 [label='m():/lfunc { 0.0.0 }/lfunc { 0.1.0 }/l', peripheries='2'];subgraph cluster0 {;graph [label='0.0.0', labelloc='t']|1 [label='f():/lbox { 0.0.0.0.0 }/lret/l', peripheries='2'];subgraph cluster1 {;graph [label='0.0.0.0.0', labelloc='t']|2 [label='b():/lret/l', peripheries='2'];};};subgraph cluster2 {;graph [label='0.1.0', labelloc='t']|3 [label='g():/lret/l', peripheries='2'];}";
++0 => mod { m(): func { f(): box { b(): ret }; ret }; func { g(): ret } } => 0 [label='m():/lfunc { 0.0.0 }/lfunc { 0.1.0 }/l', peripheries='2']|subgraph cluster0 {|graph [label='0.0.0', labelloc='t']|1 [label='f():/lbox { 0.0.0.0.0 }/lret/l', peripheries='2']|subgraph cluster1 {|graph [label='0.0.0.0.0', labelloc='t']|2 [label='b():/lret/l', peripheries='2']|}|}|subgraph cluster2 {|graph [label='0.1.0', labelloc='t']|3 [label='g():/lret/l', peripheries='2']|}";
 
 #[test]
 fn flows_are_drawn(rt: HostRuntime) {

@@ -87,8 +87,8 @@ fn other_lists_are_refused(rt: HostRuntime) {
 
 /// Lists of passes, texts, and a line that is told with what they missed.
 static MISSED: &str = "\
-dce => func { b0(x): y = div x x; ret } => 1:22 y = div x x: stays, though nothing uses it: a div has side effects (missed by dce)
-sccp => func { b0(x): y = div x x; ret } => 1:23 y = div x x: not folded: its operand 1, x, isn't known (missed by sccp)
+dce => func { b0(x): y = div x x; ret } => 1:15 y = div x x: stays, though nothing uses it: a div has side effects (missed by dce)
+sccp => func { b0(x): y = div x x; ret } => 1:15 y = div x x: not folded: its operand 1, x, isn't known (missed by sccp)
 simplify-cfg => func { b0(c): cbr c b1() b1(); b1(): ret } => 1:15 cbr c b1() b1(): goes either way: its operand 1, c, isn't known (missed by simplify-cfg)
 sccp => func { b0(x): c = const 2; y = add c x; print y; ret } => 1:28 y = add c x: not folded: its operand 2, x, isn't known (missed by sccp)
 dce => func { b0(): x = read; ret } => 1:14 x = read: stays, though nothing uses it: a read has side effects (missed by dce)
