@@ -121,7 +121,7 @@ fn other_texts_are_no_names(rt: HostRuntime) {
     let named = Some("func { e(x): ret x }");
     let written = write_named_answer::<BenchNotation>(rt.alloc(), answer, named, true);
     let written = written.expect(&rt, "memory");
-    assert!(rt; written.as_slice() == b"func {\ne(x):\n  ret x\n}");
+    assert!(rt; written.as_slice() == b"func {\ne(x):\n  ret x\n}".as_slice());
 }
 
 /// What is told of the runs of a list on a text.

@@ -38,8 +38,8 @@ fn comments_are_blanks(rt: HostRuntime) {
 
 #[test]
 fn a_mark_is_no_text(rt: HostRuntime) {
-    assert!(rt; without_mark(b"\xef\xbb\xbfret") == b"ret");
-    assert!(rt; without_mark(b"ret") == b"ret");
+    assert!(rt; without_mark(b"\xef\xbb\xbfret") == b"ret".as_slice());
+    assert!(rt; without_mark(b"ret") == b"ret".as_slice());
 }
 
 /// A text of two functions and what is in them.
