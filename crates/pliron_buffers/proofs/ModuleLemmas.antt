@@ -1,11 +1,22 @@
 -- What is known of answers to modules.
-use Rattle.std.proofs.Common.{◌≡◌, ℕ, Bool, List, ◌++◌, Option, Result, Ok, Err, IfOk, refl, sym, subst}
+use Rattle.std.proofs.Common.{◌≡◌, ℕ, Bool, true, false, List, [], ◌++◌, length, nat_eq, Option, None, map, Result, Ok, Err, IfOk, refl, sym, subst, ◌∙◌}
+use Rattle.std.proofs.lemmas.Bool.{eqb-true}
+use Rattle.std.proofs.lemmas.List.{nil_from_length}
 use Rattle.pliron_core.specs.Tree.{Tree}
 use Rattle.pliron_core.specs.declared.attrs.IRStatus.{IRStatus}
 use Rattle.pliron_laws.specs.Datum.{Meaning}
 use Rattle.pliron_opts.specs.Answered.{Reads, Prints, IsOptimised, status_line}
 use Rattle.pliron_instrument.specs.Schedules.{ScheduleOf, IsPlanned}
-use Rattle.pliron_buffers.specs.Modules.{AsksFor, IsWord, IsAsked, OptimisesModule, number_of_change}
+use Rattle.pliron_instrument.specs.PipelineWords.{Plans}
+use Rattle.pliron_buffers.specs.Modules.{AsksFor, AsksFor.Nothing, AsksFor.Passes, IsWord, IsAsked, OptimisesModule, number_of_change}
+
+-- an empty word asks for nothing, and one that plans passes for these; the word is this text
+pub asks_nothing : {A : Type 0} (f : A → List ℕ) (word text : List ℕ) (items : List A) (is_empty : Bool) → text ≡ word → is_empty ≡ nat_eq (length text) 0 → is_empty ≡ true → items ≡ [] → AsksFor word None false (map f items)
+asks_nothing f word text items is_empty same length_is_0 empty none =
+    subst (λ xs. AsksFor word None false (map f xs)) (sym none) (Nothing (sym same ∙ nil_from_length text (eqb-true (length text) 0 (sym length_is_0 ∙ empty))))
+
+pub asks_passes : (word text : List ℕ) (runs : Option ℕ) (nested : Bool) (names : List (List ℕ)) → text ≡ word → Plans text runs nested names → AsksFor word runs nested names
+asks_passes word text runs nested names same plans = Passes runs nested names (subst (λ w. Plans w runs nested names) same plans)
 
 -- a schedule of the names that a word asks for is asked for by the word
 pub asked_of : {P D E B K : Type 0} (name : P → List ℕ) (word : List ℕ) (runs : Option ℕ) (nested : Bool) (names : List (List ℕ)) (schedule : ScheduleOf P D E B K) → AsksFor word runs nested names → IsPlanned name runs nested names schedule → IsAsked name word schedule
