@@ -111,9 +111,10 @@ pub extern "C" fn plir_optimise_mlir(
         pipeline.now text.now changed.new) (λ failure. Explains (IsWord pipeline.now) failure × (changed.new ≡ 0))
         output.old output.new needed.new result }
 {
-    optimise_module_into::<Mlir<AnyMeaning>>(
+    let status = optimise_module_into::<Mlir<AnyMeaning>>(
         alloc, pipeline, text, output, needed, changed,
-    ).number()
+    );
+    status.number()
 }
 
 /// Tells where a module of MLIR leaves the generic form, or is too long, as `plir_find_fault` does of the bench notation.
