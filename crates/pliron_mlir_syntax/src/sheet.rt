@@ -1,4 +1,6 @@
 //! What a text says beside the tree.
+ghost use Rattle.std.specs.Prelude.{◌≡◌, ◌++◌, ◌∷◌, [], length, OnOk};
+
 use crate::cursor::{is_blank, is_word};
 use crate::texts::Texts;
 use indexmap::IndexSet;
@@ -123,12 +125,16 @@ impl Sheet {
     }
 
     /// How many forms there are. Cost: constant.
-    pub fn num_form(&self) -> usize {
+    pub fn num_form(&self) -> usize
+        ensures { result ≡ length self.now.forms.keys }
+    {
         self.forms.len()
     }
 
     /// The next value in the order of keys has this type. Errors: allocation failure. Cost: constant.
-    pub fn push_type(&mut self, number: usize) -> Result<(), AllocError> {
+    pub fn push_type(&mut self, number: usize) -> Result<(), AllocError>
+        ensures { OnOk result (self.new.types.items ≡ self.old.types.items ++ number ∷ []) }
+    {
         self.types.push(number)?;
         Ok(())
     }
@@ -152,7 +158,9 @@ impl Sheet {
     }
 
     /// The next operation in the order of keys stands there in the text. Errors: allocation failure. Cost: constant.
-    pub fn push_place(&mut self, place: usize) -> Result<(), AllocError> {
+    pub fn push_place(&mut self, place: usize) -> Result<(), AllocError>
+        ensures { OnOk result (self.new.places.items ≡ self.old.places.items ++ place ∷ []) }
+    {
         self.places.push(place)?;
         Ok(())
     }
@@ -164,7 +172,10 @@ impl Sheet {
 
     /// The next value in the order of keys is an argument with this location. Errors: allocation failure. Cost:
     /// constant.
-    pub fn push_location(&mut self, number: usize) -> Result<(), AllocError> {
+    pub fn push_location(&mut self, number: usize) -> Result<(), AllocError>
+        ensures { OnOk result (self.new.locations.items
+            ≡ self.old.locations.items ++ (length self.old.types.items, number) ∷ []) }
+    {
         let key = self.types.len();
         self.locations.push((key, number))?;
         Ok(())
@@ -182,17 +193,24 @@ impl Sheet {
     }
 
     /// What stands before the operation, and behind it. Cost: constant.
-    pub fn around(&self) -> (&[u8], &[u8]) {
+    pub fn around(&self) -> (&[u8], &[u8])
+        ensures before { result.0.now ≡ self.now.before.items }
+        ensures behind { result.1.now ≡ self.now.behind.items }
+    {
         (&self.before, &self.behind)
     }
 
     /// This stands before the operation. Errors: allocation failure. Cost: its length.
-    pub fn set_before(&mut self, text: &[u8]) -> Result<(), AllocError> {
+    pub fn set_before(&mut self, text: &[u8]) -> Result<(), AllocError>
+        ensures { OnOk result (self.new.before.items ≡ self.old.before.items ++ text.now) }
+    {
         self.before.extend_from_slice(text)
     }
 
     /// This stands behind it. Errors: allocation failure. Cost: its length.
-    pub fn set_behind(&mut self, text: &[u8]) -> Result<(), AllocError> {
+    pub fn set_behind(&mut self, text: &[u8]) -> Result<(), AllocError>
+        ensures { OnOk result (self.new.behind.items ≡ self.old.behind.items ++ text.now) }
+    {
         self.behind.extend_from_slice(text)
     }
 }
