@@ -8,7 +8,9 @@
                                      boxed, fiftyboxes, boxes, deepboxes, boxargs,
                                      boxconsts, boxuses, boxuseslast, shortedges, scopeargs,
                                      twoedges, forks, longbranches, lastuses, deeplastuses,
-                                     manyaround, deepuses, deepvalues, deepchain
+                                     manyaround, deepuses, deepvalues, deepchain;
+                                     and of those for `cse`: repeats, beneath, sides, shared, moveduses,
+                                     and in bench alone scopes, deepscopes, pairs, longrepeats
 
 One program is built and printed in three notations, so that all optimisers see the same control flow: in
 that of this repository, with the shortest names and no blanks; in LLVM's, where an argument of a block is
@@ -493,6 +495,70 @@ def mixed(n, rng):
     return [f]
 
 
+def repeats(n, rng):
+    """straight line, each sum and each product written twice."""
+    f = Fn(2)
+    x, y = f.entry.args
+    for _ in range(max(1, n // 4)):
+        one, other = (f.bin(f.entry, "add", x, y) for _ in range(2))
+        x, y = (f.bin(f.entry, "mul", one, other) for _ in range(2))
+    f.ret(f.entry, x, y)
+    return [f]
+
+
+def beneath(n, rng):
+    """blocks one behind the other, and beside each another one; each computes what the entry did."""
+    f = Fn(1)
+    p = f.entry.args[0]
+    f.print(f.entry, f.bin(f.entry, "add", p, p))
+    cur = f.entry
+    for _ in range(max(1, n // 7)):
+        side, nxt = f.block(0), f.block(0)
+        f.cbr(cur, f.read(cur), side, [], nxt, [])
+        for b in (side, nxt):
+            f.print(b, f.bin(b, "add", p, p))
+        f.br(side, nxt)
+        cur = nxt
+    f.ret(cur, p)
+    return [f]
+
+
+def sides(n, rng):
+    """as beneath, but only the blocks beside compute, so that none dominates another: each displaces the leader before it."""
+    f = Fn(1)
+    p = f.entry.args[0]
+    cur = f.entry
+    for _ in range(max(1, n // 5)):
+        side, nxt = f.block(0), f.block(0)
+        f.cbr(cur, f.read(cur), side, [], nxt, [])
+        f.print(side, f.bin(side, "add", p, p))
+        f.br(side, nxt)
+        cur = nxt
+    f.ret(cur, p)
+    return [f]
+
+
+def shared(n, rng):
+    """n/2 sums that are one, each printed."""
+    f = Fn(1)
+    p = f.entry.args[0]
+    for _ in range(max(1, n // 2)):
+        f.print(f.entry, f.bin(f.entry, "add", p, p))
+    f.ret(f.entry, p)
+    return [f]
+
+
+def moveduses(n, rng):
+    """two sums that are one, of which the second is printed n times."""
+    f = Fn(1)
+    p = f.entry.args[0]
+    one, other = (f.bin(f.entry, "add", p, p) for _ in range(2))
+    for _ in range(max(1, n)):
+        f.print(f.entry, other)
+    f.ret(f.entry, one)
+    return [f]
+
+
 SHAPES = {"chain": chain, "diamonds": diamonds, "merges": merges, "loops": loops,
           "nest": nest, "brchain": brchain, "brchain_rev": brchain_rev,
           "unreach": unreach, "dead": dead, "deadring": deadring, "fan": fan,
@@ -500,6 +566,9 @@ SHAPES = {"chain": chain, "diamonds": diamonds, "merges": merges, "loops": loops
           "lateargs": lateargs, "shiftargs": shiftargs, "farargs": farargs, "alternating": alternating,
           "sumsink": sumsink, "sumbr": sumbr, "sumcbr": sumcbr, "shiftbr": shiftbr, "shiftcbr": shiftcbr, "turncbr": turncbr,
           "funcs": funcs, "mixed": mixed}
+
+# with operations that an equivalent one dominates, or displaces, for `cse`
+REDUNDANT = {"repeats": repeats, "beneath": beneath, "sides": sides, "shared": shared, "moveduses": moveduses}
 
 
 def boxed_sums(n, depth):
@@ -673,6 +742,32 @@ def longbranches(n):
     return "func{" + ";".join(parts) + "}\n"
 
 
+def scopes(n, depth):
+    """Scopes in chains of so many that hold one another, each with two sums of the same value outside all."""
+    values = short_names()
+    x = next(values)
+    chains = []
+    for _ in range(max(1, n // (5 * depth))):
+        names = [(next(values), next(values)) for _ in range(depth)]
+        opened = (f"scope{{z():{one}=add {x} {x};{other}=add {x} {x};print {other};" for one, other in names)
+        chains.append("".join(opened) + "ret" + "};ret" * (depth - 1) + "}")
+    return f"func{{z({x}):" + ";".join(chains) + ";ret}\n"
+
+
+def pairs(n):
+    """n/3 operations of two results that are one, with a use of each result."""
+    values = short_names()
+    parts = [(next(values), next(values)) for _ in range(max(1, n // 3))]
+    return "func{z():" + ";".join(f"{one},{other}=pair;print {one};print {other}" for one, other in parts) + ";ret}\n"
+
+
+def longrepeats(n):
+    """k operations that are one, of k operands each, with k^2 near n."""
+    values = short_names()
+    args = [next(values) for _ in range(max(2, int(n ** 0.5)))]
+    return f"func{{z({','.join(args)}):" + ";".join([f"sink {' '.join(args)}"] * len(args)) + ";ret}\n"
+
+
 # in the bench notation alone, since the others have nothing like a box; a text holds 64 levels at most
 BENCH_ONLY = {"boxed": lambda n: boxed_sums(n, 1), "fiftyboxes": lambda n: boxed_sums(n, 50),
          "boxes": lambda n: boxes(n, 1), "deepboxes": lambda n: boxes(n, 50), "boxargs": boxargs,
@@ -680,6 +775,9 @@ BENCH_ONLY = {"boxed": lambda n: boxed_sums(n, 1), "fiftyboxes": lambda n: boxed
          "shortedges": shortedges, "scopeargs": scopeargs, "twoedges": twoedges, "forks": forks,
          "longbranches": longbranches, "lastuses": lambda n: lastuses(n, 1), "deeplastuses": lambda n: lastuses(n, 60),
          "manyaround": manyaround, "deepuses": deepuses, "deepvalues": deepvalues, "deepchain": deepchain}
+
+# of these, the ones for `cse`
+REDUNDANT_BENCH_ONLY = {"scopes": lambda n: scopes(n, 1), "deepscopes": lambda n: scopes(n, 50), "pairs": pairs, "longrepeats": longrepeats}
 
 
 def bench(fns, w):
@@ -854,10 +952,11 @@ def graph_text(shape, n):
 def text_of(shape, n, notation):
     if notation == "graph":
         return graph_text(shape, n)
-    if shape in BENCH_ONLY:
-        return BENCH_ONLY[shape](n)
+    in_bench = BENCH_ONLY | REDUNDANT_BENCH_ONLY
+    if shape in in_bench:
+        return in_bench[shape](n)
     parts = []
-    PRINT[notation](SHAPES[shape](n, random.Random(1)), parts.append)
+    PRINT[notation]((SHAPES | REDUNDANT)[shape](n, random.Random(1)), parts.append)
     return "".join(parts)
 
 

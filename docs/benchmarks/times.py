@@ -7,8 +7,8 @@
   times.py growth COUNTS..                    the counts of several lists as one table of Markdown
   times.py exponents PLIR_OPT LIST..          counted instructions at 1 MiB and how they grow to it, as a table of Markdown
 
-LIST is what `plir_opt` is given, as `sccp,dce,simplify-cfg`, and each of OPT_PASSES what `opt -passes=`
-is, or behind `mlir:` what `mlir-opt` is, as `mlir:sccp,canonicalize`. The first two write one line for each shape, which `table` reads from files:
+PLIR_OPT is the program, or `"PLIR opt"`, since `plir_opt` has no `cse`. LIST is what it is given, as
+`sccp,dce,simplify-cfg`, and each of OPT_PASSES what `opt -passes=` is, or behind `mlir:` what `mlir-opt` is, as `mlir:sccp,canonicalize`. The first two write one line for each shape, which `table` reads from files:
 
   times.py ../../crates/plir_opt/out/plir_opt dce dce adce > dce.times
   times.py ../../crates/plir_opt/out/plir_opt dce count > dce.counts
@@ -71,6 +71,12 @@ def longest(shape, most):
     return found
 
 
+def words_of(program):
+    """The program's path, and the words behind it."""
+    path, *words = program.split()
+    return [os.path.abspath(path), *words]
+
+
 def exponents(program, lists):
     titles = (title for name in lists for title in (f"`{name}`", "Exponent"))
     head = ["Shape", *titles]
@@ -90,7 +96,7 @@ def grown_to(program, lists, shape, folder):
             path = os.path.join(folder, "text")
             with open(path, "w") as out:
                 out.write(text)
-            counts.append(counted([program, name], path))
+            counts.append(counted([*program, name], path))
         cells += [f"{counts[-1] / 1e6:,.0f}", f"{steepest([len(text) for text in texts], counts):.2f}"]
     return cells
 
@@ -164,7 +170,7 @@ def growth(paths):
     tables = {os.path.basename(path).removesuffix(".counts"): rows_of(path) for path in paths}
     head = ["Shape", *(title for name in tables for title in (f"`{name}`", "of `opt`", "Growth"))]
     print("| " + " | ".join(head) + " |\n" + "|---" * len(head) + "|")
-    for shape in shapes.SHAPES:
+    for shape in dict.fromkeys(shape for rows in tables.values() for shape in rows):
         row = [shape]
         for cells in (rows.get(shape, {}) for rows in tables.values()):
             large, exponent = grown(cells) if cells else (0, 0)
@@ -197,10 +203,10 @@ def table(times, counts):
 
 def main():
     if sys.argv[1] == "exponents":
-        return exponents(os.path.abspath(sys.argv[2]), sys.argv[3:])
+        return exponents(words_of(sys.argv[2]), sys.argv[3:])
     if sys.argv[1] in ("table", "growth"):
         return table(*sys.argv[2:]) if sys.argv[1] == "table" else growth(sys.argv[2:])
-    program, passes = [os.path.abspath(sys.argv[1]), sys.argv[2]], sys.argv[3:]
+    program, passes = [*words_of(sys.argv[1]), sys.argv[2]], sys.argv[3:]
     with tempfile.TemporaryDirectory() as folder:
         for shape in os.environ.get("SHAPES", "").split() or shapes.SHAPES:
             if passes[:1] == ["count"]:
