@@ -11,7 +11,7 @@ use pliron_opts::Notation;
 use std::alloc::{AllocError, Global};
 
 /// Whether the text is read as an operation that is printed as this answer, in this empty context.
-#[tactic(auto, using(crate::proofs::AnswerLemmas::reads_as))]
+#[tactic(auto, using(crate::proofs::AnswerLemmas::reads_as, crate::proofs::AnswerLemmas::not_read))]
 fn reads_as_in<N: Notation>(
     alloc: Global,
     text: &str,
@@ -25,7 +25,10 @@ fn reads_as_in<N: Notation>(
         return Ok(false);
     };
     let printed = N::print(alloc, root, ctx)?;
-    Ok(printed.as_str() == answer)
+    if printed.as_str() != answer {
+        return Ok(false);
+    }
+    Ok(true)
 }
 
 /// The same in a context of its own.
