@@ -176,13 +176,13 @@ fn expect_streamed(rt: &impl Abort, alloc: Global, text: &str, options: &RunOpti
     told.times
 }
 
-/// A text that prints, runs 5000 times round, and prints again.
+/// A text that prints, runs 2500 times round, and prints again.
 static LONG: &str =
-    "func { b0(x): print x; n = const 5000; o = const -1; br b1(n); b1(m): l = add m o; cbr l b1(l) b2(); b2(): print n; ret }";
+    "func { b0(x): print x; n = const 2500; o = const -1; br b1(n); b1(m): l = add m o; cbr l b1(l) b2(); b2(): print n; ret }";
 
 #[test]
 fn effects_come_while_a_run_goes_on(rt: HostRuntime) {
-    for steps in [3, 5000, 10_000, 100_000] {
+    for steps in [3, 4100, 100_000] {
         let options = RunOptions {
             inputs: &[3],
             world: &[7, 8],
