@@ -31,7 +31,8 @@ pub type ModuleSchedule<D> = InstrumentedSchedule<GenericForm<D>, Timeless>;
 /// The passes that the word asks for: of an empty one, none. Errors: it isn't a list of names of passes; allocation
 /// failure.
 fn plan_of<'w>(alloc: Global, word: &'w [u8]) -> Result<PipelineText<'w>, Failure>
-    ensures asked { IfOk result (λ plan. AsksFor word.now plan.runs plan.nested (map (λ name. name.now) plan.names.items)) }
+    ensures asked { IfOk result (λ plan. AsksFor word.now plan.runs plan.nested
+        (map (λ name. name.now) plan.names.items)) }
     ensures failure { IfErr result (λ failure. (failure ≡ Failure.Arguments) ⊎ (failure ≡ Failure.Memory)) }
 {
     let Ok(word) = str::from_utf8(word) else {
