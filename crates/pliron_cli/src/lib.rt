@@ -10,7 +10,6 @@ mod drawing;
 mod ending;
 mod explaining;
 mod failure;
-mod graph_fault;
 mod optimising;
 mod outcome;
 mod report;
@@ -24,17 +23,14 @@ mod violation_message;
 pub use checking::{Checked, check, check_text};
 pub use comparing::{CompareOptions, Sights, compare, compare_text};
 pub use drawing::{draw_flow, draw_graph};
-pub use explaining::{ExplainOptions, explain};
+pub use explaining::explain;
 pub use failure::CommandFailure;
 pub use optimising::{OptOptions, misspelling_outcome, opt};
 pub use outcome::Outcome;
-pub use pliron_diagnostics::{
-    EffectSink, MessageForm, RunOptions, Source, TextRange, blank_comments, in_form, isolate,
-    operation_range, without_mark,
-};
+pub use pliron_diagnostics::{RunOptions, Source};
 pub use pliron_graphviz::FlowOptions;
 pub use pliron_instrument::{InstrumentationOptions, PipelineText, PlanError, Progress};
 pub use pliron_opts::BenchNotation;
-pub use running::{run, run_streamed};
+pub use running::run;
 pub use shown::Shown;
 pub use strict::opt_with_check;

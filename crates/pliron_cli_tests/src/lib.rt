@@ -4,8 +4,6 @@
 #[cfg(test)]
 mod broken;
 #[cfg(test)]
-mod changes;
-#[cfg(test)]
 mod compared;
 #[cfg(test)]
 mod diagnostics;

@@ -1,2 +1,1 @@
-pub mod CommentLemmas
 pub mod LayoutLemmas

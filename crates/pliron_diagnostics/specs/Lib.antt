@@ -1,4 +1,2 @@
-pub mod Comments
-pub mod Isolated
 pub mod Layout
 pub mod Position
