@@ -1,0 +1,3 @@
+pub mod Answered
+mod Known
+pub mod Whole
