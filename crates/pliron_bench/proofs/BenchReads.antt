@@ -17,9 +17,6 @@ use Rattle.pliron_laws.specs.Datum.{Head, Shape}
 use Rattle.pliron_laws.specs.Tree.{Operation, op_at, op_with, shape_of}
 use Rattle.pliron_laws.specs.Acting.{pick}
 use Rattle.pliron_laws.specs.Answers.{AreForwarded, IsForwardedAt, IsForwardedOnce, ReadsHead, ReadsShape, ReadsEdges, HeadPasses}
-use Rattle.pliron_operand_folding.specs.declared.OpFoldResult.{OpFoldResult}
-use Rattle.pliron_operand_folding.specs.OperandFolding.{ReadsOperands}
-use Rattle.pliron_bench.specs.BenchOperandFolds.{operand_folds_of, no_folds_to_operands, bench_operand_folds}
 use Rattle.pliron_bench.specs.Bench.{by_kind, kind_of}
 use Rattle.pliron_bench.specs.BenchBranches.{distinct}
 use Rattle.pliron_bench.specs.BenchNumbers.{known_at}
@@ -48,17 +45,6 @@ answers_read t op h k known items e f g i = λ o at.
 pub no_answers_read : (t : Tree) (op : ℕ) (known items : List (Option AttrObj)) → ReadsHead (λ h. kind_of h.kind) t op None → items ≡ [] → ReadsShape bench (λ s. bench_constants s known) t op items
 unfolding bench_constants shape_of
 no_answers_read t op known items r e = λ o at. e ∙ ap (λ z. by_kind no_constants constants_of z o.head known) (r o.head (head_at t op o at))
-
--- ---- results that are operands
-
-pub operands_read : (t : Tree) (op : ℕ) (k : BenchKind) (known : List (Option AttrObj)) (items : List (Option OpFoldResult)) → ReadsHead (λ h. kind_of h.kind) t op (Some k) → items ≡ operand_folds_of k known (operands_of t op) → ReadsOperands bench bench_operand_folds known t op items
-unfolding bench_operand_folds shape_of
-operands_read t op k known items r e = λ o at.
-    e ∙ ap (operand_folds_of k known) (sym (operands_at t op o at)) ∙ ap (λ z. by_kind no_folds_to_operands operand_folds_of z known o.operands) (r o.head (head_at t op o at))
-
-pub no_operands_read : (t : Tree) (op : ℕ) (known : List (Option AttrObj)) (items : List (Option OpFoldResult)) → ReadsHead (λ h. kind_of h.kind) t op None → items ≡ [] → ReadsOperands bench bench_operand_folds known t op items
-unfolding bench_operand_folds shape_of
-no_operands_read t op known items r e = λ o at. e ∙ ap (λ z. by_kind no_folds_to_operands operand_folds_of z known o.operands) (r o.head (head_at t op o at))
 
 -- ---- jumps
 

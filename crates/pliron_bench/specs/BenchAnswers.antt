@@ -9,7 +9,7 @@ use Rattle.pliron_laws.specs.declared.dialect.Interface.TheVariants.{SideEffects
 use Rattle.pliron_laws.specs.Datum.{Head, Shape}
 use Rattle.pliron_laws.specs.Entries.{EntryOperands}
 use Rattle.pliron_bench.specs.Bench.{by_kind, kind_of, number_of, is_number, attribute_head, first_attribute}
-use Rattle.pliron_bench.specs.BenchNumbers.{known_at, known_in, known_sum, known_product, known_quotient}
+use Rattle.pliron_bench.specs.BenchNumbers.{known_at, known_sum, known_product, known_quotient}
 use Rattle.pliron_bench.specs.BenchMoves.{ends_block, branches, passes_operands, edge_of}
 
 -- whether an operation of the kind has side effects, where it says so
@@ -58,12 +58,15 @@ folds_of _ = false
 unfoldable pub bench_folds : Head → Bool
 bench_folds h = by_kind false folds_of (kind_of h.kind)
 
+abbrev pub as_constant : Option ℤ → Option AttrObj
+as_constant n = option_map Int n
+
 -- the constant of the result of an operation that folds, where it is known
 abbrev pub answer_of : BenchKind → Head → List (Option AttrObj) → Option AttrObj
 answer_of Const h known = Some (first_attribute h.attrs)
-answer_of Add h known = known_sum (known_in known 0) (known_in known 1)
-answer_of Mul h known = known_product (known_in known 0) (known_in known 1)
-answer_of Div h known = known_quotient (known_in known 0) (known_in known 1)
+answer_of Add h known = as_constant (known_sum (known_at known 0) (known_at known 1))
+answer_of Mul h known = as_constant (known_product (known_at known 0) (known_at known 1))
+answer_of Div h known = as_constant (known_quotient (known_at known 0) (known_at known 1))
 answer_of _ h known = None
 
 -- what folds has one result

@@ -1,23 +1,20 @@
 -- What the dialect answers on constants and jumps is true, and knowing more loses nothing of it.
-use Rattle.std.proofs.Common.{◌≡◌, inl, inr, ℕ, zero, suc, Bool, true, false, if◌then◌else◌, List, [], ◌∷◌, Option, Some, None, length, slice_get, IsTrue, refl, ap, ap₂, sym, ◌∙◌, subst, arith}
+use Rattle.std.proofs.Common.{◌≡◌, inl, inr, ℕ, zero, suc, false, List, [], ◌∷◌, Option, Some, None, length, slice_get, IsTrue, refl, ap, ap₂, sym, ◌∙◌, subst, arith}
 use Rattle.std.proofs.lemmas.Option.{same_Some}
 use Rattle.std.proofs.lemmas.Int.{ints}
-use Rattle.std.specs.Ordering.{int_eq}
-use Rattle.std.specs.Cmp.{signed_Decides}
-use Rattle.std.specs.Prelude.{option_map, ℤ, pos, ◌*ℤ◌}
+use Rattle.std.specs.Prelude.{ℤ, pos, negsuc, ◌*ℤ◌}
 use Rattle.std.specs.Int.{w64, int_wrap}
 use Rattle.pliron_core.specs.declared.attrs.AttrObj.{AttrObj}
-use Rattle.pliron_core.specs.declared.attrs.AttrObj.TheVariants.{Int, Text as Words}
 use Rattle.pliron_core.specs.Lists.{In}
 use Rattle.pliron_bench.specs.declared.kind.BenchKind.{BenchKind}
 use Rattle.pliron_bench.specs.declared.kind.BenchKind.TheVariants.{Const, Add, Mul, Div, Br, Cbr}
-use Rattle.pliron_laws.specs.Datum.{Datum, Empty, Number, Text, Join, datum_of, Head, Shape, Move, Give, Visit, Goto, Leave, Emit, Trap}
+use Rattle.pliron_laws.specs.Datum.{Datum, Number, Head, Shape, Move, Give, Visit, Goto, Leave, Emit, Trap}
 use Rattle.pliron_laws.specs.Acting.{Known}
 use Rattle.pliron_laws.specs.Folding.{AnswersTrue, AnswersJumps, KnowsMore, FoldsMonotonely}
 use Rattle.pliron_bench.specs.Bench.{by_kind, kind_of, result_count}
-use Rattle.pliron_bench.specs.BenchNumbers.{as_number, datum_at, number_at, sum, product, quotient, is_whole, data_sum, data_product, data_quotient, known_as, known_at, known_in, number_in, constant_sum, constant_product, constant_quotient, known_sum, zero_only, known_product, known_quotient}
+use Rattle.pliron_bench.specs.BenchNumbers.{as_number, number_at, sum, product, quotient, known_as, known_at, known_sum, zero_only, known_product, known_quotient}
 use Rattle.pliron_bench.specs.BenchMoves.{give_or_trap, edge_of, act_of, no_act, branches, bench}
-use Rattle.pliron_bench.specs.BenchAnswers.{folds_of, bench_folds, constants_of, no_constants, bench_constants, folds_branch_of, bench_folds_branch, only, edges_taken as taken_of, feasible_of, no_jump, bench_feasible}
+use Rattle.pliron_bench.specs.BenchAnswers.{folds_of, bench_folds, as_constant, constants_of, no_constants, bench_constants, folds_branch_of, bench_folds_branch, only, edges_taken as taken_of, feasible_of, no_jump, bench_feasible}
 use Rattle.pliron_bench.specs.BenchParts.{Admits, of_kind, IsQuiet, comes_first}
 
 -- ---- numbers that are known
@@ -34,25 +31,6 @@ known_agrees (None ∷ known) (d ∷ ds) zero h = tt
 known_agrees (Some a ∷ known) (d ∷ ds) zero h = ap as_number h.0
 known_agrees (None ∷ known) (d ∷ ds) (suc i) h = known_agrees known ds i h
 known_agrees (Some a ∷ known) (d ∷ ds) (suc i) h = known_agrees known ds i h.1
-
--- the datum is that of the constant, if one is known
-abbrev pub AgreesWith : Option AttrObj → Datum → Type 0
-AgreesWith None d = Unit {0}
-AgreesWith (Some a) d = datum_of a ≡ d
-
-pub known_data : (known : List (Option AttrObj)) (ds : List Datum) (i : ℕ) → Known known ds → AgreesWith (known_in known i) (datum_at ds i)
-known_data [] ds i h = tt
-known_data (a ∷ known) [] i h = absurd h
-known_data (None ∷ known) (d ∷ ds) zero h = tt
-known_data (Some a ∷ known) (d ∷ ds) zero h = h.0
-known_data (None ∷ known) (d ∷ ds) (suc i) h = known_data known ds i h
-known_data (Some a ∷ known) (d ∷ ds) (suc i) h = known_data known ds i h.1
-
-pub whole_is : (n : ℤ) (d : Datum) → is_whole n d ≡ true → d ≡ Number n
-whole_is n (Number m) h = ap Number ((signed_Decides m n).0 h)
-whole_is n Empty h = grind arith
-whole_is n (Text w) h = grind arith
-whole_is n (Join a b) h = grind arith
 
 wrapped_zero : int_wrap w64 (pos 0) ≡ pos 0
 unfolding int_wrap
@@ -81,109 +59,68 @@ GivesKnown cs (Leave ds) = Unit {0}
 GivesKnown cs (Emit e memo) = Unit {0}
 GivesKnown cs Trap = Unit {0}
 
--- a choice among constants is that among their data
-chosen : (x y : Bool) (a b c : AttrObj) → datum_of (if x then a else if y then b else c) ≡ (if x then datum_of a else if y then datum_of b else datum_of c)
-chosen true y a b c = refl
-chosen false true a b c = refl
-chosen false false a b c = refl
+sum_known : (p q : Option ℤ) (a b : ℤ) → Agrees p a → Agrees q b → Known (as_constant (known_sum p q) ∷ []) (Number (sum a b) ∷ [])
+sum_known (Some m) (Some n) a b e f = (ap₂ (λ x y. Number (sum x y)) e f, tt)
+sum_known (Some m) None a b e f = tt
+sum_known None (Some n) a b e f = tt
+sum_known None None a b e f = tt
 
-sum_made : (a b : AttrObj) → datum_of (constant_sum a b) ≡ data_sum (datum_of a) (datum_of b)
-sum_made a b = chosen (is_whole (pos 0) (datum_of b)) (is_whole (pos 0) (datum_of a)) a b (Int (sum (number_in a) (number_in b)))
+zero_left : (m a b : ℤ) → m ≡ a → Known (as_constant (zero_only m) ∷ []) (Number (product a b) ∷ [])
+zero_left (pos zero) a b e = (ap Number (sym (zero_product b) ∙ ap (λ x. product x b) e), tt)
+zero_left (pos (suc n)) a b e = tt
+zero_left (negsuc n) a b e = tt
 
-product_made : (a b : AttrObj) → datum_of (constant_product a b) ≡ data_product (datum_of a) (datum_of b)
-product_made a b = chosen (is_whole (pos 1) (datum_of b)) (is_whole (pos 1) (datum_of a)) a b (Int (product (number_in a) (number_in b)))
+zero_right : (n a b : ℤ) → n ≡ b → Known (as_constant (zero_only n) ∷ []) (Number (product a b) ∷ [])
+zero_right (pos zero) a b e = (ap Number (sym (product_zero a) ∙ ap (product a) e), tt)
+zero_right (pos (suc n)) a b e = tt
+zero_right (negsuc n) a b e = tt
 
-sum_known : (p q : Option AttrObj) (d e : Datum) → AgreesWith p d → AgreesWith q e → Known (known_sum p q ∷ []) (data_sum d e ∷ [])
-sum_known (Some a) (Some b) d e f g = (sum_made a b ∙ ap₂ data_sum f g, tt)
-sum_known (Some a) None d e f g = tt
-sum_known None (Some b) d e f g = tt
-sum_known None None d e f g = tt
+product_known : (p q : Option ℤ) (a b : ℤ) → Agrees p a → Agrees q b → Known (as_constant (known_product p q) ∷ []) (Number (product a b) ∷ [])
+product_known (Some m) (Some n) a b e f = (ap₂ (λ x y. Number (product x y)) e f, tt)
+product_known (Some m) None a b e f = zero_left m a b e
+product_known None (Some n) a b e f = zero_right n a b f
+product_known None None a b e f = tt
 
-zero_is_not_one : int_eq (pos 0) (pos 1) ≡ false
-zero_is_not_one = go (int_eq (pos 0) (pos 1)) refl
-  where
-    go : (x : Bool) → int_eq (pos 0) (pos 1) ≡ x → x ≡ false
-    go true e = let same : pos 0 ≡ pos 1 = (signed_Decides (pos 0) (pos 1)).0 e in grind arith
-    go false e = refl
+-- an answer that is that of the transition itself
+trap_known : (q r : Option ℤ) → q ≡ r → GivesKnown (as_constant q ∷ []) (give_or_trap r)
+trap_known None None e = tt
+trap_known (Some m) None e = tt
+trap_known None (Some n) e = tt
+trap_known (Some m) (Some n) e = (ap Number (same_Some m n e), tt)
 
--- a product with 0 is 0
-zero_times_data : (e : Datum) → data_product (Number (pos 0)) e ≡ Number (pos 0)
-zero_times_data e = go (is_whole (pos 1) e) (int_eq (pos 0) (pos 1)) zero_is_not_one
-  where
-    go : (x y : Bool) → y ≡ false → (if x then Number (pos 0) else if y then e else Number (product (as_number (Number (pos 0))) (as_number e))) ≡ Number (pos 0)
-    go true y f = refl
-    go false true f = grind arith
-    go false false f = ap Number (ap (λ z. product z (as_number e)) wrapped_zero ∙ zero_product (as_number e))
-
-data_times_zero : (d : Datum) → data_product d (Number (pos 0)) ≡ Number (pos 0)
-data_times_zero d = go (int_eq (pos 0) (pos 1)) (is_whole (pos 1) d) zero_is_not_one
-  where
-    go : (x y : Bool) → x ≡ false → (if x then d else if y then Number (pos 0) else Number (product (as_number d) (as_number (Number (pos 0))))) ≡ Number (pos 0)
-    go true y f = grind arith
-    go false true f = refl
-    go false false f = ap Number (ap (product (as_number d)) wrapped_zero ∙ product_zero (as_number d))
-
-zero_left : (a : AttrObj) (d e : Datum) → datum_of a ≡ d → Known (zero_only a ∷ []) (data_product d e ∷ [])
-zero_left a d e f = go (is_whole (pos 0) (datum_of a)) refl
-  where
-    go : (x : Bool) → is_whole (pos 0) (datum_of a) ≡ x → Known ((if x then Some (Int (pos 0)) else None) ∷ []) (data_product d e ∷ [])
-    go true t = (sym (ap (λ z. data_product z e) (sym f ∙ whole_is (pos 0) (datum_of a) t) ∙ zero_times_data e), tt)
-    go false t = tt
-
-zero_right : (b : AttrObj) (d e : Datum) → datum_of b ≡ e → Known (zero_only b ∷ []) (data_product d e ∷ [])
-zero_right b d e f = go (is_whole (pos 0) (datum_of b)) refl
-  where
-    go : (x : Bool) → is_whole (pos 0) (datum_of b) ≡ x → Known ((if x then Some (Int (pos 0)) else None) ∷ []) (data_product d e ∷ [])
-    go true t = (sym (ap (data_product d) (sym f ∙ whole_is (pos 0) (datum_of b) t) ∙ data_times_zero d), tt)
-    go false t = tt
-
-product_known : (p q : Option AttrObj) (d e : Datum) → AgreesWith p d → AgreesWith q e → Known (known_product p q ∷ []) (data_product d e ∷ [])
-product_known (Some a) (Some b) d e f g = (product_made a b ∙ ap₂ data_product f g, tt)
-product_known (Some a) None d e f g = zero_left a d e f
-product_known None (Some b) d e f g = zero_right b d e g
-product_known None None d e f g = tt
-
-not_known : (r : Option Datum) → GivesKnown (None ∷ []) (give_or_trap r)
+not_known : (r : Option ℤ) → GivesKnown (None ∷ []) (give_or_trap r)
 not_known None = tt
-not_known (Some d) = tt
+not_known (Some n) = tt
 
-quotient_made : (a b : AttrObj) → GivesKnown (constant_quotient a b ∷ []) (give_or_trap (data_quotient (datum_of a) (datum_of b)))
-quotient_made a b = go (is_whole (pos 1) (datum_of b)) (quotient (number_in a) (number_in b))
-  where
-    go : (x : Bool) (q : Option ℤ) → GivesKnown ((if x then Some a else option_map Int q) ∷ []) (give_or_trap (if x then Some (datum_of a) else option_map Number q))
-    go true q = (refl, tt)
-    go false None = tt
-    go false (Some n) = (refl, tt)
-
-quotient_known : (p q : Option AttrObj) (d e : Datum) → AgreesWith p d → AgreesWith q e → GivesKnown (known_quotient p q ∷ []) (give_or_trap (data_quotient d e))
-quotient_known (Some a) (Some b) d e f g = subst (λ z. GivesKnown (constant_quotient a b ∷ []) (give_or_trap z)) (ap₂ data_quotient f g) (quotient_made a b)
-quotient_known (Some a) None d e f g = not_known (data_quotient d e)
-quotient_known None (Some b) d e f g = not_known (data_quotient d e)
-quotient_known None None d e f g = not_known (data_quotient d e)
+quotient_known : (p q : Option ℤ) (a b : ℤ) → Agrees p a → Agrees q b → GivesKnown (as_constant (known_quotient p q) ∷ []) (give_or_trap (quotient a b))
+quotient_known (Some m) (Some n) a b e f = trap_known (quotient m n) (quotient a b) (ap₂ quotient e f)
+quotient_known (Some m) None a b e f = not_known (quotient a b)
+quotient_known None (Some n) a b e f = not_known (quotient a b)
+quotient_known None None a b e f = not_known (quotient a b)
 
 kind_gives : (k : BenchKind) (s : Shape) (known : List (Option AttrObj)) (memo : Datum) (first : List Datum) → IsTrue (folds_of k) → Known known first → GivesKnown (constants_of k s.head known) (act_of k s memo first)
 kind_gives Const s known memo first f h = (refl, tt)
-kind_gives Add s known memo first f h = sum_known (known_in known 0) (known_in known 1) (datum_at first 0) (datum_at first 1) (known_data known first 0 h) (known_data known first 1 h)
-kind_gives Mul s known memo first f h = product_known (known_in known 0) (known_in known 1) (datum_at first 0) (datum_at first 1) (known_data known first 0 h) (known_data known first 1 h)
-kind_gives Div s known memo first f h = quotient_known (known_in known 0) (known_in known 1) (datum_at first 0) (datum_at first 1) (known_data known first 0 h) (known_data known first 1 h)
+kind_gives Add s known memo first f h = sum_known (known_at known 0) (known_at known 1) (number_at first 0) (number_at first 1) (known_agrees known first 0 h) (known_agrees known first 1 h)
+kind_gives Mul s known memo first f h = product_known (known_at known 0) (known_at known 1) (number_at first 0) (number_at first 1) (known_agrees known first 0 h) (known_agrees known first 1 h)
+kind_gives Div s known memo first f h = quotient_known (known_at known 0) (known_at known 1) (number_at first 0) (number_at first 1) (known_agrees known first 0 h) (known_agrees known first 1 h)
 kind_gives _ s known memo first f h = grind arith
 
 answers_given : (o : Option BenchKind) (s : Shape) (known : List (Option AttrObj)) (memo : Datum) (first : List Datum) → IsTrue (by_kind false folds_of o) → Known known first → GivesKnown (by_kind no_constants constants_of o s.head known) (by_kind no_act act_of o s memo first)
 answers_given None s known memo first f h = grind arith
 answers_given (Some k) s known memo first f h = kind_gives k s known memo first f h
 
-trap_quiet : (q : Option Datum) → IsQuiet (give_or_trap q)
+trap_quiet : (q : Option ℤ) → IsQuiet (give_or_trap q)
 trap_quiet None = tt
-trap_quiet (Some d) = tt
+trap_quiet (Some n) = tt
 
 kind_quiet : (k : BenchKind) (s : Shape) → IsTrue (folds_of k) → (memo : Datum) (input : List Datum) → IsQuiet (act_of k s memo input)
 kind_quiet Const s f memo input = tt
 kind_quiet Add s f memo input = tt
 kind_quiet Mul s f memo input = tt
-kind_quiet Div s f memo input = trap_quiet (data_quotient (datum_at input 0) (datum_at input 1))
+kind_quiet Div s f memo input = trap_quiet (quotient (number_at input 0) (number_at input 1))
 kind_quiet _ s f memo input = grind arith
 
-pub folds_quiet : (o : Option BenchKind) (s : Shape) → IsTrue (by_kind false folds_of o) → (memo : Datum) (input : List Datum) → IsQuiet (by_kind no_act act_of o s memo input)
+folds_quiet : (o : Option BenchKind) (s : Shape) → IsTrue (by_kind false folds_of o) → (memo : Datum) (input : List Datum) → IsQuiet (by_kind no_act act_of o s memo input)
 folds_quiet None s f memo input = tt
 folds_quiet (Some k) s f memo input = kind_quiet k s f memo input
 
@@ -281,83 +218,71 @@ bench_jumps = record {
 
 -- ---- more that is known
 
-abbrev IsMore : {A : Type 0} → Option A → Option A → Type 0
+abbrev IsMore : Option ℤ → Option ℤ → Type 0
 IsMore None q = Unit {0}
 IsMore (Some n) q = q ≡ Some n
 
-more_in : (known more : List (Option AttrObj)) (i : ℕ) → KnowsMore known more → IsMore (known_in known i) (known_in more i)
-more_in [] more i h = tt
-more_in (a ∷ known) [] i h = absurd h
-more_in (None ∷ known) (b ∷ more) zero h = tt
-more_in (Some a ∷ known) (b ∷ more) zero h = h.0
-more_in (None ∷ known) (b ∷ more) (suc i) h = more_in known more i h
-more_in (Some a ∷ known) (b ∷ more) (suc i) h = more_in known more i h.1
-
 more_at : (known more : List (Option AttrObj)) (i : ℕ) → KnowsMore known more → IsMore (known_at known i) (known_at more i)
-more_at known more i h = go (known_in known i) (more_in known more i h)
-  where
-    go : (p : Option AttrObj) → IsMore p (known_in more i) → IsMore (known_as p) (known_at more i)
-    go None e = tt
-    go (Some a) e = ap known_as e
+more_at [] more i h = tt
+more_at (a ∷ known) [] i h = absurd h
+more_at (None ∷ known) (b ∷ more) zero h = tt
+more_at (Some a ∷ known) (b ∷ more) zero h = ap known_as h.0
+more_at (None ∷ known) (b ∷ more) (suc i) h = more_at known more i h
+more_at (Some a ∷ known) (b ∷ more) (suc i) h = more_at known more i h.1
 
 -- the answer is kept
-abbrev pub Keeps : Option AttrObj → Option AttrObj → Type 0
-Keeps p q = KnowsMore (p ∷ []) (q ∷ [])
+abbrev Keeps : Option ℤ → Option ℤ → Type 0
+Keeps p q = KnowsMore (as_constant p ∷ []) (as_constant q ∷ [])
 
-same_answer : (p q : Option AttrObj) → q ≡ p → Keeps p q
-same_answer None q e = tt
-same_answer (Some a) q e = (e, tt)
+kept : (p q : Option ℤ) (n : ℤ) → p ≡ Some n → q ≡ Some n → Keeps p q
+kept None q n e f = grind arith
+kept (Some m) q n e f = (ap as_constant (f ∙ sym e), tt)
 
-sum_more : (p q p' q' : Option AttrObj) → IsMore p p' → IsMore q q' → Keeps (known_sum p q) (known_sum p' q')
-sum_more (Some a) (Some b) p' q' e f = (ap₂ known_sum e f, tt)
+sum_more : (p q p' q' : Option ℤ) → IsMore p p' → IsMore q q' → Keeps (known_sum p q) (known_sum p' q')
+sum_more (Some a) (Some b) p' q' e f = (ap₂ (λ x y. as_constant (known_sum x y)) e f, tt)
 sum_more (Some a) None p' q' e f = tt
 sum_more None (Some b) p' q' e f = tt
 sum_more None None p' q' e f = tt
 
-same_constant : (c : AttrObj) (n : ℤ) → datum_of c ≡ Number n → c ≡ Int n
-same_constant (Int m) n e = grind arith
-same_constant (Words w) n e = grind arith
+zero_kept_left : (q : Option ℤ) → known_product (Some (pos 0)) q ≡ Some (pos 0)
+zero_kept_left None = refl
+zero_kept_left (Some b) = ap Some (zero_product b)
 
--- what is 0 makes a product 0, whatever else is known
-zero_kept_left : (a : AttrObj) (q : Option AttrObj) → is_whole (pos 0) (datum_of a) ≡ true → known_product (Some a) q ≡ Some (Int (pos 0))
-zero_kept_left a None t = ap (λ x. if x then Some (Int (pos 0)) else None) t
-zero_kept_left a (Some b) t = ap Some (same_constant (constant_product a b) (pos 0) (product_made a b ∙ ap (λ z. data_product z (datum_of b)) (whole_is (pos 0) (datum_of a) t) ∙ zero_times_data (datum_of b)))
+zero_kept_right : (p : Option ℤ) → known_product p (Some (pos 0)) ≡ Some (pos 0)
+zero_kept_right None = refl
+zero_kept_right (Some a) = ap Some (product_zero a)
 
-zero_kept_right : (b : AttrObj) (p : Option AttrObj) → is_whole (pos 0) (datum_of b) ≡ true → known_product p (Some b) ≡ Some (Int (pos 0))
-zero_kept_right b None t = ap (λ x. if x then Some (Int (pos 0)) else None) t
-zero_kept_right b (Some a) t = ap Some (same_constant (constant_product a b) (pos 0) (product_made a b ∙ ap (data_product (datum_of a)) (whole_is (pos 0) (datum_of b) t) ∙ data_times_zero (datum_of a)))
+left_more : (a : ℤ) (p' q' : Option ℤ) → p' ≡ Some a → Keeps (zero_only a) (known_product p' q')
+left_more (pos zero) p' q' e = (ap as_constant (ap (λ p. known_product p q') e ∙ zero_kept_left q'), tt)
+left_more (pos (suc n)) p' q' e = tt
+left_more (negsuc n) p' q' e = tt
 
-left_more : (a : AttrObj) (p' q' : Option AttrObj) → p' ≡ Some a → Keeps (zero_only a) (known_product p' q')
-left_more a p' q' e = go (is_whole (pos 0) (datum_of a)) refl
-  where
-    go : (x : Bool) → is_whole (pos 0) (datum_of a) ≡ x → Keeps (if x then Some (Int (pos 0)) else None) (known_product p' q')
-    go true t = (ap (λ p. known_product p q') e ∙ zero_kept_left a q' t, tt)
-    go false t = tt
+right_more : (b : ℤ) (p' q' : Option ℤ) → q' ≡ Some b → Keeps (zero_only b) (known_product p' q')
+right_more (pos zero) p' q' e = (ap as_constant (ap (known_product p') e ∙ zero_kept_right p'), tt)
+right_more (pos (suc n)) p' q' e = tt
+right_more (negsuc n) p' q' e = tt
 
-right_more : (b : AttrObj) (p' q' : Option AttrObj) → q' ≡ Some b → Keeps (zero_only b) (known_product p' q')
-right_more b p' q' e = go (is_whole (pos 0) (datum_of b)) refl
-  where
-    go : (x : Bool) → is_whole (pos 0) (datum_of b) ≡ x → Keeps (if x then Some (Int (pos 0)) else None) (known_product p' q')
-    go true t = (ap (known_product p') e ∙ zero_kept_right b p' t, tt)
-    go false t = tt
-
-product_more : (p q p' q' : Option AttrObj) → IsMore p p' → IsMore q q' → Keeps (known_product p q) (known_product p' q')
-product_more (Some a) (Some b) p' q' e f = (ap₂ known_product e f, tt)
+product_more : (p q p' q' : Option ℤ) → IsMore p p' → IsMore q q' → Keeps (known_product p q) (known_product p' q')
+product_more (Some a) (Some b) p' q' e f = (ap₂ (λ x y. as_constant (known_product x y)) e f, tt)
 product_more (Some a) None p' q' e f = left_more a p' q' e
 product_more None (Some b) p' q' e f = right_more b p' q' f
 product_more None None p' q' e f = tt
 
-quotient_more : (p q p' q' : Option AttrObj) → IsMore p p' → IsMore q q' → Keeps (known_quotient p q) (known_quotient p' q')
-quotient_more (Some a) (Some b) p' q' e f = same_answer (constant_quotient a b) (known_quotient p' q') (ap₂ known_quotient e f)
+same_answer : (p q : Option ℤ) → q ≡ p → Keeps p q
+same_answer None q e = tt
+same_answer (Some n) q e = (ap as_constant e, tt)
+
+quotient_more : (p q p' q' : Option ℤ) → IsMore p p' → IsMore q q' → Keeps (known_quotient p q) (known_quotient p' q')
+quotient_more (Some a) (Some b) p' q' e f = same_answer (quotient a b) (known_quotient p' q') (ap₂ known_quotient e f)
 quotient_more (Some a) None p' q' e f = tt
 quotient_more None (Some b) p' q' e f = tt
 quotient_more None None p' q' e f = tt
 
 kind_more : (k : BenchKind) (h : Head) (known more : List (Option AttrObj)) → KnowsMore known more → KnowsMore (constants_of k h known) (constants_of k h more)
 kind_more Const h known more m = (refl, tt)
-kind_more Add h known more m = sum_more (known_in known 0) (known_in known 1) (known_in more 0) (known_in more 1) (more_in known more 0 m) (more_in known more 1 m)
-kind_more Mul h known more m = product_more (known_in known 0) (known_in known 1) (known_in more 0) (known_in more 1) (more_in known more 0 m) (more_in known more 1 m)
-kind_more Div h known more m = quotient_more (known_in known 0) (known_in known 1) (known_in more 0) (known_in more 1) (more_in known more 0 m) (more_in known more 1 m)
+kind_more Add h known more m = sum_more (known_at known 0) (known_at known 1) (known_at more 0) (known_at more 1) (more_at known more 0 m) (more_at known more 1 m)
+kind_more Mul h known more m = product_more (known_at known 0) (known_at known 1) (known_at more 0) (known_at more 1) (more_at known more 0 m) (more_at known more 1 m)
+kind_more Div h known more m = quotient_more (known_at known 0) (known_at known 1) (known_at more 0) (known_at more 1) (more_at known more 0 m) (more_at known more 1 m)
 kind_more _ h known more m = tt
 
 constants_more : (o : Option BenchKind) (h : Head) (known more : List (Option AttrObj)) → KnowsMore known more → KnowsMore (by_kind no_constants constants_of o h known) (by_kind no_constants constants_of o h more)

@@ -12,7 +12,7 @@ use Rattle.pliron_laws.specs.Acting.{MovesAlike, DropsAt, JumpsSame}
 use Rattle.pliron_laws.specs.Laws.{CountsFit, KeepsCounts, IsGive, GivesAtOnce, ActsWithoutArgument}
 use Rattle.pliron_laws.specs.Folding.{MakesConstant, MakesConstants}
 use Rattle.pliron_bench.specs.Bench.{by_kind, kind_of, result_count, successor_count, attribute_head, is_number}
-use Rattle.pliron_bench.specs.BenchNumbers.{fits, data_quotient, number_at, datum_at}
+use Rattle.pliron_bench.specs.BenchNumbers.{fits, quotient, number_at, datum_at}
 use Rattle.pliron_bench.specs.BenchMoves.{once, fit_data, give_or_trap, edge_of, argument_count, act_of, no_act, ends_block, branches, bench}
 use Rattle.pliron_bench.specs.BenchAnswers.{effects_of, bench_side_effects, removable_of, no_removal, bench_removable, bench_accepts, bench_constant_head}
 use Rattle.pliron_bench.specs.BenchParts.{Admits, of_kind}
@@ -45,9 +45,9 @@ once_fits b s (Number n) move after f g = g
 once_fits b s (Text w) move after f g = g
 once_fits b s (Join x y) move after f g = g
 
-trap_fits : (b : Bool) (s : Shape) (q : Option Datum) → s.results ≡ 1 → CountsFit b s (give_or_trap q)
+trap_fits : (b : Bool) (s : Shape) (q : Option ℤ) → s.results ≡ 1 → CountsFit b s (give_or_trap q)
 trap_fits b s None e = tt
-trap_fits b s (Some d) e = sym e
+trap_fits b s (Some n) e = sym e
 
 fork_fits : (target_arguments : Option (List ℕ)) (i : ℕ) (d : Datum) (counts : List ℕ) (n : ℕ) → target_arguments ≡ Some counts → slice_get counts i ≡ Some n → length (replicate (argument_count target_arguments i) d) ≡ n
 fork_fits target_arguments i d counts n e f = length-replicate (argument_count target_arguments i) d ∙ ap (λ t. argument_count t i) e ∙ get_or_from_slice_get counts i n 0 f
@@ -58,7 +58,7 @@ kind_fits Func s memo input e = once_fits false s memo _ (Leave input) (λ n at.
 kind_fits Const s memo input e = sym e
 kind_fits Add s memo input e = sym e
 kind_fits Mul s memo input e = sym e
-kind_fits Div s memo input e = trap_fits false s (data_quotient (datum_at input 0) (datum_at input 1)) e
+kind_fits Div s memo input e = trap_fits false s (quotient (number_at input 0) (number_at input 1)) e
 kind_fits Read s memo input e = once_fits false s memo _ (Give (datum_at input 0 ∷ [])) tt (sym e)
 kind_fits Print s memo input e = once_fits false s memo _ (Give []) tt (sym e)
 kind_fits Pair s memo input e = sym e

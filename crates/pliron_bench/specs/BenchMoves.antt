@@ -7,7 +7,7 @@ use Rattle.pliron_bench.specs.declared.kind.BenchKind.{BenchKind}
 use Rattle.pliron_bench.specs.declared.kind.BenchKind.TheVariants.{Mod, Func, Const, Add, Mul, Div, Read, Print, Pair, Sink, Scope, Box, Br, Cbr, Ret, Fork}
 use Rattle.pliron_laws.specs.Datum.{Datum, Empty, Number, Text, Join, datum_of, Head, Shape, Move, Give, Visit, Goto, Leave, Emit, Trap, Meaning}
 use Rattle.pliron_bench.specs.Bench.{by_kind, kind_of, takes, first_attribute, first_edge_count}
-use Rattle.pliron_bench.specs.BenchNumbers.{datum_at, number_at, is_zero, data_sum, data_product, data_quotient}
+use Rattle.pliron_bench.specs.BenchNumbers.{datum_at, number_at, is_zero, sum, product, quotient}
 
 -- the memo after an invocation or an effect
 abbrev pub memo_when_done : Datum
@@ -37,9 +37,9 @@ read_word = Text (114 ∷ 101 ∷ 97 ∷ 100 ∷ [])
 abbrev pub print_word : Datum
 print_word = Text (112 ∷ 114 ∷ 105 ∷ 110 ∷ 116 ∷ [])
 
-abbrev pub give_or_trap : Option Datum → Move
+abbrev pub give_or_trap : Option ℤ → Move
 give_or_trap None = Trap
-give_or_trap (Some d) = Give (d ∷ [])
+give_or_trap (Some n) = Give (Number n ∷ [])
 
 -- the edge that is taken: the second one where the condition is 0
 abbrev pub edge_of : ℤ → ℕ
@@ -60,9 +60,9 @@ abbrev pub act_of : BenchKind → Shape → Datum → List Datum → Move
 act_of Mod s memo input = Give []
 act_of Func s memo input = visit_once memo s.entry_arguments input (Leave input)
 act_of Const s memo input = Give (datum_of (first_attribute s.head.attrs) ∷ [])
-act_of Add s memo input = Give (data_sum (datum_at input 0) (datum_at input 1) ∷ [])
-act_of Mul s memo input = Give (data_product (datum_at input 0) (datum_at input 1) ∷ [])
-act_of Div s memo input = give_or_trap (data_quotient (datum_at input 0) (datum_at input 1))
+act_of Add s memo input = Give (Number (sum (number_at input 0) (number_at input 1)) ∷ [])
+act_of Mul s memo input = Give (Number (product (number_at input 0) (number_at input 1)) ∷ [])
+act_of Div s memo input = give_or_trap (quotient (number_at input 0) (number_at input 1))
 act_of Read s memo input = once memo (Emit read_word memo_when_done) (Give (datum_at input 0 ∷ []))
 act_of Print s memo input = once memo (Emit (Join print_word (datum_at input 0)) memo_when_done) (Give [])
 act_of Pair s memo input = Give (Number (pos 1) ∷ Number (pos 2) ∷ [])

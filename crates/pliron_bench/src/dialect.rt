@@ -36,8 +36,8 @@ use std::alloc::Global;
 /// | `mod` | gives nothing; its region is without SSA dominance and never invoked | no answer | no |
 /// | `func` | invokes its region once with its inputs, and ends with the invocation's values | no answer | no |
 /// | `const` | gives its number | no | to it; stays in place |
-/// | `add`, `mul` | give the other operand as it is where one is the number 0 of a sum, 1 of a product; else the wrapped sum, product | no | where both are known; a product also where one is 0 |
-/// | `div` | gives its first operand as it is where the second is the number 1; else the quotient cut toward zero; traps by 0, or where it doesn't fit | yes | where both are known and it doesn't trap |
+/// | `add`, `mul` | give the wrapped sum, product | no | where both are known; a product also where one is 0 |
+/// | `div` | gives the quotient cut toward zero; traps by 0, or where it doesn't fit | yes | where both are known and it doesn't trap |
 /// | `read` | asks the environment, and gives the answer | yes | no |
 /// | `print` | emits its operand, and gives nothing | yes | no |
 /// | `pair` | gives 1 and 2 | no | no |
@@ -123,10 +123,10 @@ impl ConstFoldInterface for Bench {
         }
     }
 
-    /// The number of a `const`; the sum of two known operands; their product, 0 also where one of them alone is
-    /// known to be 0; the quotient, unless the division traps.
+    /// The number of a `const`; the wrapped sum of two known operands; the wrapped product, also where
+    /// one of them is known to be 0; the quotient, unless the division traps.
     ///
-    /// Errors: allocation failure. Cost: constant, but for a copy of an attribute.
+    /// Errors: allocation failure. Cost: constant, but for a copy of the attribute of a `const`.
     #[inline(always)]
     fn check_fold(
         alloc: Global,

@@ -11,7 +11,6 @@ pub mod jumps;
 mod kind;
 pub mod laws;
 pub mod numbers;
-mod operand_folds;
 mod replace;
 pub mod tables;
 mod verify;

@@ -1,9 +1,9 @@
 //! Attributes as numbers of 64 signed bits.
-ghost use Rattle.std.specs.Prelude.{◌≡◌, min, ◌-◌, option_copied};
+ghost use Rattle.std.specs.Prelude.{◌≡◌, min, ◌-◌};
 ghost use Rattle.std.specs.Int.{w64, int_wrap};
 ghost use Rattle.pliron_laws.specs.Datum.{datum_of};
 ghost use Rattle.pliron_bench.specs.Bench.{is_number as is_number_within, count_of};
-ghost use Rattle.pliron_bench.specs.BenchNumbers.{as_number as number_in, fits as is_within, known_at, known_in, is_whole as is_whole_of, is_known as is_known_of, sum as sum_of, product as product_of, quotient as quotient_in};
+ghost use Rattle.pliron_bench.specs.BenchNumbers.{as_number as number_in, fits as is_within, known_at, sum as sum_of, product as product_of, known_sum as sum_known, known_product as product_known, zero_only as zero_of, known_quotient as quotient_known, quotient as quotient_in};
 ghost use Rattle.pliron_bench.specs.BenchMoves.{edge_of as edge_in};
 
 use pliron_core::AttrObj;
@@ -25,9 +25,9 @@ fn fits(number: i128) -> bool
     -9_223_372_036_854_775_808 <= number && number <= 9_223_372_036_854_775_807
 }
 
-/// The attribute's datum as a number: what is left of it in 64 signed bits, 0 of a text. Cost: constant.
+// The attribute's datum as a number.
 #[inline(always)]
-pub fn as_number(attr: &AttrObj) -> i64
+fn as_number(attr: &AttrObj) -> i64
     ensures { result ≡ number_in (datum_of attr.now) }
 {
     match attr {
@@ -61,36 +61,15 @@ pub fn known_number(operand_attrs: &[Option<AttrObj>], i: usize) -> Option<i64>
     }
 }
 
-/// Whether the attribute is this whole number itself. Cost: constant.
+/// The sum, where both are known. Cost: constant.
 #[inline(always)]
-pub fn is_whole(attr: &AttrObj, number: i128) -> bool
-    ensures { result ≡ is_whole_of number (datum_of attr.now) }
+pub fn known_sum(a: Option<i64>, b: Option<i64>) -> Option<i64>
+    ensures { result ≡ sum_known a b }
 {
-    match attr {
-        AttrObj::Int(whole) => number == *whole,
-        AttrObj::Text(_) => false,
+    match (a, b) {
+        (Some(a), Some(b)) => Some(sum(a, b)),
+        _ => None,
     }
-}
-
-/// Whether the operand at this index is known to be this whole number. Cost: constant.
-pub fn is_known(operand_attrs: &[Option<AttrObj>], i: usize, number: i128) -> bool
-    ensures { result ≡ is_known_of number operand_attrs.now i }
-{
-    match known_attribute(operand_attrs, i) {
-        Some(attr) => is_whole(attr, number),
-        None => false,
-    }
-}
-
-/// The constant that is known of the operand at this index. Cost: constant.
-#[inline(always)]
-pub fn known_attribute(operand_attrs: &[Option<AttrObj>], i: usize) -> Option<&AttrObj>
-    ensures { option_copied result ≡ known_in operand_attrs.now i }
-{
-    if i >= operand_attrs.len() {
-        return None;
-    }
-    operand_attrs[i].as_ref()
 }
 
 /// The wrapped sum. Cost: constant.
@@ -101,11 +80,40 @@ pub fn sum(a: i64, b: i64) -> i64
     a.wrapping_add(b)
 }
 
+/// The product, where both are known or one of them is known to be 0. Cost: constant.
+pub fn known_product(a: Option<i64>, b: Option<i64>) -> Option<i64>
+    ensures { result ≡ product_known a b }
+{
+    match (a, b) {
+        (Some(a), Some(b)) => Some(product(a, b)),
+        (Some(factor), None) => zero_only(factor),
+        (None, Some(factor)) => zero_only(factor),
+        (None, None) => None,
+    }
+}
+
 /// The wrapped product. Cost: constant.
 pub fn product(a: i64, b: i64) -> i64
     ensures { result ≡ product_of a b }
 {
     a.wrapping_mul(b)
+}
+
+// 0, if the number is 0.
+fn zero_only(number: i64) -> Option<i64>
+    ensures { result ≡ zero_of number }
+{
+    if number == 0 { Some(0) } else { None }
+}
+
+/// The quotient cut toward zero, where both are known and the division doesn't trap. Cost: constant.
+pub fn known_quotient(a: Option<i64>, b: Option<i64>) -> Option<i64>
+    ensures { result ≡ quotient_known a b }
+{
+    match (a, b) {
+        (Some(a), Some(b)) => quotient(a, b),
+        _ => None,
+    }
 }
 
 /// The quotient cut toward zero, unless b is 0 or the quotient doesn't fit. Cost: constant.

@@ -3,7 +3,6 @@
 use pliron_core::{AttrObj, Context, IRStatus, Operation, Ptr, Rewriter};
 use pliron_meaning::bench::{Bench, BenchKind};
 use pliron_meaning::{BlockArgRemoval, ConstFoldInterface, Dialect, SideEffects};
-use pliron_operand_folding::{OpFoldResult, OperandFoldInterface};
 use pliron_test_cases::answers::{effects, interfaces, removable};
 use pliron_test_cases::cases::{
     all_known, fields, known_operand, line, number, operation_at, read, sides,
@@ -107,9 +106,7 @@ fn check_outside(rt: &impl Abort, alloc: Global, ctx: &mut Context) {
 static SUMS: &str = "1 2 => 3
 9223372036854775807 1 => -9223372036854775808
 -9223372036854775808 -1 => 9223372036854775807
-9223372036854775808 2 => -9223372036854775806
-9223372036854775808 0 => 9223372036854775808
-0 18446744073709551617 => 18446744073709551617
+9223372036854775808 0 => -9223372036854775808
 18446744073709551617 1 => 2
 '7 5 => 5
 1 ? => ?
@@ -120,9 +117,7 @@ static PRODUCTS: &str = "3 -2 => -6
 9223372036854775807 2 => -2
 0 ? => 0
 ? 0 => 0
-18446744073709551616 1 => 18446744073709551616
-18446744073709551616 3 => 0
-? 18446744073709551616 => ?
+? 18446744073709551616 => 0
 3 ? => ?
 ? ? => ?";
 
@@ -131,33 +126,10 @@ static QUOTIENTS: &str = "7 2 => 3
 7 -2 => -3
 -9223372036854775808 1 => -9223372036854775808
 -9223372036854775808 -1 => ?
-18446744073709551620 1 => 18446744073709551620
-18446744073709551620 2 => 2
 7 0 => ?
 0 0 => ?
 0 ? => ?
 ? 1 => ?";
-
-/// What is known of the operands, the text of an operation, and what its result is: an operand by its place, or a
-/// number.
-static OPERANDS: &str = "? 0 / func { b0(x, y): a = add x y } => operand 0
-0 ? / func { b0(x, y): a = add x y } => operand 1
-0 0 / func { b0(x, y): a = add x y } => operand 0
-1 ? / func { b0(x, y): a = add x y } => none
-? ? / func { b0(x, y): a = add x x } => none
-? 18446744073709551616 / func { b0(x, y): a = add x y } => none
-? 1 / func { b0(x, y): a = mul x y } => operand 0
-1 ? / func { b0(x, y): a = mul x y } => operand 1
-? 0 / func { b0(x, y): a = mul x y } => none
-? ? / func { b0(x, y): a = mul x x } => none
-? 1 / func { b0(x, y): a = div x y } => operand 0
-1 ? / func { b0(x, y): a = div x y } => none
-? ? / func { b0(x, y): a = div x y } => none
-? ? / func { b0(x, y): a = div x x } => number 1
-0 0 / func { b0(x, y): a = div y y } => number 1
-1 1 / func { b0(x, y): a = div x x } => operand 0
- / func { b0(x, y): a = const 0 } => nothing
-0 / func { b0(x, y): print x } => nothing";
 
 /// The number in the only answer.
 fn only_number(rt: &impl Abort, answers: &[Option<AttrObj>]) -> Option<i128> {
@@ -200,38 +172,6 @@ fn folds_in(rt: &impl Abort, alloc: Global, ctx: &mut Context) {
             let got = known_result(rt, alloc, ctx, op, words);
             assert_eq!(rt; got, want.parse::<i128>().ok(), "{case}");
         }
-    }
-}
-
-/// What the operation's only result is, in words.
-fn operand_fold(alloc: Global, answers: &[Option<OpFoldResult>]) -> Option<String> {
-    if answers.len() != 1 {
-        return format!(in alloc; "nothing").ok();
-    }
-    match &answers[0] {
-        Some(OpFoldResult::Operand(place)) => format!(in alloc; "operand {place}").ok(),
-        Some(OpFoldResult::Constant(AttrObj::Int(number))) => format!(in alloc;
-            "number {number}"
-        ).ok(),
-        Some(OpFoldResult::Constant(AttrObj::Text(_))) => format!(in alloc; "text").ok(),
-        None => format!(in alloc; "none").ok(),
-    }
-}
-
-fn operands_in(rt: &impl Abort, alloc: Global, ctx: &mut Context) {
-    for case in OPERANDS.lines() {
-        let (asked, want) = sides(case).expect(rt, "a case");
-        let (words, text) = asked.split_once("/ ").expect(rt, "two fields");
-        let root = read(alloc, ctx, text).expect(rt, "a text");
-        let op = operation_at(ctx, root, "0").expect(rt, "an operation");
-        let operands = all_known(alloc, words).expect(rt, "memory");
-        assert!(rt; op.is_live(ctx));
-        assert_eq!(rt; op.num_operand(ctx), operands.len());
-        let answers = Bench::fold_to_operand(alloc, op, ctx, operands.as_slice()).expect(
-            rt, "memory",
-        );
-        let got = operand_fold(alloc, answers.as_slice()).expect(rt, "memory");
-        assert_eq!(rt; got.as_str(), want, "{case}");
     }
 }
 
@@ -320,7 +260,6 @@ fn all_in(rt: &impl Abort, alloc: Global, ctx: &mut Context) {
     removals_in(rt, alloc, ctx);
     check_outside(rt, alloc, ctx);
     folds_in(rt, alloc, ctx);
-    operands_in(rt, alloc, ctx);
     in_place_in(rt, alloc, ctx);
     made_in(rt, alloc, ctx);
 }

@@ -23,12 +23,7 @@ func { b0(x, y): z = add x y; ret z } / 20 22 / => ended / 42 /
 func { b0(x, y): z = add x y; ret z } / 9223372036854775807 1 / => ended / -9223372036854775808 /
 func { b0(x, y): z = add x y; ret z } / -9223372036854775808 -1 / => ended / 9223372036854775807 /
 func { b0(x, y): z = add x y; ret z } / 18446744073709551617 5 / => ended / 6 /
-func { b0(x, y): z = add x y; ret z } / 9223372036854775808 2 / => ended / -9223372036854775806 /
-func { b0(x, y): z = add x y; ret z } / 9223372036854775808 0 / => ended / 9223372036854775808 /
-func { b0(x, y): z = add x y; ret z } / 0 a / => ended / a /
-func { b0(x, y): z = mul x y; ret z } / 1 a / => ended / a /
-func { b0(x, y): z = mul x y; ret z } / 2 a / => ended / 0 /
-func { b0(x, y): z = div x y; ret z } / a 1 / => ended / a /
+func { b0(x, y): z = add x y; ret z } / 9223372036854775808 0 / => ended / -9223372036854775808 /
 func { b0(x, y): z = add x y; ret z } / a 5 / => ended / 5 /
 func { b0(x, y): z = mul x y; ret z } / -6 7 / => ended / -42 /
 func { b0(x, y): z = mul x y; ret z } / 4294967296 4294967296 / => ended / 0 /

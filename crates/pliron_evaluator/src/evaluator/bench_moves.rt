@@ -1,11 +1,11 @@
 //! The moves of `Bench`.
-ghost use Rattle.std.specs.Prelude.{◌≡◌, [], ◌∷◌, pos, Some, map, drop, replicate, slice_index_or, option_map, IfOk};
+ghost use Rattle.std.specs.Prelude.{◌≡◌, [], ◌∷◌, pos, Some, map, drop, replicate, slice_index_or, IfOk};
 ghost use Rattle.pliron_core.specs.Tree.{IsLive, successors_of};
 ghost use Rattle.pliron_laws.specs.Tree.{Operation as OperationRecord, op_at, shape_of, block_at, count_arguments};
 ghost use Rattle.pliron_laws.specs.Datum.{Number as NumberOf, Text as TextOf, Give, Visit, Goto, Leave, Emit, Join as JoinOf, datum_of as content_of};
 ghost use Rattle.pliron_laws.specs.Answers.{ReadsHead};
 ghost use Rattle.pliron_bench.specs.Bench.{kind_of, first_attribute, first_edge_count as first_count_of};
-ghost use Rattle.pliron_bench.specs.BenchNumbers.{datum_at, as_number, number_at, is_whole as is_whole_of, data_sum as sum_of, data_product as product_of, data_quotient as quotient_of};
+ghost use Rattle.pliron_bench.specs.BenchNumbers.{datum_at, as_number, number_at, sum as sum_of, product as product_of, quotient as quotient_of};
 ghost use Rattle.pliron_bench.specs.BenchMoves.{bench, act_of, memo_when_done, once, fit_data, read_word, print_word, give_or_trap, edge_of as edge_in, edge_values};
 ghost use Rattle.pliron_evaluator.specs.Evaluator.{datum_of_value, move_of};
 
@@ -50,56 +50,11 @@ fn number_at(input: &[Datum], i: usize) -> i64
     }
 }
 
-// Whether the datum is this whole number itself.
-fn is_whole(datum: &Datum, number: i128) -> bool
-    ensures { result ≡ is_whole_of number (datum_of_value datum.now) }
+// The number alone.
+fn one_number(alloc: Global, number: i64) -> Result<Vec<Datum>, AllocError>
+    ensures { IfOk result (λ values. map datum_of_value values.items ≡ NumberOf number ∷ []) }
 {
-    match datum {
-        Datum::Number(whole) => number == *whole,
-        _ => false,
-    }
-}
-
-// The sum of data: where one is 0 the other one as it is.
-fn data_sum(alloc: Global, a: &Datum, b: &Datum) -> Result<Datum, AllocError>
-    ensures { IfOk result (λ datum. datum_of_value datum ≡ sum_of (datum_of_value a.now) (datum_of_value b.now)) }
-{
-    if is_whole(b, 0) {
-        a.copy(alloc)
-    } else if is_whole(a, 0) {
-        b.copy(alloc)
-    } else {
-        Ok(Datum::Number(sum(as_number(a), as_number(b)) as i128))
-    }
-}
-
-// The product of data: where one is 1 the other one as it is.
-fn data_product(alloc: Global, a: &Datum, b: &Datum) -> Result<Datum, AllocError>
-    ensures { IfOk result (λ datum. datum_of_value datum ≡ product_of (datum_of_value a.now)
-        (datum_of_value b.now)) }
-{
-    if is_whole(b, 1) {
-        a.copy(alloc)
-    } else if is_whole(a, 1) {
-        b.copy(alloc)
-    } else {
-        Ok(Datum::Number(product(as_number(a), as_number(b)) as i128))
-    }
-}
-
-// The quotient of data, unless the division traps: by 1 the dividend as it is.
-fn data_quotient(alloc: Global, a: &Datum, b: &Datum) -> Result<Option<Datum>, AllocError>
-    ensures { IfOk result (λ datum. option_map datum_of_value datum ≡ quotient_of (datum_of_value a.now)
-        (datum_of_value b.now)) }
-{
-    if is_whole(b, 1) {
-        Ok(Some(a.copy(alloc)?))
-    } else {
-        match quotient(as_number(a), as_number(b)) {
-            Some(number) => Ok(Some(Datum::Number(number as i128))),
-            None => Ok(None),
-        }
-    }
+    one(alloc, Datum::Number(number as i128))
 }
 
 // So many data, cut or filled with 0.
@@ -212,33 +167,28 @@ fn const_move(alloc: Global, attrs: &Attrs) -> Result<Move, AllocError>
 }
 
 fn add_move(alloc: Global, input: &[Datum]) -> Result<Move, AllocError>
-    ensures { IfOk result (λ next. move_of next ≡ Give (sum_of (datum_at (map datum_of_value input.now) 0)
-        (datum_at (map datum_of_value input.now) 1) ∷ [])) }
+    ensures { IfOk result (λ next. move_of next ≡ Give (NumberOf (sum_of (number_at (map datum_of_value input.now) 0)
+        (number_at (map datum_of_value input.now) 1)) ∷ [])) }
 {
-    let a = datum_at(alloc, input, 0)?;
-    let b = datum_at(alloc, input, 1)?;
-    let given = data_sum(alloc, &a, &b)?;
-    Ok(Move::Give(one(alloc, given)?))
+    let number = sum(number_at(input, 0), number_at(input, 1));
+    Ok(Move::Give(one_number(alloc, number)?))
 }
 
 fn mul_move(alloc: Global, input: &[Datum]) -> Result<Move, AllocError>
-    ensures { IfOk result (λ next. move_of next ≡ Give (product_of (datum_at (map datum_of_value input.now) 0)
-        (datum_at (map datum_of_value input.now) 1) ∷ [])) }
+    ensures { IfOk result (λ next. move_of next ≡ Give
+        (NumberOf (product_of (number_at (map datum_of_value input.now) 0) (number_at (map datum_of_value input.now) 1))
+        ∷ [])) }
 {
-    let a = datum_at(alloc, input, 0)?;
-    let b = datum_at(alloc, input, 1)?;
-    let given = data_product(alloc, &a, &b)?;
-    Ok(Move::Give(one(alloc, given)?))
+    let number = product(number_at(input, 0), number_at(input, 1));
+    Ok(Move::Give(one_number(alloc, number)?))
 }
 
 fn div_move(alloc: Global, input: &[Datum]) -> Result<Move, AllocError>
-    ensures { IfOk result (λ next. move_of next ≡ give_or_trap (quotient_of
-        (datum_at (map datum_of_value input.now) 0) (datum_at (map datum_of_value input.now) 1))) }
+    ensures { IfOk result (λ next. move_of next ≡ give_or_trap (quotient_of (number_at (map datum_of_value input.now) 0)
+        (number_at (map datum_of_value input.now) 1))) }
 {
-    let a = datum_at(alloc, input, 0)?;
-    let b = datum_at(alloc, input, 1)?;
-    match data_quotient(alloc, &a, &b)? {
-        Some(given) => Ok(Move::Give(one(alloc, given)?)),
+    match quotient(number_at(input, 0), number_at(input, 1)) {
+        Some(number) => Ok(Move::Give(one_number(alloc, number)?)),
         None => Ok(Move::Trap),
     }
 }
