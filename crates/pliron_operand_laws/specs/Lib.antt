@@ -1,0 +1,3 @@
+pub mod Answers
+pub mod Answered
+pub mod AnswerLaws

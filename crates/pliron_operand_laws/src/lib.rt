@@ -1,0 +1,21 @@
+//! What the dialect answers of results that are operands of their operations, or constants; that the uses of a result
+//! may go to what is answered of it; and the whole rewrite that gives them to an operand.
+//!
+//! It knows the theory of runs, the laws of dialects and equivalence of operations, and no graph, no dialect and no
+//! optimisation.
+#![tactic(auto)]
+
+ghost use Rattle.pliron_operand_laws.specs.AnswerLaws.{AnswerLaws};
+
+pub mod answers;
+mod folding;
+pub mod rewrites;
+
+pub use folding::HasOperandFolding;
+use pliron_operand_folding::OperandFoldInterface;
+
+/// The uses of a result may go to the operand, or to a new operation that makes the constant, that the dialect answers
+/// it to be by what is known of the operands.
+pub fn answers_stand_for_results<D: OperandFoldInterface>()
+    ensures { AnswerLaws ⟦<D as HasOperandFolding>⟧.operand_folding }
+{}
