@@ -1,2 +1,3 @@
 pub mod Answered
+mod Known
 pub mod Whole

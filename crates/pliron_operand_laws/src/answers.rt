@@ -29,11 +29,13 @@ fn is_constant_like<D: OperandFoldInterface>(op: Ptr<Operation>, ctx: &Context) 
     ensures { (o : OperationAt) → op_at ctx.now.tree op ≡ Some o → result ≡ is_constant_like_by
         ⟦<D as HasOperandFolding>⟧.operand_folding o }
 {
-    op.num_operand(ctx) == 0
-        && op.num_region(ctx) == 0
-        && op.num_result(ctx) == 1
-        && D::folds(op, ctx)
-        && is_harmless(D::has_side_effects(op, ctx))
+    if op.num_operand(ctx) != 0 || op.num_region(ctx) != 0 || op.num_result(ctx) != 1 {
+        return false;
+    }
+    if !D::folds(op, ctx) {
+        return false;
+    }
+    is_harmless(D::has_side_effects(op, ctx))
 }
 
 // The constant that the operation makes, if it is constant-like.
@@ -98,6 +100,16 @@ fn known_operands<D: OperandFoldInterface>(
     Ok(attrs)
 }
 
+// A constant, as an answer.
+fn as_answer(constant: Option<AttrObj>) -> Option<OpFoldResult>
+    ensures { result ≡ option_map ConstantAnswer constant }
+{
+    match constant {
+        Some(attr) => Some(OpFoldResult::Constant(attr)),
+        None => None,
+    }
+}
+
 // The constants, as answers.
 fn as_answers(
     alloc: Global,
@@ -106,10 +118,10 @@ fn as_answers(
     ensures ok { IfOk result (λ answers. answers.items ≡ map (λ c. option_map ConstantAnswer c) constants.items) }
     ensures memory { IsOkUnless result OptError.Memory }
 {
-    let mut answers = Vec::new(alloc);
-    for constant in constants {
-        answers.push(constant.map(|attr| OpFoldResult::Constant(attr)))?;
-    }
+    let answers = constants
+        .into_iter()
+        .map(|constant| as_answer(constant))
+        .collect(alloc)?;
     Ok(answers)
 }
 
