@@ -1,14 +1,25 @@
 -- What holds on the way, as one result after the other folds.
-use Rattle.std.proofs.Common.{◌≡◌, ◌≢◌, ◌⊎◌, ◌↔◌, ◌&&◌, ◌<◌, ◌≤◌, ◌+◌, ℕ, Bool, true, false, List, [], ◌∷◌, ◌++◌, length, Option, Some, None, IsSome, IsTrue, inl, inr, ⊎_elim, slice_get, get_or, if◌then◌else◌, refl, sym, ap, ◌∙◌, subst, arith}
-use Rattle.std.proofs.lemmas.Option.{slice_get-get_or, slice_get_within}
+use Rattle.std.proofs.Common.{◌≡◌, ◌≢◌, ◌⊎◌, ◌↔◌, ◌&&◌, ◌<◌, ◌≤◌, ◌+◌, ℕ, Bool, true, false, List, [], ◌∷◌, ◌++◌, length, Option, Some, None, IsSome, IsTrue, inl, inr, ⊎_elim, slice_get, get_or, if◌then◌else◌, refl, sym, ap, ◌∙◌, subst, add-one, take, true≢false, arith}
+use Rattle.std.proofs.lemmas.Option.{slice_get-get_or, slice_get_read, slice_get_within}
+use Rattle.std.proofs.lemmas.List.{take_all}
 use Rattle.pliron_core.specs.declared.attrs.IRStatus.{IRStatus}
 use Rattle.pliron_core.specs.declared.attrs.IRStatus.TheVariants.{Changed, Unchanged}
 use Rattle.pliron_core.specs.declared.context.Def.TheVariants.{Result}
+use Rattle.pliron_core.specs.Changes.{IsSameTree}
 use Rattle.pliron_core.specs.Invariant.{IsTree}
 use Rattle.pliron_core.specs.Status.{changed_by_either}
 use Rattle.pliron_core.specs.Tree.{Tree, In, IsInside, IsLive, operands_of, results_of, definition_of}
+use Rattle.pliron_core.proofs.ArgumentLemmas.{take_more}
 use Rattle.pliron_core.proofs.HoldingLemmas.{in_slice}
+use Rattle.pliron_core.proofs.ListLemmas.{In-cases}
+use Rattle.pliron_core.specs.declared.attrs.AttrObj.{AttrObj}
+use Rattle.pliron_laws.specs.Datum.{Head, Meaning, Shape}
+use Rattle.pliron_laws.specs.Folding.{AnswersTrue, Constants, MakesConstants}
+use Rattle.pliron_laws.specs.Laws.{ForwardsOperands, GivesAtOnce}
 use Rattle.pliron_laws.specs.Linked.{IsWellLinked}
+use Rattle.pliron_theory.proofs.FollowedFacts.{constants_plain}
+use Rattle.pliron_operand_folding.specs.OperandFolding.{AnswersOperands, OperandFolds}
+use Rattle.pliron_operand_laws.proofs.Known.{folding}
 use Rattle.pliron_laws.proofs.LinkedLemmas.{linked_same}
 use Rattle.pliron_block_laws.proofs.RewriteLinks.{replaced_links}
 use Rattle.pliron_theory.specs.Edges.{has_entries}
@@ -24,9 +35,9 @@ use Rattle.pliron_order.specs.Seen.{IsSeen}
 use Rattle.pliron_order.proofs.SeenLemmas.{seen_inside}
 use Rattle.pliron_canonicalize.specs.Counts.{foldable_count, is_counted, is_foldable, is_used}
 use Rattle.pliron_canonicalize.specs.Folds.{AreFolded, Fold, FoldInTurn, HasFolds, IsFold, ReportsFolds}
-use Rattle.pliron_canonicalize.specs.Steps.{AreDone, AreDonePartly, AreListed, FoldsResult, IsOnWay, IsSeenStill, IsUndone, TellsFolds}
+use Rattle.pliron_canonicalize.specs.Steps.{AreDone, AreDonePartly, AreListed, FoldsResult, IsFolding, IsOnWay, IsSeenStill, IsUndone, TellsFolds}
 use Rattle.pliron_canonicalize.proofs.Counting.{used_told}
-use Rattle.pliron_canonicalize.proofs.Moving.{Moves, count_lessened, edges_kept, empty, live, moves_to_constant, moves_to_used, seen_back, seen_forth}
+use Rattle.pliron_canonicalize.proofs.Moving.{Moves, count_lessened, edges_kept, empty, live, moves_to_constant, moves_to_used, same_results, seen_back, seen_forth}
 
 pub same_listed : (t t' : Tree) (root : ℕ) (ops : List ℕ) → IsSeenStill t t' root → AreListed t root ops → AreListed t' root ops
 same_listed t t' root ops s l = record {
@@ -35,13 +46,14 @@ same_listed t t' root ops s l = record {
 }
 
 still_refl : (t : Tree) (root : ℕ) → IsSeenStill t t root
-still_refl t root = record { seen = λ k s. s; before = λ k s. inl s; empty = λ k e. e }
+still_refl t root = record { seen = λ k s. s; before = λ k s. inl s; empty = λ k e. e; results = λ k l. refl }
 
-still_trans : (t0 t t' : Tree) (root : ℕ) → IsSeenStill t0 t root → IsSeenStill t t' root → IsSeenStill t0 t' root
-still_trans t0 t t' root a b = record {
+still_trans : (t0 t t' : Tree) (root : ℕ) → ((k : ℕ) → IsLive t0 k → IsLive t k) → IsSeenStill t0 t root → IsSeenStill t t' root → IsSeenStill t0 t' root
+still_trans t0 t t' root stays a b = record {
   seen = λ k s. b.seen k (a.seen k s);
   before = λ k s. ⊎_elim (λ before. ⊎_elim (λ first. inl first) (λ e. inr (b.empty k e)) (a.before k before)) (λ e. inr e) (b.before k s);
   empty = λ k e. b.empty k (a.empty k e);
+  results = λ k l. b.results k (stays k l) ∙ a.results k l;
 }
 
 filled : (xs : List ℕ) → xs ≢ [] → has_entries xs ≡ true
@@ -71,11 +83,11 @@ module _ (x : Folding) (root : ℕ) where
   tells_trans t0 t t' Changed Unchanged p q = subst (λ z. TellsFolds x t0 z root Changed) (sym q) p
   tells_trans t0 t t' Changed Changed p q = let a = p.0 in let b = q.0 in (omega (arith, a, b), p.1)
 
-  tells_fewer : (t0 t : Tree) (s : IRStatus) → TellsFolds x t0 t root s → foldable_count t ≤ foldable_count t0
+  pub tells_fewer : (t0 t : Tree) (s : IRStatus) → TellsFolds x t0 t root s → foldable_count t ≤ foldable_count t0
   tells_fewer t0 t Unchanged e = subst (λ z. foldable_count z ≤ foldable_count t0) (sym e) (omega arith)
   tells_fewer t0 t Changed e = let lt = e.0 in omega (arith, lt)
 
-  tells_same : (t0 t : Tree) (s : IRStatus) → TellsFolds x t0 t root s → (s ≡ Unchanged) ↔ (t ≡ t0)
+  pub tells_same : (t0 t : Tree) (s : IRStatus) → TellsFolds x t0 t root s → (s ≡ Unchanged) ↔ (t ≡ t0)
   tells_same t0 t Unchanged e = (λ q. e, λ q. refl)
   tells_same t0 t Changed e = (λ q. absurd (cc q), λ q. let lt = subst (λ z. foldable_count z < foldable_count t0) q e.0 in absurd (omega (arith, lt)))
 
@@ -109,7 +121,7 @@ module _ (x : Folding) (root : ℕ) where
   done_more t0 t t' Done Also s a p q = record {
     way = way_trans t0 t t' p.way q.way;
     folded = (p.folded.0 ++ q.folded.0, turn_more p.folded.0 q.folded.0 t0 t t' p.folded.1 q.folded.1);
-    still = still_trans t0 t t' root p.still q.still;
+    still = still_trans t0 t t' root p.way.stays p.still q.still;
     tells = tells_trans t0 t t' s a p.tells q.tells;
     none = λ e k i answer done fold. let n = neither s a e in ⊎_elim
         (λ d. p.none n.0 k i answer d fold)
@@ -192,7 +204,78 @@ module _ (x : Folding) (laws : AreLawful x) (root : ℕ) (t : Tree) (w : IsTree 
               stays = live t u v moves.0 moves.1;
             };
             folded = (record { op = k; index = i; answer = folds.0 } ∷ [], (seen, (folds.1, refl)));
-            still = record { seen = seen_forth t u v moves.0 moves.1 root; before = seen_back t u v moves.0 moves.1 root; empty = empty t u v moves.0 moves.1 };
+            still = record { seen = seen_forth t u v moves.0 moves.1 root; before = seen_back t u v moves.0 moves.1 root; empty = empty t u v moves.0 moves.1; results = same_results t u v moves.0 moves.1 };
             tells = (count_lessened t u v moves.0 moves.1 (low folds.0 folds.1) (counted folds.0 folds.1), (k, i, folds.0, seen, folds.1));
             none = λ e. absurd (cc e);
           }
+
+-- how often a sweep may follow
+abbrev pub folds_left : Tree → Bool → ℕ
+folds_left t going = foldable_count t + (if going then 1 else 0)
+
+-- what the tables of a dialect keep
+pub lawful_folding : (m : Meaning) (side_effects : Head → Option Bool) (can_fold : Head → Bool) (constants : Constants) (accepts : AttrObj → Bool) (constant_head : AttrObj → Head) (operand_folds : OperandFolds) (SameTests : Head → Head → Type 0) (shortened : Shape → ℕ → ℕ → Head) → GivesAtOnce m side_effects → AnswersTrue m can_fold constants → AnswersOperands m operand_folds → MakesConstants m accepts constant_head → ForwardsOperands m can_fold SameTests shortened → AreLawful (folding m side_effects can_fold constants accepts constant_head operand_folds)
+lawful_folding m side_effects can_fold constants accepts constant_head operand_folds SameTests shortened at_once truly operands makes forwards = record { at_once = at_once; truly = truly; operands = operands; makes = makes; plain = constants_plain m can_fold SameTests shortened accepts constant_head forwards makes }
+
+-- the parts of the sweeps
+pub in_more : (xs : List ℕ) (n x k : ℕ) → slice_get xs n ≡ Some x → In k (take (n + 1) xs) → In k (take n xs) ⊎ (k ≡ x)
+in_more xs n x k at i = ⊎_elim (λ j. inl j) (λ j. inr (only j)) (In-cases k (take n xs) (x ∷ []) (subst (In k) (ap (λ z. take z xs) (add-one n) ∙ take_more xs n x at) i))
+  where
+    only : In k (x ∷ []) → k ≡ x
+    only (inl e) = e
+    only (inr j) = absurd j
+
+module _ (x : Folding) (laws : AreLawful x) (root : ℕ) (ops : List ℕ) where
+  pub folding_start : (t : Tree) → IsLive t root → IsWellLinked x.meaning t root → AreListed t root ops → IsFolding x t t root ops Unchanged true
+  folding_start t lives linked listed = record { done = done_start x root t lives linked (λ k i. ⊥) (λ k i answer never fold. never); listed = listed; over = λ e. absurd (cc e) }
+
+  pub folding_next : (t0 t t' : Tree) (s a : IRStatus) (going : Bool) → IsFolding x t0 t root ops s true → AreDone x t t' root (λ k i. In k ops) a → (IsTrue going ↔ (a ≡ Changed)) → IsFolding x t0 t' root ops (changed_by_either s a) going
+  folding_next t0 t t' s a going h p told = record {
+    done = done_as x root t0 t' (λ k i. ⊥ ⊎ In k ops) (λ k i. ⊥) (changed_by_either s a) (λ k i answer never fold. absurd never) (done_more x root t0 t t' (λ k i. ⊥) (λ k i. In k ops) s a h.done p);
+    listed = same_listed t t' root ops p.still h.listed;
+    over = λ e. none_left x root t t' ops h.listed (subst (λ z. AreDone x t t' root (λ k i. In k ops) z) (left a (λ c. true≢false (sym (told.1 c) ∙ e))) p);
+  }
+    where
+      left : (a : IRStatus) → (a ≡ Changed → ⊥) → a ≡ Unchanged
+      left Changed n = absurd (n refl)
+      left Unchanged n = refl
+
+  -- a sweep that folds lessens the count, and the other one is the last
+  pub folding_smaller : (t t' : Tree) (a : IRStatus) (going : Bool) → AreDone x t t' root (λ k i. In k ops) a → (IsTrue going ↔ (a ≡ Changed)) → folds_left t' going < folds_left t true
+  folding_smaller t t' Changed going p told =
+      let lt = p.tells.0 in
+      let g : (if going then 1 else 0) ≡ 1 = ap (λ b. if b then 1 else 0) (told.1 refl) in
+      omega (arith, lt, g)
+  folding_smaller t t' Unchanged going p told =
+      let same : foldable_count t' ≡ foldable_count t = ap foldable_count p.tells in
+      let g : (if going then 1 else 0) ≡ 0 = last going (λ e. absurd (cc (told.0 e))) in
+      omega (arith, same, g)
+    where
+      last : (b : Bool) → (IsTrue b → ⊥) → (if b then 1 else 0) ≡ 0
+      last true n = absurd (n refl)
+      last false n = refl
+
+pub split : (i n : ℕ) (A : Type 0) → A → i < n + 1 → (A × (i < n)) ⊎ (A × (i ≡ n))
+split i n A a lt = ⊎_elim (λ e. inr (a, e)) (λ ne. inl (a, omega (arith, lt, ne))) (cases i n)
+  where
+    cases : (x y : ℕ) → (x ≡ y) ⊎ (x ≢ y)
+    cases x y = grind arith
+
+pub low : (xs : List ℕ) (i v n : ℕ) → slice_get xs i ≡ Some v → length xs ≤ n → i < n
+low xs i v n at le = let lt = slice_get_within xs i v at in omega (arith, lt, le)
+
+pub none_taken : (xs : List ℕ) (k : ℕ) → In k (take 0 xs) → ⊥
+none_taken [] k i = absurd i
+none_taken (x ∷ xs) k i = absurd i
+
+pub read_at : (xs : List ℕ) (n x : ℕ) → n < length xs → x ≡ get_or xs n x → slice_get xs n ≡ Some x
+read_at xs n x lt e = slice_get_read xs (length xs) n x refl lt e
+
+pub in_read : (xs : List ℕ) (n x : ℕ) → n < length xs → x ≡ get_or xs n x → In x xs
+in_read xs n x lt e = in_slice xs n x (read_at xs n x lt e)
+
+pub take_whole : (xs : List ℕ) (n : ℕ) → length xs ≤ n → take n xs ≡ xs
+take_whole xs n le = take_all n xs le
+
+pub same_itself : (t : Tree) → IsSameTree t t
+same_itself t = record { operations = λ k. refl; operands = λ k. refl; successors = λ k. refl; parents = λ k. refl; bodies = λ b. refl; arguments = λ b. refl; block_parents = λ b. refl; layouts = λ r. refl }

@@ -93,6 +93,9 @@ module _ (t t' : Tree) (old new : ℕ) (h : Moves t t' old new) where
   pub live : (k : ℕ) → IsLive t k → IsLive t' k
   live k l = subst (λ z. IsSome z.head) (sym (h.rows k (not_new k l))) l
 
+  pub same_results : (k : ℕ) → IsLive t k → results_of t' k ≡ results_of t k
+  same_results k l = ap (λ z. z.results) (h.rows k (not_new k l))
+
   pub edges_kept : KeepsEdges t t'
   edges_kept = edges_alike t t' h.tree h.after h.alike
 

@@ -1,5 +1,5 @@
 -- One fold after the other.
-use Rattle.std.specs.Prelude.{◌≡◌, ◌⊎◌, ◌<◌, ◌≤◌, ℕ, List, [], Option, Some, None, length, slice_get}
+use Rattle.std.specs.Prelude.{◌≡◌, ◌⊎◌, ◌<◌, ◌≤◌, ℕ, Bool, false, List, [], Option, Some, None, length, slice_get}
 use Rattle.pliron_core.specs.declared.attrs.IRStatus.{IRStatus}
 use Rattle.pliron_core.specs.declared.attrs.IRStatus.TheVariants.{Changed, Unchanged}
 use Rattle.pliron_core.specs.Changes.{IsSameTree}
@@ -44,11 +44,12 @@ pub record IsOnWay (m : Meaning) (t0 t : Tree) (root : ℕ) : Type 0 where
   pub edges : KeepsEdges t0 t
   pub stays : (k : ℕ) → IsLive t0 k → IsLive t k
 
--- what was seen is seen, and what is new uses nothing
+-- what was seen is seen, and has its results; what is new uses nothing
 pub record IsSeenStill (t0 t : Tree) (root : ℕ) : Type 0 where
   pub seen : (k : ℕ) → IsSeen t0 root k → IsSeen t root k
   pub before : (k : ℕ) → IsSeen t root k → IsSeen t0 root k ⊎ (operands_of t k ≡ [])
   pub empty : (k : ℕ) → operands_of t0 k ≡ [] → operands_of t k ≡ []
+  pub results : (k : ℕ) → IsLive t0 k → results_of t k ≡ results_of t0 k
 
 -- `Changed` tells that some result folded, and that the count is less
 abbrev pub TellsFolds : Folding → (t0 t : Tree) → ℕ → IRStatus → Type 0
@@ -72,3 +73,9 @@ pub record AreDonePartly (x : Folding) (t0 t : Tree) (root : ℕ) : Type 0 where
 pub record AreListed (t : Tree) (root : ℕ) (ops : List ℕ) : Type 0 where
   pub seen : (k : ℕ) → In k ops → IsSeen t root k
   pub each : (k : ℕ) → IsSeen t root k → In k ops ⊎ (operands_of t k ≡ [])
+
+-- what holds before each sweep over these operations: the tree came from t0 by folds, and if none is to follow then nothing folds
+pub record IsFolding (x : Folding) (t0 t : Tree) (root : ℕ) (ops : List ℕ) (status : IRStatus) (going : Bool) : Type 0 where
+  pub done : AreDone x t0 t root (λ k i. ⊥) status
+  pub listed : AreListed t root ops
+  pub over : going ≡ false → HasFolds x t root → ⊥

@@ -1,7 +1,7 @@
 //! Sweeps over operations, each of which folds what it can.
 ghost use Rattle.std.specs.Prelude.{◌≡◌, ◌↔◌, ◌<◌, ◌≤◌, ℕ, List, Some, IsSome, IfOk, OnErr, OnOk, IsOkUnless, IsTrue, length};
 ghost use Rattle.pliron_core.specs.declared.attrs.IRStatus.TheVariants.{Unchanged as IsUnchanged};
-ghost use Rattle.pliron_core.specs.Tree.{In, IsLive, results_of, parent_of};
+ghost use Rattle.pliron_core.specs.Tree.{In, IsDefined, IsLive, results_of, parent_of};
 ghost use Rattle.pliron_laws.specs.Linked.{IsWellLinked, IsAdmitted};
 ghost use Rattle.pliron_order.specs.Seen.{IsSeen};
 ghost use Rattle.pliron_canonicalize.specs.Counts.{foldable_count};
@@ -9,7 +9,7 @@ ghost use Rattle.pliron_canonicalize.specs.Folds.{Fold, FoldInTurn, AreFolded, H
 ghost use Rattle.pliron_operand_laws.specs.Answered.{MayFold, UsesItself};
 ghost use Rattle.pliron_canonicalize.specs.Steps.{AreAnswers, PutsAnswer, FoldsResult, IsUndone, IsOnWay, AreDone, AreDonePartly, AreListed};
 
-use pliron_core::{Context, Def, IRStatus, Operation, Ptr, Rewriter};
+use pliron_core::{Context, Def, IRStatus, Operation, Ptr, Rewriter, Value};
 use pliron_laws::{OptError, Room};
 use pliron_operand_folding::{OpFoldResult, OperandFoldInterface};
 use pliron_operand_laws::HasOperandFolding;
@@ -18,17 +18,26 @@ use pliron_operand_laws::rewrites::replace_result_by_operand;
 use pliron_theory::rewrites::replace_result_by_constant;
 use std::alloc::Global;
 
+// Whether the value is a result of the operation.
+fn is_result_of(value: Value, op: Ptr<Operation>, ctx: &Context) -> bool
+    requires { IsDefined ctx.now.tree value }
+    ensures { IsTrue result ↔ In value (results_of ctx.now.tree op) }
+{
+    ctx.well_formed();
+    match value.def(ctx) {
+        Def::Result(maker, _) => maker == op,
+        Def::Argument(_, _) => false,
+    }
+}
+
 // Whether an operand of the operation is one of its results.
 fn uses_itself(op: Ptr<Operation>, ctx: &Context) -> bool
     requires { IsLive ctx.now.tree op }
     ensures { IsTrue result ↔ UsesItself ctx.now.tree op }
 {
-    ctx.well_formed();
     for i in 0..op.num_operand(ctx) {
-        if let Def::Result(maker, _) = op.get_operand(ctx, i).def(ctx) {
-            if maker == op {
-                return true;
-            }
+        if is_result_of(op.get_operand(ctx, i), op, ctx) {
+            return true;
         }
     }
     false
@@ -87,7 +96,6 @@ fn fold_result<D: OperandFoldInterface, R: Rewriter + Room>(
     requires index { index < length (results_of ctx.old.tree op) }
     requires placed { IsSome (parent_of ctx.old.tree op) }
     requires live { IsLive ctx.old.tree op }
-    requires may { MayFold ctx.old.tree op }
     requires admitted { IsAdmitted D.meaning ctx.old.tree op }
     ensures ok { IfOk result (λ status. FoldsResult ⟦<D as HasOperandFolding>⟧.operand_folding ctx.old.tree ctx.new.tree
         op index status) }
@@ -96,6 +104,9 @@ fn fold_result<D: OperandFoldInterface, R: Rewriter + Room>(
 {
     ctx.well_formed();
     if op.get_result(ctx, index).num_use(ctx) == 0 {
+        return Ok(IRStatus::Unchanged);
+    }
+    if !may_fold(op, ctx) {
         return Ok(IRStatus::Unchanged);
     }
     let answers = operand_answers::<D>(alloc, op, ctx)?;
@@ -126,9 +137,6 @@ fn fold_operation<D: OperandFoldInterface, R: Rewriter + Room>(
 {
     ctx.well_formed();
     let mut status = IRStatus::Unchanged;
-    if !may_fold(op, ctx) {
-        return Ok(status);
-    }
     for index in 0..op.num_result(ctx) {
         ctx.well_formed();
         let outcome = fold_result::<D, R>(alloc, op, index, ctx, rewriter);

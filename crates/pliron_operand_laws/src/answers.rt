@@ -127,7 +127,8 @@ fn as_answers(
 
 /// What the dialect answers of the results by what is known of the operands and by which of them are one value.
 ///
-/// Errors: allocation failure. Cost: that of the answer, and for each operand that of the answer for a constant.
+/// Asks that the operation is live. Errors: allocation failure. Cost: that of the answer, and for each operand that of the
+/// answer for a constant.
 pub fn operand_answers<D: OperandFoldInterface>(
     alloc: Global,
     op: Ptr<Operation>,
@@ -144,7 +145,8 @@ pub fn operand_answers<D: OperandFoldInterface>(
 
 /// The constants that folding answers by what is known of the operands.
 ///
-/// Errors: allocation failure. Cost: that of the answer, and for each operand that of the answer for a constant.
+/// Asks that the operation is live. Errors: allocation failure. Cost: that of the answer, and for each operand that of the
+/// answer for a constant.
 pub fn constant_answers<D: OperandFoldInterface>(
     alloc: Global,
     op: Ptr<Operation>,
@@ -156,7 +158,8 @@ pub fn constant_answers<D: OperandFoldInterface>(
     ensures memory { IsOkUnless result OptError.Memory }
 {
     if !D::folds(op, ctx) {
-        return Ok(Vec::new(alloc));
+        let none = Vec::new(alloc);
+        return Ok(none);
     }
     let known = known_operands::<D>(alloc, op, ctx)?;
     let constants = <D as ConstFoldInterface>::check_fold(alloc, op, ctx, &known)?;

@@ -12,4 +12,9 @@ check_fold-requires-clause-folds g c =
 pub returns-clause-ok : goal.returns-clause-ok
 returns-clause-ok g c =
     let x : Folding = folding g.D.HasMeaning.meaning g.D.SideEffects.side_effects g.D.ConstFoldInterface.can_fold g.D.ConstFoldInterface.constants g.D.ConstFoldInterface.accepts g.D.ConstFoldInterface.constant_head g.D.OperandFoldInterface.operand_folds in
-    IfOk-weaker c.as_answers.result _ _ (λ answers as. constants_answered x c.args.ctx.now.tree c.args.op c.deref.result.now c.in_ok-constants.constants.items answers.items (c.deref.ensures.value ∙ c.in_ok-known.ensures.ok) c.in_ok-constants.ensures.ok as c.folds.result c.folds.ensures c.if-not-folds.false) c.as_answers.ensures.ok
+    IfOk-weaker c.as_answers.result _ _ (λ answers mapped. constants_answered x c.args.ctx.now.tree c.args.op c.deref.result.now c.in_ok-constants.constants.items answers.items (c.deref.ensures.value ∙ c.in_ok-known.ensures.ok) c.in_ok-constants.ensures.ok mapped c.folds.result c.folds.ensures c.if-not-folds.false) c.as_answers.ensures.ok
+
+pub returns-then-not-folds-clause-ok : goal.returns-then-not-folds-clause-ok
+returns-then-not-folds-clause-ok g c =
+    let x : Folding = folding g.D.HasMeaning.meaning g.D.SideEffects.side_effects g.D.ConstFoldInterface.can_fold g.D.ConstFoldInterface.constants g.D.ConstFoldInterface.accepts g.D.ConstFoldInterface.constant_head g.D.OperandFoldInterface.operand_folds in
+    none_answered x c.args.ctx.now.tree c.args.op c.new-none.result.items c.new-none.ensures.items c.folds.result c.folds.ensures c.if-not-folds.true
