@@ -36,6 +36,13 @@ struct Postponed {
     waiting: usize,
 }
 
+// The regions that wait for their visit, the next one last, and all that ever waited.
+#[derive(Drop)]
+struct Worklist {
+    seen: IndexSet<Ptr<Region>>,
+    waiting: Vec<Ptr<Region>>,
+}
+
 // Adds the regions of the operation.
 fn push_regions(
     ctx: &Context,
@@ -122,17 +129,14 @@ fn entered_blocks(
 }
 
 // The regions that were not seen are marked seen, and put on the worklist.
-fn push_new(
-    regions: &[Ptr<Region>],
-    seen: &mut IndexSet<Ptr<Region>>,
-    waiting: &mut Vec<Ptr<Region>>,
-) -> Result<(), OptError>
-    ensures grew { OnOk result (HasGrown regions.now seen.old.keys waiting.old.items seen.new.keys waiting.new.items) }
+fn push_new(regions: &[Ptr<Region>], worklist: &mut Worklist) -> Result<(), OptError>
+    ensures grew { OnOk result (HasGrown regions.now worklist.old.seen.keys worklist.old.waiting.items
+        worklist.new.seen.keys worklist.new.waiting.items) }
     ensures memory { IsOkUnless result OptError.Memory }
 {
     for region in regions {
-        if seen.insert(*region)? {
-            waiting.push(*region)?;
+        if worklist.seen.insert(*region)? {
+            worklist.waiting.push(*region)?;
         }
     }
     Ok(())
@@ -145,13 +149,13 @@ fn enter(
     ctx: &Context,
     entered: &[Ptr<BasicBlock>],
     listed: bool,
-    seen: &mut IndexSet<Ptr<Region>>,
-    waiting: &mut Vec<Ptr<Region>>,
+    worklist: &mut Worklist,
     postponed: &mut Vec<Postponed>,
 ) -> Result<(), OptError>
     requires { (b : ℕ) → In b entered.now → IsBlock ctx.now.tree b }
     ensures grown { OnOk result (HasGrown (flat_map (λ b. flat_map (λ k. regions_of ctx.now.tree k)
-        (body_of ctx.now.tree b)) entered.now) seen.old.keys waiting.old.items seen.new.keys waiting.new.items) }
+        (body_of ctx.now.tree b)) entered.now) worklist.old.seen.keys worklist.old.waiting.items
+        worklist.new.seen.keys worklist.new.waiting.items) }
     ensures listed { OnOk result (IsTrue listed → blocks_postponed postponed.new.items ≡ blocks_postponed
         postponed.old.items ++ entered.now) }
     ensures other { OnOk result ((IsTrue listed → ⊥) → postponed.new.items ≡ postponed.old.items) }
@@ -161,12 +165,12 @@ fn enter(
         if listed {
             postponed.push(Postponed {
                 block: *block,
-                waiting: waiting.len(),
+                waiting: worklist.waiting.len(),
             })?;
         }
         let mut nested = Vec::new(alloc);
         push_nested(alloc, ctx, *block, &mut nested)?;
-        push_new(&nested, seen, waiting)?;
+        push_new(&nested, worklist)?;
     }
     Ok(())
 }
@@ -202,26 +206,19 @@ fn visit(alloc: Global, ctx: &Context, starts: &[Ptr<Region>]) -> Result<Visits,
     ctx.well_formed();
     let mut regions = Vec::new(alloc);
     let mut blocks = Vec::new(alloc);
-    let mut seen = IndexSet::new(alloc);
-    let mut waiting = Vec::new(alloc);
+    let seen = IndexSet::new(alloc);
+    let waiting = Vec::new(alloc);
+    let mut worklist = Worklist { seen, waiting };
     let mut postponed = Vec::new(alloc);
-    push_new(starts, &mut seen, &mut waiting)?;
-    while let Some(region) = waiting.pop() {
+    push_new(starts, &mut worklist)?;
+    while let Some(region) = worklist.waiting.pop() {
         let entered = entered_blocks(alloc, ctx, region)?;
         let listed = region.has_ssa_dominance(ctx);
-        enter(
-            alloc,
-            ctx,
-            &entered,
-            listed,
-            &mut seen,
-            &mut waiting,
-            &mut postponed,
-        )?;
+        enter(alloc, ctx, &entered, listed, &mut worklist, &mut postponed)?;
         if listed {
             regions.push(region)?;
         }
-        list_postponed(&mut postponed, waiting.len(), &mut blocks)?;
+        list_postponed(&mut postponed, worklist.waiting.len(), &mut blocks)?;
     }
     list_postponed(&mut postponed, 0, &mut blocks)?;
     blocks.reverse();

@@ -3,4 +3,4 @@ use Rattle.pliron_cfg.specs.Internal.Seen.{HasGrown}
 use Rattle.pliron_cfg.proofs.visits.push_new.Given as goal
 
 abbrev pub invariant-loop-region : goal.invariant-loop-region
-invariant-loop-region l = HasGrown (take l.region-index l.regions) l.fn.seen.keys l.fn.waiting.items l.seen.keys l.waiting.items
+invariant-loop-region l = HasGrown (take l.region-index l.regions) l.fn.worklist.seen.keys l.fn.worklist.waiting.items l.worklist.seen.keys l.worklist.waiting.items

@@ -5,7 +5,7 @@ use Rattle.pliron_cfg.proofs.Visiting.{IsVisiting}
 use Rattle.pliron_cfg.proofs.visits.visit.Given as goal
 
 abbrev pub invariant-loop-region : goal.invariant-loop-region
-invariant-loop-region l = IsVisiting l.ctx.tree (λ r. In r l.starts) l.seen.keys l.waiting.items l.regions.items (l.blocks.items ++ blocks_postponed l.postponed.items)
+invariant-loop-region l = IsVisiting l.ctx.tree (λ r. In r l.starts) l.worklist.seen.keys l.worklist.waiting.items l.regions.items (l.blocks.items ++ blocks_postponed l.postponed.items)
 
 abbrev pub decreases-loop-region : goal.decreases-loop-region
-decreases-loop-region l = length l.ctx.tree.slots + length l.waiting.items - length l.seen.keys
+decreases-loop-region l = length l.ctx.tree.slots + length l.worklist.waiting.items - length l.worklist.seen.keys
