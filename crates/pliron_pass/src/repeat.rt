@@ -51,11 +51,9 @@ impl<P: Pass> Repeat<P> {
     }
 }
 
-// Runs a pass while it changes something, at most `max` times, and counts the runs.
+// Runs the pass while it changes something, as often as it may, and counts the runs.
 fn run_repeated<P: Pass>(
-    pass: &mut P,
-    max: usize,
-    runs: &mut usize,
+    repeat: &mut Repeat<P>,
     alloc: Global,
     op: Ptr<Operation>,
     ctx: &mut Context,
@@ -66,15 +64,16 @@ fn run_repeated<P: Pass>(
     ensures change { IsPassChange P.D.meaning ctx.old.tree ctx.new.tree op }
     ensures fresh { OnOk result (IsFresh P.E.Kind.eq P.E.kind P.E.holds ctx.old.tree analyses.old.cache.entries →
         IsFresh P.E.Kind.eq P.E.kind P.E.holds ctx.new.tree analyses.new.cache.entries) }
-    ensures outcome { RepeatsTo P.E.Kind.eq ⟦<P as Managed>⟧.runs max op pass.old pass.new (stage ctx.old analyses.old)
-        runs.new (stage ctx.new analyses.new) result }
-    ensures at_most { runs.new ≤ max }
+    ensures outcome { RepeatsTo P.E.Kind.eq ⟦<P as Managed>⟧.runs repeat.old.max op repeat.old.pass repeat.new.pass
+        (stage ctx.old analyses.old) repeat.new.runs (stage ctx.new analyses.new) result }
+    ensures max { repeat.new.max ≡ repeat.old.max }
+    ensures at_most { repeat.new.runs ≤ repeat.old.max }
 {
     let mut changed = IRStatus::Unchanged;
-    *runs = 0;
-    while *runs < max {
-        *runs += 1;
-        match run_pipeline(pass, alloc, op, ctx, analyses)? {
+    repeat.runs = 0;
+    while repeat.runs < repeat.max {
+        repeat.runs += 1;
+        match run_pipeline(&mut repeat.pass, alloc, op, ctx, analyses)? {
             IRStatus::Unchanged => return Ok(changed),
             IRStatus::Changed => changed = IRStatus::Changed,
         }
@@ -105,15 +104,7 @@ impl<P: Pass> Pass for Repeat<P> {
         ctx: &mut Context,
         analyses: &mut AnalysisManager<P::E>,
     ) -> Result<PassResult<<P::E as AnalysisKind>::Kind>, OptError> {
-        let ran = run_repeated(
-            &mut self.pass,
-            self.max,
-            &mut self.runs,
-            alloc,
-            op,
-            ctx,
-            analyses,
-        );
+        let ran = run_repeated(self, alloc, op, ctx, analyses);
         close(ran, analyses)
     }
 
