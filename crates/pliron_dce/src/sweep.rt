@@ -34,28 +34,35 @@ fn either(a: bool, b: bool) -> bool
     a || b
 }
 
+// What the loop keeps from one candidate to the next: the worklist, the edges to blocks that lost arguments, and
+// a list, for what an erased operation used.
+#[derive(Drop)]
+struct SweepState {
+    worklist: Worklist,
+    incoming: Incoming,
+    used: Vec<Value>,
+}
+
 // A ready candidate is erased, and what may be ready then is put on the worklist. Answers whether it had
-// regions. What an operation used is listed in the list that is lent.
+// regions.
 fn erase_one<D: Dialect>(
     alloc: Global,
     next: DeadCandidate,
     root: Ptr<Operation>,
-    worklist: &mut Worklist,
-    incoming: &mut Incoming,
-    used: &mut Vec<Value>,
+    state: &mut SweepState,
     ctx: &mut Context,
 ) -> Result<bool, OptError>
     requires linked { IsWellLinked D.meaning ctx.old.tree root }
     requires ready { IsReady D.meaning D.side_effects D.removable ctx.old.tree root (item_of next) }
     requires all { HasReady D.meaning D.side_effects D.removable ctx.old.tree root
-        (pending_candidates worklist.old ++ next ∷ []) }
-    requires closed { AreClosed ctx.old.tree worklist.old.around.keys }
-    requires known { AreKnown D.meaning ctx.old.tree root (λ b. list_of incoming.old b) }
+        (pending_candidates state.old.worklist ++ next ∷ []) }
+    requires closed { AreClosed ctx.old.tree state.old.worklist.around.keys }
+    requires known { AreKnown D.meaning ctx.old.tree root (λ b. list_of state.old.incoming b) }
     ensures goes { OnOk result (ErasesItem D.meaning D.shortened ctx.old.tree ctx.new.tree (item_of next)) }
     ensures all { OnOk result (HasReady D.meaning D.side_effects D.removable ctx.new.tree root
-        (pending_candidates worklist.new)) }
-    ensures closed { OnOk result (AreClosed ctx.new.tree worklist.new.around.keys) }
-    ensures known { OnOk result (AreKnown D.meaning ctx.new.tree root (λ b. list_of incoming.new b)) }
+        (pending_candidates state.new.worklist)) }
+    ensures closed { OnOk result (AreClosed ctx.new.tree state.new.worklist.around.keys) }
+    ensures known { OnOk result (AreKnown D.meaning ctx.new.tree root (λ b. list_of state.new.incoming b)) }
     ensures regions { IfOk result (λ had. IsTrue had ↔ HasRegions ctx.old.tree (item_of next)) }
     ensures refused { OnErr result ((ctx.new.tree ≡ ctx.old.tree) ⊎ ErasesItem D.meaning D.shortened ctx.old.tree
         ctx.new.tree (item_of next)) }
@@ -65,18 +72,18 @@ fn erase_one<D: Dialect>(
     match next {
         DeadCandidate::Operation(op) => {
             let had = has_regions(op, ctx);
-            erase_dead_operation::<D>(used, op, root, ctx)?;
+            erase_dead_operation::<D>(&mut state.used, op, root, ctx)?;
             ctx.well_formed();
-            note(worklist, used, ctx)?;
+            note(&mut state.worklist, &state.used, ctx)?;
             Ok(had)
         }
         DeadCandidate::Argument(value) => match value.def(ctx) {
             Def::Argument(block, index) => {
-                incoming.add::<D>(alloc, block, index, root, ctx)?;
-                let edges = incoming.edges_to(block);
+                state.incoming.add::<D>(alloc, block, index, root, ctx)?;
+                let edges = state.incoming.edges_to(block);
                 let lost = erase_dead_argument::<D>(alloc, block, index, edges, root, ctx)?;
                 ctx.well_formed();
-                note(worklist, &lost, ctx)?;
+                note(&mut state.worklist, &lost, ctx)?;
                 Ok(false)
             }
             Def::Result(_, _) => unreachable!(),
@@ -88,16 +95,16 @@ fn erase_one<D: Dialect>(
 fn erase_all_dead<D: Dialect>(
     alloc: Global,
     root: Ptr<Operation>,
-    worklist: &mut Worklist,
-    incoming: &mut Incoming,
+    state: &mut SweepState,
     predecessors: &Predecessors,
     ctx: &mut Context,
 ) -> Result<(IRStatus, bool), OptError>
     requires live { IsLive ctx.old.tree root }
     requires linked { IsWellLinked D.meaning ctx.old.tree root }
-    requires all { HasReady D.meaning D.side_effects D.removable ctx.old.tree root (pending_candidates worklist.old) }
-    requires closed { AreClosed ctx.old.tree worklist.old.around.keys }
-    requires known { AreKnown D.meaning ctx.old.tree root (λ b. list_of incoming.old b) }
+    requires all { HasReady D.meaning D.side_effects D.removable ctx.old.tree root
+        (pending_candidates state.old.worklist) }
+    requires closed { AreClosed ctx.old.tree state.old.worklist.around.keys }
+    requires known { AreKnown D.meaning ctx.old.tree root (λ b. list_of state.old.incoming b) }
     requires marked { AreMarked D.meaning ctx.old.tree root (λ b. mark_of predecessors.now b) }
     ensures gone { (gone : List Item) × IsSweptSoFar D.meaning D.shortened D.side_effects D.removable ctx.old.tree
         ctx.new.tree root gone × IfOk result (λ a. LeavesNoDead D.meaning D.side_effects D.removable ctx.old.tree
@@ -105,12 +112,11 @@ fn erase_all_dead<D: Dialect>(
     ensures edges { IfOk result (λ a. (IsTrue a.1 → ⊥) → KeepsEdges ctx.old.tree ctx.new.tree) }
     ensures memory { IsOkUnless result OptError.Memory }
 {
-    let mut used = Vec::new(alloc);
     let mut status = IRStatus::Unchanged;
     let mut regions = false;
-    while let Some(next) = next_ready::<D>(alloc, worklist, predecessors, root, ctx)? {
+    while let Some(next) = next_ready::<D>(alloc, &mut state.worklist, predecessors, root, ctx)? {
         ctx.well_formed();
-        let taken = erase_one::<D>(alloc, next, root, worklist, incoming, &mut used, ctx);
+        let taken = erase_one::<D>(alloc, next, root, state, ctx);
         ctx.well_formed();
         let had = taken?;
         regions = either(regions, had);
@@ -139,9 +145,14 @@ pub(crate) fn sweep<D: Dialect>(
     ensures edges { IfOk result (λ a. (IsTrue a.1 → ⊥) → KeepsEdges ctx.old.tree ctx.new.tree) }
     ensures memory { IsOkUnless result OptError.Memory }
 {
-    let mut worklist = Worklist::new(alloc, candidates, scans);
-    let mut incoming = Incoming::new(alloc);
-    let swept = erase_all_dead::<D>(alloc, root, &mut worklist, &mut incoming, predecessors, ctx);
-    incoming.settle(ctx);
+    let worklist = Worklist::new(alloc, candidates, scans);
+    let incoming = Incoming::new(alloc);
+    let mut state = SweepState {
+        worklist,
+        incoming,
+        used: Vec::new(alloc),
+    };
+    let swept = erase_all_dead::<D>(alloc, root, &mut state, predecessors, ctx);
+    state.incoming.settle(ctx);
     swept
 }

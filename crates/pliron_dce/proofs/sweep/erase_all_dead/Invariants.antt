@@ -8,15 +8,15 @@ use Rattle.pliron_dce.specs.Predecessors.{mark_of, AreMarked}
 use Rattle.pliron_dce.specs.Worklist.{pending_candidates, HasReady, AreClosed}
 use Rattle.pliron_dce.proofs.sweep.erase_all_dead.Given as goal
 
-abbrev pub invariant-loop-used : goal.invariant-loop-used
-invariant-loop-used g l = record {
+abbrev pub invariant-loop-next : goal.invariant-loop-next
+invariant-loop-next g l = record {
   way : (gone : List Item) × IsSweptSoFar g.D.HasMeaning.meaning g.D.Dialect.shortened g.D.SideEffects.side_effects g.D.BlockArgRemoval.removable l.fn.ctx.tree l.ctx.tree l.root gone × ReportsErased gone l.status × (IsTrue l.regions ↔ SomeHasRegions l.fn.ctx.tree gone);
   edges : (IsTrue l.regions → ⊥) → KeepsEdges l.fn.ctx.tree l.ctx.tree;
-  all : HasReady g.D.HasMeaning.meaning g.D.SideEffects.side_effects g.D.BlockArgRemoval.removable l.ctx.tree l.root (pending_candidates l.worklist);
-  closed : AreClosed l.ctx.tree l.worklist.around.keys;
-  known : AreKnown g.D.HasMeaning.meaning l.ctx.tree l.root (λ b. list_of l.incoming b);
+  all : HasReady g.D.HasMeaning.meaning g.D.SideEffects.side_effects g.D.BlockArgRemoval.removable l.ctx.tree l.root (pending_candidates l.state.worklist);
+  closed : AreClosed l.ctx.tree l.state.worklist.around.keys;
+  known : AreKnown g.D.HasMeaning.meaning l.ctx.tree l.root (λ b. list_of l.state.incoming b);
   marked : AreMarked g.D.HasMeaning.meaning l.ctx.tree l.root (λ b. mark_of l.predecessors b);
 }
 
-abbrev pub decreases-loop-used : goal.decreases-loop-used
-decreases-loop-used g l = things l.ctx.tree
+abbrev pub decreases-loop-next : goal.decreases-loop-next
+decreases-loop-next g l = things l.ctx.tree
