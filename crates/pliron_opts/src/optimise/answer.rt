@@ -31,8 +31,8 @@ fn run_schedule<D: Dialect>(
     ensures stands { IsLive ctx.new.tree root }
     ensures links { IsWellLinked D.meaning ctx.new.tree root }
     ensures inside { IsInsideChange ctx.old.tree ctx.new.tree root }
-    ensures ran { IfOk result (λ status. RunsAlone ⟦<BenchFactKind as PartialEq>⟧.eq ⟦<Schedule<D, BenchFacts> as
-        Pass>⟧.outcome schedule root ctx.old.tree ctx.new.tree status) }
+    ensures ran { IfOk result (λ status. RunsAlone ⟦<BenchFactKind as PartialEq>⟧.eq
+        ⟦<Schedule<D, BenchFacts> as Pass>⟧.outcome schedule root ctx.old.tree ctx.new.tree status) }
     ensures truly { IfOk result (λ status. status ≡ Unchanged → IsSameTree ctx.old.tree ctx.new.tree) }
 {
     schedules_report_accurately::<D, BenchFacts>();
