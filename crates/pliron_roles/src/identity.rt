@@ -98,11 +98,7 @@ fn place_between(identity: Identity, a: &AttrObj, b: &AttrObj) -> Option<usize>
 }
 
 // The place of the operand that is left of two, where both are known.
-fn place_of_two(
-    identity: Identity,
-    a: &Option<AttrObj>,
-    b: &Option<AttrObj>,
-) -> Option<usize>
+fn place_of_two(identity: Identity, a: &Option<AttrObj>, b: &Option<AttrObj>) -> Option<usize>
     ensures { result ≡ place_of_two_of identity a.now b.now }
 {
     match a {
