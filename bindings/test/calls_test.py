@@ -44,14 +44,27 @@ class Rows(unittest.TestCase):
             else:
                 self.assertRaises(rachonpas.TextError, rachonpas.describe_graph, text)
 
-    def test_faults(self):
-        for line, column, text, expected in rows.faults():
-            fault = rachonpas.find_fault(text)
+    def test_modules(self):
+        kinds = {rows.REFUSED: rachonpas.RefusedError, rows.TEXT: rachonpas.TextError, rows.ARGUMENTS: rachonpas.PipelineError}
+        for status, changed, pipeline, text, answer in rows.modules():
+            if status == rows.ANSWERED:
+                wanted = rachonpas.Answer(answer.decode(), changed == 1)
+                self.assertEqual(rachonpas.optimise_mlir(pipeline.decode(), text), wanted)
+            else:
+                self.assertRaises(kinds[status], rachonpas.optimise_mlir, pipeline.decode(), text)
+
+    def expect_faults(self, broken, find_fault, optimise):
+        for line, column, text, expected in broken:
+            fault = find_fault(text)
             self.assertEqual((fault.line, fault.column, fault.expected), (line, column, expected.decode()))
             self.assertLessEqual(fault.start + fault.length, len(text))
             with self.assertRaises(rachonpas.TextError) as found:
-                rachonpas.optimise("dce", text)
+                optimise("dce", text)
             self.assertEqual(found.exception.fault, fault)
+
+    def test_faults(self):
+        self.expect_faults(rows.faults(), rachonpas.find_fault, rachonpas.optimise)
+        self.expect_faults(rows.module_faults(), rachonpas.find_fault_mlir, rachonpas.optimise_mlir)
 
 
 class Edges(unittest.TestCase):
@@ -72,6 +85,12 @@ class Edges(unittest.TestCase):
     def test_an_answer_longer_than_the_first_buffer(self):
         answer = rachonpas.optimise("repeat:64:sccp", "func{b0():a=const 1;b=add a a;ret b}").text
         self.assertEqual(answer.count("const 2"), 64)
+
+    def test_modules_that_are_no_text(self):
+        module = b'"m"() {a = "\xff"} : () -> ()\n'
+        answer = rachonpas.optimise_mlir("dce", module)
+        self.assertEqual(answer.text.encode(errors="surrogateescape"), module)
+        self.assertEqual(rachonpas.optimise_mlir("dce", answer.text), answer)
 
     def test_errors(self):
         error = rachonpas.TextError(rachonpas.find_fault(BROKEN))

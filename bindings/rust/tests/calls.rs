@@ -1,5 +1,7 @@
 //! The worked rows, edges, and threads. `RACHONPAS_ROWS` names the file that `bindings/test/rows.py` writes.
-use rachonpas::{Answer, Error, MAX_TEXT, describe_graph, find_fault, optimise};
+use rachonpas::{
+    Answer, Error, Fault, MAX_TEXT, describe_graph, find_fault, find_fault_mlir, optimise, optimise_mlir,
+};
 use std::{env, fs, thread};
 
 const SUM: &str = "func { b0(): a = const 1; b = const 2; c = add a b; ret c }";
@@ -73,10 +75,27 @@ fn described(row: &Row) {
     }
 }
 
-fn placed(row: &Row) {
-    let fault = find_fault(&row.fields[0])
-        .expect("memory")
-        .expect("a fault");
+fn optimised_module(row: &Row) {
+    let [pipeline, text, answer] = &row.fields[..] else {
+        panic!("three fields")
+    };
+    let found = optimise_mlir(text_of(pipeline), text_of(text));
+    match row.word.split_at(1) {
+        ("0", changed) => {
+            let wanted = Answer {
+                text: text_of(answer).to_owned(),
+                is_changed: changed == ":1",
+            };
+            assert_eq!(found, Ok(wanted));
+        }
+        ("1", _) => assert_eq!(found, Err(Error::Refused)),
+        ("2", _) => assert!(matches!(found, Err(Error::Text(Some(_))))),
+        _ => assert_eq!(found, Err(Error::Pipeline)),
+    }
+}
+
+fn placed(row: &Row, found: Result<Option<Fault>, Error>) {
+    let fault = found.expect("memory").expect("a fault");
     assert_eq!(format!("{}:{}", fault.line, fault.column), row.word);
     assert_eq!(fault.expected, text_of(&row.fields[1]));
     assert!(fault.start + fault.length <= row.fields[0].len());
@@ -88,7 +107,9 @@ fn worked_rows() {
         match row.letter.as_str() {
             "o" => optimised(&row),
             "g" => described(&row),
-            _ => placed(&row),
+            "m" => optimised_module(&row),
+            "f" => placed(&row, find_fault(&row.fields[0])),
+            _ => placed(&row, find_fault_mlir(&row.fields[0])),
         }
     }
 }
