@@ -36,5 +36,5 @@ int main(int count, char **words) {
     }
     free(text);
     free(answer);
-    return status == PLIR_ANSWERED ? 0 : status == PLIR_REFUSED || status == PLIR_MEMORY ? 1 : 2;
+    return status == PLIR_ANSWERED ? 0 : status == PLIR_TEXT || status == PLIR_ARGUMENTS ? 2 : 1;
 }

@@ -14,6 +14,17 @@ import rows  # noqa: E402
 
 BROKEN = "func {\n  ret }"
 SUM = "func { b0(): a = const 1; b = const 2; c = add a b; ret c }"
+MODULE = """"m"() ({
+  %0 = "arith.constant"() <{value = 1 : i32}> : () -> i32
+  %1 = "arith.addi"(%0, %0) <{overflowFlags = #arith.overflow<none>}> : (i32, i32) -> i32
+  "use"(%1) : (i32) -> ()
+}) : () -> ()
+"""
+TWO = """"m"() ({
+  %2 = "arith.constant"() <{value = 2 : i32}> : () -> i32
+  "use"(%2) : (i32) -> ()
+}) : () -> ()
+"""
 
 
 def raised(pipeline, text):
@@ -86,6 +97,17 @@ class Edges(unittest.TestCase):
         answer = rachonpas.optimise("repeat:64:sccp", "func{b0():a=const 1;b=add a a;ret b}").text
         self.assertEqual(answer.count("const 2"), 64)
 
+    def test_modules_that_are_none(self):
+        for module in ("", bytes(range(256)), MODULE + "\0", "m"):
+            self.assertRaises(rachonpas.TextError, rachonpas.optimise_mlir, "dce", module)
+        for pipeline in ("licm", "sccp,", "repeat:0:dce", "repeat:65:dce", "nested:", "\u00e4"):
+            self.assertRaises(rachonpas.PipelineError, rachonpas.optimise_mlir, pipeline, "none")
+        self.assertIsNone(rachonpas.find_fault_mlir(MODULE))
+
+    def test_long_modules(self):
+        self.assertEqual(rachonpas.optimise_mlir("sccp,dce", MODULE.ljust(1 << 20)), rachonpas.Answer(TWO, True))
+        self.assertEqual(rachonpas.optimise_mlir("repeat:64:sccp", MODULE).text.count("value = 2"), 64)
+
     def test_modules_that_are_no_text(self):
         module = b'"m"() {a = "\xff"} : () -> ()\n'
         answer = rachonpas.optimise_mlir("dce", module)
@@ -104,13 +126,14 @@ class Threads(unittest.TestCase):
 
         def call(at):
             found[at] = [rachonpas.optimise("sccp,dce", SUM).text for _ in range(2000)]
+            found[at] += [rachonpas.optimise_mlir("sccp,dce", MODULE).text for _ in range(2000)]
 
         threads = [threading.Thread(target=call, args=(at,)) for at in range(2)]
         for thread in threads:
             thread.start()
         for thread in threads:
             thread.join()
-        self.assertEqual(found, [["func { b0(): v0 = const 3; ret v0 }"] * 2000] * 2)
+        self.assertEqual(found, [["func { b0(): v0 = const 3; ret v0 }"] * 2000 + [TWO] * 2000] * 2)
 
 
 def load_tests(_loader, tests, _pattern):
