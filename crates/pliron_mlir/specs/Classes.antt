@@ -16,7 +16,7 @@ use Rattle.pliron_mlir.specs.declared.kind.Class.TheVariants.{Constant as Consta
 use Rattle.pliron_roles.specs.Counted.{counted_by}
 use Rattle.pliron_roles.specs.declared.identity.Identity.{Identity}
 use Rattle.pliron_roles.specs.Identities.{no_identity}
-use Rattle.pliron_mlir.specs.IntegerIdentities.{identity_at}
+use Rattle.pliron_mlir.specs.IntegerIdentities.{of_cast, identity_at}
 use Rattle.pliron_roles.specs.Roles.{Interpretation, Role, Constant, Folds, Picks, Opaque, Jumps, Chooses, Leaves, Stops, Acts, Forks, Tables, KeepsTables, ActsFit, effect_act, region_act, fit_data, has_some}
 use Rattle.pliron_roles.specs.CountLaws.{effect_fits, region_fits, at_fits, length-fitted}
 use Rattle.pliron_mlir.specs.ClassNumbers.{number_of_class, class_of_number, numbered}
@@ -61,7 +61,10 @@ cast_by cast h _ = None
 abbrev pub leaves_none : Head → Identity
 leaves_none h = no_identity
 
--- what leaves one operand of two as it is, at the width that the attributes say
+-- what leaves an operand as it is, at the widths that the attributes say
+abbrev pub cast_identity : Head → Identity
+cast_identity h = of_cast (width_at h.attrs 0) (width_at h.attrs 1)
+
 abbrev pub identity_by : BinaryOperator → Head → Identity
 identity_by operator h = identity_at operator (flags_at h.attrs 1) (width_at h.attrs 0)
 
@@ -130,7 +133,7 @@ role_of_class Root = Acts one_region root_act
 role_of_class Module = Acts one_region module_act
 role_of_class Fork = Forks
 role_of_class Compare = Folds 2 compared_by leaves_none
-role_of_class (CastClass cast) = Folds 1 (cast_by cast) leaves_none
+role_of_class (CastClass cast) = Folds 1 (cast_by cast) cast_identity
 role_of_class (Binary operator) = Folds 2 (computed_by operator) (identity_by operator)
 
 acts : (c : Class) → ActsFit (role_of_class c)

@@ -1,5 +1,5 @@
--- What leaves one operand of two as it is, whatever its datum is: where LLVM says poison of it, that stays.
-use Rattle.std.specs.Prelude.{ℕ, ◌-◌, ◌^◌, nat_lt, if◌then◌else◌, Bool, true, false, not, ◌&&◌, Option, Some, None, ℤ}
+-- What leaves an operand as it is, whatever its datum is: where LLVM says poison of it, that stays.
+use Rattle.std.specs.Prelude.{ℕ, ◌-◌, ◌^◌, nat_eq, nat_lt, if◌then◌else◌, Bool, true, false, not, ◌&&◌, Option, Some, None, ℤ}
 use Rattle.pliron_bits.specs.declared.flags.Flags.{Flags}
 use Rattle.pliron_bits.specs.declared.operators.BinaryOperator.{BinaryOperator}
 use Rattle.pliron_bits.specs.declared.operators.BinaryOperator.TheVariants.{Add, Subtract, Multiply, UnsignedDivide, SignedDivide, UnsignedRemainder, SignedRemainder, ShiftLeft, LogicalShiftRight, ArithmeticShiftRight, And, Or, Xor, UnsignedMinimum, SignedMinimum, UnsignedMaximum, SignedMaximum}
@@ -19,13 +19,17 @@ all_ones_at width = some_if (is_width width) (number width (2 ^ bits_of_width wi
 
 -- the number leaves the first operand; either operand, and of equal ones the first; the first of equal ones
 abbrev pub as_second : Option ℤ → Identity
-as_second n = record { neutral = n; either_side = false; idempotent = false }
+as_second n = record { neutral = n; either_side = false; idempotent = false; only = false }
 
 abbrev pub as_either : Option ℤ → Bool → Identity
-as_either n idempotent = record { neutral = n; either_side = true; idempotent = idempotent }
+as_either n idempotent = record { neutral = n; either_side = true; idempotent = idempotent; only = false }
 
 abbrev pub of_equal : Identity
-of_equal = record { neutral = None; either_side = false; idempotent = true }
+of_equal = record { neutral = None; either_side = false; idempotent = true; only = false }
+
+-- a cast to the same width leaves its operand
+abbrev pub of_cast : (width to : ℕ) → Identity
+of_cast width to = record { neutral = None; either_side = false; idempotent = false; only = is_width width && nat_eq width to }
 
 -- an `or` that promises operands without a common bit has none that are equal, but for 0
 abbrev pub identity_at : BinaryOperator → Flags → ℕ → Identity

@@ -1,6 +1,6 @@
-//! What leaves one operand of two integers as it is.
+//! What leaves an operand of integers as it is.
 ghost use Rattle.std.specs.Prelude.{◌≡◌, ◌≤◌};
-ghost use Rattle.pliron_mlir.specs.IntegerIdentities.{zero_at as zero_at_of, one_at as one_at_of, all_ones_at as all_ones_at_of, as_second as as_second_of, as_either as as_either_of, of_equal as of_equal_of, identity_at as identity_at_of};
+ghost use Rattle.pliron_mlir.specs.IntegerIdentities.{zero_at as zero_at_of, one_at as one_at_of, all_ones_at as all_ones_at_of, as_second as as_second_of, as_either as as_either_of, of_equal as of_equal_of, of_cast, identity_at as identity_at_of};
 
 use crate::data::{counted_bits, is_width, number};
 use pliron_bits::{BinaryOperator, Flags, size};
@@ -48,6 +48,7 @@ fn as_second(neutral: Option<i128>) -> Identity
         neutral,
         either_side: false,
         idempotent: false,
+        only: false,
     }
 }
 
@@ -59,6 +60,7 @@ fn as_either(neutral: Option<i128>, idempotent: bool) -> Identity
         neutral,
         either_side: true,
         idempotent,
+        only: false,
     }
 }
 
@@ -70,6 +72,19 @@ fn of_equal() -> Identity
         neutral: None,
         either_side: false,
         idempotent: true,
+        only: false,
+    }
+}
+
+/// Whether a cast from one width to the other leaves its operand. Cost: constant.
+pub fn identity_of_cast(width: u32, to: u32) -> Identity
+    ensures { result ≡ of_cast width to }
+{
+    Identity {
+        neutral: None,
+        either_side: false,
+        idempotent: false,
+        only: is_width(width) && width == to,
     }
 }
 

@@ -1,7 +1,8 @@
 //! Operations that leave one operand as it is, by what LLVM leaves of them.
 use crate::integers::{flags, kind, width};
 use crate::rows::identities;
-use pliron_mlir::{Class, binary_head, class_named, number};
+use pliron_bits::BinaryOperator;
+use pliron_mlir::{Class, binary_head, cast_head, class_named, number};
 use pliron_roles::{Identity, Roles};
 use std::alloc::Global;
 
@@ -35,19 +36,36 @@ fn left(identity: Identity, a: Option<i128>, b: Option<i128>) -> Option<usize> {
     }
 }
 
+// The place of x, which is left of an operation of two.
+fn left_of_two(
+    alloc: Global,
+    operator: BinaryOperator,
+    how: &str,
+    width: u32,
+    operands: (&str, &str),
+) -> Option<Option<usize>> {
+    let (a, b) = operands;
+    let head = binary_head(alloc, operator, width, flags(how), 3).ok()?;
+    let identity = kind(Class::Binary(operator)).identity(&head);
+    Some(left(identity, known(width, a)?, known(width, b)?))
+}
+
 // What the table says of an operation, where the words can be read.
 fn left_of_row(alloc: Global, words: &[&str]) -> Option<Option<usize>> {
     let [name, how, from, a, b] = words else {
         return None;
     };
     let class = class_named(name.as_bytes())?;
-    let width = width(from)?;
-    let Class::Binary(operator) = class else {
-        return None;
-    };
-    let head = binary_head(alloc, operator, width, flags(how), 3).ok()?;
-    let identity = kind(class).identity(&head);
-    Some(left(identity, known(width, a)?, known(width, b)?))
+    let width_from = width(from)?;
+    match class {
+        Class::Binary(operator) => left_of_two(alloc, operator, how, width_from, (a, b)),
+        Class::Cast(cast) => {
+            let head = cast_head(alloc, cast, width_from, width(a)?, flags(how), 3).ok()?;
+            let only = kind(class).identity(&head).only;
+            Some(if only { Some(0) } else { None })
+        }
+        _ => None,
+    }
 }
 
 // Whether the table's answer is that of the row.

@@ -11,7 +11,7 @@ use Rattle.pliron_laws.specs.Datum.{Shape}
 use Rattle.pliron_laws.specs.Folding.{KnowsMore, FoldsMonotonely}
 use Rattle.pliron_roles.specs.Roles.{Interpretation, Role, Constant, Folds, Picks, Opaque, Jumps, Chooses, Leaves, Stops, Acts, Forks, told_edge, truth_of, by_role, meaning_by, folds_by, branch_folds_by, constants_by, feasible_by, answers_by, feasible_of, edges_taken, known_as, known_number_at, all_known, with_number, number_computed, left_known, picked_known}
 use Rattle.pliron_roles.specs.declared.identity.Identity.{Identity}
-use Rattle.pliron_roles.specs.Identities.{place_known}
+use Rattle.pliron_roles.specs.Identities.{place_of_one, place_known}
 use Rattle.pliron_roles.specs.FoldLaws.{taken_in}
 
 -- what is known stays
@@ -70,11 +70,16 @@ left_of i result known = left_known known (place_known i known) (option_map (λ 
 computed_more : (result : List ℤ → Option ℤ) (known more : List (Option AttrObj)) → KnowsMore known more → IsMore (option_map (λ k. Int k) (number_computed result (all_known known))) (option_map (λ k. Int k) (number_computed result (all_known more)))
 computed_more result known more m = kept (λ o. option_map (λ k. Int k) (number_computed result o)) refl (all_known known) (all_known more) (all_more known more m)
 
+one_more : (only : Bool) (result : List ℤ → Option ℤ) (a b : Option AttrObj) → KnowsMore (a ∷ []) (b ∷ []) → IsMore (left_known (a ∷ []) (place_of_one only) (option_map (λ k. Int k) (number_computed result (all_known (a ∷ []))))) (left_known (b ∷ []) (place_of_one only) (option_map (λ k. Int k) (number_computed result (all_known (b ∷ [])))))
+one_more true result None b m = tt
+one_more true result (Some a) b m = subst (IsMore (Some a)) (sym m.0) (no_less (Some a))
+one_more false result a b m = computed_more result (a ∷ []) (b ∷ []) m
+
 left_more : (i : Identity) (result : List ℤ → Option ℤ) (known more : List (Option AttrObj)) → KnowsMore known more → IsMore (left_of i result known) (left_of i result more)
 left_more i result [] [] m = no_less (left_of i result [])
 left_more i result [] (b ∷ more) m = absurd m
 left_more i result (a ∷ known) [] m = absurd m
-left_more i result (a ∷ []) (b ∷ []) m = computed_more result (a ∷ []) (b ∷ []) m
+left_more i result (a ∷ []) (b ∷ []) m = one_more i.only result a b m
 left_more i result (None ∷ []) (b ∷ c ∷ more) m = absurd m
 left_more i result (Some a ∷ []) (b ∷ c ∷ more) m = absurd m.1
 left_more i result (None ∷ c ∷ []) (b ∷ more) m = tt

@@ -12,7 +12,7 @@ use Rattle.pliron_operand_folding.specs.declared.OpFoldResult.{OpFoldResult}
 use Rattle.pliron_operand_folding.specs.declared.OpFoldResult.TheVariants.{Operand, Constant as ConstantFold}
 use Rattle.pliron_operand_folding.specs.OperandFolding.{AreSameData, datum_by, IsWithin, AnswersOperand, AnswersOperands}
 use Rattle.pliron_roles.specs.declared.identity.Identity.{Identity}
-use Rattle.pliron_roles.specs.Identities.{same_datum, is_this, place_by, place_between, place_in, is_known_as, are_same, place_told}
+use Rattle.pliron_roles.specs.Identities.{same_datum, is_this, place_of_one, place_by, place_between, place_in, is_known_as, are_same, place_told}
 use Rattle.pliron_roles.specs.Roles.{Interpretation, Role, Constant, Folds, Picks, Opaque, Jumps, Chooses, Leaves, Stops, Acts, Forks, numbers_of, first_number, results_given, operands_picked, operand_left, nth_datum, truth_of, known_number_at, by_role, by_form, form_of, act_of, no_act, meaning_by, folds_of}
 use Rattle.pliron_roles.specs.Parts.{Admits, IsQuiet, comes_first, three, same}
 use Rattle.pliron_roles.specs.FoldLaws.{Agrees, first_agrees, role_quiet}
@@ -113,9 +113,16 @@ tells i a b operands d e h s = record {
     behind None b d e h = h
     behind (Some x) b d e h = h.1
 
+only_left : (only : Bool) (d : Datum) (ds : List Datum) (p : ℕ) → place_of_one only ≡ Some p → GivesOperand p (d ∷ []) (operand_left (d ∷ []) (place_of_one only) ds)
+only_left true d ds p e = let at : 0 ≡ p = same_Some 0 p e in ap (slice_get (d ∷ [])) at
+only_left false d ds p e = grind arith
+
 folded_left : (i : Identity) (known : List (Option AttrObj)) (operands : List ℕ) (first ds : List Datum) (p : ℕ) → Known known first → AreSameData operands first → place_told i known operands ≡ Some p → GivesOperand p first (operand_left first (place_in i first) ds)
 folded_left i [] operands first ds p h s e = grind arith
-folded_left i (a ∷ []) operands first ds p h s e = grind arith
+folded_left i (a ∷ []) operands [] ds p h s e = absurd h
+folded_left i (a ∷ []) operands (d ∷ []) ds p h s e = only_left i.only d ds p e
+folded_left i (None ∷ []) operands (d ∷ x ∷ first) ds p h s e = absurd h
+folded_left i (Some a ∷ []) operands (d ∷ x ∷ first) ds p h s e = absurd h.1
 folded_left i (a ∷ b ∷ c ∷ known) operands first ds p h s e = grind arith
 folded_left i (a ∷ b ∷ []) operands [] ds p h s e = absurd h
 folded_left i (None ∷ b ∷ []) operands (d ∷ []) ds p h s e = absurd h
@@ -132,9 +139,13 @@ one_of_two false true z p e = omega (arith, same_Some 1 p e)
 one_of_two false false true p e = omega (arith, same_Some 0 p e)
 one_of_two false false false p e = grind arith
 
+one_of_one : (only : Bool) (p : ℕ) → place_of_one only ≡ Some p → p < 1
+one_of_one true p e = omega (arith, same_Some 0 p e)
+one_of_one false p e = grind arith
+
 told_within : (i : Identity) (known : List (Option AttrObj)) (operands : List ℕ) (p : ℕ) → place_told i known operands ≡ Some p → p < length known
 told_within i [] operands p e = grind arith
-told_within i (a ∷ []) operands p e = grind arith
+told_within i (a ∷ []) operands p e = one_of_one i.only p e
 told_within i (a ∷ b ∷ c ∷ known) operands p e = grind arith
 told_within i (a ∷ b ∷ []) operands p e = one_of_two _ _ _ p e
 

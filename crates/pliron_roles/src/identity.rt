@@ -1,12 +1,12 @@
-//! What leaves one operand of two as it is.
-ghost use Rattle.std.specs.Prelude.{◌≡◌};
+//! What leaves an operand as it is.
+ghost use Rattle.std.specs.Prelude.{◌≡◌, ◌&&◌};
 ghost use Rattle.pliron_core.specs.Tree.{IsLive, operands_of};
 ghost use Rattle.pliron_laws.specs.Datum.{datum_of};
-ghost use Rattle.pliron_roles.specs.Identities.{no_identity, is_this as is_this_of, is_known_as as is_known_as_of, same_datum, are_same, place_by as place_by_of, place_between as place_between_of, place_known, place_told};
+ghost use Rattle.pliron_roles.specs.Identities.{no_identity, is_this as is_this_of, is_known_as as is_known_as_of, same_datum, are_same, place_by as place_by_of, place_of_one as place_of_one_of, place_between as place_between_of, place_of_two as place_of_two_of, place_known, place_told};
 
 use pliron_core::{AttrObj, Context, Operation, Ptr};
 
-/// What leaves one operand of two as it is, whatever its datum is.
+/// What leaves an operand as it is, whatever its datum is.
 #[derive(Clone, Copy, Debug, PartialEq, Eq)]
 pub struct Identity {
     /// The number that leaves the first operand, where it is the second.
@@ -15,6 +15,8 @@ pub struct Identity {
     pub either_side: bool,
     /// Equal operands leave the first of them.
     pub idempotent: bool,
+    /// The only operand is left.
+    pub only: bool,
 }
 
 impl Identity {
@@ -26,6 +28,7 @@ impl Identity {
             neutral: None,
             either_side: false,
             idempotent: false,
+            only: false,
         }
     }
 }
@@ -94,20 +97,35 @@ fn place_between(identity: Identity, a: &AttrObj, b: &AttrObj) -> Option<usize>
     place_by(second_neutral, first_neutral, equal)
 }
 
-/// The place of the operand that is left, where there are two and both are known. Cost: that of comparing two
-/// attributes.
-pub fn known_place(identity: Identity, operand_attrs: &[Option<AttrObj>]) -> Option<usize>
-    ensures { result ≡ place_known identity operand_attrs.now }
+// The place of the operand that is left of two, where both are known.
+fn place_of_two(identity: Identity, a: &Option<AttrObj>, b: &Option<AttrObj>) -> Option<usize>
+    ensures { result ≡ place_of_two_of identity a.now b.now }
 {
-    let [a, b] = operand_attrs else {
-        return None;
-    };
     match a {
         Some(a) => match b {
             Some(b) => place_between(identity, a, b),
             None => None,
         },
         None => None,
+    }
+}
+
+// The place of an only operand that is left.
+fn place_of_one(only: bool) -> Option<usize>
+    ensures { result ≡ place_of_one_of only }
+{
+    if only { Some(0) } else { None }
+}
+
+/// The place of the operand that is left, where it is the only one, or one of two that are both known. Cost: that of
+/// comparing two attributes.
+pub fn known_place(identity: Identity, operand_attrs: &[Option<AttrObj>]) -> Option<usize>
+    ensures { result ≡ place_known identity operand_attrs.now }
+{
+    match operand_attrs {
+        [_] => place_of_one(identity.only),
+        [a, b] => place_of_two(identity, a, b),
+        _ => None,
     }
 }
 
@@ -119,8 +137,24 @@ fn has_same_operands(op: Ptr<Operation>, ctx: &Context) -> bool
     op.num_operand(ctx) == 2 && op.get_operand(ctx, 0) == op.get_operand(ctx, 1)
 }
 
-/// The place of the operand that is left, where there are two, and what is known of one of them, or that both are
-/// the same value, tells it. Asks that the operation stands (`is_live` tests it). Cost: constant.
+// The place of the operand that is left of two, where what is known of one of them, or that both are the same value,
+// tells it.
+fn told_of_two(
+    identity: Identity,
+    a: &Option<AttrObj>,
+    b: &Option<AttrObj>,
+    same: bool,
+) -> Option<usize>
+    ensures { result ≡ place_by_of (is_known_as_of identity.neutral b.now) (identity.either_side && is_known_as_of
+        identity.neutral a.now) (identity.idempotent && same) }
+{
+    let second_neutral = is_known_as(identity.neutral, b);
+    let first_neutral = identity.either_side && is_known_as(identity.neutral, a);
+    place_by(second_neutral, first_neutral, identity.idempotent && same)
+}
+
+/// The place of the operand that is left, where it is the only one, or one of two and what is known of one of them,
+/// or that both are the same value, tells it. Asks that the operation stands (`is_live` tests it). Cost: constant.
 pub fn told_place(
     identity: Identity,
     op: Ptr<Operation>,
@@ -130,11 +164,9 @@ pub fn told_place(
     requires { IsLive ctx.now.tree op }
     ensures { result ≡ place_told identity operand_attrs.now (operands_of ctx.now.tree op) }
 {
-    let [a, b] = operand_attrs else {
-        return None;
-    };
-    let second_neutral = is_known_as(identity.neutral, b);
-    let first_neutral = identity.either_side && is_known_as(identity.neutral, a);
-    let equal = identity.idempotent && has_same_operands(op, ctx);
-    place_by(second_neutral, first_neutral, equal)
+    match operand_attrs {
+        [_] => place_of_one(identity.only),
+        [a, b] => told_of_two(identity, a, b, has_same_operands(op, ctx)),
+        _ => None,
+    }
 }

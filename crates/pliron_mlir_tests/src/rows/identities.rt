@@ -212,4 +212,15 @@ llvm.intr.umax - i64 x x => 0
 llvm.intr.smax - i2 x x => 0
 llvm.intr.smax - i8 x x => 0
 llvm.intr.smax - i64 x x => 0
+llvm.bitcast - i1 i1 x => 0
+llvm.bitcast - i2 i2 x => 0
+llvm.bitcast - i8 i8 x => 0
+llvm.bitcast - i32 i32 x => 0
+llvm.bitcast - i64 i64 x => 0
+llvm.zext - i8 i16 x => none
+llvm.sext - i8 i16 x => none
+llvm.zext - i1 i64 x => none
+llvm.sext - i1 i64 x => none
+llvm.trunc - i16 i8 x => none
+llvm.trunc - i64 i1 x => none
 ";
