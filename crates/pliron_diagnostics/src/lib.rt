@@ -7,12 +7,14 @@ mod comments;
 mod fault;
 mod fault_label;
 mod isolated;
+mod kind_words;
 mod layout;
 mod message_form;
 mod operation_ranges;
 mod run_report;
 mod source_mark;
 mod streamed_run;
+mod text_tokens;
 mod trap_reason;
 
 pub use comments::{blank_comments, without_mark};
