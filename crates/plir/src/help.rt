@@ -24,8 +24,8 @@ fn leading_blanks(line: &str) -> usize {
         .saturating_sub(line.trim_start_matches(' ').len())
 }
 
-/// At which column the lines go on that a long line is broken into: that of what is said of an option, behind at least two
-/// blanks, or that of the line itself.
+/// At which column the lines go on that a long line is broken into: that of what is said of an option, behind at least
+/// two blanks, or that of the line itself.
 fn indent_of(line: &str) -> usize {
     let start = leading_blanks(line);
     let words = line.trim_start_matches(' ');

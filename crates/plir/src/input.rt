@@ -41,8 +41,8 @@ pub fn read_graph_input(rt: &HostRuntime, name: &str) -> io::Result<Input> {
     })
 }
 
-/// The bytes without the one that some editors put before each end of a line. Errors: allocation failure. Cost: linear in
-/// them.
+/// The bytes without the one that some editors put before each end of a line. Errors: allocation failure. Cost: linear
+/// in them.
 fn without_returns(alloc: Global, bytes: &[u8]) -> Result<Vec<u8>, AllocError> {
     let mut text = Vec::with_capacity(alloc, bytes.len())?;
     for at in 0..bytes.len() {
@@ -54,8 +54,8 @@ fn without_returns(alloc: Global, bytes: &[u8]) -> Result<Vec<u8>, AllocError> {
     Ok(text)
 }
 
-/// The text that stands in the file, or the operation in it that the path leads to, where one is given; `None` where the
-/// path leads nowhere. Errors: those of the file; allocation failure. Cost: linear in it.
+/// The text that stands in the file, or the operation in it that the path leads to, where one is given; `None` where
+/// the path leads nowhere. Errors: those of the file; allocation failure. Cost: linear in it.
 pub fn read_input(rt: &HostRuntime, name: &str, path: Option<&str>) -> io::Result<Option<Input>> {
     let alloc = rt.alloc();
     let bytes = bytes_of(rt, name)?;

@@ -154,8 +154,8 @@ fn stages(
     }
 }
 
-/// The outcome with what is told of the passes one by one before the rest, and an answer that keeps the names of the text
-/// where that is asked for.
+/// The outcome with what is told of the passes one by one before the rest, and an answer that keeps the names of the
+/// text where that is asked for.
 fn join_stages(
     alloc: Global,
     whole: Outcome,
@@ -207,7 +207,8 @@ fn pipeline_of(alloc: Global, matches: &ArgMatches, word: &str) -> io::Result<St
 /// Runs the passes that the words ask for on the input, and answers the text that they leave; of one operation inside a
 /// text, that text with what they leave in its place.
 ///
-/// Errors: allocation failure. Cost: that of `opt_with_check`, and where names are kept or trees told that of `run_stages`.
+/// Errors: allocation failure. Cost: that of `opt_with_check`, and where names are kept or trees told that of
+/// `run_stages`.
 pub fn opt_as_asked(
     rt: &HostRuntime,
     source: &Source,

@@ -11,8 +11,8 @@ pub fn write_answer(rt: &HostRuntime, answer: &[u8]) -> io::Result<()> {
     }
 }
 
-/// Writes lines to standard output at once. Errors: those of the stream, also where nobody reads it any more. Cost: linear
-/// in them.
+/// Writes lines to standard output at once. Errors: those of the stream, also where nobody reads it any more. Cost:
+/// linear in them.
 pub fn write_lines(rt: &HostRuntime, lines: &[u8]) -> io::Result<()> {
     let mut output = rt.stdout();
     output.write_all(lines)?;

@@ -1,4 +1,5 @@
-//! The names of values and blocks while passes work: those of the text that was read, and fresh ones for what passes make.
+//! The names of values and blocks while passes work: those of the text that was read, and fresh ones for what passes
+//! make.
 use crate::definition_order::DefinitionOrder;
 use pliron_core::{BasicBlock, Context, Operation, Ptr, Value};
 use pliron_graphviz::TextParts;

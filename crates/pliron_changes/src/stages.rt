@@ -324,11 +324,11 @@ fn run_stages_in(
     }
 }
 
-/// Runs the passes of the plan one by one on the operation of the text, and tells the trees before and after runs and the
-/// lines that each run changed; `None` of an unreadable text. Where a pass is refused, what was told before stays.
+/// Runs the passes of the plan one by one on the operation of the text, and tells the trees before and after runs and
+/// the lines that each run changed; `None` of an unreadable text. Where a pass is refused, what was told before stays.
 ///
-/// Errors: allocation failure. Cost: reading, the passes, for each run that is told or named a step for all that stands,
-/// and what `changed_lines` costs.
+/// Errors: allocation failure. Cost: reading, the passes, for each run that is told or named a step for all that
+/// stands, and what `changed_lines` costs.
 pub fn run_stages(
     alloc: Global,
     text: &[u8],

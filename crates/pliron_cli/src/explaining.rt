@@ -89,8 +89,8 @@ pub struct ExplainOptions<'w> {
 }
 
 /// Tells what changed in a text: for each operation and argument that changed or went when the passes were run that the
-/// word asks for, where it stands, and why; where the options ask for it, also for each operation that the passes left as
-/// it is though they change its like.
+/// word asks for, where it stands, and why; where the options ask for it, also for each operation that the passes left
+/// as it is though they change its like.
 ///
 /// Statuses: 0; 1 where memory or the passes were refused; 2 for an unreadable text, or a word that asks for no passes.
 /// With 1 and 2 nothing is to be written to the output. Errors: allocation failure for what is told. Cost: that of

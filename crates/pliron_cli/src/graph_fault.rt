@@ -145,8 +145,8 @@ fn find_fault(alloc: Global, text: &[u8]) -> Result<Option<GraphFault>, AllocErr
     numerals.first_misfit(alloc)
 }
 
-/// What is told of a text that is that of no graph: the first place at which it isn't, and what was to stand there. Errors:
-/// allocation failure. Cost: linear in the text.
+/// What is told of a text that is that of no graph: the first place at which it isn't, and what was to stand there.
+/// Errors: allocation failure. Cost: linear in the text.
 pub fn graph_fault_message(alloc: Global, source: &Source) -> Result<String, AllocError> {
     let Some(fault) = find_fault(alloc, source.text)? else {
         return format!(in alloc; "error: unreadable graph\n");

@@ -59,8 +59,8 @@ pub fn run(alloc: Global, source: &Source, options: &RunOptions) -> Result<Outco
 
 /// The same, but that the sink is told of the effects as they come, so that the output has the others alone.
 ///
-/// Statuses: those of `run`. Errors: allocation failure for what is told. Cost: that of `run` for a third more moves than
-/// the run makes.
+/// Statuses: those of `run`. Errors: allocation failure for what is told. Cost: that of `run` for a third more moves
+/// than the run makes.
 pub fn run_streamed<S: EffectSink>(
     alloc: Global,
     source: &Source,

@@ -79,7 +79,8 @@ impl Unchecked {
     }
 }
 
-/// How bad it is that the text isn't fit to run; where each run is verified it is told that it was so before the first one.
+/// How bad it is that the text isn't fit to run; where each run is verified it is told that it was so before the first
+/// one.
 fn severity_of(verifies: bool) -> &'static str {
     if verifies {
         "warning: already in the input"

@@ -1,6 +1,10 @@
 -- Comments of texts, which stand from `//` to the end of the line.
 use Rattle.std.specs.Prelude.{◌≡◌, ◌==◌, ◌&&◌, ◌||◌, ℕ, Bool, true, false, List, [], ◌∷◌, not, if◌then◌else◌}
 
+-- what some editors put before a text, in UTF-8
+abbrev pub byte_order_mark : List ℕ
+byte_order_mark = 239 ∷ 187 ∷ 191 ∷ []
+
 abbrev pub begins_with_slash : List ℕ → Bool
 begins_with_slash [] = false
 begins_with_slash (byte ∷ rest) = byte == 47

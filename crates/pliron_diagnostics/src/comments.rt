@@ -1,16 +1,18 @@
 //! Texts as people write them: with comments, and with the mark that some editors put first.
-ghost use Rattle.std.specs.Prelude.{◌≡◌, IfOk, if◌then◌else◌};
-ghost use Rattle.pliron_diagnostics.specs.Comments.{is_comment as in_comment, without_comments};
+ghost use Rattle.std.specs.Prelude.{◌≡◌, ◌≢◌, ◌++◌, ℕ, List, IfOk, if◌then◌else◌};
+ghost use Rattle.pliron_diagnostics.specs.Comments.{byte_order_mark, is_comment as in_comment, without_comments};
 
 use std::alloc::{AllocError, Global};
 
-/// What some editors put before a text: the byte order mark, in UTF-8.
-const BYTE_ORDER_MARK: [u8; 3] = [0xef, 0xbb, 0xbf];
-
-/// The text behind its byte order mark, if it begins with one. Cost: constant.
-pub fn without_mark(text: &[u8]) -> &[u8] {
-    text.strip_prefix(BYTE_ORDER_MARK.as_slice())
-        .unwrap_or(text)
+/// The text behind the byte order mark that some editors put first, if it begins with one. Cost: constant.
+pub fn without_mark(text: &[u8]) -> &[u8]
+    ensures marked { (rest : List ℕ) → text.now ≡ byte_order_mark ++ rest → result.now ≡ rest }
+    ensures unmarked { ((rest : List ℕ) → text.now ≢ byte_order_mark ++ rest) → result.now ≡ text.now }
+{
+    match text {
+        [0xef, 0xbb, 0xbf, rest @ ..] => rest,
+        _ => text,
+    }
 }
 
 /// Whether the byte before this rest belongs to a comment, where the byte before it did or not.

@@ -1,7 +1,10 @@
 //! What is told of texts, in the form that people read or in one that editors and programs do.
 //!
-//! A report tells each thing in the form of `mark_source`: a line with `error:`, `warning:` or `note:` and what is wrong, one with
-//! `-->` and its place, its line with a mark and a label under it, and lines with `help:`.
+//! A report tells each thing in the form of `mark_source`: a line with `error:`, `warning:` or `note:` and what is
+//! wrong, one with `-->` and its place, its line with a mark and a label under it, and lines with `help:`.
+ghost use Rattle.std.specs.Prelude.{◌≡◌, IfOk, string_bytes};
+ghost use Rattle.pliron_diagnostics.specs.declared.message_form.MessageForm.TheVariants.{Full};
+
 use std::alloc::{AllocError, Global};
 
 /// A form of reports.
@@ -171,9 +174,13 @@ fn write_open(
     }
 }
 
-/// The things of the report in the form, each on a line, and its other lines as they are; in the form for people all as it
-/// is. Errors: allocation failure. Cost: linear in the report.
-pub fn in_form(alloc: Global, report: &str, form: MessageForm) -> Result<String, AllocError> {
+/// The things of the report in the form, each on a line, and its other lines as they are; in the form for people all as
+/// it is.
+///
+/// Errors: allocation failure. Cost: linear in the report.
+pub fn in_form(alloc: Global, report: &str, form: MessageForm) -> Result<String, AllocError>
+    ensures { form ≡ Full → IfOk result (λ text. string_bytes text ≡ report.now) }
+{
     if form == MessageForm::Full {
         return String::from_str(alloc, report);
     }

@@ -259,8 +259,8 @@ fn last_move(
 }
 
 /// What is told beside what is seen: the moves that are noted, and a mark under the operation that made the last one
-/// where the run didn't end with values. Errors: allocation failure. Cost: linear in the text and the moves, and where the
-/// run trapped that of running it again.
+/// where the run didn't end with values. Errors: allocation failure. Cost: linear in the text and the moves, and where
+/// the run trapped that of running it again.
 pub(crate) fn report_of(
     alloc: Global,
     ctx: &Context,

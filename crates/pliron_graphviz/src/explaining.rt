@@ -244,8 +244,8 @@ fn explain_in(
 }
 
 /// What changed in a text: for each operation and argument that changed or went when these passes were run, a line with
-/// its place and the reason, and where the list asks for it the same for each that they left as it is though they change
-/// its like; `None` of an unreadable text.
+/// its place and the reason, and where the list asks for it the same for each that they left as it is though they
+/// change its like; `None` of an unreadable text.
 ///
 /// Each pass is made of its own calls, what stood before each is compared with what stands after it, and the reason is
 /// what that call does. Errors: allocation failure, and those of the passes. Cost: reading, and for each pass its own

@@ -87,8 +87,8 @@ struct BlockLook {
     is_entry: bool,
 }
 
-/// What is said of a node or an edge: its label, if it has one, grey where the entry doesn't lead, and two lines around the
-/// entry. Errors: allocation failure.
+/// What is said of a node or an edge: its label, if it has one, grey where the entry doesn't lead, and two lines around
+/// the entry. Errors: allocation failure.
 fn looks<'l>(
     alloc: Global,
     label: &'l str,

@@ -56,9 +56,9 @@ fn flow_in(
 }
 
 /// The picture of a region of a text's operation in the dot language: its blocks with their operations, edges with the
-/// values that they forward, and true and false on those of a two-way branch, two lines around the entry, grey where the
-/// entry doesn't lead. Where asked for, a dotted edge from the immediate dominator of each block, blocks by their heads
-/// alone, the regions inside in frames, and a title.
+/// values that they forward, and true and false on those of a two-way branch, two lines around the entry, grey where
+/// the entry doesn't lead. Where asked for, a dotted edge from the immediate dominator of each block, blocks by their
+/// heads alone, the regions inside in frames, and a title.
 ///
 /// Errors: allocation failure. Cost: reading, and that of `graph_rows`.
 pub fn text_flow(alloc: Global, text: &[u8], options: &FlowOptions) -> Result<Drawing, OptError>

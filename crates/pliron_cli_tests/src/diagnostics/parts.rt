@@ -1,5 +1,5 @@
-//! Comments, parts of texts by paths, and what is told in the forms for editors, worked by hand. `|` stands for the end of
-//! a line.
+//! Comments, parts of texts by paths, and what is told in the forms for editors, worked by hand. `|` stands for the end
+//! of a line.
 use crate::diagnostics::lines::with_lines;
 use crate::lines::in_one_line;
 use pliron_diagnostics::{
