@@ -101,6 +101,20 @@ impl DefinitionOrder {
         waiting.push_operations(&operations)
     }
 
+    /// Adds what comes next.
+    fn add_item(
+        &mut self,
+        alloc: Global,
+        ctx: &Context,
+        item: TextItem,
+        waiting: &mut Waiting,
+    ) -> Result<(), AllocError> {
+        match item {
+            TextItem::Operation(op) => self.add_operation(alloc, ctx, op, waiting),
+            TextItem::Block(block) => self.add_block(alloc, ctx, block, waiting),
+        }
+    }
+
     /// What the text of the operation defines, in order. Errors: allocation failure. Cost: linear in the operation,
     /// where none inside has more than one region.
     pub fn of(alloc: Global, root: Ptr<Operation>, ctx: &Context) -> Result<Self, AllocError> {
@@ -115,15 +129,10 @@ impl DefinitionOrder {
         waiting.items.push(TextItem::Operation(root))?;
         // No tree has as many items.
         for _ in 0..u64::MAX {
-            match waiting.items.pop() {
-                Some(TextItem::Operation(op)) => {
-                    order.add_operation(alloc, ctx, op, &mut waiting)?;
-                }
-                Some(TextItem::Block(block)) => {
-                    order.add_block(alloc, ctx, block, &mut waiting)?;
-                }
-                None => break,
-            }
+            let Some(item) = waiting.items.pop() else {
+                break;
+            };
+            order.add_item(alloc, ctx, item, &mut waiting)?;
         }
         Ok(order)
     }

@@ -341,21 +341,33 @@ impl FlowPicture<'_> {
         Ok(())
     }
 
+    /// Draws what is next, and puts what follows it on the steps, the next one last.
+    fn draw_step(
+        &mut self,
+        ctx: &Context,
+        step: PictureStep,
+        steps: &mut Vec<PictureStep>,
+    ) -> Result<(), OptError> {
+        match step {
+            PictureStep::Region(region, path) => {
+                self.draw_framed(ctx, region, path.as_str())?;
+                steps.push(PictureStep::End)?;
+                Ok(self.push_inner(steps)?)
+            }
+            PictureStep::End => Ok(self.dot.close_cluster()?),
+        }
+    }
+
     /// Draws the regions inside the one that was drawn last, each in a frame in that of the region around it.
     fn draw_inner(&mut self, ctx: &Context) -> Result<(), OptError> {
         let mut steps = Vec::new(self.alloc);
         self.push_inner(&mut steps)?;
         // No tree has as many regions.
         for _ in 0..u64::MAX {
-            match steps.pop() {
-                Some(PictureStep::Region(region, path)) => {
-                    self.draw_framed(ctx, region, path.as_str())?;
-                    steps.push(PictureStep::End)?;
-                    self.push_inner(&mut steps)?;
-                }
-                Some(PictureStep::End) => self.dot.close_cluster()?,
-                None => break,
-            }
+            let Some(step) = steps.pop() else {
+                break;
+            };
+            self.draw_step(ctx, step, &mut steps)?;
         }
         Ok(())
     }
