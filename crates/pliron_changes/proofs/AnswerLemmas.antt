@@ -1,5 +1,5 @@
 -- What is written of an answer.
-use Rattle.std.proofs.Common.{◌≡◌, ℕ, List, Bool, false, IsTrue, subst}
+use Rattle.std.proofs.Common.{◌≡◌, ℕ, List, Bool, IsTrue, subst}
 use Rattle.pliron_core.specs.Tree.{Tree}
 use Rattle.pliron_diagnostics.specs.Layout.{without_blanks}
 use Rattle.pliron_opts.specs.Answered.{Reads, Prints}
@@ -8,9 +8,6 @@ use Rattle.pliron_changes.specs.NamedAnswer.{ReadsAs, IsWritten, IsWritten.AsItI
 module _ (reads : Reads) (prints : Prints) where
   pub reads_as : (answer text printed : List ℕ) (tree : Tree) (root : ℕ) (is : Bool) → reads text tree root → prints tree root printed → printed ≡ answer → IsTrue is → ReadsAs reads prints answer text
   reads_as answer text printed tree root is read so same h = record { tree = tree; root = root; read = read; printed = subst (prints tree root) same so }
-
-  pub not_read : (answer text : List ℕ) → IsTrue false → ReadsAs reads prints answer text
-  not_read answer text is = absurd is
 
   pub as_it_is : (answer output : List ℕ) → without_blanks output ≡ without_blanks answer → IsWritten reads prints answer output
   as_it_is answer output same = AsItIs same

@@ -11,7 +11,7 @@ use pliron_opts::Notation;
 use std::alloc::{AllocError, Global};
 
 /// Whether the text is read as an operation that is printed as this answer, in this empty context.
-#[tactic(auto, using(crate::proofs::AnswerLemmas::reads_as, crate::proofs::AnswerLemmas::not_read))]
+#[tactic(auto, using(crate::proofs::AnswerLemmas::reads_as))]
 fn reads_as_in<N: Notation>(
     alloc: Global,
     text: &str,
