@@ -50,7 +50,7 @@ fn with_flags<'a>(command: Command<'a>, alloc: Global) -> Result<Command<'a>, Al
         .arg(flag(
             alloc,
             "time",
-            "Tell the time of each pass and its share, on\nstandard error",
+            "Tell how often each pass ran and its time, on\nstandard error",
         ))
 }
 
