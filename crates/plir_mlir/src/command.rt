@@ -51,6 +51,11 @@ fn with_flags<'a>(command: Command<'a>, alloc: Global) -> Result<Command<'a>, Al
             alloc,
             "time",
             "Tell how often each pass ran and its time, on\nstandard error",
+        ))?
+        .arg(flag(
+            alloc,
+            "print-after-all",
+            "Print the module after each pass, on standard\nerror: for that they run once more, one by one",
         ))
 }
 

@@ -9,7 +9,9 @@ use clap::{ArgMatches, Error};
 use command::parse_arguments;
 use pliron_instrument::{PipelineText, PlanError, Progress};
 use pliron_mlir::{AnyMeaning, Mlir};
-use pliron_mlir_opt::{ModuleOptions, Outcome, Source, misspelling_outcome, run_passes};
+use pliron_mlir_opt::{
+    ModuleOptions, Outcome, Source, misspelling_outcome, print_after_each, run_passes,
+};
 use std::alloc::Global;
 use std::env;
 use std::fs::{self, File};
@@ -78,7 +80,7 @@ fn plan_passes(alloc: Global, word: &str) -> Result<PipelineText<'_>, PlanError>
     PipelineText::read(alloc, word)
 }
 
-/// Runs the passes of the plan on the text.
+/// Runs the passes of the plan on the text, once it is told how the module stands after each, where that is asked for.
 fn run_plan(
     rt: &HostRuntime,
     matches: &ArgMatches,
@@ -86,6 +88,10 @@ fn run_plan(
     plan: &PipelineText,
 ) -> io::Result<Outcome> {
     let alloc = rt.alloc();
+    if matches.get_flag("print-after-all") {
+        let printed = print_after_each::<Mlir<AnyMeaning>>(alloc, source.text, plan)?;
+        let _ = eprint!(rt; "{printed}");
+    }
     let options = ModuleOptions {
         counts: matches.get_flag("stats"),
         verifies: matches.get_flag("verify-each"),

@@ -3,6 +3,7 @@
 //! It knows texts, passes and what is told of them; of words, files and streams it knows nothing.
 #![tactic(auto)]
 
+mod each_pass;
 mod failure;
 mod fitness;
 mod notation;
@@ -11,6 +12,7 @@ mod outcome;
 mod report;
 mod tally;
 
+pub use each_pass::print_after_each;
 pub use failure::ModuleFailure;
 pub use fitness::{Fitness, Unfit};
 pub use notation::GenericForm;
