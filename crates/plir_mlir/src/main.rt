@@ -3,15 +3,21 @@
 //! It knows words, files, streams and an exit status. What the program does with texts stands in `pliron_mlir_opt`.
 #![tactic(auto)]
 
+ghost use Rattle.std.specs.Prelude.{◌≤◌, map, IfOk};
+ghost use Rattle.pliron_opts.specs.Ran.{RunsAlone};
+ghost use Rattle.pliron_mlir_opt.specs.Outcomes.{EndsOptimised, EndsByPlan, EndsByWord};
+
 mod command;
 
 use clap::{ArgMatches, Error};
 use command::parse_arguments;
-use pliron_instrument::{PipelineText, PlanError, Progress};
+use pliron_instrument::{Instrumented, InstrumentedSchedule, PipelineText, PlanError, Progress};
 use pliron_mlir::{AnyMeaning, Mlir};
 use pliron_mlir_opt::{
-    ModuleOptions, Outcome, Source, misspelling_outcome, print_after_each, run_passes,
+    GenericForm, ModuleNotation, ModuleOptions, Outcome, Source, misspelling_outcome,
+    print_after_each, read_plan, run_passes, unusable_outcome,
 };
+use pliron_pass::{BenchFactKind, Pass};
 use std::alloc::Global;
 use std::env;
 use std::fs::{self, File};
@@ -59,38 +65,23 @@ impl Progress for Terminal<'_> {
     fn pass_ended(&self, _: usize, _: &str) {}
 }
 
-/// The outcome of an input that can't be used, with this report.
-fn input_outcome(alloc: Global, report: String) -> Outcome {
-    Outcome {
-        output: Vec::new(alloc),
-        report,
-        status: 2,
-    }
-}
-
-/// The passes that the word asks for; none for an empty word.
-fn plan_passes(alloc: Global, word: &str) -> Result<PipelineText<'_>, PlanError> {
-    if word.is_empty() {
-        return Ok(PipelineText {
-            runs: None,
-            nested: false,
-            names: Vec::new(alloc),
-        });
-    }
-    PipelineText::read(alloc, word)
-}
-
 /// Runs the passes of the plan on the text, once it is told how the module stands after each, where that is asked for.
-fn run_plan(
+fn run_plan<N: ModuleNotation>(
     rt: &HostRuntime,
     matches: &ArgMatches,
     source: &Source,
     plan: &PipelineText,
-) -> io::Result<Outcome> {
+) -> io::Result<Outcome>
+    ensures { IfOk result (EndsByPlan ⟦<Instrumented<N, Terminal> as Pass>⟧.name
+        (λ schedule. EndsOptimised N.reads N.prints N.D.meaning
+        (RunsAlone ⟦<BenchFactKind as PartialEq>⟧.eq ⟦<InstrumentedSchedule<N, Terminal> as Pass>⟧.outcome schedule)
+        source.now.text.now)
+        plan.now.runs plan.now.nested (map (λ name. name.now) plan.now.names.items)) }
+{
     let alloc = rt.alloc();
     if matches.get_flag("print-after-all") {
-        let printed = print_after_each::<Mlir<AnyMeaning>>(alloc, source.text, plan)?;
-        let _ = eprint!(rt; "{printed}");
+        let printed = print_after_each::<N>(alloc, source.text, plan)?;
+        let _ = rt.stderr().write_all(&printed);
     }
     let options = ModuleOptions {
         counts: matches.get_flag("stats"),
@@ -98,16 +89,26 @@ fn run_plan(
         times: matches.get_flag("time"),
         checks: matches.get_flag("check"),
     };
-    Ok(run_passes::<Mlir<AnyMeaning>, Terminal>(alloc, source, &options, plan, Terminal { rt })?)
+    Ok(run_passes::<N, Terminal>(alloc, source, &options, plan, Terminal { rt })?)
 }
 
-/// What becomes of the text.
-fn outcome_of(rt: &HostRuntime, matches: &ArgMatches, source: &Source) -> io::Result<Outcome> {
-    let alloc = rt.alloc();
-    let word = matches.get_str("pipeline").unwrap_or("");
-    match plan_passes(alloc, word) {
-        Ok(plan) => run_plan(rt, matches, source, &plan),
-        Err(PlanError::Word(fault)) => Ok(misspelling_outcome(alloc, word, &fault)?),
+/// Runs the passes that the word asks for on the text.
+#[tactic(auto, using(crate::proofs::WordLemmas::ends_by_word, crate::proofs::WordLemmas::ends_without_word))]
+fn run_word<N: ModuleNotation>(
+    rt: &HostRuntime,
+    matches: &ArgMatches,
+    source: &Source,
+    word: &str,
+) -> io::Result<Outcome>
+    ensures { IfOk result (EndsByWord ⟦<Instrumented<N, Terminal> as Pass>⟧.name
+        (λ schedule. EndsOptimised N.reads N.prints N.D.meaning
+        (RunsAlone ⟦<BenchFactKind as PartialEq>⟧.eq ⟦<InstrumentedSchedule<N, Terminal> as Pass>⟧.outcome schedule)
+        source.now.text.now)
+        word.now) }
+{
+    match read_plan(rt.alloc(), word) {
+        Ok(plan) => run_plan::<N>(rt, matches, source, &plan),
+        Err(PlanError::Word(fault)) => Ok(misspelling_outcome(rt.alloc(), word, &fault)?),
         Err(PlanError::Memory) => Err(io::Error::from(ErrorKind::OutOfMemory)),
     }
 }
@@ -122,16 +123,17 @@ fn outcome(rt: &HostRuntime, matches: &ArgMatches) -> io::Result<Outcome> {
         Err(error) => {
             let name = input_name(name);
             let report = format!(in alloc; "error: cannot read {name}: {error}\n")?;
-            return Ok(input_outcome(alloc, report));
+            return Ok(unusable_outcome(alloc, report));
         }
     };
     let name = input_name(name);
     if text.len() > MAX_TEXT {
         let report = format!(in alloc; "{name}: expected a text of at most 256 MiB\n")?;
-        return Ok(input_outcome(alloc, report));
+        return Ok(unusable_outcome(alloc, report));
     }
     let source = Source { name, text: &text };
-    outcome_of(rt, matches, &source)
+    let word = matches.get_str("pipeline").unwrap_or("");
+    run_word::<GenericForm<Mlir<AnyMeaning>>>(rt, matches, &source, word)
 }
 
 /// Writes what the program leaves: to the file that is named, where there is an answer, or to standard output, where a
@@ -159,7 +161,9 @@ fn act(rt: &HostRuntime, matches: &ArgMatches) -> io::Result<u8> {
 }
 
 /// Tells why there is no answer, and answers the status: 1 for want of memory.
-fn failure_status(rt: &HostRuntime, error: &io::Error) -> u8 {
+fn failure_status(rt: &HostRuntime, error: &io::Error) -> u8
+    ensures { 1 ≤ result }
+{
     if error.kind() == ErrorKind::OutOfMemory {
         let _ = eprintln!(rt; "error: refused: want of memory");
         1

@@ -9,13 +9,15 @@ mod fitness;
 mod notation;
 mod optimise_module;
 mod outcome;
+mod plans;
 mod report;
 mod tally;
 
 pub use each_pass::print_after_each;
 pub use failure::ModuleFailure;
 pub use fitness::{Fitness, Unfit};
-pub use notation::GenericForm;
+pub use notation::{GenericForm, ModuleNotation};
 pub use optimise_module::{Counts, ModuleOptions, Optimised, optimise};
-pub use outcome::{Outcome, Source, misspelling_outcome, run_passes};
+pub use outcome::{Outcome, Source, misspelling_outcome, run_passes, unusable_outcome};
+pub use plans::read_plan;
 pub use tally::Tally;
