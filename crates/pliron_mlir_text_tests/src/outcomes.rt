@@ -49,8 +49,8 @@ fn expect_outcome(
 
 /// Words and texts; then the status, what is written, and what is told.
 static OUTCOMES: &str = "\
- :: \"m\"()  : ()->() => 0 \"m\"() : () -> ()| => unchanged|
 dce :: \"m\"() ({|  %0 = \"arith.constant\"() <{value = 1 : i32}> : () -> i32|}) : () -> () => 0 \"m\"() ({|^bb0:|}) : () -> ()| => changed|
+ :: \"m\"()  : ()->() => 0 \"m\"() : () -> ()| => unchanged|
 dce :: m => 2  => t:1:1: expected the name of an operation in quotes; print with --mlir-print-op-generic|
 dce :: \"m\"() ({|  \"a\"()[^b] : () -> ()|}) : () -> () => 2  => t:2:9: expected a block of this region|
 licm :: \"m\"() : () -> () => 2  => error: no such passes|

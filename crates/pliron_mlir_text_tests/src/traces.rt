@@ -9,8 +9,8 @@ type Form = GenericForm<Mlir<AnyMeaning>>;
 
 /// Words and texts; then what is written after each pass.
 static TRACES: &str = "\
- :: \"m\"() : () -> () =>
 dce :: m =>
+ :: \"m\"() : () -> () =>
 licm,dce :: \"m\"() : () -> () => // --- run 1, after licm: unchanged|\"m\"() : () -> ()|// --- run 2, after dce: unchanged|\"m\"() : () -> ()|
 repeat:3:sccp,dce :: \"m\"() ({|  %0 = \"arith.constant\"() <{value = 1 : i32}> : () -> i32|}) : () -> () => // --- run 1, after sccp: unchanged|\"m\"() ({|  %0 = \"arith.constant\"() <{value = 1 : i32}> : () -> i32|}) : () -> ()|// --- run 2, after dce: changed|\"m\"() ({|^bb0:|}) : () -> ()|// --- run 3, after sccp: unchanged|\"m\"() ({|^bb0:|}) : () -> ()|// --- run 4, after dce: unchanged|\"m\"() ({|^bb0:|}) : () -> ()|";
 
