@@ -50,7 +50,12 @@ fn with_flags<'a>(command: Command<'a>, alloc: Global) -> Result<Command<'a>, Al
         .arg(flag(
             alloc,
             "time",
-            "Tell the time of each pass and its share, on\nstandard error",
+            "Tell how often each pass ran and its time, on\nstandard error",
+        ))?
+        .arg(flag(
+            alloc,
+            "print-after-all",
+            "Print the module after each pass, on standard\nerror: for that they run once more, one by one",
         ))
 }
 

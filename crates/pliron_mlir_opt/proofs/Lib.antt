@@ -1,1 +1,2 @@
 mod OutcomeLemmas
+mod PlanLemmas

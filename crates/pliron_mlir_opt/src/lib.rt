@@ -3,17 +3,21 @@
 //! It knows texts, passes and what is told of them; of words, files and streams it knows nothing.
 #![tactic(auto)]
 
+mod each_pass;
 mod failure;
 mod fitness;
 mod notation;
 mod optimise_module;
 mod outcome;
+mod plans;
 mod report;
 mod tally;
 
+pub use each_pass::print_after_each;
 pub use failure::ModuleFailure;
 pub use fitness::{Fitness, Unfit};
-pub use notation::GenericForm;
+pub use notation::{GenericForm, ModuleNotation};
 pub use optimise_module::{Counts, ModuleOptions, Optimised, optimise};
-pub use outcome::{Outcome, Source, misspelling_outcome, run_passes};
+pub use outcome::{Outcome, Source, misspelling_outcome, run_passes, unusable_outcome};
+pub use plans::read_plan;
 pub use tally::Tally;

@@ -5,16 +5,15 @@ ghost use Rattle.pliron_core.specs.Writes.{no_tree};
 ghost use Rattle.pliron_laws.specs.Linked.{IsWellLinked};
 ghost use Rattle.pliron_opts.specs.Answered.{IsOptimised, status_line};
 ghost use Rattle.pliron_opts.specs.Ran.{RunsAlone};
-ghost use Rattle.pliron_opts.specs.Read.{ReadsKinds, PrintsKinds};
 
 use crate::failure::ModuleFailure;
 use crate::fitness::{Fitness, fitness_of};
-use crate::notation::GenericForm;
+use crate::notation::ModuleNotation;
 use crate::tally::Tally;
 use pliron_core::{Context, IRStatus};
 use pliron_instrument::{InstrumentedSchedule, Progress, run_instrumented};
-use pliron_laws::{Dialect, OptError};
-use pliron_mlir_text::{Fault, Module, ModuleView, is_same_module, print_module, read_module};
+use pliron_laws::OptError;
+use pliron_mlir_text::{Fault, Module, ModuleView, is_same_module};
 use pliron_pass::{BenchFactKind, Pass};
 use std::alloc::{AllocError, Global};
 
@@ -52,63 +51,65 @@ pub struct ModuleOptions {
 
 /// What the passes make of the module that the text says, printed, and whether it changed.
 ///
-/// For every dialect that keeps its laws: the tree that is printed is what these passes, run once as a whole, made of
-/// the one that was read, every operation that was fit to run and still stands does as before, and `status` says truly
-/// whether it changed. Errors: the place where the text can't be used, and what was expected; those of the passes;
+/// For every notation, and each dialect that keeps its laws: the tree that is printed is what these passes, run once as
+/// a whole, made of one that was read of this text, every operation that was fit to run and still stands does as
+/// before, and `status` says truly whether it changed. Errors: the place where the text can't be used, and what was expected; those of the passes;
 /// allocation failure. Cost: reading, the passes, what is counted, and printing.
-pub fn optimise<D: Dialect, C: Progress + Drop>(
+pub fn optimise<N: ModuleNotation, C: Progress + Drop>(
     alloc: Global,
-    schedule: &mut InstrumentedSchedule<GenericForm<D>, C>,
+    schedule: &mut InstrumentedSchedule<N, C>,
     text: &[u8],
     options: &ModuleOptions,
 ) -> Result<Optimised, ModuleFailure>
-    ensures { IfOk result (λ made. IsOptimised (ReadsKinds D.meaning) PrintsKinds D.meaning
-        (RunsAlone ⟦<BenchFactKind as PartialEq>⟧.eq ⟦<InstrumentedSchedule<GenericForm<D>, C> as Pass>⟧.outcome
-        schedule.old) text.now (made.printed.items ++ status_line made.status)) }
+    ensures { IfOk result (λ made. IsOptimised N.reads N.prints N.D.meaning
+        (RunsAlone ⟦<BenchFactKind as PartialEq>⟧.eq ⟦<InstrumentedSchedule<N, C> as Pass>⟧.outcome schedule.old)
+        text.now (made.printed.items ++ status_line made.status)) }
 {
     let mut ctx = Context::new(alloc);
     optimise_in(alloc, schedule, text, options, &mut ctx)
 }
 
 /// The same in this context, which is empty.
-fn optimise_in<D: Dialect, C: Progress + Drop>(
+fn optimise_in<N: ModuleNotation, C: Progress + Drop>(
     alloc: Global,
-    schedule: &mut InstrumentedSchedule<GenericForm<D>, C>,
+    schedule: &mut InstrumentedSchedule<N, C>,
     text: &[u8],
     options: &ModuleOptions,
     ctx: &mut Context,
 ) -> Result<Optimised, ModuleFailure>
     requires { ctx.old.tree ≡ no_tree }
-    ensures { IfOk result (λ made. IsOptimised (ReadsKinds D.meaning) PrintsKinds D.meaning
-        (RunsAlone ⟦<BenchFactKind as PartialEq>⟧.eq ⟦<InstrumentedSchedule<GenericForm<D>, C> as Pass>⟧.outcome
-        schedule.old) text.now (made.printed.items ++ status_line made.status)) }
+    ensures { IfOk result (λ made. IsOptimised N.reads N.prints N.D.meaning
+        (RunsAlone ⟦<BenchFactKind as PartialEq>⟧.eq ⟦<InstrumentedSchedule<N, C> as Pass>⟧.outcome schedule.old)
+        text.now (made.printed.items ++ status_line made.status)) }
 {
-    match read_module::<D>(alloc, text, ctx) {
+    match N::read_module(alloc, text, ctx) {
         Ok(module) => optimise_module(alloc, schedule, text, &module, options, ctx),
         Err(fault) => Err(ModuleFailure::from(fault)),
     }
 }
 
 /// Whether this text says the module as it stands.
-fn reads_as<D: Dialect>(
+fn reads_as<N: ModuleNotation>(
     alloc: Global,
     text: &[u8],
     loaded: &Module,
     ctx: &Context,
 ) -> Result<bool, AllocError> {
     let mut again = Context::new(alloc);
-    reads_as_in::<D>(alloc, text, loaded, ctx, &mut again)
+    reads_as_in::<N>(alloc, text, loaded, ctx, &mut again)
 }
 
 /// The same, by reading it into another context.
-fn reads_as_in<D: Dialect>(
+fn reads_as_in<N: ModuleNotation>(
     alloc: Global,
     text: &[u8],
     loaded: &Module,
     ctx: &Context,
     again: &mut Context,
-) -> Result<bool, AllocError> {
-    let read = read_module::<D>(alloc, text, again);
+) -> Result<bool, AllocError>
+    requires { again.old.tree ≡ no_tree }
+{
+    let read = N::read_module(alloc, text, again);
     match &read {
         Ok(second) => is_same_module(alloc, &view_of(loaded, ctx), &view_of(second, again)),
         Err(Fault::NoMemory) => Err(AllocError),
@@ -125,7 +126,7 @@ fn view_of<'m>(loaded: &'m Module, ctx: &'m Context) -> ModuleView<'m> {
 }
 
 /// Whether this text says the module as it stands, where that is asked for.
-fn agreement<D: Dialect>(
+fn agreement<N: ModuleNotation>(
     alloc: Global,
     text: &[u8],
     loaded: &Module,
@@ -133,7 +134,7 @@ fn agreement<D: Dialect>(
     ctx: &Context,
 ) -> Result<Option<bool>, AllocError> {
     if options.checks {
-        Ok(Some(reads_as::<D>(alloc, text, loaded, ctx)?))
+        Ok(Some(reads_as::<N>(alloc, text, loaded, ctx)?))
     } else {
         Ok(None)
     }
@@ -162,7 +163,7 @@ struct Answer {
 }
 
 /// The module printed, and what is asked for beside it.
-fn answer_of<D: Dialect>(
+fn answer_of<N: ModuleNotation>(
     alloc: Global,
     loaded: &Module,
     before: Option<(Tally, Fitness)>,
@@ -170,9 +171,10 @@ fn answer_of<D: Dialect>(
     ctx: &Context,
 ) -> Result<Answer, ModuleFailure>
     requires { IsLive ctx.now.tree loaded.now.root }
+    ensures { IfOk result (λ answer. N.prints ctx.now.tree loaded.now.root answer.printed.items) }
 {
-    let printed = print_module(alloc, loaded.root, &loaded.sheet, ctx)?;
-    let agrees = agreement::<D>(alloc, &printed, loaded, options, ctx)?;
+    let printed = N::print_module(alloc, loaded, ctx)?;
+    let agrees = agreement::<N>(alloc, &printed, loaded, options, ctx)?;
     Ok(Answer {
         printed,
         agrees,
@@ -181,7 +183,7 @@ fn answer_of<D: Dialect>(
 }
 
 /// How much of each class stands, and which functions are fit to run, where that is asked for.
-fn counts_before<D: Dialect>(
+fn counts_before<N: ModuleNotation>(
     alloc: Global,
     loaded: &Module,
     options: &ModuleOptions,
@@ -192,32 +194,33 @@ fn counts_before<D: Dialect>(
     if !options.counts {
         return Ok(None);
     }
-    let fitness = fitness_of::<D>(alloc, loaded, ctx)?;
+    let fitness = fitness_of::<N::D>(alloc, loaded, ctx)?;
     Ok(Some((Tally::of(loaded.root, ctx), fitness)))
 }
 
 /// The same of a module that was read from the text, of which only the contract speaks.
-fn optimise_module<D: Dialect, C: Progress + Drop>(
+fn optimise_module<N: ModuleNotation, C: Progress + Drop>(
     alloc: Global,
-    schedule: &mut InstrumentedSchedule<GenericForm<D>, C>,
+    schedule: &mut InstrumentedSchedule<N, C>,
     text: &[u8],
     loaded: &Module,
     options: &ModuleOptions,
     ctx: &mut Context,
 ) -> Result<Optimised, ModuleFailure>
     requires live { IsLive ctx.old.tree loaded.now.root }
-    requires linked { IsWellLinked D.meaning ctx.old.tree loaded.now.root }
-    ensures { IfOk result (λ made. IsOptimised (ReadsKinds D.meaning) PrintsKinds D.meaning
-        (RunsAlone ⟦<BenchFactKind as PartialEq>⟧.eq ⟦<InstrumentedSchedule<GenericForm<D>, C> as Pass>⟧.outcome
-        schedule.old) text.now (made.printed.items ++ status_line made.status)) }
+    requires linked { IsWellLinked N.D.meaning ctx.old.tree loaded.now.root }
+    requires reads { N.reads text.now ctx.old.tree loaded.now.root }
+    ensures { IfOk result (λ made. IsOptimised N.reads N.prints N.D.meaning
+        (RunsAlone ⟦<BenchFactKind as PartialEq>⟧.eq ⟦<InstrumentedSchedule<N, C> as Pass>⟧.outcome schedule.old)
+        text.now (made.printed.items ++ status_line made.status)) }
 {
-    let before = counts_before::<D>(alloc, loaded, options, ctx)?;
+    let before = counts_before::<N>(alloc, loaded, options, ctx)?;
     let status = run_instrumented(alloc, schedule, loaded.root, ctx)?;
     let Answer {
         printed,
         agrees,
         counts,
-    } = answer_of::<D>(alloc, loaded, before, options, ctx)?;
+    } = answer_of::<N>(alloc, loaded, before, options, ctx)?;
     Ok(Optimised {
         printed,
         status,

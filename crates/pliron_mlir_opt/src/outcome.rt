@@ -1,12 +1,11 @@
 //! How a run of the program ends.
 ghost use Rattle.std.specs.Prelude.{◌≡◌, map, IfOk};
 ghost use Rattle.pliron_opts.specs.Ran.{RunsAlone};
-ghost use Rattle.pliron_opts.specs.Read.{ReadsKinds, PrintsKinds};
 ghost use Rattle.pliron_mlir_opt.specs.Outcomes.{EndsWithout, Writes, EndsOptimised, EndsByPlan};
 
 use crate::failure::ModuleFailure;
 use crate::fitness::write_fitness;
-use crate::notation::GenericForm;
+use crate::notation::ModuleNotation;
 use crate::optimise_module::{ModuleOptions, Optimised, optimise};
 use crate::report::{has_fault, is_short, report_of};
 use crate::tally::write_tallies;
@@ -15,7 +14,7 @@ use pliron_instrument::{
     InstrumentationOptions, Instrumented, InstrumentedSchedule, PipelineText, Progress, WordFault,
     build_schedule, instrumented_passes,
 };
-use pliron_laws::{Dialect, OptError};
+use pliron_laws::OptError;
 use pliron_pass::{BenchFactKind, Pass};
 use std::alloc::{AllocError, Global};
 
@@ -34,6 +33,17 @@ pub struct Outcome {
 pub struct Source<'s> {
     pub name: &'s str,
     pub text: &'s [u8],
+}
+
+/// The outcome of words or an input that can't be used, with this report: nothing is to be written. Cost: constant.
+pub fn unusable_outcome(alloc: Global, report: String) -> Outcome
+    ensures { EndsWithout result }
+{
+    Outcome {
+        output: Vec::new(alloc),
+        report,
+        status: 2,
+    }
 }
 
 // The outcome where the module isn't answered.
@@ -99,17 +109,17 @@ fn success_outcome(
 
 // Runs these passes on the module that the text says.
 #[tactic(auto, using(crate::proofs::OutcomeLemmas::ends_made, crate::proofs::OutcomeLemmas::ends_without))]
-fn run_schedule<D: Dialect, C: Progress + Copy + Drop>(
+fn run_schedule<N: ModuleNotation, C: Progress + Copy + Drop>(
     alloc: Global,
     source: &Source,
     options: &ModuleOptions,
-    schedule: &mut InstrumentedSchedule<GenericForm<D>, C>,
+    schedule: &mut InstrumentedSchedule<N, C>,
 ) -> Result<Outcome, AllocError>
-    ensures { IfOk result (EndsOptimised (ReadsKinds D.meaning) PrintsKinds D.meaning
-        (RunsAlone ⟦<BenchFactKind as PartialEq>⟧.eq ⟦<InstrumentedSchedule<GenericForm<D>, C> as Pass>⟧.outcome
+    ensures { IfOk result (EndsOptimised N.reads N.prints N.D.meaning
+        (RunsAlone ⟦<BenchFactKind as PartialEq>⟧.eq ⟦<InstrumentedSchedule<N, C> as Pass>⟧.outcome
         schedule.old) source.now.text.now) }
 {
-    let made = optimise::<D, C>(alloc, schedule, source.text, options);
+    let made = optimise::<N, C>(alloc, schedule, source.text, options);
     let passes = instrumented_passes(schedule);
     let report = report_of(alloc, passes, options)?;
     match made {
@@ -132,16 +142,16 @@ fn run_schedule<D: Dialect, C: Progress + Copy + Drop>(
 /// reading again found a fault. With all but 0 nothing is to be written to the output. Errors: allocation failure for
 /// what is told. Cost: reading, the passes, what is counted, and printing.
 #[tactic(auto, using(crate::proofs::OutcomeLemmas::ends_planned, crate::proofs::OutcomeLemmas::ends_unplanned))]
-pub fn run_passes<D: Dialect, C: Progress + Copy + Drop>(
+pub fn run_passes<N: ModuleNotation, C: Progress + Copy + Drop>(
     alloc: Global,
     source: &Source,
     options: &ModuleOptions,
     plan: &PipelineText,
     clock: C,
 ) -> Result<Outcome, AllocError>
-    ensures { IfOk result (EndsByPlan ⟦<Instrumented<GenericForm<D>, C> as Pass>⟧.name
-        (λ schedule. EndsOptimised (ReadsKinds D.meaning) PrintsKinds D.meaning
-        (RunsAlone ⟦<BenchFactKind as PartialEq>⟧.eq ⟦<InstrumentedSchedule<GenericForm<D>, C> as Pass>⟧.outcome
+    ensures { IfOk result (EndsByPlan ⟦<Instrumented<N, C> as Pass>⟧.name
+        (λ schedule. EndsOptimised N.reads N.prints N.D.meaning
+        (RunsAlone ⟦<BenchFactKind as PartialEq>⟧.eq ⟦<InstrumentedSchedule<N, C> as Pass>⟧.outcome
         schedule) source.now.text.now) plan.now.runs plan.now.nested (map (λ name. name.now) plan.now.names.items)) }
 {
     let watch = InstrumentationOptions {
@@ -150,13 +160,12 @@ pub fn run_passes<D: Dialect, C: Progress + Copy + Drop>(
         prints_all: false,
         prints: &[],
     };
-    match build_schedule::<GenericForm<D>, C>(alloc, plan, &watch, clock)? {
+    match build_schedule::<N, C>(alloc, plan, &watch, clock)? {
         Some(mut schedule) => run_schedule(alloc, source, options, &mut schedule),
-        None => Ok(Outcome {
-            output: Vec::new(alloc),
-            report: String::from_str(alloc, "error: no such passes\n")?,
-            status: 2,
-        }),
+        None => {
+            let report = String::from_str(alloc, "error: no such passes\n")?;
+            Ok(unusable_outcome(alloc, report))
+        }
     }
 }
 
@@ -170,11 +179,8 @@ pub fn misspelling_outcome(
     ensures { IfOk result EndsWithout }
 {
     let (column, expected) = (fault.start.saturating_add(1), fault.expected);
-    Ok(Outcome {
-        output: Vec::new(alloc),
-        report: format!(in alloc;
-            "error: no such passes: {word}: at byte {column}: expected {expected}\n"
-        )?,
-        status: 2,
-    })
+    let report = format!(in alloc;
+        "error: no such passes: {word}: at byte {column}: expected {expected}\n"
+    )?;
+    Ok(unusable_outcome(alloc, report))
 }

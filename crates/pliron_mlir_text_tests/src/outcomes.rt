@@ -1,0 +1,92 @@
+//! How runs of the program end. `|` stands for the end of a line.
+use crate::lines::{in_one_line, with_lines};
+use pliron_instrument::{PlanError, Timeless};
+use pliron_mlir::{AnyMeaning, Mlir};
+use pliron_mlir_opt::{
+    GenericForm, ModuleOptions, Outcome, Source, misspelling_outcome, read_plan, run_passes,
+};
+use std::alloc::Global;
+use std::process::Abort;
+
+type Form = GenericForm<Mlir<AnyMeaning>>;
+
+/// What becomes of a text that is called `t`.
+fn outcome_of(
+    rt: &impl Abort,
+    alloc: Global,
+    word: &str,
+    text: &[u8],
+    options: &ModuleOptions,
+) -> Outcome {
+    let source = Source { name: "t", text };
+    match read_plan(alloc, word) {
+        Ok(plan) => {
+            let outcome = run_passes::<Form, Timeless>(alloc, &source, options, &plan, Timeless);
+            outcome.expect(rt, "memory")
+        }
+        Err(PlanError::Word(fault)) => {
+            misspelling_outcome(alloc, word, &fault).expect(rt, "memory")
+        }
+        Err(PlanError::Memory) => panic!(rt; "memory"),
+    }
+}
+
+/// The words and the text end with this status, output and report.
+fn expect_outcome(
+    rt: &impl Abort,
+    alloc: Global,
+    (word, text): (&str, &str),
+    wanted: &str,
+    options: &ModuleOptions,
+) {
+    let lines = with_lines(alloc, text).expect(rt, "memory");
+    let outcome = outcome_of(rt, alloc, word, lines.as_bytes(), options);
+    let output = in_one_line(alloc, &outcome.output).expect(rt, "memory");
+    let report = in_one_line(alloc, outcome.report.as_bytes()).expect(rt, "memory");
+    let told = format!(in alloc; "{} {output} => {report}", outcome.status).expect(rt, "memory");
+    assert!(rt; told.as_str() == wanted, "{told}");
+}
+
+/// Words and texts; then the status, what is written, and what is told.
+static OUTCOMES: &str = "\
+dce :: \"m\"() ({|  %0 = \"arith.constant\"() <{value = 1 : i32}> : () -> i32|}) : () -> () => 0 \"m\"() ({|^bb0:|}) : () -> ()| => changed|
+ :: \"m\"()  : ()->() => 0 \"m\"() : () -> ()| => unchanged|
+dce :: m => 2  => t:1:1: expected the name of an operation in quotes; print with --mlir-print-op-generic|
+dce :: \"m\"() ({|  \"a\"()[^b] : () -> ()|}) : () -> () => 2  => t:2:9: expected a block of this region|
+dce,licm :: \"m\"() : () -> () => 2  => error: no such passes: dce,licm: at byte 5: expected `sccp`, `dce`, `simplify-cfg` or `cse`|
+repeat:65:dce :: \"m\"() : () -> () => 2  => error: no such passes: repeat:65:dce: at byte 8: expected a number from 1 to 64|
+simplify-cfg :: \"m\"() ({|  \"func.func\"() <{sym_name = \"f\"}> ({|    \"func.return\"(%0) : (i32) -> ()|  ^b:|    %0 = \"arith.constant\"() <{value = 1 : i32}> : () -> i32|    \"cf.br\"()[^b] : () -> ()|  }) : () -> ()|}) : () -> () => 1  => error: refused: a value of an unreachable block is used|";
+
+static NOTHING: ModuleOptions = ModuleOptions {
+    counts: false,
+    verifies: false,
+    times: false,
+    checks: false,
+};
+
+#[test]
+fn ends(rt: HostRuntime) {
+    for case in OUTCOMES.lines() {
+        let (word, rest) = case.split_once(" :: ").expect(&rt, "a word");
+        let (text, wanted) = rest.split_once(" => ").expect(&rt, "an outcome");
+        expect_outcome(&rt, rt.alloc(), (word, text), wanted, &NOTHING);
+    }
+}
+
+/// A function that adds one and two, whose sum `sccp` knows and `dce` leaves alone.
+static SUM: &str = "\
+\"builtin.module\"() ({|  \"func.func\"() <{sym_name = \"f\"}> ({|    %0 = \"arith.constant\"() <{value = 1 : i32}> : () -> i32|    %1 = \"arith.constant\"() <{value = 2 : i32}> : () -> i32|    %2 = \"arith.addi\"(%0, %1) <{overflowFlags = #arith.overflow<none>}> : (i32, i32) -> i32|    \"func.return\"(%2) : (i32) -> ()|  }) : () -> ()|}) : () -> ()";
+
+static TOLD: &str = "\
+0 \"builtin.module\"() ({|  \"func.func\"() <{sym_name = \"f\"}> ({|    %3 = \"arith.constant\"() <{value = 3 : i32}> : () -> i32|    \"func.return\"(%3) : (i32) -> ()|  }) : () -> ()|}) : () -> ()| => verified after each of 2 runs of passes: 2 without a fault|round pass                  operations   blocks arguments    edges|    1 sccp           before          6        2         0        0|      sccp           after           7        2         0        0|      made 1 operations, erased 0, 0 blocks, 0 arguments|    1 dce            before          7        2         0        0|      dce            after           4        2         0        0|      made 0 operations, erased 3, 0 blocks, 0 arguments|class            before      after|constants             2          1|folding               1          0|opaque                0          0|effects               0          0|terminators           1          1|functions             1          1|regions               1          1|functions fit to run: 1, not: 0|changed|checked: what is printed says the same tree|";
+
+#[test]
+fn tells_what_passes_did(rt: HostRuntime) {
+    let options = ModuleOptions {
+        counts: true,
+        verifies: true,
+        times: false,
+        checks: true,
+    };
+    expect_outcome(&rt, rt.alloc(), ("sccp,dce", SUM), TOLD, &options);
+}
