@@ -1,0 +1,4 @@
+mod Counting
+mod Moving
+mod Doing
+mod Putting
