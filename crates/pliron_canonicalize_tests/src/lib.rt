@@ -4,6 +4,8 @@
 #[cfg(test)]
 mod cases;
 #[cfg(test)]
+mod identities;
+#[cfg(test)]
 mod random;
 #[cfg(test)]
 mod runs;

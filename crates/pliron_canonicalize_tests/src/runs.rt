@@ -1,6 +1,6 @@
 //! Runs of texts before and after `canonicalize`, compared by the evaluator.
+use super::identities::Identities;
 use super::random::RANDOM;
-use pliron_bench::Bench;
 use pliron_canonicalize::canonicalize;
 use pliron_core::Context;
 use pliron_test_cases::cases::read;
@@ -13,7 +13,10 @@ const ENOUGH: usize = 60;
 fn compare_in(rt: &impl Abort, alloc: Global, ctx: &mut Context, text: &str) {
     let root = read(alloc, ctx, text).expect(rt, "a text");
     let before = sights(alloc, ctx, root, ENOUGH).expect(rt, "memory");
-    assert!(rt; canonicalize::<Bench>(alloc, root, ctx).is_ok(), "{text}");
+    assert!(rt;
+        canonicalize::<Identities>(alloc, root, ctx).is_ok(),
+        "{text}"
+    );
     let after = sights(alloc, ctx, root, ENOUGH).expect(rt, "memory");
     assert!(rt; are_kept(&before, &after), "{text}");
 }

@@ -4,8 +4,8 @@ ghost use Rattle.pliron_core.specs.Tree.{IsLive};
 ghost use Rattle.pliron_laws.specs.Linked.{IsWellLinked};
 
 use super::cases::ROWS;
+use super::identities::Identities;
 use super::random::RANDOM;
-use pliron_bench::Bench;
 use pliron_canonicalize::{canonicalize, canonicalize_through};
 use pliron_core::{Context, IRStatus, Operation, Ptr};
 use pliron_notation::{print_text, read_text};
@@ -15,8 +15,8 @@ use std::alloc::Global;
 use std::process::Abort;
 use std::test::Fail;
 
-// What is printed of the operation, after `canonicalize` on the root answered this and asked for room before each change, and a
-// second call answered `Unchanged`.
+// What is printed of the operation, after `canonicalize` on the root answered this and asked for room before each
+// change, and a second call answered `Unchanged`.
 fn left_of(
     rt: &impl Abort,
     alloc: Global,
@@ -29,10 +29,10 @@ fn left_of(
     requires linked { IsWellLinked bench ctx.old.tree root }
 {
     let mut rewriter = Counting::new();
-    let first = canonicalize_through::<Bench, Counting>(alloc, root, ctx, &mut rewriter)?;
+    let first = canonicalize_through::<Identities, Counting>(alloc, root, ctx, &mut rewriter)?;
     assert!(rt; first == expected);
     assert!(rt; rewriter.had_room());
-    let again = canonicalize::<Bench>(alloc, root, ctx)?;
+    let again = canonicalize::<Identities>(alloc, root, ctx)?;
     assert!(rt; again == IRStatus::Unchanged);
     if !whole.is_live(ctx) {
         return Err(Fail::from("gone"));
@@ -120,7 +120,7 @@ fn left_around(
 // Only what is inside the root folds.
 fn nested_root(rt: &impl Abort, alloc: Global, ctx: &mut Context) -> Result<(), Fail> {
     let text =
-        "func { b0(x): z = const 0; scope { b0(): a = add x z; print a; ret }; b = add x z; ret b }";
+        "func { b0(x): z = const 0; scope { b0(): a = mul x z; print a; ret }; b = mul x z; ret b }";
     let Some(whole) = read_text(alloc, text.as_bytes(), ctx)? else {
         return Err(Fail::from("unreadable"));
     };
@@ -130,7 +130,7 @@ fn nested_root(rt: &impl Abort, alloc: Global, ctx: &mut Context) -> Result<(), 
     let printed = left_around(rt, alloc, ctx, whole, root)?;
     assert_eq!(rt;
         printed.as_str(),
-        "func { b0(v0): v1 = const 0; scope { b0(): v2 = add v0 v1; print v0; ret }; v3 = add v0 v1; ret v3 }"
+        "func { b0(v0): v1 = const 0; scope { b0(): v2 = mul v0 v1; print v1; ret }; v3 = mul v0 v1; ret v3 }"
     );
     Ok(())
 }
