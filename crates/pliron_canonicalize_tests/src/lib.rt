@@ -6,6 +6,8 @@ mod cases;
 #[cfg(test)]
 mod identities;
 #[cfg(test)]
+mod passes;
+#[cfg(test)]
 mod random;
 #[cfg(test)]
 mod runs;
