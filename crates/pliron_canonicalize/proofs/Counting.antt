@@ -6,15 +6,20 @@ use Rattle.pliron_core.specs.Tree.{Tree, In, operands_of}
 use Rattle.pliron_canonicalize.specs.Counts.{count_below, is_used}
 use Rattle.pliron_canonicalize.specs.Folds.{IsUsed}
 
-told : (b : Bool) → (b ≡ true) ⊎ (b ≡ false)
-told true = inl refl
-told false = inr refl
+either_way : (b : Bool) → (b ≡ true) ⊎ (b ≡ false)
+either_way true = inl refl
+either_way false = inr refl
 
-number : (b : Bool) → (b ≡ true) → (if b then 1 else 0) ≡ 1
-number b e = ap (λ z. if z then 1 else 0) e
+abbrev one_if : Bool → ℕ
+one_if b = if b then 1 else 0
 
-no_number : (b : Bool) → (b ≡ false) → (if b then 1 else 0) ≡ 0
-no_number b e = ap (λ z. if z then 1 else 0) e
+number : (b : Bool) → (b ≡ true) → one_if b ≡ 1
+number true e = refl
+number false e = absurd (true≢false (sym e))
+
+no_number : (b : Bool) → (b ≡ false) → one_if b ≡ 0
+no_number true e = absurd (true≢false e)
+no_number false e = refl
 
 pub count_fewer : (p q : ℕ → Bool) (n : ℕ) → ((v : ℕ) → v < n → q v ≡ true → p v ≡ true) → count_below q n ≤ count_below p n
 count_fewer p q zero h = omega arith
@@ -23,11 +28,11 @@ count_fewer p q (suc n) h =
     ⊎_elim
     (λ e. let a = number (q n) e in let b = number (p n) (h n (omega arith) e) in omega (arith, a, b, rest))
     (λ e. let a = no_number (q n) e in omega (arith, a, rest))
-    (told (q n))
+    (either_way (q n))
 
 pub count_less : (p q : ℕ → Bool) (n v : ℕ) → v < n → p v ≡ true → q v ≡ false → ((x : ℕ) → x < n → q x ≡ true → p x ≡ true) → count_below q n < count_below p n
-count_less p q zero v lt yes no h = absurd (omega (arith, lt))
-count_less p q (suc n) v lt yes no h = ⊎_elim here (λ ne. there (omega (arith, lt, ne))) (cases v n)
+count_less p q zero v lt met unmet h = absurd (omega (arith, lt))
+count_less p q (suc n) v lt met unmet h = ⊎_elim here (λ ne. there (λ l. count_less p q n v l met unmet fewer) (omega (arith, lt, ne))) (cases v n)
   where
     cases : (x y : ℕ) → (x ≡ y) ⊎ (x ≢ y)
     cases x y = grind arith
@@ -38,17 +43,17 @@ count_less p q (suc n) v lt yes no h = ⊎_elim here (λ ne. there (omega (arith
     here : v ≡ n → count_below q (suc n) < count_below p (suc n)
     here e =
         let rest = count_fewer p q n fewer in
-        let a = no_number (q n) (ap q (sym e) ∙ no) in
-        let b = number (p n) (ap p (sym e) ∙ yes) in
+        let a = no_number (q n) (ap q (sym e) ∙ unmet) in
+        let b = number (p n) (ap p (sym e) ∙ met) in
         omega (arith, a, b, rest)
 
-    there : v < n → count_below q (suc n) < count_below p (suc n)
-    there l =
-        let rest = count_less p q n v l yes no fewer in
+    there : (v < n → count_below q n < count_below p n) → v < n → count_below q (suc n) < count_below p (suc n)
+    there before l =
+        let rest = before l in
         ⊎_elim
         (λ e. let a = number (q n) e in let b = number (p n) (h n (omega arith) e) in omega (arith, a, b, rest))
         (λ e. let a = no_number (q n) e in omega (arith, a, rest))
-        (told (q n))
+        (either_way (q n))
 
 or_true : (a b : Bool) → (a || b) ≡ true → (a ≡ true) ⊎ (b ≡ true)
 or_true true b e = inl refl

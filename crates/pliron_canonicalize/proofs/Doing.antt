@@ -19,7 +19,7 @@ use Rattle.pliron_laws.specs.Laws.{ForwardsOperands, GivesAtOnce}
 use Rattle.pliron_laws.specs.Linked.{IsWellLinked}
 use Rattle.pliron_theory.proofs.FollowedFacts.{constants_plain}
 use Rattle.pliron_operand_folding.specs.OperandFolding.{AnswersOperands, OperandFolds}
-use Rattle.pliron_operand_laws.proofs.Known.{folding}
+use Rattle.pliron_canonicalize.proofs.Parts.{folding}
 use Rattle.pliron_laws.proofs.LinkedLemmas.{linked_same}
 use Rattle.pliron_block_laws.proofs.RewriteLinks.{replaced_links}
 use Rattle.pliron_theory.specs.Edges.{has_entries}

@@ -1,6 +1,6 @@
 //! Sweeps over operations, each of which folds what it can.
 ghost use Rattle.std.specs.Prelude.{◌≡◌, ◌↔◌, ◌<◌, ◌≤◌, ℕ, List, Some, IsSome, IfOk, OnErr, OnOk, IsOkUnless, IsTrue, length};
-ghost use Rattle.pliron_core.specs.declared.attrs.IRStatus.TheVariants.{Unchanged as IsUnchanged};
+ghost use Rattle.pliron_core.specs.declared.attrs.IRStatus.TheVariants.{Changed as IsChanged, Unchanged as IsUnchanged};
 ghost use Rattle.pliron_core.specs.Tree.{In, IsDefined, IsLive, results_of, parent_of};
 ghost use Rattle.pliron_laws.specs.Linked.{IsWellLinked, IsAdmitted};
 ghost use Rattle.pliron_order.specs.Seen.{IsSeen};
@@ -35,6 +35,7 @@ fn uses_itself(op: Ptr<Operation>, ctx: &Context) -> bool
     requires { IsLive ctx.now.tree op }
     ensures { IsTrue result ↔ UsesItself ctx.now.tree op }
 {
+    ctx.well_formed();
     for i in 0..op.num_operand(ctx) {
         if is_result_of(op.get_operand(ctx, i), op, ctx) {
             return true;
@@ -52,6 +53,16 @@ fn may_fold(op: Ptr<Operation>, ctx: &Context) -> bool
         return false;
     }
     !uses_itself(op, ctx)
+}
+
+// Whether the status tells of a change.
+fn is_change(status: IRStatus) -> bool
+    ensures { IsTrue result ↔ (status ≡ IsChanged) }
+{
+    match status {
+        IRStatus::Changed => true,
+        IRStatus::Unchanged => false,
+    }
 }
 
 // The uses of the result with this index go to what the answer for it says, where the dialect makes that.
@@ -73,15 +84,18 @@ fn put_answer<D: OperandFoldInterface, R: Rewriter + Room>(
     ensures memory { IsOkUnless result OptError.Memory }
 {
     ctx.well_formed();
-    match answers.get(index) {
-        Some(Some(OpFoldResult::Operand(operand))) => {
+    if index >= answers.len() {
+        return Ok(IRStatus::Unchanged);
+    }
+    match &answers[index] {
+        Some(OpFoldResult::Operand(operand)) => {
             replace_result_by_operand::<D, R>(alloc, op, index, *operand, ctx, rewriter)?;
             Ok(IRStatus::Changed)
         }
-        Some(Some(OpFoldResult::Constant(attr))) => {
+        Some(OpFoldResult::Constant(attr)) => {
             replace_result_by_constant::<D, R>(alloc, op, index, attr, ctx, rewriter)
         }
-        _ => Ok(IRStatus::Unchanged),
+        None => Ok(IRStatus::Unchanged),
     }
 }
 
@@ -111,7 +125,7 @@ fn fold_result<D: OperandFoldInterface, R: Rewriter + Room>(
     }
     let answers = operand_answers::<D>(alloc, op, ctx)?;
     let status = put_answer::<D, R>(alloc, op, index, &answers, ctx, rewriter)?;
-    if status == IRStatus::Changed {
+    if is_change(status) {
         return Ok(status);
     }
     let constants = constant_answers::<D>(alloc, op, ctx)?;
@@ -141,7 +155,8 @@ fn fold_operation<D: OperandFoldInterface, R: Rewriter + Room>(
         ctx.well_formed();
         let outcome = fold_result::<D, R>(alloc, op, index, ctx, rewriter);
         ctx.well_formed();
-        status |= outcome?;
+        let folded = outcome?;
+        status |= folded;
     }
     Ok(status)
 }
@@ -166,7 +181,8 @@ fn sweep<D: OperandFoldInterface, R: Rewriter + Room>(
     ctx.well_formed();
     let mut status = IRStatus::Unchanged;
     for place in 0..ops.len() {
-        status |= fold_operation::<D, R>(alloc, root, ops[place], ctx, rewriter)?;
+        let folded = fold_operation::<D, R>(alloc, root, ops[place], ctx, rewriter)?;
+        status |= folded;
     }
     Ok(status)
 }
@@ -201,7 +217,7 @@ pub fn fold_all<D: OperandFoldInterface, R: Rewriter + Room>(
     let mut going = true;
     while going {
         let swept = sweep::<D, R>(alloc, root, ops, ctx, rewriter)?;
-        going = swept == IRStatus::Changed;
+        going = is_change(swept);
         status |= swept;
     }
     ctx.well_formed();

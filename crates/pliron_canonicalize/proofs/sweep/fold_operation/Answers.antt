@@ -4,7 +4,7 @@ use Rattle.pliron_core.proofs.HoldingLemmas.{past_live}
 use Rattle.pliron_laws.proofs.FoldLemmas.{on_err}
 use Rattle.pliron_operand_laws.specs.Answers.{Folding}
 use Rattle.pliron_operand_laws.specs.Answered.{MayFold}
-use Rattle.pliron_operand_laws.proofs.Known.{folding}
+use Rattle.pliron_canonicalize.proofs.Parts.{folding}
 use Rattle.pliron_operand_laws.proofs.Answered.{AreLawful}
 use Rattle.pliron_order.proofs.SeenLemmas.{seen_inside}
 use Rattle.pliron_canonicalize.specs.Folds.{IsFold}
@@ -73,8 +73,8 @@ loop-index-preserved g c =
     let op = c.args.op in
     let seen = h.still.seen op c.requires.seen in
     let t' = c.fold_result-outcome.new.ctx.tree in
-    let one = done_one x laws root t c.well_formed-in-loop-index.ensures.tree h.way.change.stands (h.way.links root c.requires.linked) op c.loop-index.index seen t' c.in_ok-bitor_assign.field-0 c.in_ok-bitor_assign.ensures.ok in
-    let more = done_more x root t0 t t' (λ k i. (k ≡ op) × (i < c.loop-index.index)) (λ k i. (k ≡ op) × (i ≡ c.loop-index.index)) c.loop-index.status c.in_ok-bitor_assign.field-0 h one in
+    let one = done_one x laws root t c.well_formed-in-loop-index.ensures.tree h.way.change.stands (h.way.links root c.requires.linked) op c.loop-index.index seen t' c.in_ok-folded.folded c.in_ok-folded.ensures.ok in
+    let more = done_more x root t0 t t' (λ k i. (k ≡ op) × (i < c.loop-index.index)) (λ k i. (k ≡ op) × (i ≡ c.loop-index.index)) c.loop-index.status c.in_ok-folded.folded h one in
     subst (λ z. AreDone x t0 t' root (λ k i. (k ≡ op) × (i < c.loop-index.index + 1)) z) (sym c.bitor_assign.ensures.after)
     (done_as x root t0 t' _ (λ k i. (k ≡ op) × (i < c.loop-index.index + 1)) _ (λ k i answer at fold. split i c.loop-index.index (k ≡ op) at.0 at.1) more)
 
@@ -89,8 +89,8 @@ returns-clause-ok g c =
     let seen = h.still.seen op c.requires.seen in
     done_as x root t0 t _ (λ k i. k ≡ op) c.loop-index.status (λ k i answer at fold. (at, low (results_of t0 op) i fold.has.value c.loop-index.index (subst (λ z. slice_get (results_of t0 z) i ≡ Some fold.has.value) at fold.has.listed) (omega (arith, c.loop-index-test.false, c.num_result-index-end.ensures)))) h
 
-pub returns-in_err-bitor_assign-clause-refused : goal.returns-in_err-bitor_assign-clause-refused
-returns-in_err-bitor_assign-clause-refused g c =
+pub returns-in_err-folded-clause-refused : goal.returns-in_err-folded-clause-refused
+returns-in_err-folded-clause-refused g c =
     let x : Folding = folding g.D.HasMeaning.meaning g.D.SideEffects.side_effects g.D.ConstFoldInterface.can_fold g.D.ConstFoldInterface.constants g.D.ConstFoldInterface.accepts g.D.ConstFoldInterface.constant_head g.D.OperandFoldInterface.operand_folds in
     let h = c.loop-index.invariant in
     let t0 = c.args.ctx.now.tree in
@@ -98,4 +98,4 @@ returns-in_err-bitor_assign-clause-refused g c =
     let root = c.args.root in
     let op = c.args.op in
     let seen = h.still.seen op c.requires.seen in
-    on_err _ c.from_residual.result (done_partly x root t0 t c.fold_result-outcome.new.ctx.tree _ _ h (done_undone x root t h.way.change.stands (h.way.links root c.requires.linked) c.fold_result-outcome.new.ctx.tree c.well_formed-in-loop-index.ensures.tree c.well_formed-in-loop-index-2.ensures.tree c.in_err-bitor_assign.ensures.refused))
+    on_err _ c.from_residual.result (done_partly x root t0 t c.fold_result-outcome.new.ctx.tree _ _ h (done_undone x root t h.way.change.stands (h.way.links root c.requires.linked) c.fold_result-outcome.new.ctx.tree c.well_formed-in-loop-index.ensures.tree c.well_formed-in-loop-index-2.ensures.tree c.in_err-folded.ensures.refused))

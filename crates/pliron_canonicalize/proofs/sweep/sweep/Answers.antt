@@ -4,7 +4,7 @@ use Rattle.pliron_core.proofs.HoldingLemmas.{past_live}
 use Rattle.pliron_laws.proofs.FoldLemmas.{on_err}
 use Rattle.pliron_operand_laws.specs.Answers.{Folding}
 use Rattle.pliron_operand_laws.specs.Answered.{MayFold}
-use Rattle.pliron_operand_laws.proofs.Known.{folding}
+use Rattle.pliron_canonicalize.proofs.Parts.{folding}
 use Rattle.pliron_operand_laws.proofs.Answered.{AreLawful}
 use Rattle.pliron_order.proofs.SeenLemmas.{seen_inside}
 use Rattle.pliron_canonicalize.specs.Folds.{IsFold}
@@ -30,7 +30,7 @@ fold_operation-requires-clause-seen g c =
     let t = c.loop-place.ctx.tree in
     let root = c.args.root in
     let ops = c.args.ops.now in
-    h.still.seen c.index.result.now (c.requires.listed.seen c.index.result.now (in_read ops c.loop-place.place c.index.result.now (omega arith) c.index.ensures))
+    h.still.seen c.index-ops-place.result (c.requires.listed.seen c.index-ops-place.result (in_read ops c.loop-place.place c.index-ops-place.result (omega arith) c.index-ops-place.is))
 
 pub loop-place-preserved : goal.loop-place-preserved
 loop-place-preserved g c =
@@ -41,9 +41,9 @@ loop-place-preserved g c =
     let root = c.args.root in
     let ops = c.args.ops.now in
     let t' = c.fold_operation.new.ctx.tree in
-    let more = done_more x root t0 t t' (λ k i. In k (take c.loop-place.place ops)) (λ k i. k ≡ c.index.result.now) c.loop-place.status c.in_ok-fold_operation.field-0 h c.in_ok-fold_operation.ensures.ok in
+    let more = done_more x root t0 t t' (λ k i. In k (take c.loop-place.place ops)) (λ k i. k ≡ c.index-ops-place.result) c.loop-place.status c.in_ok-folded.folded h c.in_ok-folded.ensures.ok in
     subst (λ z. AreDone x t0 t' root (λ k i. In k (take (c.loop-place.place + 1) ops)) z) (sym c.bitor_assign.ensures.after)
-    (done_as x root t0 t' _ (λ k i. In k (take (c.loop-place.place + 1) ops)) _ (λ k i answer at fold. in_more ops c.loop-place.place c.index.result.now k (read_at ops c.loop-place.place c.index.result.now (omega arith) c.index.ensures) at) more)
+    (done_as x root t0 t' _ (λ k i. In k (take (c.loop-place.place + 1) ops)) _ (λ k i answer at fold. in_more ops c.loop-place.place c.index-ops-place.result k (read_at ops c.loop-place.place c.index-ops-place.result (omega arith) c.index-ops-place.is) at) more)
 
 pub returns-clause-ok : goal.returns-clause-ok
 returns-clause-ok g c =
@@ -55,12 +55,12 @@ returns-clause-ok g c =
     let ops = c.args.ops.now in
     done_as x root t0 t _ (λ k i. In k ops) c.loop-place.status (λ k i answer at fold. subst (In k) (sym (take_whole ops c.loop-place.place (omega arith))) at) h
 
-pub returns-in_err-fold_operation-clause-refused : goal.returns-in_err-fold_operation-clause-refused
-returns-in_err-fold_operation-clause-refused g c =
+pub returns-in_err-folded-clause-refused : goal.returns-in_err-folded-clause-refused
+returns-in_err-folded-clause-refused g c =
     let x : Folding = folding g.D.HasMeaning.meaning g.D.SideEffects.side_effects g.D.ConstFoldInterface.can_fold g.D.ConstFoldInterface.constants g.D.ConstFoldInterface.accepts g.D.ConstFoldInterface.constant_head g.D.OperandFoldInterface.operand_folds in
     let h = c.loop-place.invariant in
     let t0 = c.args.ctx.now.tree in
     let t = c.loop-place.ctx.tree in
     let root = c.args.root in
     let ops = c.args.ops.now in
-    on_err _ c.from_residual.result (done_partly x root t0 t c.fold_operation.new.ctx.tree _ _ h c.in_err-fold_operation.ensures.refused)
+    on_err _ c.from_residual.result (done_partly x root t0 t c.fold_operation.new.ctx.tree _ _ h c.in_err-folded.ensures.refused)
