@@ -71,7 +71,7 @@ neither Unchanged a e = (refl, e)
 module _ (x : Folding) (root : ℕ) where
   turn_more : (fs gs : List Fold) (t u t' : Tree) → FoldInTurn x root fs t u → FoldInTurn x root gs u t' → FoldInTurn x root (fs ++ gs) t t'
   turn_more [] gs t u t' e more = subst (λ z. FoldInTurn x root gs z t') e more
-  turn_more (f ∷ fs) gs t u t' turn more = (turn.0, turn.1.0, turn_more fs gs (after_folding x t f.op turn.1.0.has.value f.answer) u t' turn.1.1 more)
+  turn_more (f ∷ fs) gs t u t' turn more = (turn.0, (turn.1.0, turn_more fs gs (after_folding x t f.op turn.1.0.has.value f.answer) u t' turn.1.1 more))
 
   tells_unchanged : (t0 t : Tree) (s : IRStatus) → TellsFolds x t0 t root s → s ≡ Unchanged → t ≡ t0
   tells_unchanged t0 t Unchanged told e = told
@@ -210,8 +210,11 @@ module _ (x : Folding) (laws : AreLawful x) (root : ℕ) (t : Tree) (w : IsTree 
           }
 
 -- how often a sweep may follow
+abbrev pub one_if : Bool → ℕ
+one_if b = if b then 1 else 0
+
 abbrev pub folds_left : Tree → Bool → ℕ
-folds_left t going = foldable_count t + (if going then 1 else 0)
+folds_left t going = foldable_count t + one_if going
 
 -- what the tables of a dialect keep
 pub lawful_folding : (m : Meaning) (side_effects : Head → Option Bool) (can_fold : Head → Bool) (constants : Constants) (accepts : AttrObj → Bool) (constant_head : AttrObj → Head) (operand_folds : OperandFolds) (SameTests : Head → Head → Type 0) (shortened : Shape → ℕ → ℕ → Head) → GivesAtOnce m side_effects → AnswersTrue m can_fold constants → AnswersOperands m operand_folds → MakesConstants m accepts constant_head → ForwardsOperands m can_fold SameTests shortened → AreLawful (folding m side_effects can_fold constants accepts constant_head operand_folds)
@@ -244,14 +247,14 @@ module _ (x : Folding) (laws : AreLawful x) (root : ℕ) (ops : List ℕ) where
   pub folding_smaller : (t t' : Tree) (a : IRStatus) (going : Bool) → AreDone x t t' root (λ k i. In k ops) a → (IsTrue going ↔ (a ≡ Changed)) → folds_left t' going < folds_left t true
   folding_smaller t t' Changed going p told =
       let lt = p.tells.0 in
-      let g : (if going then 1 else 0) ≡ 1 = ap (λ b. if b then 1 else 0) (told.1 refl) in
+      let g : one_if going ≡ 1 = ap one_if (told.1 refl) in
       omega (arith, lt, g)
   folding_smaller t t' Unchanged going p told =
       let same : foldable_count t' ≡ foldable_count t = ap foldable_count p.tells in
-      let g : (if going then 1 else 0) ≡ 0 = last going (λ e. absurd (cc (told.0 e))) in
+      let g : one_if going ≡ 0 = last going (λ e. absurd (cc (told.0 e))) in
       omega (arith, same, g)
     where
-      last : (b : Bool) → (IsTrue b → ⊥) → (if b then 1 else 0) ≡ 0
+      last : (b : Bool) → (IsTrue b → ⊥) → one_if b ≡ 0
       last true n = absurd (n refl)
       last false n = refl
 
@@ -261,8 +264,8 @@ split i n A a lt = ⊎_elim (λ e. inr (a, e)) (λ ne. inl (a, omega (arith, lt,
     cases : (x y : ℕ) → (x ≡ y) ⊎ (x ≢ y)
     cases x y = grind arith
 
-pub low : (xs : List ℕ) (i v n : ℕ) → slice_get xs i ≡ Some v → length xs ≤ n → i < n
-low xs i v n at le = let lt = slice_get_within xs i v at in omega (arith, lt, le)
+pub place_below : (xs : List ℕ) (i v n : ℕ) → slice_get xs i ≡ Some v → length xs ≤ n → i < n
+place_below xs i v n at le = let lt = slice_get_within xs i v at in omega (arith, lt, le)
 
 pub none_taken : (xs : List ℕ) (k : ℕ) → In k (take 0 xs) → ⊥
 none_taken [] k i = absurd i

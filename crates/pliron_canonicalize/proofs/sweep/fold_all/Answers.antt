@@ -9,7 +9,7 @@ use Rattle.pliron_operand_laws.proofs.Answered.{AreLawful}
 use Rattle.pliron_order.proofs.SeenLemmas.{seen_inside}
 use Rattle.pliron_canonicalize.specs.Folds.{FoldInTurn, IsFold}
 use Rattle.pliron_canonicalize.specs.Steps.{AreDone, AreDonePartly, IsFolding}
-use Rattle.pliron_canonicalize.proofs.Doing.{folds_left, lawful_folding, done_start, done_one, done_more, done_as, done_partly, done_undone, in_more, folding_start, folding_next, folding_smaller, none_left, reports, tells_fewer, tells_same, split, low, none_taken, read_at, in_read, take_whole, same_itself}
+use Rattle.pliron_canonicalize.proofs.Doing.{folds_left, lawful_folding, done_start, done_one, done_more, done_as, done_partly, done_undone, in_more, folding_start, folding_next, folding_smaller, none_left, reports, tells_fewer, tells_same, split, place_below, none_taken, read_at, in_read, take_whole, same_itself}
 use Rattle.pliron_canonicalize.proofs.sweep.fold_all.Goals as goal
 
 pub loop-going-init : goal.loop-going-init

@@ -9,11 +9,11 @@ use Rattle.pliron_operand_laws.proofs.Answered.{AreLawful}
 use Rattle.pliron_order.proofs.SeenLemmas.{seen_inside}
 use Rattle.pliron_canonicalize.specs.Folds.{IsFold}
 use Rattle.pliron_canonicalize.specs.Steps.{AreDone, AreDonePartly}
-use Rattle.pliron_canonicalize.proofs.Doing.{lawful_folding, done_start, done_one, done_more, done_as, done_partly, done_undone, in_more, folding_start, folding_next, folding_smaller, none_left, reports, tells_fewer, tells_same, split, low, none_taken, read_at, in_read, take_whole, same_itself}
+use Rattle.pliron_canonicalize.proofs.Doing.{lawful_folding, done_start, done_one, done_more, done_as, done_partly, done_undone, in_more, folding_start, folding_next, folding_smaller, none_left, reports, tells_fewer, tells_same, split, place_below, none_taken, read_at, in_read, take_whole, same_itself}
 use Rattle.pliron_canonicalize.proofs.sweep.fold_operation.Goals as goal
 
-pub num_result-requires : goal.num_result-requires
-num_result-requires g c = (c.well_formed-2.ensures.tree.joined.standing c.args.op c.requires.seen.block c.requires.seen.in_block).0
+pub num_result-index-end-requires : goal.num_result-index-end-requires
+num_result-index-end-requires g c = (c.well_formed-2.ensures.tree.joined.standing c.args.op c.requires.seen.block c.requires.seen.in_block).0
 
 pub loop-index-init : goal.loop-index-init
 loop-index-init g c =
@@ -87,7 +87,7 @@ returns-clause-ok g c =
     let root = c.args.root in
     let op = c.args.op in
     let seen = h.still.seen op c.requires.seen in
-    done_as x root t0 t _ (λ k i. k ≡ op) c.loop-index.status (λ k i answer at fold. (at, low (results_of t0 op) i fold.has.value c.loop-index.index (subst (λ z. slice_get (results_of t0 z) i ≡ Some fold.has.value) at fold.has.listed) (omega (arith, c.loop-index-test.false, c.num_result-index-end.ensures)))) h
+    done_as x root t0 t _ (λ k i. k ≡ op) c.loop-index.status (λ k i answer at fold. (at, place_below (results_of t0 op) i fold.has.value c.loop-index.index (subst (λ z. slice_get (results_of t0 z) i ≡ Some fold.has.value) at fold.has.listed) (omega (arith, c.loop-index-test.false, c.num_result-index-end.ensures)))) h
 
 pub returns-in_err-folded-clause-refused : goal.returns-in_err-folded-clause-refused
 returns-in_err-folded-clause-refused g c =

@@ -15,13 +15,13 @@ use Rattle.pliron_canonicalize.proofs.sweep.put_answer.Goals as goal
 
 pub replace_result_by_operand-requires-clause-answer : goal.replace_result_by_operand-requires-clause-answer
 replace_result_by_operand-requires-clause-answer g c =
-    let here = read_answer c.args.answers.now c.args.index c.index-answers-index.result (omega (arith, c.if-index-len.false, c.len.ensures)) c.index-answers-index.is in
+    let here = read_answer c.args.answers.now c.args.index c.index-answers-index.result c.if-index-answers.false c.index-answers-index.is in
     let at : slice_get c.args.answers.now c.args.index ≡ Some (Some (Operand c.in-Some-Operand.operand)) = cc in
     c.requires.answers.each (Operand c.in-Some-Operand.operand) at
 
 pub replace_result_by_operand-requires-clause-operand : goal.replace_result_by_operand-requires-clause-operand
 replace_result_by_operand-requires-clause-operand g c =
-    let here = read_answer c.args.answers.now c.args.index c.index-answers-index.result (omega (arith, c.if-index-len.false, c.len.ensures)) c.index-answers-index.is in
+    let here = read_answer c.args.answers.now c.args.index c.index-answers-index.result c.if-index-answers.false c.index-answers-index.is in
     let at : slice_get c.args.answers.now c.args.index ≡ Some (Some (Operand c.in-Some-Operand.operand)) = cc in
     c.requires.answers.within c.in-Some-Operand.operand at
 
@@ -29,22 +29,22 @@ pub replace_result_by_constant-requires-clause-constant : goal.replace_result_by
 replace_result_by_constant-requires-clause-constant g c = λ v listed.
     let x : Folding = folding g.D.HasMeaning.meaning g.D.SideEffects.side_effects g.D.ConstFoldInterface.can_fold g.D.ConstFoldInterface.constants g.D.ConstFoldInterface.accepts g.D.ConstFoldInterface.constant_head g.D.OperandFoldInterface.operand_folds in
     let laws : AreLawful x = lawful_folding _ _ _ _ _ _ _ _ _ g.met.D.Dialect.gives_at_once g.met.D.Dialect.answers_true g.met.D.OperandFoldInterface.answers_operands g.met.D.Dialect.makes_constants g.met.D.Dialect.forwards_operands in
-    let here = read_answer c.args.answers.now c.args.index c.index-answers-index.result (omega (arith, c.if-index-len.false, c.len.ensures)) c.index-answers-index.is in
+    let here = read_answer c.args.answers.now c.args.index c.index-answers-index.result c.if-index-answers.false c.index-answers-index.is in
     let at : slice_get c.args.answers.now c.args.index ≡ Some (Some (Constant c.in-Some-Constant.attr)) = cc in
     let has = c.requires.answers.each (Constant c.in-Some-Constant.attr) at in
     subst (λ z. IsConstant x.meaning c.args.ctx.now.tree z c.in-Some-Constant.attr) (some_is (sym has.listed ∙ listed)) (constant_read_here x laws c.args.ctx.now.tree c.well_formed-2.ensures.tree c.args.op c.args.index c.in-Some-Constant.attr has)
 
-pub returns-then-index-len-clause-ok : goal.returns-then-index-len-clause-ok
-returns-then-index-len-clause-ok g c =
+pub returns-then-index-answers-clause-ok : goal.returns-then-index-answers-clause-ok
+returns-then-index-answers-clause-ok g c =
     let x : Folding = folding g.D.HasMeaning.meaning g.D.SideEffects.side_effects g.D.ConstFoldInterface.can_fold g.D.ConstFoldInterface.constants g.D.ConstFoldInterface.accepts g.D.ConstFoldInterface.constant_head g.D.OperandFoldInterface.operand_folds in
     let listed = slice_get-get_or (results_of c.args.ctx.now.tree c.args.op) c.args.index 0 c.requires.index in
-    put_none x c.args.ctx.now.tree c.args.op c.args.index _ listed c.args.answers.now (none_past c.args.answers.now c.args.index (omega (arith, c.if-index-len.true, c.len.ensures)))
+    put_none x c.args.ctx.now.tree c.args.op c.args.index _ listed c.args.answers.now (none_past c.args.answers.now c.args.index c.if-index-answers.true)
 
 pub returns-in_ok-replace_result_by_operand-in-Some-Operand-clause-ok : goal.returns-in_ok-replace_result_by_operand-in-Some-Operand-clause-ok
 returns-in_ok-replace_result_by_operand-in-Some-Operand-clause-ok g c =
     let x : Folding = folding g.D.HasMeaning.meaning g.D.SideEffects.side_effects g.D.ConstFoldInterface.can_fold g.D.ConstFoldInterface.constants g.D.ConstFoldInterface.accepts g.D.ConstFoldInterface.constant_head g.D.OperandFoldInterface.operand_folds in
     let listed = slice_get-get_or (results_of c.args.ctx.now.tree c.args.op) c.args.index 0 c.requires.index in
-    let here = read_answer c.args.answers.now c.args.index c.index-answers-index.result (omega (arith, c.if-index-len.false, c.len.ensures)) c.index-answers-index.is in
+    let here = read_answer c.args.answers.now c.args.index c.index-answers-index.result c.if-index-answers.false c.index-answers-index.is in
     let at : slice_get c.args.answers.now c.args.index ≡ Some (Some (Operand c.in-Some-Operand.operand)) = cc in
     put_operand x c.args.ctx.now.tree c.args.op c.args.index _ listed c.replace_result_by_operand.new.ctx.tree c.args.answers.now c.in-Some-Operand.operand at c.in_ok-replace_result_by_operand-in-Some-Operand.ensures.ok
 
@@ -52,7 +52,7 @@ pub returns-in-Some-Constant-clause-ok : goal.returns-in-Some-Constant-clause-ok
 returns-in-Some-Constant-clause-ok g c =
     let x : Folding = folding g.D.HasMeaning.meaning g.D.SideEffects.side_effects g.D.ConstFoldInterface.can_fold g.D.ConstFoldInterface.constants g.D.ConstFoldInterface.accepts g.D.ConstFoldInterface.constant_head g.D.OperandFoldInterface.operand_folds in
     let listed = slice_get-get_or (results_of c.args.ctx.now.tree c.args.op) c.args.index 0 c.requires.index in
-    let here = read_answer c.args.answers.now c.args.index c.index-answers-index.result (omega (arith, c.if-index-len.false, c.len.ensures)) c.index-answers-index.is in
+    let here = read_answer c.args.answers.now c.args.index c.index-answers-index.result c.if-index-answers.false c.index-answers-index.is in
     let at : slice_get c.args.answers.now c.args.index ≡ Some (Some (Constant c.in-Some-Constant.attr)) = cc in
     IfOk-weaker c.replace_result_by_constant.result _ _ (λ status made. put_constant x c.args.ctx.now.tree c.args.op c.args.index _ listed c.replace_result_by_constant.new.ctx.tree c.args.answers.now c.in-Some-Constant.attr at status made) c.replace_result_by_constant.ensures.ok
 
@@ -60,5 +60,5 @@ pub returns-in-None-clause-ok : goal.returns-in-None-clause-ok
 returns-in-None-clause-ok g c =
     let x : Folding = folding g.D.HasMeaning.meaning g.D.SideEffects.side_effects g.D.ConstFoldInterface.can_fold g.D.ConstFoldInterface.constants g.D.ConstFoldInterface.accepts g.D.ConstFoldInterface.constant_head g.D.OperandFoldInterface.operand_folds in
     let listed = slice_get-get_or (results_of c.args.ctx.now.tree c.args.op) c.args.index 0 c.requires.index in
-    let here = read_answer c.args.answers.now c.args.index c.index-answers-index.result (omega (arith, c.if-index-len.false, c.len.ensures)) c.index-answers-index.is in
+    let here = read_answer c.args.answers.now c.args.index c.index-answers-index.result c.if-index-answers.false c.index-answers-index.is in
     put_none x c.args.ctx.now.tree c.args.op c.args.index _ listed c.args.answers.now (none_there c.args.answers.now c.args.index c.index-answers-index.result here c.in-None.is)
