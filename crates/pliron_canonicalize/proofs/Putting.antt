@@ -109,6 +109,9 @@ module _ (x : Folding) (t : Tree) (k i v : ℕ) (listed : slice_get (results_of 
 pub read_answer : (answers : List (Option OpFoldResult)) (i : ℕ) (o : Option OpFoldResult) → i < length answers → o ≡ get_or answers i o → slice_get answers i ≡ Some o
 read_answer answers i o lt e = slice_get_read answers (length answers) i o refl lt e
 
+pub answer_there : (answers : List (Option OpFoldResult)) (i : ℕ) (o : Option OpFoldResult) (a b : OpFoldResult) → slice_get answers i ≡ Some o → o ≡ Some a → a ≡ b → slice_get answers i ≡ Some (Some b)
+answer_there answers i o a b e f g = e ∙ ap Some (f ∙ ap Some g)
+
 pub none_past : (answers : List (Option OpFoldResult)) (i : ℕ) → length answers ≤ i → (answer : OpFoldResult) → slice_get answers i ≡ Some (Some answer) → ⊥
 none_past answers i le answer at = let never : None ≡ Some (Some answer) = sym (slice_get_past answers i le) ∙ at in absurd (cc never)
 
