@@ -1,2 +1,1 @@
 mod FillLemmas
-mod ModuleLemmas

@@ -1,5 +1,4 @@
 pub mod Statuses
 pub mod Fills
 pub mod Optimises
-pub mod Modules
 pub mod Faults

@@ -2,8 +2,4 @@
 #![tactic(auto)]
 
 #[cfg(test)]
-mod buffers;
-#[cfg(test)]
 mod calls;
-#[cfg(test)]
-mod modules;
