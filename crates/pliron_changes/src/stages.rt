@@ -118,7 +118,7 @@ impl Stages<'_> {
         &mut self,
         when: &str,
         name: &str,
-        subject: Subject,
+        subject: &Subject,
         status: &str,
     ) -> Result<(), AllocError> {
         write!(self.report, "--- run {}, {when} {name}", self.number)?;
@@ -129,43 +129,45 @@ impl Stages<'_> {
     }
 
     /// Tells the operation before a run, where the options ask for it.
-    fn tell_before(&mut self, name: &str, subject: Subject, ctx: &Context) -> Result<(), OptError>
-        requires { IsLive ctx.now.tree subject.op }
+    fn tell_before(&mut self, name: &str, subject: &Subject, ctx: &Context) -> Result<(), OptError>
+        requires { IsLive ctx.now.tree subject.now.op }
     {
+        let op = subject.op;
         if !is_among(name, self.options.prints_before) {
             return Ok(());
         }
         self.push_head("before", name, subject, "")?;
-        self.push_tree(subject.op, ctx)
+        self.push_tree(op, ctx)
     }
 
     /// Tells the operation after a run, where the options ask for it.
     fn tell_after(
         &mut self,
         name: &str,
-        subject: Subject,
+        subject: &Subject,
         status: IRStatus,
         ctx: &Context,
     ) -> Result<(), OptError>
-        requires { IsLive ctx.now.tree subject.op }
+        requires { IsLive ctx.now.tree subject.now.op }
     {
+        let op = subject.op;
         if !self.options.prints_all && !is_among(name, self.options.prints_after) {
             return Ok(());
         }
         self.push_head("after", name, subject, status_word(status))?;
-        self.push_tree(subject.op, ctx)
+        self.push_tree(op, ctx)
     }
 
     /// Tells which lines a run changed that wrote them so before, where it changed something.
     fn tell_changes(
         &mut self,
         name: &str,
-        subject: Subject,
+        subject: &Subject,
         status: IRStatus,
         before: &StateBefore,
         ctx: &Context,
     ) -> Result<(), OptError>
-        requires { IsLive ctx.now.tree subject.op }
+        requires { IsLive ctx.now.tree subject.now.op }
     {
         let Some(lines) = &before.lines else {
             return Ok(());
@@ -214,20 +216,22 @@ impl Stages<'_> {
     fn stage(
         &mut self,
         name: &str,
-        subject: Subject,
+        subject: &Subject,
         ctx: &mut Context,
     ) -> Result<IRStatus, OptError> {
+        let op = subject.op;
+        let alloc = self.alloc;
         let Some(mut step) = PassStep::<Bench, BenchFacts>::from_name(name) else {
             return Ok(IRStatus::Unchanged);
         };
-        if !subject.op.is_live(ctx) || !is_well_linked::<Bench>(subject.op, ctx) {
+        if !op.is_live(ctx) || !is_well_linked::<Bench>(op, ctx) {
             return Ok(IRStatus::Unchanged);
         }
         self.number = self.number.saturating_add(1);
         self.tell_before(name, subject, ctx)?;
-        let before = self.state_before(subject.op, ctx)?;
-        let status = run_pipeline(&mut step, self.alloc, subject.op, ctx, &mut self.analyses)?;
-        self.name_new(subject.op, ctx, &before)?;
+        let before = self.state_before(op, ctx)?;
+        let status = run_pipeline(&mut step, alloc, op, ctx, &mut self.analyses)?;
+        self.name_new(op, ctx, &before)?;
         self.tell_after(name, subject, status, ctx)?;
         self.tell_changes(name, subject, status, &before, ctx)?;
         Ok(status)
@@ -243,7 +247,7 @@ impl Stages<'_> {
         let mut status = IRStatus::Unchanged;
         for subject in subjects {
             for name in &plan.names {
-                status |= self.stage(*name, *subject, ctx)?;
+                status |= self.stage(*name, subject, ctx)?;
             }
         }
         Ok(status)
