@@ -4,7 +4,7 @@ use Rattle.std.specs.Prelude.{ℤ, pos, negsuc, int_div, ◌*ℤ◌}
 use Rattle.std.specs.Int.{w64, int_wrap}
 use Rattle.std.proofs.lemmas.Int.{ints}
 use Rattle.std.proofs.lemmas.Option.{same_Some}
-use Rattle.std.proofs.Math.Nat.{div_self}
+use Rattle.std.proofs.Math.Nat.{div_self, zero-div}
 use Rattle.pliron_core.specs.declared.attrs.AttrObj.{AttrObj}
 use Rattle.pliron_core.specs.declared.attrs.AttrObj.TheVariants.{Int, Text as Words}
 use Rattle.pliron_laws.specs.Datum.{Datum, Number, datum_of, Shape, Move, Give, Visit, Goto, Leave, Emit, Trap}
@@ -107,7 +107,9 @@ product_gives known first answer l h e = go (choice (is_known_zero known 0) (is_
 
 -- 0 by a number is 0, and a number by itself 1, unless that is 0
 zero_over : (n : ℤ) → is_zero n ≡ false → int_div (pos 0) n ≡ pos 0
-zero_over n e = omega (arith, ints)
+zero_over (pos zero) e = grind arith
+zero_over (pos (suc n)) e = ap pos (zero-div (suc n))
+zero_over (negsuc n) e = grind (arith, ints, zero-div (suc n))
 
 itself_once : (n : ℤ) → is_zero n ≡ false → int_div n n ≡ pos 1
 itself_once (pos zero) e = grind arith
