@@ -1,4 +1,4 @@
-//! The three optimisations on three texts, and the trees that whole rewrites make of each.
+//! The optimisations on texts, and the trees that whole rewrites make of each.
 ghost use Rattle.pliron_bench.specs.BenchMoves.{bench};
 ghost use Rattle.pliron_core.specs.Tree.{IsLive};
 ghost use Rattle.pliron_laws.specs.Linked.{IsWellLinked};
@@ -7,6 +7,7 @@ use crate::observation::Observation;
 use pliron_bench::Bench;
 use pliron_cfg::simplify_cfg;
 use pliron_core::{Context, IRStatus, Operation, Ptr};
+use pliron_cse::cse;
 use pliron_dce::dce;
 use pliron_laws::OptError;
 use pliron_notation::{print_text, read_text};
@@ -53,7 +54,21 @@ simplify-cfg | func { b0(): c = const 1; x = const 5; cbr c b1(x) b2(); b1(p): b
     | func { b0(): v0 = const 1; v1 = const 5; br b1(v1); b1(v2): br b2(v2); b2(v3): ret v2 } \
     | func { b0(): v0 = const 1; v1 = const 5; br b1(v1); b1(v2): ret v2 } \
     | func { b0(): v0 = const 1; v1 = const 5; br b1(v1); b1(v2): ret v1 } \
-    | func { b0(): v0 = const 1; v1 = const 5; ret v1 }";
+    | func { b0(): v0 = const 1; v1 = const 5; ret v1 }
+cse | func { b0(x): a = add x x; b = add x x; sink a a b; c = mul a b; d = mul b a; print c; print c; print d; ret b d } \
+    | func { b0(v0): v1 = add v0 v0; v2 = add v0 v0; sink v1 v1 v2; v3 = mul v1 v2; v4 = mul v2 v1; print v3; print v3; print v4; ret v2 v4 } \
+    | func { b0(v0): v1 = add v0 v0; sink v1 v1 v1; v2 = mul v1 v1; v3 = mul v1 v1; print v2; print v2; print v3; ret v1 v3 } \
+    | func { b0(v0): v1 = add v0 v0; sink v1 v1 v1; v2 = mul v1 v1; print v2; print v2; print v2; ret v1 v2 }
+cse | func { b0(): l, r = pair; s, t = pair; print l; print r; sink l r s t; ret s t } \
+    | func { b0(): v0, v1 = pair; v2, v3 = pair; print v0; print v1; sink v0 v1 v2 v3; ret v2 v3 } \
+    | func { b0(): v0, v1 = pair; v2, v3 = pair; print v0; print v1; sink v0 v1 v0 v3; ret v0 v3 } \
+    | func { b0(): v0, v1 = pair; print v0; print v1; sink v0 v1 v0 v1; ret v0 v1 }
+cse | func { b0(x): sink x; scope x { b0(p): sink x; sink p; sink p; ret }; ret } \
+    | func { b0(v0): sink v0; scope v0 { b0(v1): sink v0; sink v1; sink v1; ret }; ret } \
+    | func { b0(v0): sink v0; scope v0 { b0(v1): sink v1; sink v1; ret }; ret } \
+    | func { b0(v0): sink v0; scope v0 { b0(v1): sink v1; ret }; ret }
+cse | func { b0(x): r = read; cbr r b1() b2(); b1(): a = add x x; ret a; b2(): b = add x x; ret b } \
+    | func { b0(v0): v1 = read; cbr v1 b1() b2(); b1(): v2 = add v0 v0; ret v2; b2(): v3 = add v0 v0; ret v3 }";
 
 /// Runs the optimisation of this name.
 fn run(
@@ -68,6 +83,7 @@ fn run(
     match name {
         "sccp" => sccp::<Bench>(alloc, root, ctx),
         "dce" => dce::<Bench>(alloc, root, ctx),
+        "cse" => cse::<Bench>(alloc, root, ctx),
         _ => simplify_cfg::<Bench>(alloc, root, ctx),
     }
 }

@@ -19,7 +19,7 @@ use crate::heads::attribute_head;
 use crate::kinds::Kinds;
 use crate::numbers::{edge_of, is_number, known_number};
 use crate::replace::jump_in_place;
-use crate::tables::{begins_region, form_at, kind_at};
+use crate::tables::{PartCounts, begins_region, form_at, kind_at};
 use pliron_core::{AttrObj, BasicBlock, Context, IRStatus, Operation, Ptr, Rewriter, Value};
 use pliron_laws::{
     BlockArgRemoval, BranchOpFoldInterface, ConstFoldInterface, Dialect, HasMeaning, Interface,
@@ -290,8 +290,13 @@ impl<K: Kinds> Dialect for ByKinds<K> {
         match kind_at::<K>(op, ctx) {
             Some(kind) => {
                 let own = kind.takes(operands, results, regions);
-                let form = kind.form();
-                form.takes(own, op.head(ctx), operands, results, successors, regions)
+                let counts = PartCounts {
+                    operands,
+                    results,
+                    successors,
+                    regions,
+                };
+                kind.form().takes(own, op.head(ctx), counts)
             }
             None => false,
         }

@@ -12,6 +12,15 @@ use crate::numbers::is_number;
 use pliron_core::{AttrObj, Attrs, BasicBlock, Context, Head, Operation, Ptr};
 use pliron_laws::Interface;
 
+// How many parts of each sort an operation has.
+#[derive(Clone, Copy)]
+pub(crate) struct PartCounts {
+    pub(crate) operands: usize,
+    pub(crate) results: usize,
+    pub(crate) successors: usize,
+    pub(crate) regions: usize,
+}
+
 /// The kind of the operation, if it has one. Asks that the operation is live (`is_live` tests it). Cost: that
 /// of `from_number`.
 pub fn kind_at<K: Kinds>(op: Ptr<Operation>, ctx: &Context) -> Option<K>
@@ -106,21 +115,13 @@ impl Form {
     }
 
     // Whether there are operations of the form with this head and these counts.
-    pub(crate) fn takes(
-        self,
-        own: bool,
-        head: &Head,
-        operands: usize,
-        results: usize,
-        successors: usize,
-        regions: usize,
-    ) -> bool
-        ensures { result ≡ takes_all self own head.now operands results successors regions }
+    pub(crate) fn takes(self, own: bool, head: &Head, counts: PartCounts) -> bool
+        ensures { result ≡ takes_all self own head.now counts.operands counts.results counts.successors counts.regions }
     {
         head.ssa
-            && self.takes_attributes(&head.attrs, operands)
-            && successors == self.successor_count()
-            && self.takes_counts(own, operands, results, regions)
+            && self.takes_attributes(&head.attrs, counts.operands)
+            && counts.successors == self.successor_count()
+            && self.takes_counts(own, counts.operands, counts.results, counts.regions)
     }
 
     // Whether an operation of the form ends a block.
