@@ -53,7 +53,7 @@ dce :: \"m\"() ({|  %0 = \"arith.constant\"() <{value = 1 : i32}> : () -> i32|})
  :: \"m\"()  : ()->() => 0 \"m\"() : () -> ()| => unchanged|
 dce :: m => 2  => t:1:1: expected the name of an operation in quotes; print with --mlir-print-op-generic|
 dce :: \"m\"() ({|  \"a\"()[^b] : () -> ()|}) : () -> () => 2  => t:2:9: expected a block of this region|
-licm :: \"m\"() : () -> () => 2  => error: no such passes|
+dce,licm :: \"m\"() : () -> () => 2  => error: no such passes: dce,licm: at byte 5: expected `sccp`, `dce`, `simplify-cfg` or `cse`|
 repeat:65:dce :: \"m\"() : () -> () => 2  => error: no such passes: repeat:65:dce: at byte 8: expected a number from 1 to 64|
 simplify-cfg :: \"m\"() ({|  \"func.func\"() <{sym_name = \"f\"}> ({|    \"func.return\"(%0) : (i32) -> ()|  ^b:|    %0 = \"arith.constant\"() <{value = 1 : i32}> : () -> i32|    \"cf.br\"()[^b] : () -> ()|  }) : () -> ()|}) : () -> () => 1  => error: refused: a value of an unreachable block is used|";
 

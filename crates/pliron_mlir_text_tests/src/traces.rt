@@ -11,7 +11,7 @@ type Form = GenericForm<Mlir<AnyMeaning>>;
 static TRACES: &str = "\
 dce :: m =>
  :: \"m\"() : () -> () =>
-licm,dce :: \"m\"() : () -> () => // --- run 1, after licm: unchanged|\"m\"() : () -> ()|// --- run 2, after dce: unchanged|\"m\"() : () -> ()|
+nested:dce :: \"m\"() ({|  \"func.func\"() <{sym_name = \"f\"}> ({|    %0 = \"arith.constant\"() <{value = 1 : i32}> : () -> i32|    \"func.return\"() : () -> ()|  }) : () -> ()|}) : () -> () => // --- run 1, after dce: changed|\"m\"() ({|  \"func.func\"() <{sym_name = \"f\"}> ({|    \"func.return\"() : () -> ()|  }) : () -> ()|}) : () -> ()|
 repeat:3:sccp,dce :: \"m\"() ({|  %0 = \"arith.constant\"() <{value = 1 : i32}> : () -> i32|}) : () -> () => // --- run 1, after sccp: unchanged|\"m\"() ({|  %0 = \"arith.constant\"() <{value = 1 : i32}> : () -> i32|}) : () -> ()|// --- run 2, after dce: changed|\"m\"() ({|^bb0:|}) : () -> ()|// --- run 3, after sccp: unchanged|\"m\"() ({|^bb0:|}) : () -> ()|// --- run 4, after dce: unchanged|\"m\"() ({|^bb0:|}) : () -> ()|";
 
 fn expect_trace(rt: &impl Abort, alloc: Global, word: &str, text: &str, wanted: &str) {
