@@ -14,7 +14,7 @@ sys.path.insert(0, str(Path(__file__).resolve().parent))
 import notation
 import program
 
-HEAD = re.compile(r"--- run (\d+), after (\S+?): (?:un)?changed\n")
+HEAD = re.compile(r"--- run (\d+), after (\S+?)(?: at \S+)?: (?:un)?changed\n")
 
 
 def words():

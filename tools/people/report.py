@@ -17,8 +17,6 @@ sys.path.insert(0, str(Path(__file__).resolve().parent))
 import notation
 import program
 
-HEAD = re.compile(r"--- run (\d+), after (\S+?): (changed|unchanged)\n")
-
 STYLE = """
 body { font: 15px/1.45 system-ui, sans-serif; margin: 1.5em auto; max-width: 76em; padding: 0 1em; color: #1b1f24; }
 h1 { font-size: 1.5em; } h2 { font-size: 1.15em; margin-top: 2em; border-bottom: 1px solid #d0d7de; padding-bottom: .2em; }
@@ -91,30 +89,24 @@ def reasons(lines):
     return f'<table class="reasons">{"".join(rows)}</table>'
 
 
-def changes(text, told):
+def changes(told):
     """The lines that each run of a pass changed."""
-    parts = HEAD.split(told)
     lines = []
-    for number, name, status, after in zip(parts[1::4], parts[2::4], parts[3::4], parts[4::4]):
-        new = after.rstrip("\n").split("\n")
-        lines.append(html.escape(f"run {number}, {name}: {status}"))
-        if status == "changed":
-            for line in list(difflib.unified_diff(text, new, n=2, lineterm=""))[2:]:
-                kind = {"-": "went", "+": "came"}.get(line[:1])
-                lines.append(f'<span class="{kind}">{html.escape(line)}</span>' if kind else html.escape(line))
-        text = new
-    return f"<pre>{chr(10).join(lines)}</pre>"
+    for line in told.splitlines():
+        kind = None if line.startswith("--- ") else {"-": "went", "+": "came"}.get(line[:1])
+        lines.append(f'<span class="{kind}">{html.escape(line)}</span>' if kind else html.escape(line))
+    return f"<pre>{chr(10).join(lines) or 'nothing'}</pre>"
 
 
 def page(asked, plir, text):
-    status, after, told = plir.run("opt", "--pretty", asked.pipeline, text=text)
+    status, after, told = plir.run("opt", "--pretty", "--keep-names", asked.pipeline, text=text)
     if status:
         sys.stderr.write(told.replace("standard input", asked.file))
         return status, ""
     before = notation.written(notation.read(text))
     stats = plir.run("opt", "--stats", asked.pipeline, text=text)[2]
-    runs = plir.run("opt", "--pretty", "--print-after-all", asked.pipeline, text=text)[2]
-    why = plir.run("explain", "-", asked.pipeline, text=text)[1]
+    changed = plir.run("opt", "--print-changed", asked.pipeline, text=text)[2]
+    why = plir.run("explain", "--missed", asked.pipeline, text=text)[1]
     unfit = plir.run("check", text=text)
     title = f"{Path(asked.file).name}: {asked.pipeline}"
     parts = [
@@ -125,7 +117,7 @@ def page(asked, plir, text):
         "<h2>Control flow</h2>",
         pictures(plir, before, after),
         "<h2>What each run changed</h2>",
-        changes(before.rstrip("\n").split("\n"), runs),
+        changes(changed),
         "<h2>Reasons</h2>",
         reasons(why.splitlines()),
         "<h2>Counts</h2>",

@@ -1,4 +1,4 @@
-//! The words of the program.
+//! The words of the program. Help texts are written in one line each; `help` lays them out.
 use clap::{Arg, ArgAction, ArgMatches, Command, Error, value_parser};
 use std::alloc::{AllocError, Global};
 
@@ -13,7 +13,7 @@ fn output<'a>(alloc: Global) -> Arg<'a> {
         .short('o')
         .long("output")
         .value_name("FILE")
-        .help("Where to write; standard output, if it is `-` or\nleft out")
+        .help("Where to write; standard output, if it is `-` or left out")
 }
 
 fn flag<'a>(alloc: Global, name: &'a str, help: &'a str) -> Arg<'a> {
@@ -42,15 +42,42 @@ fn steps<'a>(alloc: Global) -> Arg<'a> {
         .help("The most moves that the run makes")
 }
 
+/// The forms of what is told.
+static FORMS: [&str; 3] = ["full", "short", "json"];
+
+fn format<'a>(alloc: Global) -> Arg<'a> {
+    Arg::new(alloc, "format")
+        .long("format")
+        .value_name("FORM")
+        .value_parser(FORMS.as_slice())
+        .default_value("full")
+        .hide_possible_values(true)
+        .help(
+            "How what is wrong is told: `full`, with the line and a mark; `short`, as `file:line:column: error: \
+             ..`; `json`, an object on each line",
+        )
+}
+
+fn at<'a>(alloc: Global) -> Arg<'a> {
+    Arg::new(alloc, "at").long("at").value_name("PATH").help(
+        "Take this `func` or `mod` of the text alone: numbers with dots between them, as `0.1` for operation 1 \
+         of region 0, counted from 0; `0.1.0`, its region, says the same",
+    )
+}
+
+/// The flags that each command with a text has.
+fn with_common<'a>(command: Command<'a>, alloc: Global) -> Result<Command<'a>, AllocError> {
+    command.arg(at(alloc))?.arg(format(alloc))
+}
+
 /// The statuses of `run`.
-static RUN_STATUSES: &str = "\
-Statuses: 0 where the run ends with values; 1 where memory was refused; 2 for
-words, files and texts that can't be used; 3 where the run traps or is cut off.
-With --compare: 0 where both runs end or trap and the same is seen; 3 where one
-is cut off or something differs.";
+static RUN_STATUSES: &str =
+    "Statuses: 0 where the run ends with values; 1 where memory was refused; 2 for words, files and texts that \
+     can't be used; 3 where the run traps or is cut off. With --compare: 0 where both runs end or trap and the \
+     same is seen; 3 where one is cut off or something differs.";
 
 fn run<'a>(alloc: Global) -> Result<Command<'a>, AllocError> {
-    Command::new(alloc, "run")
+    let run = Command::new(alloc, "run")
         .about("Runs a text, and writes its effects as they come and how it ends")
         .after_help(RUN_STATUSES)
         .arg(file(alloc))?
@@ -58,20 +85,21 @@ fn run<'a>(alloc: Global) -> Result<Command<'a>, AllocError> {
         .arg(numbers(
             alloc,
             "input",
-            "A value for the text's operation; once for each,\nin order",
+            "A value for the text's operation; once for each, in order",
         ))?
         .arg(numbers(
             alloc,
             "world",
-            "What the world answers to an effect; once for each,\nin order",
+            "What the world answers to an effect; once for each, in order",
         ))?
         .arg(steps(alloc))?
         .arg(flag(
             alloc,
             "trace",
-            "Tell each move with what it takes, on standard\nerror",
+            "Tell each move with what it takes, on standard error",
         ))?
-        .arg(compare(alloc)?)
+        .arg(compare(alloc)?)?;
+    with_common(run, alloc)
 }
 
 fn compare<'a>(alloc: Global) -> Result<Arg<'a>, AllocError> {
@@ -79,7 +107,7 @@ fn compare<'a>(alloc: Global) -> Result<Arg<'a>, AllocError> {
         .long("compare")
         .value_name("PIPELINE")
         .help(
-            "Run it again after these passes, written as for\n`plir opt`, and say whether the same is seen",
+            "Run it again after these passes, written as for `plir opt`, and say whether the same is seen",
         )
         .conflicts_with("trace")
 }
@@ -88,121 +116,167 @@ fn compare<'a>(alloc: Global) -> Result<Arg<'a>, AllocError> {
 static PASSES: [&str; 4] = ["sccp", "dce", "simplify-cfg", "cse"];
 
 /// The statuses of `opt`.
-static OPT_STATUSES: &str = "\
-Statuses: 0 where the answer is written; 1 where memory or the passes were
-refused; 2 for words, files and texts that can't be used; 3 where verifying
-found a fault, or with --strict the text isn't fit to run.";
+static OPT_STATUSES: &str =
+    "Statuses: 0 where the answer is written; 1 where memory or the passes were refused; 2 for words, files and \
+     texts that can't be used; 3 where verifying found a fault, or with --strict the text isn't fit to run.";
 
 /// What `PIPELINE` may be.
-static PIPELINE: &str = "\
-The passes, joined by commas: `sccp` (constant propagation), `dce`
-(dead code elimination), `simplify-cfg` (simplification of control
-flow), `cse` (common subexpression elimination). `nested(LIST)`
-runs them on each operation directly inside, `repeat<N>(..)` until
-nothing changes, at most N times, from 1 to 64:
-`repeat<8>(nested(sccp,dce))`. `nested:LIST` and `repeat:N:..` say
-the same, as for `plir_opt`, which has no `cse`";
+static PIPELINE: &str =
+    "The passes, joined by commas: `sccp` (constant propagation), `dce` (dead code elimination), `simplify-cfg` \
+     (simplification of control flow), `cse` (common subexpression elimination). `nested(LIST)` runs them on \
+     each operation directly inside, `repeat<N>(..)` until nothing changes, at most N times, from 1 to 64: \
+     `repeat<8>(nested(sccp,dce))`. `nested:LIST` and `repeat:N:..` say the same, as for `plir_opt`, which has \
+     no `cse`. Blanks around commas and brackets say nothing";
 
-fn pipeline<'a>(alloc: Global) -> Arg<'a> {
+fn pipeline<'a>(alloc: Global) -> Result<Arg<'a>, AllocError> {
     Arg::new(alloc, "pipeline")
         .value_name("PIPELINE")
-        .required(true)
         .help(PIPELINE)
+        .required_unless_present("list-passes")
 }
 
-fn print_after<'a>(alloc: Global) -> Arg<'a> {
-    Arg::new(alloc, "print-after")
-        .long("print-after")
+fn print_pass<'a>(alloc: Global, name: &'a str, help: &'a str) -> Arg<'a> {
+    Arg::new(alloc, name)
+        .long(name)
         .value_name("NAME")
         .action(ArgAction::Append)
         .value_parser(PASSES.as_slice())
         .hide_possible_values(true)
-        .help(
-            "Tell the operation after each run of this pass, on\nstandard error: `sccp`, `dce`, `simplify-cfg`\nor `cse`; once for each pass",
-        )
+        .help(help)
 }
 
 /// What `--stats` tells.
-static STATS: &str = "\
-Tell, on standard error, how many operations,
-blocks, arguments and edges stand before and after
-each pass, and what it rewrote. This is found by
-comparing the two: operations that only stand after
-it were made, those that only stood before it
-erased, those in another block moved; of operations
-that stay, operands that are another value or were
-taken out count as changed; blocks and arguments
-that only stood before it were erased";
+static STATS: &str =
+    "Tell, on standard error, how many operations, blocks, arguments and edges stand before and after each \
+     pass, and what it rewrote. This is found by comparing the two: operations that only stand after it were \
+     made, those that only stood before it erased, those in another block moved; of operations that stay, \
+     operands that are another value or were taken out count as changed; blocks and arguments that only stood \
+     before it were erased";
 
-/// The flags of what `opt` tells on standard error.
-fn with_reports<'a>(command: Command<'a>, alloc: Global) -> Result<Command<'a>, AllocError> {
+/// The flags of what `opt` tells of trees on standard error.
+fn with_prints<'a>(command: Command<'a>, alloc: Global) -> Result<Command<'a>, AllocError> {
     command
         .arg(flag(
             alloc,
             "print-after-all",
-            "Tell the operation after each run of a pass, on\nstandard error",
+            "Tell the operation after each run of a pass, on standard error",
         ))?
-        .arg(print_after(alloc))?
+        .arg(print_pass(
+            alloc,
+            "print-after",
+            "Tell the operation after each run of this pass, on standard error: `sccp`, `dce`, `simplify-cfg` \
+             or `cse`; once for each pass",
+        ))?
+        .arg(print_pass(
+            alloc,
+            "print-before",
+            "The same before each run of this pass",
+        ))?
         .arg(flag(
             alloc,
-            "strict",
-            "Run no pass where the text isn't fit to run, as\n`plir check` finds it; without it that is a warning",
+            "print-changed",
+            "Tell, on standard error, what each run of a pass changed, as the lines that went and came",
         ))?
+        .arg(flag(
+            alloc,
+            "keep-names",
+            "Keep the names of the text for values and blocks, as on a terminal; new ones get a name after what \
+             they stand for",
+        ))?
+        .arg(flag(
+            alloc,
+            "number-names",
+            "Number values and blocks, as to a file or a pipe",
+        )
+        .conflicts_with("keep-names")?)
+}
+
+/// The flags of what `opt` looks at, and of where it stops.
+fn with_reports<'a>(command: Command<'a>, alloc: Global) -> Result<Command<'a>, AllocError> {
+    command
         .arg(flag(
             alloc,
             "verify-each",
-            "Verify the operation after each run of a pass; a\nfault is told, and nothing written",
+            "Verify the operation after each run of a pass; a fault is told, and nothing written. What `plir \
+             check` finds in the text is told as already in the input",
+        ))?
+        .arg(flag(
+            alloc,
+            "strict",
+            "Run no pass where the text isn't fit to run, as `plir check` finds it; without it that is a warning",
         ))?
         .arg(flag(alloc, "stats", STATS))?
         .arg(flag(
             alloc,
             "time",
-            "Tell the time of each pass and its share, on\nstandard error",
-        ))
+            "Tell the time of each pass and its share, on standard error",
+        ))?
+        .arg(
+            Arg::new(alloc, "stop-after")
+                .long("stop-after")
+                .value_name("N")
+                .value_parser(value_parser!(usize).range(1..))
+                .help("Run only the first N passes, counted with their repetitions"),
+        )?
+        .arg(flag(alloc, "list-passes", "Tell the passes, and read no text"))
 }
 
 fn opt<'a>(alloc: Global) -> Result<Command<'a>, AllocError> {
     let opt = Command::new(alloc, "opt")
         .about("Runs passes on a text, and writes the text that they leave")
         .after_help(OPT_STATUSES)
-        .arg(pipeline(alloc))?
+        .arg(pipeline(alloc)?)?
         .arg(file(alloc))?
         .arg(output(alloc))?
         .arg(flag(
             alloc,
             "pretty",
-            "Write each operation on a line of its own, as on a\nterminal",
+            "Write each operation on a line of its own, as on a terminal",
         ))?
         .arg(flag(alloc, "one-line", "Write one line, as to a file or a pipe").conflicts_with(
             "pretty",
         )?)?;
-    with_reports(opt, alloc)
+    let opt = with_reports(with_prints(opt, alloc)?, alloc)?;
+    with_common(opt.arg(color(alloc))?, alloc)
+}
+
+/// When to write colours.
+static COLORS: [&str; 3] = ["auto", "always", "never"];
+
+fn color<'a>(alloc: Global) -> Arg<'a> {
+    Arg::new(alloc, "color")
+        .long("color")
+        .value_name("WHEN")
+        .value_parser(COLORS.as_slice())
+        .default_value("auto")
+        .help("Colour the lines of `--print-changed`")
 }
 
 /// The statuses of `check`.
-static CHECK_STATUSES: &str = "\
-Statuses: 0 where the text is fit to run; 1 where memory was refused; 2 for
-words, files and texts that can't be used; 3 where it isn't fit.";
+static CHECK_STATUSES: &str =
+    "Statuses: 0 where the text is fit to run; 1 where memory was refused; 2 for words, files and texts that \
+     can't be used; 3 where it isn't fit.";
 
 fn check<'a>(alloc: Global) -> Result<Command<'a>, AllocError> {
-    Command::new(alloc, "check")
+    let check = Command::new(alloc, "check")
         .about("Tells whether a text is fit to run, or one thing that is wrong")
         .after_help(CHECK_STATUSES)
-        .arg(file(alloc))
+        .arg(file(alloc))?;
+    with_common(check, alloc)
 }
 
 /// The statuses of the commands that draw.
-static STATUSES: &str = "\
-Statuses: 0 where the answer is written; 1 where memory was refused; 2 for
-words, files and texts that can't be used.";
+static STATUSES: &str =
+    "Statuses: 0 where the answer is written; 1 where memory was refused; 2 for words, files and texts that \
+     can't be used.";
 
 /// The statuses of `explain`.
-static EXPLAIN_STATUSES: &str = "\
-Statuses: 0 where the answer is written; 1 where memory or the passes were
-refused; 2 for words, files and texts that can't be used.";
+static EXPLAIN_STATUSES: &str =
+    "Statuses: 0 where the answer is written; 1 where memory or the passes were refused; 2 for words, files and \
+     texts that can't be used.";
 
 fn dot<'a>(alloc: Global) -> Result<Command<'a>, AllocError> {
-    Command::new(alloc, "dot")
+    let dot = Command::new(alloc, "dot")
         .about("Draws the control flow of a text, as `dot` of Graphviz reads it")
         .after_help(STATUSES)
         .arg(file(alloc))?
@@ -213,14 +287,31 @@ fn dot<'a>(alloc: Global) -> Result<Command<'a>, AllocError> {
                 .value_name("PATH")
                 .default_value("0")
                 .help(
-                    "The region: numbers with dots between them, as `0.2.0`\nfor region 0 of operation 2 of region 0",
+                    "The region: numbers with dots between them, as `0.2.0` for region 0 of operation 2 of region 0",
                 ),
         )?
         .arg(flag(
             alloc,
             "dominators",
-            "Draw a dotted edge from the immediate dominator of\neach block",
-        ))
+            "Draw a dotted edge from the immediate dominator of each block",
+        ))?
+        .arg(flag(
+            alloc,
+            "blocks",
+            "Draw blocks by their heads alone, without operations",
+        ))?
+        .arg(flag(
+            alloc,
+            "nested",
+            "Draw the regions inside, too, each in a frame",
+        ))?
+        .arg(
+            Arg::new(alloc, "title")
+                .long("title")
+                .value_name("TITLE")
+                .help("What to write above the picture"),
+        )?;
+    with_common(dot, alloc)
 }
 
 fn graph<'a>(alloc: Global) -> Result<Command<'a>, AllocError> {
@@ -228,16 +319,28 @@ fn graph<'a>(alloc: Global) -> Result<Command<'a>, AllocError> {
         .about("Draws a graph with a line for each node, as `plir_opt graph` reads it")
         .after_help(STATUSES)
         .arg(file(alloc))?
-        .arg(output(alloc))
+        .arg(output(alloc))?
+        .arg(format(alloc))
 }
 
 fn explain<'a>(alloc: Global) -> Result<Command<'a>, AllocError> {
-    Command::new(alloc, "explain")
+    let explain = Command::new(alloc, "explain")
         .about("Tells why passes changed or took out operations and arguments")
         .after_help(EXPLAIN_STATUSES)
-        .arg(pipeline(alloc))?
+        .arg(
+            Arg::new(alloc, "pipeline")
+                .value_name("PIPELINE")
+                .required(true)
+                .help("The passes, as for `plir opt`; FILE PIPELINE is taken too"),
+        )?
         .arg(file(alloc))?
-        .arg(output(alloc))
+        .arg(output(alloc))?
+        .arg(flag(
+            alloc,
+            "missed",
+            "Tell also what the passes left as it is, and why",
+        ))?;
+    with_common(explain, alloc)
 }
 
 /// The command with one more under it, if that could be made.
@@ -251,10 +354,16 @@ fn with<'a>(
     }
 }
 
+/// What stands beside the program.
+static BESIDE: &str =
+    "The script ./plir has more commands, each with --help: reduce (a failing text made small), bisect (the \
+     first run of a pass that does it), test (RUN and CHECK lines) and report (a page).";
+
 fn command<'a>(alloc: Global) -> Result<Command<'a>, AllocError> {
     let plir = Command::new(alloc, "plir")
         .version("0.1.0")
         .about("Texts of operations: runs, passes, what is wrong and where, pictures, reasons")
+        .after_help(BESIDE)
         .subcommand_required(true)
         .arg_required_else_help(true);
     let plir = with(plir, run(alloc))?;
@@ -265,8 +374,8 @@ fn command<'a>(alloc: Global) -> Result<Command<'a>, AllocError> {
     with(plir, explain(alloc))
 }
 
-/// What the words ask for. Errors: words that the program doesn't have, or asking for help; allocation failure. Cost:
-/// linear in the words.
+/// What the words ask for, of which the first is the program's name. Errors: words that the program doesn't have, or
+/// asking for help; allocation failure. Cost: linear in the words.
 pub fn parse_arguments<'a>(alloc: Global, words: &'a [String]) -> Result<ArgMatches<'a>, Error> {
     command(alloc)?.try_get_matches_from(words)
 }

@@ -4,38 +4,27 @@
 #![tactic(auto)]
 
 mod command;
+mod help;
+mod input;
+mod optimise;
 mod output;
 mod pipeline;
 
 use clap::{ArgMatches, Error};
 use command::parse_arguments;
-use output::{write_answer, write_file, write_report};
+use help::{lay_out, width_of};
+use input::{Input, input_name, read_graph_input, read_input};
+use optimise::opt_as_asked;
+use output::{write_answer, write_file, write_lines, write_report};
 use pipeline::{pipeline_and_file, without_blanks};
 use pliron_cli::{
-    BenchNotation, CompareOptions, FlowOptions, InstrumentationOptions, OptOptions, Outcome,
-    Progress, RunOptions, Source, check, compare, draw_flow, draw_graph, explain, opt_with_check,
-    run,
+    BenchNotation, CompareOptions, EffectSink, ExplainOptions, FlowOptions, MessageForm, Outcome,
+    RunOptions, Source, check, compare, draw_flow, draw_graph, explain, in_form, run, run_streamed,
 };
 use std::alloc::Global;
-use std::io::{self, ErrorKind, IsTerminal, Read};
+use std::env;
+use std::io::{self, ErrorKind};
 use std::process::ExitCode;
-use std::time::{Clock, Duration};
-use std::{env, fs};
-
-/// The text of the file, or of standard input where it is called `-`.
-fn text_of(rt: &HostRuntime, name: &str) -> io::Result<Vec<u8>> {
-    if name != "-" {
-        return fs::read(rt, name);
-    }
-    let mut text = Vec::new(rt.alloc());
-    let _ = rt.stdin().read_to_end(&mut text)?;
-    Ok(text)
-}
-
-/// What users call the input.
-fn input_name(name: &str) -> &str {
-    if name == "-" { "standard input" } else { name }
-}
 
 /// The numbers that an option was given.
 fn numbers(alloc: Global, matches: &ArgMatches, id: &str) -> io::Result<Vec<i64>> {
@@ -63,8 +52,21 @@ fn compare_as_asked<'w>(
     Ok(compare::<BenchNotation>(alloc, source, &options)?)
 }
 
+/// Standard output, which is told of effects as they come.
+#[derive(Drop)]
+struct Effects<'r> {
+    rt: &'r HostRuntime,
+}
+
+impl EffectSink for Effects<'_> {
+    fn tell(&mut self, lines: &[u8]) -> bool {
+        write_lines(self.rt, lines).is_ok()
+    }
+}
+
 /// Runs the text as the words ask, or before and after passes.
-fn run_as_asked(alloc: Global, source: &Source, matches: &ArgMatches) -> io::Result<Outcome> {
+fn run_as_asked(rt: &HostRuntime, source: &Source, matches: &ArgMatches) -> io::Result<Outcome> {
+    let alloc = rt.alloc();
     let inputs = numbers(alloc, matches, "input")?;
     let world = numbers(alloc, matches, "world")?;
     let options = RunOptions {
@@ -75,7 +77,8 @@ fn run_as_asked(alloc: Global, source: &Source, matches: &ArgMatches) -> io::Res
     };
     match matches.get_str("compare") {
         Some(pipeline) => compare_as_asked(alloc, source, options, pipeline),
-        None => Ok(run(alloc, source, &options)?),
+        None if output_file(matches).is_some() => Ok(run(alloc, source, &options)?),
+        None => Ok(run_streamed(alloc, source, &options, &mut Effects { rt })?),
     }
 }
 
@@ -87,134 +90,104 @@ fn output_file<'a>(matches: &ArgMatches<'a>) -> Option<&'a str> {
     }
 }
 
-/// Whether each operation is to stand on a line of its own: where the options ask for it, and on a terminal.
-fn is_pretty(rt: &HostRuntime, matches: &ArgMatches) -> bool {
-    let on_terminal = rt.stdout().is_terminal() && output_file(matches).is_none();
-    matches.get_flag("pretty") || (on_terminal && !matches.get_flag("one-line"))
-}
-
-/// The words that an option was given.
-fn words<'a>(alloc: Global, matches: &ArgMatches<'a>, id: &str) -> io::Result<Vec<&'a str>> {
-    let mut words = Vec::new(alloc);
-    if let Some(given) = matches.get_strs(id) {
-        for word in given {
-            words.push(*word)?;
-        }
-    }
-    Ok(words)
-}
-
-/// The clock of the process, which shows on standard error what ended, once a command takes more than a second.
-#[derive(Clone, Copy, Drop)]
-struct Terminal<'r> {
-    rt: &'r HostRuntime,
-    /// When the command began.
-    start: Duration,
-}
-
-impl Clock for Terminal<'_> {
-    fn monotonic(&self) -> io::Result<Duration> {
-        self.rt.monotonic()
-    }
-
-    fn since_1970(&self) -> io::Result<Duration> {
-        self.rt.since_1970()
-    }
-}
-
-impl Progress for Terminal<'_> {
-    fn pass_ended(&self, number: usize, name: &str) {
-        let Ok(now) = self.rt.monotonic() else {
-            return;
-        };
-        let spent = now.saturating_sub(self.start);
-        if spent >= Duration::from_secs(1) {
-            let run = number.saturating_add(1);
-            let seconds = spent.as_secs();
-            let _ = eprintln!(self.rt; "after {seconds} s: run {run}, {name}");
-        }
-    }
-}
-
-/// Runs these passes on the text, and looks so at what they do.
-fn opt_instrumented<'w>(
-    rt: &HostRuntime,
-    source: &Source,
-    matches: &ArgMatches,
-    instrumentation: InstrumentationOptions<'w>,
-    pipeline: &'w str,
-) -> io::Result<Outcome> {
-    let options = OptOptions {
-        pipeline,
-        is_pretty: is_pretty(rt, matches),
-        instrumentation,
-        times: matches.get_flag("time"),
-    };
-    let start = rt.monotonic().unwrap_or(Duration::ZERO);
-    let terminal = Terminal { rt, start };
-    let is_strict = matches.get_flag("strict");
-    Ok(opt_with_check::<BenchNotation, _>(rt.alloc(), source, &options, is_strict, terminal)?)
-}
-
-/// Runs the passes that the words ask for on the text.
-fn opt_as_asked(rt: &HostRuntime, source: &Source, matches: &ArgMatches) -> io::Result<Outcome> {
-    let prints = words(rt.alloc(), matches, "print-after")?;
-    let instrumentation = InstrumentationOptions {
-        counts: matches.get_flag("stats"),
-        verifies: matches.get_flag("verify-each"),
-        prints_all: matches.get_flag("print-after-all"),
-        prints: &prints,
-    };
-    let pipeline = without_blanks(rt.alloc(), matches.get_str("pipeline").unwrap_or(""))?;
-    opt_instrumented(rt, source, matches, instrumentation, pipeline.as_str())
-}
-
-/// The outcome of a command whose input can't be read: its name is told, and why.
-fn unreadable_input(alloc: Global, name: &str, error: &io::Error) -> io::Result<Outcome> {
-    let report = format!(in alloc; "error: cannot read {name}: {error}\n")?;
-    Ok(Outcome {
-        output: Vec::new(alloc),
-        report,
-        status: 2,
-    })
-}
-
 /// Draws the region that the words ask for.
 fn draw_as_asked(alloc: Global, source: &Source, matches: &ArgMatches) -> io::Result<Outcome> {
     let options = FlowOptions {
         region: matches.get_str("region").unwrap_or("0"),
         dominators: matches.get_flag("dominators"),
+        blocks_alone: matches.get_flag("blocks"),
+        nested: matches.get_flag("nested"),
+        title: matches.get_str("title").unwrap_or(""),
     };
     Ok(draw_flow(alloc, source, &options)?)
 }
 
 /// Tells what the passes did.
-fn explain_as_asked(alloc: Global, source: &Source, pipeline: &str) -> io::Result<Outcome> {
+fn explain_as_asked(
+    alloc: Global,
+    source: &Source,
+    matches: &ArgMatches,
+    pipeline: &str,
+) -> io::Result<Outcome> {
     let pipeline = without_blanks(alloc, pipeline)?;
-    Ok(explain(alloc, source, pipeline.as_str())?)
+    let options = ExplainOptions {
+        pipeline: pipeline.as_str(),
+        missed: matches.get_flag("missed"),
+    };
+    Ok(explain(alloc, source, &options)?)
+}
+
+/// The outcome of a command that can't read its input: what went wrong is told.
+fn input_failure(alloc: Global, report: String) -> Outcome {
+    Outcome {
+        output: Vec::new(alloc),
+        report,
+        status: 2,
+    }
 }
 
 /// What the command makes of its input.
-fn outcome(rt: &HostRuntime, command: &str, matches: &ArgMatches) -> io::Result<Outcome> {
+fn outcome_of_text(
+    rt: &HostRuntime,
+    command: &str,
+    matches: &ArgMatches,
+    input: &Input,
+) -> io::Result<Outcome> {
     let alloc = rt.alloc();
     let (pipeline, name) = pipeline_and_file(alloc, matches)?;
-    let text = match text_of(rt, name) {
-        Ok(text) => text,
-        Err(error) => return unreadable_input(alloc, input_name(name), &error),
-    };
     let source = Source {
         name: input_name(name),
-        text: &text,
+        text: &input.text,
     };
     match command {
         "check" => Ok(check::<BenchNotation>(alloc, &source)?),
-        "opt" => opt_as_asked(rt, &source, matches),
+        "opt" => opt_as_asked(rt, &source, matches, pipeline, input),
         "dot" => draw_as_asked(alloc, &source, matches),
         "graph" => Ok(draw_graph(alloc, &source)?),
-        "explain" => explain_as_asked(alloc, &source, pipeline),
-        _ => run_as_asked(alloc, &source, matches),
+        "explain" => explain_as_asked(alloc, &source, matches, pipeline),
+        _ => run_as_asked(rt, &source, matches),
     }
 }
+
+/// What the command makes of its input, or why that can't be read.
+fn outcome(rt: &HostRuntime, command: &str, matches: &ArgMatches) -> io::Result<Outcome> {
+    let alloc = rt.alloc();
+    let (_, name) = pipeline_and_file(alloc, matches)?;
+    let path = if command == "graph" {
+        None
+    } else {
+        matches.get_str("at")
+    };
+    let read = if command == "graph" {
+        read_graph_input(rt, name).map(|input| Some(input))
+    } else {
+        read_input(rt, name, path)
+    };
+    match read {
+        Ok(Some(input)) => outcome_of_text(rt, command, matches, &input),
+        Ok(None) => {
+            let (path, help) = (path.unwrap_or(""), AT_HELP);
+            let report = format!(in alloc; "error: no operation `{path}`\nhelp: {help}\n")?;
+            Ok(input_failure(alloc, report))
+        }
+        Err(error) => {
+            let name = input_name(name);
+            let report = format!(in alloc; "error: cannot read {name}: {error}\n")?;
+            Ok(input_failure(alloc, report))
+        }
+    }
+}
+
+/// What a path to an operation is.
+static AT_HELP: &str = "`0.2` is operation 2 of region 0 of the text's operation, counted from 0";
+
+/// The passes that `opt` has, each with what it does.
+static PASS_LIST: &str = "\
+sccp          sparse conditional constant propagation
+dce           dead code elimination
+simplify-cfg  simplification of control flow
+cse           common subexpression elimination
+";
 
 /// Writes the answer of the command, and answers the status: to the file that is named, or to standard output. A file
 /// that is named is left as it is where there is no answer.
@@ -236,10 +209,24 @@ fn write_outcome(rt: &HostRuntime, outcome: &Outcome, file: Option<&str>) -> io:
     }
 }
 
+/// The form of what is told that the words ask for.
+fn form_of(matches: &ArgMatches) -> MessageForm {
+    match matches.get_str("format") {
+        Some("short") => MessageForm::Short,
+        Some("json") => MessageForm::Json,
+        _ => MessageForm::Full,
+    }
+}
+
 /// Does what the command asks for, and answers its status.
 fn act(rt: &HostRuntime, command: &str, matches: &ArgMatches) -> io::Result<u8> {
+    if command == "opt" && matches.get_flag("list-passes") {
+        write_answer(rt, PASS_LIST.as_bytes())?;
+        return Ok(0);
+    }
     let outcome = outcome(rt, command, matches)?;
-    write_report(rt, outcome.report.as_str());
+    let report = in_form(rt.alloc(), outcome.report.as_str(), form_of(matches))?;
+    write_report(rt, report.as_str());
     write_outcome(rt, &outcome, output_file(matches))
 }
 
@@ -261,9 +248,13 @@ fn act_on(rt: &HostRuntime, matches: &ArgMatches) -> u8 {
     }
 }
 
-/// Writes what is wrong with the words, or the help that they ask for, and answers the status.
+/// Writes what is wrong with the words, or the help that they ask for, in the width of the terminal, and answers the
+/// status.
 fn write_usage(rt: &HostRuntime, error: &Error) -> io::Result<u8> {
+    let columns = env::var(rt, "COLUMNS").ok();
+    let width = width_of(columns.as_deref());
     let text = format!(in rt.alloc(); "{error}")?;
+    let text = lay_out(rt.alloc(), text.as_str(), width)?;
     if error.use_stderr() {
         write_report(rt, text.as_str());
         return Ok(2);

@@ -11,6 +11,14 @@ pub fn write_answer(rt: &HostRuntime, answer: &[u8]) -> io::Result<()> {
     }
 }
 
+/// Writes lines to standard output at once. Errors: those of the stream, also where nobody reads it any more. Cost:
+/// linear in them.
+pub fn write_lines(rt: &HostRuntime, lines: &[u8]) -> io::Result<()> {
+    let mut output = rt.stdout();
+    output.write_all(lines)?;
+    output.flush()
+}
+
 /// Writes the report to standard error, as far as that takes it. Cost: linear in it.
 pub fn write_report(rt: &HostRuntime, report: &str) {
     let _ = eprint!(rt; "{report}");

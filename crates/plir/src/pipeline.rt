@@ -54,3 +54,30 @@ pub fn pipeline_and_file<'a>(
         second => Ok((first, second.unwrap_or("-"))),
     }
 }
+
+/// The first so many passes of the pipeline, with its repetitions written out: the same pipeline where it has no more.
+/// What plans no passes stays as it is. Errors: allocation failure. Cost: linear in what is written.
+pub fn first_passes(alloc: Global, pipeline: &str, most: usize) -> Result<String, AllocError> {
+    let plan = match PipelineText::read(alloc, pipeline) {
+        Ok(plan) => plan,
+        Err(PlanError::Word(_)) => return String::from_str(alloc, pipeline),
+        Err(PlanError::Memory) => return Err(AllocError),
+    };
+    let runs = plan.runs.unwrap_or(1);
+    if most >= runs.saturating_mul(plan.names.len()) {
+        return String::from_str(alloc, pipeline);
+    }
+    let mut text = String::from_str(alloc, if plan.nested { "nested(" } else { "" })?;
+    let mut left = most;
+    for _ in 0..runs {
+        for name in &plan.names {
+            if left > 0 {
+                text.push_str(if left == most { "" } else { "," })?;
+                text.push_str(name)?;
+                left = left.saturating_sub(1);
+            }
+        }
+    }
+    text.push_str(if plan.nested { ")" } else { "" })?;
+    Ok(text)
+}

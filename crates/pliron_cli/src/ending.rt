@@ -2,6 +2,7 @@
 ghost use Rattle.std.specs.Prelude.{◌≡◌, ◌⊎◌, IfOk};
 ghost use Rattle.pliron_cli.specs.Outcomes.{EndsBadly};
 
+use crate::graph_fault::graph_fault_message;
 use crate::{CommandFailure, Outcome, Source};
 use std::alloc::{AllocError, Global};
 
@@ -31,9 +32,7 @@ impl DrawFailure<'_> {
     fn message(self, alloc: Global, source: &Source) -> Result<String, AllocError> {
         match self {
             DrawFailure::Failed(failure) => failure.message(alloc, source),
-            DrawFailure::Graph => format!(in alloc;
-                "error: unreadable graph\nhelp: write a line for each node, as `0: 1 2`: its number and its successors\n"
-            ),
+            DrawFailure::Graph => graph_fault_message(alloc, source),
             DrawFailure::Region(path) => format!(in alloc;
                 "error: no region `{path}`\nhelp: `0.2.0` is region 0 of operation 2 of region 0 of the text's operation\n"
             ),

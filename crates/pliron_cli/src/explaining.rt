@@ -36,7 +36,11 @@ fn passes_of(alloc: Global, names: &[&str]) -> Result<Option<Vec<PassName>>, All
 }
 
 /// The passes that the plan asks for, if each of its names is that of one.
-fn list_of(alloc: Global, plan: &PipelineText) -> Result<Option<PassList>, AllocError>
+fn list_of(
+    alloc: Global,
+    plan: &PipelineText,
+    tells_missed: bool,
+) -> Result<Option<PassList>, AllocError>
     ensures nested { IfOk result (λ found. IfSome found (λ list. list.is_nested ≡ plan.now.nested)) }
     ensures passes { IfOk result (λ found. IfSome found
         (λ list. length list.passes.items ≡ length plan.now.names.items)) }
@@ -46,16 +50,22 @@ fn list_of(alloc: Global, plan: &PipelineText) -> Result<Option<PassList>, Alloc
             runs: plan.runs.unwrap_or(1),
             is_nested: plan.nested,
             passes,
+            tells_missed,
         })),
         None => Ok(None),
     }
 }
 
 /// Tells what the passes that the plan asks for did.
-fn explain_by(alloc: Global, source: &Source, plan: &PipelineText) -> Result<Outcome, AllocError>
+fn explain_by(
+    alloc: Global,
+    source: &Source,
+    plan: &PipelineText,
+    tells_missed: bool,
+) -> Result<Outcome, AllocError>
     ensures { IfOk result (Ends ⊤ ⊥) }
 {
-    let Some(list) = list_of(alloc, plan)? else {
+    let Some(list) = list_of(alloc, plan, tells_missed)? else {
         return draw_failure_outcome(alloc, DrawFailure::Failed(CommandFailure::Text), source);
     };
     match explain_changes(alloc, source.text, &list) {
@@ -69,18 +79,32 @@ fn explain_by(alloc: Global, source: &Source, plan: &PipelineText) -> Result<Out
     }
 }
 
+/// What is explained.
+#[derive(Clone, Copy)]
+pub struct ExplainOptions<'w> {
+    /// The passes, as a word.
+    pub pipeline: &'w str,
+    /// Whether it is told, too, what they left as it is, and why.
+    pub missed: bool,
+}
+
 /// Tells what changed in a text: for each operation and argument that changed or went when the passes were run that the
-/// word asks for, where it stands, and why.
+/// word asks for, where it stands, and why; where the options ask for it, also for each operation that the passes left
+/// as it is though they change its like.
 ///
 /// Statuses: 0; 1 where memory or the passes were refused; 2 for an unreadable text, or a word that asks for no passes.
 /// With 1 and 2 nothing is to be written to the output. Errors: allocation failure for what is told. Cost: that of
-/// `explained`.
-pub fn explain(alloc: Global, source: &Source, pipeline: &str) -> Result<Outcome, AllocError>
+/// `explain_changes`.
+pub fn explain(
+    alloc: Global,
+    source: &Source,
+    options: &ExplainOptions,
+) -> Result<Outcome, AllocError>
     ensures { IfOk result (Ends ⊤ ⊥) }
 {
-    match PipelineText::read(alloc, pipeline) {
-        Ok(plan) => explain_by(alloc, source, &plan),
-        Err(PlanError::Word(fault)) => misspelling_outcome(alloc, pipeline, &fault),
+    match PipelineText::read(alloc, options.pipeline) {
+        Ok(plan) => explain_by(alloc, source, &plan, options.missed),
+        Err(PlanError::Word(fault)) => misspelling_outcome(alloc, options.pipeline, &fault),
         Err(PlanError::Memory) => {
             draw_failure_outcome(
                 alloc,

@@ -10,6 +10,7 @@ mod drawing;
 mod ending;
 mod explaining;
 mod failure;
+mod graph_fault;
 mod optimising;
 mod outcome;
 mod report;
@@ -23,14 +24,17 @@ mod violation_message;
 pub use checking::{Checked, check, check_text};
 pub use comparing::{CompareOptions, Sights, compare, compare_text};
 pub use drawing::{draw_flow, draw_graph};
-pub use explaining::explain;
+pub use explaining::{ExplainOptions, explain};
 pub use failure::CommandFailure;
 pub use optimising::{OptOptions, misspelling_outcome, opt};
 pub use outcome::Outcome;
-pub use pliron_diagnostics::{RunOptions, Source};
+pub use pliron_diagnostics::{
+    EffectSink, MessageForm, RunOptions, Source, TextRange, blank_comments, in_form, isolate,
+    operation_range, without_mark,
+};
 pub use pliron_graphviz::FlowOptions;
 pub use pliron_instrument::{InstrumentationOptions, PipelineText, PlanError, Progress};
 pub use pliron_opts::BenchNotation;
-pub use running::run;
+pub use running::{run, run_streamed};
 pub use shown::Shown;
 pub use strict::opt_with_check;

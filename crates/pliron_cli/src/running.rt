@@ -4,7 +4,10 @@ ghost use Rattle.pliron_cli.specs.Outcomes.{Ends};
 
 use crate::failure::CommandFailure;
 use crate::outcome::{Outcome, failure_outcome};
-use pliron_diagnostics::{End, RunOptions, Source, run_text};
+use pliron_diagnostics::{
+    EffectSink, End, RunOptions, RunReport, Source, run_text, run_text_streamed,
+};
+use pliron_laws::OptError;
 use pliron_opts::BenchNotation;
 use std::alloc::{AllocError, Global};
 
@@ -18,16 +21,16 @@ fn status_of_end(end: End) -> u8
     }
 }
 
-/// Runs the text, and answers its effects as they come, and how it ends.
-///
-/// Statuses: 0 where it ends with values; 1 where memory was refused; 2 for an unreadable text; 3 where it traps, or
-/// the steps or the world's answers are used up. With 1 and 2 nothing is to be written to the output. Errors:
-/// allocation failure for what is told. Cost: reading, and that of `evaluate_noting`.
+/// The outcome of a run of which this is told.
 #[tactic(auto, using(crate::proofs::CommandLemmas::ends_by))]
-pub fn run(alloc: Global, source: &Source, options: &RunOptions) -> Result<Outcome, AllocError>
+fn outcome_of_run(
+    alloc: Global,
+    source: &Source,
+    told: Result<Option<RunReport>, OptError>,
+) -> Result<Outcome, AllocError>
     ensures { IfOk result (Ends ⊤ ⊤) }
 {
-    match run_text(alloc, source, options) {
+    match told {
         Ok(Some(told)) => Ok(Outcome {
             output: told.seen.into_bytes(),
             report: told.report,
@@ -40,4 +43,32 @@ pub fn run(alloc: Global, source: &Source, options: &RunOptions) -> Result<Outco
             source,
         ),
     }
+}
+
+/// Runs the text, and answers its effects in order, and how it ends.
+///
+/// Statuses: 0 where it ends with values; 1 where memory was refused; 2 for an unreadable text; 3 where it traps, or
+/// the steps or the world's answers are used up. With 1 and 2 nothing is to be written to the output. Errors:
+/// allocation failure for what is told. Cost: reading, and that of `evaluate_noting`.
+pub fn run(alloc: Global, source: &Source, options: &RunOptions) -> Result<Outcome, AllocError>
+    ensures { IfOk result (Ends ⊤ ⊤) }
+{
+    let told = run_text(alloc, source, options);
+    outcome_of_run(alloc, source, told)
+}
+
+/// The same, but that the sink is told of the effects as they come, so that the output has the others alone.
+///
+/// Statuses: those of `run`. Errors: allocation failure for what is told. Cost: that of `run` for a third more moves
+/// than the run makes.
+pub fn run_streamed<S: EffectSink>(
+    alloc: Global,
+    source: &Source,
+    options: &RunOptions,
+    sink: &mut S,
+) -> Result<Outcome, AllocError>
+    ensures { IfOk result (Ends ⊤ ⊤) }
+{
+    let told = run_text_streamed(alloc, source, options, sink);
+    outcome_of_run(alloc, source, told)
 }

@@ -79,11 +79,22 @@ impl Unchecked {
     }
 }
 
+/// How bad it is that the text isn't fit to run; where each run is verified it is told that it was so before the first
+/// one.
+fn severity_of(verifies: bool) -> &'static str {
+    if verifies {
+        "warning: already in the input"
+    } else {
+        "warning"
+    }
+}
+
 /// A warning of what keeps the text's operation from being fit to run, or, of a `mod`, one of its functions; empty
 /// where nothing does, and of an unreadable text. Asks that the context is empty. Errors: allocation failure.
 fn warning_in<N: Shown>(
     alloc: Global,
     source: &Source,
+    verifies: bool,
     ctx: &mut Context,
 ) -> Result<String, OptError>
     requires { ctx.old.tree ≡ no_tree }
@@ -97,16 +108,16 @@ fn warning_in<N: Shown>(
     }
     match unchecked.first_unfit::<N::D>(ctx)? {
         Some((op, violation)) => {
-            violation_message::<N>(alloc, "warning", source, op, &violation, ctx)
+            violation_message::<N>(alloc, severity_of(verifies), source, op, &violation, ctx)
         }
         None => Ok(String::new(alloc)),
     }
 }
 
 /// The same in a context of its own.
-fn warning<N: Shown>(alloc: Global, source: &Source) -> Result<String, OptError> {
+fn warning<N: Shown>(alloc: Global, source: &Source, verifies: bool) -> Result<String, OptError> {
     let mut ctx = Context::new(alloc);
-    warning_in::<N>(alloc, source, &mut ctx)
+    warning_in::<N>(alloc, source, verifies, &mut ctx)
 }
 
 /// Runs the passes where the text's operation is fit to run.
@@ -157,7 +168,7 @@ pub fn opt_with_check<N: Shown, C: Progress + Copy + Drop>(
     if is_strict {
         return opt_if_fit::<N, C>(alloc, source, options, clock);
     }
-    match warning::<N>(alloc, source) {
+    match warning::<N>(alloc, source, options.instrumentation.verifies) {
         Ok(report) => opt_after::<N, C>(alloc, source, options, clock, report),
         Err(error) => failure_outcome::<N>(alloc, CommandFailure::Refused(error), source),
     }

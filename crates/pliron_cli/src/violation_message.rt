@@ -63,7 +63,7 @@ fn plain_words(violation: &Violation) -> PlainWords {
         Violation::NoDominance(_) => PlainWords {
             message: "a region in which definitions need not come before uses",
             label: "this operation has such a region",
-            help: "only the first block of a `mod` is entered: run one of its `func`s alone",
+            help: "only the first block of a `mod` is entered: take one of its `func`s alone, as by `--at 0.0`",
         },
         Violation::UnequalEdge(_, _) => PlainWords {
             message: "an edge passes another number of values than its block takes",

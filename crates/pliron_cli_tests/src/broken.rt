@@ -37,43 +37,74 @@ fn expect_broken(rt: &impl Abort, alloc: Global, text: &str, wanted: &str) {
 
 /// Broken texts, and line, column and what was to stand there.
 static BROKEN: &str = "\
-|  fun {|b0():|  ret|} => 2:3 `mod` or `func`
-func {|b0():|  ret => 3:6 `;` or `}`
-func {|b0(|  ret|} => 3:3 the name of a value
-func {|b0(x|  ret|} => 3:3 `,` or `)`
-func {|b0(x, 1):|  ret|} => 2:7 the name of a value
-func {|b0(x):|  ret x y,|} => 3:10 `;` or `}`
-func {|b0(x)|  ret x|} => 3:3 `:`
-func {|  x = const 1;|  ret x|} => 2:3 a block, as each `func` and `scope` has one
-func {|b0():|  x = const;|  ret x|} => 3:12 a number from -2^63 to 2^63 - 1, without leading zeros
-func {|b0():|  x = const 00;|  ret x|} => 3:13 a number from -2^63 to 2^63 - 1, without leading zeros
-func {|b0():|  x = const -9223372036854775809;|  ret x|} => 3:13 a number from -2^63 to 2^63 - 1, without leading zeros
-func {|b0():|  x = konst 1;|  ret x|} => 3:7 a kind of operations
-func {|b0(x):|  y = add x;|  ret y|} => 3:12 the name of a value
-func {|b0(x):|  y = add x x x;|  ret y|} => 3:15 `;` or `}`
-func {|b0(x):|  y = add x z;|  ret y|} => 3:13 the name of a value that its `func` defines
-func {|b0(x):|  x = const 1;|  ret x|} => 3:3 a value's name that its `func` doesn't define before
-func {|b0(x, x):|  ret x|} => 2:7 a value's name that its `func` doesn't define before
-func {|b0():|  br b1()|} => 3:6 the name of a block that its region defines
-func {|b0():|  br b0|} => 4:1 `(`
-func {|b0(c):|  cbr c b0(c);|b1():|  ret|} => 3:14 the name of a block
-func {|b0():|  br b1();|b1():|  ret;|b0():|  ret|} => 6:1 a block's name that its region doesn't define before
-func {|b0():|  br b1();|  ret;|b1():|  ret|} => 4:3 a block, since no operation follows one with successors
-func {|b0():|  x = print x;|  ret|} => 3:7 a kind of operations with one result
-func {|b0():|  read;|  ret|} => 3:3 a kind of operations with no results
-func {|b0():|  x, y = read;|  ret|} => 3:10 a kind of operations with two results
-mod {|b0():|  func {|  b0():|    ret|  };|  ret|} => 7:3 `mod` or `func`, as operations of a `mod` are
-mod {|b0(x):|} => 2:4 no arguments, as blocks of a `mod` have none
-func {|b0():|  mod { };|  ret|} => 3:3 an operation that stands in a `func`, and no `mod` or `func`
-func {|b0():|  scope {|  b0():|    ret|  }|  ret|} => 7:3 `;` or `}`
-func {|b0():|  scope { ret };|  ret|} => 3:11 a block, as each `func` and `scope` has one
-func {|b0():|  ret|}|} => 5:1 the end of the text
-func {|b0():|  ret|}|func {|b0():|  ret|} => 5:1 the end of the text
-func {|b0():|  ret;|} => 4:1 a kind of operations
-func {|b0():|  x := const 1;|  ret x|} => 3:5 `,` or `=`
-func {|b0():|  x = const 1; % one|  ret x|} => 3:16 a word, a number or one of `{ } ( ) , : ; =`
-func {|b0():|\tx = const 1 const 2;|  ret x|} => 3:14 `;` or `}`
-func {|b0(x):|  ret x| => 4:1 `;` or `}`";
+|  fun {|b0():|  ret|} => 2:3 expected `mod` or `func`; is `func` meant?
+function {|b0():|  ret|} => 1:1 expected `mod` or `func`; is `func` meant?
+ret => 1:1 expected `mod` or `func`
+func {|b0():|  ret => 3:6 expected the name of a value, `;` or `}`
+func {|b0(|  ret|} => 3:3 expected the name of a value or `)`; `ret` is reserved for a kind of operations
+func {|b0(x|  ret|} => 3:3 expected `,` or `)`
+func {|b0(x, 1):|  ret|} => 2:7 expected the name of a value
+func {|b0(1):|  ret|} => 2:4 expected the name of a value or `)`
+func {|b0(print):|  ret|} => 2:4 expected the name of a value or `)`; `print` is reserved for a kind of operations
+func {|b0(x):|  ret x y,|} => 3:10 expected the name of a value, `;` or `}`
+func {|b0():|  ret 5|} => 3:7 expected the name of a value, `;` or `}`
+func {|b0():|  sink 5;|  ret|} => 3:8 expected the name of a value, `;` or `}`
+func {|b0(x)|  ret x|} => 3:3 expected `:`
+func {|b0:|  ret|} => 2:3 expected `(` with its arguments
+func {|b0():|  br b1();|b1:|  ret|} => 4:3 expected `(` with its arguments
+func {|br():|  ret|} => 2:1 expected the name of a block; `br` is reserved for a kind of operations
+func {|b0():|  ret;|ret():|  ret|} => 4:1 expected the name of a block; `ret` is reserved for a kind of operations
+func {|b0():|  br b1();|print(x):|  ret|} => 4:1 expected the name of a block; `print` is reserved for a kind of operations
+func {|  x = const 1;|  ret x|} => 2:3 expected a block, as each `func` and `scope` has one: operations stand in blocks, as `b0(): ..`
+func {|  ret|} => 2:3 expected a block, as each `func` and `scope` has one
+func {|} => 2:1 expected a block, as each `func` and `scope` has one
+func {|b0():|  x = const;|  ret x|} => 3:12 expected a number from -2^63 to 2^63 - 1, without leading zeros
+func {|b0():|  x = const 00;|  ret x|} => 3:13 expected a number from -2^63 to 2^63 - 1, without leading zeros
+func {|b0():|  x = const -9223372036854775809;|  ret x|} => 3:13 expected a number from -2^63 to 2^63 - 1, without leading zeros
+func {|b0():|  x = konst 1;|  ret x|} => 3:7 expected a kind of operations with results: `const`, `add`, `mul`, `div`, `read` or `pair`; is `const` meant?
+func {|b0():|  x = cosnt 1;|  ret x|} => 3:7 expected a kind of operations with results: `const`, `add`, `mul`, `div`, `read` or `pair`; is `const` meant?
+func {|b0(y):|  x = sub y y;|  ret x|} => 3:7 expected a kind of operations with results: `const`, `add`, `mul`, `div`, `read` or `pair`
+func {|b0(x):|  y = add x;|  ret y|} => 3:12 expected the name of a value
+func {|b0(x):|  y = add x x x;|  ret y|} => 3:15 expected `;` or `}`
+func {|b0(x):|  y = add x ret;|  ret y|} => 3:13 expected the name of a value; `ret` is reserved for a kind of operations
+func {|b0(x):|  y = add x z;|  ret y|} => 3:13 expected the name of a value that its `func` defines
+func {|b0(x):|  x = const 1;|  ret x|} => 3:3 expected a value's name that its `func` doesn't define before
+func {|b0(x, x):|  ret x|} => 2:7 expected a value's name that its `func` doesn't define before
+func {|b0():|  add = const 1;|  ret|} => 3:3 expected the name of a value; `add` is reserved for a kind of operations
+func {|b0():|  br b1()|} => 3:6 expected the name of a block that its region defines
+func {|b0():|  br b0|} => 4:1 expected `(`
+func {|b0():|  br b0(;|  ret|} => 3:9 expected the name of a value or `)`
+func {|b0():|  br ret();|b1():|  ret|} => 3:6 expected the name of a block; `ret` is reserved for a kind of operations
+func {|b0(c):|  cbr c b0(c);|b1():|  ret|} => 3:14 expected the name of a block
+func {|b0(c):|  fork c b0;|b1():|  ret|} => 3:12 expected the name of a block
+func {|b0():|  br b1();|b1():|  ret;|b0():|  ret|} => 6:1 expected a block's name that its region doesn't define before
+func {|b0():|  br b1();|  ret;|b1():|  ret|} => 4:3 expected a block, since no operation follows one with successors
+func {|b0():|  x = print x;|  ret|} => 3:7 expected a kind of operations with one result: `const`, `add`, `mul`, `div` or `read`
+func {|b0():|  read;|  ret|} => 3:3 expected a kind of operations with no results: `print`, `sink`, `scope`, `box`, `br`, `cbr`, `fork` or `ret`
+func {|b0():|  x, y = read;|  ret|} => 3:10 expected a kind of operations with two results: `pair`
+mod {|b0():|  func {|  b0():|    ret|  };|  ret|} => 7:3 expected `mod` or `func`, as operations of a `mod` are
+mod {|b0(x):|} => 2:4 expected no arguments, as blocks of a `mod` have none
+mod {|f = func { b0(): ret }|} => 2:1 expected a block, or `}`: operations stand in blocks, as `b0(): ..`
+mod {|b0():|  f = func { b0(): ret }|} => 3:7 expected a kind of operations with one result: `const`, `add`, `mul`, `div` or `read`; this one has none
+func {|b0():|  mod { };|  ret|} => 3:3 expected an operation that stands in a `func`, and no `mod` or `func`
+func {|b0():|  scope {|  b0():|    ret|  }|  ret|} => 7:3 expected `;` or `}`
+func {|b0():|  scope { ret };|  ret|} => 3:11 expected a block, as each `func` and `scope` has one
+func {|b0():|  scope 1 { b1(): ret };|  ret|} => 3:9 expected the name of a value or `{`
+func {|b0():|  box 1 { };|  ret|} => 3:7 expected `{`
+func {|b0():|  ret|}|} => 5:1 expected the end of the text; this `}` closes nothing
+func {|b0():|  ret|}|func {|b0():|  ret|} => 5:1 expected the end of the text
+func {|b0():|  ret;|} => 4:1 expected an operation or a block
+func {|b0():|  x := const 1;|  ret x|} => 3:5 expected `,` or `=`
+func {|b0():|  return|} => 3:3 expected a kind of operations; is `ret` meant?
+func {|b0(a):|  return a|} => 3:3 expected a kind of operations; is `ret` meant?
+func {|b0(a):|  goto b1(a);|b1(x):|  ret|} => 3:3 expected a kind of operations; is `br` meant?
+func {|b0(a):|  prnt a;|  ret|} => 3:3 expected a kind of operations; is `print` meant?
+func {|b0():|  x = const 1; % one|  ret x|} => 3:16 expected a word, a number or one of `{ } ( ) , : ; =`; `%` begins nothing: a name is a word alone
+func {|b0():|  x = const 1; # one|  ret x|} => 3:16 expected a word, a number or one of `{ } ( ) , : ; =`; `#` begins nothing: a comment begins with `//`
+func {|b0():|  _x = const 1;|  ret|} => 3:3 expected a word, a number or one of `{ } ( ) , : ; =`; `_` begins nothing: a name begins with a letter
+func {|b0():|  x = const 1 + 1;|  ret|} => 3:15 expected a word, a number or one of `{ } ( ) , : ; =`; `+` begins nothing
+func {|b0():|\tx = const 1 const 2;|  ret x|} => 3:14 expected `;` or `}`
+func {|b0(x):|  ret x| => 4:1 expected the name of a value, `;` or `}`";
 
 #[test]
 fn broken_texts(rt: HostRuntime) {

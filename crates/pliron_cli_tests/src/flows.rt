@@ -15,8 +15,14 @@ fn draw_region(rt: &impl Abort, alloc: Global, region: &str, text: &str) -> Outc
         text: text.as_bytes(),
     };
     let options = FlowOptions {
-        region: region.trim_start_matches('!'),
+        region: region
+            .trim_start_matches('!')
+            .trim_start_matches('+')
+            .trim_start_matches('-'),
         dominators: region.starts_with('!'),
+        blocks_alone: region.starts_with('-'),
+        nested: region.starts_with('+'),
+        title: if region.starts_with('-') { "T" } else { "" },
     };
     draw_flow(alloc, &source, &options).expect(rt, "memory")
 }
@@ -34,20 +40,24 @@ fn lines_of(rt: &impl Abort, alloc: Global, lines: &str) -> String {
             };
             text.push(letter).expect(rt, "memory");
         }
-        text.push_str(";\n").expect(rt, "memory");
+        let is_brace = line.ends_with('{') || line == "}";
+        text.push_str(if is_brace { "\n" } else { ";\n" })
+            .expect(rt, "memory");
     }
     text.push_str(END).expect(rt, "memory");
     text
 }
 
-/// Paths, behind `!` where dominators are drawn, texts and their pictures.
+/// Paths, behind `!` where dominators are drawn, behind `+` where the regions inside are, behind `-` where blocks stand
+/// alone under a title; texts; and their pictures.
 static PICTURES: &str = "\
-0 => func { b0(): ret } => 0 [label='b0():/lret/l']
-0 => func { a(x): br  b( x ) ; b(y): ret  y } => 0 [label='a(x):/lbr b( x )/l']|1 [label='b(y):/lret y/l']|0 -> 1 [label=' x ']
-!0 => func { a(c): cbr c b(c) d(); b(y): br d(); d(): ret } => 0 [label='a(c):/lcbr c b(c) d()/l']|1 [label='b(y):/lbr d()/l']|2 [label='d():/lret/l']|0 -> 1 [label=' c ']|0 -> 2|1 -> 2|0 -> 1 [style='dotted', color='blue', constraint='false']|0 -> 2 [style='dotted', color='blue', constraint='false']
-0 => func { a(): ret; lost(): x = const 1; br a() } => 0 [label='a():/lret/l']|1 [label='lost():/lx = const 1/lbr a()/l', color='grey', fontcolor='grey']|1 -> 0 [color='grey', fontcolor='grey']
-0 => mod { m(): func { f(): ret }; func { g(): ret } } => 0 [label='m():/lfunc { 0.0.0 }/lfunc { 0.1.0 }/l']
-0.1.0 => mod { m(): func { f(): ret }; func { g(): ret } } => 2 [label='g():/lret/l']";
+0 => func { b0(): ret } => 0 [label='b0():/lret/l', peripheries='2']
+0 => func { a(x): br  b( x ) ; b(y): ret  y } => 0 [label='a(x):/lbr b( x )/l', peripheries='2']|1 [label='b(y):/lret y/l']|0 -> 1 [label=' x ']
+!0 => func { a(c): cbr c b(c) d(); b(y): br d(); d(): ret } => 0 [label='a(c):/lcbr c b(c) d()/l', peripheries='2']|1 [label='b(y):/lbr d()/l']|2 [label='d():/lret/l']|0 -> 1 [label=' true: c ']|0 -> 2 [label=' false ']|1 -> 2|0 -> 1 [style='dotted', color='blue', constraint='false']|0 -> 2 [style='dotted', color='blue', constraint='false']
+0 => func { a(): ret; lost(): x = const 1; br a() } => 0 [label='a():/lret/l', peripheries='2']|1 [label='lost():/lx = const 1/lbr a()/l', color='grey', fontcolor='grey']|1 -> 0 [color='grey', fontcolor='grey']
+0 => mod { m(): func { f(): ret }; func { g(): ret } } => 0 [label='m():/lfunc { 0.0.0 }/lfunc { 0.1.0 }/l', peripheries='2']
+0.1.0 => mod { m(): func { f(): ret }; func { g(): ret } } => 2 [label='g():/lret/l', peripheries='2']
++0 => mod { m(): func { f(): box { b(): ret }; ret }; func { g(): ret } } => 0 [label='m():/lfunc { 0.0.0 }/lfunc { 0.1.0 }/l', peripheries='2']|subgraph cluster0 {|graph [label='0.0.0', labelloc='t']|1 [label='f():/lbox { 0.0.0.0.0 }/lret/l', peripheries='2']|subgraph cluster1 {|graph [label='0.0.0.0.0', labelloc='t']|2 [label='b():/lret/l', peripheries='2']|}|}|subgraph cluster2 {|graph [label='0.1.0', labelloc='t']|3 [label='g():/lret/l', peripheries='2']|}";
 
 #[test]
 fn flows_are_drawn(rt: HostRuntime) {

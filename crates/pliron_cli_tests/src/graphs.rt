@@ -52,9 +52,23 @@ fn graphs_are_drawn(rt: HostRuntime) {
     }
 }
 
+/// Texts that are no graphs, with line, column and what was to stand there.
+static FAULTS: &str = "\
+1: 2 => 1:4 a node that has a line
+1:|1: => 2:1 a node that has no line before
+x => 1:1 a number of 32 bits without leading zeros
+01: => 1:1 a number of 32 bits without leading zeros
+1 2 => 1:2 `:`
+1:2|2: => 1:3 one blank and a number, or the end of the line
+1:  2|2: => 1:4 a number of 32 bits without leading zeros
+1: 2|2: 4294967296 => 2:4 a number of 32 bits without leading zeros";
+
 #[test]
 fn other_texts_are_no_graphs(rt: HostRuntime) {
-    for text in ["1: 2", "1:\n1:\n", "x"] {
+    for case in FAULTS.lines() {
+        let (text, wanted) = case.split_once(" => ").expect(&rt, "a case");
+        let (place, expected) = wanted.split_once(' ').expect(&rt, "a place");
+        let text = with_lines(&rt, rt.alloc(), text, "");
         let source = Source {
             name: "text",
             text: text.as_bytes(),
@@ -62,6 +76,11 @@ fn other_texts_are_no_graphs(rt: HostRuntime) {
         let outcome = draw_graph(rt.alloc(), &source).expect(&rt, "memory");
         assert!(rt; outcome.output.is_empty());
         assert_eq!(rt; outcome.status, 2);
-        assert!(rt; outcome.report.starts_with("error: unreadable graph\n"));
+        let told = outcome.report.as_str();
+        assert!(rt; told.starts_with("error: unreadable graph\n"));
+        let second = told.lines().nth(1).unwrap_or("");
+        let found = second.split_once("--> text:").unwrap_or(("", "")).1;
+        assert!(rt; found == place, "{case} => {told}");
+        assert!(rt; told.contains(expected), "{case} => {told}");
     }
 }

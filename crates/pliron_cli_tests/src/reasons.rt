@@ -1,5 +1,5 @@
 //! Why passes changed what, worked by hand.
-use pliron_cli::{Source, explain};
+use pliron_cli::{ExplainOptions, Outcome, Source, explain};
 use std::alloc::Global;
 use std::process::Abort;
 
@@ -13,6 +13,7 @@ sccp => func { b0(): a = const 2; b = add a a; ret b } => 1:27 b = add a a: fold
 simplify-cfg => func { b0(): c = const 0; cbr c b1() b2(); b1(): ret; b2(): print c; ret } => 1:27 cbr c b1() b2(): always goes to b2 (simplify-cfg)|1:50 ret: unreachable (simplify-cfg)|1:61 print c: merged into b0 (simplify-cfg)|1:70 ret: merged into b0 (simplify-cfg)
 cse => func { b0(x): a = add x x; b = add x x; print b; ret a } => 1:28 b = add x x: computed already, as a (cse)|1:41 print b: takes a for b (cse)
 simplify-cfg => func { b0(x): br b1(x); b1(y): ret y } => 1:15 br b1(x): b1 was merged into its block (simplify-cfg)|1:28 argument y of b1: merged, it is x (simplify-cfg)|1:32 ret y: merged into b0, takes x for y (simplify-cfg)
+sccp => func { b0(): a = const 2; b = add a a; ret } => 1:27 b = add a a: folded to 4 by its operands, and nothing uses it (sccp)
 repeat:3:nested:sccp,dce => mod { m(): func { b0(): a = const 2; b = mul a a; ret b } } => 1:38 b = mul a a: folded to 4 by its operands (sccp, run 1)|1:51 ret b: takes 4 for b (sccp, run 1)|1:25 a = const 2: unused (dce, run 1)|1:38 b = mul a a: unused (dce, run 1)
 repeat<3>(nested(sccp,dce)) => mod { m(): func { b0(): a = const 2; b = mul a a; ret b } } => 1:38 b = mul a a: folded to 4 by its operands (sccp, run 1)|1:51 ret b: takes 4 for b (sccp, run 1)|1:25 a = const 2: unused (dce, run 1)|1:38 b = mul a a: unused (dce, run 1)";
 
@@ -28,6 +29,17 @@ fn with_lines(rt: &impl Abort, alloc: Global, text: &str) -> String {
     lines
 }
 
+fn explained(
+    rt: &impl Abort,
+    alloc: Global,
+    source: &Source,
+    pipeline: &str,
+    missed: bool,
+) -> Outcome {
+    let options = ExplainOptions { pipeline, missed };
+    explain(alloc, source, &options).expect(rt, "memory")
+}
+
 #[test]
 fn reasons_are_told(rt: HostRuntime) {
     for case in REASONS.lines() {
@@ -37,7 +49,7 @@ fn reasons_are_told(rt: HostRuntime) {
             name: "text",
             text: text.as_bytes(),
         };
-        let outcome = explain(rt.alloc(), &source, passes).expect(&rt, "memory");
+        let outcome = explained(&rt, rt.alloc(), &source, passes, false);
         let wanted = with_lines(&rt, rt.alloc(), told);
         assert_eq!(rt;
             std::str::from_utf8(&outcome.output).unwrap_or(""),
@@ -66,9 +78,54 @@ fn other_lists_are_refused(rt: HostRuntime) {
             name: "text",
             text: b"func { b0(): ret }",
         };
-        let outcome = explain(rt.alloc(), &source, passes).expect(&rt, "memory");
+        let outcome = explained(&rt, rt.alloc(), &source, passes, false);
         assert!(rt; outcome.output.is_empty());
         assert_eq!(rt; outcome.status, 2);
         assert!(rt; outcome.report.starts_with("error: no such passes"));
     }
+}
+
+/// Lists of passes, texts, and a line that is told with what they missed.
+static MISSED: &str = "\
+dce => func { b0(x): y = div x x; ret } => 1:15 y = div x x: stays, though nothing uses it: a div has side effects (missed by dce)
+sccp => func { b0(x): y = div x x; ret } => 1:15 y = div x x: not folded: its operand 1, x, isn't known (missed by sccp)
+simplify-cfg => func { b0(c): cbr c b1() b1(); b1(): ret } => 1:15 cbr c b1() b1(): goes either way: its operand 1, c, isn't known (missed by simplify-cfg)
+sccp => func { b0(x): c = const 2; y = add c x; print y; ret } => 1:28 y = add c x: not folded: its operand 2, x, isn't known (missed by sccp)
+dce => func { b0(): x = read; ret } => 1:14 x = read: stays, though nothing uses it: a read has side effects (missed by dce)
+repeat<1>(sccp) => func { b0(): a = const 2; b = add a a; ret b } => 1:27 b = add a a: folded to 4 by its operands (sccp)";
+
+#[test]
+fn what_was_missed(rt: HostRuntime) {
+    for case in MISSED.lines() {
+        let (passes, rest) = case.split_once(" => ").expect(&rt, "a case");
+        let (text, told) = rest.split_once(" => ").expect(&rt, "a case");
+        let source = Source {
+            name: "text",
+            text: text.as_bytes(),
+        };
+        let outcome = explained(&rt, rt.alloc(), &source, passes, true);
+        let wanted = with_lines(&rt, rt.alloc(), told);
+        let found = std::str::from_utf8(&outcome.output).unwrap_or("");
+        assert!(rt; found.contains(wanted.as_str()), "{text} => {found}");
+    }
+}
+
+#[test]
+fn a_limit_is_told(rt: HostRuntime) {
+    let source = Source {
+        name: "text",
+        text: b"func { b0(): br b1(); b1(): br b2(); b2(): ret }",
+    };
+    let outcome = explained(&rt, rt.alloc(), &source, "repeat<2>(simplify-cfg)", false);
+    let found = std::str::from_utf8(&outcome.output).unwrap_or("");
+    assert!(rt; !found.contains("as many as it may"), "{found}");
+    let outcome = explained(&rt, rt.alloc(), &source, "repeat<1>(simplify-cfg)", false);
+    let found = std::str::from_utf8(&outcome.output).unwrap_or("");
+    assert!(rt; !found.contains("as many as it may"), "{found}");
+    let text = b"func { b0(): a = const 2; b = add a a; ret b }";
+    let source = Source { name: "text", text };
+    let outcome = explained(&rt, rt.alloc(), &source, "repeat<2>(dce,sccp)", false);
+    let found = std::str::from_utf8(&outcome.output).unwrap_or("");
+    let wanted = "after 2 runs, as many as it may, the list still changed something\n";
+    assert!(rt; found.ends_with(wanted), "{found}");
 }

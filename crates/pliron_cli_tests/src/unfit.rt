@@ -106,3 +106,26 @@ fn strictly(rt: HostRuntime) {
     );
     expect_strict(&rt, rt.alloc(), "func { b0(): rat }", 2);
 }
+
+/// Where each run is verified, it is told that the text wasn't fit before.
+#[test]
+fn verifying_looks_at_the_input(rt: HostRuntime) {
+    let source = Source {
+        name: "in.plir",
+        text: b"func { b0(): x = add y y; y = const 4; ret x }",
+    };
+    let mut options = plain("dce");
+    options.instrumentation.verifies = true;
+    let outcome = opt_with_check::<BenchNotation, _>(
+        rt.alloc(),
+        &source,
+        &options,
+        false,
+        Timeless,
+    );
+    let outcome = outcome.expect(&rt, "memory");
+    let told = outcome.report.as_str();
+    let wanted =
+        "warning: already in the input: an operand isn't defined on each way to this operation\n --> in.plir:1:14\n";
+    assert!(rt; told.starts_with(wanted), "{told}");
+}

@@ -35,6 +35,7 @@ nested: => 8 `sccp`, `dce`, `simplify-cfg` or `cse`
 nested:sccp,cs => 13 `sccp`, `dce`, `simplify-cfg` or `cse`
 nested(sccp => 12 `)`
 nested(sccp)) => 8 `sccp`, `dce`, `simplify-cfg` or `cse`
+nested(sccp),dce => 13 the end, as nothing stands behind `)`
 nested(nested(sccp)) => 8 `sccp`, `dce`, `simplify-cfg` or `cse`
 sccp,nested(dce) => 6 `sccp`, `dce`, `simplify-cfg` or `cse`
 repeat:sccp => 8 a number from 1 to 64, a colon and a list
@@ -46,6 +47,7 @@ repeat<8>sccp => 8 a number from 1 to 64, `>(` and a list
 repeat<x>(sccp) => 8 a number from 1 to 64
 repeat<8>(sccp => 15 `)`
 repeat<8>(nested(sccp) => 22 `)`
+repeat<8>(dce),sccp => 15 the end, as nothing stands behind `)`
 repeat<64>(nested(sccp,y)) => 24 `sccp`, `dce`, `simplify-cfg` or `cse`";
 
 #[test]

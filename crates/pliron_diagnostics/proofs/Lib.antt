@@ -1,1 +1,2 @@
+pub mod CommentLemmas
 pub mod LayoutLemmas

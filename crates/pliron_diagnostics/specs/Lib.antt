@@ -1,2 +1,4 @@
+pub mod Comments
+pub mod Isolated
 pub mod Layout
 pub mod Position

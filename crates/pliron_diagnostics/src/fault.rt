@@ -2,13 +2,14 @@
 ghost use Rattle.std.specs.Prelude.{IsOkUnless};
 ghost use Rattle.pliron_laws.specs.declared.fault.OptError.TheVariants.{Memory};
 
+use crate::fault_label::label_of;
 use crate::source_mark::{SourceMark, mark_source};
 use pliron_laws::OptError;
 use pliron_notation::find_text_fault;
 use std::alloc::Global;
 
 /// What is told of a text that the notation doesn't have: the first place where it leaves the notation, and
-/// what was to stand there; `None` of one that it has. `name` says where the text is from.
+/// what fits there or is meant; `None` of one that it has. `name` says where the text is from.
 ///
 /// Errors: allocation failure. Cost: that of reading.
 pub fn text_fault(alloc: Global, name: &str, text: &[u8]) -> Result<Option<String>, OptError>
@@ -17,13 +18,13 @@ pub fn text_fault(alloc: Global, name: &str, text: &[u8]) -> Result<Option<Strin
     let Some(fault) = find_text_fault(alloc, text)? else {
         return Ok(None);
     };
-    let label = format!(in alloc; "expected {}", fault.expected)?;
+    let label = label_of(alloc, text, &fault)?;
     let mark = SourceMark {
         message: "unreadable text",
-        label: label.as_str(),
+        label: label.told.as_str(),
         name,
-        start: fault.span.start,
-        len: fault.span.len,
+        start: label.span.start,
+        len: label.span.len,
     };
     Ok(Some(mark_source(alloc, text, &mark)?))
 }

@@ -77,6 +77,17 @@ fn write_effects(text: &mut String, effects: &[Datum]) -> Result<(), AllocError>
     Ok(())
 }
 
+/// The effects of a run, each on a line, as they came. Errors: allocation failure. Cost: linear in them.
+pub(crate) fn effects_text(alloc: Global, sight: &Sight) -> Result<String, AllocError> {
+    let mut text = String::new(alloc);
+    match sight {
+        Sight::Ended(_, effects) | Sight::Trapped(effects) | Sight::Reached(effects) => {
+            write_effects(&mut text, effects)?;
+        }
+    }
+    Ok(text)
+}
+
 /// What is seen of a run: a line for each effect, as they came, and one that says how it ended.
 ///
 /// Errors: allocation failure. Cost: linear in what is seen.
@@ -183,12 +194,12 @@ const MOST_NOTED: usize = 300_000;
 
 /// A run: its operation, which was read from the source, and what was asked, noted and seen.
 #[derive(Clone, Copy)]
-struct FinishedRun<'r> {
-    source: &'r Source<'r>,
-    root: Ptr<Operation>,
-    options: &'r RunOptions<'r>,
-    notes: &'r Notes,
-    sight: &'r Sight,
+pub(crate) struct FinishedRun<'r> {
+    pub(crate) source: &'r Source<'r>,
+    pub(crate) root: Ptr<Operation>,
+    pub(crate) options: &'r RunOptions<'r>,
+    pub(crate) notes: &'r Notes,
+    pub(crate) sight: &'r Sight,
 }
 
 /// What is told of the last move of a run that didn't end with values.
@@ -248,8 +259,13 @@ fn last_move(
 }
 
 /// What is told beside what is seen: the moves that are noted, and a mark under the operation that made the last one
-/// where the run didn't end with values.
-fn report_of(alloc: Global, ctx: &Context, run: &FinishedRun) -> Result<String, OptError> {
+/// where the run didn't end with values. Errors: allocation failure. Cost: linear in the text and the moves, and where
+/// the run trapped that of running it again.
+pub(crate) fn report_of(
+    alloc: Global,
+    ctx: &Context,
+    run: &FinishedRun,
+) -> Result<String, OptError> {
     let places = operation_places(alloc, run.source.text)?;
     let mut report = String::new(alloc);
     write_moves(&mut report, run.source, run.root, &places, &run.notes.moves)?;
@@ -298,8 +314,8 @@ fn run_text_in(
     Ok(Some(report_of_run(alloc, source, options, root, ctx)?))
 }
 
-/// The notes that the options ask for.
-fn notes_for(alloc: Global, options: &RunOptions) -> Notes {
+/// The notes that the options ask for. Cost: constant.
+pub(crate) fn notes_for(alloc: Global, options: &RunOptions) -> Notes {
     if options.trace {
         Notes::of_all(alloc)
     } else {

@@ -5,6 +5,7 @@ ghost use Rattle.pliron_core.specs.Writes.{no_tree};
 ghost use Rattle.pliron_laws.specs.Linked.{IsWellLinked};
 ghost use Rattle.pliron_bench.specs.BenchMoves.{bench};
 
+use crate::missed::{MissedText, push_missed};
 use crate::pass_list::{PassList, PassName};
 use crate::reasons::{Reasons, Rewrite};
 use crate::text_parts::{TextParts, parts_of};
@@ -156,7 +157,8 @@ impl Explaining<'_> {
         Ok(status)
     }
 
-    /// Runs the list on these operations as often as it says, and tells what changed.
+    /// Runs the list on these operations as often as it says, and tells what changed, and whether the last run that it
+    /// may make still changed something.
     fn list(
         &mut self,
         list: &PassList,
@@ -167,8 +169,15 @@ impl Explaining<'_> {
             self.run = self.run.saturating_add(1);
             let status = self.pass_on_all(&list.passes, operations, ctx)?;
             if status == IRStatus::Unchanged {
-                break;
+                return Ok(());
             }
+        }
+        if self.counts_runs {
+            let runs = list.runs;
+            write!(
+                self.lines,
+                "after {runs} runs, as many as it may, the list still changed something\n"
+            )?;
         }
         Ok(())
     }
@@ -217,11 +226,26 @@ fn explain_in(
         lines: String::new(alloc),
     };
     explaining.list(list, &operations, ctx)?;
-    Ok(Some(explaining.lines))
+    let mut lines = explaining.lines;
+    if list.tells_missed {
+        push_missed(
+            alloc,
+            &MissedText {
+                text,
+                parts: &words,
+                list,
+            },
+            root,
+            ctx,
+            &mut lines,
+        )?;
+    }
+    Ok(Some(lines))
 }
 
 /// What changed in a text: for each operation and argument that changed or went when these passes were run, a line with
-/// its place and the reason; `None` of an unreadable text.
+/// its place and the reason, and where the list asks for it the same for each that they left as it is though they
+/// change its like; `None` of an unreadable text.
 ///
 /// Each pass is made of its own calls, what stood before each is compared with what stands after it, and the reason is
 /// what that call does. Errors: allocation failure, and those of the passes. Cost: reading, and for each pass its own

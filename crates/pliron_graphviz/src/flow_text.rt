@@ -23,8 +23,8 @@ pub enum Drawing {
     NoRegion,
 }
 
-/// Whether the graph of the region may be read.
-fn may_be_read(ctx: &Context, region: Ptr<Region>) -> bool
+/// Whether the graph of the region may be read. Asks that it stands (`is_live` tests it). Cost: that of `edges_last`.
+pub(crate) fn may_be_read(ctx: &Context, region: Ptr<Region>) -> bool
     requires { IsRegion ctx.now.tree region }
     ensures { IsTrue result → IsLawfulRegion ctx.now.tree region }
 {
@@ -56,8 +56,9 @@ fn flow_in(
 }
 
 /// The picture of a region of a text's operation in the dot language: its blocks with their operations, edges with the
-/// values that they forward, grey where the entry doesn't lead, and where asked for a dotted edge from the immediate
-/// dominator of each block.
+/// values that they forward, and true and false on those of a two-way branch, two lines around the entry, grey where
+/// the entry doesn't lead. Where asked for, a dotted edge from the immediate dominator of each block, blocks by their
+/// heads alone, the regions inside in frames, and a title.
 ///
 /// Errors: allocation failure. Cost: reading, and that of `graph_rows`.
 pub fn text_flow(alloc: Global, text: &[u8], options: &FlowOptions) -> Result<Drawing, OptError>

@@ -11,6 +11,7 @@ mod flow_picture;
 mod flow_text;
 mod graph_picture;
 mod graph_row;
+mod missed;
 mod pass_list;
 mod reasons;
 mod region_path;

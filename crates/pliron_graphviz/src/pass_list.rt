@@ -30,4 +30,6 @@ pub struct PassList {
     /// Whether they are run on each operation directly inside, and not on the operation itself.
     pub is_nested: bool,
     pub passes: Vec<PassName>,
+    /// Whether it is told, too, what they left as it is, and why.
+    pub tells_missed: bool,
 }

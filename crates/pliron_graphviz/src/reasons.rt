@@ -46,6 +46,8 @@ pub struct Reasons<'t> {
     rewrite: Rewrite,
     /// The constants that were put for values.
     constants: HashMap<Value, i128>,
+    /// Those of them that nothing uses.
+    unused: HashMap<Value, i128>,
     /// The values that stand for results of operations that went.
     replacements: HashMap<Value, Value>,
     /// By the number of its state, the branch that led to a block and went.
@@ -99,6 +101,7 @@ impl<'t> Reasons<'t> {
             words,
             rewrite,
             constants: HashMap::new(alloc),
+            unused: HashMap::new(alloc),
             replacements: HashMap::new(alloc),
             branches: HashMap::new(alloc),
             reasons: Vec::new(alloc),
@@ -193,6 +196,44 @@ impl Reasons<'_> {
             let (old, new) = (state.operands[i], state.op.get_operand(ctx, i));
             if old != new {
                 self.replacements.insert(old, new)?;
+            }
+        }
+        Ok(())
+    }
+
+    /// Notes the constant that was put for the result of an operation, where nothing used that: it is new, and stands
+    /// right before the operation.
+    fn note_unused(
+        &mut self,
+        ctx: &Context,
+        state: &OperationState,
+        first_new: u64,
+    ) -> Result<(), AllocError>
+        requires { IsLive ctx.now.tree state.now.op }
+    {
+        let (Some(result), Some(put)) = (state.results.first(), state.op.get_prev(ctx)) else {
+            return Ok(());
+        };
+        let is_new = put.key() >= first_new && put.num_result(ctx) == 1;
+        if !is_new || self.constants.contains_key(result) {
+            return Ok(());
+        }
+        if let Some(number) = number_made(ctx, put.get_result(ctx, 0)) {
+            self.constants.insert(*result, number)?;
+            self.unused.insert(*result, number)?;
+        }
+        Ok(())
+    }
+
+    /// Notes the constants that were put for results that nothing uses.
+    fn note_all_unused(&mut self, ctx: &Context, before: &TreeState) -> Result<(), AllocError> {
+        let mut first_new: u64 = 0;
+        for state in &before.operations {
+            first_new = first_new.max(state.op.key().saturating_add(1));
+        }
+        for state in &before.operations {
+            if self.rewrite == Rewrite::Constants && state.op.is_live(ctx) {
+                self.note_unused(ctx, state, first_new)?;
             }
         }
         Ok(())
@@ -320,6 +361,9 @@ impl Reasons<'_> {
                 let number = *number;
                 part_phrases(&mut why)?;
                 write!(why, "folded to {number} by its operands")?;
+                if self.unused.contains_key(value) {
+                    why.push_str(", and nothing uses it")?;
+                }
             }
         }
         if state.op.num_operand(ctx) < state.operands.len() {
@@ -421,6 +465,7 @@ impl Reasons<'_> {
     /// failure. Cost: linear in all that stood, but for sorting what changed.
     pub fn compare(&mut self, ctx: &Context, before: &TreeState) -> Result<(), AllocError> {
         self.note(ctx, before)?;
+        self.note_all_unused(ctx, before)?;
         for state in &before.operations {
             self.compare_operation(ctx, state)?;
         }

@@ -86,6 +86,20 @@ fn text_before_bracket(text: &str) -> Option<&str>
     text.strip_suffix(')')
 }
 
+/// The fault of a list, after so many bytes of the word, whose last letter isn't the bracket that closes it.
+fn bracket_fault<T>(behind: &str, start: usize) -> Result<T, PlanError>
+    ensures { IfOk result (λ found. ⊥) }
+{
+    match behind.rsplit_once(')') {
+        Some((list, rest)) => fault(
+            start.saturating_add(list.len()).saturating_add(1),
+            rest.len(),
+            "the end, as nothing stands behind `)`",
+        ),
+        None => fault(start.saturating_add(behind.len()), 0, "`)`"),
+    }
+}
+
 /// The runs that the rest of a word behind `repeat:` asks for, and what is run. Errors: it asks for none; allocation
 /// failure.
 fn counted_by_colon<'w>(alloc: Global, rest: &'w str) -> Result<(usize, RestOfWord<'w>), PlanError>
@@ -115,7 +129,7 @@ fn counted_in_brackets<'w>(
     let start = digits.len().saturating_add(9);
     match text_before_bracket(behind) {
         Some(text) => Ok((runs, RestOfWord { text, start })),
-        None => fault(start.saturating_add(behind.len()), 0, "`)`"),
+        None => bracket_fault(behind, start),
     }
 }
 
@@ -152,7 +166,7 @@ fn read_nesting<'w>(rest: RestOfWord<'w>) -> Result<(bool, RestOfWord<'w>), Plan
     };
     match text_before_bracket(behind) {
         Some(text) => Ok((true, RestOfWord { text, start })),
-        None => fault(start.saturating_add(behind.len()), 0, "`)`"),
+        None => bracket_fault(behind, start),
     }
 }
 

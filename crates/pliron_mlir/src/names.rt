@@ -54,7 +54,7 @@ fn arith_class(name: &[u8]) -> Class {
         b"constant" => Class::Constant,
         b"select" => Class::Select,
         b"cmpi" => Class::Compare,
-        b"extui" | b"index_castui" => Class::Cast(Cast::ZeroExtend),
+        b"extui" | b"index_castui" | b"bitcast" => Class::Cast(Cast::ZeroExtend),
         b"extsi" | b"index_cast" => Class::Cast(Cast::SignExtend),
         b"trunci" => Class::Cast(Cast::Truncate),
         _ => match arith_operator(name) {
@@ -96,7 +96,7 @@ fn llvm_class(name: &[u8]) -> Option<Class> {
         b"mlir.constant" | b"mlir.addressof" | b"mlir.zero" => Some(Class::Constant),
         b"select" => Some(Class::Select),
         b"icmp" => Some(Class::Compare),
-        b"zext" => Some(Class::Cast(Cast::ZeroExtend)),
+        b"zext" | b"bitcast" => Some(Class::Cast(Cast::ZeroExtend)),
         b"sext" => Some(Class::Cast(Cast::SignExtend)),
         b"trunc" => Some(Class::Cast(Cast::Truncate)),
         b"br" => Some(Class::Jump),
@@ -144,8 +144,7 @@ fn is_pure(name: &[u8]) -> bool {
 fn is_pure_cast(name: &[u8]) -> bool {
     matches!(
         name,
-        b"bitcast"
-            | b"inttoptr"
+        b"inttoptr"
             | b"ptrtoint"
             | b"addrspacecast"
             | b"fptoui"

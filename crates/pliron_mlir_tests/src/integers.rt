@@ -19,7 +19,8 @@ pub fn width(word: &str) -> Option<u32> {
     }
 }
 
-fn flags(word: &str) -> Flags {
+// The flags that a word names.
+pub fn flags(word: &str) -> Flags {
     Flags {
         no_signed_wrap: word.contains("nsw"),
         no_unsigned_wrap: word.contains("nuw"),

@@ -6,6 +6,8 @@ mod edges;
 #[cfg(test)]
 mod functions;
 #[cfg(test)]
+mod identities;
+#[cfg(test)]
 mod integers;
 #[cfg(test)]
 mod names;

@@ -4,6 +4,7 @@ pub mod casts;
 pub mod compare;
 pub mod division;
 pub mod edges;
+pub mod identities;
 pub mod index;
 pub mod logic;
 pub mod shifts;

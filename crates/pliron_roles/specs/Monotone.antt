@@ -9,7 +9,9 @@ use Rattle.pliron_core.specs.declared.attrs.AttrObj.TheVariants.{Int}
 use Rattle.pliron_core.specs.Lists.{In}
 use Rattle.pliron_laws.specs.Datum.{Shape}
 use Rattle.pliron_laws.specs.Folding.{KnowsMore, FoldsMonotonely}
-use Rattle.pliron_roles.specs.Roles.{Interpretation, Role, Constant, Folds, Picks, Opaque, Jumps, Chooses, Leaves, Stops, Acts, Forks, told_edge, truth_of, by_role, meaning_by, folds_by, branch_folds_by, constants_by, feasible_by, answers_by, feasible_of, edges_taken, known_as, known_number_at, all_known, with_number, number_computed, picked_known}
+use Rattle.pliron_roles.specs.Roles.{Interpretation, Role, Constant, Folds, Picks, Opaque, Jumps, Chooses, Leaves, Stops, Acts, Forks, told_edge, truth_of, by_role, meaning_by, folds_by, branch_folds_by, constants_by, feasible_by, answers_by, feasible_of, edges_taken, known_as, known_number_at, all_known, with_number, number_computed, left_known, picked_known}
+use Rattle.pliron_roles.specs.declared.identity.Identity.{Identity}
+use Rattle.pliron_roles.specs.Identities.{place_of_one, place_known}
 use Rattle.pliron_roles.specs.FoldLaws.{taken_in}
 
 -- what is known stays
@@ -57,10 +59,41 @@ picked_more known more None q m n = tt
 picked_more known more (Some true) q m n = subst (λ x. IsMore (picked_known known (Some true)) (picked_known more x)) (sym n) (more_at known more 1 m)
 picked_more known more (Some false) q m n = subst (λ x. IsMore (picked_known known (Some false)) (picked_known more x)) (sym n) (more_at known more 2 m)
 
+too_few : {P : Type 0} (c e : Option AttrObj) (known : List (Option AttrObj)) (d : Option AttrObj) → KnowsMore (c ∷ e ∷ known) (d ∷ []) → P
+too_few None e known d m = absurd m
+too_few (Some c) e known d m = absurd m.1
+
+-- what is computed, or left, of operands that are all known stays
+abbrev left_of : Identity → (List ℤ → Option ℤ) → List (Option AttrObj) → Option AttrObj
+left_of i result known = left_known known (place_known i known) (option_map (λ k. Int k) (number_computed result (all_known known)))
+
+computed_more : (result : List ℤ → Option ℤ) (known more : List (Option AttrObj)) → KnowsMore known more → IsMore (option_map (λ k. Int k) (number_computed result (all_known known))) (option_map (λ k. Int k) (number_computed result (all_known more)))
+computed_more result known more m = kept (λ o. option_map (λ k. Int k) (number_computed result o)) refl (all_known known) (all_known more) (all_more known more m)
+
+one_more : (only : Bool) (result : List ℤ → Option ℤ) (a b : Option AttrObj) → KnowsMore (a ∷ []) (b ∷ []) → IsMore (left_known (a ∷ []) (place_of_one only) (option_map (λ k. Int k) (number_computed result (all_known (a ∷ []))))) (left_known (b ∷ []) (place_of_one only) (option_map (λ k. Int k) (number_computed result (all_known (b ∷ [])))))
+one_more true result None b m = tt
+one_more true result (Some a) b m = subst (IsMore (Some a)) (sym m.0) (no_less (Some a))
+one_more false result a b m = computed_more result (a ∷ []) (b ∷ []) m
+
+left_more : (i : Identity) (result : List ℤ → Option ℤ) (known more : List (Option AttrObj)) → KnowsMore known more → IsMore (left_of i result known) (left_of i result more)
+left_more i result [] [] m = no_less (left_of i result [])
+left_more i result [] (b ∷ more) m = absurd m
+left_more i result (a ∷ known) [] m = absurd m
+left_more i result (a ∷ []) (b ∷ []) m = one_more i.only result a b m
+left_more i result (None ∷ []) (b ∷ c ∷ more) m = absurd m
+left_more i result (Some a ∷ []) (b ∷ c ∷ more) m = absurd m.1
+left_more i result (None ∷ c ∷ []) (b ∷ more) m = tt
+left_more i result (None ∷ c ∷ e ∷ known) (b ∷ more) m = tt
+left_more i result (Some a ∷ None ∷ []) (b ∷ more) m = tt
+left_more i result (Some a ∷ c ∷ known) (b ∷ []) m = absurd m.1
+left_more i result (Some a ∷ Some c ∷ []) (b ∷ d ∷ []) m = subst (λ x. IsMore (left_of i result (Some a ∷ Some c ∷ [])) (left_of i result (x ∷ d ∷ []))) (sym m.0) (subst (λ x. IsMore (left_of i result (Some a ∷ Some c ∷ [])) (left_of i result (Some a ∷ x ∷ []))) (sym m.1.0) (no_less (left_of i result (Some a ∷ Some c ∷ []))))
+left_more i result (Some a ∷ Some c ∷ []) (b ∷ d ∷ e ∷ more) m = absurd m.1.1
+left_more i result (Some a ∷ c ∷ e ∷ known) (b ∷ d ∷ []) m = too_few c e known d m.1
+left_more i result (Some a ∷ c ∷ e ∷ known) (b ∷ d ∷ f ∷ more) m = computed_more result (Some a ∷ c ∷ e ∷ known) (b ∷ d ∷ f ∷ more) m
+
 role_more : (r : Role) (h : Head) (known more : List (Option AttrObj)) → KnowsMore known more → KnowsMore (answers_by h known r) (answers_by h more r)
 role_more Constant h known more m = (refl, tt)
-role_more (Folds n result) h known more m =
-    alone _ _ (kept (λ o. option_map (λ k. Int k) (number_computed (result h) o)) refl (all_known known) (all_known more) (all_more known more m))
+role_more (Folds n result identity) h known more m = alone _ _ (left_more (identity h) (result h) known more m)
 role_more (Picks truth) h known more m =
     alone _ _ (picked_more known more (truth_of truth (known_number_at known 0)) (truth_of truth (known_number_at more 0)) m
     (kept (truth_of truth) refl (known_number_at known 0) (known_number_at more 0) (number_more known more 0 m)))
@@ -84,7 +117,7 @@ taken_more targets choose (Some c) q b m h = subst (λ x. In b (edges_taken targ
 
 role_fewer : (r : Role) (s : Shape) (targets : List ℕ) (known more : List (Option AttrObj)) (b : ℕ) → KnowsMore known more → In b (feasible_of s targets more r) → In b (feasible_of s targets known r)
 role_fewer Constant s targets known more b m h = h
-role_fewer (Folds n result) s targets known more b m h = h
+role_fewer (Folds n result identity) s targets known more b m h = h
 role_fewer (Picks truth) s targets known more b m h = h
 role_fewer Opaque s targets known more b m h = h
 role_fewer Jumps s targets known more b m h = h

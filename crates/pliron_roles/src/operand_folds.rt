@@ -1,29 +1,86 @@
-//! Results that are one of the operands: none is said to be one.
-ghost use Rattle.std.specs.Prelude.{◌≡◌, IfOk, IsOkUnless, length};
+//! Results that are one of the operands.
+ghost use Rattle.std.specs.Prelude.{◌≡◌, IfOk, IsOkUnless, length, option_map};
 ghost use Rattle.pliron_core.specs.Tree.{IsLive, operands_of};
 ghost use Rattle.pliron_laws.specs.declared.fault.OptError.{OptError as FaultName};
-ghost use Rattle.pliron_operand_folding.specs.OperandFolding.{no_operand_folds, none_answered};
-ghost use Rattle.pliron_roles.specs.Roles.{role_at, meaning_by};
+ghost use Rattle.pliron_operand_folding.specs.declared.OpFoldResult.TheVariants.{Operand};
+ghost use Rattle.pliron_roles.specs.Identities.{place_told};
+ghost use Rattle.pliron_roles.specs.Roles.{role_at, meaning_by, identity_in, truth_in, truth_of, known_number_at};
+ghost use Rattle.pliron_roles.specs.OperandFolds.{place_picked as place_picked_of, answers_at as answers_at_of, operand_folds_by};
+ghost use Rattle.pliron_roles.specs.OperandLaws.{answers_operands};
 
 use crate::by_roles::ByRoles;
+use crate::folds::known_truth;
+use crate::form::Form;
+use crate::identity::told_place;
 use crate::roles::Roles;
+use crate::tables::kind_at;
 use pliron_core::{AttrObj, Context, Operation, Ptr};
 use pliron_laws::OptError;
 use pliron_operand_folding::{OpFoldResult, OperandFoldInterface};
-use std::alloc::Global;
+use std::alloc::{AllocFailed, Global};
+
+// The place of the operand that is picked, where the truth is known.
+fn place_picked(truth: Option<bool>) -> Option<usize>
+    ensures { result ≡ place_picked_of truth }
+{
+    match truth {
+        Some(true) => Some(1),
+        Some(false) => Some(2),
+        None => None,
+    }
+}
+
+// The operand at the place, if there is one.
+fn operand_at(place: Option<usize>) -> Option<OpFoldResult>
+    ensures { result ≡ option_map (λ p. Operand p) place }
+{
+    match place {
+        Some(place) => Some(OpFoldResult::Operand(place)),
+        None => None,
+    }
+}
+
+// The answer of an operation of the form, of the places that are left and picked.
+fn answers_at(
+    alloc: Global,
+    form: Form,
+    left: Option<usize>,
+    picked: Option<usize>,
+) -> Result<Vec<Option<OpFoldResult>>, AllocFailed<Option<OpFoldResult>>>
+    ensures { IfOk result (λ answers. answers.items ≡ answers_at_of form left picked) }
+{
+    let mut answers = Vec::new(alloc);
+    match form {
+        Form::Folds(_) => answers.push(operand_at(left))?,
+        Form::Picks => answers.push(operand_at(picked))?,
+        _ => {}
+    }
+    Ok(answers)
+}
 
 impl<K: Roles> OperandFoldInterface for ByRoles<K> {
-    ghost operand_folds = { no_operand_folds };
+    ghost operand_folds = { operand_folds_by (role_at K.tables) };
 
-    /// No answers. Cost: constant.
+    /// Of what computes of two operands the one that the table says is left as it is; of what picks the operand that
+    /// is picked, where it is known which.
+    ///
+    /// Errors: allocation failure. Cost: that of the tables.
     fn fold_to_operand(
         alloc: Global,
-        _op: Ptr<Operation>,
-        _ctx: &Context,
-        _operand_attrs: &[Option<AttrObj>],
+        op: Ptr<Operation>,
+        ctx: &Context,
+        operand_attrs: &[Option<AttrObj>],
     ) -> Result<Vec<Option<OpFoldResult>>, OptError> {
-        Ok(Vec::new(alloc))
+        match kind_at::<K>(op, ctx) {
+            Some(kind) => {
+                let left = told_place(kind.identity(op.head(ctx)), op, ctx, operand_attrs);
+                let picked = place_picked(known_truth(kind, operand_attrs));
+                let answers = answers_at(alloc, kind.form(), left, picked)?;
+                Ok(answers)
+            }
+            None => Ok(Vec::new(alloc)),
+        }
     }
 
-    ghost answers_operands = { none_answered (meaning_by K.tables.value (role_at K.tables)) };
+    ghost answers_operands = { answers_operands K.tables.value (role_at K.tables) };
 }

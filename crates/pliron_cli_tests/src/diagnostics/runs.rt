@@ -1,7 +1,7 @@
 //! Runs of texts, worked by hand: inputs, the world's answers, the text, and what is seen, where `|` stands for
 //! the end of a line.
 use crate::diagnostics::lines::with_lines;
-use pliron_diagnostics::{End, RunOptions, Source, run_text};
+use pliron_diagnostics::{EffectSink, End, RunOptions, Source, run_text, run_text_streamed};
 use std::alloc::Global;
 use std::process::Abort;
 
@@ -135,4 +135,62 @@ fn moves_and_traps_are_told(rt: HostRuntime) {
         .expect(&rt, "a readable text");
     assert!(rt; told.report.as_str() == TURNS_TOLD, "{}", told.report);
     assert!(rt; told.end == End::Trapped);
+}
+
+/// What was told, and how often.
+#[derive(Drop)]
+struct Told {
+    text: Vec<u8>,
+    times: usize,
+}
+
+impl EffectSink for Told {
+    fn tell(&mut self, lines: &[u8]) -> bool {
+        self.times = self.times.saturating_add(1);
+        self.text.extend_from_slice(lines).is_ok()
+    }
+}
+
+/// The effects that are told and what is seen behind them are what is seen of the whole run.
+fn expect_streamed(rt: &impl Abort, alloc: Global, text: &str, options: &RunOptions) -> usize {
+    let source = Source {
+        name: "in.plir",
+        text: text.as_bytes(),
+    };
+    let whole = run_text(alloc, &source, options)
+        .expect(rt, "memory")
+        .expect(rt, "a readable text");
+    let mut told = Told {
+        text: Vec::new(alloc),
+        times: 0,
+    };
+    let streamed = run_text_streamed(alloc, &source, options, &mut told)
+        .expect(rt, "memory")
+        .expect(rt, "a readable text");
+    told.text
+        .extend_from_slice(streamed.seen.as_bytes())
+        .expect(rt, "memory");
+    assert!(rt; told.text.as_slice() == whole.seen.as_bytes(), "{text}");
+    assert!(rt; streamed.report.as_str() == whole.report.as_str(), "{text}");
+    assert!(rt; streamed.end == whole.end, "{text}");
+    told.times
+}
+
+/// A text that prints, runs 2500 times round, and prints again.
+static LONG: &str =
+    "func { b0(x): print x; n = const 2500; o = const -1; br b1(n); b1(m): l = add m o; cbr l b1(l) b2(); b2(): print n; ret }";
+
+#[test]
+fn effects_come_while_a_run_goes_on(rt: HostRuntime) {
+    for steps in [3, 4100, 100_000] {
+        let options = RunOptions {
+            inputs: &[3],
+            world: &[7, 8],
+            steps,
+            trace: false,
+        };
+        let times = expect_streamed(&rt, rt.alloc(), LONG, &options);
+        assert!(rt; times == if steps > 10_000 { 2 } else { 1 }, "{times}");
+        let _ = expect_streamed(&rt, rt.alloc(), "func { b0(): ret }", &options);
+    }
 }

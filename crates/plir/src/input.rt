@@ -1,0 +1,96 @@
+//! What the program reads.
+use pliron_cli::{TextRange, blank_comments, isolate, operation_range, without_mark};
+use std::alloc::{AllocError, Global};
+use std::fs;
+use std::io::{self, Read};
+
+/// A text that was read, and what a command reads of it.
+#[derive(Drop)]
+pub struct Input {
+    /// All that was read, without a byte order mark.
+    whole: Vec<u8>,
+    /// The text with blanks for comments, and for all but one operation where one is asked for.
+    pub text: Vec<u8>,
+    /// Where that operation stands.
+    part: Option<TextRange>,
+}
+
+/// The bytes of the file, or of standard input where it is called `-`. Errors: those of the file. Cost: linear in it.
+fn bytes_of(rt: &HostRuntime, name: &str) -> io::Result<Vec<u8>> {
+    if name != "-" {
+        return fs::read(rt, name);
+    }
+    let mut bytes = Vec::new(rt.alloc());
+    let _ = rt.stdin().read_to_end(&mut bytes)?;
+    Ok(bytes)
+}
+
+/// What users call the input. Cost: constant.
+pub fn input_name(name: &str) -> &str {
+    if name == "-" { "standard input" } else { name }
+}
+
+/// The graph that stands in the file. Errors: those of the file; allocation failure. Cost: linear in it.
+pub fn read_graph_input(rt: &HostRuntime, name: &str) -> io::Result<Input> {
+    let bytes = bytes_of(rt, name)?;
+    let whole = without_mark(&bytes);
+    Ok(Input {
+        whole: Vec::new(rt.alloc()),
+        text: without_returns(rt.alloc(), whole)?,
+        part: None,
+    })
+}
+
+/// The bytes without the one that some editors put before each end of a line. Errors: allocation failure. Cost: linear
+/// in them.
+fn without_returns(alloc: Global, bytes: &[u8]) -> Result<Vec<u8>, AllocError> {
+    let mut text = Vec::with_capacity(alloc, bytes.len())?;
+    for at in 0..bytes.len() {
+        let ends_line = bytes.get(at.saturating_add(1)) == Some(&b'\n');
+        if bytes[at] != b'\r' || !ends_line {
+            text.push(bytes[at])?;
+        }
+    }
+    Ok(text)
+}
+
+/// The text that stands in the file, or the operation in it that the path leads to, where one is given; `None` where
+/// the path leads nowhere. Errors: those of the file; allocation failure. Cost: linear in it.
+pub fn read_input(rt: &HostRuntime, name: &str, path: Option<&str>) -> io::Result<Option<Input>> {
+    let alloc = rt.alloc();
+    let bytes = bytes_of(rt, name)?;
+    let whole = Vec::from_slice(alloc, without_mark(&bytes))?;
+    let text = blank_comments(alloc, &whole)?;
+    let Some(path) = path else {
+        return Ok(Some(Input {
+            whole,
+            text,
+            part: None,
+        }));
+    };
+    let Some(part) = operation_range(&text, path) else {
+        return Ok(None);
+    };
+    let text = isolate(alloc, &text, part)?;
+    Ok(Some(Input {
+        whole,
+        text,
+        part: Some(part),
+    }))
+}
+
+impl Input {
+    /// The whole text with an answer in the place of the operation that was asked for, if one was, and else the answer.
+    /// Errors: allocation failure. Cost: linear in both.
+    pub fn around(&self, alloc: Global, answer: &[u8]) -> Result<Vec<u8>, AllocError> {
+        let Some(part) = self.part else {
+            return Vec::from_slice(alloc, answer);
+        };
+        let end = part.start.saturating_add(part.len);
+        let mut text = Vec::new(alloc);
+        text.extend_from_slice(self.whole.get(..part.start).unwrap_or(b""))?;
+        text.extend_from_slice(answer.strip_suffix(b"\n").unwrap_or(answer))?;
+        text.extend_from_slice(self.whole.get(end..).unwrap_or(b""))?;
+        Ok(text)
+    }
+}

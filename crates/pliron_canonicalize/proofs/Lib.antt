@@ -1,0 +1,6 @@
+mod Parts
+mod Counting
+mod Moving
+mod Doing
+mod Putting
+mod Testing

@@ -1,0 +1,96 @@
+//! Canonicalization: results that are operands of their operations, or constants, go, and their uses go to those.
+//!
+//! It stands on the theory of runs, the laws of dialects and dominance order. Of the other optimisations, of passes
+//! and of the program it knows nothing.
+#![tactic(auto)]
+
+ghost use Rattle.std.specs.Prelude.{◌≡◌, ◌↔◌, ◌≤◌, ℕ, List, IfOk, OnOk, IsOkUnless};
+ghost use Rattle.pliron_core.specs.Tree.{IsLive};
+ghost use Rattle.pliron_core.specs.declared.attrs.IRStatus.TheVariants.{Unchanged};
+ghost use Rattle.pliron_laws.specs.Linked.{IsWellLinked};
+ghost use Rattle.pliron_theory.specs.Change.{IsWholeChange};
+ghost use Rattle.pliron_theory.specs.Edges.{KeepsEdges};
+ghost use Rattle.pliron_canonicalize.specs.Folds.{Fold, FoldInTurn, AreFolded, HasFolds, ReportsFolds};
+ghost use Rattle.pliron_canonicalize.specs.Counts.{foldable_count};
+
+mod sweep;
+
+use crate::sweep::fold_all;
+use pliron_core::{Context, IRRewriter, IRStatus, Operation, Ptr, Rewriter};
+use pliron_laws::{OptError, Room};
+use pliron_operand_folding::OperandFoldInterface;
+use pliron_operand_laws::HasOperandFolding;
+use pliron_order::dominance_order;
+use std::alloc::Global;
+
+/// Folds operations inside the operation: where the dialect answers that a result is an operand of its operation, or
+/// a constant, the uses of the result go there, to a new operation just before that makes the constant. A constant is
+/// known of an operand where an operation of no operands, regions and side effects makes it. Operations are visited in
+/// the blocks that the entries of their regions reach, in regions with SSA dominance, however deep, but for those that
+/// have successors, no operands, or a result of their own as an operand.
+///
+/// Nothing is erased, and a result without uses is left alone. Values and operations keep their keys; blocks and
+/// edges stay.
+///
+/// Runs are kept of every root that is otherwise fit to run, also of one whose head may not be a root's.
+///
+/// Asks that the operation stands and is well linked. Answers `Changed` exactly if some result folded, and the tree
+/// changed; then no result folds any more.
+///
+/// Errors: allocation failure. The tree is then one after some folds, each of them whole.
+///
+/// Cost: that of a dominator tree for each region, and for each sweep over the operations what the dialect answers for
+/// each result with uses, and a step for each use that moves. Each sweep but the last lessens the count of used values
+/// that may fold; where definitions come before uses the first one folds all, as it goes in dominance order.
+pub fn canonicalize<D: OperandFoldInterface>(
+    alloc: Global,
+    op: Ptr<Operation>,
+    ctx: &mut Context,
+) -> Result<IRStatus, OptError>
+    requires live { IsLive ctx.old.tree op }
+    requires linked { IsWellLinked D.meaning ctx.old.tree op }
+    ensures change { IsWholeChange D.meaning ctx.old.tree ctx.new.tree op }
+    ensures folded { (fs : List Fold) × AreFolded ⟦<D as HasOperandFolding>⟧.operand_folding op fs ctx.old.tree
+        ctx.new.tree × OnOk result (FoldInTurn ⟦<D as HasOperandFolding>⟧.operand_folding op fs ctx.old.tree
+        ctx.new.tree) }
+    ensures none { IfOk result (λ a. HasFolds ⟦<D as HasOperandFolding>⟧.operand_folding ctx.new.tree op → ⊥) }
+    ensures status { IfOk result (λ a. ReportsFolds ⟦<D as HasOperandFolding>⟧.operand_folding ctx.old.tree op a) }
+    ensures tells { IfOk result (λ a. (a ≡ Unchanged) ↔ (ctx.new.tree ≡ ctx.old.tree)) }
+    ensures fewer { IfOk result (λ a. foldable_count ctx.new.tree ≤ foldable_count ctx.old.tree) }
+    ensures edges { KeepsEdges ctx.old.tree ctx.new.tree }
+    ensures links { (root : ℕ) → IsWellLinked D.meaning ctx.old.tree root → IsWellLinked D.meaning ctx.new.tree root }
+    ensures memory { IsOkUnless result OptError.Memory }
+{
+    let mut rewriter = IRRewriter::new();
+    canonicalize_through::<D, IRRewriter>(alloc, op, ctx, &mut rewriter)
+}
+
+/// Folds operations inside the operation, as `canonicalize` does, and makes each change through this rewriter, whose
+/// listener hears of it: the room for a whole rewrite is asked of it before the first change of that.
+///
+/// Asks that the operation stands and is well linked. Errors: as `canonicalize`, and where the rewriter has no room.
+/// Cost: as `canonicalize`, and what the rewriter does at each change.
+pub fn canonicalize_through<D: OperandFoldInterface, R: Rewriter + Room>(
+    alloc: Global,
+    op: Ptr<Operation>,
+    ctx: &mut Context,
+    rewriter: &mut R,
+) -> Result<IRStatus, OptError>
+    requires live { IsLive ctx.old.tree op }
+    requires linked { IsWellLinked D.meaning ctx.old.tree op }
+    ensures change { IsWholeChange D.meaning ctx.old.tree ctx.new.tree op }
+    ensures folded { (fs : List Fold) × AreFolded ⟦<D as HasOperandFolding>⟧.operand_folding op fs ctx.old.tree
+        ctx.new.tree × OnOk result (FoldInTurn ⟦<D as HasOperandFolding>⟧.operand_folding op fs ctx.old.tree
+        ctx.new.tree) }
+    ensures none { IfOk result (λ a. HasFolds ⟦<D as HasOperandFolding>⟧.operand_folding ctx.new.tree op → ⊥) }
+    ensures status { IfOk result (λ a. ReportsFolds ⟦<D as HasOperandFolding>⟧.operand_folding ctx.old.tree op a) }
+    ensures tells { IfOk result (λ a. (a ≡ Unchanged) ↔ (ctx.new.tree ≡ ctx.old.tree)) }
+    ensures fewer { IfOk result (λ a. foldable_count ctx.new.tree ≤ foldable_count ctx.old.tree) }
+    ensures edges { KeepsEdges ctx.old.tree ctx.new.tree }
+    ensures links { (root : ℕ) → IsWellLinked D.meaning ctx.old.tree root → IsWellLinked D.meaning ctx.new.tree root }
+    ensures memory { IsOkUnless result OptError.Memory }
+{
+    ctx.well_formed();
+    let order = dominance_order(alloc, op, ctx)?;
+    fold_all::<D, R>(alloc, op, &order.operations, ctx, rewriter)
+}

@@ -1,0 +1,2 @@
+pub mod OperandFolds
+pub mod OperandLaws

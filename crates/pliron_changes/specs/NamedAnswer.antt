@@ -1,0 +1,18 @@
+-- What is written of an answer whose values and blocks may have other names.
+use Rattle.std.specs.Prelude.{◌≡◌, ℕ, List}
+use Rattle.pliron_core.specs.Tree.{Tree}
+use Rattle.pliron_diagnostics.specs.Layout.{without_blanks}
+use Rattle.pliron_opts.specs.Answered.{Reads, Prints}
+
+module _ (reads : Reads) (prints : Prints) where
+  -- the text says a tree whose operation is printed as this answer: so it is the answer with other names
+  pub record ReadsAs (answer text : List ℕ) : Type 0 where
+    pub tree : Tree
+    pub root : ℕ
+    pub read : reads text tree root
+    pub printed : prints tree root answer
+
+  -- what is written is, but for blanks, the answer, or a text that is read as it
+  pub data IsWritten (answer output : List ℕ) : Type 0 where
+    AsItIs : without_blanks output ≡ without_blanks answer → IsWritten answer output
+    ByNames : (text : List ℕ) → ReadsAs answer text → without_blanks output ≡ without_blanks text → IsWritten answer output

@@ -1,0 +1,17 @@
+//! What passes change, in the names of the text: trees between passes, the lines that each run changed, and an answer
+//! whose values and blocks keep their names.
+//!
+//! It knows the bench notation and its passes; of words of a process, files and streams it knows nothing.
+#![tactic(auto)]
+
+mod definition_order;
+mod line_diff;
+mod named_answer;
+mod names;
+mod renaming;
+mod stages;
+mod subjects;
+
+pub use line_diff::{LineChange, changed_lines, write_changes};
+pub use named_answer::write_named_answer;
+pub use stages::{StageOptions, Staged, run_stages};

@@ -1,0 +1,340 @@
+//! Passes that are run one by one, and what is told between them.
+ghost use Rattle.std.specs.Prelude.{◌≡◌};
+ghost use Rattle.pliron_core.specs.Tree.{IsLive};
+ghost use Rattle.pliron_core.specs.Writes.{no_tree};
+
+use crate::definition_order::DefinitionOrder;
+use crate::line_diff::{changed_lines, write_changes};
+use crate::names::{Names, OperandsBefore, operands_before};
+use crate::renaming::rename_text;
+use crate::subjects::{Subject, subjects_of};
+use pliron_bench::Bench;
+use pliron_core::{Context, IRStatus, Operation, Ptr};
+use pliron_diagnostics::pretty;
+use pliron_graphviz::{TextParts, parts_of};
+use pliron_instrument::PipelineText;
+use pliron_laws::{OptError, is_well_linked};
+use pliron_notation::{print_text, read_text};
+use pliron_pass::{AnalysisManager, BenchFacts};
+use pliron_pipeline::{PassStep, run_pipeline};
+use std::alloc::{AllocError, Global};
+
+/// What is told of passes that are run one by one.
+#[derive(Clone, Copy)]
+pub struct StageOptions<'w> {
+    /// Whether each operation of a tree that is told stands on a line of its own.
+    pub is_pretty: bool,
+    /// Whether values and blocks keep the names of the text.
+    pub keeps_names: bool,
+    /// The names of passes before and after which the operation is told, and whether it is told after each.
+    pub prints_before: &'w [&'w str],
+    pub prints_after: &'w [&'w str],
+    pub prints_all: bool,
+    /// Whether it is told which lines each run changed, and whether in colours.
+    pub tells_changes: bool,
+    pub is_coloured: bool,
+}
+
+/// What is told of the passes, and the operation after them.
+#[derive(Drop)]
+pub struct Staged {
+    pub report: String,
+    /// The operation as it is written with the names of the text, where the options ask for these and no pass was
+    /// refused.
+    pub named: Option<String>,
+}
+
+/// Passes that are run one by one on the operation of a text.
+#[derive(Drop)]
+struct Stages<'s> {
+    alloc: Global,
+    options: &'s StageOptions<'s>,
+    names: Names<'s>,
+    analyses: AnalysisManager<BenchFacts>,
+    /// How many runs of passes began.
+    number: usize,
+    report: String,
+}
+
+/// What is known of an operation before a run.
+#[derive(Drop)]
+struct StateBefore {
+    operands: Vec<OperandsBefore>,
+    /// Its lines, where changes are told.
+    lines: Option<String>,
+}
+
+/// Whether the name is one of these.
+fn is_among(name: &str, names: &[&str]) -> bool {
+    names.iter().any(|other| *other == name)
+}
+
+/// Whether the tree changed, in a word.
+fn status_word(status: IRStatus) -> &'static str {
+    match status {
+        IRStatus::Changed => ": changed",
+        IRStatus::Unchanged => ": unchanged",
+    }
+}
+
+impl Stages<'_> {
+    /// The operation as it is written on one line. Asks that it stands.
+    fn print(&self, op: Ptr<Operation>, ctx: &Context) -> Result<String, OptError>
+        requires { IsLive ctx.now.tree op }
+    {
+        let printed = print_text(self.alloc, op, ctx)?;
+        if !self.options.keeps_names {
+            return Ok(printed);
+        }
+        let order = DefinitionOrder::of(self.alloc, op, ctx)?;
+        Ok(rename_text(self.alloc, printed.as_str(), &self.names, &order)?)
+    }
+
+    /// The same over several lines.
+    fn print_lines(&self, op: Ptr<Operation>, ctx: &Context) -> Result<String, OptError>
+        requires { IsLive ctx.now.tree op }
+    {
+        let printed = self.print(op, ctx)?;
+        let laid = pretty(self.alloc, printed.as_bytes())?;
+        let text = std::str::from_utf8(&laid).unwrap_or("");
+        Ok(String::from_str(self.alloc, text)?)
+    }
+
+    /// Adds the operation as the options ask for it, and an end of a line.
+    fn push_tree(&mut self, op: Ptr<Operation>, ctx: &Context) -> Result<(), OptError>
+        requires { IsLive ctx.now.tree op }
+    {
+        let text = if self.options.is_pretty {
+            self.print_lines(op, ctx)?
+        } else {
+            self.print(op, ctx)?
+        };
+        self.report.push_str(text.as_str())?;
+        Ok(self.report.push_str("\n")?)
+    }
+
+    /// Writes which run of which pass it is, and on which operation.
+    fn push_head(
+        &mut self,
+        when: &str,
+        name: &str,
+        subject: Subject,
+        status: &str,
+    ) -> Result<(), AllocError> {
+        write!(self.report, "--- run {}, {when} {name}", self.number)?;
+        if let Some(number) = subject.number {
+            write!(self.report, " at 0.{number}")?;
+        }
+        write!(self.report, "{status}\n")
+    }
+
+    /// Tells the operation before a run, where the options ask for it.
+    fn tell_before(&mut self, name: &str, subject: Subject, ctx: &Context) -> Result<(), OptError>
+        requires { IsLive ctx.now.tree subject.op }
+    {
+        if !is_among(name, self.options.prints_before) {
+            return Ok(());
+        }
+        self.push_head("before", name, subject, "")?;
+        self.push_tree(subject.op, ctx)
+    }
+
+    /// Tells the operation after a run, where the options ask for it.
+    fn tell_after(
+        &mut self,
+        name: &str,
+        subject: Subject,
+        status: IRStatus,
+        ctx: &Context,
+    ) -> Result<(), OptError>
+        requires { IsLive ctx.now.tree subject.op }
+    {
+        if !self.options.prints_all && !is_among(name, self.options.prints_after) {
+            return Ok(());
+        }
+        self.push_head("after", name, subject, status_word(status))?;
+        self.push_tree(subject.op, ctx)
+    }
+
+    /// Tells which lines a run changed that wrote them so before, where it changed something.
+    fn tell_changes(
+        &mut self,
+        name: &str,
+        subject: Subject,
+        status: IRStatus,
+        before: &StateBefore,
+        ctx: &Context,
+    ) -> Result<(), OptError>
+        requires { IsLive ctx.now.tree subject.op }
+    {
+        let Some(lines) = &before.lines else {
+            return Ok(());
+        };
+        if status == IRStatus::Unchanged {
+            return Ok(());
+        }
+        let after = self.print_lines(subject.op, ctx)?;
+        self.push_head("changed by", name, subject, "")?;
+        let changes = changed_lines(self.alloc, lines.as_str(), after.as_str())?;
+        Ok(write_changes(&mut self.report, &changes, self.options.is_coloured)?)
+    }
+
+    /// What has to be known before a run: the operands, where names are kept, and the lines, where changes are told.
+    fn state_before(&self, op: Ptr<Operation>, ctx: &Context) -> Result<StateBefore, OptError>
+        requires { IsLive ctx.now.tree op }
+    {
+        let operands = if self.options.keeps_names {
+            operands_before(self.alloc, op, ctx)?
+        } else {
+            Vec::new(self.alloc)
+        };
+        let lines = if self.options.tells_changes {
+            Some(self.print_lines(op, ctx)?)
+        } else {
+            None
+        };
+        Ok(StateBefore { operands, lines })
+    }
+
+    /// Names what the last run made.
+    fn name_new(
+        &mut self,
+        op: Ptr<Operation>,
+        ctx: &Context,
+        before: &StateBefore,
+    ) -> Result<(), OptError> {
+        if !self.options.keeps_names {
+            return Ok(());
+        }
+        let order = DefinitionOrder::of(self.alloc, op, ctx)?;
+        Ok(self.names.extend(ctx, &before.operands, &order)?)
+    }
+
+    /// Runs one pass on an operation, where that stands and is well linked.
+    fn stage(
+        &mut self,
+        name: &str,
+        subject: Subject,
+        ctx: &mut Context,
+    ) -> Result<IRStatus, OptError> {
+        let Some(mut step) = PassStep::<Bench, BenchFacts>::from_name(name) else {
+            return Ok(IRStatus::Unchanged);
+        };
+        if !subject.op.is_live(ctx) || !is_well_linked::<Bench>(subject.op, ctx) {
+            return Ok(IRStatus::Unchanged);
+        }
+        self.number = self.number.saturating_add(1);
+        self.tell_before(name, subject, ctx)?;
+        let before = self.state_before(subject.op, ctx)?;
+        let status = run_pipeline(&mut step, self.alloc, subject.op, ctx, &mut self.analyses)?;
+        self.name_new(subject.op, ctx, &before)?;
+        self.tell_after(name, subject, status, ctx)?;
+        self.tell_changes(name, subject, status, &before, ctx)?;
+        Ok(status)
+    }
+
+    /// Runs the passes in turn on each of the operations.
+    fn run_once(
+        &mut self,
+        plan: &PipelineText,
+        subjects: &[Subject],
+        ctx: &mut Context,
+    ) -> Result<IRStatus, OptError> {
+        let mut status = IRStatus::Unchanged;
+        for subject in subjects {
+            for name in &plan.names {
+                status |= self.stage(*name, *subject, ctx)?;
+            }
+        }
+        Ok(status)
+    }
+
+    /// Runs the passes that the plan asks for, as often as it does.
+    fn run(
+        &mut self,
+        plan: &PipelineText,
+        root: Ptr<Operation>,
+        ctx: &mut Context,
+    ) -> Result<(), OptError>
+        requires { IsLive ctx.old.tree root }
+    {
+        let subjects = subjects_of(self.alloc, plan.nested, root, ctx)?;
+        for _ in 0..plan.runs.unwrap_or(1) {
+            if self.run_once(plan, &subjects, ctx)? == IRStatus::Unchanged {
+                break;
+            }
+        }
+        Ok(())
+    }
+
+    /// The operation with the names of the text, where the options ask for them.
+    fn named_text(&self, root: Ptr<Operation>, ctx: &Context) -> Result<Option<String>, OptError> {
+        if self.options.keeps_names && root.is_live(ctx) {
+            Ok(Some(self.print(root, ctx)?))
+        } else {
+            Ok(None)
+        }
+    }
+}
+
+/// Runs the passes on the operation that was read from the text, which has these parts.
+fn stage_operation(
+    alloc: Global,
+    text: &[u8],
+    plan: &PipelineText,
+    options: &StageOptions,
+    root: Ptr<Operation>,
+    ctx: &mut Context,
+) -> Result<Staged, OptError>
+    requires { IsLive ctx.old.tree root }
+{
+    let parts = parts_of(alloc, text)?;
+    let mut stages = Stages {
+        alloc,
+        options,
+        names: Names::new(alloc, text, &parts)?,
+        analyses: AnalysisManager::new(alloc),
+        number: 0,
+        report: String::new(alloc),
+    };
+    let named = match stages.run(plan, root, ctx) {
+        Ok(()) => stages.named_text(root, ctx)?,
+        Err(OptError::Memory) => return Err(OptError::Memory),
+        Err(_) => None,
+    };
+    Ok(Staged {
+        report: stages.report,
+        named,
+    })
+}
+
+/// The same of a text, in this empty context.
+fn run_stages_in(
+    alloc: Global,
+    text: &[u8],
+    plan: &PipelineText,
+    options: &StageOptions,
+    ctx: &mut Context,
+) -> Result<Option<Staged>, OptError>
+    requires { ctx.old.tree ≡ no_tree }
+{
+    match read_text(alloc, text, ctx)? {
+        Some(root) => Ok(Some(stage_operation(alloc, text, plan, options, root, ctx)?)),
+        None => Ok(None),
+    }
+}
+
+/// Runs the passes of the plan one by one on the operation of the text, and tells the trees before and after runs and
+/// the lines that each run changed; `None` of an unreadable text. Where a pass is refused, what was told before stays.
+///
+/// Errors: allocation failure. Cost: reading, the passes, for each run that is told or named a step for all that
+/// stands, and what `changed_lines` costs.
+pub fn run_stages(
+    alloc: Global,
+    text: &[u8],
+    plan: &PipelineText,
+    options: &StageOptions,
+) -> Result<Option<Staged>, OptError> {
+    let mut ctx = Context::new(alloc);
+    run_stages_in(alloc, text, plan, options, &mut ctx)
+}

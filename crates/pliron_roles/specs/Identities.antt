@@ -1,0 +1,64 @@
+-- What leaves an operand as it is.
+use Rattle.std.specs.Prelude.{ℕ, nat_eq, if◌then◌else◌, Bool, true, false, ◌&&◌, List, [], ◌∷◌, Option, Some, None, ℤ}
+use Rattle.std.specs.Ordering.{int_eq}
+use Rattle.std.specs.Cmp.Lexicographic.{pointwise}
+use Rattle.pliron_core.specs.declared.attrs.AttrObj.{AttrObj}
+use Rattle.pliron_laws.specs.Datum.{Datum, Empty, Number, Text, Join, datum_of}
+use Rattle.pliron_roles.specs.declared.identity.Identity.{Identity}
+
+abbrev pub no_identity : Identity
+no_identity = record { neutral = None; either_side = false; idempotent = false; only = false }
+
+-- whether two data are one
+abbrev pub same_datum : Datum → Datum → Bool
+same_datum Empty Empty = true
+same_datum (Number m) (Number n) = int_eq m n
+same_datum (Text s) (Text t) = pointwise nat_eq s t
+same_datum (Join a b) (Join c d) = same_datum a c && same_datum b d
+same_datum _ _ = false
+
+-- whether the datum is this number
+abbrev pub is_this : Option ℤ → Datum → Bool
+is_this (Some n) (Number m) = int_eq m n
+is_this _ d = false
+
+-- the place of the operand of two that is left: the first where the second is neutral, the second where the first is,
+-- the first of equal ones
+abbrev pub place_by : (second_neutral first_neutral equal : Bool) → Option ℕ
+place_by second_neutral first_neutral equal = if second_neutral then Some 0 else if first_neutral then Some 1 else if equal then Some 0 else None
+
+abbrev pub place_between : Identity → Datum → Datum → Option ℕ
+place_between i d e = place_by (is_this i.neutral e) (i.either_side && is_this i.neutral d) (i.idempotent && same_datum d e)
+
+-- the place of an only operand that is left
+abbrev pub place_of_one : Bool → Option ℕ
+place_of_one only = if only then Some 0 else None
+
+abbrev pub place_in : Identity → List Datum → Option ℕ
+place_in i (d ∷ []) = place_of_one i.only
+place_in i (d ∷ e ∷ []) = place_between i d e
+place_in i _ = None
+
+-- the place where all operands are known
+abbrev pub place_of_two : Identity → Option AttrObj → Option AttrObj → Option ℕ
+place_of_two i (Some a) (Some b) = place_between i (datum_of a) (datum_of b)
+place_of_two i _ _ = None
+
+abbrev pub place_known : Identity → List (Option AttrObj) → Option ℕ
+place_known i (a ∷ []) = place_of_one i.only
+place_known i (a ∷ b ∷ []) = place_of_two i a b
+place_known i _ = None
+
+-- the place that one operand tells, or that both are the same value, or that there is one operand
+abbrev pub is_known_as : Option ℤ → Option AttrObj → Bool
+is_known_as n None = false
+is_known_as n (Some a) = is_this n (datum_of a)
+
+abbrev pub are_same : List ℕ → Bool
+are_same (v ∷ w ∷ []) = nat_eq v w
+are_same _ = false
+
+abbrev pub place_told : Identity → List (Option AttrObj) → List ℕ → Option ℕ
+place_told i (p ∷ []) operands = place_of_one i.only
+place_told i (p ∷ q ∷ []) operands = place_by (is_known_as i.neutral q) (i.either_side && is_known_as i.neutral p) (i.idempotent && are_same operands)
+place_told i _ operands = None
