@@ -28,7 +28,8 @@ use std::time::{Clock, Duration};
 /// The most bytes of a text.
 const MAX_TEXT: usize = 268_435_456;
 
-/// The text of the file, or of standard input where it is called `-`; of one that is too long, a byte more than the most.
+/// The text of the file, or of standard input where it is called `-`; of one that is too long, a byte more than the
+/// most.
 fn text_of(rt: &HostRuntime, name: &str) -> io::Result<Vec<u8>> {
     let mut text = Vec::new(rt.alloc());
     let most = MAX_TEXT as u64 + 1;
@@ -66,16 +67,15 @@ impl Progress for Terminal<'_> {
 }
 
 /// Runs the passes of the plan on the text, once it is told how the module stands after each, where that is asked for.
-fn run_plan<N: ModuleNotation>(
-    rt: &HostRuntime,
+fn run_plan<'r, N: ModuleNotation>(
+    rt: &'r HostRuntime,
     matches: &ArgMatches,
     source: &Source,
     plan: &PipelineText,
 ) -> io::Result<Outcome>
-    ensures { IfOk result (EndsByPlan ⟦<Instrumented<N, Terminal> as Pass>⟧.name
-        (λ schedule. EndsOptimised N.reads N.prints N.D.meaning
-        (RunsAlone ⟦<BenchFactKind as PartialEq>⟧.eq ⟦<InstrumentedSchedule<N, Terminal> as Pass>⟧.outcome schedule)
-        source.now.text.now)
+    ensures { IfOk result (EndsByPlan ⟦<Instrumented<N, Terminal<'r>> as Pass>⟧.name
+        (λ schedule. EndsOptimised N.reads N.prints N.D.meaning (RunsAlone ⟦<BenchFactKind as PartialEq>⟧.eq
+        ⟦<InstrumentedSchedule<N, Terminal<'r>> as Pass>⟧.outcome schedule) source.now.text.now)
         plan.now.runs plan.now.nested (map (λ name. name.now) plan.now.names.items)) }
 {
     let alloc = rt.alloc();
@@ -94,16 +94,15 @@ fn run_plan<N: ModuleNotation>(
 
 /// Runs the passes that the word asks for on the text.
 #[tactic(auto, using(crate::proofs::WordLemmas::ends_by_word, crate::proofs::WordLemmas::ends_without_word))]
-fn run_word<N: ModuleNotation>(
-    rt: &HostRuntime,
+fn run_word<'r, N: ModuleNotation>(
+    rt: &'r HostRuntime,
     matches: &ArgMatches,
     source: &Source,
     word: &str,
 ) -> io::Result<Outcome>
-    ensures { IfOk result (EndsByWord ⟦<Instrumented<N, Terminal> as Pass>⟧.name
-        (λ schedule. EndsOptimised N.reads N.prints N.D.meaning
-        (RunsAlone ⟦<BenchFactKind as PartialEq>⟧.eq ⟦<InstrumentedSchedule<N, Terminal> as Pass>⟧.outcome schedule)
-        source.now.text.now)
+    ensures { IfOk result (EndsByWord ⟦<Instrumented<N, Terminal<'r>> as Pass>⟧.name
+        (λ schedule. EndsOptimised N.reads N.prints N.D.meaning (RunsAlone ⟦<BenchFactKind as PartialEq>⟧.eq
+        ⟦<InstrumentedSchedule<N, Terminal<'r>> as Pass>⟧.outcome schedule) source.now.text.now)
         word.now) }
 {
     match read_plan(rt.alloc(), word) {
