@@ -95,9 +95,9 @@ pub extern "C" fn plir_find_fault(
     find_fault_into(alloc, text, output, needed, place).number()
 }
 
-/// Runs the passes of a list on a module in MLIR's generic form, and puts the module that they leave into the buffer, and
-/// nothing else: what `plir_mlir` writes for the word and the input. Answers and tells as `plir_optimise` does, and tells
-/// in `changed` 1 where the passes changed the module, and else 0.
+/// Runs the passes of a list on a module in MLIR's generic form, and puts the module that they leave into the buffer,
+/// and nothing else: what `plir_mlir` writes for the word and the input. Answers and tells as `plir_optimise` does, and
+/// tells in `changed` 1 where the passes changed the module, and else 0.
 ///
 /// Nothing is written to the buffer unless the whole answer fits. Cost: linear in the texts, and that of the passes.
 #[unsafe(no_mangle)]
@@ -119,8 +119,8 @@ pub extern "C" fn plir_optimise_mlir(
     status.number()
 }
 
-/// Tells where a module of MLIR leaves the generic form, or is too long, as `plir_find_fault` does of the bench notation.
-/// Of such a place the part is empty, unless the module is too long.
+/// Tells where a module of MLIR leaves the generic form, or is too long, as `plir_find_fault` does of the bench
+/// notation. Of such a place the part is empty, unless the module is too long.
 ///
 /// Nothing is written to the buffer unless all fits. It fails on allocation failure alone. Cost: that of reading.
 #[unsafe(no_mangle)]
