@@ -98,22 +98,18 @@ fn words<'a>(alloc: Global, matches: &ArgMatches<'a>, id: &str) -> io::Result<Ve
 }
 
 /// Runs these passes on the text.
-fn opt_instrumented(
+fn opt_instrumented<'w>(
     rt: &HostRuntime,
     source: &Source,
     matches: &ArgMatches,
-    pipeline: &str,
+    instrumentation: InstrumentationOptions<'w>,
+    pipeline: &'w str,
     is_pretty: bool,
 ) -> io::Result<Outcome> {
     let options = OptOptions {
         pipeline,
         is_pretty,
-        instrumentation: InstrumentationOptions {
-            counts: matches.get_flag("stats"),
-            verifies: matches.get_flag("verify-each"),
-            prints_all: false,
-            prints: &[],
-        },
+        instrumentation,
         times: matches.get_flag("time"),
     };
     let start = rt.monotonic().unwrap_or(Duration::ZERO);
@@ -167,7 +163,7 @@ fn join_stages(
         report: told,
         status,
     } = whole;
-    let mut report = staged.report;
+    let Staged { mut report, named } = staged;
     report.push_str(told.as_str())?;
     if status != 0 {
         return Ok(Outcome {
@@ -177,12 +173,9 @@ fn join_stages(
         });
     }
     let printed = std::str::from_utf8(&output).unwrap_or("").trim_end();
-    let named = if answer.names_in_answer {
-        staged.named.as_deref()
-    } else {
-        None
-    };
-    match write_named_answer::<BenchNotation>(alloc, printed, named, answer.is_pretty) {
+    let kept = named.as_deref();
+    let kept = if answer.names_in_answer { kept } else { None };
+    match write_named_answer::<BenchNotation>(alloc, printed, kept, answer.is_pretty) {
         Ok(mut output) => {
             output.push(b'\n')?;
             Ok(Outcome {
@@ -226,7 +219,20 @@ pub fn opt_as_asked(
         None
     };
     let is_pretty = answer.is_pretty && staged.is_none();
-    let whole = opt_instrumented(rt, source, matches, pipeline.as_str(), is_pretty)?;
+    let instrumentation = InstrumentationOptions {
+        counts: matches.get_flag("stats"),
+        verifies: matches.get_flag("verify-each"),
+        prints_all: false,
+        prints: &[],
+    };
+    let whole = opt_instrumented(
+        rt,
+        source,
+        matches,
+        instrumentation,
+        pipeline.as_str(),
+        is_pretty,
+    )?;
     let outcome = match staged {
         Some(staged) => join_stages(alloc, whole, staged, answer)?,
         None => whole,

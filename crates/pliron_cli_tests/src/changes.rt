@@ -58,6 +58,19 @@ fn names_alone<'w>() -> StageOptions<'w> {
     }
 }
 
+/// The same, and trees before and after these passes.
+fn names_around<'w>(passes: &'w [&'w str]) -> StageOptions<'w> {
+    StageOptions {
+        is_pretty: false,
+        keeps_names: true,
+        prints_before: passes,
+        prints_after: passes,
+        prints_all: false,
+        tells_changes: false,
+        is_coloured: false,
+    }
+}
+
 fn staged(
     rt: &impl Abort,
     alloc: Global,
@@ -154,9 +167,7 @@ sccp => func { f(): ret } => ";
 
 #[test]
 fn trees_before_and_after(rt: HostRuntime) {
-    let mut options = names_alone();
-    options.prints_before = &["dce"];
-    options.prints_after = &["dce"];
+    let options = names_around(&["dce"]);
     for case in AROUND.lines() {
         expect_report(&rt, rt.alloc(), case, &options);
     }
