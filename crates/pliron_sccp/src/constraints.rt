@@ -40,16 +40,33 @@ pub enum Constraint {
     Answer(Value, AttrObj),
 }
 
+/// The entry of a region of an operation.
+#[derive(Drop)]
+struct RegionEntry {
+    op: Ptr<Operation>,
+    region: usize,
+    block: Ptr<BasicBlock>,
+}
+
+/// A branch, and the blocks that it may go to; `None` where it doesn't fold, and may go to all.
+#[derive(Drop)]
+struct Branch {
+    op: Ptr<Operation>,
+    feasible: Option<HashSet<u64>>,
+}
+
 /// Lists that each visit writes on, kept so that visits take no memory for lists of their own; and what later
 /// visits need not constrain again.
 ///
 /// ```text
+/// alloc         what the lists of visits are allocated by
 /// known         the constants that are known of the operands
 /// constraints   those of this visit, until they are satisfied
 /// entered       blocks with more than a few arguments that were entered by what is no branch
 /// ```
 #[derive(Drop)]
 pub struct Scratch {
+    pub(crate) alloc: Global,
     known: Vec<Option<AttrObj>>,
     pub(crate) constraints: Vec<Constraint>,
     pub(crate) entered: HashSet<u64>,
@@ -64,6 +81,7 @@ impl Scratch {
         ensures { (b : ℕ) → contains nat_eq result.entered b ≡ false }
     {
         Scratch {
+            alloc,
             known: Vec::new(alloc),
             constraints: Vec::new(alloc),
             entered: HashSet::new(alloc),
@@ -176,52 +194,48 @@ fn constrain_operand(
 
 /// The argument of the entry is at or below what the operation names for it.
 fn constrain_named<D: Dialect>(
-    op: Ptr<Operation>,
-    region: usize,
-    entry: Ptr<BasicBlock>,
+    entry: &RegionEntry,
     index: usize,
     ctx: &Context,
     tables: &Tables,
     constraints: &mut Vec<Constraint>,
 ) -> Result<(), OptError>
-    requires live { IsLive ctx.now.tree op }
-    requires block { IsBlock ctx.now.tree entry }
-    requires entry { IsEntryOf ctx.now.tree op region entry }
-    requires argument { index < length (arguments_of ctx.now.tree entry) }
-    ensures ok { OnOk result ((o : OperationOf) → op_at ctx.now.tree op ≡ Some o → (v : ℕ) → slice_get
-        (arguments_of ctx.now.tree entry) index ≡ Some v → Adds (known_constants tables.now) constraints.old.items
-        constraints.new.items (λ now. GetsNamed ⟦<D as HasFolding>⟧.folding ctx.now.tree (lattice_values_of tables.now)
-        o region now index v)) }
+    requires live { IsLive ctx.now.tree entry.now.op }
+    requires block { IsBlock ctx.now.tree entry.now.block }
+    requires entry { IsEntryOf ctx.now.tree entry.now.op entry.now.region entry.now.block }
+    requires argument { index < length (arguments_of ctx.now.tree entry.now.block) }
+    ensures ok { OnOk result ((o : OperationOf) → op_at ctx.now.tree entry.now.op ≡ Some o → (v : ℕ) → slice_get
+        (arguments_of ctx.now.tree entry.now.block) index ≡ Some v → Adds (known_constants tables.now)
+        constraints.old.items constraints.new.items (λ now. GetsNamed ⟦<D as HasFolding>⟧.folding ctx.now.tree
+        (lattice_values_of tables.now) o entry.now.region now index v)) }
     ensures memory { IsOkUnless result OptError.Memory }
 {
-    let argument = entry.get_argument(ctx, index);
-    match D::entry_operand(op, ctx, region, index) {
-        Some(place) => constrain_operand(op, place, argument, ctx, tables, constraints),
+    let argument = entry.block.get_argument(ctx, index);
+    match D::entry_operand(entry.op, ctx, entry.region, index) {
+        Some(place) => constrain_operand(entry.op, place, argument, ctx, tables, constraints),
         None => constrain_varying(argument, constraints),
     }
 }
 
 /// The entry is executable, and its arguments are at or below what the operation names for them.
 fn constrain_named_entry<D: Dialect>(
-    op: Ptr<Operation>,
-    region: usize,
-    entry: Ptr<BasicBlock>,
+    entry: &RegionEntry,
     ctx: &Context,
     tables: &Tables,
     constraints: &mut Vec<Constraint>,
 ) -> Result<(), OptError>
-    requires live { IsLive ctx.now.tree op }
-    requires block { IsBlock ctx.now.tree entry }
-    requires entry { IsEntryOf ctx.now.tree op region entry }
-    ensures ok { OnOk result ((o : OperationOf) → op_at ctx.now.tree op ≡ Some o → Adds (known_constants tables.now)
-        constraints.old.items constraints.new.items (λ now. IsTrue (now.is_executable entry) × AreBelowNamed
-        ⟦<D as HasFolding>⟧.folding ctx.now.tree now.lattice_value (lattice_values_of tables.now).lattice_value o region
-        entry)) }
+    requires live { IsLive ctx.now.tree entry.now.op }
+    requires block { IsBlock ctx.now.tree entry.now.block }
+    requires entry { IsEntryOf ctx.now.tree entry.now.op entry.now.region entry.now.block }
+    ensures ok { OnOk result ((o : OperationOf) → op_at ctx.now.tree entry.now.op ≡ Some o → Adds
+        (known_constants tables.now) constraints.old.items constraints.new.items
+        (λ now. IsTrue (now.is_executable entry.now.block) × AreBelowNamed ⟦<D as HasFolding>⟧.folding ctx.now.tree
+        now.lattice_value (lattice_values_of tables.now).lattice_value o entry.now.region entry.now.block)) }
     ensures memory { IsOkUnless result OptError.Memory }
 {
-    constraints.push(Constraint::Enter(entry))?;
-    for j in 0..entry.num_argument(ctx) {
-        constrain_named::<D>(op, region, entry, j, ctx, tables, constraints)?;
+    constraints.push(Constraint::Enter(entry.block))?;
+    for j in 0..entry.block.num_argument(ctx) {
+        constrain_named::<D>(entry, j, ctx, tables, constraints)?;
     }
     Ok(())
 }
@@ -243,7 +257,10 @@ fn constrain_invocation<D: Dialect>(
     ensures memory { IsOkUnless result OptError.Memory }
 {
     match op.get_region(ctx, region).get_head(ctx) {
-        Some(entry) => constrain_named_entry::<D>(op, region, entry, ctx, tables, constraints),
+        Some(block) => {
+            let entry = RegionEntry { op, region, block };
+            constrain_named_entry::<D>(&entry, ctx, tables, constraints)
+        }
         None => Ok(()),
     }
 }
@@ -465,28 +482,27 @@ fn may_go(feasible: &Option<HashSet<u64>>, block: Ptr<BasicBlock>) -> bool
 /// Where the edge is feasible, its block is executable, with the values that it forwards.
 fn constrain_edge<D: Dialect>(
     alloc: Global,
-    op: Ptr<Operation>,
+    branch: &Branch,
     i: usize,
     ctx: &Context,
     tables: &Tables,
-    known: &[Option<AttrObj>],
-    feasible: &Option<HashSet<u64>>,
     constraints: &mut Vec<Constraint>,
 ) -> Result<(), OptError>
-    requires live { IsLive ctx.now.tree op }
-    requires branch { HeadPasses D.meaning.is_branch ctx.now.tree op }
-    requires edge { i < length (successors_of ctx.now.tree op) }
-    requires known { known.now ≡ operand_constants (lattice_values_of tables.now) (operands_of ctx.now.tree op) }
-    requires feasible { AreFeasible D.meaning D.can_fold_branch D.feasible ctx.now.tree op known.now feasible.now }
-    ensures ok { OnOk result ((o : OperationOf) → op_at ctx.now.tree op ≡ Some o → (b : ℕ) → slice_get
-        (successors_of ctx.now.tree op) i ≡ Some b → Adds (known_constants tables.now) constraints.old.items
+    requires live { IsLive ctx.now.tree branch.now.op }
+    requires branch { HeadPasses D.meaning.is_branch ctx.now.tree branch.now.op }
+    requires edge { i < length (successors_of ctx.now.tree branch.now.op) }
+    requires feasible { AreFeasible D.meaning D.can_fold_branch D.feasible ctx.now.tree branch.now.op
+        (operand_constants (lattice_values_of tables.now) (operands_of ctx.now.tree branch.now.op))
+        branch.now.feasible }
+    ensures ok { OnOk result ((o : OperationOf) → op_at ctx.now.tree branch.now.op ≡ Some o → (b : ℕ) → slice_get
+        (successors_of ctx.now.tree branch.now.op) i ≡ Some b → Adds (known_constants tables.now) constraints.old.items
         constraints.new.items (λ now. FollowsEdge ⟦<D as HasFolding>⟧.folding ctx.now.tree
         (lattice_values_of tables.now) o now i b)) }
     ensures memory { IsOkUnless result OptError.Memory }
 {
-    let block = op.get_successor(ctx, i);
-    if may_go(feasible, block) {
-        let values = D::successor_operands(alloc, op, ctx, i)?;
+    let block = branch.op.get_successor(ctx, i);
+    if may_go(&branch.feasible, block) {
+        let values = D::successor_operands(alloc, branch.op, ctx, i)?;
         constrain_forwarded(block, &values, ctx, tables, constraints)
     } else {
         Ok(())
@@ -496,53 +512,51 @@ fn constrain_edge<D: Dialect>(
 /// Where an edge is feasible, its block is executable, with the values that it forwards.
 fn constrain_each_edge<D: Dialect>(
     alloc: Global,
-    op: Ptr<Operation>,
+    branch: &Branch,
     ctx: &Context,
     tables: &Tables,
-    known: &[Option<AttrObj>],
-    feasible: &Option<HashSet<u64>>,
     constraints: &mut Vec<Constraint>,
 ) -> Result<(), OptError>
-    requires live { IsLive ctx.now.tree op }
-    requires branch { HeadPasses D.meaning.is_branch ctx.now.tree op }
-    requires known { known.now ≡ operand_constants (lattice_values_of tables.now) (operands_of ctx.now.tree op) }
-    requires feasible { AreFeasible D.meaning D.can_fold_branch D.feasible ctx.now.tree op known.now feasible.now }
-    ensures ok { OnOk result ((o : OperationOf) → op_at ctx.now.tree op ≡ Some o → Adds (known_constants tables.now)
-        constraints.old.items constraints.new.items (λ now. ConstrainsBranches ⟦<D as HasFolding>⟧.folding ctx.now.tree
-        (lattice_values_of tables.now) o now)) }
+    requires live { IsLive ctx.now.tree branch.now.op }
+    requires branch { HeadPasses D.meaning.is_branch ctx.now.tree branch.now.op }
+    requires feasible { AreFeasible D.meaning D.can_fold_branch D.feasible ctx.now.tree branch.now.op
+        (operand_constants (lattice_values_of tables.now) (operands_of ctx.now.tree branch.now.op))
+        branch.now.feasible }
+    ensures ok { OnOk result ((o : OperationOf) → op_at ctx.now.tree branch.now.op ≡ Some o → Adds
+        (known_constants tables.now) constraints.old.items constraints.new.items
+        (λ now. ConstrainsBranches ⟦<D as HasFolding>⟧.folding ctx.now.tree (lattice_values_of tables.now) o now)) }
     ensures memory { IsOkUnless result OptError.Memory }
 {
-    for i in 0..op.num_successor(ctx) {
-        constrain_edge::<D>(alloc, op, i, ctx, tables, known, feasible, constraints)?;
+    for i in 0..branch.op.num_successor(ctx) {
+        constrain_edge::<D>(alloc, branch, i, ctx, tables, constraints)?;
     }
     Ok(())
 }
 
-/// Each block that the branch may go to is executable, with the values that its edges forward. These blocks are
-/// reported, where it folds.
+/// Each block that the branch may go to is executable, with the values that its edges forward. Answers these blocks,
+/// where it folds.
 fn constrain_branches<D: Dialect>(
     alloc: Global,
     op: Ptr<Operation>,
     ctx: &Context,
     tables: &Tables,
     known: &[Option<AttrObj>],
-    feasible: &mut Option<HashSet<u64>>,
     constraints: &mut Vec<Constraint>,
-) -> Result<(), OptError>
+) -> Result<Option<HashSet<u64>>, OptError>
     requires live { IsLive ctx.now.tree op }
     requires branch { HeadPasses D.meaning.is_branch ctx.now.tree op }
     requires known { known.now ≡ operand_constants (lattice_values_of tables.now) (operands_of ctx.now.tree op) }
     ensures ok { OnOk result ((o : OperationOf) → op_at ctx.now.tree op ≡ Some o → Adds (known_constants tables.now)
         constraints.old.items constraints.new.items (λ now. ConstrainsBranches ⟦<D as HasFolding>⟧.folding ctx.now.tree
         (lattice_values_of tables.now) o now)) }
-    ensures feasible { OnOk result (AreFound ⟦<D as HasFolding>⟧.folding ctx.now.tree (lattice_values_of tables.now) op
-        feasible.new) }
+    ensures feasible { IfOk result (λ found. AreFound ⟦<D as HasFolding>⟧.folding ctx.now.tree
+        (lattice_values_of tables.now) op found) }
     ensures memory { IsOkUnless result OptError.Memory }
 {
-    let found = feasible_blocks::<D>(alloc, op, ctx, known)?;
-    constrain_each_edge::<D>(alloc, op, ctx, tables, known, &found, constraints)?;
-    *feasible = found;
-    Ok(())
+    let feasible = feasible_blocks::<D>(alloc, op, ctx, known)?;
+    let branch = Branch { op, feasible };
+    constrain_each_edge::<D>(alloc, &branch, ctx, tables, constraints)?;
+    Ok(branch.feasible)
 }
 
 /// The result at this index, if there is one, is at or below the answer.
@@ -614,35 +628,43 @@ fn constrain_results<D: Dialect>(
     }
 }
 
-/// The constraints of the operation's edges. The blocks that it may go to are reported, where it folds as a
-/// branch.
+/// The constraints of the operation's edges, in the scratch set. The blocks that it may go to are reported, where it
+/// folds as a branch.
 fn constrain_edges<D: Dialect>(
-    alloc: Global,
     op: Ptr<Operation>,
     ctx: &Context,
     tables: &Tables,
-    known: &[Option<AttrObj>],
+    scratch: &mut Scratch,
     feasible: &mut Option<HashSet<u64>>,
-    entered: &mut HashSet<u64>,
-    constraints: &mut Vec<Constraint>,
 ) -> Result<(), OptError>
     requires live { IsLive ctx.now.tree op }
-    requires known { known.now ≡ operand_constants (lattice_values_of tables.now) (operands_of ctx.now.tree op) }
+    requires known { scratch.old.known.items ≡ operand_constants (lattice_values_of tables.now)
+        (operands_of ctx.now.tree op) }
     requires none { feasible.old ≡ None }
-    requires entered { AreEntriesExecutable ctx.now.tree (lattice_values_of tables.now) entered.old }
+    requires entered { AreEntriesExecutable ctx.now.tree (lattice_values_of tables.now) scratch.old.entered }
     ensures ok { OnOk result ((o : OperationOf) → op_at ctx.now.tree op ≡ Some o → AddsUnder
-        (lattice_values_of tables.now) (known_constants tables.now) constraints.old.items constraints.new.items
-        (λ now. ConstrainsEdges ⟦<D as HasFolding>⟧.folding ctx.now.tree (lattice_values_of tables.now) op o now)) }
+        (lattice_values_of tables.now) (known_constants tables.now) scratch.old.constraints.items
+        scratch.new.constraints.items (λ now. ConstrainsEdges ⟦<D as HasFolding>⟧.folding ctx.now.tree
+        (lattice_values_of tables.now) op o now)) }
     ensures feasible { OnOk result (AreFound ⟦<D as HasFolding>⟧.folding ctx.now.tree (lattice_values_of tables.now) op
         feasible.new) }
     ensures entered { OnOk result (AreEntriesExecutableWhere (known_constants tables.now) ctx.now.tree
-        (lattice_values_of tables.now) constraints.new.items entered.new) }
+        (lattice_values_of tables.now) scratch.new.constraints.items scratch.new.entered) }
+    ensures known { scratch.new.known ≡ scratch.old.known }
     ensures memory { IsOkUnless result OptError.Memory }
 {
     if D::is_branch(op, ctx) {
-        constrain_branches::<D>(alloc, op, ctx, tables, known, feasible, constraints)
+        *feasible = constrain_branches::<D>(
+            scratch.alloc,
+            op,
+            ctx,
+            tables,
+            &scratch.known,
+            &mut scratch.constraints,
+        )?;
+        Ok(())
     } else {
-        constrain_jumps(op, ctx, entered, constraints)
+        constrain_jumps(op, ctx, &mut scratch.entered, &mut scratch.constraints)
     }
 }
 
@@ -657,7 +679,6 @@ fn constrain_edges<D: Dialect>(
 /// The arguments of a successor of what is no branch cost that once for all such operations, where they are
 /// more than a few.
 pub fn constraints_of<D: Dialect>(
-    alloc: Global,
     op: Ptr<Operation>,
     ctx: &Context,
     tables: &Tables,
@@ -676,20 +697,17 @@ pub fn constraints_of<D: Dialect>(
     ensures memory { IsOkUnless result OptError.Memory }
 {
     scratch.known.clear();
-    add_known(alloc, op, ctx, tables, &mut scratch.known)?;
+    add_known(scratch.alloc, op, ctx, tables, &mut scratch.known)?;
     scratch.constraints.clear();
     constrain_invocations::<D>(op, ctx, tables, &mut scratch.constraints)?;
-    constrain_edges::<D>(
-        alloc,
+    constrain_edges::<D>(op, ctx, tables, scratch, feasible)?;
+    constrain_results::<D>(
+        scratch.alloc,
         op,
         ctx,
-        tables,
         &scratch.known,
-        feasible,
-        &mut scratch.entered,
         &mut scratch.constraints,
-    )?;
-    constrain_results::<D>(alloc, op, ctx, &scratch.known, &mut scratch.constraints)
+    )
 }
 
 /// Satisfies one constraint, and does nothing else. Takes no memory.

@@ -39,6 +39,28 @@ pub(crate) fn is_visited(op: Ptr<Operation>, ctx: &Context, tables: &Tables) -> 
     }
 }
 
+/// A use of a lowered value: the operand of the operation at this place.
+#[derive(Drop)]
+pub(crate) struct LoweredUse {
+    pub(crate) op: Ptr<Operation>,
+    pub(crate) place: usize,
+    pub(crate) value: Value,
+}
+
+/// What lowered values call for.
+///
+/// ```text
+/// users         operations that are to be visited again, each once
+/// urgent        those of them that are visited before the ones whose operands were propagated eagerly
+/// constraints   those on single arguments, of other users
+/// ```
+#[derive(Drop)]
+pub(crate) struct Scheduled {
+    pub(crate) users: IndexSet<Ptr<Operation>>,
+    pub(crate) urgent: HashSet<u64>,
+    pub(crate) constraints: Vec<Constraint>,
+}
+
 /// What is to be done where an operand of an operation was lowered.
 pub enum Reaction {
     /// The constraints of the operation don't depend on the operand.
@@ -76,27 +98,26 @@ fn reaction_to<D: Dialect>(op: Ptr<Operation>, place: usize, ctx: &Context) -> R
     }
 }
 
-/// The argument at this place of the edge, if it has one, is at or below the lattice value of the value.
+/// The argument at this index of the edge, if it has one, is at or below the lattice value of the lowered value.
 fn constrain_argument(
-    op: Ptr<Operation>,
+    from: &LoweredUse,
     edge: usize,
     index: usize,
-    value: Value,
     ctx: &Context,
     tables: &Tables,
     constraints: &mut Vec<Constraint>,
 ) -> Result<(), OptError>
-    requires live { IsLive ctx.now.tree op }
-    requires edge { edge < length (successors_of ctx.now.tree op) }
+    requires live { IsLive ctx.now.tree from.now.op }
+    requires edge { edge < length (successors_of ctx.now.tree from.now.op) }
     ensures ok { OnOk result (Adds (known_constants tables.now) constraints.old.items constraints.new.items
-        (λ now. (b a : ℕ) → slice_get (successors_of ctx.now.tree op) edge ≡ Some b → slice_get
+        (λ now. (b a : ℕ) → slice_get (successors_of ctx.now.tree from.now.op) edge ≡ Some b → slice_get
         (arguments_of ctx.now.tree b) index ≡ Some a → AtMost (now.lattice_value a)
-        (lattice_value_in tables.now value))) }
+        (lattice_value_in tables.now from.now.value))) }
     ensures memory { IsOkUnless result OptError.Memory }
 {
-    let block = op.get_successor(ctx, edge);
+    let block = from.op.get_successor(ctx, edge);
     if index < block.num_argument(ctx) {
-        let cell = tables.cell(value);
+        let cell = tables.cell(from.value);
         constraints.push(Constraint::Lower(block.get_argument(ctx, index), cell))?;
     }
     Ok(())
@@ -144,23 +165,21 @@ fn named_argument<D: Dialect>(
 
 /// Constrains the argument that is listed so, if the operation names this place for it.
 fn constrain_candidate<D: Dialect>(
-    op: Ptr<Operation>,
-    place: usize,
+    from: &LoweredUse,
     candidate: EntryCandidate,
-    value: Value,
     ctx: &Context,
     tables: &Tables,
     constraints: &mut Vec<Constraint>,
 ) -> Result<(), OptError>
-    requires { IsLive ctx.now.tree op }
+    requires { IsLive ctx.now.tree from.now.op }
     ensures ok { OnOk result ((edges : FeasibleEdges) → ConstrainsEagerly ⟦<D as HasFolding>⟧.folding ctx.now.tree
-        tables.now edges op place value constraints.old.items constraints.new.items) }
+        tables.now edges from.now.op from.now.place from.now.value constraints.old.items constraints.new.items) }
     ensures memory { IsOkUnless result OptError.Memory }
 {
-    let Some(argument) = named_argument::<D>(op, place, candidate, ctx) else {
+    let Some(argument) = named_argument::<D>(from.op, from.place, candidate, ctx) else {
         return Ok(());
     };
-    let cell = tables.cell(value);
+    let cell = tables.cell(from.value);
     constraints.push(Constraint::Lower(argument, cell))?;
     Ok(())
 }
@@ -168,25 +187,23 @@ fn constrain_candidate<D: Dialect>(
 /// Constrains the arguments for which an operation with many operands names this place, if it was visited more than
 /// a few times.
 fn propagate_named_eagerly<D: Dialect>(
-    op: Ptr<Operation>,
-    place: usize,
-    value: Value,
+    from: &LoweredUse,
     ctx: &Context,
     tables: &Tables,
     edges: &FeasibleEdges,
     constraints: &mut Vec<Constraint>,
 ) -> Result<(), OptError>
-    requires { IsLive ctx.now.tree op }
-    ensures ok { OnOk result (ConstrainsEagerly ⟦<D as HasFolding>⟧.folding ctx.now.tree tables.now edges.now op place
-        value constraints.old.items constraints.new.items) }
+    requires { IsLive ctx.now.tree from.now.op }
+    ensures ok { OnOk result (ConstrainsEagerly ⟦<D as HasFolding>⟧.folding ctx.now.tree tables.now edges.now
+        from.now.op from.now.place from.now.value constraints.old.items constraints.new.items) }
     ensures memory { IsOkUnless result OptError.Memory }
 {
-    let Some(candidates) = edges.entry_candidates(op) else {
+    let Some(candidates) = edges.entry_candidates(from.op) else {
         return Ok(());
     };
-    let mut count = candidates.last(place);
+    let mut count = candidates.last(from.place);
     while let Some(candidate) = candidates.get(count) {
-        constrain_candidate::<D>(op, place, candidate, value, ctx, tables, constraints)?;
+        constrain_candidate::<D>(from, candidate, ctx, tables, constraints)?;
         count = candidate.before;
     }
     Ok(())
@@ -194,27 +211,25 @@ fn propagate_named_eagerly<D: Dialect>(
 
 /// Constrains the one argument to which a branch forwards the value from this place, if the edge was found feasible.
 fn propagate_forwarded_eagerly<D: Dialect>(
-    op: Ptr<Operation>,
-    place: usize,
-    value: Value,
+    from: &LoweredUse,
     ctx: &Context,
     tables: &Tables,
     edges: &FeasibleEdges,
     constraints: &mut Vec<Constraint>,
 ) -> Result<(), OptError>
-    requires { IsLive ctx.now.tree op }
-    ensures ok { OnOk result (ConstrainsEagerly ⟦<D as HasFolding>⟧.folding ctx.now.tree tables.now edges.now op place
-        value constraints.old.items constraints.new.items) }
+    requires { IsLive ctx.now.tree from.now.op }
+    ensures ok { OnOk result (ConstrainsEagerly ⟦<D as HasFolding>⟧.folding ctx.now.tree tables.now edges.now
+        from.now.op from.now.place from.now.value constraints.old.items constraints.new.items) }
     ensures memory { IsOkUnless result OptError.Memory }
 {
-    if !D::is_branch(op, ctx) {
+    if !D::is_branch(from.op, ctx) {
         return Ok(());
     }
-    let Some((edge, index)) = D::forwarded_from(op, ctx, place) else {
+    let Some((edge, index)) = D::forwarded_from(from.op, ctx, from.place) else {
         return Ok(());
     };
-    if is_open(op, op.get_successor(ctx, edge), tables, edges) {
-        constrain_argument(op, edge, index, value, ctx, tables, constraints)
+    if is_open(from.op, from.op.get_successor(ctx, edge), tables, edges) {
+        constrain_argument(from, edge, index, ctx, tables, constraints)
     } else {
         Ok(())
     }
@@ -223,24 +238,22 @@ fn propagate_forwarded_eagerly<D: Dialect>(
 /// Propagates eagerly what an operation with many operands passes on from this place: so a visit for its other
 /// operands may be deferred until all of them are lowered.
 fn propagate_eagerly<D: Dialect>(
-    op: Ptr<Operation>,
-    place: usize,
-    value: Value,
+    from: &LoweredUse,
     ctx: &Context,
     tables: &Tables,
     edges: &FeasibleEdges,
     constraints: &mut Vec<Constraint>,
 ) -> Result<(), OptError>
-    requires { IsLive ctx.now.tree op }
-    ensures ok { OnOk result (ConstrainsEagerly ⟦<D as HasFolding>⟧.folding ctx.now.tree tables.now edges.now op place
-        value constraints.old.items constraints.new.items) }
+    requires { IsLive ctx.now.tree from.now.op }
+    ensures ok { OnOk result (ConstrainsEagerly ⟦<D as HasFolding>⟧.folding ctx.now.tree tables.now edges.now
+        from.now.op from.now.place from.now.value constraints.old.items constraints.new.items) }
     ensures memory { IsOkUnless result OptError.Memory }
 {
-    if edges.is_empty() || op.num_operand(ctx) <= FEW_OPERANDS {
+    if edges.is_empty() || from.op.num_operand(ctx) <= FEW_OPERANDS {
         return Ok(());
     }
-    propagate_named_eagerly::<D>(op, place, value, ctx, tables, edges, constraints)?;
-    propagate_forwarded_eagerly::<D>(op, place, value, ctx, tables, edges, constraints)
+    propagate_named_eagerly::<D>(from, ctx, tables, edges, constraints)?;
+    propagate_forwarded_eagerly::<D>(from, ctx, tables, edges, constraints)
 }
 
 /// Whether the stamps say that the operation was visited since the value was last lowered.
@@ -294,43 +307,34 @@ fn mark_urgent<D: Dialect>(
 /// Schedules one use of a lowered value, by an operation that was visited, and not since the lowering.
 #[inline(always)]
 fn add_use<D: Dialect>(
-    op: Ptr<Operation>,
-    place: usize,
-    value: Value,
+    from: &LoweredUse,
     ctx: &Context,
     tables: &Tables,
     edges: &FeasibleEdges,
-    users: &mut IndexSet<Ptr<Operation>>,
-    urgent: &mut HashSet<u64>,
-    constraints: &mut Vec<Constraint>,
+    scheduled: &mut Scheduled,
 ) -> Result<(), OptError>
-    requires { IsLive ctx.now.tree op }
-    ensures ok { OnOk result (SchedulesUses ⟦<D as HasFolding>⟧.folding ctx.now.tree tables.now edges.now value
-        (λ k p. (k ≡ op) × (p ≡ place)) users.old.keys constraints.old.items users.new.keys constraints.new.items) }
+    requires { IsLive ctx.now.tree from.now.op }
+    ensures ok { OnOk result (SchedulesUses ⟦<D as HasFolding>⟧.folding ctx.now.tree tables.now edges.now
+        from.now.value (λ k p. (k ≡ from.now.op) × (p ≡ from.now.place)) scheduled.old.users.keys
+        scheduled.old.constraints.items scheduled.new.users.keys scheduled.new.constraints.items) }
     ensures memory { IsOkUnless result OptError.Memory }
 {
-    if was_visited_since_lowered(op, value, ctx, tables) {
+    if was_visited_since_lowered(from.op, from.value, ctx, tables) {
         return Ok(());
     }
-    if !is_visited(op, ctx, tables) {
+    if !is_visited(from.op, ctx, tables) {
         return Ok(());
     }
-    match reaction_to::<D>(op, place, ctx) {
+    match reaction_to::<D>(from.op, from.place, ctx) {
         Reaction::Pass => Ok(()),
         Reaction::Revisit => {
-            users.insert(op)?;
-            mark_urgent::<D>(op, place, ctx, edges, urgent)?;
-            propagate_eagerly::<D>(op, place, value, ctx, tables, edges, constraints)
+            scheduled.users.insert(from.op)?;
+            mark_urgent::<D>(from.op, from.place, ctx, edges, &mut scheduled.urgent)?;
+            propagate_eagerly::<D>(from, ctx, tables, edges, &mut scheduled.constraints)
         }
-        Reaction::Ask(edge, index) => constrain_argument(
-            op,
-            edge,
-            index,
-            value,
-            ctx,
-            tables,
-            constraints,
-        ),
+        Reaction::Ask(edge, index) => {
+            constrain_argument(from, edge, index, ctx, tables, &mut scheduled.constraints)
+        }
     }
 }
 
@@ -340,12 +344,11 @@ pub(crate) fn add_uses<D: Dialect>(
     ctx: &Context,
     tables: &Tables,
     edges: &FeasibleEdges,
-    users: &mut IndexSet<Ptr<Operation>>,
-    urgent: &mut HashSet<u64>,
-    constraints: &mut Vec<Constraint>,
+    scheduled: &mut Scheduled,
 ) -> Result<(), OptError>
     ensures ok { OnOk result (SchedulesUses ⟦<D as HasFolding>⟧.folding ctx.now.tree tables.now edges.now value
-        (IsUseOf ctx.now.tree value) users.old.keys constraints.old.items users.new.keys constraints.new.items) }
+        (IsUseOf ctx.now.tree value) scheduled.old.users.keys scheduled.old.constraints.items scheduled.new.users.keys
+        scheduled.new.constraints.items) }
     ensures memory { IsOkUnless result OptError.Memory }
 {
     ctx.well_formed();
@@ -353,18 +356,9 @@ pub(crate) fn add_uses<D: Dialect>(
         return Ok(());
     }
     for i in 0..value.num_use(ctx) {
-        let (user, place) = value.get_use(ctx, i);
-        add_use::<D>(
-            user,
-            place,
-            value,
-            ctx,
-            tables,
-            edges,
-            users,
-            urgent,
-            constraints,
-        )?;
+        let (op, place) = value.get_use(ctx, i);
+        let from = LoweredUse { op, place, value };
+        add_use::<D>(&from, ctx, tables, edges, scheduled)?;
     }
     Ok(())
 }

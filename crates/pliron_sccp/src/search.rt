@@ -37,12 +37,12 @@ ghost use Rattle.pliron_sccp.specs.Starting.{IsStarted};
 ghost use Rattle.pliron_sccp.specs.Found.{HasFound};
 ghost use Rattle.pliron_sccp.specs.LatticeTables.{lattice_values_of, is_block_on_worklist};
 
-use crate::constraints::{Constraint, Scratch, constrain_entries, constraints_of, satisfy_all};
+use crate::constraints::{Scratch, constrain_entries, constraints_of, satisfy_all};
 use crate::deferred::DeferredOperations;
 use crate::feasible_edges::FeasibleEdges;
 use crate::inside::{all_blocks, block_numbers, count_values, value_numbers};
 use crate::lattice_tables::Tables;
-use crate::reactions::{FEW_OPERANDS, add_uses};
+use crate::reactions::{FEW_OPERANDS, Scheduled, add_uses};
 use crate::rewrite::{Found, all_arguments, all_folds};
 use indexmap::IndexSet;
 use pliron_core::{BasicBlock, Context, Operation, Ptr};
@@ -90,28 +90,25 @@ fn take_values<D: Dialect>(
     ctx: &Context,
     tables: &mut Tables,
     edges: &FeasibleEdges,
-    urgent: &mut HashSet<u64>,
-) -> Result<(IndexSet<Ptr<Operation>>, Vec<Constraint>, u128), OptError>
-    ensures ok { IfOk result (λ r. PopsUsers ⟦<D as HasFolding>⟧.folding ctx.now.tree edges.now r.0.keys r.1.items
-        tables.old tables.new r.2) }
+) -> Result<(Scheduled, u128), OptError>
+    ensures ok { IfOk result (λ r. PopsUsers ⟦<D as HasFolding>⟧.folding ctx.now.tree edges.now r.0.users.keys
+        r.0.constraints.items tables.old tables.new r.1) }
     ensures memory { IsOkUnless result OptError.Memory }
 {
-    let mut users = IndexSet::new(alloc);
-    let mut constraints = Vec::new(alloc);
+    let users = IndexSet::new(alloc);
+    let urgent = HashSet::new(alloc);
+    let constraints = Vec::new(alloc);
+    let mut scheduled = Scheduled {
+        users,
+        urgent,
+        constraints,
+    };
     let mut taken: u128 = 0;
     while let Some(value) = tables.pop_value() {
         taken += 1;
-        add_uses::<D>(
-            value,
-            ctx,
-            tables,
-            edges,
-            &mut users,
-            urgent,
-            &mut constraints,
-        )?;
+        add_uses::<D>(value, ctx, tables, edges, &mut scheduled)?;
     }
-    Ok((users, constraints, taken))
+    Ok((scheduled, taken))
 }
 
 /// The visit of the operation gets its stamp, kept with its first result, if it has one.
@@ -132,7 +129,6 @@ fn stamp(op: Ptr<Operation>, ctx: &Context, tables: &mut Tables)
 /// is empty. Errors: allocation failure. Cost: that of its constraints.
 #[inline(always)]
 fn visit_operation<D: Dialect>(
-    alloc: Global,
     op: Ptr<Operation>,
     ctx: &Context,
     tables: &mut Tables,
@@ -150,7 +146,7 @@ fn visit_operation<D: Dialect>(
         scratch.new.entered) }
     ensures memory { IsOkUnless result OptError.Memory }
 {
-    constraints_of::<D>(alloc, op, ctx, tables, scratch, feasible)?;
+    constraints_of::<D>(op, ctx, tables, scratch, feasible)?;
     stamp(op, ctx, tables);
     satisfy_all(&mut scratch.constraints, tables);
     Ok(())
@@ -161,7 +157,6 @@ fn visit_operation<D: Dialect>(
 /// which holds again afterwards. Errors: allocation failure. Cost: that of its constraints.
 #[inline(always)]
 fn visit_with_scratch<D: Dialect>(
-    alloc: Global,
     op: Ptr<Operation>,
     ctx: &Context,
     tables: &mut Tables,
@@ -176,7 +171,7 @@ fn visit_with_scratch<D: Dialect>(
     ensures memory { IsOkUnless result OptError.Memory }
 {
     let mut feasible = None;
-    visit_operation::<D>(alloc, op, ctx, tables, scratch, &mut feasible)
+    visit_operation::<D>(op, ctx, tables, scratch, &mut feasible)
 }
 
 /// Keeps these blocks, if the operation has many operands.
@@ -223,7 +218,6 @@ fn keep_candidates<D: Dialect>(
 /// and lists the arguments that it names operands for. Asks what `visit_with_scratch` asks. Errors: allocation
 /// failure. Cost: that of its constraints.
 fn visit_and_keep<D: Dialect>(
-    alloc: Global,
     op: Ptr<Operation>,
     ctx: &Context,
     tables: &mut Tables,
@@ -242,15 +236,14 @@ fn visit_and_keep<D: Dialect>(
     ensures memory { IsOkUnless result OptError.Memory }
 {
     let mut feasible = None;
-    visit_operation::<D>(alloc, op, ctx, tables, scratch, &mut feasible)?;
-    keep_candidates::<D>(alloc, op, ctx, edges)?;
+    visit_operation::<D>(op, ctx, tables, scratch, &mut feasible)?;
+    keep_candidates::<D>(scratch.alloc, op, ctx, edges)?;
     keep_feasible(op, feasible, ctx, edges)
 }
 
 /// Visits the operation, or defers it where it has more than a few operands. Asks what `visit_with_scratch` asks.
 /// Errors: allocation failure. Cost: that of its constraints, or constant.
 fn visit_or_defer<D: Dialect>(
-    alloc: Global,
     op: Ptr<Operation>,
     urgent: &HashSet<u64>,
     ctx: &Context,
@@ -269,16 +262,15 @@ fn visit_or_defer<D: Dialect>(
 {
     let operands = op.num_operand(ctx);
     if operands > FEW_OPERANDS {
-        delays.put(alloc, op, operands, urgent.contains(&op.key()))
+        delays.put(scratch.alloc, op, operands, urgent.contains(&op.key()))
     } else {
-        visit_with_scratch::<D>(alloc, op, ctx, tables, scratch)
+        visit_with_scratch::<D>(op, ctx, tables, scratch)
     }
 }
 
 /// Visits these operations, one after the other, but defers what has more than a few operands. Asks what
 /// `visit_with_scratch` asks, of each. Errors: allocation failure. Cost: that of their constraints.
 fn visit_or_defer_all<D: Dialect>(
-    alloc: Global,
     ops: &[Ptr<Operation>],
     urgent: &HashSet<u64>,
     ctx: &Context,
@@ -296,7 +288,7 @@ fn visit_or_defer_all<D: Dialect>(
     ensures memory { IsOkUnless result OptError.Memory }
 {
     for i in 0..ops.len() {
-        visit_or_defer::<D>(alloc, ops[i], urgent, ctx, tables, delays, scratch)?;
+        visit_or_defer::<D>(ops[i], urgent, ctx, tables, delays, scratch)?;
     }
     Ok(())
 }
@@ -305,7 +297,6 @@ fn visit_or_defer_all<D: Dialect>(
 /// have numbers, and that those recorded in the scratch set are entered. Errors: allocation failure. Cost: that of
 /// their constraints.
 fn visit_block<D: Dialect>(
-    alloc: Global,
     block: Ptr<BasicBlock>,
     ctx: &Context,
     tables: &mut Tables,
@@ -324,7 +315,7 @@ fn visit_block<D: Dialect>(
     ctx.well_formed();
     let mut at = block.get_head(ctx);
     while let Some(op) = at {
-        visit_and_keep::<D>(alloc, op, ctx, tables, edges, scratch)?;
+        visit_and_keep::<D>(op, ctx, tables, edges, scratch)?;
         at = op.get_next(ctx);
     }
     Ok(())
@@ -333,7 +324,6 @@ fn visit_block<D: Dialect>(
 /// Pops all values off the worklist, satisfies the constraints that are propagated eagerly, and visits their other
 /// users or defers them. Answers how many values these were.
 fn visit_values<D: Dialect>(
-    alloc: Global,
     ctx: &Context,
     tables: &mut Tables,
     delays: &mut DeferredOperations,
@@ -349,13 +339,11 @@ fn visit_values<D: Dialect>(
     ensures memory { IsOkUnless result OptError.Memory }
 {
     ctx.well_formed();
-    let mut urgent = HashSet::new(alloc);
-    let (users, mut constraints, taken) = take_values::<D>(alloc, ctx, tables, edges, &mut urgent)?;
-    satisfy_all(&mut constraints, tables);
+    let (mut scheduled, taken) = take_values::<D>(scratch.alloc, ctx, tables, edges)?;
+    satisfy_all(&mut scheduled.constraints, tables);
     visit_or_defer_all::<D>(
-        alloc,
-        users.as_slice(),
-        &urgent,
+        scheduled.users.as_slice(),
+        &scheduled.urgent,
         ctx,
         tables,
         delays,
@@ -367,7 +355,6 @@ fn visit_values<D: Dialect>(
 /// Pops a block off its worklist and visits it, or else pops all values and visits their users or defers them.
 /// Answers how many were popped, none where the worklists were empty.
 fn step<D: Dialect>(
-    alloc: Global,
     ctx: &Context,
     tables: &mut Tables,
     delays: &mut DeferredOperations,
@@ -386,17 +373,16 @@ fn step<D: Dialect>(
     ctx.well_formed();
     match tables.pop_block() {
         Some(block) => {
-            visit_block::<D>(alloc, block, ctx, tables, edges, scratch)?;
+            visit_block::<D>(block, ctx, tables, edges, scratch)?;
             Ok(1)
         }
-        None => visit_values::<D>(alloc, ctx, tables, delays, edges, scratch),
+        None => visit_values::<D>(ctx, tables, delays, edges, scratch),
     }
 }
 
 /// Visits one deferred operation, of those with the fewest operands. Answers whether there was one. Errors:
 /// allocation failure. Cost: that of its constraints.
 fn visit_deferred<D: Dialect>(
-    alloc: Global,
     ctx: &Context,
     tables: &mut Tables,
     delays: &mut DeferredOperations,
@@ -415,7 +401,7 @@ fn visit_deferred<D: Dialect>(
     ctx.well_formed();
     match delays.take() {
         Some(op) => {
-            visit_and_keep::<D>(alloc, op, ctx, tables, edges, scratch)?;
+            visit_and_keep::<D>(op, ctx, tables, edges, scratch)?;
             Ok(true)
         }
         None => Ok(false),
@@ -451,24 +437,10 @@ pub fn search<D: Dialect>(
     let mut scratch = Scratch::new(alloc);
     let mut pops: u128 = 0;
     loop {
-        let taken = step::<D>(
-            alloc,
-            ctx,
-            &mut tables,
-            &mut delays,
-            &mut edges,
-            &mut scratch,
-        )?;
+        let taken = step::<D>(ctx, &mut tables, &mut delays, &mut edges, &mut scratch)?;
         if taken > 0 {
             pops += taken;
-        } else if !visit_deferred::<D>(
-            alloc,
-            ctx,
-            &mut tables,
-            &mut delays,
-            &mut edges,
-            &mut scratch,
-        )? {
+        } else if !visit_deferred::<D>(ctx, &mut tables, &mut delays, &mut edges, &mut scratch)? {
             return Ok(Searched { tables, pops });
         }
     }

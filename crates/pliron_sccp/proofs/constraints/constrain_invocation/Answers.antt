@@ -18,7 +18,7 @@ returns-in-Some-clause-ok g c =
     on_ok_weaker c.constrain_named_entry.result
     (λ adds o e r at.
     subst (λ z. Adds (known_constants s) a b (λ now. InvocationIsExecutable x t (lattice_values_of s) o now c.args.region z)) (some_is (sym c.get_region.ensures.region ∙ at))
-    (visit_asked (known_constants s) x t (lattice_values_of s) o c.args.region c.get_region.result c.in-Some.entry a b (sym c.in-Some.ensures.first) (adds o e)))
+    (visit_asked (known_constants s) x t (lattice_values_of s) o c.args.region c.get_region.result c.in-Some.block a b (sym c.in-Some.ensures.first) (adds o e)))
     c.constrain_named_entry.ensures.ok
 
 pub returns-in-None-clause-ok : goal.returns-in-None-clause-ok

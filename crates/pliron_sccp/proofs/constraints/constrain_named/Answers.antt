@@ -19,8 +19,8 @@ returns-in-Some-clause-ok g c =
     let b = c.constrain_operand.new.constraints.items in
     on_ok_weaker c.constrain_operand.result
     (λ adds o e u at.
-    subst (λ z. Adds (known_constants s) a b (λ now. GetsNamed x t (lattice_values_of s) o c.args.region now c.args.index z)) (some_is (sym c.get_argument-argument.ensures.argument ∙ at))
-    (named_asked (known_constants s) x t (lattice_values_of s) o c.args.region c.args.index v (operands_of t c.args.op) c.in-Some.place a b (op_shows t c.args.op o e).operands (c.in-Some.ensures o e) adds))
+    subst (λ z. Adds (known_constants s) a b (λ now. GetsNamed x t (lattice_values_of s) o c.args.entry.now.region now c.args.index z)) (some_is (sym c.get_argument-argument.ensures.argument ∙ at))
+    (named_asked (known_constants s) x t (lattice_values_of s) o c.args.entry.now.region c.args.index v (operands_of t c.args.entry.now.op) c.in-Some.place a b (op_shows t c.args.entry.now.op o e).operands (c.in-Some.ensures o e) adds))
     c.constrain_operand.ensures.ok
 
 pub returns-in-None-clause-ok : goal.returns-in-None-clause-ok
@@ -33,6 +33,6 @@ returns-in-None-clause-ok g c =
     let b = c.constrain_varying.new.constraints.items in
     on_ok_weaker c.constrain_varying.result
     (λ adds o e u at.
-    subst (λ z. Adds (known_constants s) a b (λ now. GetsNamed x t (lattice_values_of s) o c.args.region now c.args.index z)) (some_is (sym c.get_argument-argument.ensures.argument ∙ at))
-    (unnamed_asked (known_constants s) x t (lattice_values_of s) o c.args.region c.args.index v a b (c.in-None.ensures o e) (adds (known_constants s))))
+    subst (λ z. Adds (known_constants s) a b (λ now. GetsNamed x t (lattice_values_of s) o c.args.entry.now.region now c.args.index z)) (some_is (sym c.get_argument-argument.ensures.argument ∙ at))
+    (unnamed_asked (known_constants s) x t (lattice_values_of s) o c.args.entry.now.region c.args.index v a b (c.in-None.ensures o e) (adds (known_constants s))))
     c.constrain_varying.ensures.ok

@@ -12,15 +12,15 @@ loop-j-preserved g c = λ o e.
     let x : Says = record { meaning = g.D.HasMeaning.meaning; can_fold = g.D.ConstFoldInterface.can_fold; can_fold_branch = g.D.BranchOpFoldInterface.can_fold_branch; constants = g.D.ConstFoldInterface.constants; feasible = g.D.BranchOpFoldInterface.feasible; entry_operands = g.D.RegionBranchOpInterface.entry_operands } in
     let t = c.args.ctx.now.tree in
     let s = c.args.tables.now in
-    let vs = arguments_of t c.args.entry in
+    let vs = arguments_of t c.args.entry.now.block in
     let within : c.loop-j.j < length vs = omega arith in
     let at = slice_get-get_or vs c.loop-j.j 0 within in
-    adds_next (known_constants s) vs (λ now j v. GetsNamed x t (lattice_values_of s) o c.args.region now j v) c.loop-j.j (get_or vs c.loop-j.j 0) c.push.new.self.items c.loop-j.constraints.items c.constrain_named.new.constraints.items at (c.loop-j.invariant o e) (c.in_ok-constrain_named.ensures.ok o e (get_or vs c.loop-j.j 0) at)
+    adds_next (known_constants s) vs (λ now j v. GetsNamed x t (lattice_values_of s) o c.args.entry.now.region now j v) c.loop-j.j (get_or vs c.loop-j.j 0) c.push.new.self.items c.loop-j.constraints.items c.constrain_named.new.constraints.items at (c.loop-j.invariant o e) (c.in_ok-constrain_named.ensures.ok o e (get_or vs c.loop-j.j 0) at)
 
 pub returns-clause-ok : goal.returns-clause-ok
 returns-clause-ok g c = λ o e.
     let x : Says = record { meaning = g.D.HasMeaning.meaning; can_fold = g.D.ConstFoldInterface.can_fold; can_fold_branch = g.D.BranchOpFoldInterface.can_fold_branch; constants = g.D.ConstFoldInterface.constants; feasible = g.D.BranchOpFoldInterface.feasible; entry_operands = g.D.RegionBranchOpInterface.entry_operands } in
     let t = c.args.ctx.now.tree in
     let s = c.args.tables.now in
-    let whole : length (arguments_of t c.args.entry) ≤ c.loop-j.j = omega arith in
-    named_entry_asked (known_constants s) x t (lattice_values_of s) o c.args.region c.args.entry c.loop-j.j c.args.constraints.now.items c.push.new.self.items c.loop-j.constraints.items c.in_ok-push.ensures.items whole (c.loop-j.invariant o e)
+    let whole : length (arguments_of t c.args.entry.now.block) ≤ c.loop-j.j = omega arith in
+    named_entry_asked (known_constants s) x t (lattice_values_of s) o c.args.entry.now.region c.args.entry.now.block c.loop-j.j c.args.constraints.now.items c.push.new.self.items c.loop-j.constraints.items c.in_ok-push.ensures.items whole (c.loop-j.invariant o e)
