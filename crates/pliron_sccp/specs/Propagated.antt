@@ -1,9 +1,15 @@
 -- What constant propagation leaves, answers and counts.
-use Rattle.std.specs.Prelude.{◌≡◌, ◌⊎◌, ◌≤◌, ◌+◌, ◌*◌, ℕ, Bool, filter, length}
+use Rattle.std.specs.Prelude.{◌≡◌, ◌⊎◌, ◌≤◌, ◌+◌, ◌*◌, ℕ, Bool, filter, length, Some, Result, Ok, Err, OnOk, OnErr, IfOk, IsOkUnless}
 use Rattle.pliron_core.specs.declared.attrs.AttrObj.{AttrObj}
+use Rattle.pliron_core.specs.declared.attrs.IRStatus.{IRStatus}
 use Rattle.pliron_core.specs.Tree.{Tree}
 use Rattle.pliron_laws.specs.Datum.{Head}
-use Rattle.pliron_laws.specs.InPlace.{Outcome}
+use Rattle.pliron_laws.specs.InPlace.{Outcome, ReportsChange}
+use Rattle.pliron_laws.specs.Linked.{IsWellLinked}
+use Rattle.pliron_laws.specs.declared.fault.OptError.{OptError}
+use Rattle.pliron_laws.specs.declared.fault.OptError.TheVariants.{Memory}
+use Rattle.pliron_theory.specs.Change.{IsPassChange}
+use Rattle.pliron_theory.specs.Edges.{KeepsEdges}
 use Rattle.pliron_theory.specs.LatticeValues.{LatticeValues, Says, AreClosed, AreHeld}
 use Rattle.pliron_sccp.specs.Precise.{AreMostPrecise, AreOwed}
 use Rattle.pliron_sccp.specs.Chain.{IsRewritten, IsPartlyRewritten, reached_blocks, values_there, is_constant, varies}
@@ -30,3 +36,24 @@ pub record IsPropagated (x : Says) (accepts : AttrObj → Bool) (head : AttrObj 
 -- the tree after allocation failure: as before, or one after a first part of these rewrites
 abbrev pub IsPartlyPropagated : Says → (AttrObj → Bool) → (AttrObj → Head) → Outcome → (t : Tree) → ℕ → (t' : Tree) → Type 0
 IsPartlyPropagated x accepts head outcome t root t' = (t' ≡ t) ⊎ ((f : LatticeValues) × AreFound x t root f × IsPartlyRewritten x.can_fold accepts head outcome t root f t')
+
+-- what a call answers beside the count, and the count, which is 0 where it failed
+abbrev pub status_of : Result (IRStatus × ℕ) OptError → Result IRStatus OptError
+status_of (Ok answer) = Ok answer.0
+status_of (Err e) = Err e
+
+abbrev pub pops_of : Result (IRStatus × ℕ) OptError → ℕ
+pops_of (Ok answer) = answer.1
+pops_of (Err e) = 0
+
+-- constant propagation at a root takes the tree before to the tree after, answers this, and pops so often: it is
+-- whole, or partial where memory was refused, the only error; whatever the answer, it is what a pass may do, edges
+-- inside operations stay, and what was well linked stays so; the status reports whether the tree changed
+pub record Propagates (x : Says) (accepts : AttrObj → Bool) (head : AttrObj → Head) (outcome : Outcome) (t : Tree) (root : ℕ) (t' : Tree) (answer : Result IRStatus OptError) (pops : ℕ) : Type 0 where
+  pub propagated : OnOk answer (IsPropagated x accepts head outcome t root t' pops)
+  pub partly : OnErr answer (IsPartlyPropagated x accepts head outcome t root t')
+  pub change : IsPassChange x.meaning t t' root
+  pub tells : IfOk answer (λ status. ReportsChange (Some status) t t')
+  pub edges : KeepsEdges t t'
+  pub links : (r : ℕ) → IsWellLinked x.meaning t r → IsWellLinked x.meaning t' r
+  pub memory : IsOkUnless answer Memory

@@ -1,11 +1,8 @@
 //! Constant propagation: a fixpoint of lattice values is found, and the tree is rewritten by it.
-ghost use Rattle.std.specs.Prelude.{◌≡◌, Some, IfOk, OnOk, OnErr, ℕ, IsOkUnless};
+ghost use Rattle.std.specs.Prelude.{ℕ};
 ghost use Rattle.pliron_core.specs.Tree.{IsLive};
-ghost use Rattle.pliron_laws.specs.InPlace.{ReportsChange};
 ghost use Rattle.pliron_laws.specs.Linked.{IsWellLinked};
-ghost use Rattle.pliron_theory.specs.Change.{IsPassChange};
-ghost use Rattle.pliron_theory.specs.Edges.{KeepsEdges};
-ghost use Rattle.pliron_sccp.specs.Propagated.{IsPropagated, IsPartlyPropagated};
+ghost use Rattle.pliron_sccp.specs.Propagated.{Propagates, pops_of, status_of};
 
 use crate::rewrite::rewrite;
 use crate::search::find;
@@ -23,15 +20,8 @@ fn propagate<D: Dialect, R: Rewriter + Room>(
 ) -> Result<(IRStatus, u128), OptError>
     requires live { IsLive ctx.old.tree op }
     requires linked { IsWellLinked D.meaning ctx.old.tree op }
-    ensures propagated { IfOk result (λ a. IsPropagated ⟦<D as HasFolding>⟧.folding D.accepts D.constant_head
-        D.ConstFoldInterface.outcome ctx.old.tree op ctx.new.tree a.1) }
-    ensures partly { OnErr result (IsPartlyPropagated ⟦<D as HasFolding>⟧.folding D.accepts D.constant_head
-        D.ConstFoldInterface.outcome ctx.old.tree op ctx.new.tree) }
-    ensures change { IsPassChange D.meaning ctx.old.tree ctx.new.tree op }
-    ensures tells { IfOk result (λ a. ReportsChange (Some a.0) ctx.old.tree ctx.new.tree) }
-    ensures edges { KeepsEdges ctx.old.tree ctx.new.tree }
-    ensures links { (root : ℕ) → IsWellLinked D.meaning ctx.old.tree root → IsWellLinked D.meaning ctx.new.tree root }
-    ensures memory { IsOkUnless result OptError.Memory }
+    ensures propagates { Propagates ⟦<D as HasFolding>⟧.folding D.accepts D.constant_head
+        D.ConstFoldInterface.outcome ctx.old.tree op ctx.new.tree (status_of result) (pops_of result) }
 {
     ctx.well_formed();
     let (found, pops) = find::<D>(alloc, op, ctx)?;
@@ -51,15 +41,8 @@ pub fn sccp_counted<D: Dialect>(
 ) -> Result<(IRStatus, u128), OptError>
     requires live { IsLive ctx.old.tree op }
     requires linked { IsWellLinked D.meaning ctx.old.tree op }
-    ensures propagated { IfOk result (λ a. IsPropagated ⟦<D as HasFolding>⟧.folding D.accepts D.constant_head
-        D.ConstFoldInterface.outcome ctx.old.tree op ctx.new.tree a.1) }
-    ensures partly { OnErr result (IsPartlyPropagated ⟦<D as HasFolding>⟧.folding D.accepts D.constant_head
-        D.ConstFoldInterface.outcome ctx.old.tree op ctx.new.tree) }
-    ensures change { IsPassChange D.meaning ctx.old.tree ctx.new.tree op }
-    ensures tells { IfOk result (λ a. ReportsChange (Some a.0) ctx.old.tree ctx.new.tree) }
-    ensures edges { KeepsEdges ctx.old.tree ctx.new.tree }
-    ensures links { (root : ℕ) → IsWellLinked D.meaning ctx.old.tree root → IsWellLinked D.meaning ctx.new.tree root }
-    ensures memory { IsOkUnless result OptError.Memory }
+    ensures propagates { Propagates ⟦<D as HasFolding>⟧.folding D.accepts D.constant_head
+        D.ConstFoldInterface.outcome ctx.old.tree op ctx.new.tree (status_of result) (pops_of result) }
 {
     let mut rewriter = IRRewriter::new();
     propagate::<D, IRRewriter>(alloc, op, ctx, &mut rewriter)
@@ -78,15 +61,8 @@ pub fn sccp_through<D: Dialect, R: Rewriter + Room>(
 ) -> Result<IRStatus, OptError>
     requires live { IsLive ctx.old.tree op }
     requires linked { IsWellLinked D.meaning ctx.old.tree op }
-    ensures propagated { OnOk result ((pops : ℕ) × IsPropagated ⟦<D as HasFolding>⟧.folding D.accepts D.constant_head
-        D.ConstFoldInterface.outcome ctx.old.tree op ctx.new.tree pops) }
-    ensures partly { OnErr result (IsPartlyPropagated ⟦<D as HasFolding>⟧.folding D.accepts D.constant_head
-        D.ConstFoldInterface.outcome ctx.old.tree op ctx.new.tree) }
-    ensures change { IsPassChange D.meaning ctx.old.tree ctx.new.tree op }
-    ensures tells { IfOk result (λ a. ReportsChange (Some a) ctx.old.tree ctx.new.tree) }
-    ensures edges { KeepsEdges ctx.old.tree ctx.new.tree }
-    ensures links { (root : ℕ) → IsWellLinked D.meaning ctx.old.tree root → IsWellLinked D.meaning ctx.new.tree root }
-    ensures memory { IsOkUnless result OptError.Memory }
+    ensures propagates { (pops : ℕ) × Propagates ⟦<D as HasFolding>⟧.folding D.accepts D.constant_head
+        D.ConstFoldInterface.outcome ctx.old.tree op ctx.new.tree result pops }
 {
     let (status, _) = propagate::<D, R>(alloc, op, ctx, rewriter)?;
     Ok(status)
@@ -118,15 +94,8 @@ pub fn sccp<D: Dialect>(
 ) -> Result<IRStatus, OptError>
     requires live { IsLive ctx.old.tree op }
     requires linked { IsWellLinked D.meaning ctx.old.tree op }
-    ensures propagated { OnOk result ((pops : ℕ) × IsPropagated ⟦<D as HasFolding>⟧.folding D.accepts D.constant_head
-        D.ConstFoldInterface.outcome ctx.old.tree op ctx.new.tree pops) }
-    ensures partly { OnErr result (IsPartlyPropagated ⟦<D as HasFolding>⟧.folding D.accepts D.constant_head
-        D.ConstFoldInterface.outcome ctx.old.tree op ctx.new.tree) }
-    ensures change { IsPassChange D.meaning ctx.old.tree ctx.new.tree op }
-    ensures tells { IfOk result (λ a. ReportsChange (Some a) ctx.old.tree ctx.new.tree) }
-    ensures edges { KeepsEdges ctx.old.tree ctx.new.tree }
-    ensures links { (root : ℕ) → IsWellLinked D.meaning ctx.old.tree root → IsWellLinked D.meaning ctx.new.tree root }
-    ensures memory { IsOkUnless result OptError.Memory }
+    ensures propagates { (pops : ℕ) × Propagates ⟦<D as HasFolding>⟧.folding D.accepts D.constant_head
+        D.ConstFoldInterface.outcome ctx.old.tree op ctx.new.tree result pops }
 {
     let mut rewriter = IRRewriter::new();
     sccp_through::<D, IRRewriter>(alloc, op, ctx, &mut rewriter)
