@@ -10,7 +10,7 @@ use crate::source_mark::{Source, SourceMark, mark_source_as, push_bytes};
 use crate::trap_reason::{TrapReason, reason_by_kind, reason_of};
 use pliron_bench::Bench;
 use pliron_core::{Context, Operation, Ptr};
-use pliron_evaluator::evaluator::{Datum, Noted, Notes, Sight, evaluate_noting};
+use pliron_evaluator::evaluator::{Datum, Noted, Notes, RunInputs, Sight, evaluate_noting};
 use pliron_laws::OptError;
 use pliron_notation::read_text;
 use std::alloc::{AllocError, Global};
@@ -161,7 +161,12 @@ pub fn run_sight(
 {
     let inputs = data(alloc, options.inputs)?;
     let world = data(alloc, options.world)?;
-    evaluate_noting::<Bench>(alloc, ctx, root, inputs, world, options.steps, notes)
+    let given = RunInputs {
+        inputs,
+        world,
+        fuel: options.steps,
+    };
+    evaluate_noting::<Bench>(alloc, ctx, root, given, notes)
 }
 
 /// Writes each move: where its operation stands, how it is written, and the data that it takes.

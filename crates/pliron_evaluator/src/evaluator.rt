@@ -20,7 +20,7 @@ pub use crate::evaluator::notes::{Noted, Notes};
 use crate::evaluator::state::{Next, start, step};
 use pliron_core::{Context, Operation, Ptr};
 use std::alloc::{AllocError, Global};
-pub use values::{Datum, Evaluate, Move, Sight};
+pub use values::{Datum, Evaluate, Move, RunInputs, Sight};
 
 /// What is seen of the run of the root on these inputs, where the world gives these answers in order,
 /// after at most `fuel` steps. A root that doesn't stand traps.
@@ -39,7 +39,12 @@ pub fn evaluate<D: Evaluate>(
         (map datum_of_value inputs.items) (map datum_of_value world.items) fuel)) }
 {
     let mut notes = Notes::of_last(alloc);
-    evaluate_noting::<D>(alloc, ctx, root, inputs, world, fuel, &mut notes)
+    let given = RunInputs {
+        inputs,
+        world,
+        fuel,
+    };
+    evaluate_noting::<D>(alloc, ctx, root, given, &mut notes)
 }
 
 /// The same, where notes are taken of the moves: each is noted before it is made.
@@ -50,16 +55,14 @@ pub fn evaluate_noting<D: Evaluate>(
     alloc: Global,
     ctx: &Context,
     root: Ptr<Operation>,
-    inputs: Vec<Datum>,
-    world: Vec<Datum>,
-    fuel: usize,
+    given: RunInputs,
     notes: &mut Notes,
 ) -> Result<Sight, AllocError>
     ensures { IfOk result (λ sight. sight_of sight ≡ sight_after (run D.meaning ctx.now.tree root
-        (map datum_of_value inputs.items) (map datum_of_value world.items) fuel)) }
+        (map datum_of_value given.inputs.items) (map datum_of_value given.world.items) given.fuel)) }
 {
-    let mut state = start(alloc, root, inputs, world)?;
-    for _ in 0..fuel {
+    let mut state = start(alloc, root, given.inputs, given.world)?;
+    for _ in 0..given.fuel {
         notes.take(alloc, ctx, &state)?;
         match step::<D>(alloc, ctx, state)? {
             Next::Goes(next) => state = next,

@@ -161,24 +161,23 @@ fn successor(ctx: &Context, op: Ptr<Operation>, i: usize) -> Option<Ptr<BasicBlo
     }
 }
 
-// The operation invokes its region with this index, and waits.
+// The first of the operations invokes a region whose entry is this block, if there is one, and waits.
 fn visit(
     alloc: Global,
     ctx: &Context,
     mut state: State,
-    op: Ptr<Operation>,
-    i: usize,
+    entry: Option<Ptr<BasicBlock>>,
     values: Vec<Datum>,
     memo: Datum,
 ) -> Result<Next, AllocError>
-    requires { IsLive ctx.now.tree op }
+    requires { ForSome entry (λ b. IsBlock ctx.now.tree b) }
     ensures { IfOk result (λ next. next_of_value next ≡ enter (state_of state)
-        (entry_in ctx.now.tree (slice_get (regions_of ctx.now.tree op) i)) (map datum_of_value values.items)
+        (and_block ctx.now.tree entry) (map datum_of_value values.items)
         (record { rest = state.rest.items; memo = datum_of_value memo } ∷ map waiting_of state.waiting.items)) }
 {
     let rest = mem::replace(&mut state.rest, VecDeque::new(alloc));
     put_first(&mut state.waiting, Waiting { rest, memo })?;
-    enter(alloc, ctx, state, entry(ctx, op, i), values)
+    enter(alloc, ctx, state, entry, values)
 }
 
 // The operation goes to its successor with this index.
@@ -235,7 +234,7 @@ fn perform(
 {
     match next {
         Move::Give(values) => give(alloc, ctx, state, op, values),
-        Move::Visit(i, values, memo) => visit(alloc, ctx, state, op, i, values, memo),
+        Move::Visit(i, values, memo) => visit(alloc, ctx, state, entry(ctx, op, i), values, memo),
         Move::Goto(i, values) => go_to(alloc, ctx, state, op, i, values),
         Move::Leave(values) => Ok(leave(state, values)),
         Move::Emit(effect, memo) => emit(alloc, state, effect, memo),

@@ -84,6 +84,14 @@ pub enum Move {
     Trap,
 }
 
+/// What a run is given: the inputs of its root, what the world answers, in order, and how many steps it may make.
+#[derive(Drop)]
+pub struct RunInputs {
+    pub inputs: Vec<Datum>,
+    pub world: Vec<Datum>,
+    pub fuel: usize,
+}
+
 /// What can be seen of a run. Effects come latest first.
 #[derive(Debug, Drop, PartialEq, Eq)]
 pub enum Sight {

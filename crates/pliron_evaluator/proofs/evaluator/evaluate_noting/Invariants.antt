@@ -5,4 +5,4 @@ use Rattle.pliron_evaluator.proofs.evaluator.evaluate_noting.Given as goal
 
 abbrev pub invariant-loop : goal.invariant-loop
 invariant-loop g l =
-    run_from (step g.D.HasMeaning.meaning l.ctx.tree) (l.fuel - l.counter) (state_of l.state) ≡ run g.D.HasMeaning.meaning l.ctx.tree l.fn.root (map datum_of_value l.fn.inputs.items) (map datum_of_value l.fn.world.items) l.fuel
+    run_from (step g.D.HasMeaning.meaning l.ctx.tree) (l.fn.given.fuel - l.counter) (state_of l.state) ≡ run g.D.HasMeaning.meaning l.ctx.tree l.fn.root (map datum_of_value l.fn.given.inputs.items) (map datum_of_value l.fn.given.world.items) l.fn.given.fuel

@@ -20,7 +20,7 @@ returns-in-Visit c =
     let rest = drop 1 c.args.state.rest.items in
     let ds = map datum_of_value c.in-Visit.values.items in
     let memo = datum_of_value c.in-Visit.memo in
-    by_move t c.args.op c.visit.result _ (λ o. perform t s o c.args.op rest (move_of c.args.next)) (performs_visit t s c.args.op rest (move_of c.args.next) c.in-Visit.i ds memo (ap move_of c.in-Visit.is) (first_drop c.args.state.rest.items c.args.op c.requires.first)) c.visit.ensures
+    by_move t c.args.op c.visit.result _ (λ o. perform t s o c.args.op rest (move_of c.args.next)) (performs_visit t s c.args.op rest (move_of c.args.next) c.in-Visit.i ds memo (ap move_of c.in-Visit.is) (first_drop c.args.state.rest.items c.args.op c.requires.first)) (rw c.entry.ensures.block at c.visit.ensures)
 
 pub returns-in-Goto : goal.returns-in-Goto
 returns-in-Goto c =
