@@ -10,7 +10,7 @@ use Rattle.pliron_evaluator.specs.Evaluator.{sight_of}
 use Rattle.pliron_evaluator.specs.declared.evaluator.values.Sight.{Sight}
 use Rattle.pliron_diagnostics.proofs.LayoutLemmas.{break_added}
 use Rattle.pliron_opts.specs.Answered.{Reads, Prints, IsOptimised, status_line}
-use Rattle.pliron_instrument.specs.PipelineWords.{Plans}
+use Rattle.pliron_opts.specs.PipelineTexts.{Plans}
 use Rattle.pliron_instrument.specs.Schedules.{ScheduleOf, IsPlanned}
 use Rattle.pliron_cli.specs.declared.outcome.Outcome.{Outcome}
 use Rattle.pliron_cli.specs.declared.comparing.Likeness.{Likeness}
@@ -102,7 +102,7 @@ module _ {P D E B K X : Type 0} (name : P → List ℕ) (EndsSo : ScheduleOf P D
   no_passes runs nested names (Ok o) bad = WithoutPasses bad
   no_passes runs nested names (Err e) bad = tt
 
-  pub is_asked : (word : List ℕ) (runs : Option ℕ) (nested : Bool) (names : List (List ℕ)) (r : Result Outcome X) → Plans word runs nested names → IfOk r (EndsByPlan name EndsSo runs nested names) → IfOk r (EndsByWord name EndsSo word)
+  pub is_asked : (word : List ℕ) (runs : Option ℕ) (nested : Bool) (names : List (List ℕ)) (r : Result Outcome X) → Plans true word runs nested names → IfOk r (EndsByPlan name EndsSo runs nested names) → IfOk r (EndsByWord name EndsSo word)
   is_asked word runs nested names (Ok o) plan ends = ByPlan runs nested names plan ends
   is_asked word runs nested names (Err e) plan ends = tt
 

@@ -1,6 +1,6 @@
 -- How commands end that run the passes which a word asks for.
-use Rattle.std.specs.Prelude.{ℕ, Bool, List, Option}
-use Rattle.pliron_instrument.specs.PipelineWords.{Plans}
+use Rattle.std.specs.Prelude.{ℕ, Bool, true, List, Option}
+use Rattle.pliron_opts.specs.PipelineTexts.{Plans}
 use Rattle.pliron_instrument.specs.Schedules.{ScheduleOf, IsPlanned}
 use Rattle.pliron_cli.specs.Outcomes.{EndsBadly}
 use Rattle.pliron_cli.specs.declared.outcome.Outcome.{Outcome}
@@ -13,5 +13,5 @@ module _ {P D E B K : Type 0} (name : P → List ℕ) (EndsSo : ScheduleOf P D E
 
   -- it ends so by what the word plans, or without an answer
   pub data EndsByWord (word : List ℕ) (o : Outcome) : Type 0 where
-    ByPlan : (runs : Option ℕ) (nested : Bool) (names : List (List ℕ)) → Plans word runs nested names → EndsByPlan runs nested names o → EndsByWord word o
+    ByPlan : (runs : Option ℕ) (nested : Bool) (names : List (List ℕ)) → Plans true word runs nested names → EndsByPlan runs nested names o → EndsByWord word o
     WithoutPlan : EndsBadly o → EndsByWord word o

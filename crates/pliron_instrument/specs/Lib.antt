@@ -1,2 +1,1 @@
-pub mod PipelineWords
 pub mod Schedules

@@ -8,7 +8,6 @@ mod comparison;
 mod contents_count;
 mod instrumented;
 mod optimise_text;
-mod pipeline_words;
 mod progress;
 mod run_records;
 mod schedule;
@@ -17,7 +16,7 @@ pub use comparison::{Comparison, RewriteCounts};
 pub use contents_count::ContentsCount;
 pub use instrumented::{Instrumentation, Instrumented};
 pub use optimise_text::{Optimised, optimise, run_instrumented};
-pub use pipeline_words::{PipelineText, PlanError, WordFault};
+pub use pliron_opts::{PipelineText, PlanError, WordFault};
 pub use progress::{Progress, Timeless};
 pub use run_records::{InstrumentationRecord, RoundRecord, RunNote};
 pub use schedule::{

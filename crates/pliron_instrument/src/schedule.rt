@@ -3,9 +3,8 @@ ghost use Rattle.std.specs.Prelude.{◌≡◌, ◌++◌, ◌∷◌, [], map, IfO
 ghost use Rattle.pliron_instrument.specs.Schedules.{IsPlanned, is_for_each, listed_passes, passes_of, pipeline_of, runs_of};
 
 use crate::instrumented::{Instrumentation, Instrumented};
-use crate::pipeline_words::PipelineText;
 use crate::progress::Progress;
-use pliron_opts::Notation;
+use pliron_opts::{Notation, PipelineText};
 use pliron_pass::{Either, NestedOpsPass, Pass, Passes, Repeat};
 use pliron_pipeline::PassStep;
 use std::alloc::{AllocError, Global};

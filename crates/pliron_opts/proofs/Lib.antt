@@ -1,3 +1,3 @@
 mod RunLemmas
 mod AskLemmas
-mod PlanLemmas
+mod WordLemmas

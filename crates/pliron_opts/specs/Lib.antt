@@ -1,5 +1,6 @@
 pub mod Ending
 pub mod Plans
+pub mod PipelineTexts
 pub mod Ran
 pub mod Asked
 pub mod Answered

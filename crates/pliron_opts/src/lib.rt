@@ -33,7 +33,7 @@ pub use pliron_pipeline::{
     DCEPass, PassStep, Pipeline, SCCPPass, Schedule, SimplifyCFGPass, run_pipeline,
 };
 pub use pliron_sccp::{sccp, sccp_counted};
-pub use program::MAX_TEXT;
+pub use program::{MAX_TEXT, PipelineText, PlanError, WordFault};
 use program::{Failure, read_input, write_answer};
 use std::alloc::Global;
 use std::io::{Read, Write};

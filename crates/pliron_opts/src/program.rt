@@ -2,9 +2,9 @@
 //!
 //! It knows no tree, no pass and no notation.
 mod failure;
-mod pipeline_word;
+mod pipeline_text;
 mod streams;
 
 pub use failure::Failure;
-pub use pipeline_word::PipelineWord;
+pub use pipeline_text::{PipelineText, PlanError, WordFault};
 pub use streams::{MAX_TEXT, read_input, write_answer};

@@ -4,4 +4,5 @@ pub mod CommonSubexpressions
 pub mod Constants
 pub mod ControlFlow
 pub mod DeadCode
+pub mod PassNames
 pub mod PassSteps

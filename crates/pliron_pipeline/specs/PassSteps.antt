@@ -1,5 +1,5 @@
 -- What the passes of a list are called.
-use Rattle.std.specs.Prelude.{◌≢◌, ℕ, List}
+use Rattle.std.specs.Prelude.{ℕ, List}
 use Rattle.pliron_pipeline.specs.CommonSubexpressions.{cse_name}
 use Rattle.pliron_pipeline.specs.Constants.{sccp_name}
 use Rattle.pliron_pipeline.specs.ControlFlow.{simplify_cfg_name}
@@ -16,10 +16,6 @@ step_name (Sccp p) = sccp_name
 step_name (Dce p) = dce_name
 step_name (SimplifyCfg p) = simplify_cfg_name
 step_name (Cse p) = cse_name
-
--- none of the passes is called so
-abbrev pub IsNoStep : List ℕ → Type 0
-IsNoStep name = (name ≢ sccp_name) × (name ≢ dce_name) × (name ≢ simplify_cfg_name) × (name ≢ cse_name)
 
 -- a list of passes for the operation itself, or for each operation directly inside it
 abbrev pub PipelineOf : (D E B K : Type 0) → Type 0

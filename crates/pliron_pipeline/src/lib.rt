@@ -9,6 +9,7 @@ mod constants;
 mod control_flow;
 mod dead_code;
 mod optimisation;
+mod pass_name;
 mod step;
 
 pub use change_reports::schedules_report_accurately;
@@ -17,5 +18,6 @@ pub use constants::{Constants, SCCPPass};
 pub use control_flow::{ControlFlow, SimplifyCFGPass};
 pub use dead_code::{DCEPass, DeadCode};
 pub use optimisation::{Effect, Optimisation, OptimisingPass};
+pub use pass_name::PassName;
 pub use pliron_pass::run_pipeline;
 pub use step::{PassStep, Pipeline, Schedule};

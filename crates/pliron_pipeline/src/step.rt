@@ -1,12 +1,14 @@
 //! One of the passes here, and lists of them.
 ghost use Rattle.std.specs.Prelude.{◌≡◌, true, false, IfSome, IfNone};
-ghost use Rattle.pliron_pipeline.specs.PassSteps.{step_name, IsNoStep};
+ghost use Rattle.pliron_pipeline.specs.PassNames.{IsNoPass};
+ghost use Rattle.pliron_pipeline.specs.PassSteps.{step_name};
 ghost use Rattle.pliron_pipeline.specs.declared.step.PassStep.TheVariants.{Sccp as ASccp, Dce as ADce, SimplifyCfg as ASimplifyCfg, Cse as ACse};
 
 use crate::common_subexpressions::CSEPass;
 use crate::constants::SCCPPass;
 use crate::control_flow::SimplifyCFGPass;
 use crate::dead_code::DCEPass;
+use crate::pass_name::PassName;
 use pliron_core::{Context, Operation, Ptr};
 use pliron_laws::{Dialect, OptError};
 use pliron_pass::{
@@ -25,17 +27,17 @@ pub enum PassStep<D: Dialect, E: Analyses + Drop> {
 }
 
 impl<D: Dialect, E: Analyses + Drop> PassStep<D, E> {
-    /// The pass of this name: `sccp`, `dce`, `simplify-cfg` or `cse`. Cost: constant.
+    /// The pass of this name (`PassName::LIST`). Cost: constant.
     pub fn from_name(name: &str) -> Option<Self>
         ensures named { IfSome result (λ step. step_name step ≡ name.now) }
-        ensures unknown { IfNone result (IsNoStep name.now) }
+        ensures unknown { IfNone result (IsNoPass name.now) }
     {
-        match name {
-            "sccp" => Some(PassStep::Sccp(SCCPPass::new())),
-            "dce" => Some(PassStep::Dce(DCEPass::new())),
-            "simplify-cfg" => Some(PassStep::SimplifyCfg(SimplifyCFGPass::new())),
-            "cse" => Some(PassStep::Cse(CSEPass::new())),
-            _ => None,
+        match PassName::from_name(name) {
+            Some(PassName::Sccp) => Some(PassStep::Sccp(SCCPPass::new())),
+            Some(PassName::Dce) => Some(PassStep::Dce(DCEPass::new())),
+            Some(PassName::SimplifyCfg) => Some(PassStep::SimplifyCfg(SimplifyCFGPass::new())),
+            Some(PassName::Cse) => Some(PassStep::Cse(CSEPass::new())),
+            None => None,
         }
     }
 }

@@ -4,7 +4,7 @@ ghost use Rattle.pliron_pipeline.specs.PassSteps.{step_name};
 ghost use Rattle.pliron_opts.specs.Asked.{AskFor, IsPlanned, is_nested, names_of};
 ghost use Rattle.pliron_opts.specs.Ran.{IsScheduled};
 
-use crate::program::PipelineWord;
+use crate::program::PipelineText;
 use pliron_laws::Dialect;
 use pliron_pass::{BenchFacts, Either, NestedOpsPass, Passes, Repeat};
 use pliron_pipeline::{PassStep, Pipeline, Schedule};
@@ -19,12 +19,6 @@ pub enum Command<D: Dialect> {
     Graph,
 }
 
-/// Whether the word is the name of a pass in the words of the program, which are fixed: a pipeline of the library has
-/// more.
-fn is_word(name: &str) -> bool {
-    matches!(name, "sccp" | "dce" | "simplify-cfg")
-}
-
 /// The passes of these names in turn, if each is the name of one.
 fn passes<D: Dialect>(
     alloc: Global,
@@ -35,9 +29,6 @@ fn passes<D: Dialect>(
 {
     let mut passes = Passes::new(alloc);
     for name in names {
-        if !is_word(name) {
-            return Ok(None);
-        }
         let Some(step) = PassStep::from_name(name) else {
             return Ok(None);
         };
@@ -91,7 +82,7 @@ pub fn plan_schedule<D: Dialect>(
 ) -> Result<Option<Schedule<D, BenchFacts>>, AllocError>
     ensures { IfOk result (λ found. IfSome found (λ schedule. IsPlanned word.now schedule)) }
 {
-    let Some(plan) = PipelineWord::read(alloc, word)? else {
+    let Some(plan) = PipelineText::read_for_program(alloc, word)? else {
         return Ok(None);
     };
     match pipeline(alloc, plan.nested, &plan.names)? {

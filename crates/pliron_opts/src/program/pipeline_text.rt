@@ -1,9 +1,12 @@
-//! Pipelines as words.
-ghost use Rattle.std.specs.Prelude.{◌≡◌, ◌≤◌, ◌==◌, ◌++◌, map, codes, IfOk, IfSome};
+//! Pass pipelines as words: the one reader, for the words of the program and for those that people write.
+ghost use Rattle.std.specs.Prelude.{◌≡◌, ◌≤◌, ◌==◌, ◌++◌, ℕ, true, map, codes, IsTrue, IfOk, IfSome, IfNone};
 ghost use Rattle.std.specs.List.{slice_split};
 ghost use Rattle.std.specs.Fmt.{decimal};
-ghost use Rattle.pliron_instrument.specs.PipelineWords.{Counts, Nests, Plans};
+ghost use Rattle.pliron_pipeline.specs.PassNames.{IsNoPass};
+ghost use Rattle.pliron_opts.specs.Plans.{BeginsWith, IsPlan};
+ghost use Rattle.pliron_opts.specs.PipelineTexts.{Counts, Nests, Plans, has_brackets};
 
+use pliron_pipeline::PassName;
 use std::alloc::{AllocError, Global};
 
 /// The most times that a list may be run.
@@ -42,6 +45,27 @@ impl From<AllocError> for PlanError {
     }
 }
 
+/// Which words plan passes: those of the program, which are fixed, or all, which have brackets and the names of all
+/// passes too.
+#[derive(Clone, Copy)]
+enum Words {
+    OfProgram,
+    All,
+}
+
+impl Words {
+    /// Whether they have this name, and a pass has it.
+    fn have_name(self, name: &str) -> bool
+        ensures { IsTrue result → IsNoPass name.now → ⊥ }
+    {
+        match PassName::from_name(name) {
+            Some(PassName::Sccp | PassName::Dce | PassName::SimplifyCfg) => true,
+            Some(_) => matches!(self, Words::All),
+            None => false,
+        }
+    }
+}
+
 /// The fault of this part.
 fn fault<T>(start: usize, len: usize, expected: &'static str) -> Result<T, PlanError>
     ensures { IfOk result (λ found. ⊥) }
@@ -77,6 +101,28 @@ fn count(alloc: Global, digits: &str, start: usize) -> Result<usize, PlanError>
 struct RestOfWord<'w> {
     text: &'w str,
     start: usize,
+}
+
+/// What stands behind the start of the text, if it begins so.
+fn text_behind<'w>(text: &'w str, start: &str) -> Option<&'w str>
+    ensures some { IfSome result (λ rest. text.now ≡ start.now ++ rest.now) }
+    ensures none { IfNone result (BeginsWith text.now start.now → ⊥) }
+{
+    match text.strip_prefix(start) {
+        Some(rest) => Some(rest),
+        None => None,
+    }
+}
+
+/// The same, where these words have brackets.
+fn text_behind_bracket<'w>(text: &'w str, start: &str, words: Words) -> Option<&'w str>
+    ensures some { IfSome result (λ rest. IsTrue (has_brackets words) × (text.now ≡ start.now ++ rest.now)) }
+    ensures none { IfNone result (IsTrue (has_brackets words) → BeginsWith text.now start.now → ⊥) }
+{
+    match words {
+        Words::OfProgram => None,
+        Words::All => text_behind(text, start),
+    }
 }
 
 /// What stands before the bracket that closes the text, if one does.
@@ -135,33 +181,37 @@ fn counted_in_brackets<'w>(
 
 /// The runs that the word asks for, if it does, and what is run. Errors: it asks for none that can be; allocation
 /// failure.
-fn read_runs<'w>(alloc: Global, word: &'w str) -> Result<(Option<usize>, RestOfWord<'w>), PlanError>
-    ensures { IfOk result (λ read. Counts word.now read.0 read.1.text.now) }
+fn read_runs<'w>(
+    alloc: Global,
+    word: &'w str,
+    words: Words,
+) -> Result<(Option<usize>, RestOfWord<'w>), PlanError>
+    ensures { IfOk result (λ read. Counts (has_brackets words) word.now read.0 read.1.text.now) }
 {
-    if let Some(rest) = word.strip_prefix("repeat:") {
+    if let Some(rest) = text_behind(word, "repeat:") {
         let (runs, rest) = counted_by_colon(alloc, rest)?;
-        Ok((Some(runs), rest))
-    } else if let Some(rest) = word.strip_prefix("repeat<") {
-        let (runs, rest) = counted_in_brackets(alloc, rest)?;
-        Ok((Some(runs), rest))
-    } else {
-        let rest = RestOfWord {
+        return Ok((Some(runs), rest));
+    }
+    let Some(rest) = text_behind_bracket(word, "repeat<", words) else {
+        let whole = RestOfWord {
             text: word,
             start: 0,
         };
-        Ok((None, rest))
-    }
+        return Ok((None, whole));
+    };
+    let (runs, rest) = counted_in_brackets(alloc, rest)?;
+    Ok((Some(runs), rest))
 }
 
 /// Whether it is for each operation directly inside, and the list. Errors: a bracket that isn't closed.
-fn read_nesting<'w>(rest: RestOfWord<'w>) -> Result<(bool, RestOfWord<'w>), PlanError>
-    ensures { IfOk result (λ read. Nests rest.entry.text.now read.0 read.1.text.now) }
+fn read_nesting<'w>(rest: RestOfWord<'w>, words: Words) -> Result<(bool, RestOfWord<'w>), PlanError>
+    ensures { IfOk result (λ read. Nests (has_brackets words) rest.entry.text.now read.0 read.1.text.now) }
 {
     let start = rest.start.saturating_add(7);
-    if let Some(text) = rest.text.strip_prefix("nested:") {
+    if let Some(text) = text_behind(rest.text, "nested:") {
         return Ok((true, RestOfWord { text, start }));
     }
-    let Some(behind) = rest.text.strip_prefix("nested(") else {
+    let Some(behind) = text_behind_bracket(rest.text, "nested(", words) else {
         return Ok((false, rest));
     };
     match text_before_bracket(behind) {
@@ -170,21 +220,16 @@ fn read_nesting<'w>(rest: RestOfWord<'w>) -> Result<(bool, RestOfWord<'w>), Plan
     }
 }
 
-/// Whether a pass has this name.
-fn is_pass(name: &str) -> bool {
-    matches!(name, "sccp" | "dce" | "simplify-cfg" | "cse")
-}
-
 /// The names that commas set apart. Errors: one that no pass has; allocation failure.
-fn names<'w>(alloc: Global, list: RestOfWord<'w>) -> Result<Vec<&'w str>, PlanError>
+fn names<'w>(alloc: Global, list: RestOfWord<'w>, words: Words) -> Result<Vec<&'w str>, PlanError>
     ensures { IfOk result (λ names. map (λ name. name.now) names.items ≡ slice_split
         (λ b. b == 44) list.entry.text.now) }
 {
     let mut names = Vec::new(alloc);
     let mut start = list.start;
     for name in list.text.split(',') {
-        if !is_pass(name) {
-            return fault(start, name.len(), "`sccp`, `dce`, `simplify-cfg` or `cse`");
+        if !words.have_name(name) {
+            return fault(start, name.len(), PassName::LIST);
         }
         start = start.saturating_add(name.len()).saturating_add(1);
         if names.push(name).is_err() {
@@ -195,20 +240,45 @@ fn names<'w>(alloc: Global, list: RestOfWord<'w>) -> Result<Vec<&'w str>, PlanEr
 }
 
 impl<'w> PipelineText<'w> {
-    /// What the word says: names of passes joined by commas; in `nested:..` or `nested(..)` for each operation directly
-    /// inside; and that in `repeat:N:..` or `repeat<N>(..)` for at most N runs, from 1 to 64.
-    ///
-    /// Errors: the first part of the word that is wrong; allocation failure. Cost: linear in the word.
-    pub fn read(alloc: Global, word: &'w str) -> Result<Self, PlanError>
-        ensures { IfOk result (λ plan. Plans word.now plan.runs plan.nested (map (λ name. name.now) plan.names.items)) }
+    /// What the word says, if it is one of these words.
+    fn read_among(alloc: Global, word: &'w str, words: Words) -> Result<Self, PlanError>
+        ensures { IfOk result (λ plan. Plans (has_brackets words) word.now plan.runs plan.nested
+            (map (λ name. name.now) plan.names.items)) }
     {
-        let (runs, rest) = read_runs(alloc, word)?;
-        let (nested, list) = read_nesting(rest)?;
-        let names = names(alloc, list)?;
+        let (runs, rest) = read_runs(alloc, word, words)?;
+        let (nested, list) = read_nesting(rest, words)?;
+        let names = names(alloc, list, words)?;
         Ok(PipelineText {
             runs,
             nested,
             names,
         })
+    }
+
+    /// What the word says: names of passes joined by commas; in `nested:..` or `nested(..)` for each operation directly
+    /// inside; and that in `repeat:N:..` or `repeat<N>(..)` for at most N runs, from 1 to 64.
+    ///
+    /// Errors: the first part of the word that is wrong; allocation failure. Cost: linear in the word.
+    pub fn read(alloc: Global, word: &'w str) -> Result<Self, PlanError>
+        ensures { IfOk result (λ plan. Plans true word.now plan.runs plan.nested
+            (map (λ name. name.now) plan.names.items)) }
+    {
+        PipelineText::read_among(alloc, word, Words::All)
+    }
+
+    /// What a word of the program says: the same by colons alone, of the passes `sccp`, `dce` and `simplify-cfg`.
+    ///
+    /// `None` for any other word.
+    ///
+    /// Errors: allocation failure. Cost: linear in the word.
+    pub fn read_for_program(alloc: Global, word: &'w str) -> Result<Option<Self>, AllocError>
+        ensures { IfOk result (λ found. IfSome found (λ plan. IsPlan word.now plan.runs plan.nested
+            (map (λ name. name.now) plan.names.items))) }
+    {
+        match PipelineText::read_among(alloc, word, Words::OfProgram) {
+            Ok(plan) => Ok(Some(plan)),
+            Err(PlanError::Word(_)) => Ok(None),
+            Err(PlanError::Memory) => Err(AllocError),
+        }
     }
 }
