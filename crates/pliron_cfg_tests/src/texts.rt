@@ -36,20 +36,21 @@ fn left_of(
     Ok(print_text(alloc, root, ctx)?)
 }
 
-fn check_in(
-    rt: &impl Abort,
-    alloc: Global,
-    ctx: &mut Context,
-    call: &str,
-    expected: &str,
-    text: &str,
-    after: &str,
-) -> Result<(), Fail> {
-    let Some(root) = read_text(alloc, text.as_bytes(), ctx)? else {
+// A call, what it answers, and what it leaves of the text.
+#[derive(Clone, Copy)]
+struct Case<'a> {
+    call: &'a str,
+    expected: &'a str,
+    text: &'a str,
+    after: &'a str,
+}
+
+fn check_in(rt: &impl Abort, alloc: Global, ctx: &mut Context, case: &Case) -> Result<(), Fail> {
+    let Some(root) = read_text(alloc, case.text.as_bytes(), ctx)? else {
         return Err(Fail::from("unreadable"));
     };
-    let printed = left_of(rt, alloc, ctx, root, call, expected)?;
-    assert_eq!(rt; printed.as_str(), after, "{text}");
+    let printed = left_of(rt, alloc, ctx, root, case.call, case.expected)?;
+    assert_eq!(rt; printed.as_str(), case.after, "{}", case.text);
     Ok(())
 }
 
@@ -61,8 +62,14 @@ fn check(rt: &impl Abort, alloc: Global, call: &str, case: &str) -> Result<(), F
     let Some((expected, text)) = line.split_once(" ") else {
         return Err(Fail::from("no answer"));
     };
+    let case = Case {
+        call,
+        expected,
+        text,
+        after,
+    };
     let mut ctx = Context::new(alloc);
-    check_in(rt, alloc, &mut ctx, call, expected, text, after)
+    check_in(rt, alloc, &mut ctx, &case)
 }
 
 // Each case has the name of its call before it.

@@ -74,18 +74,75 @@ fn lose_operand(
     check_operands(rt, ctx, op, want);
 }
 
-// So many operands, of which each fourth names a value again that the one before it has; `lost` of them go;
-// and after each `every` of these one more comes at the end, which takes the index away, so it is asked for
+// So many operands, of which each fourth names a value again that the one before it has; `lost` of them go, in this
+// order; and after each `every` of these one more comes at the end, which takes the index away, so it is asked for
 // again.
-fn check_operand_row(
-    rt: &impl Abort,
-    alloc: Global,
-    ctx: &mut Context,
+struct Losses {
     count: usize,
     order: Order,
     lost: usize,
     every: usize,
+}
+
+static OPERAND_ROWS: [Losses; 8] = [
+    Losses {
+        count: 100,
+        order: Order::Ends,
+        lost: 100,
+        every: 0,
+    },
+    Losses {
+        count: 100,
+        order: Order::Thirds,
+        lost: 70,
+        every: 0,
+    },
+    Losses {
+        count: 200,
+        order: Order::Listed,
+        lost: 120,
+        every: 9,
+    },
+    Losses {
+        count: 200,
+        order: Order::Thirds,
+        lost: 66,
+        every: 30,
+    },
+    Losses {
+        count: 130,
+        order: Order::Front,
+        lost: 130,
+        every: 40,
+    },
+    Losses {
+        count: 64,
+        order: Order::Listed,
+        lost: 40,
+        every: 0,
+    },
+    Losses {
+        count: 65,
+        order: Order::Listed,
+        lost: 65,
+        every: 0,
+    },
+    Losses {
+        count: 3,
+        order: Order::Ends,
+        lost: 3,
+        every: 1,
+    },
+];
+
+fn check_operand_row(
+    rt: &impl Abort,
+    alloc: Global,
+    ctx: &mut Context,
+    losses: &Losses,
 ) -> Result<(), Fail> {
+    let count = losses.count;
+    let every = losses.every;
     let values = make_values(rt, alloc, ctx, count)?;
     let op = operation(rt, ctx, head(alloc, CONST, None)?, 0, 0)?;
     let mut want = Vec::new(alloc);
@@ -97,8 +154,8 @@ fn check_operand_row(
     }
     index_operands(rt, ctx, op)?;
     check_operands(rt, ctx, op, &want);
-    for k in 0..lost {
-        lose_operand(rt, ctx, op, &mut want, order, k);
+    for k in 0..losses.lost {
+        lose_operand(rt, ctx, op, &mut want, losses.order, k);
         if every > 0 && k % every == every - 1 {
             assert!(rt; k < values.len());
             add_operand(rt, ctx, op, values[k])?;
@@ -130,14 +187,9 @@ fn end_operand_row(
 }
 
 fn check_operand_rows(rt: &impl Abort, alloc: Global, ctx: &mut Context) -> Result<(), Fail> {
-    check_operand_row(rt, alloc, ctx, 100, Order::Ends, 100, 0)?;
-    check_operand_row(rt, alloc, ctx, 100, Order::Thirds, 70, 0)?;
-    check_operand_row(rt, alloc, ctx, 200, Order::Listed, 120, 9)?;
-    check_operand_row(rt, alloc, ctx, 200, Order::Thirds, 66, 30)?;
-    check_operand_row(rt, alloc, ctx, 130, Order::Front, 130, 40)?;
-    check_operand_row(rt, alloc, ctx, 64, Order::Listed, 40, 0)?;
-    check_operand_row(rt, alloc, ctx, 65, Order::Listed, 65, 0)?;
-    check_operand_row(rt, alloc, ctx, 3, Order::Ends, 3, 1)?;
+    for losses in &OPERAND_ROWS {
+        check_operand_row(rt, alloc, ctx, losses)?;
+    }
     Ok(())
 }
 

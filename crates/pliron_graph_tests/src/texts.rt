@@ -249,47 +249,58 @@ fn push_edges<C, G: ControlFlowGraph<C>>(
     let nodes = graph.nodes(alloc, ctx).expect(rt, "memory");
     for node in &nodes {
         if search.is_reached(node) {
-            push_edges_of(rt, alloc, ctx, graph, &search, node, text);
+            let edges = edges_of(rt, alloc, ctx, graph, &search, node);
+            push_each_edge(rt, alloc, ctx, &edges, text);
         }
     }
 }
 
+// An edge, and what a search says of it.
+#[derive(Drop)]
+struct Edge<N> {
+    from: N,
+    to: N,
+    kind: DFSEdgeKind,
+}
+
 // The edges of a node that the search from the entry reached.
-fn push_edges_of<C, G: ControlFlowGraph<C>>(
+fn edges_of<C, G: ControlFlowGraph<C>>(
     rt: &impl Abort,
     alloc: Global,
     ctx: &C,
     graph: &G,
     search: &DFSTraversal<G::Node>,
     node: &G::Node,
-    text: &mut String,
-)
+) -> Vec<Edge<G::Node>>
     requires lawful { G.is_lawful graph.now ctx.now }
     requires member { Contains (G.graph graph.now ctx.now).nodes node.now }
     requires search { IsSearch G.Node.eq (G.graph graph.now ctx.now) (option_to_list (G.graph graph.now ctx.now).entry)
         search.now }
     requires reached { IsListed G.Node.eq search.now.pre node.now }
 {
+    let mut edges = Vec::new(alloc);
     for i in 0..graph.num_successors(ctx, node) {
-        let next = graph.get_successor(ctx, node, i);
-        let kind = search.edge_kind(node, &next);
-        push_edge(rt, alloc, ctx, node, &next, kind, text);
+        let to = graph.get_successor(ctx, node, i);
+        let kind = search.edge_kind(node, &to);
+        let from = *node;
+        edges.push(Edge { from, to, kind }).expect(rt, "memory");
     }
+    edges
 }
 
-fn push_edge<C, N: HasLabel<C>>(
+fn push_each_edge<C, N: HasLabel<C>>(
     rt: &impl Abort,
     alloc: Global,
     ctx: &C,
-    from: &N,
-    to: &N,
-    kind: DFSEdgeKind,
+    edges: &[Edge<N>],
     text: &mut String,
 ) {
-    push_label(rt, alloc, ctx, from, text);
-    push(rt, text, ">");
-    push_label(rt, alloc, ctx, to, text);
-    write!(text, ":{kind:?} ").expect(rt, "memory");
+    for edge in edges {
+        push_label(rt, alloc, ctx, &edge.from, text);
+        push(rt, text, ">");
+        push_label(rt, alloc, ctx, &edge.to, text);
+        write!(text, ":{:?} ", edge.kind).expect(rt, "memory");
+    }
 }
 
 fn push_components<C, G: ControlFlowGraph<C>>(

@@ -27,6 +27,20 @@ enum Call {
 
 static CALLS: [Call; 2] = [Call::Remove, Call::Merge];
 
+/// A block, and the operation that it is directly in.
+#[derive(Clone, Copy)]
+struct HeldBlock {
+    holder: Ptr<Operation>,
+    block: Ptr<BasicBlock>,
+}
+
+/// What is called on: the region of the operation, or a block in it.
+#[derive(Clone, Copy)]
+enum Target {
+    Region(Ptr<Operation>),
+    Block(HeldBlock),
+}
+
 /// What the call answers for the region of the parent operation.
 fn in_region(
     rt: &impl Abort,
@@ -55,16 +69,16 @@ fn in_region(
 fn in_block(
     rt: &impl Abort,
     alloc: Global,
-    holder: Ptr<Operation>,
-    block: Ptr<BasicBlock>,
+    held: HeldBlock,
     ctx: &mut Context,
     call: Call,
     rewriter: &mut Counting,
 ) -> Result<IRStatus, OptError>
-    requires live { IsLive ctx.old.tree holder }
-    requires linked { IsWellLinked bench ctx.old.tree holder }
+    requires live { IsLive ctx.old.tree held.holder }
+    requires linked { IsWellLinked bench ctx.old.tree held.holder }
 {
     ctx.well_formed();
+    let HeldBlock { holder, block } = held;
     assert!(rt; holder.num_region(ctx) == 1);
     assert!(rt; block.is_live(ctx));
     let region = holder.get_region(ctx, 0);
@@ -76,21 +90,33 @@ fn in_block(
     }
 }
 
-/// What the call answers for the block, or for the region where there is none; each change had room.
+/// Asserts that the operation may be called on.
+fn assert_callable(rt: &impl Abort, holder: Ptr<Operation>, ctx: &Context)
+    ensures live { IsLive ctx.now.tree holder }
+    ensures linked { IsWellLinked bench ctx.now.tree holder }
+{
+    assert!(rt; holder.is_live(ctx));
+    assert!(rt; is_well_linked::<Bench>(holder, ctx));
+}
+
+/// What the call answers for the region or the block; each change had room.
 fn answer(
     rt: &impl Abort,
     alloc: Global,
-    holder: Ptr<Operation>,
-    block: Option<Ptr<BasicBlock>>,
+    target: Target,
     ctx: &mut Context,
     call: Call,
 ) -> Option<IRStatus> {
-    assert!(rt; holder.is_live(ctx));
-    assert!(rt; is_well_linked::<Bench>(holder, ctx));
     let mut rewriter = Counting::new();
-    let told = match block {
-        None => in_region(rt, alloc, holder, ctx, call, &mut rewriter),
-        Some(block) => in_block(rt, alloc, holder, block, ctx, call, &mut rewriter),
+    let told = match target {
+        Target::Region(holder) => {
+            assert_callable(rt, holder, ctx);
+            in_region(rt, alloc, holder, ctx, call, &mut rewriter)
+        }
+        Target::Block(held) => {
+            assert_callable(rt, held.holder, ctx);
+            in_block(rt, alloc, held, ctx, call, &mut rewriter)
+        }
     };
     assert!(rt; rewriter.had_room());
     answer_if_any(rt, told)
@@ -101,56 +127,33 @@ fn check_once(
     rt: &impl Abort,
     alloc: Global,
     whole: Ptr<Operation>,
-    holder: Ptr<Operation>,
-    block: Option<Ptr<BasicBlock>>,
+    target: Target,
     ctx: &mut Context,
     call: Call,
 ) -> bool {
     let before = whole_line(rt, alloc, whole, ctx);
-    let told = answer(rt, alloc, holder, block, ctx, call);
+    let told = answer(rt, alloc, target, ctx, call);
     check_left(rt, alloc, whole, ctx, &before, told);
     told.is_some()
 }
 
 /// A further call finds nothing more to do.
-fn check_settled(
-    rt: &impl Abort,
-    alloc: Global,
-    holder: Ptr<Operation>,
-    block: Option<Ptr<BasicBlock>>,
-    ctx: &mut Context,
-    call: Call,
-) {
-    let again = answer(rt, alloc, holder, block, ctx, call);
+fn check_settled(rt: &impl Abort, alloc: Global, target: Target, ctx: &mut Context, call: Call) {
+    let again = answer(rt, alloc, target, ctx, call);
     assert!(rt; again == Some(IRStatus::Unchanged));
 }
 
-/// Calls it twice on the region of the parent operation.
-fn check_region_twice(
+/// Calls it twice.
+fn check_twice(
     rt: &impl Abort,
     alloc: Global,
     whole: Ptr<Operation>,
-    holder: Ptr<Operation>,
+    target: Target,
     ctx: &mut Context,
     call: Call,
 ) {
-    if check_once(rt, alloc, whole, holder, None, ctx, call) {
-        check_settled(rt, alloc, holder, None, ctx, call);
-    }
-}
-
-/// Calls it twice on the block.
-fn check_block_twice(
-    rt: &impl Abort,
-    alloc: Global,
-    whole: Ptr<Operation>,
-    holder: Ptr<Operation>,
-    block: Ptr<BasicBlock>,
-    ctx: &mut Context,
-    call: Call,
-) {
-    if check_once(rt, alloc, whole, holder, Some(block), ctx, call) {
-        check_settled(rt, alloc, holder, Some(block), ctx, call);
+    if check_once(rt, alloc, whole, target, ctx, call) {
+        check_settled(rt, alloc, target, ctx, call);
     }
 }
 
@@ -166,21 +169,25 @@ fn check_region(
     let Some(holder) = holders_of(rt, alloc, whole, ctx).get(index).copied() else {
         return false;
     };
-    check_region_twice(rt, alloc, whole, holder, ctx, call);
+    check_twice(rt, alloc, whole, Target::Region(holder), ctx, call);
     true
 }
 
-/// The blocks of the whole, each with the operation that it is directly in.
+/// The blocks of the whole.
 fn all_blocks(
     rt: &impl Abort,
     alloc: Global,
     whole: Ptr<Operation>,
     ctx: &Context,
-) -> Vec<(Ptr<Operation>, Ptr<BasicBlock>)> {
+) -> Vec<HeldBlock> {
     let mut all = Vec::new(alloc);
     for holder in &holders_of(rt, alloc, whole, ctx) {
         for block in &blocks_of(rt, alloc, *holder, ctx) {
-            all.push((*holder, *block)).expect(rt, "memory");
+            let held = HeldBlock {
+                holder: *holder,
+                block: *block,
+            };
+            all.push(held).expect(rt, "memory");
         }
     }
     all
@@ -195,10 +202,10 @@ fn check_block(
     call: Call,
 ) -> bool {
     let whole = read(alloc, ctx, text).expect(rt, "a readable text");
-    let Some((holder, block)) = all_blocks(rt, alloc, whole, ctx).get(index).copied() else {
+    let Some(held) = all_blocks(rt, alloc, whole, ctx).get(index).copied() else {
         return false;
     };
-    check_block_twice(rt, alloc, whole, holder, block, ctx, call);
+    check_twice(rt, alloc, whole, Target::Block(held), ctx, call);
     true
 }
 

@@ -168,21 +168,30 @@ fn write_answer(rt: &impl Abort, text: &mut String, answer: &Result<IRStatus, Op
     }
 }
 
-// Writes what is cached, counted and left, and what the facts are with a total that is asked for then.
+// Writes what is cached and counted.
+fn write_counts(
+    rt: &impl Abort,
+    text: &mut String,
+    begun: usize,
+    analyses: &AnalysisManager<BenchFacts>,
+    op: Ptr<Operation>,
+) {
+    write_facts(rt, text, analyses, op);
+    let runs = analyses.pm_data().state().pass_run_count;
+    write!(text, "; {runs} runs, {begun} begun;").expect(rt, "memory");
+}
+
+// Writes what the facts are with a total that is asked for then, and what is left.
 fn write_rest(
     rt: &impl Abort,
     alloc: Global,
     text: &mut String,
-    begun: usize,
     analyses: &mut AnalysisManager<BenchFacts>,
     op: Ptr<Operation>,
     ctx: &Context,
 )
     requires { IsLive ctx.now.tree op }
 {
-    write_facts(rt, text, analyses, op);
-    let runs = analyses.pm_data().state().pass_run_count;
-    write!(text, "; {runs} runs, {begun} begun;").expect(rt, "memory");
     analyses
         .compute_analysis(BenchFactKind::Total, op, ctx)
         .expect(rt, "memory");
@@ -206,15 +215,8 @@ fn run_on(
     let mut text = String::new(alloc);
     let answer = run_pipeline(pass, alloc, op, ctx, analyses);
     write_answer(rt, &mut text, &answer);
-    write_rest(
-        rt,
-        alloc,
-        &mut text,
-        pass.inner_runs_begun(),
-        analyses,
-        op,
-        ctx,
-    );
+    write_counts(rt, &mut text, pass.inner_runs_begun(), analyses, op);
+    write_rest(rt, alloc, &mut text, analyses, op, ctx);
     text
 }
 
