@@ -5,8 +5,8 @@
  *
  * What a caller owes, which nothing tests:
  *   - each pointer is that of so many bytes as the length beside it says, also where that is 0: none is NULL;
- *   - `output`, `*needed` and `*place` overlap nothing else that is passed to the same call, and no other thread
- *     touches them while it runs; the texts may be shared, and aren't written;
+ *   - `output`, `*needed`, `*changed` and `*place` overlap nothing else that is passed to the same call, and no other
+ *     thread touches them while it runs; the texts may be shared, and aren't written;
  *   - a length is below 2^63;
  *   - malloc, realloc and free are those of one allocator, which aligns to 16 bytes, as that of every C library does;
  *   - no call is made from a signal handler, or in the child of a fork of a process with several threads;
@@ -22,19 +22,21 @@
 extern "C" {
 #endif
 
-/* The interface that this header declares. A program may ask that `plir_version() == PLIR_VERSION`. */
-#define PLIR_VERSION 1
+/* The interface that this header declares. A program may ask that `plir_version() == PLIR_VERSION`. It is 2 since the two
+ * calls on modules of MLIR are there; the four of interface 1 are as they were. */
+#define PLIR_VERSION 2
 
-/* The most bytes of a text. */
+/* The most bytes of a text, and of a module of MLIR. */
 #define PLIR_MAX_TEXT 1048576
+#define PLIR_MAX_MODULE 268435456
 
-/* What a call answers. `plir_opt` ends with 0 for the first, with 1 for PLIR_REFUSED and PLIR_MEMORY, and with 2 for
- * the others. */
+/* What a call answers. `plir_opt` and `plir_mlir` end with 0 for the first, with 1 for PLIR_REFUSED and PLIR_MEMORY, and
+ * with 2 for the others. */
 typedef uint32_t plir_status;
 enum {
     PLIR_ANSWERED = 0,  /* The whole answer stands at the start of `output`; `*needed` is its length. */
     PLIR_REFUSED = 1,   /* The passes gave up: a value of an unreachable block is used. */
-    PLIR_TEXT = 2,      /* The text is outside the notation, or longer than PLIR_MAX_TEXT. */
+    PLIR_TEXT = 2,      /* The text is outside the notation, or longer than PLIR_MAX_TEXT or PLIR_MAX_MODULE. */
     PLIR_ARGUMENTS = 3, /* The pipeline isn't a list of passes. */
     PLIR_TOO_SMALL = 4, /* The answer has `*needed` bytes, which are more than `output_capacity`. */
     PLIR_MEMORY = 5     /* Memory was refused. */
@@ -71,6 +73,22 @@ plir_status plir_graph(const char *text, size_t text_length, char *output, size_
  * PLIR_ANSWERED, PLIR_TOO_SMALL, with which `*place` is told too, or PLIR_MEMORY, with which it is all zeros. */
 plir_status plir_find_fault(const char *text, size_t text_length, char *output, size_t output_capacity, size_t *needed,
                             plir_place *place);
+
+/* Runs the passes of `pipeline` on `text`, a module of MLIR in the generic form (mlir-opt --mlir-print-op-generic). The
+ * answer is the module that they leave, and nothing else: what `plir_mlir PIPELINE` writes to standard output for the
+ * text, byte for byte. `*changed` is 1 where the passes changed the module, also with PLIR_TOO_SMALL, and 0 where they
+ * didn't and with every status that tells of no answer.
+ * `pipeline` is a list of sccp, dce, simplify-cfg and cse, joined by commas; `nested:LIST` or `nested(LIST)` runs it on
+ * each operation directly inside the module, and `repeat:N:..` or `repeat<N>(..)` until nothing changes, at most N times,
+ * 1 to 64. An empty one runs no pass: the module is read and printed. Faults are found in this order: pipeline, text,
+ * passes. */
+plir_status plir_optimise_mlir(const char *pipeline, size_t pipeline_length, const char *text, size_t text_length,
+                               char *output, size_t output_capacity, size_t *needed, uint32_t *changed);
+
+/* Where `plir_optimise_mlir` finds a module unreadable, as `plir_find_fault` tells it of a text. `place->length` is 0,
+ * unless the module is too long. */
+plir_status plir_find_fault_mlir(const char *text, size_t text_length, char *output, size_t output_capacity,
+                                 size_t *needed, plir_place *place);
 
 #ifdef __cplusplus
 }

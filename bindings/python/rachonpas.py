@@ -5,6 +5,8 @@
     Answer(text='func { b0(): v0 = const 3; ret v0 }', is_changed=True)
     >>> rachonpas.find_fault("func { b0(): ret")
     Fault(start=16, length=0, line=1, column=17, expected='`;` or `}`')
+    >>> rachonpas.optimise_mlir("dce", '"m"() ({ %0 = "arith.constant"() <{value = 1 : i32}> : () -> i32 }) : () -> ()')
+    Answer(text='"m"() ({\\n^bb0:\\n}) : () -> ()\\n', is_changed=True)
 
 The calls are those of the proved static library `plir_c`, in the shared library that `make -C bindings/c` builds, or in the
 one that the environment names by RACHONPAS_LIBRARY. They keep nothing between calls, start no thread, and let other threads
@@ -17,10 +19,13 @@ from ctypes import POINTER, byref, c_char_p, c_size_t, c_uint32
 from typing import Callable, NamedTuple, Optional, Union
 
 __all__ = ["Answer", "Fault", "Error", "PipelineError", "TextError", "RefusedError", "WantOfMemory", "MAX_TEXT",
-           "optimise", "find_fault", "describe_graph"]
+           "MAX_MODULE", "optimise", "find_fault", "describe_graph", "optimise_mlir", "find_fault_mlir"]
 
 #: The most bytes of a text.
 MAX_TEXT = 1_048_576
+
+#: The most bytes of a module of MLIR.
+MAX_MODULE = 268_435_456
 
 Text = Union[str, bytes]
 
@@ -29,7 +34,7 @@ class Answer(NamedTuple):
     """What passes left of a text."""
 
     text: str
-    """The text, in one line."""
+    """The text: in one line, or a module of MLIR."""
     is_changed: bool
     """Whether the passes changed it."""
 
@@ -56,7 +61,7 @@ class PipelineError(Error, ValueError):
 
 
 class TextError(Error, ValueError):
-    """The text is outside the notation, or longer than MAX_TEXT. `fault` says where; of a graph it is None."""
+    """The text is outside the notation, or too long. `fault` says where; of a graph it is None."""
 
     def __init__(self, fault: Optional[Fault] = None) -> None:
         told = f": {fault.line}:{fault.column}: expected {fault.expected}" if fault else ""
@@ -85,10 +90,12 @@ def _opened() -> ctypes.CDLL:
     beside = os.path.join(os.path.dirname(os.path.abspath(__file__)), "..", "c", "out", "librachonpas.so")
     library = ctypes.CDLL(os.environ.get("RACHONPAS_LIBRARY", beside))
     for name, words in [("version", []), ("optimise", _TEXT + _TEXT + _BUFFER), ("graph", _TEXT + _BUFFER),
-                        ("find_fault", _TEXT + _BUFFER + [POINTER(_Place)])]:
+                        ("find_fault", _TEXT + _BUFFER + [POINTER(_Place)]),
+                        ("optimise_mlir", _TEXT + _TEXT + _BUFFER + [POINTER(c_uint32)]),
+                        ("find_fault_mlir", _TEXT + _BUFFER + [POINTER(_Place)])]:
         call = getattr(library, f"plir_{name}")
         call.argtypes, call.restype = words, c_uint32
-    if library.plir_version() != 1:
+    if library.plir_version() != 2:
         raise ImportError("rachonpas: the library has another interface")
     return library
 
@@ -97,7 +104,7 @@ _LIBRARY = _opened()
 
 
 def _bytes(text: Text) -> bytes:
-    return text.encode() if isinstance(text, str) else bytes(text)
+    return text.encode(errors="surrogateescape") if isinstance(text, str) else bytes(text)
 
 
 def _filled(room: int, call: Callable[..., int]) -> str:
@@ -108,7 +115,8 @@ def _filled(room: int, call: Callable[..., int]) -> str:
         output = ctypes.create_string_buffer(needed.value + 1)
         status = call(output, needed.value, byref(needed))
         if status == 0:
-            return output.raw[:needed.value].decode()
+            # A module may keep bytes that are no text.
+            return output.raw[:needed.value].decode(errors="surrogateescape")
         if status != 4:
             raise {1: RefusedError, 2: TextError, 3: PipelineError}.get(status, WantOfMemory)()
 
@@ -133,8 +141,13 @@ def optimise(pipeline: str, text: Text) -> Answer:
 
 def find_fault(text: Text) -> Optional[Fault]:
     """Where a text in the bench notation is unreadable; None where `optimise` reads it. Raises WantOfMemory."""
+    return _found(_LIBRARY.plir_find_fault, text)
+
+
+def _found(call: Callable[..., int], text: Text) -> Optional[Fault]:
+    """The fault that the call tells of the text."""
     read, place = _bytes(text), _Place()
-    expected = _filled(128, lambda *buffer: _LIBRARY.plir_find_fault(read, len(read), *buffer, byref(place)))
+    expected = _filled(128, lambda *buffer: call(read, len(read), *buffer, byref(place)))
     return Fault(place.start, place.length, place.line, place.column, expected) if place.line else None
 
 
@@ -146,3 +159,25 @@ def describe_graph(text: Text) -> str:
     """
     read = _bytes(text)
     return _filled(8 * len(read) + 256, lambda *buffer: _LIBRARY.plir_graph(read, len(read), *buffer))
+
+
+def optimise_mlir(pipeline: str, module: Text) -> Answer:
+    """Runs the passes of a pipeline on a module of MLIR in the generic form, as mlir-opt --mlir-print-op-generic prints it.
+
+    The pipeline is a list of sccp, dce, simplify-cfg and cse, joined by commas; nested(LIST) runs it on each operation
+    directly inside the module, and repeat<N>(..) until nothing changes, at most N times, 1 to 64. An empty one runs none.
+
+    Raises what `optimise` does; the fault of a module has no length, unless it is too long.
+    """
+    words, read, changed = _bytes(pipeline), _bytes(module), c_uint32()
+    try:
+        text = _filled(2 * len(read) + 64, lambda *buffer: _LIBRARY.plir_optimise_mlir(
+            words, len(words), read, len(read), *buffer, byref(changed)))
+    except TextError:
+        raise TextError(find_fault_mlir(read)) from None
+    return Answer(text, changed.value == 1)
+
+
+def find_fault_mlir(module: Text) -> Optional[Fault]:
+    """Where a module of MLIR is unreadable; None where `optimise_mlir` reads it. Raises WantOfMemory."""
+    return _found(_LIBRARY.plir_find_fault_mlir, module)

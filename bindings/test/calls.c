@@ -1,10 +1,11 @@
 /* Calls each function of the library. Writes a line for each fault that it finds, and ends with 1 if there is one.
  *
  *     calls rows FILE       the worked rows of rows.py, each with buffers of five lengths
- *     calls edges           an empty text, bytes that are no text, texts of 1 MiB and one byte more
+ *     calls edges           an empty text, bytes that are no text, the longest texts and modules and one byte more
  *     calls threads FILE    the rows in eight threads at once, each with 256 KiB of stack
  *     calls many COUNT      so many calls, and the memory that is held after them
  *     calls once            one call, which asks for nothing besides; writes its status and its answer to standard output
+ *     calls once_mlir       the same of a module
  */
 #include "rachonpas.h"
 #include <malloc.h>
@@ -69,39 +70,56 @@ static void free_rows(void) {
     free(rows);
 }
 
+/* What a call tells beside its answer. */
+typedef struct {
+    size_t needed;
+    plir_place place;
+    uint32_t changed;
+} told_of;
+
 /* Calls what the row is for. Its last field is the answer. */
-static plir_status call(const row *it, char *output, size_t capacity, size_t *needed, plir_place *place) {
+static plir_status call(const row *it, char *output, size_t capacity, told_of *told) {
+    char *const *field = it->field;
+    const size_t *length = it->length;
     switch (it->letter) {
-    case 'o': return plir_optimise(it->field[0], it->length[0], it->field[1], it->length[1], output, capacity, needed);
-    case 'g': return plir_graph(it->field[0], it->length[0], output, capacity, needed);
-    default: return plir_find_fault(it->field[0], it->length[0], output, capacity, needed, place);
+    case 'o': return plir_optimise(field[0], length[0], field[1], length[1], output, capacity, &told->needed);
+    case 'g': return plir_graph(field[0], length[0], output, capacity, &told->needed);
+    case 'f': return plir_find_fault(field[0], length[0], output, capacity, &told->needed, &told->place);
+    case 'm': return plir_optimise_mlir(field[0], length[0], field[1], length[1], output, capacity, &told->needed, &told->changed);
+    default: return plir_find_fault_mlir(field[0], length[0], output, capacity, &told->needed, &told->place);
     }
 }
 
-static plir_status status_of(const row *it) { return it->letter == 'f' ? PLIR_ANSWERED : (plir_status)atoi(it->word); }
+static int is_broken(const row *it) { return it->letter == 'f' || it->letter == 'p'; }
 
-/* Whether the row is told at this place, if it is one of broken texts. */
+static plir_status status_of(const row *it) { return is_broken(it) ? PLIR_ANSWERED : (plir_status)atoi(it->word); }
+
+/* The field that is the answer. */
+static int last_of(const row *it) { return it->letter == 'o' || it->letter == 'm' ? 2 : 1; }
+
+/* Whether the row is told at this place, if it is one of what is broken. */
 static int is_placed(const row *it, const plir_place *place) {
     char told[24];
-    if (it->letter != 'f') return 1;
+    if (!is_broken(it)) return 1;
     snprintf(told, sizeof told, "%u:%u", (unsigned)place->line, (unsigned)place->column);
     return strcmp(told, it->word) == 0 && place->start + place->length <= it->length[0];
 }
 
 /* One call with a buffer of this capacity, behind which bytes stand that are looked at afterwards. */
 static void try_row(const row *it, size_t capacity) {
-    int last = it->letter == 'o' ? 2 : 1;
+    int last = last_of(it);
     const char *answer = it->field[last];
-    size_t length = it->length[last], needed = 12345;
+    size_t length = it->length[last];
     plir_status wanted = status_of(it);
     char *output = malloc(capacity + BEHIND);
-    plir_place place = {9, 9, 9, 9};
+    told_of told = {12345, {9, 9, 9, 9}, 9};
     memset(output, FILLED, capacity + BEHIND);
     if (wanted == PLIR_ANSWERED && length > capacity) wanted = PLIR_TOO_SMALL;
-    plir_status status = call(it, output, capacity, &needed, &place);
+    plir_status status = call(it, output, capacity, &told);
     if (status != wanted) fault(it, "status");
-    if (needed != length) fault(it, "length");
-    if (!is_placed(it, &place)) fault(it, "place");
+    if (told.needed != length) fault(it, "length");
+    if (!is_placed(it, &told.place)) fault(it, "place");
+    if (it->letter == 'm' && told.changed != (uint32_t)(it->word[2] - '0')) fault(it, "change");
     size_t written = wanted == PLIR_ANSWERED ? length : 0;
     if (memcmp(output, answer, written) != 0) fault(it, "answer");
     for (size_t i = written; i < capacity + BEHIND; i++)
@@ -114,7 +132,7 @@ static void try_row(const row *it, size_t capacity) {
 
 static void try_rows(void) {
     for (size_t i = 0; i < count; i++) {
-        size_t length = rows[i].length[rows[i].letter == 'o' ? 2 : 1];
+        size_t length = rows[i].length[last_of(&rows[i])];
         try_row(&rows[i], 0);
         try_row(&rows[i], length / 2);
         try_row(&rows[i], length ? length - 1 : 0);
@@ -163,6 +181,65 @@ static void expect_place(const char *text, size_t length, plir_place wanted, con
     if (status != PLIR_ANSWERED || memcmp(&place, &wanted, sizeof place) != 0 || needed != strlen(words)
         || memcmp(output, words, needed) != 0)
         fault(NULL, words);
+}
+
+static const char SUM[] = "\"builtin.module\"() ({\n  \"func.func\"() <{function_type = () -> i32, sym_name = \"f\"}> ({\n"
+                          "    %0 = \"arith.constant\"() <{value = 1 : i32}> : () -> i32\n"
+                          "    %1 = \"arith.addi\"(%0, %0) <{overflowFlags = #arith.overflow<none>}> : (i32, i32) -> i32\n"
+                          "    \"func.return\"(%1) : (i32) -> ()\n  }) : () -> ()\n}) : () -> ()\n";
+static const char TWO[] = "\"builtin.module\"() ({\n  \"func.func\"() <{function_type = () -> i32, sym_name = \"f\"}> ({\n"
+                          "    %2 = \"arith.constant\"() <{value = 2 : i32}> : () -> i32\n"
+                          "    \"func.return\"(%2) : (i32) -> ()\n  }) : () -> ()\n}) : () -> ()\n";
+
+/* The same of a module. */
+static void expect_module(const char *list, const char *text, size_t text_length, plir_status wanted, size_t length) {
+    size_t needed = 12345, capacity = text_length + 1024;
+    uint32_t changed = 9, is_changed = wanted == PLIR_ANSWERED && length == sizeof TWO - 1;
+    char *output = malloc(capacity);
+    plir_status status = plir_optimise_mlir(list, strlen(list), text, text_length, output, capacity, &needed, &changed);
+    if (status != wanted || (length == 1 ? needed == 0 : needed != length) || changed != is_changed) {
+        printf("module of %zu bytes: status %u, length %zu, changed %u\n", text_length, status, needed, changed);
+        fault(NULL, list);
+    }
+    free(output);
+}
+
+/* A module of so many sums. */
+static char *sums(int count, size_t *length) {
+    char *text = malloc((size_t)count * 128 + 512);
+    size_t at = (size_t)sprintf(text, "\"m\"() ({\n  %%0 = \"arith.constant\"() <{value = 1 : i32}> : () -> i32\n");
+    for (int i = 1; i < count; i++)
+        at += (size_t)sprintf(text + at, "  %%%d = \"arith.addi\"(%%%d, %%%d) : (i32, i32) -> i32\n", i, i - 1, i - 1);
+    *length = at + (size_t)sprintf(text + at, "}) : () -> ()\n");
+    return text;
+}
+
+/* Modules that are none, lists that are none, one of 16 MiB, and one that is a byte too long. */
+static void try_module_edges(void) {
+    size_t length, needed = 0;
+    char bytes[256], expected[128], *long_text = malloc((size_t)PLIR_MAX_MODULE + 1), *many = sums(300000, &length);
+    for (int i = 0; i < 256; i++) bytes[i] = (char)i;
+    memset(long_text, ' ', (size_t)PLIR_MAX_MODULE + 1);
+    memcpy(long_text, SUM, sizeof SUM - 1);
+    expect_module("sccp", "", 0, PLIR_TEXT, 0);
+    expect_module("sccp", bytes, 256, PLIR_TEXT, 0);
+    for (int i = 0; i < 256; i++) expect_module("dce", bytes + i, 1, PLIR_TEXT, 0);
+    expect_module("\xff\xfe", SUM, sizeof SUM - 1, PLIR_ARGUMENTS, 0);
+    expect_module("sccp,licm", SUM, sizeof SUM - 1, PLIR_ARGUMENTS, 0);
+    expect_module("repeat:65:sccp", "none", 4, PLIR_ARGUMENTS, 0);
+    expect_module("", SUM, sizeof SUM - 1, PLIR_ANSWERED, sizeof SUM - 1);
+    expect_module("sccp,dce", SUM, sizeof SUM - 1, PLIR_ANSWERED, sizeof TWO - 1);
+    expect_module("repeat<8>(nested(sccp,cse,simplify-cfg,dce))", SUM, sizeof SUM - 1, PLIR_ANSWERED, sizeof TWO - 1);
+    expect_module("sccp,dce", long_text, 1 << 26, PLIR_ANSWERED, sizeof TWO - 1);
+    expect_module("sccp,dce", long_text, (size_t)PLIR_MAX_MODULE + 1, PLIR_TEXT, 0);
+    expect_module("", many, length, PLIR_ANSWERED, length);
+    plir_place place = {9, 9, 9, 9}, end = {PLIR_MAX_MODULE, 1, 9, (size_t)PLIR_MAX_MODULE + 1};
+    end.line = 7, end.column -= sizeof SUM - 1;
+    if (plir_find_fault_mlir(long_text, (size_t)PLIR_MAX_MODULE + 1, expected, sizeof expected, &needed, &place) != PLIR_ANSWERED
+        || memcmp(&place, &end, sizeof end) != 0)
+        fault(NULL, "a module that is too long");
+    free(long_text);
+    free(many);
 }
 
 static void try_edges(void) {
@@ -217,6 +294,7 @@ static const char LEFT[] = "func { b0(): v0 = const 5; ret v0 }\nchanged\n";
 static void try_many(long calls) {
     char output[256];
     size_t needed, held = 0;
+    uint32_t changed;
     plir_place place;
     for (long i = 0; i < calls; i++) {
         if (i == calls / 10) held = mallinfo2().uordblks;
@@ -226,6 +304,11 @@ static void try_many(long calls) {
         if (plir_optimise("sccp", 4, BRANCH, 40, output, sizeof output, &needed) != PLIR_TEXT) fault(NULL, "one of many texts");
         if (plir_graph("0: 1\n1: 0\n", 10, output, 3, &needed) != PLIR_TOO_SMALL) fault(NULL, "one of many graphs");
         if (plir_find_fault("ret", 3, output, sizeof output, &needed, &place) != PLIR_ANSWERED) fault(NULL, "one of many faults");
+        if (plir_optimise_mlir("sccp,dce", 8, SUM, sizeof SUM - 1, output, sizeof output, &needed, &changed) != PLIR_ANSWERED
+            || changed != 1 || needed != sizeof TWO - 1 || memcmp(output, TWO, needed) != 0)
+            fault(NULL, "one of many modules");
+        if (plir_find_fault_mlir(SUM, 99, output, sizeof output, &needed, &place) != PLIR_ANSWERED || place.line == 0)
+            fault(NULL, "one of many broken modules");
     }
     size_t now = mallinfo2().uordblks;
     printf("%ld calls of each kind: %zu bytes held after the first tenth, %zu at the end\n", calls, held, now);
@@ -233,19 +316,21 @@ static void try_many(long calls) {
 }
 
 /* With buffers that stand already: whatever is asked for is asked for by the call. */
-static void call_once(void) {
+static void call_once(int is_module) {
     static char output[256], told[2];
     size_t needed = 0;
+    uint32_t changed;
     plir_status status =
-        plir_optimise("sccp,simplify-cfg,dce", 21, BRANCH, sizeof BRANCH - 1, output, sizeof output, &needed);
+        is_module ? plir_optimise_mlir("sccp,dce", 8, SUM, sizeof SUM - 1, output, sizeof output, &needed, &changed)
+                  : plir_optimise("sccp,simplify-cfg,dce", 21, BRANCH, sizeof BRANCH - 1, output, sizeof output, &needed);
     told[0] = (char)('0' + status);
     told[1] = '\n';
     if (write(1, told, 2) != 2 || write(1, output, status == PLIR_ANSWERED ? needed : strlen(output)) < 0) _exit(2);
 }
 
 int main(int words, char **word) {
-    if (words == 2 && strcmp(word[1], "once") == 0) {
-        call_once();
+    if (words == 2 && strncmp(word[1], "once", 4) == 0) {
+        call_once(strcmp(word[1], "once_mlir") == 0);
         return 0;
     }
     if (words == 3 && strcmp(word[1], "rows") == 0) {
@@ -254,6 +339,7 @@ int main(int words, char **word) {
         printf("%zu rows with buffers of five lengths: %d faults\n", count, faults);
     } else if (words == 2 && strcmp(word[1], "edges") == 0) {
         try_edges();
+        try_module_edges();
         printf("edges: %d faults\n", faults);
     } else if (words == 3 && strcmp(word[1], "threads") == 0) {
         read_rows(word[2]);

@@ -14,6 +14,17 @@ import rows  # noqa: E402
 
 BROKEN = "func {\n  ret }"
 SUM = "func { b0(): a = const 1; b = const 2; c = add a b; ret c }"
+MODULE = """"m"() ({
+  %0 = "arith.constant"() <{value = 1 : i32}> : () -> i32
+  %1 = "arith.addi"(%0, %0) <{overflowFlags = #arith.overflow<none>}> : (i32, i32) -> i32
+  "use"(%1) : (i32) -> ()
+}) : () -> ()
+"""
+TWO = """"m"() ({
+  %2 = "arith.constant"() <{value = 2 : i32}> : () -> i32
+  "use"(%2) : (i32) -> ()
+}) : () -> ()
+"""
 
 
 def raised(pipeline, text):
@@ -44,14 +55,27 @@ class Rows(unittest.TestCase):
             else:
                 self.assertRaises(rachonpas.TextError, rachonpas.describe_graph, text)
 
-    def test_faults(self):
-        for line, column, text, expected in rows.faults():
-            fault = rachonpas.find_fault(text)
+    def test_modules(self):
+        kinds = {rows.REFUSED: rachonpas.RefusedError, rows.TEXT: rachonpas.TextError, rows.ARGUMENTS: rachonpas.PipelineError}
+        for status, changed, pipeline, text, answer in rows.modules():
+            if status == rows.ANSWERED:
+                wanted = rachonpas.Answer(answer.decode(), changed == 1)
+                self.assertEqual(rachonpas.optimise_mlir(pipeline.decode(), text), wanted)
+            else:
+                self.assertRaises(kinds[status], rachonpas.optimise_mlir, pipeline.decode(), text)
+
+    def expect_faults(self, broken, find_fault, optimise):
+        for line, column, text, expected in broken:
+            fault = find_fault(text)
             self.assertEqual((fault.line, fault.column, fault.expected), (line, column, expected.decode()))
             self.assertLessEqual(fault.start + fault.length, len(text))
             with self.assertRaises(rachonpas.TextError) as found:
-                rachonpas.optimise("dce", text)
+                optimise("dce", text)
             self.assertEqual(found.exception.fault, fault)
+
+    def test_faults(self):
+        self.expect_faults(rows.faults(), rachonpas.find_fault, rachonpas.optimise)
+        self.expect_faults(rows.module_faults(), rachonpas.find_fault_mlir, rachonpas.optimise_mlir)
 
 
 class Edges(unittest.TestCase):
@@ -73,6 +97,23 @@ class Edges(unittest.TestCase):
         answer = rachonpas.optimise("repeat:64:sccp", "func{b0():a=const 1;b=add a a;ret b}").text
         self.assertEqual(answer.count("const 2"), 64)
 
+    def test_modules_that_are_none(self):
+        for module in ("", bytes(range(256)), MODULE + "\0", "m"):
+            self.assertRaises(rachonpas.TextError, rachonpas.optimise_mlir, "dce", module)
+        for pipeline in ("licm", "sccp,", "repeat:0:dce", "repeat:65:dce", "nested:", "\u00e4"):
+            self.assertRaises(rachonpas.PipelineError, rachonpas.optimise_mlir, pipeline, "none")
+        self.assertIsNone(rachonpas.find_fault_mlir(MODULE))
+
+    def test_long_modules(self):
+        self.assertEqual(rachonpas.optimise_mlir("sccp,dce", MODULE.ljust(1 << 20)), rachonpas.Answer(TWO, True))
+        self.assertEqual(rachonpas.optimise_mlir("repeat:64:sccp", MODULE).text.count("value = 2"), 64)
+
+    def test_modules_that_are_no_text(self):
+        module = b'"m"() {a = "\xff"} : () -> ()\n'
+        answer = rachonpas.optimise_mlir("dce", module)
+        self.assertEqual(answer.text.encode(errors="surrogateescape"), module)
+        self.assertEqual(rachonpas.optimise_mlir("dce", answer.text), answer)
+
     def test_errors(self):
         error = rachonpas.TextError(rachonpas.find_fault(BROKEN))
         self.assertEqual(str(error), "unreadable text: 2:3: expected a block, as each `func` and `scope` has one")
@@ -85,13 +126,14 @@ class Threads(unittest.TestCase):
 
         def call(at):
             found[at] = [rachonpas.optimise("sccp,dce", SUM).text for _ in range(2000)]
+            found[at] += [rachonpas.optimise_mlir("sccp,dce", MODULE).text for _ in range(2000)]
 
         threads = [threading.Thread(target=call, args=(at,)) for at in range(2)]
         for thread in threads:
             thread.start()
         for thread in threads:
             thread.join()
-        self.assertEqual(found, [["func { b0(): v0 = const 3; ret v0 }"] * 2000] * 2)
+        self.assertEqual(found, [["func { b0(): v0 = const 3; ret v0 }"] * 2000 + [TWO] * 2000] * 2)
 
 
 def load_tests(_loader, tests, _pattern):

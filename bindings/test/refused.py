@@ -1,11 +1,12 @@
 #!/usr/bin/env python3
 """Refuses each request for memory of a call, one by one, by the library of tools/refuse_memory.
 
-    bindings/test/refused.py PROGRAM        a program whose word `once` makes one call and writes its status and answer
+    bindings/test/refused.py PROGRAM        a program that makes one call, of each word below, and writes its status and answer
 
 Each run in which a request was refused has to write status 5 and nothing besides; the last one, in which none was, status 0
 and the answer.
 """
+import itertools
 import os
 import sys
 import tempfile
@@ -13,7 +14,17 @@ from importlib.machinery import SourceFileLoader
 from importlib.util import module_from_spec, spec_from_loader
 
 ROOT = os.path.dirname(os.path.dirname(os.path.dirname(os.path.realpath(__file__))))
-ANSWER = b"0\nfunc { b0(): v0 = const 5; ret v0 }\nchanged\n"
+ANSWERS = {
+    "once": b"0\nfunc { b0(): v0 = const 5; ret v0 }\nchanged\n",
+    "once_mlir": b"""0
+"builtin.module"() ({
+  "func.func"() <{function_type = () -> i32, sym_name = "f"}> ({
+    %2 = "arith.constant"() <{value = 2 : i32}> : () -> i32
+    "func.return"(%2) : (i32) -> ()
+  }) : () -> ()
+}) : () -> ()
+""",
+}
 
 
 def tool(name):
@@ -29,10 +40,10 @@ def main():
     refuse_memory, wrong, total = tool("refuse_memory"), 0, 0
     with tempfile.TemporaryDirectory() as folder:
         library = refuse_memory.compiled(folder)
-        for alone in (True, False):
-            for found, seen in refuse_memory.refused_runs([sys.argv[1], "once"], b"", library, alone):
+        for word, alone in itertools.product(ANSWERS, (True, False)):
+            for found, seen in refuse_memory.refused_runs([sys.argv[1], word], b"", library, alone):
                 total += seen == b"r"
-                wrong += found != (0, b"5\n" if seen == b"r" else ANSWER, b"")
+                wrong += found != (0, b"5\n" if seen == b"r" else ANSWERS[word], b"")
     print(f"{total} calls with a refused request: {wrong} wrong")
     sys.exit(1 if wrong or not total else 0)
 

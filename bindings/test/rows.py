@@ -3,10 +3,11 @@
 
     bindings/test/rows.py FILE      writes them to the file, a row a line: a letter, and its fields in hexadecimal, `-` for none
 
-They are read from the statics of the test crates, whose answers were worked by hand: texts and graphs through the program,
-and broken texts with the line, the column and what was to stand there.
+They are read from the statics of the test crates, whose answers were worked by hand: texts, graphs and modules, and broken
+texts and modules with the line, the column and what was to stand there; and the module that the gate runs through plir_mlir.
 
     o STATUS PIPELINE TEXT ANSWER       g STATUS TEXT ANSWER       f PLACE TEXT EXPECTED     where PLACE is LINE:COLUMN
+    m STATUS:CHANGED PIPELINE MODULE ANSWER                        p PLACE MODULE EXPECTED
 """
 import glob
 import os
@@ -17,7 +18,7 @@ ROOT = os.path.dirname(os.path.dirname(os.path.dirname(os.path.realpath(__file__
 ESCAPE = re.compile(r"\\(\n\s*|u\{([0-9a-f]+)\}|x([0-9a-f]{2})|.)", re.S)
 PLAIN = {"n": "\n", "t": "\t", "r": "\r", "\\": "\\", '"': '"', "0": "\0"}
 
-ANSWERED, REFUSED, TEXT = 0, 1, 2
+ANSWERED, REFUSED, TEXT, ARGUMENTS, TOO_SMALL = range(5)
 
 
 def unescaped(found):
@@ -37,7 +38,7 @@ def read(path):
 def static(word, file, name):
     """The lines of a static text in a file of this name, beside tests that call `word`."""
     for path in sorted(glob.glob(f"{ROOT}/crates/*_tests/src/**/*.rt", recursive=True)):
-        if re.search(rf"\b{word}\(", read(path)):
+        if re.search(rf"\b{word}(::<[^(]*>)?\(", read(path)):
             beside = read(f"{os.path.dirname(path)}/{file}.rt")
             found = re.search(rf'static {name}: &str =\s*"((?:[^"\\]|\\.)*)";', beside, re.S)
             if found:
@@ -85,6 +86,34 @@ def faults():
         yield int(line), int(column), with_lines(text), expected.encode()
 
 
+def stored(name):
+    """What stands in this file of crates/plir_mlir."""
+    with open(f"{ROOT}/crates/plir_mlir/{name}", "rb") as it:
+        return it.read()
+
+
+def modules():
+    """Status, whether it changed, pipeline, module and answer of each module."""
+    yield ANSWERED, 1, stored("args").strip(), stored("stdin"), stored("stdout")
+    for row in static("print_module", "printed", "PRINTED"):
+        text, answer = row.split(" => ")
+        yield ANSWERED, 0, b"", with_lines(text), with_lines(answer)
+    for row in static("optimise_module_into", "modules", "OPTIMISED"):
+        pipeline, text, rest = row.split(" :: ")
+        changed, status, length, left = rest.split(" => ")[1].split(" ", 3)
+        if int(status) != TOO_SMALL:
+            yield int(status), int(changed), pipeline.encode(), with_lines(text), with_lines(left[:int(length)])
+
+
+def module_faults():
+    """Line, column, module and what was to stand there, of each broken module."""
+    for row in static("read_module", "broken", "BROKEN"):
+        text, told = row.split(" => ")
+        place, expected = told.split(" ", 1)
+        line, column = place.split(":")
+        yield int(line), int(column), with_lines(text), expected.encode()
+
+
 def written(letter, word, *fields):
     return " ".join([letter, str(word)] + [field.hex() or "-" for field in fields]) + "\n"
 
@@ -94,6 +123,8 @@ def main():
         it.writelines(written("o", *row) for row in optimised())
         it.writelines(written("g", *row) for row in graphs())
         it.writelines(written("f", f"{line}:{column}", *rest) for line, column, *rest in faults())
+        it.writelines(written("m", f"{status}:{changed}", *rest) for status, changed, *rest in modules())
+        it.writelines(written("p", f"{line}:{column}", *rest) for line, column, *rest in module_faults())
 
 
 if __name__ == "__main__":

@@ -18,7 +18,7 @@ use library::PlirPlace;
 /// What passes left of a text.
 #[derive(Clone, Debug, PartialEq, Eq)]
 pub struct Answer {
-    /// The text, in one line.
+    /// The text: in one line, or a module of MLIR.
     pub text: String,
     /// Whether the passes changed it.
     pub is_changed: bool,
@@ -55,7 +55,7 @@ impl fmt::Display for Fault {
 pub enum Error {
     /// The pipeline isn't a list of passes.
     Pipeline,
-    /// The text is outside the notation, or longer than [`MAX_TEXT`]; of a graph no fault is told.
+    /// The text is outside the notation, or longer than [`MAX_TEXT`] or [`MAX_MODULE`]; of a graph no fault is told.
     Text(Option<Fault>),
     /// The passes gave up: a value of an unreachable block is used.
     Refused,
@@ -82,6 +82,9 @@ impl std::error::Error for Error {}
 
 /// The most bytes of a text.
 pub const MAX_TEXT: usize = 1_048_576;
+
+/// The most bytes of a module of MLIR.
+pub const MAX_MODULE: usize = 268_435_456;
 
 /// Runs the passes of a pipeline on a text in the bench notation.
 ///
@@ -118,13 +121,54 @@ fn answer_of(lines: &str) -> Answer {
 pub fn find_fault(text: impl AsRef<[u8]>) -> Result<Option<Fault>, Error> {
     let mut place = PlirPlace::default();
     let expected = library::find_fault(text.as_ref(), &mut place)?;
-    Ok((place != PlirPlace::default()).then_some(Fault {
+    Ok(fault_of(place, expected))
+}
+
+/// What is wrong there; nothing, where no place is told.
+fn fault_of(place: PlirPlace, expected: String) -> Option<Fault> {
+    (place != PlirPlace::default()).then_some(Fault {
         start: place.start,
         length: place.length,
         line: place.line,
         column: place.column,
         expected,
-    }))
+    })
+}
+
+/// Runs the passes of a pipeline on a module of MLIR in the generic form, as `mlir-opt --mlir-print-op-generic` prints it.
+///
+/// ```
+/// let module = "\"m\"() ({\n  %0 = \"arith.constant\"() <{value = 1 : i32}> : () -> i32\n}) : () -> ()\n";
+/// let answer = rachonpas::optimise_mlir("dce", module)?;
+/// assert_eq!(answer.text, "\"m\"() ({\n^bb0:\n}) : () -> ()\n");
+/// assert!(answer.is_changed);
+/// # Ok::<(), rachonpas::Error>(())
+/// ```
+///
+/// The pipeline is a list of `sccp`, `dce`, `simplify-cfg` and `cse`, joined by commas; `nested(LIST)` runs it on each
+/// operation directly inside the module, and `repeat<N>(..)` until nothing changes, at most N times, 1 to 64. An empty one
+/// runs no pass.
+///
+/// # Errors
+///
+/// Those of [`optimise`]; the fault of a module has no length, unless it is too long.
+pub fn optimise_mlir(pipeline: &str, module: &str) -> Result<Answer, Error> {
+    match library::optimise_mlir(pipeline.as_bytes(), module.as_bytes()) {
+        Ok((text, is_changed)) => Ok(Answer { text, is_changed }),
+        Err(Error::Text(_)) => Err(Error::Text(find_fault_mlir(module)?)),
+        Err(error) => Err(error),
+    }
+}
+
+/// Where a module of MLIR is unreadable; `None` where [`optimise_mlir`] reads it.
+///
+/// # Errors
+///
+/// [`Error::Memory`].
+pub fn find_fault_mlir(module: impl AsRef<[u8]>) -> Result<Option<Fault>, Error> {
+    let mut place = PlirPlace::default();
+    let expected = library::find_fault_mlir(module.as_ref(), &mut place)?;
+    Ok(fault_of(place, expected))
 }
 
 /// The orders of a graph, its search numbers, the kinds of its edges and its components, a line each. The text has a line for

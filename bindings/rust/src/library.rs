@@ -37,10 +37,28 @@ unsafe extern "C" {
         needed: *mut usize,
         place: *mut PlirPlace,
     ) -> u32;
+    fn plir_optimise_mlir(
+        pipeline: *const u8,
+        pipeline_length: usize,
+        text: *const u8,
+        text_length: usize,
+        output: *mut u8,
+        output_capacity: usize,
+        needed: *mut usize,
+        changed: *mut u32,
+    ) -> u32;
+    fn plir_find_fault_mlir(
+        text: *const u8,
+        text_length: usize,
+        output: *mut u8,
+        output_capacity: usize,
+        needed: *mut usize,
+        place: *mut PlirPlace,
+    ) -> u32;
 }
 
 /// The interface of these declarations.
-const VERSION: u32 = 1;
+const VERSION: u32 = 2;
 
 /// The answer of a call, for which a buffer is made, and a larger one where the answer doesn't fit. `call` is given the
 /// buffer and where the answer's length goes, and answers a status.
@@ -114,6 +132,43 @@ pub fn find_fault(text: &[u8], place: &mut PlirPlace) -> Result<String, Error> {
         // SAFETY: as in `optimise`; `place` is borrowed alone too.
         unsafe {
             plir_find_fault(
+                text.as_ptr(),
+                text.len(),
+                output.as_mut_ptr(),
+                output.len(),
+                needed,
+                place,
+            )
+        }
+    })
+}
+
+/// The module, and whether it changed.
+pub fn optimise_mlir(pipeline: &[u8], text: &[u8]) -> Result<(String, bool), Error> {
+    let mut changed = 0;
+    let module = fill(first_room(text), |output, needed| {
+        // SAFETY: as in `optimise`; `changed` is borrowed alone too.
+        unsafe {
+            plir_optimise_mlir(
+                pipeline.as_ptr(),
+                pipeline.len(),
+                text.as_ptr(),
+                text.len(),
+                output.as_mut_ptr(),
+                output.len(),
+                needed,
+                &mut changed,
+            )
+        }
+    })?;
+    Ok((module, changed == 1))
+}
+
+pub fn find_fault_mlir(text: &[u8], place: &mut PlirPlace) -> Result<String, Error> {
+    fill(128, |output, needed| {
+        // SAFETY: as in `find_fault`.
+        unsafe {
+            plir_find_fault_mlir(
                 text.as_ptr(),
                 text.len(),
                 output.as_mut_ptr(),

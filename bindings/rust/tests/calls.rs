@@ -1,9 +1,24 @@
 //! The worked rows, edges, and threads. `RACHONPAS_ROWS` names the file that `bindings/test/rows.py` writes.
-use rachonpas::{Answer, Error, MAX_TEXT, describe_graph, find_fault, optimise};
+use rachonpas::{
+    Answer, Error, Fault, MAX_TEXT, describe_graph, find_fault, find_fault_mlir, optimise,
+    optimise_mlir,
+};
 use std::{env, fs, thread};
 
 const SUM: &str = "func { b0(): a = const 1; b = const 2; c = add a b; ret c }";
 const LEFT: &str = "func { b0(): v0 = const 3; ret v0 }";
+
+const MODULE: &str = r#""m"() ({
+  %0 = "arith.constant"() <{value = 1 : i32}> : () -> i32
+  %1 = "arith.addi"(%0, %0) <{overflowFlags = #arith.overflow<none>}> : (i32, i32) -> i32
+  "use"(%1) : (i32) -> ()
+}) : () -> ()
+"#;
+const TWO: &str = r#""m"() ({
+  %2 = "arith.constant"() <{value = 2 : i32}> : () -> i32
+  "use"(%2) : (i32) -> ()
+}) : () -> ()
+"#;
 
 /// A row: its letter, its word and its fields.
 struct Row {
@@ -73,10 +88,27 @@ fn described(row: &Row) {
     }
 }
 
-fn placed(row: &Row) {
-    let fault = find_fault(&row.fields[0])
-        .expect("memory")
-        .expect("a fault");
+fn optimised_module(row: &Row) {
+    let [pipeline, text, answer] = &row.fields[..] else {
+        panic!("three fields")
+    };
+    let found = optimise_mlir(text_of(pipeline), text_of(text));
+    match row.word.split_at(1) {
+        ("0", changed) => {
+            let wanted = Answer {
+                text: text_of(answer).to_owned(),
+                is_changed: changed == ":1",
+            };
+            assert_eq!(found, Ok(wanted));
+        }
+        ("1", _) => assert_eq!(found, Err(Error::Refused)),
+        ("2", _) => assert!(matches!(found, Err(Error::Text(Some(_))))),
+        _ => assert_eq!(found, Err(Error::Pipeline)),
+    }
+}
+
+fn placed(row: &Row, found: Result<Option<Fault>, Error>) {
+    let fault = found.expect("memory").expect("a fault");
     assert_eq!(format!("{}:{}", fault.line, fault.column), row.word);
     assert_eq!(fault.expected, text_of(&row.fields[1]));
     assert!(fault.start + fault.length <= row.fields[0].len());
@@ -88,7 +120,9 @@ fn worked_rows() {
         match row.letter.as_str() {
             "o" => optimised(&row),
             "g" => described(&row),
-            _ => placed(&row),
+            "m" => optimised_module(&row),
+            "f" => placed(&row, find_fault(&row.fields[0])),
+            _ => placed(&row, find_fault_mlir(&row.fields[0])),
         }
     }
 }
@@ -141,6 +175,37 @@ fn an_answer_longer_than_the_first_buffer() {
 }
 
 #[test]
+fn modules_that_are_none() {
+    for module in ["", "m", "\0", &format!("{MODULE}\0")] {
+        assert!(matches!(
+            optimise_mlir("dce", module),
+            Err(Error::Text(Some(_)))
+        ));
+    }
+    for pipeline in [
+        "licm",
+        "sccp,",
+        "repeat:0:dce",
+        "repeat:65:dce",
+        "nested:",
+        "\u{e4}",
+    ] {
+        assert_eq!(optimise_mlir(pipeline, "none"), Err(Error::Pipeline));
+    }
+    assert_eq!(find_fault_mlir(MODULE), Ok(None));
+    assert!(find_fault_mlir([0xff, 0xfe]).is_ok_and(|fault| fault.is_some()));
+}
+
+#[test]
+fn long_modules() {
+    let padded = MODULE.to_owned() + &" ".repeat(MAX_TEXT);
+    let answer = optimise_mlir("sccp,dce", &padded).expect("an answer");
+    assert_eq!((answer.text.as_str(), answer.is_changed), (TWO, true));
+    let longer = optimise_mlir("repeat:64:sccp", MODULE).expect("an answer");
+    assert_eq!(longer.text.matches("value = 2").count(), 64);
+}
+
+#[test]
 fn errors_are_told() {
     let error = optimise("dce", "func {\n  ret }").expect_err("an unreadable text");
     let told = "unreadable text: 2:3: expected a block, as each `func` and `scope` has one";
@@ -151,7 +216,10 @@ fn errors_are_told() {
 fn two_threads() {
     let calls = || {
         thread::spawn(|| {
-            (0..2000).all(|_| optimise("sccp,dce", SUM).is_ok_and(|answer| answer.text == LEFT))
+            (0..2000).all(|_| {
+                optimise("sccp,dce", SUM).is_ok_and(|answer| answer.text == LEFT)
+                    && optimise_mlir("sccp,dce", MODULE).is_ok_and(|answer| answer.text == TWO)
+            })
         })
     };
     let (one, other) = (calls(), calls());

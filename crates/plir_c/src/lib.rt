@@ -1,4 +1,4 @@
-//! `plir_opt` as functions for C, and for all that calls C.
+//! `plir_opt` and `plir_mlir` as functions for C, and for all that calls C.
 //!
 //! It knows the types that cross to C, and nothing else: what each function does stands in `pliron_buffers`.
 #![tactic(auto)]
@@ -6,21 +6,29 @@
 ghost use Rattle.std.specs.Prelude.{◌≡◌, ◌≢◌, ⊤, []};
 ghost use Rattle.pliron_bench.specs.BenchMoves.{bench};
 ghost use Rattle.pliron_opts.specs.Ran.{RunsAlone};
-ghost use Rattle.pliron_opts.specs.Read.{ReadsBench, PrintsBench};
+ghost use Rattle.pliron_opts.specs.Read.{ReadsBench, PrintsBench, ReadsKinds, PrintsKinds};
 ghost use Rattle.pliron_buffers.specs.Faults.{nowhere, IsFaultPlace};
 ghost use Rattle.pliron_buffers.specs.Fills.{FillsBy};
-ghost use Rattle.pliron_buffers.specs.Optimises.{Optimises, Explains};
+ghost use Rattle.pliron_buffers.specs.Optimises.{Optimises, IsListed, Explains};
+ghost use Rattle.pliron_buffers.specs.Modules.{IsWord, OptimisesModule};
 
 use pliron_bench::Bench;
 use pliron_buffers::{
-    BenchNotation, Failure, Place, describe_graph_into, find_fault_into, optimise_into,
+    BenchNotation, Failure, ModulePass, ModuleSchedule, Place, describe_graph_into,
+    find_fault_into, find_module_fault_into, optimise_into, optimise_module_into,
 };
+use pliron_laws::HasMeaning;
+use pliron_mlir::{AnyMeaning, Mlir};
+use pliron_mlir_opt::GenericForm;
 use pliron_opts::Schedule;
 use pliron_pass::{BenchFactKind, BenchFacts, Pass};
 use std::alloc::Global;
 
 /// The number of this interface. It goes up with each change of a signature, a status or what a call asks for.
-const VERSION: u32 = 1;
+const VERSION: u32 = 2;
+
+/// The notation of modules.
+type Form = GenericForm<Mlir<AnyMeaning>>;
 
 /// The number of this interface. Cost: constant.
 #[unsafe(no_mangle)]
@@ -45,7 +53,7 @@ pub extern "C" fn plir_optimise(
 ) -> u32
     ensures { FillsBy (Optimises ReadsBench PrintsBench bench
         (RunsAlone ⟦<BenchFactKind as PartialEq>⟧.eq ⟦<Schedule<Bench, BenchFacts> as Pass>⟧.outcome)
-        pipeline.now text.now) (Explains pipeline.now) output.old output.new needed.new result }
+        pipeline.now text.now) (Explains (IsListed pipeline.now)) output.old output.new needed.new result }
 {
     optimise_into::<BenchNotation>(alloc, pipeline, text, output, needed).number()
 }
@@ -85,4 +93,47 @@ pub extern "C" fn plir_find_fault(
     ensures place { IsFaultPlace text.now place.new }
 {
     find_fault_into(alloc, text, output, needed, place).number()
+}
+
+/// Runs the passes of a list on a module in MLIR's generic form, and puts the module that they leave into the buffer,
+/// and nothing else: what `plir_mlir` writes for the word and the input. Answers and tells as `plir_optimise` does, and
+/// tells in `changed` 1 where the passes changed the module, and else 0.
+///
+/// Nothing is written to the buffer unless the whole answer fits. Cost: linear in the texts, and that of the passes.
+#[unsafe(no_mangle)]
+pub extern "C" fn plir_optimise_mlir(
+    alloc: Global,
+    pipeline: &[u8],
+    text: &[u8],
+    output: &mut [u8],
+    needed: &mut usize,
+    changed: &mut u32,
+) -> u32
+    ensures { FillsBy (OptimisesModule ⟦<ModulePass<Form> as Pass>⟧.name
+        (ReadsKinds ⟦<Mlir<AnyMeaning> as HasMeaning>⟧.meaning) PrintsKinds ⟦<Mlir<AnyMeaning> as HasMeaning>⟧.meaning
+        (RunsAlone ⟦<BenchFactKind as PartialEq>⟧.eq ⟦<ModuleSchedule<Form> as Pass>⟧.outcome)
+        pipeline.now text.now changed.new) (λ failure. Explains (IsWord pipeline.now) failure × (changed.new ≡ 0))
+        output.old output.new needed.new result }
+{
+    let status = optimise_module_into::<Form>(alloc, pipeline, text, output, needed, changed);
+    status.number()
+}
+
+/// Tells where a module of MLIR leaves the generic form, or is too long, as `plir_find_fault` does of the bench
+/// notation. Of such a place the part is empty, unless the module is too long.
+///
+/// Nothing is written to the buffer unless all fits. It fails on allocation failure alone. Cost: that of reading.
+#[unsafe(no_mangle)]
+pub extern "C" fn plir_find_fault_mlir(
+    alloc: Global,
+    text: &[u8],
+    output: &mut [u8],
+    needed: &mut usize,
+    place: &mut Place,
+) -> u32
+    ensures fills { FillsBy (λ expected. place.new ≡ nowhere → expected ≡ [])
+        (λ failure. (failure ≡ Failure.Memory) × (place.new ≡ nowhere)) output.old output.new needed.new result }
+    ensures place { IsFaultPlace text.now place.new }
+{
+    find_module_fault_into::<Mlir<AnyMeaning>>(alloc, text, output, needed, place).number()
 }

@@ -37,18 +37,18 @@ if_err (Ok x) p h = tt
 if_err (Err f) p h = h f p
 
 -- why there is no answer, of a list that isn't understood, and of one that is
-pub explains_list : (list : List ℕ) (failure : Failure) → (failure ≡ Arguments) ⊎ (failure ≡ Memory) → Explains list failure
-explains_list list failure (inl e) = subst (λ f. Explains list f) (sym e) tt
-explains_list list failure (inr e) = subst (λ f. Explains list f) (sym e) tt
+pub explains_list : (listed : Type 0) (failure : Failure) → (failure ≡ Arguments) ⊎ (failure ≡ Memory) → Explains listed failure
+explains_list listed failure (inl e) = subst (λ f. Explains listed f) (sym e) tt
+explains_list listed failure (inr e) = subst (λ f. Explains listed f) (sym e) tt
 
 pub lists : {D E B K : Type 0} (list : List ℕ) (schedule : ScheduleOf D E B K) → IsPlanned list schedule → IsListed list
 lists list schedule p = record { runs = p.runs; nested = is_nested p.pipeline; names = names_of p.pipeline; plan = p.plan }
 
-pub explains_text : (list : List ℕ) (failure : Failure) → IsListed list → failure ≢ Arguments → Explains list failure
-explains_text list Arguments listed other = absurd (other refl)
-explains_text list Text listed other = listed
-explains_text list Refused listed other = listed
-explains_text list Memory listed other = tt
+pub explains_text : {listed : Type 0} (failure : Failure) → listed → failure ≢ Arguments → Explains listed failure
+explains_text Arguments is other = absurd (other refl)
+explains_text Text is other = is
+explains_text Refused is other = is
+explains_text Memory is other = tt
 
 -- what the passes of a schedule make of a text is what the list that plans it asks for
 pub optimises : {D B T E : Type 0} (reads : Reads) (prints : Prints) (m : Meaning) (ran : ScheduleOf D BenchFacts B BenchFactKind → ℕ → Tree → Tree → IRStatus → Type 0) (bytes : T → List ℕ) (list text : List ℕ) (schedule : ScheduleOf D BenchFacts B BenchFactKind) → IsPlanned list schedule → (r : Result T E) → IfOk r (λ answer. IsOptimised reads prints m (ran schedule) text (bytes answer)) → IfOk r (λ answer. Optimises reads prints m ran list text (bytes answer))

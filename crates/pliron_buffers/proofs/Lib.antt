@@ -1,1 +1,2 @@
 mod FillLemmas
+mod ModuleLemmas

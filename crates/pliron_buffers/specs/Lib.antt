@@ -1,4 +1,5 @@
 pub mod Statuses
 pub mod Fills
 pub mod Optimises
+pub mod Modules
 pub mod Faults

@@ -25,9 +25,9 @@ pub record IsListed (list : List ℕ) : Type 0 where
   pub names : List (List ℕ)
   pub plan : IsPlan list runs nested names
 
--- why there is no answer: of the list nothing is said; or it is one of names, and the text is at fault, or the passes gave up
-abbrev pub Explains : (list : List ℕ) → Failure → Type 0
-Explains list Arguments = ⊤
-Explains list Text = IsListed list
-Explains list Refused = IsListed list
-Explains list Memory = ⊤
+-- why there is no answer: of the list nothing is said; or it is one, and the text is at fault, or the passes gave up
+abbrev pub Explains : (listed : Type 0) → Failure → Type 0
+Explains listed Arguments = ⊤
+Explains listed Text = listed
+Explains listed Refused = listed
+Explains listed Memory = ⊤

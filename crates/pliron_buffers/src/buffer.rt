@@ -1,6 +1,7 @@
 //! An answer in a buffer.
 ghost use Rattle.std.specs.Prelude.{◌≡◌, IsOkAnd, IsErrOf, string_bytes};
 ghost use Rattle.pliron_buffers.specs.Fills.{Fills};
+ghost use Rattle.pliron_buffers.specs.Statuses.{status_of};
 
 use crate::status::{Failure, Status};
 
@@ -12,15 +13,21 @@ pub fn fill(answer: Result<String, Failure>, output: &mut [u8], needed: &mut usi
 {
     match answer {
         Ok(text) => put(text.as_bytes(), output, needed),
-        Err(failure) => {
-            *needed = 0;
-            failure.status()
-        }
+        Err(failure) => put_nothing(failure, needed),
     }
 }
 
-/// Writes the answer to the start of the buffer, if it fits, and tells its length.
-fn put(answer: &[u8], output: &mut [u8], needed: &mut usize) -> Status
+/// Tells that there is no answer. Cost: constant.
+pub fn put_nothing(failure: Failure, needed: &mut usize) -> Status
+    ensures length { needed.new ≡ 0 }
+    ensures status { result ≡ status_of failure }
+{
+    *needed = 0;
+    failure.status()
+}
+
+/// Writes the answer to the start of the buffer, if it fits, and tells its length. Cost: linear in the answer.
+pub fn put(answer: &[u8], output: &mut [u8], needed: &mut usize) -> Status
     ensures { Fills (λ bytes. bytes ≡ answer.now) (λ failure. ⊥) output.old output.new needed.new result }
 {
     *needed = answer.len();

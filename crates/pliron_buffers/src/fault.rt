@@ -3,9 +3,14 @@ ghost use Rattle.std.specs.Prelude.{◌≡◌, ◌+◌, ◌≤◌, [], length, I
 ghost use Rattle.pliron_buffers.specs.Fills.{Fills};
 ghost use Rattle.pliron_buffers.specs.Faults.{nowhere, IsPartOf, IsFaultPlace};
 
-use crate::buffer::fill;
+use crate::buffer::{put, put_nothing};
+use crate::optimise_module::MAX_MODULE;
 use crate::status::{Failure, Status};
+use pliron_core::Context;
 use pliron_diagnostics::position_of;
+use pliron_laws::Dialect;
+use pliron_mlir_opt::ModuleFailure;
+use pliron_mlir_text::{Expected, read_module};
 use pliron_notation::find_text_fault;
 use pliron_opts::MAX_TEXT;
 use std::alloc::Global;
@@ -74,6 +79,36 @@ fn place_in(text: &[u8], start: usize, len: usize) -> Place
     }
 }
 
+/// Tells the place of what was found in the text, and puts what was to stand there into the buffer.
+fn tell_fault(
+    found: Result<Option<Fault>, Failure>,
+    text: &[u8],
+    output: &mut [u8],
+    needed: &mut usize,
+    place: &mut Place,
+) -> Status
+    requires within { IfOk found (λ found. IfSome found (λ fault. fault.start + fault.len ≤ length text.now)) }
+    requires memory { IfErr found (λ failure. failure ≡ Failure.Memory) }
+    ensures fills { Fills (λ expected. place.new ≡ nowhere → expected ≡ [])
+        (λ failure. (failure ≡ Failure.Memory) × (place.new ≡ nowhere)) output.old output.new needed.new result }
+    ensures place { IsFaultPlace text.now place.new }
+{
+    match found {
+        Ok(Some(fault)) => {
+            *place = place_in(text, fault.start, fault.len);
+            put(fault.expected.as_bytes(), output, needed)
+        }
+        Ok(None) => {
+            *place = NOWHERE;
+            put(&[], output, needed)
+        }
+        Err(failure) => {
+            *place = NOWHERE;
+            put_nothing(failure, needed)
+        }
+    }
+}
+
 /// Tells where a text of the bench notation leaves it, or is too long, and puts what was to stand there into the
 /// buffer; of a text that is read the place is no part, and nothing is put.
 ///
@@ -89,18 +124,68 @@ pub fn find_fault_into(
         (λ failure. (failure ≡ Failure.Memory) × (place.new ≡ nowhere)) output.old output.new needed.new result }
     ensures place { IsFaultPlace text.now place.new }
 {
-    match fault_of(alloc, text) {
-        Ok(Some(fault)) => {
-            *place = place_in(text, fault.start, fault.len);
-            fill(Ok(fault.expected), output, needed)
-        }
-        Ok(None) => {
-            *place = NOWHERE;
-            fill(Ok(String::new(alloc)), output, needed)
-        }
-        Err(failure) => {
-            *place = NOWHERE;
-            fill(Err(failure), output, needed)
-        }
+    tell_fault(fault_of(alloc, text), text, output, needed, place)
+}
+
+/// The first place at which the text leaves MLIR's generic form, or asks for what a dialect doesn't admit, or is too
+/// long. Errors: allocation failure.
+fn fault_of_module<D: Dialect>(alloc: Global, text: &[u8]) -> Result<Option<Fault>, Failure>
+    ensures within { IfOk result (λ found. IfSome found (λ fault. fault.start + fault.len ≤ length text.now)) }
+    ensures memory { IfErr result (λ failure. failure ≡ Failure.Memory) }
+{
+    if text.len() > MAX_MODULE {
+        return Ok(Some(Fault {
+            start: MAX_MODULE,
+            len: text.len() - MAX_MODULE,
+            expected: Expected::ShorterText.to_string(alloc)?,
+        }));
     }
+    let mut ctx = Context::new(alloc);
+    fault_of_module_in::<D>(alloc, text, &mut ctx)
+}
+
+/// The same, by reading it into a context.
+fn fault_of_module_in<D: Dialect>(
+    alloc: Global,
+    text: &[u8],
+    ctx: &mut Context,
+) -> Result<Option<Fault>, Failure>
+    ensures within { IfOk result (λ found. IfSome found (λ fault. fault.start + fault.len ≤ length text.now)) }
+    ensures memory { IfErr result (λ failure. failure ≡ Failure.Memory) }
+{
+    let Err(fault) = read_module::<D>(alloc, text, ctx) else {
+        return Ok(None);
+    };
+    match ModuleFailure::from(fault) {
+        ModuleFailure::Text(start, expected) => Ok(Some(Fault {
+            start: start.min(text.len()),
+            len: 0,
+            expected: expected.to_string(alloc)?,
+        })),
+        ModuleFailure::Refused(_) => Err(Failure::Memory),
+    }
+}
+
+/// Tells where a module of MLIR leaves the generic form, or is too long, as `find_fault_into` does of the bench
+/// notation. Of such a place the part is empty, unless the module is too long.
+///
+/// Nothing is written to the buffer unless all fits. It fails on allocation failure alone. Cost: that of reading.
+pub fn find_module_fault_into<D: Dialect>(
+    alloc: Global,
+    text: &[u8],
+    output: &mut [u8],
+    needed: &mut usize,
+    place: &mut Place,
+) -> Status
+    ensures fills { Fills (λ expected. place.new ≡ nowhere → expected ≡ [])
+        (λ failure. (failure ≡ Failure.Memory) × (place.new ≡ nowhere)) output.old output.new needed.new result }
+    ensures place { IsFaultPlace text.now place.new }
+{
+    tell_fault(
+        fault_of_module::<D>(alloc, text),
+        text,
+        output,
+        needed,
+        place,
+    )
 }

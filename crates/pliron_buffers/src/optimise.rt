@@ -4,7 +4,7 @@ ghost use Rattle.pliron_opts.specs.Answered.{IsOptimised};
 ghost use Rattle.pliron_opts.specs.Asked.{IsPlanned};
 ghost use Rattle.pliron_opts.specs.Ran.{RunsAlone};
 ghost use Rattle.pliron_buffers.specs.Fills.{Fills};
-ghost use Rattle.pliron_buffers.specs.Optimises.{Optimises, Explains};
+ghost use Rattle.pliron_buffers.specs.Optimises.{Optimises, IsListed, Explains};
 
 use crate::buffer::fill;
 use crate::status::{Failure, Status};
@@ -63,7 +63,7 @@ pub fn optimise_by_list<N: Notation>(
     ensures answer { IfOk result (λ answer. Optimises N.reads N.prints N.D.meaning
         (RunsAlone ⟦<BenchFactKind as PartialEq>⟧.eq ⟦<Schedule<N::D, BenchFacts> as Pass>⟧.outcome)
         list.now text.now (string_bytes answer)) }
-    ensures failure { IfErr result (Explains list.now) }
+    ensures failure { IfErr result (Explains (IsListed list.now)) }
 {
     let schedule = schedule_of(alloc, list)?;
     answer_of::<N>(alloc, schedule, text)
@@ -81,7 +81,7 @@ pub fn optimise_into<N: Notation>(
 ) -> Status
     ensures { Fills (Optimises N.reads N.prints N.D.meaning
         (RunsAlone ⟦<BenchFactKind as PartialEq>⟧.eq ⟦<Schedule<N::D, BenchFacts> as Pass>⟧.outcome)
-        list.now text.now) (Explains list.now) output.old output.new needed.new result }
+        list.now text.now) (Explains (IsListed list.now)) output.old output.new needed.new result }
 {
     fill(optimise_by_list::<N>(alloc, list, text), output, needed)
 }

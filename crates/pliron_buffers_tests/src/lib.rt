@@ -2,4 +2,8 @@
 #![tactic(auto)]
 
 #[cfg(test)]
+mod buffers;
+#[cfg(test)]
 mod calls;
+#[cfg(test)]
+mod modules;

@@ -1,0 +1,161 @@
+//! Passes on a module of MLIR.
+ghost use Rattle.std.specs.Prelude.{◌≡◌, ◌≢◌, ◌⊎◌, ◌++◌, map, IfOk, IfErr};
+ghost use Rattle.pliron_opts.specs.Answered.{IsOptimised, status_line};
+ghost use Rattle.pliron_opts.specs.Ran.{RunsAlone};
+ghost use Rattle.pliron_buffers.specs.Fills.{Fills};
+ghost use Rattle.pliron_buffers.specs.Optimises.{Explains};
+ghost use Rattle.pliron_buffers.specs.Modules.{IsWord, IsAsked, OptimisesModule, number_of_change};
+ghost use Rattle.pliron_mlir_opt.specs.Outcomes.{AsksFor};
+
+use crate::buffer::{put, put_nothing};
+use crate::status::{Failure, Status};
+use pliron_core::IRStatus;
+use pliron_instrument::{
+    InstrumentationOptions, Instrumented, InstrumentedSchedule, PipelineText, PlanError, Timeless,
+    build_schedule, instrumented_passes,
+};
+use pliron_mlir_opt::{
+    ModuleFailure, ModuleNotation, ModuleOptions, Optimised, optimise, read_plan,
+};
+use pliron_pass::{BenchFactKind, Pass};
+use std::alloc::Global;
+
+/// The most bytes of a module.
+pub const MAX_MODULE: usize = 268_435_456;
+
+/// A pass on modules of a notation, whose time nobody asks for.
+pub type ModulePass<N> = Instrumented<N, Timeless>;
+
+/// Passes that a word asks for.
+pub type ModuleSchedule<N> = InstrumentedSchedule<N, Timeless>;
+
+/// The passes that the word asks for: of an empty one, none. Errors: it isn't a list of names of passes; allocation
+/// failure.
+fn plan_of<'w>(alloc: Global, word: &'w [u8]) -> Result<PipelineText<'w>, Failure>
+    ensures asked { IfOk result (λ plan. AsksFor word.now plan.runs plan.nested
+        (map (λ name. name.now) plan.names.items)) }
+    ensures failure { IfErr result (λ failure. (failure ≡ Failure.Arguments) ⊎ (failure ≡ Failure.Memory)) }
+{
+    let Ok(word) = str::from_utf8(word) else {
+        return Err(Failure::Arguments);
+    };
+    match read_plan(alloc, word) {
+        Ok(plan) => Ok(plan),
+        Err(PlanError::Word(_)) => Err(Failure::Arguments),
+        Err(PlanError::Memory) => Err(Failure::Memory),
+    }
+}
+
+/// The schedule that the word asks for. Errors: it isn't a list of names of passes; allocation failure.
+fn schedule_of<N: ModuleNotation>(alloc: Global, word: &[u8]) -> Result<ModuleSchedule<N>, Failure>
+    ensures asked { IfOk result (IsAsked ⟦<ModulePass<N> as Pass>⟧.name word.now) }
+    ensures failure { IfErr result (λ failure. (failure ≡ Failure.Arguments) ⊎ (failure ≡ Failure.Memory)) }
+{
+    let plan = plan_of(alloc, word)?;
+    let nothing = InstrumentationOptions {
+        counts: false,
+        verifies: false,
+        prints_all: false,
+        prints: &[],
+    };
+    match build_schedule::<N, Timeless>(alloc, &plan, &nothing, Timeless)? {
+        Some(schedule) => Ok(schedule),
+        None => Err(Failure::Arguments),
+    }
+}
+
+/// What the passes make of the module, printed, and whether it changed.
+///
+/// Errors: the text is outside the generic form or too long; those of the passes; allocation failure.
+fn run_schedule<N: ModuleNotation>(
+    alloc: Global,
+    schedule: &mut ModuleSchedule<N>,
+    text: &[u8],
+) -> Result<Optimised, Failure>
+    ensures answer { IfOk result (λ made. IsOptimised N.reads N.prints N.D.meaning
+        (RunsAlone ⟦<BenchFactKind as PartialEq>⟧.eq ⟦<ModuleSchedule<N> as Pass>⟧.outcome schedule.old)
+        text.now (made.printed.items ++ status_line made.status)) }
+    ensures failure { IfErr result (λ failure. failure ≢ Failure.Arguments) }
+{
+    if text.len() > MAX_MODULE {
+        return Err(Failure::Text);
+    }
+    let nothing = ModuleOptions {
+        counts: false,
+        verifies: false,
+        times: false,
+        checks: false,
+    };
+    match optimise::<N, Timeless>(alloc, schedule, text, &nothing) {
+        Ok(_) if lacks_a_record(schedule) => Err(Failure::Memory),
+        Ok(made) => Ok(made),
+        Err(ModuleFailure::Text(_, _)) => Err(Failure::Text),
+        Err(ModuleFailure::Refused(error)) => Err(Failure::of(error)),
+    }
+}
+
+/// Whether memory was refused for what is noted of a pass, with which `plir_mlir` gives no answer either.
+fn lacks_a_record<N: ModuleNotation>(schedule: &ModuleSchedule<N>) -> bool {
+    instrumented_passes(schedule)
+        .iter()
+        .any(|pass| pass.run_record().is_short)
+}
+
+/// What the passes that the word asks for make of the module, printed, and whether it changed.
+fn optimise_module<N: ModuleNotation>(
+    alloc: Global,
+    word: &[u8],
+    text: &[u8],
+) -> Result<Optimised, Failure>
+    ensures answer { IfOk result (λ made. OptimisesModule ⟦<ModulePass<N> as Pass>⟧.name
+        N.reads N.prints N.D.meaning
+        (RunsAlone ⟦<BenchFactKind as PartialEq>⟧.eq ⟦<ModuleSchedule<N> as Pass>⟧.outcome)
+        word.now text.now (number_of_change made.status) made.printed.items) }
+    ensures failure { IfErr result (Explains (IsWord word.now)) }
+{
+    let mut schedule = schedule_of::<N>(alloc, word)?;
+    run_schedule::<N>(alloc, &mut schedule, text)
+}
+
+/// The number by which other languages know whether a tree changed.
+fn change_number(status: IRStatus) -> u32
+    ensures { result ≡ number_of_change status }
+{
+    match status {
+        IRStatus::Changed => 1,
+        IRStatus::Unchanged => 0,
+    }
+}
+
+/// Runs the passes that a word asks for on a module in MLIR's generic form, puts the module that they leave into the
+/// buffer, and nothing else: what `plir_mlir` writes for the word and the input. Tells its length, or 0 where no
+/// answer is known, and in `changed` 1 where the passes changed the module, and else 0.
+///
+/// The word is that of `PipelineText::read`; an empty one asks for no pass. There is no answer to another word, to a
+/// text that `read_module` refuses or of more than 268,435,456 bytes, where the passes gave up, and on allocation
+/// failure. Nothing is written to the buffer unless the whole answer fits. Cost: linear in the texts, and that of the
+/// passes.
+pub fn optimise_module_into<N: ModuleNotation>(
+    alloc: Global,
+    word: &[u8],
+    text: &[u8],
+    output: &mut [u8],
+    needed: &mut usize,
+    changed: &mut u32,
+) -> Status
+    ensures { Fills (OptimisesModule ⟦<ModulePass<N> as Pass>⟧.name N.reads N.prints N.D.meaning
+        (RunsAlone ⟦<BenchFactKind as PartialEq>⟧.eq ⟦<ModuleSchedule<N> as Pass>⟧.outcome)
+        word.now text.now changed.new) (λ failure. Explains (IsWord word.now) failure × (changed.new ≡ 0))
+        output.old output.new needed.new result }
+{
+    match optimise_module::<N>(alloc, word, text) {
+        Ok(made) => {
+            *changed = change_number(made.status);
+            put(&made.printed, output, needed)
+        }
+        Err(failure) => {
+            *changed = 0;
+            put_nothing(failure, needed)
+        }
+    }
+}
