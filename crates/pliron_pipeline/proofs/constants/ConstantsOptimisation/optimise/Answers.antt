@@ -13,7 +13,7 @@ returns-clause-tells g c =
 pub returns-clause-outcome : goal.returns-clause-outcome
 returns-clause-outcome g c =
     let p = c.in_ok-status.ensures.propagates in
-    ((p.0, p.1.propagated), (p.1.tells, refl))
+    ((p.0, p.1.propagated), p.1.tells, refl)
 
 pub returns-in_err-status-clause-change : goal.returns-in_err-status-clause-change
 returns-in_err-status-clause-change g c = c.in_err-status.ensures.propagates.1.change
