@@ -3,10 +3,9 @@
 //! A line has `C` before a text that changes, `U` before one that does not, and `R` before one where the
 //! call refuses, since a value of an unreachable block is used outside the unreachable blocks; then the
 //! text before and after. In `ROWS` and `ORDERS` the name of the call stands before all that. The others are
-//! texts made at random for `simplify_cfg`. A plain program outside this repository made what is left of
-//! these and of some lines of `ROWS` and `ORDERS`: it folds what a constant decides, takes out what the
-//! entry does not reach, and merges pairs of blocks until there is none, with a stack, the last successor
-//! first. Each line of `ROWS` and `ORDERS` was worked through by hand too.
+//! texts made at random for `simplify_cfg`. `tools/expected` makes what is left of these and of the lines of
+//! `ROWS` and `ORDERS` with calls on an operation: it folds what a constant decides, takes out what the entry does
+//! not reach, and merges pairs of blocks until there is none, the last successor first. Each line of `ROWS` and `ORDERS` was worked through by hand too.
 //!
 //! In `ORDERS` the order shows: of two pairs that exclude each other one is merged, and of the regions before
 //! the one that refuses the unreachable blocks are erased. In `HOSTILE` uses may stand anywhere, and edges may

@@ -1,8 +1,8 @@
 //! Texts, and what is left of them. `C` is before one that changes, `U` before one that does not.
 //!
 //! `ROWS` were worked out by hand. The others are texts made at random, whose dead operations and
-//! arguments a plain fixpoint outside this repository found: nothing is dead at first, and in each round
-//! what only dead things use is, until a round finds nothing. The texts of `DEFINED` are well defined;
+//! arguments `tools/expected` finds by a plain fixpoint: nothing is dead at first, and in each round what only dead
+//! things use is, until a round finds nothing. The texts of `DEFINED` are well defined;
 //! those in which uses may stand anywhere stand in `hostile`.
 
 pub static ROWS: &str = "\

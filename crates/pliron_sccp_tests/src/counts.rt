@@ -1,9 +1,9 @@
 //! How often propagation pops something off a worklist, on the made texts and on those of what is deferred and
 //! of what is entered whole.
 //!
-//! The counts were found by a plain program over lattice values by name, `docs/benchmarks/plain_counts.py`,
-//! which shares with the crate only the order of work: last in, first out, blocks before values, and these
-//! before what is deferred. Without the last rule it counts 39 on the third text of `ASIDE`.
+//! The counts are found by a plain search, `tools/expected/worklists.py`, which shares with the crate only the order
+//! of work: last in, first out, blocks before values, and these before what is deferred. Without the last rule it
+//! counts 39 on the third text of `ASIDE`.
 use super::cases::{ASIDE, ENTERED};
 use super::random_cases::MADE;
 use pliron_bench::Bench;

@@ -1,8 +1,7 @@
 //! Well-defined texts made at random, and what constant propagation makes of them.
 //!
-//! The lines have the form of those of `cases`. A plain program outside this repository found the facts: from
-//! nothing known and no block reached, round after round over all operations whose operands are determined, until a
-//! round changes nothing.
+//! The lines have the form of those of `cases`. `tools/expected` finds the facts: from nothing known and no block
+//! executable, round after round over all operations whose operands are determined, until a round changes nothing.
 
 pub static MADE: &str = "\
 U 1 0 0 func { b0(): sink; ret; b1(): v0 = read; v1 = div v0 v0; cbr v1 b1() b2(); b2(): sink; ret } \
