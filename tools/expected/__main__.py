@@ -39,61 +39,57 @@ def by_call(call, text):
     return f"{letter(call(root))} {text} => {printed(root)}"
 
 
-def left(line, words):
-    """The text to the left of the arrow, behind so many words."""
-    return line.split(" => ")[0].split(" ", words)[words]
-
-
-def dead(line):
-    return by_call(models.dce, left(line, 1))
-
-
-def simplified(line):
-    return by_call(models.simplify_cfg, left(line, 1))
-
-
-def called(line):
-    """A line with the name of its call; a call on a block or a region alone is worked out by hand."""
-    name = line.split(" ")[0]
-    return f"{name} {by_call(CALLS[name], left(line, 2))}" if name in CALLS else line
-
-
-def propagated(line):
-    text = left(line, 4)
-    root = read(text)
-    changed, counts = models.sccp(root)
-    return f"{letter(changed)} {' '.join(map(str, counts))} {text} => {printed(root)}"
-
-
-def propagated_uncounted(line):
-    root = read(left(line, 1))
-    changed, _ = models.sccp(root)
-    return f"{letter(changed)} {left(line, 1)} => {printed(root)}"
+def fields(line, words):
+    """The name of a case, the words behind its answer, and its text."""
+    name, case = line.split(" -- ", 1)
+    _, *said, text = case.split(" => ")[0].split(" ", words + 1)
+    return name, said, text
 
 
 def named(call):
     def again(line):
-        name, case = line.split(" -- ", 1)
-        return f"{name} -- {by_call(call, left(case, 1))}"
+        name, _, text = fields(line, 0)
+        return f"{name} -- {by_call(call, text)}"
     return again
+
+
+def called(line):
+    """A line with the name of its call; a call on a block or a region alone is worked out by hand."""
+    name, (call,), text = fields(line, 1)
+    root = read(text)
+    if call not in CALLS:
+        return line
+    return f"{name} -- {letter(CALLS[call](root))} {call} {text} => {printed(root)}"
+
+
+def propagated(line):
+    name, _, text = fields(line, 3)
+    root = read(text)
+    changed, counts = models.sccp(root)
+    said = " ".join(f"{label}={count}" for label, count in zip(("blocks", "constants", "others"), counts))
+    return f"{name} -- {letter(changed)} {said} {text} => {printed(root)}"
+
+
+def propagated_uncounted(root):
+    return models.sccp(root)[0]
 
 
 SCCP, DCE, CFG = "pliron_sccp_tests/src/", "pliron_dce_tests/src/", "pliron_cfg_tests/src/"
 BY_LINE = {
     SCCP + "cases.rt:ROWS": propagated,
-    SCCP + "cases.rt:ASIDE": propagated,
-    SCCP + "cases.rt:HOSTILE": propagated_uncounted,
+    SCCP + "cases.rt:DEFERRED": propagated,
+    SCCP + "cases.rt:HOSTILE": named(propagated_uncounted),
     SCCP + "cases.rt:ENTERED": propagated,
     SCCP + "random_cases.rt:MADE": propagated,
-    DCE + "cases.rt:ROWS": dead,
-    DCE + "cases.rt:DEFINED": dead,
-    DCE + "hostile.rt:HOSTILE": dead,
-    DCE + "short.rt:SHORT": dead,
-    DCE + "boxes.rt:BOXES": dead,
+    DCE + "cases.rt:ROWS": named(models.dce),
+    DCE + "cases.rt:DEFINED": named(models.dce),
+    DCE + "hostile.rt:HOSTILE": named(models.dce),
+    DCE + "short.rt:SHORT": named(models.dce),
+    DCE + "boxes.rt:BOXES": named(models.dce),
     CFG + "cases.rt:ROWS": called,
     CFG + "cases.rt:ORDERS": called,
-    CFG + "cases.rt:DEFINED": simplified,
-    CFG + "cases.rt:HOSTILE": simplified,
+    CFG + "cases.rt:DEFINED": named(models.simplify_cfg),
+    CFG + "cases.rt:HOSTILE": named(models.simplify_cfg),
     "pliron_cse_tests/src/cases.rt:ROWS": named(models.cse),
     "pliron_cse_tests/src/random.rt:RANDOM": named(models.cse),
     "pliron_canonicalize_tests/src/cases.rt:ROWS": named(models.canonicalize),
@@ -104,7 +100,7 @@ BY_LINE = {
 # tables of counts, with the texts that they count
 COUNTS = {
     SCCP + "counts.rt:COUNTS": SCCP + "random_cases.rt:MADE",
-    SCCP + "counts.rt:ASIDE_COUNTS": SCCP + "cases.rt:ASIDE",
+    SCCP + "counts.rt:DEFERRED_COUNTS": SCCP + "cases.rt:DEFERRED",
     SCCP + "counts.rt:ENTERED_COUNTS": SCCP + "cases.rt:ENTERED",
 }
 WHOLE = {
@@ -118,7 +114,7 @@ def made_again(table):
     if table in WHOLE:
         return graphs.of_three_nodes(WHOLE[table])
     if table in COUNTS:
-        return [" ".join(str(Search(read(left(line, 4))).pops) for line in lines_of(COUNTS[table]))]
+        return [" ".join(str(Search(read(fields(line, 3)[2])).pops) for line in lines_of(COUNTS[table]))]
     return [BY_LINE[table](line) for line in lines_of(table)]
 
 
