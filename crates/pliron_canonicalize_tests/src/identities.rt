@@ -1,5 +1,6 @@
 //! The bench dialect, which in these tests also says of some results that they are one of their operands: a product by
-//! 0 is that factor, 0 divided by anything is that 0, and a value divided by itself is 1.
+//! 0 is that factor, 0 divided by anything is that 0, and a value divided by itself is 1. A dialect by roles says such
+//! things too; this one has the texts of `Bench`.
 ghost use Rattle.std.specs.Prelude.{◌≡◌, ◌∷◌, [], Ok, IfOk, IsOkUnless, length};
 ghost use Rattle.pliron_core.specs.Tree.{IsLive, operands_of};
 ghost use Rattle.pliron_laws.specs.Answers.{ReadsHead};

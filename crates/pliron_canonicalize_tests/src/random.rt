@@ -1,5 +1,5 @@
-//! Well-defined texts made at random, and what is left of them, as in `cases`: a plain model outside this repository
-//! folded any result that folds, but none behind an operation that folds, until none was left.
+//! Well-defined texts made at random, and what is left of them, as in `cases`: `tools/expected` folds any result that
+//! folds, but none behind an operation that folds, until none is left.
 
 pub static RANDOM: &str = "\
 random 2 -- U func { b0(): v0 = const -1; scope v0 v0 { b0(): sink v0; v1, v2 = pair; cbr v2 b2() b3(v0, \

@@ -9,6 +9,7 @@ use pliron_bench::Bench;
 use pliron_cfg::{fold_branches, merge_inside_op, remove_blocks_inside_op, simplify_cfg};
 use pliron_core::{Context, IRRewriter, IRStatus, Operation, Ptr};
 use pliron_notation::{print_text, read_text};
+use pliron_test_cases::cases::{Case, case_of};
 use pliron_test_cases::listener::Counting;
 use std::alloc::Global;
 use std::process::Abort;
@@ -36,75 +37,74 @@ fn left_of(
     Ok(print_text(alloc, root, ctx)?)
 }
 
-// A call, what it answers, and what it leaves of the text.
-#[derive(Clone, Copy)]
-struct Case<'a> {
-    call: &'a str,
-    expected: &'a str,
-    text: &'a str,
-    after: &'a str,
-}
-
-fn check_in(rt: &impl Abort, alloc: Global, ctx: &mut Context, case: &Case) -> Result<(), Fail> {
+fn check_in(
+    rt: &impl Abort,
+    alloc: Global,
+    ctx: &mut Context,
+    call: &str,
+    case: &Case,
+) -> Result<(), Fail> {
+    let name = case.name;
     let Some(root) = read_text(alloc, case.text.as_bytes(), ctx)? else {
         return Err(Fail::from("unreadable"));
     };
-    let printed = left_of(rt, alloc, ctx, root, case.call, case.expected)?;
-    assert_eq!(rt; printed.as_str(), case.after, "{}", case.text);
+    let printed = left_of(rt, alloc, ctx, root, call, case.answer)?;
+    assert_eq!(rt; printed.as_str(), case.after, "{name}");
     Ok(())
 }
 
 // The case says what the call answers and leaves of the text.
-fn check(rt: &impl Abort, alloc: Global, call: &str, case: &str) -> Result<(), Fail> {
-    let Some((line, after)) = case.split_once(" => ") else {
-        return Err(Fail::from("no arrow"));
-    };
-    let Some((expected, text)) = line.split_once(" ") else {
-        return Err(Fail::from("no answer"));
-    };
-    let case = Case {
-        call,
-        expected,
-        text,
-        after,
-    };
+fn check(rt: &impl Abort, alloc: Global, call: &str, case: &Case) -> Result<(), Fail> {
     let mut ctx = Context::new(alloc);
-    check_in(rt, alloc, &mut ctx, &case)
+    check_in(rt, alloc, &mut ctx, call, case)
 }
 
-// Each case has the name of its call before it.
-fn check_named(rt: &impl Abort, alloc: Global, cases: &str) -> Result<(), Fail> {
+fn read_case(line: &str) -> Result<Case<'_>, Fail> {
+    match case_of(line) {
+        Some(case) => Ok(case),
+        None => Err(Fail::from("no case")),
+    }
+}
+
+// The name of the call, which stands before the text of the case, and the case without it.
+fn called(line: &str) -> Result<(&str, Case<'_>), Fail> {
+    let case = read_case(line)?;
+    match case.text.split_once(" ") {
+        Some((call, text)) => Ok((call, Case { text, ..case })),
+        None => Err(Fail::from("no call")),
+    }
+}
+
+fn check_called(rt: &impl Abort, alloc: Global, cases: &str) -> Result<(), Fail> {
     for line in cases.lines() {
-        let Some((call, case)) = line.split_once(" ") else {
-            return Err(Fail::from("no call"));
-        };
-        check(rt, alloc, call, case)?;
+        let (call, case) = called(line)?;
+        check(rt, alloc, call, &case)?;
     }
     Ok(())
 }
 
 #[test]
 fn rows(rt: HostRuntime) -> Result<(), Fail> {
-    check_named(&rt, rt.alloc(), ROWS)
+    check_called(&rt, rt.alloc(), ROWS)
 }
 
 #[test]
 fn where_the_order_shows(rt: HostRuntime) -> Result<(), Fail> {
-    check_named(&rt, rt.alloc(), ORDERS)
+    check_called(&rt, rt.alloc(), ORDERS)
 }
 
 #[test]
 fn hostile_texts(rt: HostRuntime) -> Result<(), Fail> {
-    for case in HOSTILE.lines() {
-        check(&rt, rt.alloc(), "simplify", case)?;
+    for line in HOSTILE.lines() {
+        check(&rt, rt.alloc(), "simplify", &read_case(line)?)?;
     }
     Ok(())
 }
 
 #[test]
 fn defined_texts(rt: HostRuntime) -> Result<(), Fail> {
-    for case in DEFINED.lines() {
-        check(&rt, rt.alloc(), "simplify", case)?;
+    for line in DEFINED.lines() {
+        check(&rt, rt.alloc(), "simplify", &read_case(line)?)?;
     }
     Ok(())
 }
@@ -131,8 +131,9 @@ fn none_left(
 }
 
 // The three parts of `simplify_cfg`, one after the other, through a rewriter that counts.
-fn check_room(rt: &impl Abort, alloc: Global, ctx: &mut Context, text: &str) -> Result<(), Fail> {
-    let Some(root) = read_text(alloc, text.as_bytes(), ctx)? else {
+fn check_room(rt: &impl Abort, alloc: Global, ctx: &mut Context, case: &Case) -> Result<(), Fail> {
+    let name = case.name;
+    let Some(root) = read_text(alloc, case.text.as_bytes(), ctx)? else {
         return Err(Fail::from("unreadable"));
     };
     let mut rewriter = Counting::new();
@@ -144,34 +145,26 @@ fn check_room(rt: &impl Abort, alloc: Global, ctx: &mut Context, text: &str) -> 
     if removed.is_ok() {
         merge_inside_op::<Bench, Counting>(alloc, root, ctx, &mut rewriter)?;
     }
-    assert!(rt; rewriter.had_room(), "{text}");
+    assert!(rt; rewriter.had_room(), "{name}");
     Ok(())
 }
 
-fn check_case_has_room(rt: &impl Abort, alloc: Global, case: &str) -> Result<(), Fail> {
-    let Some((line, _)) = case.split_once(" => ") else {
-        return Err(Fail::from("no arrow"));
-    };
-    let Some((_, text)) = line.split_once(" ") else {
-        return Err(Fail::from("no answer"));
-    };
+fn check_case_has_room(rt: &impl Abort, alloc: Global, case: &Case) -> Result<(), Fail> {
     let mut ctx = Context::new(alloc);
-    check_room(rt, alloc, &mut ctx, text)
+    check_room(rt, alloc, &mut ctx, case)
 }
 
-fn check_named_have_room(rt: &impl Abort, alloc: Global, cases: &str) -> Result<(), Fail> {
+fn check_called_have_room(rt: &impl Abort, alloc: Global, cases: &str) -> Result<(), Fail> {
     for line in cases.lines() {
-        let Some((_, case)) = line.split_once(" ") else {
-            return Err(Fail::from("no call"));
-        };
-        check_case_has_room(rt, alloc, case)?;
+        let (_, case) = called(line)?;
+        check_case_has_room(rt, alloc, &case)?;
     }
     Ok(())
 }
 
 fn check_all_have_room(rt: &impl Abort, alloc: Global, cases: &str) -> Result<(), Fail> {
-    for case in cases.lines() {
-        check_case_has_room(rt, alloc, case)?;
+    for line in cases.lines() {
+        check_case_has_room(rt, alloc, &read_case(line)?)?;
     }
     Ok(())
 }
@@ -189,23 +182,17 @@ fn check_none_left(
 }
 
 fn check_all_left(rt: &impl Abort, alloc: Global, cases: &str) -> Result<(), Fail> {
-    for case in cases.lines() {
-        let Some((line, _)) = case.split_once(" => ") else {
-            return Err(Fail::from("no arrow"));
-        };
-        let Some((_, text)) = line.split_once(" ") else {
-            return Err(Fail::from("no answer"));
-        };
+    for line in cases.lines() {
         let mut ctx = Context::new(alloc);
-        check_none_left(rt, alloc, &mut ctx, text)?;
+        check_none_left(rt, alloc, &mut ctx, read_case(line)?.text)?;
     }
     Ok(())
 }
 
 #[test]
 fn each_change_has_room(rt: HostRuntime) -> Result<(), Fail> {
-    check_named_have_room(&rt, rt.alloc(), ROWS)?;
-    check_named_have_room(&rt, rt.alloc(), ORDERS)?;
+    check_called_have_room(&rt, rt.alloc(), ROWS)?;
+    check_called_have_room(&rt, rt.alloc(), ORDERS)?;
     check_all_have_room(&rt, rt.alloc(), HOSTILE)?;
     check_all_have_room(&rt, rt.alloc(), DEFINED)
 }

@@ -4,9 +4,10 @@ ghost use Rattle.pliron_cli.specs.Outcomes.{Ends};
 
 use crate::ending::{DrawFailure, draw_failure_outcome, success_outcome};
 use crate::{CommandFailure, Outcome, Source, misspelling_outcome};
-use pliron_graphviz::{PassList, PassName, explain_changes};
+use pliron_graphviz::{PassList, explain_changes};
 use pliron_instrument::{PipelineText, PlanError};
 use pliron_laws::OptError;
+use pliron_pipeline::PassName;
 use std::alloc::{AllocError, Global};
 
 /// The outcome for these lines.

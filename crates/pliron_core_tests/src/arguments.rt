@@ -7,7 +7,7 @@ use std::process::Abort;
 use std::test::Fail;
 
 // How many arguments the block has at first; then the place of each argument that is removed; and those
-// that are left in the end, by their first places. Made by a plain program over lists.
+// that are left in the end, by their first places. Made by `tools/expected` over plain lists.
 static REMOVALS: &str = "\
 1 0 =>
 5 4 3 2 1 0 =>

@@ -7,8 +7,8 @@ use std::process::Abort;
 use std::test::Fail;
 
 // How many values the operation uses at first, each once, in order; then the place of the operand that is
-// removed, or `+` and the value that is pushed; and the values that it uses in the end. Made by a plain
-// program over lists.
+// removed, or `+` and the value that is pushed; and the values that it uses in the end. Made by `tools/expected`
+// over plain lists.
 static REMOVALS: &str = "\
 1 0 =>
 5 4 3 2 1 0 =>

@@ -1,5 +1,5 @@
-//! Well-defined texts made at random, and what is left of them, as in `cases`: a plain model outside this repository
-//! took any operation that another one dominates and that does the same, in any order, until none was left.
+//! Well-defined texts made at random, and what is left of them, as in `cases`: `tools/expected` erases any operation
+//! that another one dominates and that does the same, until none is left.
 
 pub static RANDOM: &str = "\
 random 1 -- C func { b0(v0, v1): v2 = add v0 v1; scope { b0(v3): ret v0 }; v4 = add v1 v2; v5 = add v0 v1; cbr \

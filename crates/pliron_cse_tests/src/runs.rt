@@ -3,32 +3,31 @@ use super::random::RANDOM;
 use pliron_bench::Bench;
 use pliron_core::Context;
 use pliron_cse::cse;
-use pliron_test_cases::cases::read;
+use pliron_test_cases::cases::{Case, case_of, read};
 use pliron_test_cases::runs::{are_kept, sights};
 use std::alloc::Global;
 use std::process::Abort;
 
 const ENOUGH: usize = 60;
 
-fn compare_in(rt: &impl Abort, alloc: Global, ctx: &mut Context, text: &str) {
-    let root = read(alloc, ctx, text).expect(rt, "a text");
+fn compare_in(rt: &impl Abort, alloc: Global, ctx: &mut Context, case: &Case) {
+    let name = case.name;
+    let root = read(alloc, ctx, case.text).expect(rt, "a text");
     let before = sights(alloc, ctx, root, ENOUGH).expect(rt, "memory");
-    assert!(rt; cse::<Bench>(alloc, root, ctx).is_ok(), "{text}");
+    assert!(rt; cse::<Bench>(alloc, root, ctx).is_ok(), "{name}");
     let after = sights(alloc, ctx, root, ENOUGH).expect(rt, "memory");
-    assert!(rt; are_kept(&before, &after), "{text}");
+    assert!(rt; are_kept(&before, &after), "{name}");
 }
 
-fn compare(rt: &impl Abort, alloc: Global, text: &str) {
+fn compare(rt: &impl Abort, alloc: Global, case: &Case) {
     let mut ctx = Context::new(alloc);
-    compare_in(rt, alloc, &mut ctx, text)
+    compare_in(rt, alloc, &mut ctx, case)
 }
 
 #[test]
 fn runs_are_kept(rt: HostRuntime) {
     for line in RANDOM.lines() {
-        let (_, case) = line.split_once(" -- ").expect(&rt, "a name");
-        let (before, _) = case.split_once(" => ").expect(&rt, "an arrow");
-        let (_, text) = before.split_once(" ").expect(&rt, "an answer");
-        compare(&rt, rt.alloc(), text);
+        let case = case_of(line).expect(&rt, "a case");
+        compare(&rt, rt.alloc(), &case);
     }
 }

@@ -15,6 +15,7 @@ use pliron_core::{BasicBlock, Context, Def, Operation, Ptr, Value};
 use pliron_dce::dce;
 use pliron_laws::{BlockArgRemoval, Dialect, SideEffects};
 use pliron_notation::read_text;
+use pliron_test_cases::cases::{Case, case_of};
 use std::alloc::{AllocError, Global};
 use std::process::Abort;
 use std::test::Fail;
@@ -343,11 +344,12 @@ fn compare(
     rt: &impl Abort,
     alloc: Global,
     ctx: &mut Context,
-    text: &str,
+    case: &Case,
     things: &mut Vec<Thing>,
     left: &mut Vec<bool>,
 ) -> Result<(), Fail> {
-    let Some(root) = read_text(alloc, text.as_bytes(), ctx)? else {
+    let name = case.name;
+    let Some(root) = read_text(alloc, case.text.as_bytes(), ctx)? else {
         return Err(Fail::from("unreadable"));
     };
     list_things(things, root, ctx)?;
@@ -355,7 +357,7 @@ fn compare(
     dce::<Bench>(alloc, root, ctx)?;
     assert!(rt; things.len() == left.len());
     for (thing, stays) in things.iter().zip(left.iter()) {
-        assert!(rt; is_live(*thing, ctx) == *stays, "{text}");
+        assert!(rt; is_live(*thing, ctx) == *stays, "{name}");
     }
     Ok(())
 }
@@ -376,22 +378,19 @@ fn list_left(
     Ok(())
 }
 
-fn compare_text(rt: &impl Abort, alloc: Global, text: &str) -> Result<(), Fail> {
+fn compare_case(rt: &impl Abort, alloc: Global, case: &Case) -> Result<(), Fail> {
     let mut ctx = Context::new(alloc);
     let mut things = Vec::new(alloc);
     let mut left = Vec::new(alloc);
-    compare(rt, alloc, &mut ctx, text, &mut things, &mut left)
+    compare(rt, alloc, &mut ctx, case, &mut things, &mut left)
 }
 
 fn compare_all(rt: &impl Abort, alloc: Global, cases: &str) -> Result<(), Fail> {
-    for case in cases.lines() {
-        let Some((line, _)) = case.split_once(" => ") else {
-            return Err(Fail::from("no arrow"));
+    for line in cases.lines() {
+        let Some(case) = case_of(line) else {
+            return Err(Fail::from("no case"));
         };
-        let Some((_, text)) = line.split_once(" ") else {
-            return Err(Fail::from("no answer"));
-        };
-        compare_text(rt, alloc, text)?;
+        compare_case(rt, alloc, &case)?;
     }
     Ok(())
 }

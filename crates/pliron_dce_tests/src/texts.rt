@@ -11,7 +11,7 @@ use pliron_bench::Bench;
 use pliron_core::{Context, IRStatus, Operation, Ptr};
 use pliron_dce::dce;
 use pliron_notation::{print_text, read_text};
-use pliron_test_cases::cases::operation_at;
+use pliron_test_cases::cases::{Case, case_of, operation_at};
 use std::alloc::Global;
 use std::process::Abort;
 use std::test::Fail;
@@ -38,48 +38,28 @@ fn left_of(
     Ok(print_text(alloc, whole, ctx)?)
 }
 
-fn check_in(
-    rt: &impl Abort,
-    alloc: Global,
-    ctx: &mut Context,
-    text: &str,
-    after: &str,
-    status: IRStatus,
-) -> Result<(), Fail> {
-    let Some(root) = read_text(alloc, text.as_bytes(), ctx)? else {
+fn check_in(rt: &impl Abort, alloc: Global, ctx: &mut Context, case: &Case) -> Result<(), Fail> {
+    let name = case.name;
+    let Some(root) = read_text(alloc, case.text.as_bytes(), ctx)? else {
         return Err(Fail::from("unreadable"));
     };
-    let printed = left_of(rt, alloc, ctx, root, root, status)?;
-    assert_eq!(rt; printed.as_str(), after, "{text}");
+    let printed = left_of(rt, alloc, ctx, root, root, case.status())?;
+    assert_eq!(rt; printed.as_str(), case.after, "{name}");
     Ok(())
 }
 
 // After `dce` on the text, this is printed and this was answered.
-pub fn check(
-    rt: &impl Abort,
-    alloc: Global,
-    text: &str,
-    after: &str,
-    status: IRStatus,
-) -> Result<(), Fail> {
+pub fn check(rt: &impl Abort, alloc: Global, case: &Case) -> Result<(), Fail> {
     let mut ctx = Context::new(alloc);
-    check_in(rt, alloc, &mut ctx, text, after, status)
+    check_in(rt, alloc, &mut ctx, case)
 }
 
 fn check_all(rt: &impl Abort, alloc: Global, cases: &str) -> Result<(), Fail> {
-    for case in cases.lines() {
-        let Some((line, after)) = case.split_once(" => ") else {
-            return Err(Fail::from("no arrow"));
+    for line in cases.lines() {
+        let Some(case) = case_of(line) else {
+            return Err(Fail::from("no case"));
         };
-        let Some((answer, text)) = line.split_once(" ") else {
-            return Err(Fail::from("no answer"));
-        };
-        let status = if answer == "C" {
-            IRStatus::Changed
-        } else {
-            IRStatus::Unchanged
-        };
-        check(rt, alloc, text, after, status)?;
+        check(rt, alloc, &case)?;
     }
     Ok(())
 }

@@ -4,7 +4,7 @@
 ghost use Rattle.std.specs.Prelude.{◌<◌};
 
 use super::texts::check;
-use pliron_core::IRStatus;
+use pliron_test_cases::cases::Case;
 use std::alloc::Global;
 use std::process::Abort;
 use std::test::Fail;
@@ -107,7 +107,13 @@ fn check_filled(rt: &impl Abort, alloc: Global, case: &str, half: usize) -> Resu
         return Err(Fail::from("no arrow"));
     };
     let text = fill_case(rt, alloc, before, half);
-    check(rt, alloc, text.as_str(), after, IRStatus::Changed)
+    let case = Case {
+        name: before,
+        answer: "C",
+        text: text.as_str(),
+        after,
+    };
+    check(rt, alloc, &case)
 }
 
 fn check_half(rt: &impl Abort, alloc: Global, half: u8) -> Result<(), Fail> {

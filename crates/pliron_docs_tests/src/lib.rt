@@ -9,6 +9,6 @@ mod inner;
 #[cfg(test)]
 mod passes;
 #[cfg(test)]
-mod trees;
+mod start;
 #[cfg(test)]
 mod walking;

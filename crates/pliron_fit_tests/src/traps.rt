@@ -1,6 +1,6 @@
 //! A lawful dialect of which little is known: each operation traps, ends its block, and may have whatever counts,
 //! results beside successors among them. Kind 9 implements `RegionBranch` and names nothing, so runs may not begin
-//! there.
+//! there. No table says so: by roles what traps has no successors, and each head may be that of a root.
 ghost use Rattle.std.specs.Prelude.{◌≡◌, Ok};
 ghost use Rattle.pliron_laws.specs.Entries.{names_none};
 ghost use Rattle.pliron_fit_tests.specs.Traps.{traps, no_fold, no_kind, nine_interface, no_side_effects, no_removal, no_constants, no_blocks, no_attribute, no_constant_head, no_outcome, same_head};

@@ -1,5 +1,4 @@
-//! The components of each graph of three nodes with rising successors, computed by mutual reach by a program in
-//! another language.
+//! The components of each graph of three nodes with rising successors, made by `tools/expected` by mutual reach.
 
 /// A line for each of the successors of node 0 and of node 1, as the bits of two numbers below 8, the second
 /// counting faster, and in it an item for each of the successors of node 2: the components, each closed by a

@@ -1,8 +1,6 @@
 //! Tests of `pliron_dominance`: worked graphs, all small graphs against dominance by removal, shapes and
 //! reverse graphs. It has no function of its own.
 #[cfg(test)]
-mod cases;
-#[cfg(test)]
 mod lists;
 #[cfg(test)]
 mod removal;

@@ -1,5 +1,4 @@
-//! What a recursive search answers on each graph of three nodes with rising successors, computed by a program
-//! in another language.
+//! What the recursive search of `tools/expected` answers on each graph of three nodes with rising successors.
 
 /// A line for each of the successors of node 0 and of node 1, as the bits of two numbers below 8, the second
 /// counting faster, and in it an item for each of the successors of node 2: the nodes that node 0 reaches by

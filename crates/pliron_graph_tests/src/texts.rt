@@ -88,7 +88,8 @@ pub fn push(rt: &impl Abort, text: &mut String, piece: &str) {
     text.push_str(piece).expect(rt, "memory");
 }
 
-fn push_label<C, N: HasLabel<C>>(
+/// Pushes the label of the node.
+pub fn push_label<C, N: HasLabel<C>>(
     rt: &impl Abort,
     alloc: Global,
     ctx: &C,

@@ -6,7 +6,7 @@ ghost use Rattle.pliron_laws.specs.Linked.{IsWellLinked};
 ghost use Rattle.pliron_bench.specs.BenchMoves.{bench};
 
 use crate::missed::{MissedText, push_missed};
-use crate::pass_list::{PassList, PassName};
+use crate::pass_list::PassList;
 use crate::reasons::{Reasons, Rewrite};
 use crate::text_parts::{TextParts, parts_of};
 use crate::tree_state::{TreeState, tree_state};
@@ -17,6 +17,7 @@ use pliron_cse::cse;
 use pliron_dce::dce;
 use pliron_laws::{OptError, is_well_linked};
 use pliron_notation::read_text;
+use pliron_pipeline::PassName;
 use pliron_sccp::sccp;
 use pliron_walks::Children;
 use std::alloc::{AllocError, Global};

@@ -23,5 +23,5 @@ pub use flow_picture::FlowOptions;
 pub use flow_text::{Drawing, text_flow};
 pub use graph_picture::text_graph;
 pub use graph_row::{GraphRow, graph_rows};
-pub use pass_list::{PassList, PassName};
+pub use pass_list::PassList;
 pub use text_parts::{TextPart, TextParts, ValueName, parts_of};

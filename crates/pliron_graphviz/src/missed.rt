@@ -1,11 +1,12 @@
 //! What passes left as it is, and why.
 ghost use Rattle.pliron_core.specs.Tree.{IsLive};
 
-use crate::pass_list::{PassList, PassName};
+use crate::pass_list::PassList;
 use crate::text_parts::{TextParts, push_on_one_line};
 use pliron_bench::BenchKind;
 use pliron_bench::tables::kind_at;
 use pliron_core::{Context, Def, Operation, Ptr, Value};
+use pliron_pipeline::PassName;
 use pliron_walks::Contents;
 use std::alloc::{AllocError, Global};
 

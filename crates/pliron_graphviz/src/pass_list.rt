@@ -1,26 +1,6 @@
 //! The passes of which it is told what they did.
 
-/// One of the four passes.
-#[derive(Clone, Copy, Debug, Drop, PartialEq, Eq)]
-pub enum PassName {
-    Sccp,
-    Dce,
-    SimplifyCfg,
-    Cse,
-}
-
-impl PassName {
-    /// The pass that has this name. Cost: constant.
-    pub fn from_name(name: &str) -> Option<Self> {
-        match name {
-            "sccp" => Some(PassName::Sccp),
-            "dce" => Some(PassName::Dce),
-            "simplify-cfg" => Some(PassName::SimplifyCfg),
-            "cse" => Some(PassName::Cse),
-            _ => None,
-        }
-    }
-}
+use pliron_pipeline::PassName;
 
 /// Passes that are run in turn.
 #[derive(Drop)]

@@ -16,6 +16,7 @@ fn expect_graph(
 ) {
     let bytes = with_lines(rt, alloc, text);
     let case = Case {
+        name: text,
         args: &["graph"],
         text: bytes.as_slice(),
         failing_read: 0,

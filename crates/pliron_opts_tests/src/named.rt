@@ -5,6 +5,10 @@ use crate::texts::{Case, expect_run};
 static NAMED: &str = "\
 two constant arguments of one block :: sccp :: func { b0(): a = const 1; b = const 2; br b1(a, b); b1(p, q): ret p q } \
     => func { b0(): v0 = const 1; v1 = const 2; br b1(v0, v1); b1(v2, v3): v4 = const 2; v5 = const 1; ret v5 v4 }|changed|
+one constant argument of two :: sccp :: func { b0(x): a = const 1; br b1(a, x); b1(p, q): ret p q } \
+    => func { b0(v0): v1 = const 1; br b1(v1, v0); b1(v2, v3): v4 = const 1; ret v4 v3 }|changed|
+a change that a later pass undoes :: sccp,dce :: func { b0(): a = const 2; scope a { b0(p): ret }; ret a } \
+    => func { b0(): v0 = const 2; scope v0 { b0(v1): ret }; ret v0 }|changed|
 a fork hands its block no constant :: sccp :: func { b0(x): c = const 3; cbr x b1(c) b2(); b1(p): ret p; b2(): fork x b1 b1 } \
     => func { b0(v0): v1 = const 3; cbr v0 b1(v1) b2(); b1(v2): ret v2; b2(): fork v0 b1 b1 }|unchanged|
 the smallest number divided by minus one traps :: sccp :: func { b0(): a = const -9223372036854775808; b = const -1; d = div a b; ret d } \
@@ -39,11 +43,12 @@ a region whose entry is also a branch's target :: sccp :: func { b0(): a = const
 #[test]
 fn named_rows(rt: HostRuntime) {
     for line in NAMED.lines() {
-        let (_name, row) = line.split_once(" :: ").expect(&rt, "a name");
+        let (name, row) = line.split_once(" :: ").expect(&rt, "a name");
         let (list, rest) = row.split_once(" :: ").expect(&rt, "a list");
         let (text, written) = rest.split_once(" => ").expect(&rt, "a case");
         let args = [list];
         let case = Case {
+            name,
             args: &args,
             text: text.as_bytes(),
             failing_read: 0,

@@ -8,6 +8,8 @@ use std::process::Abort;
 /// from 1.
 #[derive(Drop)]
 pub struct Case<'t> {
+    /// What a failure prints.
+    pub name: &'t str,
     pub args: &'t [&'t str],
     pub text: &'t [u8],
     pub failing_read: u32,
@@ -43,22 +45,23 @@ pub fn expect_run(
     let mut output = Output::new(alloc, case.failing_write);
     let mut errors = Output::new(alloc, 0);
     let got = plir_run(alloc, &args, &mut input, &mut output, &mut errors);
-    let text = std::str::from_utf8(case.text).unwrap_or("");
-    assert_eq!(rt; got, status, "{text}");
+    let name = case.name;
+    assert_eq!(rt; got, status, "{name}");
     assert_eq!(rt;
         output.text(),
         with_lines(rt, alloc, written).as_slice(),
-        "{text}"
+        "{name}"
     );
     assert_eq!(rt;
         errors.text(),
         with_lines(rt, alloc, reported).as_slice(),
-        "{text}"
+        "{name}"
     );
 }
 
-fn propagation(text: &[u8]) -> Case<'_> {
+fn propagation<'t>(name: &'t str, text: &'t [u8]) -> Case<'t> {
     Case {
+        name,
         args: &["sccp"],
         text,
         failing_read: 0,
@@ -66,34 +69,35 @@ fn propagation(text: &[u8]) -> Case<'_> {
     }
 }
 
-/// Texts, and what is written of them, with ends of lines as `|`.
+/// Names, texts, and what is written of them, with ends of lines as `|`.
 static ROWS: &str = "\
-func { b0(): a = const 1; b = const 2; c = add a b; ret c } => func { b0(): v0 = const 1; v1 = const 2; v2 = const 3; v3 = add v0 v1; ret v2 }|changed|
-func { b0(): a = const 9223372036854775807; b = const 1; c = add a b; ret c } \
+a sum of two constants :: func { b0(): a = const 1; b = const 2; c = add a b; ret c } => func { b0(): v0 = const 1; v1 = const 2; v2 = const 3; v3 = add v0 v1; ret v2 }|changed|
+a sum that wraps :: func { b0(): a = const 9223372036854775807; b = const 1; c = add a b; ret c } \
     => func { b0(): v0 = const 9223372036854775807; v1 = const 1; v2 = const -9223372036854775808; v3 = add v0 v1; ret v2 }|changed|
-func { b0(): ret } => func { b0(): ret }|unchanged|
-func { b0(): a = const 5; b = add a a; c = add b a; ret c b } \
+an empty function :: func { b0(): ret } => func { b0(): ret }|unchanged|
+sums of sums :: func { b0(): a = const 5; b = add a a; c = add b a; ret c b } \
     => func { b0(): v0 = const 5; v1 = const 10; v2 = add v0 v0; v3 = const 15; v4 = add v1 v0; ret v3 v1 }|changed|
-func{b0():a=const -9223372036854775808;b=add a a;ret} => func { b0(): v0 = const -9223372036854775808; v1 = const 0; v2 = add v0 v0; ret }|changed|
-func { a(): a = const 7; ret a a } => func { b0(): v0 = const 7; ret v0 v0 }|unchanged|
-mod { } => mod { }|unchanged|
-func { b0(): a = read; ret a } => func { b0(): v0 = read; ret v0 }|unchanged|
-func { b0(): a = add a a; ret a } => func { b0(): v0 = add v0 v0; ret v0 }|unchanged|
-func { b0(): ret; ret } => func { b0(): ret; ret }|unchanged|
-func { b0(): z = const 0; br b1(z); b1(i): r = read; cbr r b1(i) b2(); b2(): ret i } \
+the smallest number, twice :: func{b0():a=const -9223372036854775808;b=add a a;ret} => func { b0(): v0 = const -9223372036854775808; v1 = const 0; v2 = add v0 v0; ret }|changed|
+one name for a block and a value :: func { a(): a = const 7; ret a a } => func { b0(): v0 = const 7; ret v0 v0 }|unchanged|
+an empty module :: mod { } => mod { }|unchanged|
+a read :: func { b0(): a = read; ret a } => func { b0(): v0 = read; ret v0 }|unchanged|
+an operation of itself :: func { b0(): a = add a a; ret a } => func { b0(): v0 = add v0 v0; ret v0 }|unchanged|
+an operation behind a terminator :: func { b0(): ret; ret } => func { b0(): ret; ret }|unchanged|
+a constant that goes round a loop :: func { b0(): z = const 0; br b1(z); b1(i): r = read; cbr r b1(i) b2(); b2(): ret i } \
     => func { b0(): v0 = const 0; br b1(v0); b1(v1): v2 = const 0; v3 = read; cbr v3 b1(v2) b2(); b2(): ret v2 }|changed|
-func { b0(): a = const 2; scope { b0(): b = add a a; print b; ret }; ret } \
+a sum in a region :: func { b0(): a = const 2; scope { b0(): b = add a a; print b; ret }; ret } \
     => func { b0(): v0 = const 2; scope { b0(): v1 = const 4; v2 = add v0 v0; print v1; ret }; ret }|changed|
-mod { b0(): func { b0(): a = const 1; b = add a a; ret b } } => mod { b0(): func { b0(): v0 = const 1; v1 = const 2; v2 = add v0 v0; ret v1 } }|changed|";
+a function in a module :: mod { b0(): func { b0(): a = const 1; b = add a a; ret b } } => mod { b0(): func { b0(): v0 = const 1; v1 = const 2; v2 = add v0 v0; ret v1 } }|changed|";
 
 #[test]
 fn rows(rt: HostRuntime) {
     for case in ROWS.lines() {
-        let (text, written) = case.split_once(" => ").expect(&rt, "a case");
+        let (name, row) = case.split_once(" :: ").expect(&rt, "a name");
+        let (text, written) = row.split_once(" => ").expect(&rt, "a case");
         expect_run(
             &rt,
             rt.alloc(),
-            &propagation(text.as_bytes()),
+            &propagation(name, text.as_bytes()),
             0,
             written,
             "",
@@ -101,85 +105,87 @@ fn rows(rt: HostRuntime) {
     }
 }
 
-/// Lists of passes and texts, and what is written of them. After `dce` of `dce,sccp` the keys of values lie too
+/// Names, lists of passes and texts, and what is written of them. After `dce` of `dce,sccp` the keys of values lie too
 /// far apart to be guessed.
 static LISTS: &str = "\
-sccp,dce :: func { b0(): a = const 1; b = const 2; c = add a b; ret c } => func { b0(): v0 = const 3; ret v0 }|changed|
-sccp,sccp :: func { b0(): a = const 1; b = const 2; c = add a b; ret c } \
+a sum is folded and erased :: sccp,dce :: func { b0(): a = const 1; b = const 2; c = add a b; ret c } => func { b0(): v0 = const 3; ret v0 }|changed|
+a sum is folded twice :: sccp,sccp :: func { b0(): a = const 1; b = const 2; c = add a b; ret c } \
     => func { b0(): v0 = const 1; v1 = const 2; v2 = const 3; v3 = const 3; v4 = add v0 v1; ret v2 }|changed|
-sccp,dce :: func { b0(): a = const 1; z = const 0; d = div a z; ret a } => func { b0(): v0 = const 1; v1 = const 0; v2 = div v0 v1; ret v0 }|unchanged|
-sccp,dce :: func { b0(): a = const 7; b = const -2; d = div a b; ret d } \
+a division by 0 stays :: sccp,dce :: func { b0(): a = const 1; z = const 0; d = div a z; ret a } => func { b0(): v0 = const 1; v1 = const 0; v2 = div v0 v1; ret v0 }|unchanged|
+a quotient is folded, and the division stays :: sccp,dce :: func { b0(): a = const 7; b = const -2; d = div a b; ret d } \
     => func { b0(): v0 = const 7; v1 = const -2; v2 = const -3; v3 = div v0 v1; ret v2 }|changed|
-sccp,dce :: func { b0(x): z = const 0; m = mul x z; ret m } => func { b0(v0): v1 = const 0; ret v1 }|changed|
-dce,sccp :: func { b0(): a = const 1; d = add a a; e = add d a; f = add e a; g = add f a; h = add g a; i = add h a; b = const 2; c = add a b; ret c } \
+a product with 0 :: sccp,dce :: func { b0(x): z = const 0; m = mul x z; ret m } => func { b0(v0): v1 = const 0; ret v1 }|changed|
+keys far apart :: dce,sccp :: func { b0(): a = const 1; d = add a a; e = add d a; f = add e a; g = add f a; h = add g a; i = add h a; b = const 2; c = add a b; ret c } \
     => func { b0(): v0 = const 1; v1 = const 2; v2 = const 3; v3 = add v0 v1; ret v2 }|changed|
-dce,dce :: func { b0(): x = const 1; br b1(x); b1(a): c = const 7; ret c } => func { b0(): br b1(); b1(): v0 = const 7; ret v0 }|changed|
-dce :: func { b0(): a = const 1; z = const 0; d = div a z; ret a } => func { b0(): v0 = const 1; v1 = const 0; v2 = div v0 v1; ret v0 }|unchanged|
-dce :: func { b0(): l, r = pair; sink l l r r; br b1(l, r); b1(a, b): k = const 99; ret k } => func { b0(): br b1(); b1(): v0 = const 99; ret v0 }|changed|
-dce :: func { b0(): k = const 4; box { b0(): sink k }; ret } => func { b0(): ret }|changed|
-dce :: func { b0(): z = const 0; br b1(z); b1(i): r = read; cbr r b1(i) b2(); b2(): ret } \
+dead code twice :: dce,dce :: func { b0(): x = const 1; br b1(x); b1(a): c = const 7; ret c } => func { b0(): br b1(); b1(): v0 = const 7; ret v0 }|changed|
+a division by 0 stays, by dce alone :: dce :: func { b0(): a = const 1; z = const 0; d = div a z; ret a } => func { b0(): v0 = const 1; v1 = const 0; v2 = div v0 v1; ret v0 }|unchanged|
+arguments that a sink alone reads :: dce :: func { b0(): l, r = pair; sink l l r r; br b1(l, r); b1(a, b): k = const 99; ret k } => func { b0(): br b1(); b1(): v0 = const 99; ret v0 }|changed|
+a box with what it uses :: dce :: func { b0(): k = const 4; box { b0(): sink k }; ret } => func { b0(): ret }|changed|
+an argument that goes round a loop :: dce :: func { b0(): z = const 0; br b1(z); b1(i): r = read; cbr r b1(i) b2(); b2(): ret } \
     => func { b0(): v0 = const 0; br b1(v0); b1(v1): v2 = read; cbr v2 b1(v1) b2(); b2(): ret }|unchanged|
-dce :: func { b0(x): fork x b1 b1; b1(p): ret } => func { b0(v0): fork v0 b1 b1; b1(v1): ret }|unchanged|
-dce :: func { b0(x): cbr x b1(x) b1(x); b1(p): ret } => func { b0(v0): cbr v0 b1() b1(); b1(): ret }|changed|
-simplify-cfg :: func { b0(): a = const 1; br b1(a); b1(p): cbr p b2() b3(); b2(): ret p; b3(): ret } \
+a fork keeps arguments :: dce :: func { b0(x): fork x b1 b1; b1(p): ret } => func { b0(v0): fork v0 b1 b1; b1(v1): ret }|unchanged|
+both edges of a branch to one block :: dce :: func { b0(x): cbr x b1(x) b1(x); b1(p): ret } => func { b0(v0): cbr v0 b1() b1(); b1(): ret }|changed|
+a branch on an argument folds in a second run :: simplify-cfg :: func { b0(): a = const 1; br b1(a); b1(p): cbr p b2() b3(); b2(): ret p; b3(): ret } \
     => func { b0(): v0 = const 1; cbr v0 b1() b2(); b1(): ret v0; b2(): ret }|changed|
-simplify-cfg :: func { b0(): br b1(); b1(): br b2(); b2(): br b1() } => func { b0(): br b1(); b1(): br b1() }|changed|
-simplify-cfg :: mod { } => mod { }|unchanged|
-simplify-cfg :: func { b0(): ret } => func { b0(): ret }|unchanged|
-simplify-cfg :: func { b0(): br b0() } => func { b0(): br b0() }|unchanged|
-simplify-cfg :: func { b0(): c = const 0; d = const 2; cbr c b1(c) b1(d); b1(p): ret p } => func { b0(): v0 = const 0; v1 = const 2; ret v1 }|changed|
-simplify-cfg :: func { b0(): br b1(p); b1(p): ret p } => func { b0(): br b1(v0); b1(v0): ret v0 }|unchanged|
-simplify-cfg :: func { b0(): br b1(); b1(p): ret p } => func { b0(): br b1(); b1(v0): ret v0 }|unchanged|
-simplify-cfg :: mod { b0(): func { b0(): br b1(); b1(): ret }; b1(): func { b0(): br b1(); b1(): ret } } \
+a ring behind the entry :: simplify-cfg :: func { b0(): br b1(); b1(): br b2(); b2(): br b1() } => func { b0(): br b1(); b1(): br b1() }|changed|
+an empty module :: simplify-cfg :: mod { } => mod { }|unchanged|
+an empty function :: simplify-cfg :: func { b0(): ret } => func { b0(): ret }|unchanged|
+a loop of one block :: simplify-cfg :: func { b0(): br b0() } => func { b0(): br b0() }|unchanged|
+a known condition, with both edges to one block :: simplify-cfg :: func { b0(): c = const 0; d = const 2; cbr c b1(c) b1(d); b1(p): ret p } => func { b0(): v0 = const 0; v1 = const 2; ret v1 }|changed|
+what is forwarded is the argument itself :: simplify-cfg :: func { b0(): br b1(p); b1(p): ret p } => func { b0(): br b1(v0); b1(v0): ret v0 }|unchanged|
+fewer values than the block takes :: simplify-cfg :: func { b0(): br b1(); b1(p): ret p } => func { b0(): br b1(); b1(v0): ret v0 }|unchanged|
+a module's first block alone :: simplify-cfg :: mod { b0(): func { b0(): br b1(); b1(): ret }; b1(): func { b0(): br b1(); b1(): ret } } \
     => mod { b0(): func { b0(): ret }; b1(): func { b0(): br b1(); b1(): ret } }|changed|
-sccp,simplify-cfg,dce :: func { b0(): c = const 1; x = const 5; cbr c b1(x) b2(); b1(p): br b3(p); b2(): y = const 6; br b3(y); b3(q): ret q } \
+a branch whose way is known, by all three :: sccp,simplify-cfg,dce :: func { b0(): c = const 1; x = const 5; cbr c b1(x) b2(); b1(p): br b3(p); b2(): y = const 6; br b3(y); b3(q): ret q } \
     => func { b0(): v0 = const 5; ret v0 }|changed|
-sccp,simplify-cfg,dce :: func { b0(): a = const 1; br b1(a); b1(p): cbr p b2() b3(); b2(): ret p; b3(): ret } => func { b0(): v0 = const 1; ret v0 }|changed|
-nested:simplify-cfg :: mod { b0(): func { b0(): br b1(); b1(): ret }; b1(): func { b0(): br b1(); b1(): ret } } \
+a branch on an argument, by all three :: sccp,simplify-cfg,dce :: func { b0(): a = const 1; br b1(a); b1(p): cbr p b2() b3(); b2(): ret p; b3(): ret } => func { b0(): v0 = const 1; ret v0 }|changed|
+each function of a module :: nested:simplify-cfg :: mod { b0(): func { b0(): br b1(); b1(): ret }; b1(): func { b0(): br b1(); b1(): ret } } \
     => mod { b0(): func { b0(): ret }; b1(): func { b0(): ret } }|changed|
-nested:simplify-cfg :: func { b0(): br b1(); b1(): ret } => func { b0(): br b1(); b1(): ret }|unchanged|
-nested:dce :: func { b0(): k = const 4; box { b0(): sink k }; ret } => func { b0(): v0 = const 4; box { b0(): }; ret }|changed|
-nested:sccp,dce :: mod { b0(): func { b0(): a = const 1; b = const 2; c = add a b; ret c }; func { b0(): ret } } \
+nothing directly inside to simplify :: nested:simplify-cfg :: func { b0(): br b1(); b1(): ret } => func { b0(): br b1(); b1(): ret }|unchanged|
+dead code inside a box alone :: nested:dce :: func { b0(): k = const 4; box { b0(): sink k }; ret } => func { b0(): v0 = const 4; box { b0(): }; ret }|changed|
+two passes on each function :: nested:sccp,dce :: mod { b0(): func { b0(): a = const 1; b = const 2; c = add a b; ret c }; func { b0(): ret } } \
     => mod { b0(): func { b0(): v0 = const 3; ret v0 }; func { b0(): ret } }|changed|
-nested:dce :: mod { } => mod { }|unchanged|
-repeat:8:simplify-cfg :: func { b0(): a = const 1; br b1(a); b1(p): cbr p b2() b3(); b2(): ret p; b3(): ret } => func { b0(): v0 = const 1; ret v0 }|changed|
-repeat:1:simplify-cfg :: func { b0(): a = const 1; br b1(a); b1(p): cbr p b2() b3(); b2(): ret p; b3(): ret } \
+nothing directly inside :: nested:dce :: mod { } => mod { }|unchanged|
+until nothing changes :: repeat:8:simplify-cfg :: func { b0(): a = const 1; br b1(a); b1(p): cbr p b2() b3(); b2(): ret p; b3(): ret } => func { b0(): v0 = const 1; ret v0 }|changed|
+once :: repeat:1:simplify-cfg :: func { b0(): a = const 1; br b1(a); b1(p): cbr p b2() b3(); b2(): ret p; b3(): ret } \
     => func { b0(): v0 = const 1; cbr v0 b1() b2(); b1(): ret v0; b2(): ret }|changed|
-repeat:2:sccp :: func { b0(): a = const 1; b = const 2; c = add a b; ret c } \
+twice :: repeat:2:sccp :: func { b0(): a = const 1; b = const 2; c = add a b; ret c } \
     => func { b0(): v0 = const 1; v1 = const 2; v2 = const 3; v3 = const 3; v4 = add v0 v1; ret v2 }|changed|
-repeat:3:sccp :: func { b0(): a = const 1; b = const 2; c = add a b; ret c } \
+three times :: repeat:3:sccp :: func { b0(): a = const 1; b = const 2; c = add a b; ret c } \
     => func { b0(): v0 = const 1; v1 = const 2; v2 = const 3; v3 = const 3; v4 = const 3; v5 = add v0 v1; ret v2 }|changed|
-repeat:8:sccp,dce :: func { b0(): a = const 1; b = const 2; c = add a b; ret c } => func { b0(): v0 = const 3; ret v0 }|changed|
-repeat:64:dce :: func { b0(): ret } => func { b0(): ret }|unchanged|
-repeat:8:sccp,dce :: func { b0(): a = const 7; scope a { b0(p): scope p { b0(q): print q; ret }; ret }; ret } \
+two passes until nothing changes :: repeat:8:sccp,dce :: func { b0(): a = const 1; b = const 2; c = add a b; ret c } => func { b0(): v0 = const 3; ret v0 }|changed|
+nothing to repeat :: repeat:64:dce :: func { b0(): ret } => func { b0(): ret }|unchanged|
+regions that hand on a constant :: repeat:8:sccp,dce :: func { b0(): a = const 7; scope a { b0(p): scope p { b0(q): print q; ret }; ret }; ret } \
     => func { b0(): v0 = const 7; scope v0 { b0(v1): v2 = const 7; scope v2 { b0(v3): v4 = const 7; print v4; ret }; ret }; ret }|changed|
-simplify-cfg :: func { b0(): a = const 1; b = const 2; c = add a b; ret c } => func { b0(): v0 = const 1; v1 = const 2; v2 = add v0 v1; ret v2 }|unchanged|
-sccp :: func { b0(): c = const 1; x = const 5; cbr c b1(x) b2(); b1(p): br b3(p); b2(): y = const 6; br b3(y); b3(q): ret q } \
+a sum is no branch :: simplify-cfg :: func { b0(): a = const 1; b = const 2; c = add a b; ret c } => func { b0(): v0 = const 1; v1 = const 2; v2 = add v0 v1; ret v2 }|unchanged|
+a branch whose way is known, by sccp :: sccp :: func { b0(): c = const 1; x = const 5; cbr c b1(x) b2(); b1(p): br b3(p); b2(): y = const 6; br b3(y); b3(q): ret q } \
     => func { b0(): v0 = const 1; v1 = const 5; cbr v0 b1(v1) b2(); b1(v2): v3 = const 5; br b3(v3); b2(): v4 = const 6; br b3(v4); \
         b3(v5): v6 = const 5; ret v6 }|changed|
-dce :: func { b0(): c = const 1; x = const 5; cbr c b1(x) b2(); b1(p): br b3(p); b2(): y = const 6; br b3(y); b3(q): ret q } \
+a branch whose way is known, by dce :: dce :: func { b0(): c = const 1; x = const 5; cbr c b1(x) b2(); b1(p): br b3(p); b2(): y = const 6; br b3(y); b3(q): ret q } \
     => func { b0(): v0 = const 1; v1 = const 5; cbr v0 b1(v1) b2(); b1(v2): br b3(v2); b2(): v3 = const 6; br b3(v3); b3(v4): ret v4 }|unchanged|
-simplify-cfg :: func { b0(): c = const 1; x = const 5; cbr c b1(x) b2(); b1(p): br b3(p); b2(): y = const 6; br b3(y); b3(q): ret q } \
+a branch whose way is known, by simplify-cfg :: simplify-cfg :: func { b0(): c = const 1; x = const 5; cbr c b1(x) b2(); b1(p): br b3(p); b2(): y = const 6; br b3(y); b3(q): ret q } \
     => func { b0(): v0 = const 1; v1 = const 5; ret v1 }|changed|
-sccp :: func { b0(): l, r = pair; sink l l r r; br b1(l, r); b1(a, b): k = const 99; ret k } \
+arguments that a sink alone reads, by sccp :: sccp :: func { b0(): l, r = pair; sink l l r r; br b1(l, r); b1(a, b): k = const 99; ret k } \
     => func { b0(): v0, v1 = pair; sink v0 v0 v1 v1; br b1(v0, v1); b1(v2, v3): v4 = const 99; ret v4 }|unchanged|
-simplify-cfg :: func { b0(): l, r = pair; sink l l r r; br b1(l, r); b1(a, b): k = const 99; ret k } \
+arguments that a sink alone reads, by simplify-cfg :: simplify-cfg :: func { b0(): l, r = pair; sink l l r r; br b1(l, r); b1(a, b): k = const 99; ret k } \
     => func { b0(): v0, v1 = pair; sink v0 v0 v1 v1; v2 = const 99; ret v2 }|changed|
-dce,simplify-cfg :: func { b0(): l, r = pair; sink l l r r; br b1(l, r); b1(a, b): k = const 99; ret k } => func { b0(): v0 = const 99; ret v0 }|changed|
-sccp :: func { b0(): a = const 1; br b1(a); b1(p): cbr p b2() b3(); b2(): ret p; b3(): ret } \
+dead arguments, then one block :: dce,simplify-cfg :: func { b0(): l, r = pair; sink l l r r; br b1(l, r); b1(a, b): k = const 99; ret k } => func { b0(): v0 = const 99; ret v0 }|changed|
+a constant argument that branches :: sccp :: func { b0(): a = const 1; br b1(a); b1(p): cbr p b2() b3(); b2(): ret p; b3(): ret } \
     => func { b0(): v0 = const 1; br b1(v0); b1(v1): v2 = const 1; cbr v2 b2() b3(); b2(): ret v2; b3(): ret }|changed|
-dce :: func { b0(): a = const 1; br b1(a); b1(p): cbr p b2() b3(); b2(): ret p; b3(): ret } \
+a read argument that branches :: dce :: func { b0(): a = const 1; br b1(a); b1(p): cbr p b2() b3(); b2(): ret p; b3(): ret } \
     => func { b0(): v0 = const 1; br b1(v0); b1(v1): cbr v1 b2() b3(); b2(): ret v1; b3(): ret }|unchanged|
-repeat:10:nested:simplify-cfg :: mod { b0(): func { b0(): br b1(); b1(): ret }; b1(): func { b0(): br b1(); b1(): ret } } \
+each function until nothing changes :: repeat:10:nested:simplify-cfg :: mod { b0(): func { b0(): br b1(); b1(): ret }; b1(): func { b0(): br b1(); b1(): ret } } \
     => mod { b0(): func { b0(): ret }; b1(): func { b0(): ret } }|changed|";
 
 #[test]
 fn lists(rt: HostRuntime) {
     for line in LISTS.lines() {
-        let (list, rest) = line.split_once(" :: ").expect(&rt, "a list");
+        let (name, row) = line.split_once(" :: ").expect(&rt, "a name");
+        let (list, rest) = row.split_once(" :: ").expect(&rt, "a list");
         let (text, written) = rest.split_once(" => ").expect(&rt, "a case");
         let args = [list];
         let case = Case {
+            name,
             args: &args,
             text: text.as_bytes(),
             failing_read: 0,
@@ -189,22 +195,23 @@ fn lists(rt: HostRuntime) {
     }
 }
 
-/// Lists of passes and texts of which each ends with status 1 or 2, and what is reported. Where a text is
+/// Names, lists of passes and texts of which each ends with status 1 or 2, and what is reported. Where a text is
 /// refused, writing would fail too; where reading fails, the text would be unreadable too.
 static REFUSED: &str =
-    "simplify-cfg :: func { b0(): ret v; b1(): v = const 1; br b1() } => refused: a value of an unreachable block is used|
-dce,simplify-cfg :: func { b0(): ret v; b1(): v = const 1; br b1() } => refused: a value of an unreachable block is used|
-nested:simplify-cfg :: mod { b0(): func { b0(): ret v; b1(): v = const 1; br b1() } } => refused: a value of an unreachable block is used|
-repeat:3:simplify-cfg :: func { b0(): ret v; b1(): v = const 1; br b1() } => refused: a value of an unreachable block is used|
-simplify-cfg :: func { b0(): br b2(); b1(): v = const 1; br b2(); b2(): scope { b0(): print v; ret }; ret } => refused: a value of an unreachable block is used|
-simplify-cfg :: func { b0(): c = const 0; cbr c b1() b2(); b1(): v = const 1; br b2(); b2(): print v; ret } => refused: a value of an unreachable block is used|
-dce :: func { b0(): a = const 1 => unreadable text|
-repeat:2:nested:dce :: func { b0(): a = const 9223372036854775808; ret a } => unreadable text|";
+    "a used value of an unreachable block :: simplify-cfg :: func { b0(): ret v; b1(): v = const 1; br b1() } => refused: a value of an unreachable block is used|
+refused in a second pass :: dce,simplify-cfg :: func { b0(): ret v; b1(): v = const 1; br b1() } => refused: a value of an unreachable block is used|
+refused in a function of a module :: nested:simplify-cfg :: mod { b0(): func { b0(): ret v; b1(): v = const 1; br b1() } } => refused: a value of an unreachable block is used|
+refused in a repeated pass :: repeat:3:simplify-cfg :: func { b0(): ret v; b1(): v = const 1; br b1() } => refused: a value of an unreachable block is used|
+a use in a nested region :: simplify-cfg :: func { b0(): br b2(); b1(): v = const 1; br b2(); b2(): scope { b0(): print v; ret }; ret } => refused: a value of an unreachable block is used|
+unreachable once a branch is folded :: simplify-cfg :: func { b0(): c = const 0; cbr c b1() b2(); b1(): v = const 1; br b2(); b2(): print v; ret } => refused: a value of an unreachable block is used|
+an unreadable text :: dce :: func { b0(): a = const 1 => unreadable text|
+an unreadable number :: repeat:2:nested:dce :: func { b0(): a = const 9223372036854775808; ret a } => unreadable text|";
 
 #[test]
 fn refused_texts(rt: HostRuntime) {
     for line in REFUSED.lines() {
-        let (list, rest) = line.split_once(" :: ").expect(&rt, "a list");
+        let (name, row) = line.split_once(" :: ").expect(&rt, "a name");
+        let (list, rest) = row.split_once(" :: ").expect(&rt, "a list");
         let (text, reported) = rest.split_once(" => ").expect(&rt, "a case");
         let status = if reported.starts_with("refused") {
             1
@@ -213,6 +220,7 @@ fn refused_texts(rt: HostRuntime) {
         };
         let args = [list];
         let mut case = Case {
+            name,
             args: &args,
             text: text.as_bytes(),
             failing_read: 0,
@@ -250,7 +258,7 @@ fn unreadable_texts(rt: HostRuntime) {
         expect_run(
             &rt,
             rt.alloc(),
-            &propagation(text.as_bytes()),
+            &propagation(text, text.as_bytes()),
             2,
             "",
             "unreadable text|",
@@ -262,7 +270,7 @@ fn unreadable_texts(rt: HostRuntime) {
     expect_run(
         &rt,
         rt.alloc(),
-        &propagation(longest.as_bytes()),
+        &propagation("the longest name", longest.as_bytes()),
         0,
         printed,
         "",
@@ -286,13 +294,20 @@ fn reads_no_more_than_one_byte_past_the_limit(rt: HostRuntime) {
     expect_run(
         &rt,
         alloc,
-        &propagation(&longest),
+        &propagation("the longest text", &longest),
         0,
         "func { b0(): ret }|unchanged|",
         "",
     );
     let longer = pad_text(&rt, alloc, text, 1_048_577 - 18);
-    expect_run(&rt, alloc, &propagation(&longer), 2, "", "unreadable text|");
+    expect_run(
+        &rt,
+        alloc,
+        &propagation("a longer text", &longer),
+        2,
+        "",
+        "unreadable text|",
+    );
     let longest_by_far = pad_text(&rt, alloc, text, 1_100_000);
     let mut args = Vec::new(alloc);
     args.push(String::from_str(alloc, "sccp").expect(&rt, "memory"))
@@ -347,6 +362,7 @@ fn bad_arguments(rt: HostRuntime) {
     for args in lists {
         // A fault of the arguments is found before the text is read.
         let case = Case {
+            name: "bad arguments",
             args,
             text: b"#",
             failing_read: 1,
@@ -357,6 +373,7 @@ fn bad_arguments(rt: HostRuntime) {
     for list in BAD_LISTS.lines() {
         let args = [list];
         let case = Case {
+            name: list,
             args: &args,
             text: b"#",
             failing_read: 1,
@@ -370,7 +387,7 @@ fn bad_arguments(rt: HostRuntime) {
 fn failing_streams(rt: HostRuntime) {
     let text = b"func { b0(): a = const 1; ret a }";
     let printed = "func { b0(): v0 = const 1; ret v0 }|unchanged|";
-    let mut case = propagation(text);
+    let mut case = propagation("a failing stream", text);
     // 33 bytes come by five reads, and a sixth says that none is left.
     for kth in 1..7u32 {
         case.failing_read = kth;

@@ -14,6 +14,4 @@ mod lines;
 mod nest;
 pub mod promise;
 #[cfg(test)]
-mod start;
-#[cfg(test)]
 mod texts;

@@ -1,4 +1,5 @@
-//! A dialect with the operations of `Bench`, whose checks find more faults.
+//! A dialect with the operations of `Bench`, whose checks find more faults. No table says so: the checks of a dialect
+//! by tables or roles find none.
 ghost use Rattle.std.specs.Prelude.{◌≡◌, MatchResult, ⊤};
 ghost use Rattle.pliron_core.specs.Tree.{IsLive};
 ghost use Rattle.pliron_laws.specs.declared.fault.OptError.TheVariants.{Pass as Code};

@@ -1,15 +1,16 @@
 //! How often propagation pops something off a worklist, on the made texts and on those of what is deferred and
 //! of what is entered whole.
 //!
-//! The counts were found by a plain program over lattice values by name, `docs/benchmarks/plain_counts.py`,
-//! which shares with the crate only the order of work: last in, first out, blocks before values, and these
-//! before what is deferred. Without the last rule it counts 39 on the third text of `ASIDE`.
-use super::cases::{ASIDE, ENTERED};
+//! The counts are found by a plain search, `tools/expected/worklists.py`, which shares with the crate only the order
+//! of work: last in, first out, blocks before values, and these before what is deferred. Without the last rule it
+//! counts 39 on the third text of `DEFERRED`.
+use super::cases::{DEFERRED, ENTERED};
 use super::random_cases::MADE;
 use pliron_bench::Bench;
 use pliron_core::Context;
 use pliron_notation::read_text;
 use pliron_sccp::sccp_counted;
+use pliron_test_cases::cases::case_of;
 use std::alloc::Global;
 use std::process::Abort;
 use std::test::Fail;
@@ -24,17 +25,17 @@ static COUNTS: &str = "\
 12 9 6 8 9 8 13 11 10 8 9 8 7 8 12 16 11 14 13 17 \
 16 7 17 15 18 12 6 12 8 7 13 12 8 11 12 15 5 17 7 16";
 
-static ASIDE_COUNTS: &str = "42 17 31 33 21 38 22 18 42";
+static DEFERRED_COUNTS: &str = "42 17 31 33 21 38 22 18 42";
 
 static ENTERED_COUNTS: &str = "27 19 18 16 27";
 
-// The text of a line: behind the answer and three numbers, before the arrow.
+// The text of a line: behind the name, the answer and three numbers, before the arrow.
 fn text_of(line: &str) -> Option<&str> {
-    let (before, _) = line.split_once(" => ")?;
-    let (_, rest) = before.split_once(" ")?;
-    let (_, rest) = rest.split_once(" ")?;
-    let (_, rest) = rest.split_once(" ")?;
-    let (_, text) = rest.split_once(" ")?;
+    let mut text = case_of(line)?.text;
+    for _ in 0..3 {
+        let (_, rest) = text.split_once(" ")?;
+        text = rest;
+    }
     Some(text)
 }
 
@@ -81,7 +82,7 @@ fn made_texts_are_counted(rt: HostRuntime) -> Result<(), Fail> {
 
 #[test]
 fn what_is_put_aside_is_counted(rt: HostRuntime) -> Result<(), Fail> {
-    count_each(&rt, rt.alloc(), ASIDE, ASIDE_COUNTS)
+    count_each(&rt, rt.alloc(), DEFERRED, DEFERRED_COUNTS)
 }
 
 #[test]

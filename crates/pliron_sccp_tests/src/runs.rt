@@ -5,6 +5,7 @@ use pliron_core::{Context, Operation, Ptr};
 use pliron_evaluator::evaluator::{Datum, Sight, evaluate};
 use pliron_notation::read_text;
 use pliron_sccp::sccp;
+use pliron_test_cases::cases::case_of;
 use std::alloc::{AllocError, Global};
 use std::process::Abort;
 use std::test::Fail;
@@ -68,13 +69,13 @@ fn compare_text(
     compare(rt, alloc, &mut ctx, text, inputs, world)
 }
 
-// The text of a line, before the arrow and after the answer and the counts.
+// The text of a line, behind the counts.
 fn text_of(line: &str) -> Result<&str, Fail> {
-    let Some((before, _)) = line.split_once(" => ") else {
-        return Err(Fail::from("no arrow"));
+    let Some(case) = case_of(line) else {
+        return Err(Fail::from("no case"));
     };
-    let mut rest = before;
-    for _ in 0..4 {
+    let mut rest = case.text;
+    for _ in 0..3 {
         match rest.split_once(" ") {
             Some((_, behind)) => rest = behind,
             None => return Err(Fail::from("no text")),

@@ -3,94 +3,92 @@ ghost use Rattle.pliron_bench.specs.BenchMoves.{bench};
 ghost use Rattle.pliron_core.specs.Tree.{IsLive};
 ghost use Rattle.pliron_laws.specs.Linked.{IsWellLinked};
 
-use super::cases::{ASIDE, ENTERED, HOSTILE, ROWS};
+use super::cases::{DEFERRED, ENTERED, HOSTILE, ROWS};
 use super::random_cases::MADE;
 use pliron_bench::Bench;
 use pliron_core::{Context, IRStatus, Operation, Ptr};
 use pliron_notation::{print_text, read_text};
 use pliron_sccp::{sccp, sccp_counted};
+use pliron_test_cases::cases::{Case, case_of};
 use std::alloc::Global;
 use std::process::Abort;
 use std::test::Fail;
 
-// The word before the first blank, as a number, and what stands behind it.
-fn number_before(text: &str) -> Result<(u128, &str), Fail> {
+// The number of the first word, behind this label and `=`, and what stands behind the word.
+fn number_before<'t>(text: &'t str, label: &str) -> Result<(u128, &'t str), Fail> {
     let Some((word, rest)) = text.split_once(" ") else {
         return Err(Fail::from("no number"));
     };
-    match word.parse::<u64>() {
-        Ok(number) => Ok((number as u128, rest)),
-        Err(_) => Err(Fail::from("no number")),
+    match word.split_once("=") {
+        Some((first, digits)) if first == label => match digits.parse::<u64>() {
+            Ok(number) => Ok((number as u128, rest)),
+            Err(_) => Err(Fail::from("no number")),
+        },
+        _ => Err(Fail::from("no label")),
     }
 }
 
 // What the case says of its text.
 #[derive(Drop)]
-struct Case<'a> {
-    status: IRStatus,
+struct Counted<'a> {
+    case: Case<'a>,
     blocks: u128,
     constants: u128,
     others: u128,
-    text: &'a str,
-    after: &'a str,
-}
-
-fn status_of(answer: &str) -> IRStatus {
-    if answer == "C" {
-        IRStatus::Changed
-    } else {
-        IRStatus::Unchanged
-    }
 }
 
 fn read_case(line: &str) -> Result<Case<'_>, Fail> {
-    let Some((before, after)) = line.split_once(" => ") else {
-        return Err(Fail::from("no arrow"));
-    };
-    let Some((answer, rest)) = before.split_once(" ") else {
-        return Err(Fail::from("no answer"));
-    };
-    let status = status_of(answer);
-    let (blocks, rest) = number_before(rest)?;
-    let (constants, rest) = number_before(rest)?;
-    let (others, text) = number_before(rest)?;
-    Ok(Case {
-        status,
+    match case_of(line) {
+        Some(case) => Ok(case),
+        None => Err(Fail::from("no case")),
+    }
+}
+
+fn read_counted(line: &str) -> Result<Counted<'_>, Fail> {
+    let case = read_case(line)?;
+    let (blocks, rest) = number_before(case.text, "blocks")?;
+    let (constants, rest) = number_before(rest, "constants")?;
+    let (others, text) = number_before(rest, "others")?;
+    Ok(Counted {
+        case: Case { text, ..case },
         blocks,
         constants,
         others,
-        text,
-        after,
     })
 }
 
-fn check_in(rt: &impl Abort, alloc: Global, ctx: &mut Context, case: &Case) -> Result<(), Fail> {
-    let text = case.text;
-    let Some(root) = read_text(alloc, text.as_bytes(), ctx)? else {
+fn check_in(
+    rt: &impl Abort,
+    alloc: Global,
+    ctx: &mut Context,
+    counted: &Counted,
+) -> Result<(), Fail> {
+    let (case, name) = (&counted.case, counted.case.name);
+    let Some(root) = read_text(alloc, case.text.as_bytes(), ctx)? else {
         return Err(Fail::from("unreadable"));
     };
     let (status, pops) = sccp_counted::<Bench>(alloc, root, ctx)?;
     let printed = print_text(alloc, root, ctx)?;
-    assert_eq!(rt; printed.as_str(), case.after, "{text}");
-    assert!(rt; status == case.status, "{text}");
-    let least = case
+    assert_eq!(rt; printed.as_str(), case.after, "{name}");
+    assert!(rt; status == case.status(), "{name}");
+    let least = counted
         .blocks
-        .saturating_add(case.constants)
-        .saturating_add(case.others);
-    assert!(rt; least <= pops, "{text}");
-    assert!(rt; pops <= least.saturating_add(case.others), "{text}");
+        .saturating_add(counted.constants)
+        .saturating_add(counted.others);
+    assert!(rt; least <= pops, "{name}");
+    assert!(rt; pops <= least.saturating_add(counted.others), "{name}");
     Ok(())
 }
 
-fn check(rt: &impl Abort, alloc: Global, case: &Case) -> Result<(), Fail> {
+fn check(rt: &impl Abort, alloc: Global, counted: &Counted) -> Result<(), Fail> {
     let mut ctx = Context::new(alloc);
-    check_in(rt, alloc, &mut ctx, case)
+    check_in(rt, alloc, &mut ctx, counted)
 }
 
 #[test]
 fn rows(rt: HostRuntime) -> Result<(), Fail> {
     for line in ROWS.lines() {
-        check(&rt, rt.alloc(), &read_case(line)?)?;
+        check(&rt, rt.alloc(), &read_counted(line)?)?;
     }
     Ok(())
 }
@@ -98,16 +96,16 @@ fn rows(rt: HostRuntime) -> Result<(), Fail> {
 #[test]
 fn made_texts(rt: HostRuntime) -> Result<(), Fail> {
     for line in MADE.lines() {
-        check(&rt, rt.alloc(), &read_case(line)?)?;
+        check(&rt, rt.alloc(), &read_counted(line)?)?;
     }
     Ok(())
 }
 
 // Operations with more operands than what is visited at once.
 #[test]
-fn what_is_put_aside(rt: HostRuntime) -> Result<(), Fail> {
-    for line in ASIDE.lines() {
-        check(&rt, rt.alloc(), &read_case(line)?)?;
+fn what_is_deferred(rt: HostRuntime) -> Result<(), Fail> {
+    for line in DEFERRED.lines() {
+        check(&rt, rt.alloc(), &read_counted(line)?)?;
     }
     Ok(())
 }
@@ -116,7 +114,7 @@ fn what_is_put_aside(rt: HostRuntime) -> Result<(), Fail> {
 #[test]
 fn what_is_entered_whole(rt: HostRuntime) -> Result<(), Fail> {
     for line in ENTERED.lines() {
-        check(&rt, rt.alloc(), &read_case(line)?)?;
+        check(&rt, rt.alloc(), &read_counted(line)?)?;
     }
     Ok(())
 }
@@ -141,31 +139,26 @@ fn left_of(
     Ok(print_text(alloc, whole, ctx)?)
 }
 
-fn hostile_in(rt: &impl Abort, alloc: Global, ctx: &mut Context, line: &str) -> Result<(), Fail> {
-    let Some((before, after)) = line.split_once(" => ") else {
-        return Err(Fail::from("no arrow"));
-    };
-    let Some((answer, text)) = before.split_once(" ") else {
-        return Err(Fail::from("no answer"));
-    };
-    let Some(root) = read_text(alloc, text.as_bytes(), ctx)? else {
+fn hostile_in(rt: &impl Abort, alloc: Global, ctx: &mut Context, case: &Case) -> Result<(), Fail> {
+    let name = case.name;
+    let Some(root) = read_text(alloc, case.text.as_bytes(), ctx)? else {
         return Err(Fail::from("unreadable"));
     };
-    let printed = left_of(rt, alloc, ctx, root, root, status_of(answer))?;
-    assert_eq!(rt; printed.as_str(), after, "{text}");
+    let printed = left_of(rt, alloc, ctx, root, root, case.status())?;
+    assert_eq!(rt; printed.as_str(), case.after, "{name}");
     Ok(())
 }
 
-fn hostile(rt: &impl Abort, alloc: Global, line: &str) -> Result<(), Fail> {
+fn hostile(rt: &impl Abort, alloc: Global, case: &Case) -> Result<(), Fail> {
     let mut ctx = Context::new(alloc);
-    hostile_in(rt, alloc, &mut ctx, line)
+    hostile_in(rt, alloc, &mut ctx, case)
 }
 
 // Roots whose runs are not defined.
 #[test]
 fn hostile_texts(rt: HostRuntime) -> Result<(), Fail> {
     for line in HOSTILE.lines() {
-        hostile(&rt, rt.alloc(), line)?;
+        hostile(&rt, rt.alloc(), &read_case(line)?)?;
     }
     Ok(())
 }

@@ -1,17 +1,54 @@
 //! How cases are read. A case is a line, with what is asked to the left of ` => ` and the answer to its
-//! right; fields are set apart by `/`.
+//! right; fields are set apart by `/`, and a name stands before ` -- `.
 ghost use Rattle.std.specs.Prelude.{IfSome};
 ghost use Rattle.pliron_core.specs.Tree.{IsLive};
 ghost use Rattle.pliron_laws.specs.Linked.{IsWellLinked};
 ghost use Rattle.pliron_bench.specs.BenchMoves.{bench};
 
-use pliron_core::{AttrObj, BasicBlock, Context, Operation, Ptr, Text};
+use pliron_core::{AttrObj, BasicBlock, Context, IRStatus, Operation, Ptr, Text};
 use pliron_meaning::bench::{print_text, read_text};
 use std::alloc::{AllocError, Global};
 
 /// Both sides of a case. Cost: linear in the line.
 pub fn sides<'t>(line: &'t str) -> Option<(&'t str, &'t str)> {
     line.split_once(" => ")
+}
+
+/// A case of a table of texts: a line `NAME -- ANSWER TEXT => AFTER`.
+#[derive(Clone, Copy)]
+pub struct Case<'t> {
+    /// What a failure prints.
+    pub name: &'t str,
+    /// `C` of a text that changes, `U` of one that doesn't, `R` of one that a call refuses.
+    pub answer: &'t str,
+    /// The text, behind what else is said of it.
+    pub text: &'t str,
+    /// What is left of the text.
+    pub after: &'t str,
+}
+
+impl Case<'_> {
+    /// What a call answers that doesn't refuse. Cost: constant.
+    pub fn status(&self) -> IRStatus {
+        if self.answer == "C" {
+            IRStatus::Changed
+        } else {
+            IRStatus::Unchanged
+        }
+    }
+}
+
+/// The case of a line, if it is one. Cost: linear in the line.
+pub fn case_of<'t>(line: &'t str) -> Option<Case<'t>> {
+    let (name, case) = line.split_once(" -- ")?;
+    let (before, after) = sides(case)?;
+    let (answer, text) = before.split_once(' ')?;
+    Some(Case {
+        name,
+        answer,
+        text,
+        after,
+    })
 }
 
 /// The first two fields. Cost: linear in the case.

@@ -1,5 +1,4 @@
 //! Runs of operations of the dialect `Bench` on numbers, and what is seen of them before and after a rewrite.
-use crate::cases::sides;
 use pliron_core::{Context, Operation, Ptr};
 use pliron_meaning::bench::Bench;
 use pliron_meaning::evaluator::{Datum, Sight, evaluate};
@@ -60,14 +59,4 @@ pub fn are_kept(before: &[Sight], after: &[Sight]) -> bool {
         }
     }
     true
-}
-
-/// The text of a case, which stands behind so many words and before the arrow. Cost: linear in the case.
-pub fn text_behind<'t>(case: &'t str, words: usize) -> Option<&'t str> {
-    let (mut text, _) = sides(case)?;
-    for _ in 0..words {
-        let (_, rest) = text.split_once(' ')?;
-        text = rest;
-    }
-    Some(text)
 }

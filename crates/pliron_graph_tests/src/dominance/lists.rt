@@ -2,7 +2,8 @@
 //! takes the first successor first comes to them, then its dominators from it up.
 ghost use Rattle.std.specs.Prelude.{Contains};
 
-use crate::dominance::cases::{graph_of, push, push_label, rows_of};
+use crate::cases::{graph_of, rows_of};
+use crate::texts::{push, push_label};
 use pliron_dominance::DominatorTree;
 use pliron_graph::ReverseGraph;
 use pliron_traversal::{ControlFlowGraph, HasLabel};

@@ -1,7 +1,7 @@
 //! Deep and wide graphs of 20,000 nodes.
 ghost use Rattle.pliron_traversal.specs.Adjacency.{AreInverse};
 
-use crate::dominance::cases::graph_of;
+use crate::cases::graph_of;
 use pliron_dominance::DominatorTree;
 use std::alloc::Global;
 use std::process::Abort;

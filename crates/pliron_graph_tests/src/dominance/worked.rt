@@ -1,7 +1,8 @@
 //! Worked graphs: of each node its immediate dominator, `-` for the entry and `?` where it isn't reached.
 ghost use Rattle.std.specs.Prelude.{Contains};
 
-use crate::dominance::cases::{graph_of, push, push_label, rows_of};
+use crate::cases::{graph_of, rows_of};
+use crate::texts::{push, push_label};
 use pliron_dominance::DominatorTree;
 use pliron_graph::ReverseGraph;
 use pliron_traversal::{ControlFlowGraph, HasLabel};

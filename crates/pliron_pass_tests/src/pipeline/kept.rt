@@ -1,5 +1,5 @@
-//! What stays, over well-defined texts made at random by a program outside this repository: the runs of
-//! each function before and after, compared by the evaluator, and each cached fact, compared with one that
+//! What stays, over well-defined texts made at random, with no answers to be made beforehand: the runs of each
+//! function before and after, compared by the evaluator, and each cached fact, compared with one that
 //! is computed anew.
 ghost use Rattle.pliron_core.specs.Tree.{IsLive};
 ghost use Rattle.pliron_laws.specs.Linked.{IsWellLinked};

@@ -100,6 +100,8 @@ fn fold_and_sweep(
     Ok(Some(print_text(alloc, root, ctx)?))
 }
 
+mod trees;
+
 fn starts_in(rt: &impl Abort, alloc: Global, ctx: &mut Context) {
     let root = six_by_seven(alloc, ctx).expect(rt, "memory");
     let before = sight_of_run(alloc, root, ctx).expect(rt, "memory");

@@ -1,80 +1,14 @@
-//! docs/TREES.md and docs/START.md: a tree that is made, read and rewritten by calls.
+//! docs/TREES.md: a tree that is made, read and rewritten by calls.
 ghost use Rattle.pliron_core.specs.Tree.{IsLive};
 
+use super::{append, constant, first_result, function, six_by_seven};
 use pliron_bench::BenchKind;
-use pliron_bench::heads::{attribute_head, plain_head};
-use pliron_core::{
-    AttrObj, BasicBlock, Context, Def, Head, IRRewriter, Operation, Ptr, Rewriter, Value,
-};
+use pliron_bench::heads::plain_head;
+use pliron_core::{AttrObj, Context, Def, Head, IRRewriter, Operation, Ptr, Rewriter, Value};
 use pliron_notation::print_text;
 use pliron_walks::Contents;
 use std::alloc::Global;
 use std::process::Abort;
-
-/// A new function with one empty block.
-fn function(alloc: Global, ctx: &mut Context) -> Option<(Ptr<Operation>, Ptr<BasicBlock>)> {
-    let func = Operation::create(ctx, plain_head(alloc, BenchKind::Func), 0, 1).ok()?;
-    if !func.is_live(ctx) || func.num_region(ctx) == 0 {
-        return None;
-    }
-    let region = func.get_region(ctx, 0);
-    let block = BasicBlock::create(ctx, region, 0).ok()?;
-    Some((func, block))
-}
-
-/// A new last operation of the block, with these operands and so many results.
-fn append(
-    ctx: &mut Context,
-    block: Ptr<BasicBlock>,
-    head: Head,
-    operands: &[Value],
-    results: usize,
-) -> Option<Ptr<Operation>> {
-    let op = Operation::create(ctx, head, results, 0).ok()?;
-    for value in operands {
-        if !op.is_live(ctx) || !value.is_live(ctx) {
-            return None;
-        }
-        Operation::push_operand(ctx, op, *value).ok()?;
-    }
-    if !op.is_live(ctx) || !block.is_live(ctx) || op.holds_block(block, ctx) {
-        return None;
-    }
-    IRRewriter::new().move_operation_to_end(ctx, op, block);
-    Some(op)
-}
-
-/// The first result of the operation.
-fn first_result(op: Ptr<Operation>, ctx: &Context) -> Option<Value> {
-    if !op.is_live(ctx) || op.num_result(ctx) == 0 {
-        return None;
-    }
-    Some(op.get_result(ctx, 0))
-}
-
-/// The result of a new constant, last in the block.
-fn constant(
-    alloc: Global,
-    ctx: &mut Context,
-    block: Ptr<BasicBlock>,
-    number: i128,
-) -> Option<Value> {
-    let head = attribute_head(alloc, BenchKind::Const, AttrObj::Int(number)).ok()?;
-    let op = append(ctx, block, head, &[], 1)?;
-    first_result(op, ctx)
-}
-
-/// A function that returns six by seven.
-fn six_by_seven(alloc: Global, ctx: &mut Context) -> Option<Ptr<Operation>> {
-    let (func, block) = function(alloc, ctx)?;
-    let six = constant(alloc, ctx, block, 6)?;
-    let seven = constant(alloc, ctx, block, 7)?;
-    let mul = plain_head(alloc, BenchKind::Mul);
-    let product = append(ctx, block, mul, &[six, seven], 1)?;
-    let product = first_result(product, ctx)?;
-    append(ctx, block, plain_head(alloc, BenchKind::Ret), &[product], 0)?;
-    Some(func)
-}
 
 /// Whether the operation is of this kind.
 fn is_kind(op: Ptr<Operation>, kind: BenchKind, ctx: &Context) -> bool {
