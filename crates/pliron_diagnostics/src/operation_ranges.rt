@@ -1,4 +1,4 @@
-//! The source ranges of the operations of a text.
+//! Where the operations of a text stand.
 ghost use Rattle.std.specs.Prelude.{◌<◌, length};
 
 use crate::layout::{begins_block, is_blank};
@@ -58,8 +58,8 @@ impl OperationScan {
     }
 }
 
-/// The source range of each operation, in parse order: first that of the text's operation, and then those inside it,
-/// as they are written, which is the order in which `read_text` makes them.
+/// Where the operations of a text stand that the notation has: first that of the text, and then those inside it,
+/// in the order in which they are written, which is the order in which `read_text` makes them.
 ///
 /// Errors: allocation failure. Cost: linear in the text.
 pub fn operation_places(alloc: Global, text: &[u8]) -> Result<Vec<OperationRange>, AllocError> {
