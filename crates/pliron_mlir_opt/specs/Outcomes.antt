@@ -1,10 +1,10 @@
 -- How a run of the program ends.
-use Rattle.std.specs.Prelude.{◌≡◌, ◌≤◌, ◌⊎◌, ℕ, Bool, false, List, [], ◌++◌, Option, None}
+use Rattle.std.specs.Prelude.{◌≡◌, ◌≤◌, ◌⊎◌, ℕ, Bool, true, false, List, [], ◌++◌, Option, None}
 use Rattle.pliron_core.specs.Tree.{Tree}
 use Rattle.pliron_core.specs.declared.attrs.IRStatus.{IRStatus}
 use Rattle.pliron_laws.specs.Datum.{Meaning}
 use Rattle.pliron_opts.specs.Answered.{Reads, Prints, IsOptimised, status_line}
-use Rattle.pliron_instrument.specs.PipelineWords.{Plans}
+use Rattle.pliron_opts.specs.PipelineTexts.{Plans}
 use Rattle.pliron_instrument.specs.Schedules.{ScheduleOf, IsPlanned}
 use Rattle.pliron_mlir_opt.specs.declared.outcome.Outcome.{Outcome}
 
@@ -35,7 +35,7 @@ pub data EndsByPlan {P D E B K : Type 0} (name : P → List ℕ) (EndsSo : Sched
 -- the word is empty, and asks for no pass; or it plans passes of these names
 pub data AsksFor (word : List ℕ) : Option ℕ → Bool → List (List ℕ) → Type 0 where
   Nothing : word ≡ [] → AsksFor word None false []
-  Passes : (runs : Option ℕ) (nested : Bool) (names : List (List ℕ)) → Plans word runs nested names → AsksFor word runs nested names
+  Passes : (runs : Option ℕ) (nested : Bool) (names : List (List ℕ)) → Plans true word runs nested names → AsksFor word runs nested names
 
 -- it ends so by passes that the word asks for, or nothing is to be written
 pub data EndsByWord {P D E B K : Type 0} (name : P → List ℕ) (EndsSo : ScheduleOf P D E B K → Outcome → Type 0) (word : List ℕ) (o : Outcome) : Type 0 where
