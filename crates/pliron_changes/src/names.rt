@@ -2,7 +2,7 @@
 //! make.
 use crate::definition_order::DefinitionOrder;
 use pliron_core::{BasicBlock, Context, Operation, Ptr, Value};
-use pliron_graphviz::TextParts;
+use pliron_diagnostics::TextParts;
 use pliron_laws::reads::all_operands;
 use pliron_walks::Contents;
 use std::alloc::{AllocError, Global};

@@ -2,9 +2,8 @@
 //! counts.
 use crate::shown::Shown;
 use pliron_core::{BasicBlock, Context, Def, Operation, Ptr, Region, Value};
-use pliron_diagnostics::{Source, SourceMark, mark_source_as};
+use pliron_diagnostics::{Source, SourceMark, TextPart, TextParts, mark_source_as};
 use pliron_fit::Violation;
-use pliron_graphviz::{TextPart, TextParts};
 use pliron_laws::{Dialect, OptError};
 use std::alloc::{AllocError, Global};
 

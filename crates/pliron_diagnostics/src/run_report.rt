@@ -5,8 +5,9 @@ ghost use Rattle.pliron_laws.specs.Machine.{run, sight_after as sight_seen};
 ghost use Rattle.pliron_bench.specs.BenchMoves.{bench};
 ghost use Rattle.pliron_evaluator.specs.Evaluator.{datum_of_value, sight_of};
 
-use crate::operation_ranges::{OperationRange, operation_places, place_of};
+use crate::operation_ranges::{operation_places, place_of};
 use crate::source_mark::{Source, SourceMark, mark_source_as, push_bytes};
+use crate::text_parts::TextPart;
 use crate::trap_reason::{TrapReason, reason_by_kind, reason_of};
 use pliron_bench::Bench;
 use pliron_core::{Context, Operation, Ptr};
@@ -174,7 +175,7 @@ fn write_moves(
     report: &mut String,
     source: &Source,
     root: Ptr<Operation>,
-    places: &[OperationRange],
+    places: &[TextPart],
     moves: &[Noted],
 ) -> Result<(), AllocError> {
     for noted in moves {

@@ -2,10 +2,10 @@
 ghost use Rattle.pliron_core.specs.Tree.{IsLive};
 
 use crate::pass_list::PassList;
-use crate::text_parts::{TextParts, push_on_one_line};
 use pliron_bench::BenchKind;
 use pliron_bench::tables::kind_at;
 use pliron_core::{Context, Def, Operation, Ptr, Value};
+use pliron_diagnostics::{TextParts, push_on_one_line};
 use pliron_pipeline::PassName;
 use pliron_walks::Contents;
 use std::alloc::{AllocError, Global};

@@ -1,10 +1,10 @@
 //! Why operations and arguments changed or went, by what a rewrite does and what stood before it.
 ghost use Rattle.pliron_core.specs.Tree.{IsBlock, IsDefined, IsLive};
 
-use crate::text_parts::{TextPart, TextParts, push_on_one_line};
 use crate::tree_state::{BlockState, OperationState, TreeState};
 use pliron_bench::BenchKind;
 use pliron_core::{BasicBlock, Context, Def, Operation, Ptr, Value};
+use pliron_diagnostics::{TextPart, TextParts, push_on_one_line};
 use pliron_notation::printed::number_of;
 use std::alloc::{AllocError, Global};
 use std::collections::HashMap;
