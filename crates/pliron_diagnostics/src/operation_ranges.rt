@@ -4,7 +4,7 @@ use crate::text_parts::{TextPart, parts_of};
 use pliron_core::{Operation, Ptr};
 use std::alloc::{AllocError, Global};
 
-/// The part as far as it is on its first line.
+// The part as far as it is on its first line.
 fn on_first_line(text: &[u8], part: TextPart) -> TextPart {
     let bytes = part.of(text);
     let end = bytes
