@@ -65,7 +65,7 @@ fn at<'a>(alloc: Global) -> Arg<'a> {
     )
 }
 
-/// The flags that each command with a text has.
+// The flags that each command with a text has.
 fn with_common<'a>(command: Command<'a>, alloc: Global) -> Result<Command<'a>, AllocError> {
     command.arg(at(alloc))?.arg(format(alloc))
 }
@@ -153,7 +153,7 @@ static STATS: &str =
      operands that are another value or were taken out count as changed; blocks and arguments that only stood \
      before it were erased";
 
-/// The flags of what `opt` tells of trees on standard error.
+// The flags of what `opt` tells of trees on standard error.
 fn with_prints<'a>(command: Command<'a>, alloc: Global) -> Result<Command<'a>, AllocError> {
     command
         .arg(flag(
@@ -191,7 +191,7 @@ fn with_prints<'a>(command: Command<'a>, alloc: Global) -> Result<Command<'a>, A
         .conflicts_with("keep-names")?)
 }
 
-/// The flags of what `opt` looks at, and of where it stops.
+// The flags of what `opt` looks at, and of where it stops.
 fn with_reports<'a>(command: Command<'a>, alloc: Global) -> Result<Command<'a>, AllocError> {
     command
         .arg(flag(
@@ -343,7 +343,7 @@ fn explain<'a>(alloc: Global) -> Result<Command<'a>, AllocError> {
     with_common(explain, alloc)
 }
 
-/// The command with one more under it, if that could be made.
+// The command with one more under it, if that could be made.
 fn with<'a>(
     command: Command<'a>,
     inner: Result<Command<'a>, AllocError>,

@@ -18,14 +18,14 @@ pub fn width_of(columns: Option<&str>) -> usize {
     }
 }
 
-/// How many blanks the text begins with.
+// How many blanks the text begins with.
 fn leading_blanks(line: &str) -> usize {
     line.len()
         .saturating_sub(line.trim_start_matches(' ').len())
 }
 
-/// At which column the lines go on that a long line is broken into: that of what is said of an option, behind at least
-/// two blanks, or that of the line itself.
+// At which column the lines go on that a long line is broken into: that of what is said of an option, behind at least
+// two blanks, or that of the line itself.
 fn indent_of(line: &str) -> usize {
     let start = leading_blanks(line);
     let words = line.trim_start_matches(' ');
@@ -38,7 +38,7 @@ fn indent_of(line: &str) -> usize {
     }
 }
 
-/// Adds so many blanks.
+// Adds so many blanks.
 fn push_blanks(text: &mut String, count: usize) -> Result<(), AllocError> {
     for _ in 0..count {
         text.push(' ')?;
@@ -46,7 +46,7 @@ fn push_blanks(text: &mut String, count: usize) -> Result<(), AllocError> {
     Ok(())
 }
 
-/// Adds a line, broken between words so that each part has at most so many letters, where the words allow it.
+// Adds a line, broken between words so that each part has at most so many letters, where the words allow it.
 fn push_line(text: &mut String, line: &str, width: usize) -> Result<(), AllocError> {
     if line.len() <= width {
         text.push_str(line)?;

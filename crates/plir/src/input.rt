@@ -15,7 +15,7 @@ pub struct Input {
     part: Option<TextRange>,
 }
 
-/// The bytes of the file, or of standard input where it is called `-`. Errors: those of the file. Cost: linear in it.
+// The bytes of the file, or of standard input where it is called `-`. Errors: those of the file. Cost: linear in it.
 fn bytes_of(rt: &HostRuntime, name: &str) -> io::Result<Vec<u8>> {
     if name != "-" {
         return fs::read(rt, name);
@@ -41,8 +41,8 @@ pub fn read_graph_input(rt: &HostRuntime, name: &str) -> io::Result<Input> {
     })
 }
 
-/// The bytes without the one that some editors put before each end of a line. Errors: allocation failure. Cost: linear
-/// in them.
+// The bytes without the one that some editors put before each end of a line. Errors: allocation failure. Cost: linear
+// in them.
 fn without_returns(alloc: Global, bytes: &[u8]) -> Result<Vec<u8>, AllocError> {
     let mut text = Vec::with_capacity(alloc, bytes.len())?;
     for at in 0..bytes.len() {

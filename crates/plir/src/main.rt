@@ -26,7 +26,7 @@ use std::env;
 use std::io::{self, ErrorKind};
 use std::process::ExitCode;
 
-/// The numbers that an option was given.
+// The numbers that an option was given.
 fn numbers(alloc: Global, matches: &ArgMatches, id: &str) -> io::Result<Vec<i64>> {
     let mut numbers = Vec::new(alloc);
     if let Some(words) = matches.get_strs(id) {
@@ -37,7 +37,7 @@ fn numbers(alloc: Global, matches: &ArgMatches, id: &str) -> io::Result<Vec<i64>
     Ok(numbers)
 }
 
-/// Runs the text so, before and after these passes.
+// Runs the text so, before and after these passes.
 fn compare_as_asked<'w>(
     alloc: Global,
     source: &Source,
@@ -64,7 +64,7 @@ impl EffectSink for Effects<'_> {
     }
 }
 
-/// Runs the text as the words ask, or before and after passes.
+// Runs the text as the words ask, or before and after passes.
 fn run_as_asked(rt: &HostRuntime, source: &Source, matches: &ArgMatches) -> io::Result<Outcome> {
     let alloc = rt.alloc();
     let inputs = numbers(alloc, matches, "input")?;
@@ -82,7 +82,7 @@ fn run_as_asked(rt: &HostRuntime, source: &Source, matches: &ArgMatches) -> io::
     }
 }
 
-/// The file that the answer goes to, where it isn't standard output.
+// The file that the answer goes to, where it isn't standard output.
 fn output_file<'a>(matches: &ArgMatches<'a>) -> Option<&'a str> {
     match matches.get_str("output") {
         Some("-") => None,
@@ -90,7 +90,7 @@ fn output_file<'a>(matches: &ArgMatches<'a>) -> Option<&'a str> {
     }
 }
 
-/// Draws the region that the words ask for.
+// Draws the region that the words ask for.
 fn draw_as_asked(alloc: Global, source: &Source, matches: &ArgMatches) -> io::Result<Outcome> {
     let options = FlowOptions {
         region: matches.get_str("region").unwrap_or("0"),
@@ -102,7 +102,7 @@ fn draw_as_asked(alloc: Global, source: &Source, matches: &ArgMatches) -> io::Re
     Ok(draw_flow(alloc, source, &options)?)
 }
 
-/// Tells what the passes did.
+// Tells what the passes did.
 fn explain_as_asked(
     alloc: Global,
     source: &Source,
@@ -117,7 +117,7 @@ fn explain_as_asked(
     Ok(explain(alloc, source, &options)?)
 }
 
-/// The outcome of a command that can't read its input: what went wrong is told.
+// The outcome of a command that can't read its input: what went wrong is told.
 fn input_failure(alloc: Global, report: String) -> Outcome {
     Outcome {
         output: Vec::new(alloc),
@@ -126,7 +126,7 @@ fn input_failure(alloc: Global, report: String) -> Outcome {
     }
 }
 
-/// What the command makes of its input.
+// What the command makes of its input.
 fn outcome_of_text(
     rt: &HostRuntime,
     command: &str,
@@ -149,7 +149,7 @@ fn outcome_of_text(
     }
 }
 
-/// What the command makes of its input, or why that can't be read.
+// What the command makes of its input, or why that can't be read.
 fn outcome(rt: &HostRuntime, command: &str, matches: &ArgMatches) -> io::Result<Outcome> {
     let alloc = rt.alloc();
     let (_, name) = pipeline_and_file(alloc, matches)?;
@@ -189,8 +189,8 @@ simplify-cfg  simplification of control flow
 cse           common subexpression elimination
 ";
 
-/// Writes the answer of the command, and answers the status: to the file that is named, or to standard output. A file
-/// that is named is left as it is where there is no answer.
+// Writes the answer of the command, and answers the status: to the file that is named, or to standard output. A file
+// that is named is left as it is where there is no answer.
 fn write_outcome(rt: &HostRuntime, outcome: &Outcome, file: Option<&str>) -> io::Result<u8> {
     let Some(file) = file else {
         write_answer(rt, &outcome.output)?;
@@ -209,7 +209,7 @@ fn write_outcome(rt: &HostRuntime, outcome: &Outcome, file: Option<&str>) -> io:
     }
 }
 
-/// The form of what is told that the words ask for.
+// The form of what is told that the words ask for.
 fn form_of(matches: &ArgMatches) -> MessageForm {
     match matches.get_str("format") {
         Some("short") => MessageForm::Short,
@@ -218,7 +218,7 @@ fn form_of(matches: &ArgMatches) -> MessageForm {
     }
 }
 
-/// Does what the command asks for, and answers its status.
+// Does what the command asks for, and answers its status.
 fn act(rt: &HostRuntime, command: &str, matches: &ArgMatches) -> io::Result<u8> {
     if command == "opt" && matches.get_flag("list-passes") {
         write_answer(rt, PASS_LIST.as_bytes())?;
@@ -230,7 +230,7 @@ fn act(rt: &HostRuntime, command: &str, matches: &ArgMatches) -> io::Result<u8> 
     write_outcome(rt, &outcome, output_file(matches))
 }
 
-/// Does what the words ask for, and answers its status.
+// Does what the words ask for, and answers its status.
 fn act_on(rt: &HostRuntime, matches: &ArgMatches) -> u8 {
     let Some((command, inner)) = matches.subcommand() else {
         return 2;
@@ -248,8 +248,8 @@ fn act_on(rt: &HostRuntime, matches: &ArgMatches) -> u8 {
     }
 }
 
-/// Writes what is wrong with the words, or the help that they ask for, in the width of the terminal, and answers the
-/// status.
+// Writes what is wrong with the words, or the help that they ask for, in the width of the terminal, and answers the
+// status.
 fn write_usage(rt: &HostRuntime, error: &Error) -> io::Result<u8> {
     let columns = env::var(rt, "COLUMNS").ok();
     let width = width_of(columns.as_deref());
@@ -263,7 +263,7 @@ fn write_usage(rt: &HostRuntime, error: &Error) -> io::Result<u8> {
     Ok(0)
 }
 
-/// The words of the program, of which the first is its name. Errors: a word that isn't UTF-8; allocation failure.
+// The words of the program, of which the first is its name. Errors: a word that isn't UTF-8; allocation failure.
 fn program_words(rt: &HostRuntime) -> io::Result<Vec<String>> {
     let alloc = rt.alloc();
     let mut words = Vec::new(alloc);

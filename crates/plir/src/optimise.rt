@@ -56,13 +56,13 @@ struct AnswerOptions {
     tells_trees: bool,
 }
 
-/// Whether standard output is a terminal, and the answer goes there.
+// Whether standard output is a terminal, and the answer goes there.
 fn is_on_terminal(rt: &HostRuntime, matches: &ArgMatches) -> bool {
     let to_output = matches!(matches.get_str("output"), None | Some("-"));
     to_output && rt.stdout().is_terminal()
 }
 
-/// What the words ask for beside the answer of the passes.
+// What the words ask for beside the answer of the passes.
 fn answer_options(rt: &HostRuntime, matches: &ArgMatches) -> AnswerOptions {
     let on_terminal = is_on_terminal(rt, matches);
     let numbers = matches.get_flag("number-names");
@@ -77,7 +77,7 @@ fn answer_options(rt: &HostRuntime, matches: &ArgMatches) -> AnswerOptions {
     }
 }
 
-/// Whether standard error takes colours.
+// Whether standard error takes colours.
 fn is_coloured(rt: &HostRuntime, matches: &ArgMatches) -> bool {
     match matches.get_str("color") {
         Some("always") => true,
@@ -86,7 +86,7 @@ fn is_coloured(rt: &HostRuntime, matches: &ArgMatches) -> bool {
     }
 }
 
-/// The words that an option was given.
+// The words that an option was given.
 fn words<'a>(alloc: Global, matches: &ArgMatches<'a>, id: &str) -> io::Result<Vec<&'a str>> {
     let mut words = Vec::new(alloc);
     if let Some(given) = matches.get_strs(id) {
@@ -97,7 +97,7 @@ fn words<'a>(alloc: Global, matches: &ArgMatches<'a>, id: &str) -> io::Result<Ve
     Ok(words)
 }
 
-/// Runs these passes on the text.
+// Runs these passes on the text.
 fn opt_instrumented<'w>(
     rt: &HostRuntime,
     source: &Source,
@@ -118,8 +118,8 @@ fn opt_instrumented<'w>(
     Ok(opt_with_check::<BenchNotation, _>(rt.alloc(), source, &options, is_strict, terminal)?)
 }
 
-/// Runs these passes one by one, and tells what the words ask for between them; `None` of words or a text that can't be
-/// used.
+// Runs these passes one by one, and tells what the words ask for between them; `None` of words or a text that can't be
+// used.
 fn stages(
     rt: &HostRuntime,
     text: &[u8],
@@ -150,8 +150,8 @@ fn stages(
     }
 }
 
-/// The outcome with what is told of the passes one by one before the rest, and an answer that keeps the names of the
-/// text where that is asked for.
+// The outcome with what is told of the passes one by one before the rest, and an answer that keeps the names of the
+// text where that is asked for.
 fn join_stages(
     alloc: Global,
     whole: Outcome,
@@ -188,7 +188,7 @@ fn join_stages(
     }
 }
 
-/// The pipeline that the words ask for, cut where they say so.
+// The pipeline that the words ask for, cut where they say so.
 fn pipeline_of(alloc: Global, matches: &ArgMatches, word: &str) -> io::Result<String> {
     let pipeline = without_blanks(alloc, word)?;
     match matches.get_one::<usize>("stop-after") {

@@ -24,7 +24,7 @@ pub fn write_report(rt: &HostRuntime, report: &str) {
     let _ = eprint!(rt; "{report}");
 }
 
-/// Writes the answer to a new file with these permissions.
+// Writes the answer to a new file with these permissions.
 fn write_new_file(
     rt: &HostRuntime,
     path: &str,
@@ -39,8 +39,8 @@ fn write_new_file(
     file.sync_all()
 }
 
-/// Puts the answer in the place of the file: it is written beside it, and then gets its name. After an error the file
-/// stands as before.
+// Puts the answer in the place of the file: it is written beside it, and then gets its name. After an error the file
+// stands as before.
 fn replace_file(
     rt: &HostRuntime,
     path: &str,

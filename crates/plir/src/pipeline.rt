@@ -3,7 +3,7 @@ use clap::ArgMatches;
 use pliron_cli::{PipelineText, PlanError};
 use std::alloc::{AllocError, Global};
 
-/// Whether blanks beside the letter say nothing.
+// Whether blanks beside the letter say nothing.
 fn is_separator(letter: char) -> bool {
     matches!(letter, ',' | '(' | ')' | '<' | '>' | ':')
 }
@@ -29,7 +29,7 @@ pub fn without_blanks(alloc: Global, pipeline: &str) -> Result<String, AllocErro
     Ok(text)
 }
 
-/// Whether the argument is a pipeline.
+// Whether the argument is a pipeline.
 fn is_pipeline(alloc: Global, argument: &str) -> Result<bool, AllocError> {
     let text = without_blanks(alloc, argument)?;
     match PipelineText::read(alloc, text.as_str()) {

@@ -28,8 +28,8 @@ abbrev pub number_of_change : IRStatus → ℕ
 number_of_change Changed = 1
 number_of_change Unchanged = 0
 
--- the word asks for a schedule of passes, the answer is what these make of the module, printed, and the number says truly
--- whether that changed
+-- the word asks for a schedule of passes, the answer is what these make of the module, printed, and the number says
+-- whether a pass changed it
 pub record OptimisesModule {P D E B K : Type 0} (name : P → List ℕ) (reads : Reads) (prints : Prints) (m : Meaning) (ran : ScheduleOf P D E B K → ℕ → Tree → Tree → IRStatus → Type 0) (word text : List ℕ) (changed : ℕ) (answer : List ℕ) : Type 0 where
   pub schedule : ScheduleOf P D E B K
   pub asked : IsAsked name word schedule

@@ -42,7 +42,7 @@ struct Fault {
     expected: String,
 }
 
-/// The first place at which the text leaves the notation or is too long. Errors: allocation failure.
+// The first place at which the text leaves the notation or is too long. Errors: allocation failure.
 fn fault_of(alloc: Global, text: &[u8]) -> Result<Option<Fault>, Failure>
     ensures within { IfOk result (λ found. IfSome found (λ fault. fault.start + fault.len ≤ length text.now)) }
     ensures memory { IfErr result (λ failure. failure ≡ Failure.Memory) }
@@ -65,7 +65,7 @@ fn fault_of(alloc: Global, text: &[u8]) -> Result<Option<Fault>, Failure>
     }
 }
 
-/// The part of so many bytes after these.
+// The part of so many bytes after these.
 fn place_in(text: &[u8], start: usize, len: usize) -> Place
     requires { start + len ≤ length text.now }
     ensures { IsPartOf text.now result }
@@ -79,7 +79,7 @@ fn place_in(text: &[u8], start: usize, len: usize) -> Place
     }
 }
 
-/// Tells the place of what was found in the text, and puts what was to stand there into the buffer.
+// Tells the place of what was found in the text, and puts what was to stand there into the buffer.
 fn tell_fault(
     found: Result<Option<Fault>, Failure>,
     text: &[u8],
@@ -127,8 +127,8 @@ pub fn find_fault_into(
     tell_fault(fault_of(alloc, text), text, output, needed, place)
 }
 
-/// The first place at which the text leaves MLIR's generic form, or asks for what a dialect doesn't admit, or is too
-/// long. Errors: allocation failure.
+// The first place at which the text leaves MLIR's generic form, or asks for what a dialect doesn't admit, or is too
+// long. Errors: allocation failure.
 fn fault_of_module<D: Dialect>(alloc: Global, text: &[u8]) -> Result<Option<Fault>, Failure>
     ensures within { IfOk result (λ found. IfSome found (λ fault. fault.start + fault.len ≤ length text.now)) }
     ensures memory { IfErr result (λ failure. failure ≡ Failure.Memory) }
@@ -144,7 +144,7 @@ fn fault_of_module<D: Dialect>(alloc: Global, text: &[u8]) -> Result<Option<Faul
     fault_of_module_in::<D>(alloc, text, &mut ctx)
 }
 
-/// The same, by reading it into a context.
+// The same, by reading it into a context.
 fn fault_of_module_in<D: Dialect>(
     alloc: Global,
     text: &[u8],

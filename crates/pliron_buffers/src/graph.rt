@@ -7,7 +7,7 @@ use crate::status::{Failure, Status};
 use pliron_opts::{MAX_TEXT, describe_graph};
 use std::alloc::Global;
 
-/// What the program describes of a graph. Errors: the text is no graph or too long; allocation failure.
+// What the program describes of a graph. Errors: the text is no graph or too long; allocation failure.
 fn answer_of_graph(alloc: Global, text: &[u8]) -> Result<String, Failure>
     ensures { IfErr result (λ failure. failure ≢ Failure.Arguments) }
 {

@@ -13,7 +13,7 @@ use pliron_opts::{MAX_TEXT, Notation, Schedule, optimise_text, plan_schedule};
 use pliron_pass::{BenchFactKind, BenchFacts, Pass};
 use std::alloc::Global;
 
-/// The schedule that the list plans. Errors: the list isn't one of names of passes; allocation failure.
+// The schedule that the list plans. Errors: the list isn't one of names of passes; allocation failure.
 fn schedule_of<D: Dialect>(alloc: Global, list: &[u8]) -> Result<Schedule<D, BenchFacts>, Failure>
     ensures planned { IfOk result (λ schedule. IsPlanned list.now schedule) }
     ensures failure { IfErr result (λ failure. (failure ≡ Failure.Arguments) ⊎ (failure ≡ Failure.Memory)) }
@@ -27,9 +27,9 @@ fn schedule_of<D: Dialect>(alloc: Global, list: &[u8]) -> Result<Schedule<D, Ben
     }
 }
 
-/// What the passes make of the text, printed.
-///
-/// Errors: the text is outside the notation or too long; those of the passes; allocation failure.
+// What the passes make of the text, printed.
+//
+// Errors: the text is outside the notation or too long; those of the passes; allocation failure.
 fn answer_of<N: Notation>(
     alloc: Global,
     schedule: Schedule<N::D, BenchFacts>,

@@ -29,8 +29,8 @@ pub type ModulePass<N> = Instrumented<N, Timeless>;
 /// Passes that a word asks for.
 pub type ModuleSchedule<N> = InstrumentedSchedule<N, Timeless>;
 
-/// The passes that the word asks for: of an empty one, none. Errors: it isn't a list of names of passes; allocation
-/// failure.
+// The passes that the word asks for: of an empty one, none. Errors: it isn't a list of names of passes; allocation
+// failure.
 fn plan_of<'w>(alloc: Global, word: &'w [u8]) -> Result<PipelineText<'w>, Failure>
     ensures asked { IfOk result (λ plan. AsksFor word.now plan.runs plan.nested
         (map (λ name. name.now) plan.names.items)) }
@@ -46,7 +46,7 @@ fn plan_of<'w>(alloc: Global, word: &'w [u8]) -> Result<PipelineText<'w>, Failur
     }
 }
 
-/// The schedule that the word asks for. Errors: it isn't a list of names of passes; allocation failure.
+// The schedule that the word asks for. Errors: it isn't a list of names of passes; allocation failure.
 fn schedule_of<N: ModuleNotation>(alloc: Global, word: &[u8]) -> Result<ModuleSchedule<N>, Failure>
     ensures asked { IfOk result (IsAsked ⟦<ModulePass<N> as Pass>⟧.name word.now) }
     ensures failure { IfErr result (λ failure. (failure ≡ Failure.Arguments) ⊎ (failure ≡ Failure.Memory)) }
@@ -64,9 +64,9 @@ fn schedule_of<N: ModuleNotation>(alloc: Global, word: &[u8]) -> Result<ModuleSc
     }
 }
 
-/// What the passes make of the module, printed, and whether it changed.
-///
-/// Errors: the text is outside the generic form or too long; those of the passes; allocation failure.
+// What the passes make of the module, printed, and whether it changed.
+//
+// Errors: the text is outside the generic form or too long; those of the passes; allocation failure.
 fn run_schedule<N: ModuleNotation>(
     alloc: Global,
     schedule: &mut ModuleSchedule<N>,
@@ -94,14 +94,14 @@ fn run_schedule<N: ModuleNotation>(
     }
 }
 
-/// Whether memory was refused for what is noted of a pass, with which `plir_mlir` gives no answer either.
+// Whether memory was refused for what is noted of a pass, with which `plir_mlir` gives no answer either.
 fn lacks_a_record<N: ModuleNotation>(schedule: &ModuleSchedule<N>) -> bool {
     instrumented_passes(schedule)
         .iter()
         .any(|pass| pass.run_record().is_short)
 }
 
-/// What the passes that the word asks for make of the module, printed, and whether it changed.
+// What the passes that the word asks for make of the module, printed, and whether it changed.
 fn optimise_module<N: ModuleNotation>(
     alloc: Global,
     word: &[u8],
@@ -117,7 +117,7 @@ fn optimise_module<N: ModuleNotation>(
     run_schedule::<N>(alloc, &mut schedule, text)
 }
 
-/// The number by which other languages know whether a tree changed.
+// The number by which other languages know whether a tree changed.
 fn change_number(status: IRStatus) -> u32
     ensures { result ≡ number_of_change status }
 {

@@ -30,7 +30,7 @@ struct Waiting {
 }
 
 impl Waiting {
-    /// The operations come next, in order.
+    // The operations come next, in order.
     fn push_operations(&mut self, operations: &[Ptr<Operation>]) -> Result<(), AllocError> {
         for op in operations.iter().rev() {
             self.items.push(TextItem::Operation(*op))?;
@@ -38,7 +38,7 @@ impl Waiting {
         Ok(())
     }
 
-    /// The blocks come next, in order.
+    // The blocks come next, in order.
     fn push_blocks(&mut self, blocks: &[Ptr<BasicBlock>]) -> Result<(), AllocError> {
         for block in blocks.iter().rev() {
             self.items.push(TextItem::Block(*block))?;
@@ -48,7 +48,7 @@ impl Waiting {
 }
 
 impl DefinitionOrder {
-    /// Adds values to the function that is written.
+    // Adds values to the function that is written.
     fn add_values(&mut self, values: &[Value]) -> Result<(), AllocError> {
         if let Some(function) = self.functions.last_mut() {
             for value in values {
@@ -58,7 +58,7 @@ impl DefinitionOrder {
         Ok(())
     }
 
-    /// Adds an operation; its blocks come next.
+    // Adds an operation; its blocks come next.
     fn add_operation(
         &mut self,
         alloc: Global,
@@ -84,7 +84,7 @@ impl DefinitionOrder {
         Ok(())
     }
 
-    /// Adds a block; its operations come next.
+    // Adds a block; its operations come next.
     fn add_block(
         &mut self,
         alloc: Global,
@@ -101,7 +101,7 @@ impl DefinitionOrder {
         waiting.push_operations(&operations)
     }
 
-    /// Adds what comes next.
+    // Adds what comes next.
     fn add_item(
         &mut self,
         alloc: Global,

@@ -10,7 +10,7 @@ use pliron_laws::OptError;
 use pliron_opts::Notation;
 use std::alloc::{AllocError, Global};
 
-/// Whether the text is read as an operation that is printed as this answer, in this empty context.
+// Whether the text is read as an operation that is printed as this answer, in this empty context.
 #[tactic(auto, using(crate::proofs::AnswerLemmas::reads_as))]
 fn reads_as_in<N: Notation>(
     alloc: Global,
@@ -31,7 +31,7 @@ fn reads_as_in<N: Notation>(
     Ok(true)
 }
 
-/// The same in a context of its own.
+// The same in a context of its own.
 fn reads_as<N: Notation>(alloc: Global, text: &str, answer: &str) -> Result<bool, OptError>
     ensures { IfOk result (λ is. IsTrue is → ReadsAs N.reads N.prints answer.now text.now) }
 {
@@ -39,7 +39,7 @@ fn reads_as<N: Notation>(alloc: Global, text: &str, answer: &str) -> Result<bool
     reads_as_in::<N>(alloc, text, answer, &mut ctx)
 }
 
-/// The text, over several lines or as it is.
+// The text, over several lines or as it is.
 fn lay_out(alloc: Global, text: &str, is_pretty: bool) -> Result<Vec<u8>, AllocError>
     ensures { IfOk result (λ output. without_blanks output.items ≡ without_blanks text.now) }
 {

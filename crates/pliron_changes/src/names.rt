@@ -2,7 +2,7 @@
 //! make.
 use crate::definition_order::DefinitionOrder;
 use pliron_core::{BasicBlock, Context, Operation, Ptr, Value};
-use pliron_graphviz::TextParts;
+use pliron_diagnostics::TextParts;
 use pliron_laws::reads::all_operands;
 use pliron_walks::Contents;
 use std::alloc::{AllocError, Global};
@@ -50,7 +50,7 @@ pub struct Names<'t> {
     last_numbers: HashMap<String, usize>,
 }
 
-/// The bytes as a word.
+// The bytes as a word.
 fn word_of(alloc: Global, bytes: &[u8]) -> Result<String, AllocError> {
     let mut word = String::new(alloc);
     for byte in bytes {
@@ -59,7 +59,7 @@ fn word_of(alloc: Global, bytes: &[u8]) -> Result<String, AllocError> {
     Ok(word)
 }
 
-/// The name that the head of a block begins with.
+// The name that the head of a block begins with.
 fn name_of_head(head: &[u8]) -> &[u8] {
     let end = head
         .iter()
@@ -89,7 +89,7 @@ impl<'t> Names<'t> {
         })
     }
 
-    /// A name that nothing has, after this one: it and a number behind it.
+    // A name that nothing has, after this one: it and a number behind it.
     fn fresh(&mut self, base: &str) -> Result<String, AllocError> {
         let key = String::from_str(self.alloc, base)?;
         let mut number = self.last_numbers.get(&key).copied().unwrap_or(0);
@@ -127,12 +127,12 @@ impl<'t> Names<'t> {
         }
     }
 
-    /// Whether the value has a name.
+    // Whether the value has a name.
     fn has_name(&self, value: Value) -> bool {
         self.parts.value(value.key()).is_some() || self.values.contains_key(&value)
     }
 
-    /// Names a value that stands where another one stood.
+    // Names a value that stands where another one stood.
     fn name_after(&mut self, old: Value, new: Value) -> Result<(), AllocError> {
         if self.has_name(new) {
             return Ok(());
@@ -144,7 +144,7 @@ impl<'t> Names<'t> {
         Ok(())
     }
 
-    /// Names the values that the operation takes now for others.
+    // Names the values that the operation takes now for others.
     fn name_operands(&mut self, ctx: &Context, before: &OperandsBefore) -> Result<(), AllocError> {
         if !before.op.is_live(ctx) {
             return Ok(());
@@ -162,7 +162,7 @@ impl<'t> Names<'t> {
         Ok(())
     }
 
-    /// Names all that has no name yet.
+    // Names all that has no name yet.
     fn name_others(&mut self, order: &DefinitionOrder) -> Result<(), AllocError> {
         for function in &order.functions {
             for value in function {

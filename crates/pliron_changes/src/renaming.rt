@@ -19,13 +19,13 @@ struct Renaming<'r> {
     written: String,
 }
 
-/// The number behind the first letter of the word, where that is this one.
+// The number behind the first letter of the word, where that is this one.
 fn number_behind(word: &str, letter: char) -> Option<usize> {
     word.strip_prefix(letter)?.parse::<usize>().ok()
 }
 
 impl Renaming<'_> {
-    /// Writes a word: the other name, where it is that of a value or a block.
+    // Writes a word: the other name, where it is that of a value or a block.
     fn push_word(&mut self, word: &str) -> Result<(), AllocError> {
         if word == "func" {
             self.function = self.function.saturating_add(1);
@@ -39,14 +39,14 @@ impl Renaming<'_> {
         self.written.push_str(word)
     }
 
-    /// The value that the word stands for.
+    // The value that the word stands for.
     fn value_of(&self, word: &str) -> Option<Value> {
         let number = number_behind(word, 'v')?;
         let function = self.order.functions.get(self.function)?;
         function.get(number).copied()
     }
 
-    /// The block that the word stands for.
+    // The block that the word stands for.
     fn block_of(&self, word: &str) -> Option<Ptr<BasicBlock>> {
         let number = number_behind(word, 'b')?;
         let region = self.open.last().copied()?;
@@ -54,7 +54,7 @@ impl Renaming<'_> {
         blocks.get(number).copied()
     }
 
-    /// Writes a sign or a blank.
+    // Writes a sign or a blank.
     fn push_sign(&mut self, sign: char) -> Result<(), AllocError> {
         match sign {
             '{' => {
@@ -69,7 +69,7 @@ impl Renaming<'_> {
         self.written.push(sign)
     }
 
-    /// Writes the printed text.
+    // Writes the printed text.
     fn push_text(&mut self, alloc: Global, printed: &str) -> Result<(), AllocError> {
         let mut word = String::new(alloc);
         for letter in printed.chars() {

@@ -10,8 +10,7 @@ use crate::renaming::rename_text;
 use crate::subjects::{Subject, subjects_of};
 use pliron_bench::Bench;
 use pliron_core::{Context, IRStatus, Operation, Ptr};
-use pliron_diagnostics::pretty;
-use pliron_graphviz::{TextParts, parts_of};
+use pliron_diagnostics::{TextParts, parts_of, pretty};
 use pliron_instrument::PipelineText;
 use pliron_laws::{OptError, is_well_linked};
 use pliron_notation::{print_text, read_text};
@@ -64,12 +63,12 @@ struct StateBefore {
     lines: Option<String>,
 }
 
-/// Whether the name is one of these.
+// Whether the name is one of these.
 fn is_among(name: &str, names: &[&str]) -> bool {
     names.iter().any(|other| *other == name)
 }
 
-/// Whether the tree changed, in a word.
+// Whether the tree changed, in a word.
 fn status_word(status: IRStatus) -> &'static str {
     match status {
         IRStatus::Changed => ": changed",
@@ -78,7 +77,7 @@ fn status_word(status: IRStatus) -> &'static str {
 }
 
 impl Stages<'_> {
-    /// The operation as it is written on one line. Asks that it stands.
+    // The operation as it is written on one line. Asks that it stands.
     fn print(&self, op: Ptr<Operation>, ctx: &Context) -> Result<String, OptError>
         requires { IsLive ctx.now.tree op }
     {
@@ -90,7 +89,7 @@ impl Stages<'_> {
         Ok(rename_text(self.alloc, printed.as_str(), &self.names, &order)?)
     }
 
-    /// The same over several lines.
+    // The same over several lines.
     fn print_lines(&self, op: Ptr<Operation>, ctx: &Context) -> Result<String, OptError>
         requires { IsLive ctx.now.tree op }
     {
@@ -100,7 +99,7 @@ impl Stages<'_> {
         Ok(String::from_str(self.alloc, text)?)
     }
 
-    /// Adds the operation as the options ask for it, and an end of a line.
+    // Adds the operation as the options ask for it, and an end of a line.
     fn push_tree(&mut self, op: Ptr<Operation>, ctx: &Context) -> Result<(), OptError>
         requires { IsLive ctx.now.tree op }
     {
@@ -113,7 +112,7 @@ impl Stages<'_> {
         Ok(self.report.push_str("\n")?)
     }
 
-    /// Writes which run of which pass it is, and on which operation.
+    // Writes which run of which pass it is, and on which operation.
     fn push_head(
         &mut self,
         when: &str,
@@ -128,7 +127,7 @@ impl Stages<'_> {
         write!(self.report, "{status}\n")
     }
 
-    /// Tells the operation before a run, where the options ask for it.
+    // Tells the operation before a run, where the options ask for it.
     fn tell_before(&mut self, name: &str, subject: &Subject, ctx: &Context) -> Result<(), OptError>
         requires { IsLive ctx.now.tree subject.now.op }
     {
@@ -140,7 +139,7 @@ impl Stages<'_> {
         self.push_tree(op, ctx)
     }
 
-    /// Tells the operation after a run, where the options ask for it.
+    // Tells the operation after a run, where the options ask for it.
     fn tell_after(
         &mut self,
         name: &str,
@@ -158,7 +157,7 @@ impl Stages<'_> {
         self.push_tree(op, ctx)
     }
 
-    /// Tells which lines a run changed that wrote them so before, where it changed something.
+    // Tells which lines a run changed that wrote them so before, where it changed something.
     fn tell_changes(
         &mut self,
         name: &str,
@@ -181,7 +180,7 @@ impl Stages<'_> {
         Ok(write_changes(&mut self.report, &changes, self.options.is_coloured)?)
     }
 
-    /// What has to be known before a run: the operands, where names are kept, and the lines, where changes are told.
+    // What has to be known before a run: the operands, where names are kept, and the lines, where changes are told.
     fn state_before(&self, op: Ptr<Operation>, ctx: &Context) -> Result<StateBefore, OptError>
         requires { IsLive ctx.now.tree op }
     {
@@ -198,7 +197,7 @@ impl Stages<'_> {
         Ok(StateBefore { operands, lines })
     }
 
-    /// Names what the last run made.
+    // Names what the last run made.
     fn name_new(
         &mut self,
         op: Ptr<Operation>,
@@ -212,7 +211,7 @@ impl Stages<'_> {
         Ok(self.names.extend(ctx, &before.operands, &order)?)
     }
 
-    /// Runs one pass on an operation, where that stands and is well linked.
+    // Runs one pass on an operation, where that stands and is well linked.
     fn stage(
         &mut self,
         name: &str,
@@ -237,7 +236,7 @@ impl Stages<'_> {
         Ok(status)
     }
 
-    /// Runs the passes in turn on each of the operations.
+    // Runs the passes in turn on each of the operations.
     fn run_once(
         &mut self,
         plan: &PipelineText,
@@ -253,7 +252,7 @@ impl Stages<'_> {
         Ok(status)
     }
 
-    /// Runs the passes that the plan asks for, as often as it does.
+    // Runs the passes that the plan asks for, as often as it does.
     fn run(
         &mut self,
         plan: &PipelineText,
@@ -271,7 +270,7 @@ impl Stages<'_> {
         Ok(())
     }
 
-    /// The operation with the names of the text, where the options ask for them.
+    // The operation with the names of the text, where the options ask for them.
     fn named_text(&self, root: Ptr<Operation>, ctx: &Context) -> Result<Option<String>, OptError> {
         if self.options.keeps_names && root.is_live(ctx) {
             Ok(Some(self.print(root, ctx)?))
@@ -281,7 +280,7 @@ impl Stages<'_> {
     }
 }
 
-/// Runs the passes on the operation that was read from the text, which has these parts.
+// Runs the passes on the operation that was read from the text, which has these parts.
 fn stage_operation(
     alloc: Global,
     text: &[u8],
@@ -312,7 +311,7 @@ fn stage_operation(
     })
 }
 
-/// The same of a text, in this empty context.
+// The same of a text, in this empty context.
 fn run_stages_in(
     alloc: Global,
     text: &[u8],

@@ -46,8 +46,8 @@ pub fn check_text<N: Notation>(
     }
 }
 
-/// What is told of what keeps the text's operation from being fit to run: `Some(None)` where nothing does, and `None`
-/// of an unreadable text. Errors: allocation failure. Cost: reading, and that of `find_violation`.
+// What is told of what keeps the text's operation from being fit to run: `Some(None)` where nothing does, and `None`
+// of an unreadable text. Errors: allocation failure. Cost: reading, and that of `find_violation`.
 pub(crate) fn find_message<N: Shown>(
     alloc: Global,
     source: &Source,
@@ -60,7 +60,7 @@ pub(crate) fn find_message<N: Shown>(
     find_message_in::<N>(alloc, source, &mut ctx)
 }
 
-/// The same in this context.
+// The same in this context.
 #[tactic(auto, using(crate::proofs::CommandLemmas::fit_when, crate::proofs::CommandLemmas::unfit_when))]
 fn find_message_in<N: Shown>(
     alloc: Global,

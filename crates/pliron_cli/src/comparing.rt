@@ -49,14 +49,14 @@ enum Likeness {
     Different,
 }
 
-/// The effects of a run, latest first.
+// The effects of a run, latest first.
 fn effects(sight: &Sight) -> &[Datum] {
     match sight {
         Sight::Ended(_, effects) | Sight::Trapped(effects) | Sight::Reached(effects) => effects,
     }
 }
 
-/// Whether the one list of effects, latest first, began with the other.
+// Whether the one list of effects, latest first, began with the other.
 fn begins_with(effects: &[Datum], first: &[Datum]) -> bool {
     match effects.len().checked_sub(first.len()) {
         Some(more) => effects.get(more..) == Some(first),
@@ -64,7 +64,7 @@ fn begins_with(effects: &[Datum], first: &[Datum]) -> bool {
     }
 }
 
-/// Whether the run was cut off.
+// Whether the run was cut off.
 fn is_cut_off(sight: &Sight) -> bool
     ensures { result ≡ was_cut_off sight.now }
 {
@@ -74,7 +74,7 @@ fn is_cut_off(sight: &Sight) -> bool
     }
 }
 
-/// Whether both runs ended or trapped, and the same is seen of them.
+// Whether both runs ended or trapped, and the same is seen of them.
 #[tactic(auto, using(crate::proofs::CommandLemmas::cut_before, crate::proofs::CommandLemmas::cut_after, crate::proofs::CommandLemmas::compared_whole))]
 fn is_same(sights: &Sights) -> bool
     ensures { result ≡ are_same ⟦<Sight as PartialEq>⟧.eq sights.now }
@@ -88,7 +88,7 @@ fn is_same(sights: &Sights) -> bool
     sights.before == sights.after
 }
 
-/// Whether one run was cut off, and nothing that was seen until then differs.
+// Whether one run was cut off, and nothing that was seen until then differs.
 fn is_same_so_far(sights: &Sights) -> bool {
     let (before, after) = (effects(&sights.before), effects(&sights.after));
     match (is_cut_off(&sights.before), is_cut_off(&sights.after)) {
@@ -99,7 +99,7 @@ fn is_same_so_far(sights: &Sights) -> bool {
     }
 }
 
-/// What the runs have to do with one another.
+// What the runs have to do with one another.
 fn likeness_of(sights: &Sights) -> Likeness
     ensures { IsLikeness ⟦<Sight as PartialEq>⟧.eq sights.now result }
 {
@@ -140,7 +140,7 @@ pub fn compare_text<N: Shown>(
     Ok(Some(Sights { before, after }))
 }
 
-/// The last line of what is written.
+// The last line of what is written.
 fn line_of(likeness: Likeness) -> &'static str
     ensures { result.now ≡ last_line likeness }
 {
@@ -151,7 +151,7 @@ fn line_of(likeness: Likeness) -> &'static str
     }
 }
 
-/// What is seen: once where it is the same of both.
+// What is seen: once where it is the same of both.
 fn seen_text(alloc: Global, sights: &Sights, likeness: Likeness) -> Result<String, AllocError> {
     let before = sight_text(alloc, &sights.before)?;
     match likeness {
@@ -163,7 +163,7 @@ fn seen_text(alloc: Global, sights: &Sights, likeness: Likeness) -> Result<Strin
     }
 }
 
-/// What is written of the runs: what is seen, and whether it is the same.
+// What is written of the runs: what is seen, and whether it is the same.
 #[tactic(auto, using(crate::proofs::CommandLemmas::ends_with))]
 fn comparison_text(
     alloc: Global,
@@ -177,7 +177,7 @@ fn comparison_text(
     Ok(text.into_bytes())
 }
 
-/// The status of a command that tells of it.
+// The status of a command that tells of it.
 fn status_of(likeness: Likeness) -> u8
     ensures { result ≡ status_for likeness }
 {
@@ -188,7 +188,7 @@ fn status_of(likeness: Likeness) -> u8
     }
 }
 
-/// The outcome of these runs.
+// The outcome of these runs.
 #[tactic(auto, using(crate::proofs::CommandLemmas::told_likeness))]
 fn outcome_of(alloc: Global, sights: &Sights) -> Result<Outcome, AllocError>
     ensures { IfOk result (λ outcome. Ends (IsTold ⟦<Sight as PartialEq>⟧.eq sights.now outcome.output.items)
@@ -202,7 +202,7 @@ fn outcome_of(alloc: Global, sights: &Sights) -> Result<Outcome, AllocError>
     })
 }
 
-/// Compares runs before and after the passes of the schedule.
+// Compares runs before and after the passes of the schedule.
 #[tactic(auto, using(crate::proofs::CommandLemmas::are_compared))]
 fn compare_in<N: Shown>(
     alloc: Global,
@@ -225,7 +225,7 @@ fn compare_in<N: Shown>(
     }
 }
 
-/// The same in a context of its own.
+// The same in a context of its own.
 fn compare_with<N: Shown>(
     alloc: Global,
     source: &Source,
@@ -242,7 +242,7 @@ fn compare_with<N: Shown>(
     compare_in(alloc, source, options, schedule, &mut ctx)
 }
 
-/// Compares runs before and after the passes that the plan asks for.
+// Compares runs before and after the passes that the plan asks for.
 #[tactic(auto, using(crate::proofs::CommandLemmas::is_planned, crate::proofs::CommandLemmas::no_passes))]
 fn compare_by<N: Shown>(
     alloc: Global,

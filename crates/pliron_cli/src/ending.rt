@@ -18,7 +18,7 @@ pub enum DrawFailure<'w> {
 }
 
 impl DrawFailure<'_> {
-    /// The status that it ends with: 1 where something was refused, and else 2.
+    // The status that it ends with: 1 where something was refused, and else 2.
     fn status(self) -> u8
         ensures { (result ≡ 1) ⊎ (result ≡ 2) }
     {
@@ -28,7 +28,7 @@ impl DrawFailure<'_> {
         }
     }
 
-    /// What is told of it.
+    // What is told of it.
     fn message(self, alloc: Global, source: &Source) -> Result<String, AllocError> {
         match self {
             DrawFailure::Failed(failure) => failure.message(alloc, source),

@@ -10,7 +10,7 @@ use pliron_laws::OptError;
 use pliron_pipeline::PassName;
 use std::alloc::{AllocError, Global};
 
-/// The outcome for these lines.
+// The outcome for these lines.
 fn explanation_outcome(alloc: Global, lines: String) -> Result<Outcome, AllocError>
     ensures { IfOk result (λ outcome. outcome.status ≡ 0) }
 {
@@ -22,7 +22,7 @@ fn explanation_outcome(alloc: Global, lines: String) -> Result<Outcome, AllocErr
     }
 }
 
-/// The passes of these names, if each is the name of one.
+// The passes of these names, if each is the name of one.
 fn passes_of(alloc: Global, names: &[&str]) -> Result<Option<Vec<PassName>>, AllocError>
     ensures { IfOk result (λ found. IfSome found (λ passes. length passes.items ≡ length names.now)) }
 {
@@ -36,7 +36,7 @@ fn passes_of(alloc: Global, names: &[&str]) -> Result<Option<Vec<PassName>>, All
     Ok(Some(passes))
 }
 
-/// The passes that the plan asks for, if each of its names is that of one.
+// The passes that the plan asks for, if each of its names is that of one.
 fn list_of(
     alloc: Global,
     plan: &PipelineText,
@@ -57,7 +57,7 @@ fn list_of(
     }
 }
 
-/// Tells what the passes that the plan asks for did.
+// Tells what the passes that the plan asks for did.
 fn explain_by(
     alloc: Global,
     source: &Source,

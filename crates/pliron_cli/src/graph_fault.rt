@@ -26,7 +26,7 @@ struct Numerals {
     successors: Vec<Numeral>,
 }
 
-/// How many digits the text has from a place on.
+// How many digits the text has from a place on.
 fn digits_at(text: &[u8], start: usize) -> usize {
     let rest = text.get(start..).unwrap_or(b"");
     rest.iter()
@@ -34,7 +34,7 @@ fn digits_at(text: &[u8], start: usize) -> usize {
         .unwrap_or(rest.len())
 }
 
-/// The number that stands there, without a leading zero but in 0.
+// The number that stands there, without a leading zero but in 0.
 fn numeral_at(text: &[u8], start: usize) -> Option<Numeral> {
     let len = digits_at(text, start);
     let digits = text.get(start..)?.get(..len)?;
@@ -49,7 +49,7 @@ fn numeral_at(text: &[u8], start: usize) -> Option<Numeral> {
     Some(Numeral { value, start, len })
 }
 
-/// The fault that this was to stand there.
+// The fault that this was to stand there.
 fn fault_at(text: &[u8], start: usize, expected: &'static str) -> GraphFault {
     let len = digits_at(text, start).max(1);
     GraphFault {
@@ -63,7 +63,7 @@ fn fault_at(text: &[u8], start: usize, expected: &'static str) -> GraphFault {
 static NUMBER: &str = "a number of 32 bits without leading zeros";
 
 impl Numerals {
-    /// Takes in the line that begins there, and answers where it ends. Errors: what is wrong with it.
+    // Takes in the line that begins there, and answers where it ends. Errors: what is wrong with it.
     fn take_line(
         &mut self,
         text: &[u8],
@@ -100,7 +100,7 @@ impl Numerals {
         }
     }
 
-    /// The first number that doesn't fit: a node that had a line before, or a successor that has none.
+    // The first number that doesn't fit: a node that had a line before, or a successor that has none.
     fn first_misfit(&self, alloc: Global) -> Result<Option<GraphFault>, AllocError> {
         let mut lines = HashMap::new(alloc);
         for node in &self.nodes {
@@ -125,7 +125,7 @@ impl Numerals {
     }
 }
 
-/// The first place at which the text is that of no graph.
+// The first place at which the text is that of no graph.
 fn find_fault(alloc: Global, text: &[u8]) -> Result<Option<GraphFault>, AllocError> {
     let mut numerals = Numerals {
         nodes: Vec::new(alloc),

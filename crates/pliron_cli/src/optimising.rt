@@ -32,7 +32,7 @@ pub struct OptOptions<'w> {
     pub times: bool,
 }
 
-/// What is told of a word that plans no passes.
+// What is told of a word that plans no passes.
 fn misspelling_message(alloc: Global, word: &str, fault: &WordFault) -> Result<String, AllocError> {
     let label = format!(in alloc; "expected {}", fault.expected)?;
     let mark = SourceMark {
@@ -62,7 +62,7 @@ pub fn misspelling_outcome(
     })
 }
 
-/// The text with each operation on a line of its own, or as it is.
+// The text with each operation on a line of its own, or as it is.
 fn break_lines(alloc: Global, printed: String, is_pretty: bool) -> Result<Vec<u8>, AllocError>
     ensures { IfOk result (λ output. IsLaidOut (string_bytes printed) output.items) }
 {
@@ -73,7 +73,7 @@ fn break_lines(alloc: Global, printed: String, is_pretty: bool) -> Result<Vec<u8
     }
 }
 
-/// The same and an end of a line.
+// The same and an end of a line.
 #[tactic(auto, using(crate::proofs::CommandLemmas::ended))]
 fn lay_out(alloc: Global, printed: String, is_pretty: bool) -> Result<Vec<u8>, AllocError>
     ensures { IfOk result (λ output. IsLaidOut (string_bytes printed) output.items) }
@@ -83,12 +83,12 @@ fn lay_out(alloc: Global, printed: String, is_pretty: bool) -> Result<Vec<u8>, A
     Ok(output)
 }
 
-/// Whether something is missing in what was noted.
+// Whether something is missing in what was noted.
 fn is_short<N: Notation, C: Progress + Drop>(passes: &[Instrumented<N, C>]) -> bool {
     passes.iter().any(|pass| pass.run_record().is_short)
 }
 
-/// Whether verifying found something.
+// Whether verifying found something.
 fn has_fault<N: Notation, C: Progress + Drop>(passes: &[Instrumented<N, C>]) -> bool {
     passes.iter().any(|pass| pass
         .run_record()
@@ -97,7 +97,7 @@ fn has_fault<N: Notation, C: Progress + Drop>(passes: &[Instrumented<N, C>]) -> 
         .any(|note| note.fault.is_some()))
 }
 
-/// What is told beside the answer.
+// What is told beside the answer.
 fn report_options(options: &OptOptions) -> ReportOptions {
     ReportOptions {
         is_pretty: options.is_pretty,
@@ -107,7 +107,7 @@ fn report_options(options: &OptOptions) -> ReportOptions {
     }
 }
 
-/// The outcome where memory or the passes were refused: what was noted, why, and in which pass.
+// The outcome where memory or the passes were refused: what was noted, why, and in which pass.
 fn refusal_outcome<N: Shown, C: Progress + Drop>(
     alloc: Global,
     mut report: String,
@@ -127,7 +127,7 @@ fn refusal_outcome<N: Shown, C: Progress + Drop>(
     })
 }
 
-/// What these passes make of the text; the report begins with this one.
+// What these passes make of the text; the report begins with this one.
 #[tactic(auto, using(crate::proofs::CommandLemmas::is_made))]
 fn opt_with<N: Shown, C: Progress + Copy + Drop>(
     alloc: Global,
@@ -165,7 +165,7 @@ fn opt_with<N: Shown, C: Progress + Copy + Drop>(
     }
 }
 
-/// What the passes that the plan asks for make of the text; the report begins with this one.
+// What the passes that the plan asks for make of the text; the report begins with this one.
 #[tactic(auto, using(crate::proofs::CommandLemmas::is_planned, crate::proofs::CommandLemmas::no_passes))]
 fn opt_by<N: Shown, C: Progress + Copy + Drop>(
     alloc: Global,
@@ -187,7 +187,7 @@ fn opt_by<N: Shown, C: Progress + Copy + Drop>(
     }
 }
 
-/// What the passes that the word asks for make of the text; the report begins with this one.
+// What the passes that the word asks for make of the text; the report begins with this one.
 #[tactic(auto, using(crate::proofs::CommandLemmas::is_asked, crate::proofs::CommandLemmas::no_plan))]
 pub(crate) fn opt_after<N: Shown, C: Progress + Copy + Drop>(
     alloc: Global,

@@ -25,7 +25,7 @@ struct Named<'n> {
     note: &'n RunNote,
 }
 
-/// The notes of all passes, in the order of the runs.
+// The notes of all passes, in the order of the runs.
 fn notes_in_order<'s, N: Notation, C: Progress + Drop>(
     alloc: Global,
     passes: &'s [Instrumented<N, C>],
@@ -43,7 +43,7 @@ fn notes_in_order<'s, N: Notation, C: Progress + Drop>(
     Ok(notes)
 }
 
-/// Whether the tree changed, in a word.
+// Whether the tree changed, in a word.
 fn status_word(status: IRStatus) -> &'static str {
     match status {
         IRStatus::Changed => "changed",
@@ -51,7 +51,7 @@ fn status_word(status: IRStatus) -> &'static str {
     }
 }
 
-/// Writes the operation after a run, over several lines or on one.
+// Writes the operation after a run, over several lines or on one.
 fn write_printed(
     alloc: Global,
     report: &mut String,
@@ -71,7 +71,7 @@ fn write_printed(
     report.push_str("\n")
 }
 
-/// Writes the operations after the runs after which they were printed.
+// Writes the operations after the runs after which they were printed.
 fn write_trees(
     alloc: Global,
     report: &mut String,
@@ -86,7 +86,7 @@ fn write_trees(
     Ok(())
 }
 
-/// Writes what verifying found after each run, and how often it found nothing.
+// Writes what verifying found after each run, and how often it found nothing.
 fn write_faults(report: &mut String, notes: &[Named]) -> Result<(), AllocError> {
     let mut right: usize = 0;
     for named in notes {
@@ -109,7 +109,7 @@ fn write_faults(report: &mut String, notes: &[Named]) -> Result<(), AllocError> 
     )
 }
 
-/// How many nanoseconds the runs of a pass took.
+// How many nanoseconds the runs of a pass took.
 fn nanos_of(rows: &[RoundRecord]) -> u128 {
     let mut nanos: u128 = 0;
     for row in rows {
@@ -118,7 +118,7 @@ fn nanos_of(rows: &[RoundRecord]) -> u128 {
     nanos
 }
 
-/// Writes a time in milliseconds, and its share of the whole, in percent.
+// Writes a time in milliseconds, and its share of the whole, in percent.
 fn write_time(
     report: &mut String,
     name: &str,
@@ -135,7 +135,7 @@ fn write_time(
     )
 }
 
-/// Writes the time of each pass, with its share of the time of all.
+// Writes the time of each pass, with its share of the time of all.
 fn write_times<N: Notation, C: Progress + Drop>(
     report: &mut String,
     passes: &[Instrumented<N, C>],

@@ -11,7 +11,7 @@ use pliron_laws::OptError;
 use pliron_opts::BenchNotation;
 use std::alloc::{AllocError, Global};
 
-/// The status of a run: 0 where it ended with values, and else 3.
+// The status of a run: 0 where it ended with values, and else 3.
 fn status_of_end(end: End) -> u8
     ensures { (result ≡ 0) ⊎ (result ≡ 3) }
 {
@@ -21,7 +21,7 @@ fn status_of_end(end: End) -> u8
     }
 }
 
-/// The outcome of a run of which this is told.
+// The outcome of a run of which this is told.
 #[tactic(auto, using(crate::proofs::CommandLemmas::ends_by))]
 fn outcome_of_run(
     alloc: Global,

@@ -5,9 +5,8 @@ ghost use Rattle.pliron_laws.specs.Machine.{run, sight_after as seen_of};
 ghost use Rattle.pliron_evaluator.specs.Evaluator.{sight_of};
 
 use pliron_core::{Context, Operation, Ptr};
-use pliron_diagnostics::{RunOptions, Source, run_sight, text_fault};
+use pliron_diagnostics::{RunOptions, Source, TextParts, parts_of, run_sight, text_fault};
 use pliron_evaluator::evaluator::{Notes, Sight};
-use pliron_graphviz::{TextParts, parts_of};
 use pliron_laws::OptError;
 use pliron_opts::{BenchNotation, Notation};
 use std::alloc::{AllocError, Global};

@@ -40,7 +40,7 @@ static REWRITTEN: [&str; 8] = [
     "arguments",
 ];
 
-/// How often the passes went over their operations.
+// How often the passes went over their operations.
 fn rounds<N: Notation, C: Progress + Drop>(passes: &[Instrumented<N, C>]) -> usize {
     match passes.first() {
         Some(pass) => pass.run_record().rows.len(),
@@ -48,7 +48,7 @@ fn rounds<N: Notation, C: Progress + Drop>(passes: &[Instrumented<N, C>]) -> usi
     }
 }
 
-/// What each pass did, round by round.
+// What each pass did, round by round.
 fn work_in_order<'s, N: Notation, C: Progress + Drop>(
     alloc: Global,
     passes: &'s [Instrumented<N, C>],
@@ -68,7 +68,7 @@ fn work_in_order<'s, N: Notation, C: Progress + Drop>(
     Ok(works)
 }
 
-/// A row of heads.
+// A row of heads.
 fn heads(alloc: Global, words: &[&str]) -> Result<Vec<String>, AllocError> {
     let mut row = Vec::new(alloc);
     for word in words {
@@ -77,7 +77,7 @@ fn heads(alloc: Global, words: &[&str]) -> Result<Vec<String>, AllocError> {
     Ok(row)
 }
 
-/// A row that begins with the round and the pass.
+// A row that begins with the round and the pass.
 fn start_row(alloc: Global, work: &PassWork) -> Result<Vec<String>, AllocError> {
     let mut row = Vec::new(alloc);
     row.push(format!(in alloc; "{}", work.round)?)?;
@@ -85,7 +85,7 @@ fn start_row(alloc: Global, work: &PassWork) -> Result<Vec<String>, AllocError> 
     Ok(row)
 }
 
-/// A row of what stood before and after.
+// A row of what stood before and after.
 fn count_row(alloc: Global, work: &PassWork) -> Result<Vec<String>, AllocError> {
     let mut row = start_row(alloc, work)?;
     row.push(format!(in alloc; "{}", work.row.runs)?)?;
@@ -102,7 +102,7 @@ fn count_row(alloc: Global, work: &PassWork) -> Result<Vec<String>, AllocError> 
     Ok(row)
 }
 
-/// A row of what was rewritten.
+// A row of what was rewritten.
 fn rewrite_row(alloc: Global, work: &PassWork) -> Result<Vec<String>, AllocError> {
     let mut row = start_row(alloc, work)?;
     let rewrites = &work.row.compared.rewrites;

@@ -21,8 +21,8 @@ use pliron_laws::{Dialect, OptError};
 use pliron_pass::{BenchFactKind, Pass};
 use std::alloc::{AllocError, Global};
 
-/// Whether the violation is that the operation itself has a region in which definitions need not come before uses, as a
-/// `mod` has, so that what stands directly inside runs by itself.
+// Whether the violation is that the operation itself has a region in which definitions need not come before uses, as a
+// `mod` has, so that what stands directly inside runs by itself.
 fn is_container(violation: &Violation, op: Ptr<Operation>, ctx: &Context) -> bool {
     match violation {
         Violation::NoDominance(region) if region.is_live(ctx) => region.get_parent_op(ctx) == op,
@@ -38,7 +38,7 @@ struct Unchecked {
 }
 
 impl Unchecked {
-    /// Takes in what stands directly inside the operation.
+    // Takes in what stands directly inside the operation.
     fn add_inside(&mut self, op: Ptr<Operation>, ctx: &Context) -> Result<(), AllocError> {
         if !op.is_live(ctx) {
             return Ok(());
@@ -56,8 +56,8 @@ impl Unchecked {
         Ok(())
     }
 
-    /// The first of the operations that isn't fit to run, with what keeps it from that; of a container the first
-    /// directly inside it.
+    // The first of the operations that isn't fit to run, with what keeps it from that; of a container the first
+    // directly inside it.
     fn first_unfit<D: Dialect>(
         &mut self,
         ctx: &Context,
@@ -79,8 +79,8 @@ impl Unchecked {
     }
 }
 
-/// How bad it is that the text isn't fit to run; where each run is verified it is told that it was so before the first
-/// one.
+// How bad it is that the text isn't fit to run; where each run is verified it is told that it was so before the first
+// one.
 fn severity_of(verifies: bool) -> &'static str {
     if verifies {
         "warning: already in the input"
@@ -89,8 +89,8 @@ fn severity_of(verifies: bool) -> &'static str {
     }
 }
 
-/// A warning of what keeps the text's operation from being fit to run, or, of a `mod`, one of its functions; empty
-/// where nothing does, and of an unreadable text. Asks that the context is empty. Errors: allocation failure.
+// A warning of what keeps the text's operation from being fit to run, or, of a `mod`, one of its functions; empty
+// where nothing does, and of an unreadable text. Asks that the context is empty. Errors: allocation failure.
 fn warning_in<N: Shown>(
     alloc: Global,
     source: &Source,
@@ -114,13 +114,13 @@ fn warning_in<N: Shown>(
     }
 }
 
-/// The same in a context of its own.
+// The same in a context of its own.
 fn warning<N: Shown>(alloc: Global, source: &Source, verifies: bool) -> Result<String, OptError> {
     let mut ctx = Context::new(alloc);
     warning_in::<N>(alloc, source, verifies, &mut ctx)
 }
 
-/// Runs the passes where the text's operation is fit to run.
+// Runs the passes where the text's operation is fit to run.
 fn opt_if_fit<N: Shown, C: Progress + Copy + Drop>(
     alloc: Global,
     source: &Source,

@@ -8,7 +8,7 @@ pub struct Table {
     widths: Vec<usize>,
 }
 
-/// Writes a cell at the right of a column, behind two blanks where it isn't the first.
+// Writes a cell at the right of a column, behind two blanks where it isn't the first.
 fn write_cell(
     text: &mut String,
     cell: &str,

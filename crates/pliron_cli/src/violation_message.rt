@@ -2,9 +2,8 @@
 //! counts.
 use crate::shown::Shown;
 use pliron_core::{BasicBlock, Context, Def, Operation, Ptr, Region, Value};
-use pliron_diagnostics::{Source, SourceMark, mark_source_as};
+use pliron_diagnostics::{Source, SourceMark, TextPart, TextParts, mark_source_as};
 use pliron_fit::Violation;
-use pliron_graphviz::{TextPart, TextParts};
 use pliron_laws::{Dialect, OptError};
 use std::alloc::{AllocError, Global};
 
@@ -32,7 +31,7 @@ struct PlainWords {
     help: &'static str,
 }
 
-/// What is said of a violation, whatever the text names.
+// What is said of a violation, whatever the text names.
 fn plain_words(violation: &Violation) -> PlainWords {
     match violation {
         Violation::NotRoot => PlainWords {
@@ -100,7 +99,7 @@ static INVISIBLE: PlainWords = PlainWords {
     help: "a value is visible in its own region and inside that: define it before the operation that holds it",
 };
 
-/// The operation that is wrong.
+// The operation that is wrong.
 fn operation_of(violation: &Violation, root: Ptr<Operation>) -> Ptr<Operation> {
     match violation {
         Violation::NotAdmitted(op)
@@ -115,7 +114,7 @@ fn operation_of(violation: &Violation, root: Ptr<Operation>) -> Ptr<Operation> {
     }
 }
 
-/// The region that the block stands in.
+// The region that the block stands in.
 fn region_around(ctx: &Context, block: Option<Ptr<BasicBlock>>) -> Option<Ptr<Region>> {
     match block {
         Some(block) if block.is_live(ctx) => block.get_parent_region(ctx),
@@ -123,7 +122,7 @@ fn region_around(ctx: &Context, block: Option<Ptr<BasicBlock>>) -> Option<Ptr<Re
     }
 }
 
-/// The region that the value is defined in.
+// The region that the value is defined in.
 fn region_of_value(ctx: &Context, value: Value) -> Option<Ptr<Region>> {
     if !value.is_live(ctx) {
         return None;
@@ -135,7 +134,7 @@ fn region_of_value(ctx: &Context, value: Value) -> Option<Ptr<Region>> {
     }
 }
 
-/// Whether the operation stands, however deep, in the region that the value is defined in.
+// Whether the operation stands, however deep, in the region that the value is defined in.
 fn is_visible(ctx: &Context, op: Ptr<Operation>, value: Value) -> bool {
     let Some(region) = region_of_value(ctx, value) else {
         return false;
@@ -156,7 +155,7 @@ fn is_visible(ctx: &Context, op: Ptr<Operation>, value: Value) -> bool {
     false
 }
 
-/// The operand at this index, if there are so many.
+// The operand at this index, if there are so many.
 fn operand_at(ctx: &Context, op: Ptr<Operation>, index: usize) -> Option<Value> {
     if op.is_live(ctx) && index < op.num_operand(ctx) {
         Some(op.get_operand(ctx, index))
@@ -165,8 +164,8 @@ fn operand_at(ctx: &Context, op: Ptr<Operation>, index: usize) -> Option<Value> 
     }
 }
 
-/// The target of the branch's edge at this index, and how many values the edge forwards, if there is such an edge.
-/// Errors: allocation failure.
+// The target of the branch's edge at this index, and how many values the edge forwards, if there is such an edge.
+// Errors: allocation failure.
 fn edge_of<D: Dialect>(
     alloc: Global,
     ctx: &Context,
@@ -195,7 +194,7 @@ struct ViolationText<'t> {
 }
 
 impl ViolationText<'_> {
-    /// Adds the name of the value in the text.
+    // Adds the name of the value in the text.
     fn push_value(&self, label: &mut String, value: Value) -> Result<(), AllocError> {
         match self.parts.value(value.key()) {
             Some(name) => {
@@ -209,7 +208,7 @@ impl ViolationText<'_> {
         }
     }
 
-    /// Where the value is defined in the text.
+    // Where the value is defined in the text.
     fn definition(&self, value: Value) -> Result<Option<Note>, AllocError> {
         let Some(name) = self.parts.value(value.key()) else {
             return Ok(None);
@@ -223,7 +222,7 @@ impl ViolationText<'_> {
         }))
     }
 
-    /// The words of a violation by an operand: its number, its name, what is said of it, and where it is defined.
+    // The words of a violation by an operand: its number, its name, what is said of it, and where it is defined.
     fn operand_words(
         &self,
         ctx: &Context,
@@ -250,7 +249,7 @@ impl ViolationText<'_> {
         })
     }
 
-    /// The words of an edge with another number of values than its block takes: both counts, and the block.
+    // The words of an edge with another number of values than its block takes: both counts, and the block.
     fn edge_words<D: Dialect>(
         &self,
         ctx: &Context,
@@ -283,7 +282,7 @@ impl ViolationText<'_> {
         })
     }
 
-    /// The words where the text names nothing.
+    // The words where the text names nothing.
     fn words_without_names(&self, plain: PlainWords) -> Result<ViolationWords, AllocError> {
         Ok(ViolationWords {
             message: plain.message,
@@ -293,7 +292,7 @@ impl ViolationText<'_> {
         })
     }
 
-    /// What is said of a violation.
+    // What is said of a violation.
     fn words<D: Dialect>(
         &self,
         ctx: &Context,
@@ -317,7 +316,7 @@ impl ViolationText<'_> {
         })
     }
 
-    /// Adds the note, with a mark under its part.
+    // Adds the note, with a mark under its part.
     fn push_note(&self, message: &mut String, note: &Note) -> Result<(), AllocError> {
         let mark = SourceMark {
             message: note.message.as_str(),

@@ -15,7 +15,7 @@ pub fn without_mark(text: &[u8]) -> &[u8]
     }
 }
 
-/// Whether the byte before this rest belongs to a comment, where the byte before it did or not.
+// Whether the byte before this rest belongs to a comment, where the byte before it did or not.
 fn is_comment(inside: bool, byte: u8, rest: &[u8]) -> bool
     ensures { result ≡ in_comment inside byte rest.now }
 {
@@ -34,7 +34,7 @@ fn is_comment(inside: bool, byte: u8, rest: &[u8]) -> bool
     }
 }
 
-/// The byte as it stands without comments.
+// The byte as it stands without comments.
 fn shown_byte(inside: bool, byte: u8) -> u8
     ensures { result ≡ (if inside then 32 else byte) }
 {

@@ -12,14 +12,14 @@ pub struct TextRange {
     pub len: usize,
 }
 
-/// The byte that stands for one outside: ends of lines stay.
+// The byte that stands for one outside: ends of lines stay.
 fn blank_of(byte: u8) -> u8
     ensures { result ≡ blank_for byte }
 {
     if byte == b'\n' { b'\n' } else { b' ' }
 }
 
-/// Writes blanks for these bytes.
+// Writes blanks for these bytes.
 fn push_blanks(text: &mut Vec<u8>, bytes: &[u8]) -> Result<(), AllocError>
     ensures { OnOk result (text.new.items ≡ text.old.items ++ map blank_for bytes.now) }
 {
@@ -57,7 +57,7 @@ struct InnerScan {
 }
 
 impl InnerScan {
-    /// Takes in the byte after so many, and answers whether the operation of this number ends before it.
+    // Takes in the byte after so many, and answers whether the operation of this number ends before it.
     fn step(&mut self, text: &[u8], at: usize, number: usize) -> bool
         requires { at + 1 ≤ length text.now }
     {
@@ -85,7 +85,7 @@ impl InnerScan {
     }
 }
 
-/// How many bytes are left without the blanks at the end.
+// How many bytes are left without the blanks at the end.
 fn trimmed_len(text: &[u8]) -> usize
     ensures { result ≤ length text.now }
 {
@@ -95,7 +95,7 @@ fn trimmed_len(text: &[u8]) -> usize
     }
 }
 
-/// The operation of this number directly inside the one that the text is, counted over its blocks from 0.
+// The operation of this number directly inside the one that the text is, counted over its blocks from 0.
 fn inner_operation(text: &[u8], number: usize) -> Option<TextRange>
     ensures { IfSome result (λ part. part.start + part.len ≤ length text.now) }
 {

@@ -58,7 +58,7 @@ pub fn begins_block(text: &[u8]) -> bool {
 }
 
 impl Layout {
-    /// Takes in the next byte, with which the rest of the text begins.
+    // Takes in the next byte, with which the rest of the text begins.
     #[tactic(auto, using(crate::proofs::LayoutLemmas::byte_added))]
     fn take(&mut self, byte: u8, rest: &[u8]) -> Result<(), AllocError>
         ensures { OnOk result (without_blanks self.new.text.items ≡ without_blanks self.old.text.items ++ without_blanks
@@ -79,7 +79,7 @@ impl Layout {
         Ok(())
     }
 
-    /// Writes what parts the rest of the text from what stands there.
+    // Writes what parts the rest of the text from what stands there.
     #[tactic(auto, using(crate::proofs::LayoutLemmas::space_added))]
     fn part(&mut self, rest: &[u8]) -> Result<(), AllocError>
         ensures { OnOk result (without_blanks self.new.text.items ≡ without_blanks self.old.text.items) }
@@ -99,7 +99,7 @@ impl Layout {
         }
     }
 
-    /// Begins a line that is indented so deep.
+    // Begins a line that is indented so deep.
     #[tactic(auto, using(crate::proofs::LayoutLemmas::break_added, crate::proofs::LayoutLemmas::indent_added))]
     fn line(&mut self, depth: usize) -> Result<(), AllocError>
         ensures { OnOk result (without_blanks self.new.text.items ≡ without_blanks self.old.text.items) }
@@ -113,7 +113,7 @@ impl Layout {
         Ok(())
     }
 
-    /// Writes the byte, which is no blank, and says what follows it.
+    // Writes the byte, which is no blank, and says what follows it.
     fn put(&mut self, byte: u8) -> Result<(), AllocError>
         ensures { OnOk result (self.new.text.items ≡ self.old.text.items ++ byte ∷ []) }
     {

@@ -14,6 +14,7 @@ mod operation_ranges;
 mod run_report;
 mod source_mark;
 mod streamed_run;
+mod text_parts;
 mod text_tokens;
 mod trap_reason;
 
@@ -22,7 +23,8 @@ pub use fault::text_fault;
 pub use isolated::{TextRange, isolate, operation_range};
 pub use layout::pretty;
 pub use message_form::{MessageForm, in_form};
-pub use operation_ranges::{OperationRange, operation_places, place_of};
+pub use operation_ranges::{operation_places, place_of};
 pub use run_report::{End, RunOptions, RunReport, end_of, run_sight, run_text, sight_text};
 pub use source_mark::{Position, Source, SourceMark, mark_source, mark_source_as, position_of};
 pub use streamed_run::{EffectSink, run_text_streamed};
+pub use text_parts::{TextPart, TextParts, ValueName, forwarded_names, parts_of, push_on_one_line};

@@ -32,7 +32,7 @@ struct Message<'r> {
     help: &'r str,
 }
 
-/// The severity and what is wrong, where the line begins so.
+// The severity and what is wrong, where the line begins so.
 fn beginning(line: &str) -> Option<(&str, &str)> {
     let (severity, message) = line.split_once(": ")?;
     if SEVERITIES.iter().any(|word| *word == severity) {
@@ -42,7 +42,7 @@ fn beginning(line: &str) -> Option<(&str, &str)> {
     }
 }
 
-/// The place that the line tells, if it does.
+// The place that the line tells, if it does.
 fn place_of_line(line: &str) -> Option<(&str, &str, &str)> {
     let place = line.trim_start_matches(' ').strip_prefix("--> ")?;
     let (rest, column) = place.rsplit_once(':')?;
@@ -50,7 +50,7 @@ fn place_of_line(line: &str) -> Option<(&str, &str, &str)> {
     Some((name, number, column))
 }
 
-/// What stands in the frame of a text's line, behind the bar, if the line belongs to it.
+// What stands in the frame of a text's line, behind the bar, if the line belongs to it.
 fn behind_frame(line: &str) -> Option<&str> {
     let (number, rest) = line.split_once('|')?;
     if number
@@ -63,7 +63,7 @@ fn behind_frame(line: &str) -> Option<&str> {
     }
 }
 
-/// The label behind the mark, if the line has one.
+// The label behind the mark, if the line has one.
 fn label_of_line(line: &str) -> Option<&str> {
     let marks = behind_frame(line)?.trim_start_matches(' ');
     let label = marks.trim_start_matches('^');
@@ -74,7 +74,7 @@ fn label_of_line(line: &str) -> Option<&str> {
     }
 }
 
-/// Adds the letters as they stand in a string of JSON.
+// Adds the letters as they stand in a string of JSON.
 fn push_json(text: &mut String, words: &str) -> Result<(), AllocError> {
     text.push('"')?;
     for letter in words.chars() {
@@ -93,7 +93,7 @@ fn push_json(text: &mut String, words: &str) -> Result<(), AllocError> {
 }
 
 impl<'r> Message<'r> {
-    /// A thing of which only this is told so far.
+    // A thing of which only this is told so far.
     fn new(severity: &'r str, message: &'r str) -> Self {
         Message {
             severity,
@@ -104,7 +104,7 @@ impl<'r> Message<'r> {
         }
     }
 
-    /// Takes in a line, and answers whether it belongs to the thing.
+    // Takes in a line, and answers whether it belongs to the thing.
     fn take(&mut self, line: &'r str) -> bool {
         if let Some(place) = place_of_line(line) {
             self.place = Some(place);
@@ -121,7 +121,7 @@ impl<'r> Message<'r> {
         behind_frame(line).is_some()
     }
 
-    /// Writes it on one line, as compilers do.
+    // Writes it on one line, as compilers do.
     fn write_short(&self, text: &mut String) -> Result<(), AllocError> {
         if let Some((name, line, column)) = self.place {
             write!(text, "{name}:{line}:{column}: ")?;
@@ -133,7 +133,7 @@ impl<'r> Message<'r> {
         text.push_str("\n")
     }
 
-    /// Writes it as an object of JSON.
+    // Writes it as an object of JSON.
     fn write_json(&self, text: &mut String) -> Result<(), AllocError> {
         text.push_str("{\"severity\":")?;
         push_json(text, self.severity)?;
@@ -153,7 +153,7 @@ impl<'r> Message<'r> {
         text.push_str("}\n")
     }
 
-    /// Writes it in the form.
+    // Writes it in the form.
     fn write(&self, text: &mut String, form: MessageForm) -> Result<(), AllocError> {
         match form {
             MessageForm::Json => self.write_json(text),
@@ -162,7 +162,7 @@ impl<'r> Message<'r> {
     }
 }
 
-/// Writes the thing that is open in the form, if one is.
+// Writes the thing that is open in the form, if one is.
 fn write_open(
     open: Option<Message>,
     text: &mut String,

@@ -5,8 +5,9 @@ ghost use Rattle.pliron_laws.specs.Machine.{run, sight_after as sight_seen};
 ghost use Rattle.pliron_bench.specs.BenchMoves.{bench};
 ghost use Rattle.pliron_evaluator.specs.Evaluator.{datum_of_value, sight_of};
 
-use crate::operation_ranges::{OperationRange, operation_places, place_of};
+use crate::operation_ranges::{operation_places, place_of};
 use crate::source_mark::{Source, SourceMark, mark_source_as, push_bytes};
+use crate::text_parts::TextPart;
 use crate::trap_reason::{TrapReason, reason_by_kind, reason_of};
 use pliron_bench::Bench;
 use pliron_core::{Context, Operation, Ptr};
@@ -28,7 +29,7 @@ pub struct RunOptions<'w> {
     pub trace: bool,
 }
 
-/// The numbers as data.
+// The numbers as data.
 fn data(alloc: Global, numbers: &[i64]) -> Result<Vec<Datum>, AllocError>
     ensures { IfOk result (λ made. map datum_of_value made.items ≡ map NumberOf numbers.now) }
 {
@@ -39,7 +40,7 @@ fn data(alloc: Global, numbers: &[i64]) -> Result<Vec<Datum>, AllocError>
     Ok(data)
 }
 
-/// Writes a datum: a number, a word, or data in brackets.
+// Writes a datum: a number, a word, or data in brackets.
 fn write_datum(text: &mut String, datum: &Datum) -> Result<(), AllocError> {
     match datum {
         Datum::Empty => text.push_str("()"),
@@ -58,7 +59,7 @@ fn write_datum(text: &mut String, datum: &Datum) -> Result<(), AllocError> {
     }
 }
 
-/// Writes the data of a list, each after a blank.
+// Writes the data of a list, each after a blank.
 fn write_data(text: &mut String, data: &[Datum]) -> Result<(), AllocError> {
     for datum in data {
         text.push_str(" ")?;
@@ -67,7 +68,7 @@ fn write_data(text: &mut String, data: &[Datum]) -> Result<(), AllocError> {
     Ok(())
 }
 
-/// Writes the effects, of which the latest is first, each on a line.
+// Writes the effects, of which the latest is first, each on a line.
 fn write_effects(text: &mut String, effects: &[Datum]) -> Result<(), AllocError> {
     for effect in effects.iter().rev() {
         text.push_str("effect ")?;
@@ -77,7 +78,7 @@ fn write_effects(text: &mut String, effects: &[Datum]) -> Result<(), AllocError>
     Ok(())
 }
 
-/// The effects of a run, each on a line, as they came. Errors: allocation failure. Cost: linear in them.
+// The effects of a run, each on a line, as they came. Errors: allocation failure. Cost: linear in them.
 pub(crate) fn effects_text(alloc: Global, sight: &Sight) -> Result<String, AllocError> {
     let mut text = String::new(alloc);
     match sight {
@@ -169,12 +170,12 @@ pub fn run_sight(
     evaluate_noting::<Bench>(alloc, ctx, root, given, notes)
 }
 
-/// Writes each move: where its operation stands, how it is written, and the data that it takes.
+// Writes each move: where its operation stands, how it is written, and the data that it takes.
 fn write_moves(
     report: &mut String,
     source: &Source,
     root: Ptr<Operation>,
-    places: &[OperationRange],
+    places: &[TextPart],
     moves: &[Noted],
 ) -> Result<(), AllocError> {
     for noted in moves {
@@ -215,7 +216,7 @@ struct LastMove {
     label: String,
 }
 
-/// Why the run trapped: its moves are noted, or else it is run again to note them.
+// Why the run trapped: its moves are noted, or else it is run again to note them.
 fn trap_reason(alloc: Global, ctx: &Context, run: &FinishedRun) -> Result<TrapReason, OptError> {
     if run.options.trace {
         return reason_of(alloc, ctx, &run.notes.moves);
@@ -234,7 +235,7 @@ fn trap_reason(alloc: Global, ctx: &Context, run: &FinishedRun) -> Result<TrapRe
     }
 }
 
-/// What is told of the run's last move, where the run didn't end with values.
+// What is told of the run's last move, where the run didn't end with values.
 fn last_move(
     alloc: Global,
     ctx: &Context,
@@ -263,9 +264,9 @@ fn last_move(
     })
 }
 
-/// What is told beside what is seen: the moves that are noted, and a mark under the operation that made the last one
-/// where the run didn't end with values. Errors: allocation failure. Cost: linear in the text and the moves, and where
-/// the run trapped that of running it again.
+// What is told beside what is seen: the moves that are noted, and a mark under the operation that made the last one
+// where the run didn't end with values. Errors: allocation failure. Cost: linear in the text and the moves, and where
+// the run trapped that of running it again.
 pub(crate) fn report_of(
     alloc: Global,
     ctx: &Context,
@@ -306,7 +307,7 @@ pub fn run_text(
     run_text_in(alloc, source, options, &mut ctx)
 }
 
-/// The same in this context.
+// The same in this context.
 fn run_text_in(
     alloc: Global,
     source: &Source,
@@ -319,7 +320,7 @@ fn run_text_in(
     Ok(Some(report_of_run(alloc, source, options, root, ctx)?))
 }
 
-/// The notes that the options ask for. Cost: constant.
+// The notes that the options ask for. Cost: constant.
 pub(crate) fn notes_for(alloc: Global, options: &RunOptions) -> Notes {
     if options.trace {
         Notes::of_all(alloc)
@@ -328,7 +329,7 @@ pub(crate) fn notes_for(alloc: Global, options: &RunOptions) -> Notes {
     }
 }
 
-/// What is told of the run of the operation, which was read from the text.
+// What is told of the run of the operation, which was read from the text.
 fn report_of_run(
     alloc: Global,
     source: &Source,

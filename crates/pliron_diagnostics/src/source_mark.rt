@@ -14,7 +14,7 @@ pub struct Position {
     pub column: usize,
 }
 
-/// How many bytes stand behind the last end of a line.
+// How many bytes stand behind the last end of a line.
 fn last_line_len(text: &[u8]) -> usize
     ensures { result ≡ length (take_while (λ byte. not (is_line_end byte)) (reverse text.now)) }
 {
@@ -59,7 +59,7 @@ pub struct SourceMark<'t> {
     pub len: usize,
 }
 
-/// A byte as it is shown: one that isn't printed is a question mark.
+// A byte as it is shown: one that isn't printed is a question mark.
 fn shown_char(byte: u8) -> char {
     match byte {
         b'\t' => ' ',
@@ -83,7 +83,7 @@ pub fn push_bytes(
     Ok(())
 }
 
-/// The line that holds the byte after so many: how many bytes stand before and within it.
+// The line that holds the byte after so many: how many bytes stand before and within it.
 fn line_around(text: &[u8], start: usize) -> (usize, usize)
     ensures { result.0 + result.1 ≤ length text.now }
 {
@@ -100,7 +100,7 @@ fn line_around(text: &[u8], start: usize) -> (usize, usize)
     (first, at - first + behind)
 }
 
-/// The line without the carriage return at its end, if there is one.
+// The line without the carriage return at its end, if there is one.
 fn without_return(line: &[u8]) -> &[u8] {
     match line.last() {
         Some(b'\r') => &line[..line.len().saturating_sub(1)],
@@ -108,7 +108,7 @@ fn without_return(line: &[u8]) -> &[u8] {
     }
 }
 
-/// The same blanks or marks over and over.
+// The same blanks or marks over and over.
 fn push_times(text: &mut String, mark: &str, times: usize) -> Result<(), AllocError> {
     for _ in 0..times {
         text.push_str(mark)?;

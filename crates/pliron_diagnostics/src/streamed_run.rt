@@ -28,7 +28,7 @@ struct RunPart {
     told: usize,
 }
 
-/// Whether the run is cut off by the moves of its part alone.
+// Whether the run is cut off by the moves of its part alone.
 fn goes_on(sight: &Sight, options: &RunOptions, moves: usize) -> bool {
     match sight {
         Sight::Reached(effects) => moves < options.steps && effects.len() <= options.world.len(),
@@ -36,13 +36,13 @@ fn goes_on(sight: &Sight, options: &RunOptions, moves: usize) -> bool {
     }
 }
 
-/// The bytes behind so many.
+// The bytes behind so many.
 fn bytes_behind(text: &String, told: usize) -> &[u8] {
     text.as_bytes().get(told..).unwrap_or(b"")
 }
 
 impl RunPart {
-    /// Tells the effects that weren't told, and answers whether anybody hears of more.
+    // Tells the effects that weren't told, and answers whether anybody hears of more.
     fn tell_effects<S: EffectSink>(
         &mut self,
         alloc: Global,
@@ -56,7 +56,7 @@ impl RunPart {
         Ok(is_heard)
     }
 
-    /// What is told of the run that came to this end, but for the effects that were told.
+    // What is told of the run that came to this end, but for the effects that were told.
     fn report(
         self,
         alloc: Global,
@@ -73,7 +73,7 @@ impl RunPart {
     }
 }
 
-/// What is told of the run of the operation, which was read from the text, once its effects were told to the sink.
+// What is told of the run of the operation, which was read from the text, once its effects were told to the sink.
 fn report_of_parts<S: EffectSink>(
     alloc: Global,
     source: &Source,
@@ -125,7 +125,7 @@ pub fn run_text_streamed<S: EffectSink>(
     run_streamed_in(alloc, source, options, &mut ctx, sink)
 }
 
-/// The same in this context.
+// The same in this context.
 fn run_streamed_in<S: EffectSink>(
     alloc: Global,
     source: &Source,

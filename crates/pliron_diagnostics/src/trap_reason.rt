@@ -24,7 +24,7 @@ pub(crate) enum TrapReason {
 }
 
 impl TrapReason {
-    /// What stands under the operation. Errors: allocation failure.
+    // What stands under the operation. Errors: allocation failure.
     pub(crate) fn label(self, alloc: Global) -> Result<String, AllocError> {
         match self {
             TrapReason::Undefined(index) => {
@@ -46,7 +46,7 @@ impl TrapReason {
     }
 }
 
-/// The number that the datum at this index is.
+// The number that the datum at this index is.
 fn number_at(input: &[Datum], index: usize) -> Option<i128> {
     match input.get(index)? {
         Datum::Number(number) => Some(*number),
@@ -54,13 +54,13 @@ fn number_at(input: &[Datum], index: usize) -> Option<i128> {
     }
 }
 
-/// The moves before the last one.
+// The moves before the last one.
 fn earlier_moves(moves: &[Noted]) -> &[Noted] {
     moves.get(..moves.len().saturating_sub(1)).unwrap_or(moves)
 }
 
-/// Whether one of the moves before the last one was made by the operation that defines the value, or one of all in the
-/// block whose argument it is.
+// Whether one of the moves before the last one was made by the operation that defines the value, or one of all in the
+// block whose argument it is.
 fn is_defined_by(ctx: &Context, moves: &[Noted], value: Value) -> bool {
     if !value.is_live(ctx) {
         return false;
@@ -78,7 +78,7 @@ fn is_defined_by(ctx: &Context, moves: &[Noted], value: Value) -> bool {
     }
 }
 
-/// The first operand that no move before the last one defined.
+// The first operand that no move before the last one defined.
 fn undefined_operand(ctx: &Context, op: Ptr<Operation>, moves: &[Noted]) -> TrapReason
     requires { IsLive ctx.now.tree op }
 {
@@ -90,7 +90,7 @@ fn undefined_operand(ctx: &Context, op: Ptr<Operation>, moves: &[Noted]) -> Trap
     TrapReason::Unknown
 }
 
-/// The counts of the branch's edge at this index. Errors: allocation failure.
+// The counts of the branch's edge at this index. Errors: allocation failure.
 fn edge_counts(
     alloc: Global,
     ctx: &Context,
@@ -110,7 +110,7 @@ fn edge_counts(
     Ok(TrapReason::Count { passed, taken })
 }
 
-/// Why the operation trapped that took this input. Errors: allocation failure.
+// Why the operation trapped that took this input. Errors: allocation failure.
 fn reason_by_input(
     alloc: Global,
     ctx: &Context,
@@ -134,8 +134,8 @@ fn reason_by_input(
     }
 }
 
-/// Why the operation trapped that made the last of these moves, the first of which began the run. Errors: allocation
-/// failure. Cost: linear in the moves for each operand.
+// Why the operation trapped that made the last of these moves, the first of which began the run. Errors: allocation
+// failure. Cost: linear in the moves for each operand.
 pub(crate) fn reason_of(
     alloc: Global,
     ctx: &Context,
@@ -153,7 +153,7 @@ pub(crate) fn reason_of(
     }
 }
 
-/// Why the operation traps, as far as its kind tells it. Cost: constant.
+// Why the operation traps, as far as its kind tells it. Cost: constant.
 pub(crate) fn reason_by_kind(ctx: &Context, op: Ptr<Operation>) -> TrapReason {
     if !op.is_live(ctx) {
         return TrapReason::Unknown;

@@ -21,7 +21,7 @@ pub struct Dot {
     text: Vec<u8>,
 }
 
-/// Writes the byte as it stands in quotes. Errors: allocation failure. Cost: constant.
+// Writes the byte as it stands in quotes. Errors: allocation failure. Cost: constant.
 fn push_byte(text: &mut Vec<u8>, byte: u8) -> Result<(), AllocError>
     ensures { OnOk result (text.new.items ≡ text.old.items ++ written_byte byte) }
 {
@@ -65,14 +65,14 @@ impl Dot {
         self.text.extend_from_slice(words.as_bytes())
     }
 
-    /// Writes a word and a number behind it.
+    // Writes a word and a number behind it.
     fn push_name(&mut self, word: &str, number: u64) -> Result<(), AllocError> {
         self.push(word)?;
         let digits = number.to_string(self.alloc)?;
         self.push(digits.as_str())
     }
 
-    /// Writes the attributes in brackets, if there are any, and ends the line.
+    // Writes the attributes in brackets, if there are any, and ends the line.
     fn push_attributes(&mut self, attributes: &[Attribute]) -> Result<(), AllocError> {
         let mut before = " [";
         for attribute in attributes {

@@ -8,13 +8,13 @@ ghost use Rattle.pliron_bench.specs.BenchMoves.{bench};
 use crate::missed::{MissedText, push_missed};
 use crate::pass_list::PassList;
 use crate::reasons::{Reasons, Rewrite};
-use crate::text_parts::{TextParts, parts_of};
 use crate::tree_state::{TreeState, tree_state};
 use pliron_bench::Bench;
 use pliron_cfg::{fold_branches, merge_inside_op, remove_blocks_inside_op};
 use pliron_core::{Context, IRRewriter, IRStatus, Operation, Ptr};
 use pliron_cse::cse;
 use pliron_dce::dce;
+use pliron_diagnostics::{TextParts, parts_of};
 use pliron_laws::{OptError, is_well_linked};
 use pliron_notation::read_text;
 use pliron_pipeline::PassName;
@@ -22,7 +22,7 @@ use pliron_sccp::sccp;
 use pliron_walks::Children;
 use std::alloc::{AllocError, Global};
 
-/// The rewrites of a pass, in turn.
+// The rewrites of a pass, in turn.
 fn rewrites_of(pass: PassName) -> &'static [Rewrite] {
     match pass {
         PassName::Sccp => &[Rewrite::Constants],
@@ -32,7 +32,7 @@ fn rewrites_of(pass: PassName) -> &'static [Rewrite] {
     }
 }
 
-/// The name of a pass.
+// The name of a pass.
 fn name_of(pass: PassName) -> &'static str {
     match pass {
         PassName::Sccp => "sccp",
@@ -42,7 +42,7 @@ fn name_of(pass: PassName) -> &'static str {
     }
 }
 
-/// Makes one rewrite of a pass, by the call that the pass makes. Errors: those of that call.
+// Makes one rewrite of a pass, by the call that the pass makes. Errors: those of that call.
 fn make_rewrite(
     alloc: Global,
     rewrite: Rewrite,
@@ -79,7 +79,7 @@ struct Explaining<'e> {
 }
 
 impl Explaining<'_> {
-    /// Writes a line for each reason.
+    // Writes a line for each reason.
     fn push_reasons(&mut self, pass: PassName, reasons: &Reasons) -> Result<(), AllocError> {
         for reason in &reasons.reasons {
             let name = name_of(pass);
@@ -96,7 +96,7 @@ impl Explaining<'_> {
         Ok(())
     }
 
-    /// Makes one rewrite of a pass, where the operation stands and is well linked, and tells what changed.
+    // Makes one rewrite of a pass, where the operation stands and is well linked, and tells what changed.
     fn rewrite(
         &mut self,
         pass: PassName,
@@ -115,7 +115,7 @@ impl Explaining<'_> {
         Ok(status)
     }
 
-    /// Tells what changed since this stood.
+    // Tells what changed since this stood.
     fn tell(
         &mut self,
         pass: PassName,
@@ -128,7 +128,7 @@ impl Explaining<'_> {
         self.push_reasons(pass, &reasons)
     }
 
-    /// Runs the passes on an operation, and tells what changed.
+    // Runs the passes on an operation, and tells what changed.
     fn pass_on(
         &mut self,
         passes: &[PassName],
@@ -144,7 +144,7 @@ impl Explaining<'_> {
         Ok(status)
     }
 
-    /// Runs the list once on these operations, and tells what changed.
+    // Runs the list once on these operations, and tells what changed.
     fn pass_on_all(
         &mut self,
         passes: &[PassName],
@@ -158,8 +158,8 @@ impl Explaining<'_> {
         Ok(status)
     }
 
-    /// Runs the list on these operations as often as it says, and tells what changed, and whether the last run that it
-    /// may make still changed something.
+    // Runs the list on these operations as often as it says, and tells what changed, and whether the last run that it
+    // may make still changed something.
     fn list(
         &mut self,
         list: &PassList,
@@ -184,7 +184,7 @@ impl Explaining<'_> {
     }
 }
 
-/// The operations that a list is run on: the operation itself, or those directly inside it, which stay where they are.
+// The operations that a list is run on: the operation itself, or those directly inside it, which stay where they are.
 fn subjects(
     alloc: Global,
     list: &PassList,
@@ -204,7 +204,7 @@ fn subjects(
     Ok(operations)
 }
 
-/// What the list did to the text, in this empty context; `None` of an unreadable text.
+// What the list did to the text, in this empty context; `None` of an unreadable text.
 fn explain_in(
     alloc: Global,
     text: &[u8],

@@ -5,8 +5,8 @@ ghost use Rattle.pliron_traversal.specs.Regions.{IsLawfulRegion};
 use crate::dot::{Attribute, Dot};
 use crate::flow_text::may_be_read;
 use crate::graph_row::{GraphRow, graph_rows};
-use crate::text_parts::{TextParts, forwarded_names, parts_of, push_on_one_line};
 use pliron_core::{BasicBlock, Context, Operation, Ptr, Region};
+use pliron_diagnostics::{TextParts, forwarded_names, parts_of, push_on_one_line};
 use pliron_laws::OptError;
 use pliron_laws::reads::all_operations;
 use std::alloc::{AllocError, Global};
@@ -87,8 +87,8 @@ struct BlockLook {
     is_entry: bool,
 }
 
-/// What is said of a node or an edge: its label, if it has one, grey where the entry doesn't lead, and two lines around
-/// the entry. Errors: allocation failure.
+// What is said of a node or an edge: its label, if it has one, grey where the entry doesn't lead, and two lines around
+// the entry. Errors: allocation failure.
 fn looks<'l>(
     alloc: Global,
     label: &'l str,
@@ -110,7 +110,7 @@ fn looks<'l>(
     Ok(looks)
 }
 
-/// Which way an edge of a two-way branch is, by its words and its index.
+// Which way an edge of a two-way branch is, by its words and its index.
 fn way_of(branch: &[u8], index: usize) -> &'static str {
     match (branch.starts_with(b"cbr"), index) {
         (true, 0) => "true",
@@ -119,7 +119,7 @@ fn way_of(branch: &[u8], index: usize) -> &'static str {
     }
 }
 
-/// Adds which way an edge is and what it forwards, with a blank on both sides, which keeps it apart from the line.
+// Adds which way an edge is and what it forwards, with a blank on both sides, which keeps it apart from the line.
 fn push_passed(label: &mut String, way: &str, names: &[u8]) -> Result<(), AllocError> {
     if names.is_empty() && way.is_empty() {
         return Ok(());
@@ -157,7 +157,7 @@ struct FlowPicture<'p> {
 }
 
 impl FlowPicture<'_> {
-    /// The label of an operation: its words, and the paths to its regions. `path` leads to the operation.
+    // The label of an operation: its words, and the paths to its regions. `path` leads to the operation.
     fn push_operation(
         &mut self,
         ctx: &Context,
@@ -182,7 +182,7 @@ impl FlowPicture<'_> {
         label.push_str("\n")
     }
 
-    /// The label of a block, of whose region so many operations stand before: its head, and its operations.
+    // The label of a block, of whose region so many operations stand before: its head, and its operations.
     fn push_block(
         &mut self,
         ctx: &Context,
@@ -213,7 +213,7 @@ impl FlowPicture<'_> {
         Ok(number)
     }
 
-    /// Draws the edges from a block, each with the way that it is and the values that it forwards.
+    // Draws the edges from a block, each with the way that it is and the values that it forwards.
     fn draw_edges(
         &mut self,
         ctx: &Context,
@@ -240,7 +240,7 @@ impl FlowPicture<'_> {
         Ok(())
     }
 
-    /// Says how all looks, and writes the title.
+    // Says how all looks, and writes the title.
     fn draw_heads(&mut self) -> Result<(), AllocError> {
         let boxes = if self.options.blocks_alone {
             SMALL_BOXES.as_slice()
@@ -255,7 +255,7 @@ impl FlowPicture<'_> {
         self.dot.all("graph", &title_of(self.options.title))
     }
 
-    /// Draws the blocks, the first of which is the entry. `path` leads to their region.
+    // Draws the blocks, the first of which is the entry. `path` leads to their region.
     fn draw_blocks(
         &mut self,
         ctx: &Context,
@@ -279,7 +279,7 @@ impl FlowPicture<'_> {
         Ok(())
     }
 
-    /// Draws the immediate dominator of each block.
+    // Draws the immediate dominator of each block.
     fn draw_dominators(&mut self, rows: &[GraphRow<Ptr<BasicBlock>>]) -> Result<(), AllocError> {
         for row in rows {
             if let Some(dominator) = &row.dominator {
@@ -289,7 +289,7 @@ impl FlowPicture<'_> {
         Ok(())
     }
 
-    /// Draws a region without what is inside its operations. `path` leads to it.
+    // Draws a region without what is inside its operations. `path` leads to it.
     fn draw_region(
         &mut self,
         ctx: &Context,
@@ -311,7 +311,7 @@ impl FlowPicture<'_> {
         Ok(())
     }
 
-    /// Draws a region in a frame that is opened, where its graph may be read.
+    // Draws a region in a frame that is opened, where its graph may be read.
     fn draw_framed(
         &mut self,
         ctx: &Context,
@@ -330,7 +330,7 @@ impl FlowPicture<'_> {
         self.draw_region(ctx, region, path)
     }
 
-    /// Puts the regions inside the one that was drawn last on the steps, the first of them last.
+    // Puts the regions inside the one that was drawn last on the steps, the first of them last.
     fn push_inner(&mut self, steps: &mut Vec<PictureStep>) -> Result<(), AllocError> {
         for _ in 0..self.inner.len() {
             match self.inner.pop() {
@@ -341,7 +341,7 @@ impl FlowPicture<'_> {
         Ok(())
     }
 
-    /// Draws what is next, and puts what follows it on the steps, the next one last.
+    // Draws what is next, and puts what follows it on the steps, the next one last.
     fn draw_step(
         &mut self,
         ctx: &Context,
@@ -358,7 +358,7 @@ impl FlowPicture<'_> {
         }
     }
 
-    /// Draws the regions inside the one that was drawn last, each in a frame in that of the region around it.
+    // Draws the regions inside the one that was drawn last, each in a frame in that of the region around it.
     fn draw_inner(&mut self, ctx: &Context) -> Result<(), OptError> {
         let mut steps = Vec::new(self.alloc);
         self.push_inner(&mut steps)?;
@@ -373,7 +373,7 @@ impl FlowPicture<'_> {
     }
 }
 
-/// What is said of a graph or a frame: what stands above it.
+// What is said of a graph or a frame: what stands above it.
 fn title_of(title: &str) -> [Attribute<'_>; 2] {
     [
         Attribute {

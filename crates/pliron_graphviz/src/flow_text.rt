@@ -23,7 +23,7 @@ pub enum Drawing {
     NoRegion,
 }
 
-/// Whether the graph of the region may be read. Asks that it stands (`is_live` tests it). Cost: that of `edges_last`.
+// Whether the graph of the region may be read. Asks that it stands (`is_live` tests it). Cost: that of `edges_last`.
 pub(crate) fn may_be_read(ctx: &Context, region: Ptr<Region>) -> bool
     requires { IsRegion ctx.now.tree region }
     ensures { IsTrue result → IsLawfulRegion ctx.now.tree region }
@@ -32,7 +32,7 @@ pub(crate) fn may_be_read(ctx: &Context, region: Ptr<Region>) -> bool
     edges_last(region.get_parent_op(ctx), ctx)
 }
 
-/// The picture of the region that is asked for, in this empty context.
+// The picture of the region that is asked for, in this empty context.
 fn flow_in(
     alloc: Global,
     text: &[u8],

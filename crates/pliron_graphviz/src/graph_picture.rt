@@ -36,7 +36,7 @@ static TWICE: [Attribute<'static>; 1] = [Attribute {
     value: "2",
 }];
 
-/// The colour of an edge of this kind.
+// The colour of an edge of this kind.
 fn colour(kind: DFSEdgeKind) -> &'static str {
     match kind {
         DFSEdgeKind::Forward => "black",
@@ -45,7 +45,7 @@ fn colour(kind: DFSEdgeKind) -> &'static str {
     }
 }
 
-/// How a node looks.
+// How a node looks.
 fn look(
     graph: &NumberedGraph,
     search: &DFSTraversal<u32>,
@@ -62,8 +62,8 @@ fn look(
     }
 }
 
-/// Draws the nodes of the components, those of a cyclic one in a frame, as the search from the entry comes to them,
-/// which Graphviz takes for the order from top to bottom.
+// Draws the nodes of the components, those of a cyclic one in a frame, as the search from the entry comes to them,
+// which Graphviz takes for the order from top to bottom.
 fn draw_components(
     graph: &NumberedGraph,
     search: &DFSTraversal<u32>,
@@ -88,7 +88,7 @@ fn draw_components(
     Ok(())
 }
 
-/// Draws the edges of a reached node, each in the colour of its kind.
+// Draws the edges of a reached node, each in the colour of its kind.
 fn draw_reached(
     graph: &NumberedGraph,
     search: &DFSTraversal<u32>,
@@ -117,7 +117,7 @@ fn draw_reached(
     Ok(())
 }
 
-/// Draws the edges of a node that isn't reached.
+// Draws the edges of a node that isn't reached.
 fn draw_unreached(graph: &NumberedGraph, node: u32, dot: &mut Dot) -> Result<(), AllocError>
     requires lawful { AreInverse graph.now.edges }
     requires member { Contains (graph_of graph.now.edges).nodes node }
@@ -129,8 +129,8 @@ fn draw_unreached(graph: &NumberedGraph, node: u32, dot: &mut Dot) -> Result<(),
     Ok(())
 }
 
-/// The picture of a graph. Asks that each node is among the predecessors of exactly its successors. Errors: allocation
-/// failure. Cost: linear in the nodes and edges, but for sorting each component.
+// The picture of a graph. Asks that each node is among the predecessors of exactly its successors. Errors: allocation
+// failure. Cost: linear in the nodes and edges, but for sorting each component.
 fn graph_picture(alloc: Global, graph: &NumberedGraph) -> Result<Vec<u8>, OptError>
     requires { AreInverse graph.now.edges }
 {

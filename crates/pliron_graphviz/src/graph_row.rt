@@ -25,7 +25,7 @@ pub struct GraphRow<N> {
     pub dominator: Option<N>,
 }
 
-/// The immediate dominator of a node, if it is reached and has one.
+// The immediate dominator of a node, if it is reached and has one.
 fn dominator_of<N: Eq + Hash + Copy>(tree: &DominatorTree<N>, node: N) -> Option<N>
     ensures immediate { (g : Digraph N) → TellsDominance N.eq g tree.now → IfSome result (λ d. IsImmediate g d node) }
     ensures alone { (g : Digraph N) → TellsDominance N.eq g tree.now → IsListed N.eq tree.now.nodes node →
@@ -38,7 +38,7 @@ fn dominator_of<N: Eq + Hash + Copy>(tree: &DominatorTree<N>, node: N) -> Option
     }
 }
 
-/// What stands beside a node.
+// What stands beside a node.
 fn row_of<C, G: ControlFlowGraph<C>>(
     alloc: Global,
     ctx: &C,

@@ -15,7 +15,6 @@ mod missed;
 mod pass_list;
 mod reasons;
 mod region_path;
-mod text_parts;
 mod tree_state;
 
 pub use explaining::explain_changes;
@@ -24,4 +23,3 @@ pub use flow_text::{Drawing, text_flow};
 pub use graph_picture::text_graph;
 pub use graph_row::{GraphRow, graph_rows};
 pub use pass_list::PassList;
-pub use text_parts::{TextPart, TextParts, ValueName, parts_of};

@@ -2,10 +2,10 @@
 ghost use Rattle.pliron_core.specs.Tree.{IsLive};
 
 use crate::pass_list::PassList;
-use crate::text_parts::{TextParts, push_on_one_line};
 use pliron_bench::BenchKind;
 use pliron_bench::tables::kind_at;
 use pliron_core::{Context, Def, Operation, Ptr, Value};
+use pliron_diagnostics::{TextParts, push_on_one_line};
 use pliron_pipeline::PassName;
 use pliron_walks::Contents;
 use std::alloc::{AllocError, Global};
@@ -25,7 +25,7 @@ struct Missed<'m> {
     told: &'m MissedText<'m>,
 }
 
-/// Whether a `const` makes the value.
+// Whether a `const` makes the value.
 fn is_constant(ctx: &Context, value: Value) -> bool {
     if !value.is_live(ctx) {
         return false;
@@ -36,7 +36,7 @@ fn is_constant(ctx: &Context, value: Value) -> bool {
     }
 }
 
-/// The first of the first so many operands that no `const` makes.
+// The first of the first so many operands that no `const` makes.
 fn unknown_operand(ctx: &Context, op: Ptr<Operation>, most: usize) -> Option<usize>
     requires { IsLive ctx.now.tree op }
 {
@@ -48,7 +48,7 @@ fn unknown_operand(ctx: &Context, op: Ptr<Operation>, most: usize) -> Option<usi
     None
 }
 
-/// Whether something uses a result of the operation.
+// Whether something uses a result of the operation.
 fn is_used(ctx: &Context, op: Ptr<Operation>) -> bool
     requires { IsLive ctx.now.tree op }
 {
@@ -62,12 +62,12 @@ fn is_used(ctx: &Context, op: Ptr<Operation>) -> bool
 }
 
 impl Missed<'_> {
-    /// Whether the list has the pass.
+    // Whether the list has the pass.
     fn has(&self, pass: PassName) -> bool {
         self.told.list.passes.iter().any(|other| *other == pass)
     }
 
-    /// Adds that the operand isn't known.
+    // Adds that the operand isn't known.
     fn push_unknown(
         &self,
         ctx: &Context,
@@ -89,7 +89,7 @@ impl Missed<'_> {
         why.push_str(" isn't known")
     }
 
-    /// Why constants were put for no result of the operation, or its branch stayed; empty where nothing was missed.
+    // Why constants were put for no result of the operation, or its branch stayed; empty where nothing was missed.
     fn why_not_folded(
         &self,
         ctx: &Context,
@@ -121,7 +121,7 @@ impl Missed<'_> {
         Ok(why)
     }
 
-    /// Why the operation stays that nothing uses; empty where it is used, or has no result.
+    // Why the operation stays that nothing uses; empty where it is used, or has no result.
     fn why_not_erased(
         &self,
         ctx: &Context,
@@ -146,7 +146,7 @@ impl Missed<'_> {
         Ok(why)
     }
 
-    /// Adds a line for an operation of which something is told.
+    // Adds a line for an operation of which something is told.
     fn push_line(
         &self,
         op: Ptr<Operation>,
@@ -165,7 +165,7 @@ impl Missed<'_> {
         write!(lines, ": {why} (missed by {pass})\n")
     }
 
-    /// Adds what was missed of an operation.
+    // Adds what was missed of an operation.
     fn push(&self, ctx: &Context, op: Ptr<Operation>, lines: &mut String) -> Result<(), AllocError>
         requires { IsLive ctx.now.tree op }
     {

@@ -1,10 +1,10 @@
 //! Why operations and arguments changed or went, by what a rewrite does and what stood before it.
 ghost use Rattle.pliron_core.specs.Tree.{IsBlock, IsDefined, IsLive};
 
-use crate::text_parts::{TextPart, TextParts, push_on_one_line};
 use crate::tree_state::{BlockState, OperationState, TreeState};
 use pliron_bench::BenchKind;
 use pliron_core::{BasicBlock, Context, Def, Operation, Ptr, Value};
+use pliron_diagnostics::{TextPart, TextParts, push_on_one_line};
 use pliron_notation::printed::number_of;
 use std::alloc::{AllocError, Global};
 use std::collections::HashMap;
@@ -55,7 +55,7 @@ pub struct Reasons<'t> {
     pub reasons: Vec<Reason>,
 }
 
-/// The number that the value is, where a `const` makes it.
+// The number that the value is, where a `const` makes it.
 fn number_made(ctx: &Context, value: Value) -> Option<i128>
     requires { IsDefined ctx.now.tree value }
 {
@@ -66,7 +66,7 @@ fn number_made(ctx: &Context, value: Value) -> Option<i128>
     }
 }
 
-/// The block that the last operation of a block goes to first.
+// The block that the last operation of a block goes to first.
 fn jump_target(ctx: &Context, block: Ptr<BasicBlock>) -> Option<Ptr<BasicBlock>>
     requires { IsBlock ctx.now.tree block }
 {
@@ -78,7 +78,7 @@ fn jump_target(ctx: &Context, block: Ptr<BasicBlock>) -> Option<Ptr<BasicBlock>>
     }
 }
 
-/// The name that a head of a block begins with.
+// The name that a head of a block begins with.
 fn name_of_head(head: &[u8]) -> &[u8] {
     let end = head
         .iter()
@@ -87,7 +87,7 @@ fn name_of_head(head: &[u8]) -> &[u8] {
     &head[..end]
 }
 
-/// Parts a phrase from those before it.
+// Parts a phrase from those before it.
 fn part_phrases(why: &mut String) -> Result<(), AllocError> {
     why.push_str(if why.is_empty() { "" } else { ", " })
 }
@@ -108,13 +108,13 @@ impl<'t> Reasons<'t> {
         }
     }
 
-    /// Adds the name of a block.
+    // Adds the name of a block.
     fn push_block(&self, told: &mut String, block: Ptr<BasicBlock>) -> Result<(), AllocError> {
         let head = self.words.block(self.text, block.key()).unwrap_or(b"_");
         push_on_one_line(told, name_of_head(head))
     }
 
-    /// Adds what a value is called: its name in the text, or the number that it is.
+    // Adds what a value is called: its name in the text, or the number that it is.
     fn push_value(&self, ctx: &Context, told: &mut String, value: Value) -> Result<(), AllocError> {
         if let Some(name) = self.words.value(value.key()) {
             return push_on_one_line(told, name.part.of(self.text));
@@ -129,7 +129,7 @@ impl<'t> Reasons<'t> {
         }
     }
 
-    /// Adds the reason of an operation of the text.
+    // Adds the reason of an operation of the text.
     fn add_operation(&mut self, op: Ptr<Operation>, why: String) -> Result<(), AllocError> {
         let Some(part) = self.words.operation_part(op.key()) else {
             return Ok(());
@@ -146,7 +146,7 @@ impl<'t> Reasons<'t> {
         Ok(())
     }
 
-    /// Adds the reason of an argument of the text.
+    // Adds the reason of an argument of the text.
     fn add_argument(
         &mut self,
         block: Ptr<BasicBlock>,
@@ -171,7 +171,7 @@ impl<'t> Reasons<'t> {
 }
 
 impl Reasons<'_> {
-    /// Notes the constants that operands of the operation name now.
+    // Notes the constants that operands of the operation name now.
     fn note_constants(&mut self, ctx: &Context, state: &OperationState) -> Result<(), AllocError>
         requires { IsLive ctx.now.tree state.now.op }
     {
@@ -187,7 +187,7 @@ impl Reasons<'_> {
         Ok(())
     }
 
-    /// Notes the values that operands of the operation name now in place of others.
+    // Notes the values that operands of the operation name now in place of others.
     fn note_replacements(&mut self, ctx: &Context, state: &OperationState) -> Result<(), AllocError>
         requires { IsLive ctx.now.tree state.now.op }
     {
@@ -201,8 +201,8 @@ impl Reasons<'_> {
         Ok(())
     }
 
-    /// Notes the constant that was put for the result of an operation, where nothing used that: it is new, and stands
-    /// right before the operation.
+    // Notes the constant that was put for the result of an operation, where nothing used that: it is new, and stands
+    // right before the operation.
     fn note_unused(
         &mut self,
         ctx: &Context,
@@ -225,7 +225,7 @@ impl Reasons<'_> {
         Ok(())
     }
 
-    /// Notes the constants that were put for results that nothing uses.
+    // Notes the constants that were put for results that nothing uses.
     fn note_all_unused(&mut self, ctx: &Context, before: &TreeState) -> Result<(), AllocError> {
         let mut first_new: u64 = 0;
         for state in &before.operations {
@@ -239,7 +239,7 @@ impl Reasons<'_> {
         Ok(())
     }
 
-    /// Notes what the reasons of others need.
+    // Notes what the reasons of others need.
     fn note(&mut self, ctx: &Context, before: &TreeState) -> Result<(), AllocError> {
         for i in 0..before.operations.len() {
             let state = &before.operations[i];
@@ -255,7 +255,7 @@ impl Reasons<'_> {
         Ok(())
     }
 
-    /// Adds what computed before what an operation computed that went.
+    // Adds what computed before what an operation computed that went.
     fn push_leader(
         &self,
         ctx: &Context,
@@ -273,7 +273,7 @@ impl Reasons<'_> {
         Ok(())
     }
 
-    /// Why an operation went.
+    // Why an operation went.
     fn why_gone(&self, ctx: &Context, state: &OperationState) -> Result<String, AllocError> {
         let mut why = String::new(self.alloc);
         match (self.rewrite, state.holder, state.block, state.successor) {
@@ -298,7 +298,7 @@ impl Reasons<'_> {
         Ok(why)
     }
 
-    /// Adds which values the operation takes for others, of as many operands.
+    // Adds which values the operation takes for others, of as many operands.
     fn push_taken(
         &self,
         ctx: &Context,
@@ -321,7 +321,7 @@ impl Reasons<'_> {
         Ok(())
     }
 
-    /// Adds which values the operation lost, which kept the others in order.
+    // Adds which values the operation lost, which kept the others in order.
     fn push_lost(
         &self,
         ctx: &Context,
@@ -344,7 +344,7 @@ impl Reasons<'_> {
         Ok(())
     }
 
-    /// How an operation changed that stands; empty where it didn't.
+    // How an operation changed that stands; empty where it didn't.
     fn why_changed(&self, ctx: &Context, state: &OperationState) -> Result<String, AllocError>
         requires { IsLive ctx.now.tree state.now.op }
     {
@@ -374,7 +374,7 @@ impl Reasons<'_> {
         Ok(why)
     }
 
-    /// Adds the reason of an operation that changed or went.
+    // Adds the reason of an operation that changed or went.
     fn compare_operation(
         &mut self,
         ctx: &Context,
@@ -391,7 +391,7 @@ impl Reasons<'_> {
         self.add_operation(state.op, why)
     }
 
-    /// What the argument at this index of a block is that was joined to another.
+    // What the argument at this index of a block is that was joined to another.
     fn why_joined(
         &self,
         ctx: &Context,
@@ -415,7 +415,7 @@ impl Reasons<'_> {
         Ok(why)
     }
 
-    /// Why the argument at this index changed or went; empty where it didn't.
+    // Why the argument at this index changed or went; empty where it didn't.
     fn why_argument(
         &self,
         ctx: &Context,
@@ -444,7 +444,7 @@ impl Reasons<'_> {
         Ok(why)
     }
 
-    /// Adds the reasons of the arguments that changed or went.
+    // Adds the reasons of the arguments that changed or went.
     fn compare_arguments(
         &mut self,
         ctx: &Context,

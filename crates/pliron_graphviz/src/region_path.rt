@@ -10,7 +10,7 @@ use pliron_core::{Context, Operation, Ptr, Region};
 use pliron_laws::reads::{all_operations, push_layout};
 use std::alloc::{AllocError, Global};
 
-/// The operation with this number directly in the region, if it has so many.
+// The operation with this number directly in the region, if it has so many.
 fn operation_in(
     alloc: Global,
     ctx: &Context,
@@ -34,7 +34,7 @@ fn operation_in(
     Ok(None)
 }
 
-/// The region of the operation at this index, if it stands and has so many.
+// The region of the operation at this index, if it stands and has so many.
 fn region_of(ctx: &Context, op: Ptr<Operation>, index: usize) -> Option<Ptr<Region>>
     ensures { IfSome result (λ region. IsRegion ctx.now.tree region) }
 {
@@ -52,7 +52,7 @@ enum PathStep {
     Region(Ptr<Region>),
 }
 
-/// What stands one number further.
+// What stands one number further.
 fn further(
     alloc: Global,
     ctx: &Context,

@@ -36,7 +36,7 @@ pub struct TreeState {
     pub blocks: Vec<BlockState>,
 }
 
-/// The first successor of the operation.
+// The first successor of the operation.
 fn first_successor(ctx: &Context, op: Ptr<Operation>) -> Option<Ptr<BasicBlock>>
     requires { IsLive ctx.now.tree op }
 {
@@ -47,7 +47,7 @@ fn first_successor(ctx: &Context, op: Ptr<Operation>) -> Option<Ptr<BasicBlock>>
     }
 }
 
-/// The operation as it stands.
+// The operation as it stands.
 fn operation_state(
     alloc: Global,
     op: Ptr<Operation>,
@@ -68,7 +68,7 @@ fn operation_state(
 }
 
 impl TreeState {
-    /// Adds the operation and its blocks.
+    // Adds the operation and its blocks.
     fn add(&mut self, alloc: Global, op: Ptr<Operation>, ctx: &Context) -> Result<(), OptError>
         requires { IsLive ctx.now.tree op }
     {

@@ -41,7 +41,7 @@ pub struct TextParts {
     pub values: Vec<ValueName>,
 }
 
-/// Whether the byte may stand in a name.
+// Whether the byte may stand in a name.
 fn is_name_byte(byte: u8) -> bool {
     byte.is_ascii_alphanumeric() || byte == b'_'
 }
@@ -65,7 +65,7 @@ impl TextScan {
         }
     }
 
-    /// Takes in the byte after so many.
+    // Takes in the byte after so many.
     fn take(&mut self, byte: u8, at: usize) {
         match byte {
             b'\n' => {
@@ -77,7 +77,7 @@ impl TextScan {
         }
     }
 
-    /// The byte after so many belongs to the open part, or begins one.
+    // The byte after so many belongs to the open part, or begins one.
     fn grow(&mut self, at: usize) {
         let part = match self.open {
             Some(part) => part,
@@ -94,7 +94,7 @@ impl TextScan {
         });
     }
 
-    /// Ends the open part.
+    // Ends the open part.
     fn end(&mut self) -> Option<TextPart> {
         let part = self.open;
         self.open = None;
@@ -103,7 +103,7 @@ impl TextScan {
 }
 
 impl TextParts {
-    /// Takes in an operation: the names before its equals sign are its results.
+    // Takes in an operation: the names before its equals sign are its results.
     fn add_operation(&mut self, text: &[u8], part: TextPart) -> Result<(), AllocError> {
         self.operations.push(part)?;
         let bytes = part.of(text);
@@ -113,7 +113,7 @@ impl TextParts {
         }
     }
 
-    /// Takes in the head of a block: the names in its brackets are its arguments.
+    // Takes in the head of a block: the names in its brackets are its arguments.
     fn add_block(&mut self, text: &[u8], part: TextPart) -> Result<(), AllocError> {
         let number = self.blocks.len();
         self.blocks.push(part)?;
@@ -130,7 +130,7 @@ impl TextParts {
         self.add_names(&bytes[opening..], after, Some(number))
     }
 
-    /// Takes in the names that stand in these bytes, which begin where the part does.
+    // Takes in the names that stand in these bytes, which begin where the part does.
     fn add_names(
         &mut self,
         bytes: &[u8],
@@ -192,7 +192,7 @@ impl TextParts {
 }
 
 impl TextScan {
-    /// Takes in a byte that belongs to no part.
+    // Takes in a byte that belongs to no part.
     fn take_blank(&mut self, byte: u8, at: usize) {
         if byte == b'\n' {
             self.line = self.line.saturating_add(1);
