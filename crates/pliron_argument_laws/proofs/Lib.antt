@@ -1,7 +1,7 @@
 mod FirstWays
-mod ArgumentEdges
+pub mod ArgumentEdges
 mod ArgumentData
 mod ArgumentKeeps
-mod ArgumentChanges
+pub mod ArgumentChanges
 mod FindingLemmas
 mod ArgumentStays

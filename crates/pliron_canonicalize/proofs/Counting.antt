@@ -1,8 +1,8 @@
 -- How many numbers pass a test, and which values are used.
-use Rattle.std.proofs.Common.{◌≡◌, ◌≢◌, ◌⊎◌, ◌||◌, ◌<◌, ◌≤◌, ◌+◌, ℕ, zero, suc, Bool, true, false, true≢false, nat_eq, List, [], ◌∷◌, get_or, if◌then◌else◌, inl, inr, ⊎_elim, refl, sym, ap, ◌∙◌, subst, arith}
+use Rattle.std.proofs.Common.{◌≡◌, ◌≢◌, ◌⊎◌, ◌||◌, ◌<◌, ◌≤◌, ℕ, zero, suc, Bool, true, false, true≢false, nat_eq, List, [], ◌∷◌, get_or, if◌then◌else◌, inl, inr, ⊎_elim, refl, sym, ap, ◌∙◌, arith}
 use Rattle.std.specs.List.{list_any}
 use Rattle.std.proofs.lemmas.Bool.{eq-eqb}
-use Rattle.pliron_core.specs.Tree.{Tree, In, operands_of}
+use Rattle.pliron_core.specs.Tree.{Tree, In}
 use Rattle.pliron_canonicalize.specs.Counts.{count_below, is_used}
 use Rattle.pliron_canonicalize.specs.Folds.{IsUsed}
 

@@ -1,17 +1,16 @@
--- What holds on the way, as one result after the other folds.
-use Rattle.std.proofs.Common.{◌≡◌, ◌≢◌, ◌⊎◌, ◌↔◌, ◌&&◌, ◌<◌, ◌≤◌, ◌+◌, ℕ, Bool, true, false, List, [], ◌∷◌, ◌++◌, length, Option, Some, None, IsSome, IsTrue, inl, inr, ⊎_elim, slice_get, get_or, if◌then◌else◌, refl, sym, ap, ◌∙◌, subst, add-one, take, true≢false, arith}
-use Rattle.std.proofs.lemmas.Option.{slice_get-get_or, slice_get_read, slice_get_within}
-use Rattle.std.proofs.lemmas.List.{take_all}
+-- What holds on the way, as one value after the other folds.
+use Rattle.std.proofs.Common.{◌≡◌, ◌≢◌, ◌⊎◌, ◌↔◌, ◌&&◌, ◌<◌, ◌≤◌, ◌+◌, ℕ, Bool, true, false, List, [], ◌∷◌, ◌++◌, length, Option, Some, IsSome, IsTrue, inl, inr, ⊎_elim, slice_get, get_or, if◌then◌else◌, refl, sym, ap, ◌∙◌, subst, true≢false, arith}
+use Rattle.std.proofs.lemmas.Option.{slice_get-get_or, slice_get_within}
 use Rattle.pliron_core.specs.declared.attrs.IRStatus.{IRStatus}
 use Rattle.pliron_core.specs.declared.attrs.IRStatus.TheVariants.{Changed, Unchanged}
-use Rattle.pliron_core.specs.declared.context.Def.TheVariants.{Result}
+use Rattle.pliron_core.specs.declared.context.Def.TheVariants.{Argument, Result}
 use Rattle.pliron_core.specs.Changes.{IsSameTree}
 use Rattle.pliron_core.specs.Invariant.{IsTree}
 use Rattle.pliron_core.specs.Status.{changed_by_either}
-use Rattle.pliron_core.specs.Tree.{Tree, In, IsInside, IsLive, operands_of, results_of, definition_of}
-use Rattle.pliron_core.proofs.ArgumentLemmas.{take_more}
-use Rattle.pliron_core.proofs.HoldingLemmas.{in_slice}
-use Rattle.pliron_core.proofs.ListLemmas.{In-cases}
+use Rattle.pliron_core.specs.Tree.{Tree, In, HoldsBlock, IsInside, IsLive, arguments_of, block_parent_of, operands_of, results_of, definition_of}
+use Rattle.pliron_core.specs.Writes.{after_replacing}
+use Rattle.pliron_core.proofs.HoldingLemmas.{in_slice, some_is}
+use Rattle.pliron_core.proofs.WithinLemmas.{block_holder_from}
 use Rattle.pliron_core.specs.declared.attrs.AttrObj.{AttrObj}
 use Rattle.pliron_laws.specs.Datum.{Head, Meaning, Shape}
 use Rattle.pliron_laws.specs.Folding.{AnswersTrue, Constants, MakesConstants}
@@ -22,38 +21,60 @@ use Rattle.pliron_operand_folding.specs.OperandFolding.{AnswersOperands, Operand
 use Rattle.pliron_canonicalize.proofs.Parts.{folding}
 use Rattle.pliron_laws.proofs.LinkedLemmas.{linked_same}
 use Rattle.pliron_block_laws.proofs.RewriteLinks.{replaced_links}
+use Rattle.pliron_theory.specs.Change.{IsWholeChange}
 use Rattle.pliron_theory.specs.Edges.{has_entries}
 use Rattle.pliron_theory.proofs.EdgeLemmas.{edges_same, edges_transitive}
 use Rattle.pliron_theory.proofs.WholeChanges.{same_whole, whole_refl, whole_trans}
 use Rattle.pliron_operand_folding.specs.declared.OpFoldResult.{OpFoldResult}
 use Rattle.pliron_operand_folding.specs.declared.OpFoldResult.TheVariants.{Operand, Constant}
 use Rattle.pliron_operand_laws.specs.Answers.{Folding}
-use Rattle.pliron_operand_laws.specs.Answered.{HasAnswer, after_folding}
+use Rattle.pliron_operand_laws.specs.Answered.{after_folding}
 use Rattle.pliron_operand_laws.proofs.Answered.{AreLawful}
 use Rattle.pliron_operand_laws.proofs.Whole.{answer_changes, answer_within, constant_links}
+use Rattle.pliron_argument_laws.specs.ArgumentLaws.{OneValueChanges}
+use Rattle.pliron_argument_laws.specs.OneValue.{IsOneValue, ReplacesByValue}
+use Rattle.pliron_argument_laws.proofs.ArgumentEdges.{source, source_uses, made as argument_made}
 use Rattle.pliron_order.specs.Seen.{IsSeen}
-use Rattle.pliron_order.proofs.SeenLemmas.{seen_inside}
+use Rattle.pliron_order.proofs.SeenLemmas.{seen_inside, visited_within}
 use Rattle.pliron_canonicalize.specs.Counts.{foldable_count, is_counted, is_foldable, is_used}
-use Rattle.pliron_canonicalize.specs.Folds.{AreFolded, Fold, FoldInTurn, HasFolds, IsFold, ReportsFolds}
-use Rattle.pliron_canonicalize.specs.Steps.{AreDone, AreDonePartly, AreListed, FoldsResult, IsFolding, IsOnWay, IsSeenStill, IsUndone, TellsFolds}
+use Rattle.pliron_canonicalize.specs.Folds.{Fold, OfArgument, OfResult, FoldInTurn, FoldsTo, HasFolds, IsArgumentFold, IsFold, IsSeenBlock, IsUsed, ReportsFolds}
+use Rattle.pliron_canonicalize.specs.Sites.{AreListed, IsAmong, IsLiveSite, IsSeenAt, index_of, site_of, values_at}
+use Rattle.pliron_canonicalize.specs.declared.sites.Site.{Site}
+use Rattle.pliron_canonicalize.specs.declared.sites.Site.TheVariants.{Arguments, Results}
+use Rattle.pliron_canonicalize.specs.Steps.{AreDone, AreDonePartly, FoldsArgument, FoldsResult, IsFolding, IsOnWay, IsSeenStill, IsUndone, TellsFolds}
 use Rattle.pliron_canonicalize.proofs.Counting.{used_told}
-use Rattle.pliron_canonicalize.proofs.Moving.{Moves, count_lessened, edges_kept, empty, live, moves_to_constant, moves_to_used, same_results, seen_back, seen_forth}
+use Rattle.pliron_canonicalize.proofs.Moving.{Moves, blocks_seen, count_lessened, edges_kept, empty, live, moves_to_constant, moves_to_used, same_results, seen_back, seen_forth}
 
-pub same_listed : (t t' : Tree) (root : ℕ) (ops : List ℕ) → IsSeenStill t t' root → AreListed t root ops → AreListed t' root ops
-same_listed t t' root ops s l = record {
-  seen = λ k i. s.seen k (l.seen k i);
-  each = λ k seen. ⊎_elim (λ before. ⊎_elim (λ i. inl i) (λ e. inr (s.empty k e)) (l.each k before)) (λ e. inr e) (s.before k seen);
+pub seen_still : (t t' : Tree) (root : ℕ) → IsSeenStill t t' root → (site : Site) → IsSeenAt t root site → IsSeenAt t' root site
+seen_still t t' root s (Arguments block) x = (s.blocks block).1 x
+seen_still t t' root s (Results k) x = s.seen k x
+
+pub live_site : (t : Tree) (root : ℕ) → IsTree t → (site : Site) → IsSeenAt t root site → IsLiveSite t site
+live_site t root w (Arguments block) x = (w.joined.standing x.0 block x.2).1
+live_site t root w (Results k) x = (w.joined.standing k x.block x.in_block).0
+
+pub values_still : (t t' : Tree) (root : ℕ) → IsTree t → IsSeenStill t t' root → (site : Site) → IsSeenAt t root site → values_at t' site ≡ values_at t site
+values_still t t' root w s (Arguments block) x = s.arguments block
+values_still t t' root w s (Results k) x = s.results k (live_site t root w (Results k) x)
+
+same_listed : (t t' : Tree) (root : ℕ) (sites : List Site) → IsSeenStill t t' root → AreListed t root sites → AreListed t' root sites
+same_listed t t' root sites s l = record {
+  seen = λ j site at. seen_still t t' root s site (l.seen j site at);
+  blocks = λ block seen. l.blocks block ((s.blocks block).0 seen);
+  operations = λ k seen. ⊎_elim (λ before. ⊎_elim (λ i. inl i) (λ e. inr (s.empty k e)) (l.operations k before)) (λ e. inr e) (s.before k seen);
 }
 
 still_refl : (t : Tree) (root : ℕ) → IsSeenStill t t root
-still_refl t root = record { seen = λ k s. s; before = λ k s. inl s; empty = λ k e. e; results = λ k l. refl }
+still_refl t root = record { seen = λ k s. s; before = λ k s. inl s; blocks = λ block. (λ s. s, λ s. s); empty = λ k e. e; results = λ k l. refl; arguments = λ block. refl }
 
 still_trans : (t0 t t' : Tree) (root : ℕ) → ((k : ℕ) → IsLive t0 k → IsLive t k) → IsSeenStill t0 t root → IsSeenStill t t' root → IsSeenStill t0 t' root
 still_trans t0 t t' root stays a b = record {
   seen = λ k s. b.seen k (a.seen k s);
   before = λ k s. ⊎_elim (λ before. ⊎_elim (λ first. inl first) (λ e. inr (b.empty k e)) (a.before k before)) (λ e. inr e) (b.before k s);
+  blocks = λ block. (λ s. (a.blocks block).0 ((b.blocks block).0 s), λ s. (b.blocks block).1 ((a.blocks block).1 s));
   empty = λ k e. b.empty k (a.empty k e);
   results = λ k l. b.results k (stays k l) ∙ a.results k l;
+  arguments = λ block. b.arguments block ∙ a.arguments block;
 }
 
 filled : (xs : List ℕ) → xs ≢ [] → has_entries xs ≡ true
@@ -71,7 +92,7 @@ neither Unchanged a e = (refl, e)
 module _ (x : Folding) (root : ℕ) where
   turn_more : (fs gs : List Fold) (t u t' : Tree) → FoldInTurn x root fs t u → FoldInTurn x root gs u t' → FoldInTurn x root (fs ++ gs) t t'
   turn_more [] gs t u t' e more = subst (λ z. FoldInTurn x root gs z t') e more
-  turn_more (f ∷ fs) gs t u t' turn more = (turn.0, (turn.1.0, turn_more fs gs (after_folding x t f.op turn.1.0.has.value f.answer) u t' turn.1.1 more))
+  turn_more (f ∷ fs) gs t u t' turn more = (turn.0, turn.1, turn_more fs gs turn.0 u t' turn.2 more)
 
   tells_unchanged : (t0 t : Tree) (s : IRStatus) → TellsFolds x t0 t root s → s ≡ Unchanged → t ≡ t0
   tells_unchanged t0 t Unchanged told e = told
@@ -103,7 +124,7 @@ module _ (x : Folding) (root : ℕ) where
     way_refl : IsOnWay x.meaning t t root
     way_refl = record { change = whole_refl x.meaning t root lives linked; links = λ r l. l; edges = λ op a b. refl; stays = λ k l. l }
 
-    pub done_start : (Done : ℕ → ℕ → Type 0) → ((k i : ℕ) (answer : OpFoldResult) → Done k i → IsFold x t k i answer → ⊥) → AreDone x t t root Done Unchanged
+    pub done_start : (Done : Fold → Type 0) → ((f : Fold) (u : Tree) → Done f → FoldsTo x root f t u → ⊥) → AreDone x t t root Done Unchanged
     done_start Done none = record { way = way_refl; folded = ([], refl); still = still_refl t root; tells = refl; none = λ e. none }
 
     pub done_undone : (t' : Tree) → IsTree t → IsTree t' → IsUndone t t' → AreDonePartly x t t' root
@@ -117,97 +138,151 @@ module _ (x : Folding) (root : ℕ) where
       folded = ([], (t, refl, u.same));
     }
 
-  pub done_more : (t0 t t' : Tree) (Done Also : ℕ → ℕ → Type 0) (s a : IRStatus) → AreDone x t0 t root Done s → AreDone x t t' root Also a → AreDone x t0 t' root (λ k i. Done k i ⊎ Also k i) (changed_by_either s a)
+  pub done_more : (t0 t t' : Tree) (Done Also : Fold → Type 0) (s a : IRStatus) → AreDone x t0 t root Done s → AreDone x t t' root Also a → AreDone x t0 t' root (λ f. Done f ⊎ Also f) (changed_by_either s a)
   done_more t0 t t' Done Also s a p q = record {
     way = way_trans t0 t t' p.way q.way;
     folded = (p.folded.0 ++ q.folded.0, turn_more p.folded.0 q.folded.0 t0 t t' p.folded.1 q.folded.1);
     still = still_trans t0 t t' root p.way.stays p.still q.still;
     tells = tells_trans t0 t t' s a p.tells q.tells;
-    none = λ e k i answer done fold. let n = neither s a e in ⊎_elim
-        (λ d. p.none n.0 k i answer d fold)
-        (λ d. q.none n.1 k i answer d (subst (λ z. IsFold x z k i answer) (sym (tells_unchanged t0 t s p.tells n.0)) fold))
+    none = λ e f u done fold. let n = neither s a e in ⊎_elim
+        (λ d. p.none n.0 f u d fold)
+        (λ d. q.none n.1 f u d (subst (λ z. FoldsTo x root f z u) (sym (tells_unchanged t0 t s p.tells n.0)) fold))
         done;
   }
 
-  pub done_as : (t0 t : Tree) (Done Also : ℕ → ℕ → Type 0) (s : IRStatus) → ((k i : ℕ) (answer : OpFoldResult) → Also k i → IsFold x t0 k i answer → Done k i) → AreDone x t0 t root Done s → AreDone x t0 t root Also s
-  done_as t0 t Done Also s h p = record { way = p.way; folded = p.folded; still = p.still; tells = p.tells; none = λ e k i answer d fold. p.none e k i answer (h k i answer d fold) fold }
+  pub done_as : (t0 t : Tree) (Done Also : Fold → Type 0) (s : IRStatus) → ((f : Fold) (u : Tree) → Also f → FoldsTo x root f t0 u → Done f) → AreDone x t0 t root Done s → AreDone x t0 t root Also s
+  done_as t0 t Done Also s h p = record { way = p.way; folded = p.folded; still = p.still; tells = p.tells; none = λ e f u d fold. p.none e f u (h f u d fold) fold }
 
-  pub done_partly : (t0 t t' : Tree) (Done : ℕ → ℕ → Type 0) (s : IRStatus) → AreDone x t0 t root Done s → AreDonePartly x t t' root → AreDonePartly x t0 t' root
+  pub done_partly : (t0 t t' : Tree) (Done : Fold → Type 0) (s : IRStatus) → AreDone x t0 t root Done s → AreDonePartly x t t' root → AreDonePartly x t0 t' root
   done_partly t0 t t' Done s p q = record {
     way = way_trans t0 t t' p.way q.way;
     folded = (p.folded.0 ++ q.folded.0, (q.folded.1.0, turn_more p.folded.0 q.folded.0 t0 t q.folded.1.0 p.folded.1 q.folded.1.1, q.folded.1.2));
   }
 
+  -- what folds has a place
+  pub index_within : (t u : Tree) (f : Fold) → FoldsTo x root f t u → index_of f < length (values_at t (site_of f))
+  index_within t u (OfResult k i answer) fold = slice_get_within (results_of t k) i fold.1.0.has.value fold.1.0.has.listed
+  index_within t u (OfArgument block i v) fold = slice_get_within (arguments_of t block) i fold.1.0.one.argument fold.1.0.one.there
+
   -- a sweep that changes nothing leaves nothing that folds
-  pub none_left : (t t' : Tree) (ops : List ℕ) → AreListed t root ops → AreDone x t t' root (λ k i. In k ops) Unchanged → HasFolds x t' root → ⊥
-  none_left t t' ops l p folds =
+  none_left : (t t' : Tree) (sites : List Site) → AreListed t root sites → AreDone x t t' root (λ f. IsAmong sites (length sites) (site_of f)) Unchanged → HasFolds x t' root → ⊥
+  none_left t t' sites l p folds =
       let before : HasFolds x t root = subst (λ z. HasFolds x z root) p.tells folds in
-      ⊎_elim
-      (λ i. p.none refl before.0 before.1 before.2 i before.4)
-      (λ e. before.4.has.may.operands e)
-      (l.each before.0 before.3)
+      none before.0 before.1 before.2
+    where
+      none : (f : Fold) (u : Tree) → FoldsTo x root f t u → ⊥
+      none (OfResult k i answer) u fold = ⊎_elim (λ among. p.none refl (OfResult k i answer) u among fold) (λ e. fold.1.0.has.may.operands e) (l.operations k fold.0)
+      none (OfArgument block i v) u fold = p.none refl (OfArgument block i v) u (l.blocks block fold.0) fold
 
   pub reports : (t0 t : Tree) (s : IRStatus) → TellsFolds x t0 t root s → (HasFolds x t root → ⊥) → ReportsFolds x t0 root s
   reports t0 t Changed told none = (λ e. told.1, λ folds. refl)
   reports t0 t Unchanged told none = (λ e. absurd (cc e), λ folds. absurd (none (subst (λ z. HasFolds x z root) (sym told) folds)))
 
-module _ (x : Folding) (laws : AreLawful x) (root : ℕ) (t : Tree) (w : IsTree t) (lives : IsLive t root) (linked : IsWellLinked x.meaning t root) (k i : ℕ) (seen : IsSeen t root k) where
-  inside : IsInside t root k
-  inside = seen_inside t w root k seen
+module _ (x : Folding) (root : ℕ) (t : Tree) (w : IsTree t) (lives : IsLive t root) (linked : IsWellLinked x.meaning t root) where
+  -- the uses of a value went where it folds to
+  done_moved : (u : Tree) (old new : ℕ) → Moves t u old new → old < length t.definitions → is_counted t old ≡ true → IsWholeChange x.meaning t u root → ((r : ℕ) → IsWellLinked x.meaning t r → IsWellLinked x.meaning u r) → (f : Fold) → FoldsTo x root f t u → (Done : Fold → Type 0) → AreDone x t u root Done Changed
+  done_moved u old new m low counted change links f fold Done = record {
+    way = record { change = change; links = links; edges = edges_kept t u old new m; stays = live t u old new m };
+    folded = (f ∷ [], (u, fold, refl));
+    still = record {
+      seen = seen_forth t u old new m root;
+      before = seen_back t u old new m root;
+      blocks = blocks_seen t u old new m root;
+      empty = empty t u old new m;
+      results = same_results t u old new m;
+      arguments = m.arguments;
+    };
+    tells = (count_lessened t u old new m low counted, (f, u, fold));
+    none = λ e. absurd (cc e);
+  }
 
-  module _ (answer : OpFoldResult) (is : IsFold x t k i answer) where
-    made : definition_of t is.has.value ≡ Some (Result k i)
-    made = w.joined.results k i is.has.value is.has.listed
+  module _ (laws : AreLawful x) (k i : ℕ) (seen : IsSeen t root k) where
+    inside : IsInside t root k
+    inside = seen_inside t w root k seen
 
-    low : is.has.value < length t.definitions
-    low = slice_get_within t.definitions is.has.value (Result k i) made
+    module _ (answer : OpFoldResult) (is : IsFold x t k i answer) where
+      made : definition_of t is.has.value ≡ Some (Result k i)
+      made = w.joined.results k i is.has.value is.has.listed
 
-    counted : is_counted t is.has.value ≡ true
-    counted = both_true (is_used t is.has.value) (is_foldable t (definition_of t is.has.value)) (used_told t is.has.value is.used) (ap (is_foldable t) made ∙ filled (operands_of t k) is.has.may.operands)
+      low : is.has.value < length t.definitions
+      low = slice_get_within t.definitions is.has.value (Result k i) made
 
-  moves_of : (answer : OpFoldResult) (is : IsFold x t k i answer) → (new : ℕ) × Moves t (after_folding x t k is.has.value answer) is.has.value new
-  moves_of (Operand p) is =
-      let lt : p < length (operands_of t k) = answer_within x laws t w k i (Operand p) is.has (linked.admitted k (inr inside)) in
-      let new : ℕ = get_or (operands_of t k) p 0 in
-      let used : In new (operands_of t k) = in_slice (operands_of t k) p new (slice_get-get_or (operands_of t k) p 0 lt) in
-      let own : In is.has.value (results_of t k) = in_slice (results_of t k) i is.has.value is.has.listed in
-      (new, moves_to_used t is.has.value new w (w.joined.operands k new used) (λ e. is.has.may.apart (is.has.value, own, subst (λ z. In z (operands_of t k)) (sym e) used)) (k, used))
-  moves_of (Constant c) is = (length t.definitions, moves_to_constant t k is.has.value seen.block (x.constant_head c) w seen.in_block (low (Constant c) is))
+      counted : is_counted t is.has.value ≡ true
+      counted = both_true (is_used t is.has.value) (is_foldable t (definition_of t is.has.value)) (used_told t is.has.value is.used) (ap (is_foldable t) made ∙ filled (operands_of t k) is.has.may.operands)
 
-  links_of : (answer : OpFoldResult) (is : IsFold x t k i answer) (r : ℕ) → IsWellLinked x.meaning t r → IsWellLinked x.meaning (after_folding x t k is.has.value answer) r
-  links_of (Operand p) is r l = replaced_links x.meaning t is.has.value (get_or (operands_of t k) p 0) r l
-  links_of (Constant c) is r l = constant_links x laws t w k i c is.has is.made seen.block seen.in_block r l
+    moves_of : (answer : OpFoldResult) (is : IsFold x t k i answer) → (new : ℕ) × Moves t (after_folding x t k is.has.value answer) is.has.value new
+    moves_of (Operand p) is =
+        let lt : p < length (operands_of t k) = answer_within x laws t w k i (Operand p) is.has (linked.admitted k (inr inside)) in
+        let new : ℕ = get_or (operands_of t k) p 0 in
+        let used : In new (operands_of t k) = in_slice (operands_of t k) p new (slice_get-get_or (operands_of t k) p 0 lt) in
+        let own : In is.has.value (results_of t k) = in_slice (results_of t k) i is.has.value is.has.listed in
+        (new, moves_to_used t is.has.value new w (w.joined.operands k new used) (λ e. is.has.may.apart (is.has.value, own, subst (λ z. In z (operands_of t k)) (sym e) used)) (k, used))
+    moves_of (Constant c) is = (length t.definitions, moves_to_constant t k is.has.value seen.block (x.constant_head c) w seen.in_block (low (Constant c) is))
 
-  pub done_one : (t' : Tree) (s : IRStatus) → FoldsResult x t t' k i s → AreDone x t t' root (λ a b. (a ≡ k) × (b ≡ i)) s
-  done_one t' Unchanged folds = subst (λ z. AreDone x t z root (λ a b. (a ≡ k) × (b ≡ i)) Unchanged) (sym folds.0)
-      (done_start x root t lives linked (λ a b. (a ≡ k) × (b ≡ i)) (λ a b answer at fold. folds.1 answer (subst (λ z. IsFold x t k z answer) at.1 (subst (λ z. IsFold x t z b answer) at.0 fold))))
-  done_one t' Changed folds = subst (λ z. AreDone x t z root (λ a b. (a ≡ k) × (b ≡ i)) Changed) (sym folds.2) done
-    where
-      answer : OpFoldResult
-      answer = folds.0
+    links_of : (answer : OpFoldResult) (is : IsFold x t k i answer) (r : ℕ) → IsWellLinked x.meaning t r → IsWellLinked x.meaning (after_folding x t k is.has.value answer) r
+    links_of (Operand p) is r l = replaced_links x.meaning t is.has.value (get_or (operands_of t k) p 0) r l
+    links_of (Constant c) is r l = constant_links x laws t w k i c is.has is.made seen.block seen.in_block r l
 
-      is : IsFold x t k i folds.0
-      is = folds.1
+    no_result : ((answer : OpFoldResult) → IsFold x t k i answer → ⊥) → (f : Fold) (u : Tree) → site_of f ≡ Results k → index_of f ≡ i → FoldsTo x root f t u → ⊥
+    no_result none (OfResult a j answer) u e f fold = none answer (subst (λ z. IsFold x t k z answer) f (subst (λ z. IsFold x t z j answer) (cc e) fold.1.0))
+    no_result none (OfArgument block j v) u e f fold = absurd (cc e)
 
-      moves : (new : ℕ) × Moves t (after_folding x t k folds.1.has.value folds.0) folds.1.has.value new
-      moves = moves_of folds.0 folds.1
+    pub result_done : (t' : Tree) (s : IRStatus) → FoldsResult x t t' k i s → AreDone x t t' root (λ f. (site_of f ≡ Results k) × (index_of f ≡ i)) s
+    result_done t' Unchanged folds = subst (λ z. AreDone x t z root (λ f. (site_of f ≡ Results k) × (index_of f ≡ i)) Unchanged) (sym folds.0)
+        (done_start x root t lives linked (λ f. (site_of f ≡ Results k) × (index_of f ≡ i)) (λ f u at fold. no_result folds.1 f u at.0 at.1 fold))
+    result_done t' Changed folds =
+        let u : Tree = after_folding x t k folds.1.has.value folds.0 in
+        let moves = moves_of folds.0 folds.1 in
+        let change = answer_changes x laws t w k i root folds.0 lives linked inside folds.1.has folds.1.made in
+        subst (λ z. AreDone x t z root (λ f. (site_of f ≡ Results k) × (index_of f ≡ i)) Changed) (sym folds.2)
+        (done_moved u folds.1.has.value moves.0 moves.1 (low folds.0 folds.1) (counted folds.0 folds.1) change (links_of folds.0 folds.1) (OfResult k i folds.0) (seen, (folds.1, refl)) (λ f. (site_of f ≡ Results k) × (index_of f ≡ i)))
 
-      done : AreDone x t (after_folding x t k folds.1.has.value folds.0) root (λ a b. (a ≡ k) × (b ≡ i)) Changed
-      done =
-          let u : Tree = after_folding x t k folds.1.has.value folds.0 in
-          let v : ℕ = folds.1.has.value in
-          record {
-            way = record {
-              change = answer_changes x laws t w k i root folds.0 lives linked inside folds.1.has folds.1.made;
-              links = links_of folds.0 folds.1;
-              edges = edges_kept t u v moves.0 moves.1;
-              stays = live t u v moves.0 moves.1;
-            };
-            folded = (record { op = k; index = i; answer = folds.0 } ∷ [], (seen, (folds.1, refl)));
-            still = record { seen = seen_forth t u v moves.0 moves.1 root; before = seen_back t u v moves.0 moves.1 root; empty = empty t u v moves.0 moves.1; results = same_results t u v moves.0 moves.1 };
-            tells = (count_lessened t u v moves.0 moves.1 (low folds.0 folds.1) (counted folds.0 folds.1), (k, i, folds.0, seen, folds.1));
-            none = λ e. absurd (cc e);
-          }
+  module _ (law : OneValueChanges x.meaning) (block i : ℕ) (seen : IsSeenBlock t root block) where
+    holds : HoldsBlock t root block
+    holds =
+        let up = visited_within t w root seen.1.region seen.1.visited in
+        let same : seen.1.block ≡ block = some_is (sym seen.1.in_block ∙ seen.2) in
+        (up.0, block_holder_from t block seen.1.region (ap (block_parent_of t) (sym same) ∙ seen.1.in_region) ∙ up.1, up.2)
+
+    no_argument : ((v : ℕ) → IsArgumentFold x.meaning t block i v → ⊥) → (f : Fold) (u : Tree) → site_of f ≡ Arguments block → index_of f ≡ i → FoldsTo x root f t u → ⊥
+    no_argument none (OfResult k j answer) u e f fold = absurd (cc e)
+    no_argument none (OfArgument b j v) u e f fold = none v (subst (λ z. IsArgumentFold x.meaning t block z v) f (subst (λ z. IsArgumentFold x.meaning t z j v) (cc e) fold.1.0))
+
+    argument_moved : (v : ℕ) (is : IsArgumentFold x.meaning t block i v) → AreDone x t (after_replacing t is.one.argument v) root (λ f. (site_of f ≡ Arguments block) × (index_of f ≡ i)) Changed
+    argument_moved v is =
+        let p : ℕ = is.one.argument in
+        let used : IsUsed t v = (source x.meaning t w block i v is.one, source_uses x.meaning t w block i v is.one) in
+        let made : definition_of t p ≡ Some (Argument block i) = argument_made x.meaning t w block i v is.one in
+        let moves : Moves t (after_replacing t p v) p v = moves_to_used t p v w (w.joined.operands used.0 v used.1) is.one.apart used in
+        let counted : is_counted t p ≡ true = both_true (is_used t p) (is_foldable t (definition_of t p)) (used_told t p is.used) (ap (is_foldable t) made) in
+        done_moved (after_replacing t p v) p v moves (slice_get_within t.definitions p (Argument block i) made) counted (law.change t root block i v w lives linked holds is.one) (law.links t block i v is.one) (OfArgument block i v) (seen, (is, refl)) (λ f. (site_of f ≡ Arguments block) × (index_of f ≡ i))
+
+    pub argument_done : (t' : Tree) (s : IRStatus) → FoldsArgument x.meaning t t' block i s → AreDone x t t' root (λ f. (site_of f ≡ Arguments block) × (index_of f ≡ i)) s
+    argument_done t' Unchanged folds = subst (λ z. AreDone x t z root (λ f. (site_of f ≡ Arguments block) × (index_of f ≡ i)) Unchanged) (sym folds.0)
+        (done_start x root t lives linked (λ f. (site_of f ≡ Arguments block) × (index_of f ≡ i)) (λ f u at fold. no_argument folds.1 f u at.0 at.1 fold))
+    argument_done t' Changed folds = subst (λ z. AreDone x t z root (λ f. (site_of f ≡ Arguments block) × (index_of f ≡ i)) Changed) (sym folds.2) (argument_moved folds.0 folds.1)
+
+pub same_itself : (t : Tree) → IsSameTree t t
+same_itself t = record { operations = λ k. refl; operands = λ k. refl; successors = λ k. refl; parents = λ k. refl; bodies = λ b. refl; arguments = λ b. refl; block_parents = λ b. refl; layouts = λ r. refl }
+
+-- whether an argument folds
+module _ (m : Meaning) (t : Tree) (block i : ℕ) where
+  pub no_fold : ((v : ℕ) → IsOneValue m t block i v → ⊥) → FoldsArgument m t t block i Unchanged
+  no_fold none = (refl, λ v is. none v is.one)
+
+  module _ (argument : ℕ) (there : slice_get (arguments_of t block) i ≡ Some argument) where
+    same_argument : (v : ℕ) (one : IsOneValue m t block i v) → one.argument ≡ argument
+    same_argument v one = some_is (sym one.there ∙ there)
+
+    pub unused_argument : ((user : ℕ) → In argument (operands_of t user) → ⊥) → FoldsArgument m t t block i Unchanged
+    unused_argument none = (refl, λ v is. none is.used.0 (subst (λ z. In z (operands_of t is.used.0)) (same_argument v is.one) is.used.1))
+
+    pub argument_folds : IsUsed t argument → (v : ℕ) → IsOneValue m t block i v → (t' : Tree) → ReplacesByValue t t' block i v → FoldsArgument m t t' block i Changed
+    argument_folds used v one t' replaces = (v, record { one = one; used = (used.0, subst (λ z. In z (operands_of t used.0)) (sym (same_argument v one)) used.1) }, replaces one.argument one.there)
+
+-- nothing changed
+pub undone_same : (t t' : Tree) → t' ≡ t → IsUndone t t'
+undone_same t t' e = subst (IsUndone t) (sym e) (record { same = same_itself t; grows = omega arith })
 
 -- how often a sweep may follow
 abbrev pub one_if : Bool → ℕ
@@ -221,22 +296,36 @@ pub lawful_folding : (m : Meaning) (side_effects : Head → Option Bool) (can_fo
 lawful_folding m side_effects can_fold constants accepts constant_head operand_folds SameTests shortened at_once truly operands makes forwards = record { at_once = at_once; truly = truly; operands = operands; makes = makes; plain = constants_plain m can_fold SameTests shortened accepts constant_head forwards makes }
 
 -- the parts of the sweeps
-pub in_more : (xs : List ℕ) (n x k : ℕ) → slice_get xs n ≡ Some x → In k (take (n + 1) xs) → In k (take n xs) ⊎ (k ≡ x)
-in_more xs n x k at i = ⊎_elim (λ j. inl j) (λ j. inr (only j)) (In-cases k (take n xs) (x ∷ []) (subst (In k) (ap (λ z. take z xs) (add-one n) ∙ take_more xs n x at) i))
-  where
-    only : In k (x ∷ []) → k ≡ x
-    only (inl e) = e
-    only (inr j) = absurd j
+cases : (x y : ℕ) → (x ≡ y) ⊎ (x ≢ y)
+cases x y = grind arith
 
-module _ (x : Folding) (laws : AreLawful x) (root : ℕ) (ops : List ℕ) where
-  pub folding_start : (t : Tree) → IsLive t root → IsWellLinked x.meaning t root → AreListed t root ops → IsFolding x t t root ops Unchanged true
-  folding_start t lives linked listed = record { done = done_start x root t lives linked (λ k i. ⊥) (λ k i answer never fold. never); listed = listed; over = λ e. absurd (cc e) }
+pub split : (i n : ℕ) (A : Type 0) → A → i < n + 1 → (A × (i < n)) ⊎ (A × (i ≡ n))
+split i n A a lt = ⊎_elim (λ e. inr (a, e)) (λ ne. inl (a, omega (arith, lt, ne))) (cases i n)
 
-  pub folding_next : (t0 t t' : Tree) (s a : IRStatus) (going : Bool) → IsFolding x t0 t root ops s true → AreDone x t t' root (λ k i. In k ops) a → (IsTrue going ↔ (a ≡ Changed)) → IsFolding x t0 t' root ops (changed_by_either s a) going
+pub none_among : (sites : List Site) (s : Site) → IsAmong sites 0 s → ⊥
+none_among sites s a = let lt = a.1 in omega (arith, lt)
+
+pub among_more : (sites : List Site) (n : ℕ) (here s : Site) → slice_get sites n ≡ Some here → IsAmong sites (n + 1) s → IsAmong sites n s ⊎ (s ≡ here)
+among_more sites n here s at a = ⊎_elim
+    (λ e. inr (some_is (sym a.2 ∙ ap (slice_get sites) e ∙ at)))
+    (λ ne. let lt = a.1 in inl (a.0, omega (arith, lt, ne), a.2))
+    (cases a.0 n)
+
+pub among_all : (sites : List Site) (n : ℕ) (s : Site) → length sites ≤ n → IsAmong sites (length sites) s → IsAmong sites n s
+among_all sites n s le a = let lt = a.1 in (a.0, omega (arith, lt, le), a.2)
+
+pub read_site : (sites : List Site) (n : ℕ) (here d : Site) → n < length sites → here ≡ get_or sites n d → slice_get sites n ≡ Some here
+read_site sites n here d lt e = slice_get-get_or sites n d lt ∙ ap Some (sym e)
+
+module _ (x : Folding) (root : ℕ) (sites : List Site) where
+  pub folding_start : (t : Tree) → IsLive t root → IsWellLinked x.meaning t root → AreListed t root sites → IsFolding x t t root sites Unchanged true
+  folding_start t lives linked listed = record { done = done_start x root t lives linked (λ f. ⊥) (λ f u never fold. never); listed = listed; over = λ e. absurd (cc e) }
+
+  pub folding_next : (t0 t t' : Tree) (s a : IRStatus) (going : Bool) → IsFolding x t0 t root sites s true → AreDone x t t' root (λ f. IsAmong sites (length sites) (site_of f)) a → (IsTrue going ↔ (a ≡ Changed)) → IsFolding x t0 t' root sites (changed_by_either s a) going
   folding_next t0 t t' s a going h p told = record {
-    done = done_as x root t0 t' (λ k i. ⊥ ⊎ In k ops) (λ k i. ⊥) (changed_by_either s a) (λ k i answer never fold. absurd never) (done_more x root t0 t t' (λ k i. ⊥) (λ k i. In k ops) s a h.done p);
-    listed = same_listed t t' root ops p.still h.listed;
-    over = λ e. none_left x root t t' ops h.listed (subst (λ z. AreDone x t t' root (λ k i. In k ops) z) (left a (λ c. true≢false (sym (told.1 c) ∙ e))) p);
+    done = done_as x root t0 t' (λ f. ⊥ ⊎ IsAmong sites (length sites) (site_of f)) (λ f. ⊥) (changed_by_either s a) (λ f u never fold. absurd never) (done_more x root t0 t t' (λ f. ⊥) (λ f. IsAmong sites (length sites) (site_of f)) s a h.done p);
+    listed = same_listed t t' root sites p.still h.listed;
+    over = λ e. none_left x root t t' sites h.listed (subst (λ z. AreDone x t t' root (λ f. IsAmong sites (length sites) (site_of f)) z) (left a (λ c. true≢false (sym (told.1 c) ∙ e))) p);
   }
     where
       left : (a : IRStatus) → (a ≡ Changed → ⊥) → a ≡ Unchanged
@@ -244,7 +333,7 @@ module _ (x : Folding) (laws : AreLawful x) (root : ℕ) (ops : List ℕ) where
       left Unchanged n = refl
 
   -- a sweep that folds lessens the count, and the other one is the last
-  pub folding_smaller : (t t' : Tree) (a : IRStatus) (going : Bool) → AreDone x t t' root (λ k i. In k ops) a → (IsTrue going ↔ (a ≡ Changed)) → folds_left t' going < folds_left t true
+  pub folding_smaller : (t t' : Tree) (a : IRStatus) (going : Bool) → AreDone x t t' root (λ f. IsAmong sites (length sites) (site_of f)) a → (IsTrue going ↔ (a ≡ Changed)) → folds_left t' going < folds_left t true
   folding_smaller t t' Changed going p told =
       let lt = p.tells.0 in
       let g : one_if going ≡ 1 = ap one_if (told.1 refl) in
@@ -257,28 +346,3 @@ module _ (x : Folding) (laws : AreLawful x) (root : ℕ) (ops : List ℕ) where
       last : (b : Bool) → (IsTrue b → ⊥) → one_if b ≡ 0
       last true n = absurd (n refl)
       last false n = refl
-
-pub split : (i n : ℕ) (A : Type 0) → A → i < n + 1 → (A × (i < n)) ⊎ (A × (i ≡ n))
-split i n A a lt = ⊎_elim (λ e. inr (a, e)) (λ ne. inl (a, omega (arith, lt, ne))) (cases i n)
-  where
-    cases : (x y : ℕ) → (x ≡ y) ⊎ (x ≢ y)
-    cases x y = grind arith
-
-pub place_below : (xs : List ℕ) (i v n : ℕ) → slice_get xs i ≡ Some v → length xs ≤ n → i < n
-place_below xs i v n at le = let lt = slice_get_within xs i v at in omega (arith, lt, le)
-
-pub none_taken : (xs : List ℕ) (k : ℕ) → In k (take 0 xs) → ⊥
-none_taken [] k i = absurd i
-none_taken (x ∷ xs) k i = absurd i
-
-pub read_at : (xs : List ℕ) (n x : ℕ) → n < length xs → x ≡ get_or xs n x → slice_get xs n ≡ Some x
-read_at xs n x lt e = slice_get_read xs (length xs) n x refl lt e
-
-pub in_read : (xs : List ℕ) (n x : ℕ) → n < length xs → x ≡ get_or xs n x → In x xs
-in_read xs n x lt e = in_slice xs n x (read_at xs n x lt e)
-
-pub take_whole : (xs : List ℕ) (n : ℕ) → length xs ≤ n → take n xs ≡ xs
-take_whole xs n le = take_all n xs le
-
-pub same_itself : (t : Tree) → IsSameTree t t
-same_itself t = record { operations = λ k. refl; operands = λ k. refl; successors = λ k. refl; parents = λ k. refl; bodies = λ b. refl; arguments = λ b. refl; block_parents = λ b. refl; layouts = λ r. refl }

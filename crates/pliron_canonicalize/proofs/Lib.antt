@@ -4,3 +4,4 @@ mod Moving
 mod Doing
 mod Putting
 mod Testing
+mod Listing

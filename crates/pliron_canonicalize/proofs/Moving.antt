@@ -1,6 +1,6 @@
 -- The uses of a value went to another one, before which at most one new operation was put.
-use Rattle.std.proofs.Common.{◌≡◌, ◌≢◌, ◌⊎◌, ◌&&◌, ◌<◌, ◌+◌, ℕ, suc, Bool, true, false, true≢false, List, [], ◌∷◌, ◌++◌, length, map, Option, Some, None, IsSome, IsTrue, inl, inr, ⊎_elim, slice_get, get_or, if◌then◌else◌, refl, sym, ap, ◌∙◌, subst, arith}
-use Rattle.std.proofs.lemmas.List.{get_or_past, get_or-set_other, length-append}
+use Rattle.std.proofs.Common.{◌≡◌, ◌≢◌, ◌⊎◌, ◌↔◌, ◌&&◌, ◌<◌, ◌+◌, ℕ, suc, Bool, true, false, true≢false, List, [], ◌∷◌, ◌++◌, length, map, Option, Some, None, IsSome, IsTrue, inl, inr, ⊎_elim, slice_get, get_or, if◌then◌else◌, refl, sym, ap, ◌∙◌, subst, arith}
+use Rattle.std.proofs.lemmas.List.{get_or_past, get_or-set_other, get_or-set_same, length-append}
 use Rattle.std.proofs.lemmas.Option.{slice_get-get_or}
 use Rattle.pliron_core.specs.declared.attrs.Head.{Head}
 use Rattle.pliron_core.specs.declared.context.Def.{Def}
@@ -8,12 +8,12 @@ use Rattle.pliron_core.specs.declared.context.Def.TheVariants.{Result, Argument}
 use Rattle.pliron_core.specs.Invariant.{IsTree}
 use Rattle.pliron_core.specs.Lists.{put_before}
 use Rattle.pliron_core.specs.Reads.{has_ssa, has_ssa_at, ssa_in}
-use Rattle.pliron_core.specs.Tree.{Tree, In, IsDefined, IsLive, no_entry, row_of, head_of, operands_of, regions_of, results_of, parent_of, body_of, block_parent_of, layout_of, region_parent_of, definition_of, first_of, op_of_slot}
+use Rattle.pliron_core.specs.Tree.{Tree, In, IsDefined, IsLive, no_entry, row_of, operands_of, regions_of, results_of, arguments_of, parent_of, body_of, block_parent_of, region_parent_of, definition_of, first_of, op_of_slot}
 use Rattle.pliron_core.specs.Uses.{replace_target}
 use Rattle.pliron_core.specs.Writes.{after_creating, after_placing, after_replacing}
 use Rattle.pliron_core.proofs.BesideLemmas.{created_beside}
-use Rattle.pliron_core.proofs.GrownLemmas.{get_grown, slice_get_added, slice_get_kept}
-use Rattle.pliron_core.proofs.HoldingLemmas.{past_live, slice_in}
+use Rattle.pliron_core.proofs.GrownLemmas.{get_grown, slice_get_added}
+use Rattle.pliron_core.proofs.HoldingLemmas.{past_live, slice_in, some_is}
 use Rattle.pliron_core.proofs.UsedLemmas.{get_map, in_map}
 use Rattle.pliron_laws.specs.Outcomes.{after_materialising}
 use Rattle.pliron_laws.specs.Paths.{Path}
@@ -25,7 +25,7 @@ use Rattle.pliron_theory.proofs.PutEdges.{put_alike}
 use Rattle.pliron_equivalence.proofs.Replaced.{operands_replaced, target_cases, tree_kept}
 use Rattle.pliron_order.specs.Seen.{IsReachedIn, IsLookedIntoIf, IsVisited, Starts, Nested, IsSeen}
 use Rattle.pliron_canonicalize.specs.Counts.{count_below, foldable_count, is_counted, is_foldable, is_used}
-use Rattle.pliron_canonicalize.specs.Folds.{IsUsed}
+use Rattle.pliron_canonicalize.specs.Folds.{IsSeenBlock, IsUsed}
 use Rattle.pliron_canonicalize.proofs.Counting.{count_less, told_used, used_told}
 
 -- the new value was used before, or a new operation of nothing makes it
@@ -41,6 +41,8 @@ pub record Moves (t t' : Tree) (old new : ℕ) : Type 0 where
   pub childless : regions_of t' (length t.operations) ≡ []
   pub parents : (k : ℕ) → k ≢ length t.operations → parent_of t' k ≡ parent_of t k
   pub homes : (b : ℕ) → block_parent_of t' b ≡ block_parent_of t b
+  pub arguments : (b : ℕ) → arguments_of t' b ≡ arguments_of t b
+  pub beside : (b : ℕ) → parent_of t' (length t.operations) ≡ Some b → (k : ℕ) × (parent_of t k ≡ Some b)
   pub alike : EdgesAlike t t'
   pub definitions : (v : ℕ) → v < length t.definitions → definition_of t' v ≡ definition_of t v
   pub new_is : IsKnownOrNew t t' new
@@ -220,21 +222,43 @@ module _ (t t' : Tree) (old new : ℕ) (h : Moves t t' old new) where
       reached = reached_forth x.region x.block x.reached;
     }
 
-    pub seen_back : (k : ℕ) → IsSeen t' root k → IsSeen t root k ⊎ (operands_of t' k ≡ [])
-    seen_back k x = ⊎_elim
-        (λ e. inr (ap (operands_of t') e ∙ new_empty))
-        (λ ne.
+    seen_beside : (k j : ℕ) (x : IsSeen t' root k) → parent_of t j ≡ Some x.block → IsSeen t root j
+    seen_beside k j x at =
         let before = visited_back x.region x.visited in
-        inl (record {
+        record {
           block = x.block;
           region = x.region;
-          in_block = sym (h.parents k ne) ∙ x.in_block;
+          in_block = at;
           in_region = sym (h.homes x.block) ∙ x.in_region;
           visited = before;
           dominance = subst IsTrue (visited_ssa x.region before) x.dominance;
           reached = reached_back x.region x.block x.reached;
-        }))
+        }
+
+    pub seen_back : (k : ℕ) → IsSeen t' root k → IsSeen t root k ⊎ (operands_of t' k ≡ [])
+    seen_back k x = ⊎_elim
+        (λ e. inr (ap (operands_of t') e ∙ new_empty))
+        (λ ne. inl (seen_beside k k x (sym (h.parents k ne) ∙ x.in_block)))
         (cases k (length t.operations))
+
+    -- an operation that was there stands beside one that is there
+    home_before : (k b : ℕ) → parent_of t' k ≡ Some b → (j : ℕ) × (parent_of t j ≡ Some b)
+    home_before k b at = ⊎_elim
+        (λ e. h.beside b (subst (λ z. parent_of t' z ≡ Some b) e at))
+        (λ ne. (k, sym (h.parents k ne) ∙ at))
+        (cases k (length t.operations))
+
+    pub blocks_seen : (b : ℕ) → IsSeenBlock t' root b ↔ IsSeenBlock t root b
+    blocks_seen b = (back, forth)
+      where
+        back : IsSeenBlock t' root b → IsSeenBlock t root b
+        back s =
+            let same : s.1.block ≡ b = some_is (sym s.1.in_block ∙ s.2) in
+            let j = home_before s.0 b s.2 in
+            (j.0, seen_beside s.0 j.0 s.1 (j.1 ∙ ap Some (sym same)), j.1)
+
+        forth : IsSeenBlock t root b → IsSeenBlock t' root b
+        forth s = (s.0, seen_forth s.0 s.1, h.parents s.0 (not_new s.0 (h.tree.joined.standing s.0 b s.2).0) ∙ s.2)
 
 -- to a value that is used
 pub moves_to_used : (t : Tree) (old new : ℕ) → IsTree t → IsDefined t new → old ≢ new → IsUsed t new → Moves t (after_replacing t old new) old new
@@ -247,6 +271,8 @@ moves_to_used t old new w d ne u = record {
   childless = ap (λ z. z.regions) (get_or_past t.operations (length t.operations) no_entry (omega arith));
   parents = λ k other. refl;
   homes = λ b. refl;
+  arguments = λ b. refl;
+  beside = λ b at. (length t.operations, at);
   alike = record { grows = omega arith; regions = λ op. refl; layouts = λ r. refl; successors = λ b. refl; bodies = λ b. refl };
   definitions = λ v lt. refl;
   new_is = inl (refl, u);
@@ -269,6 +295,8 @@ moves_to_constant t k old block head w at lt = subst (λ z. Moves t z old (lengt
       childless = ap (λ z. z.regions) (made_row t (after_creating t head 1 0) (length t.operations) head refl refl);
       parents = λ j ne. get_or-set_other (after_creating t head 1 0).parents (length t.operations) j (Some block) None ne ∙ (created_beside t head 1 0 w).parents j ne;
       homes = λ b. refl;
+      arguments = λ b. refl;
+      beside = λ b here. (k, at ∙ sym placed ∙ here);
       alike = subst (EdgesAlike t) (put_is t k old block head w at) (put_alike t k old block head w at);
       definitions = λ v l.
           let here = slice_get-get_or t.definitions v (Result 0 0) l in
@@ -276,6 +304,9 @@ moves_to_constant t k old block head w at lt = subst (λ z. Moves t z old (lengt
       new_is = inr (longer, refl, fresh);
     }
       where
+        placed : parent_of (after_placing (after_creating t head 1 0) (length t.operations) block (put_before k (length t.operations) (body_of t block))) (length t.operations) ≡ Some block
+        placed = get_or-set_same (after_creating t head 1 0).parents (length t.operations) (Some block) None (let e = w.keys.parents in let l = length-append t.parents (None ∷ []) in omega (arith, e, l))
+
         longer : length (t.definitions ++ Result (length t.operations) 0 ∷ []) ≡ suc (length t.definitions)
         longer = let l = length-append t.definitions (Result (length t.operations) 0 ∷ []) in omega (arith, l)
 

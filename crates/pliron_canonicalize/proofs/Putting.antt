@@ -1,5 +1,5 @@
 -- Answers are put in the place of results.
-use Rattle.std.proofs.Common.{◌≡◌, ◌≢◌, ◌⊎◌, ◌↔◌, ◌<◌, ◌≤◌, ◌+◌, ℕ, Bool, true, false, List, [], ◌∷◌, length, Option, Some, None, IsTrue, get_or, true≢false, inl, inr, ⊎_elim, slice_get, refl, sym, ap, ◌∙◌, subst, arith}
+use Rattle.std.proofs.Common.{◌≡◌, ◌↔◌, ◌<◌, ◌≤◌, ℕ, Bool, true, false, List, length, Option, Some, None, IsTrue, get_or, true≢false, inl, inr, ⊎_elim, slice_get, refl, sym, ap, ◌∙◌, subst}
 use Rattle.pliron_core.specs.declared.attrs.IRStatus.{IRStatus}
 use Rattle.pliron_core.specs.declared.attrs.IRStatus.TheVariants.{Changed, Unchanged}
 use Rattle.std.proofs.lemmas.Option.{slice_get_past, slice_get_read}
@@ -16,10 +16,10 @@ use Rattle.pliron_laws.proofs.Records.{make_op, operation_of}
 use Rattle.pliron_operand_folding.specs.declared.OpFoldResult.{OpFoldResult}
 use Rattle.pliron_operand_folding.specs.declared.OpFoldResult.TheVariants.{Operand, Constant}
 use Rattle.pliron_operand_laws.specs.Answers.{Folding, IsAnswered, operand_answers, constant_answers}
-use Rattle.pliron_operand_laws.specs.Answered.{HasAnswer, IsMade, MayFold, UsesItself, after_folding}
+use Rattle.pliron_operand_laws.specs.Answered.{HasAnswer, IsMade, MayFold}
 use Rattle.pliron_operand_laws.proofs.Answered.{AreLawful}
 use Rattle.pliron_operand_laws.proofs.Whole.{answer_within}
-use Rattle.pliron_canonicalize.specs.Folds.{IsFold, IsUsed}
+use Rattle.pliron_canonicalize.specs.Folds.{IsUsed}
 use Rattle.pliron_canonicalize.specs.Steps.{AreAnswers, FoldsResult, PutsAnswer}
 
 -- whether a value is a result

@@ -1,5 +1,5 @@
 -- Whether an operation may fold.
-use Rattle.std.proofs.Common.{◌≡◌, ◌≢◌, ◌⊎◌, ◌↔◌, ◌<◌, ◌≤◌, ◌+◌, ℕ, Bool, true, false, not, true≢false, List, [], ◌∷◌, length, Some, IsTrue, ⊎_elim, inl, inr, slice_get, refl, sym, ap, ◌∙◌, subst, arith}
+use Rattle.std.proofs.Common.{◌≡◌, ◌≢◌, ◌⊎◌, ◌↔◌, ◌<◌, ◌≤◌, ◌+◌, ℕ, Bool, true, false, not, true≢false, List, [], ◌∷◌, length, Some, IsTrue, ⊎_elim, slice_get, refl, sym, ap, ◌∙◌, subst, arith}
 use Rattle.std.proofs.lemmas.Option.{slice_get_within}
 use Rattle.pliron_core.specs.Tree.{Tree, In, operands_of, results_of, successors_of}
 use Rattle.pliron_core.proofs.HoldingLemmas.{slice_in, some_is}

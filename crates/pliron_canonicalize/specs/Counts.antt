@@ -1,5 +1,5 @@
 -- What each fold lessens.
-use Rattle.std.specs.Prelude.{◌+◌, ◌&&◌, if◌then◌else◌, nat_eq, zero, suc, ℕ, Bool, true, false, List, [], ◌∷◌, Option, Some, None, length}
+use Rattle.std.specs.Prelude.{◌+◌, ◌&&◌, if◌then◌else◌, nat_eq, zero, suc, ℕ, Bool, true, false, Option, Some, None, length}
 use Rattle.std.specs.List.{list_any}
 use Rattle.pliron_core.specs.declared.context.Def.{Def}
 use Rattle.pliron_core.specs.declared.context.Def.TheVariants.{Result, Argument}
@@ -15,10 +15,10 @@ count_below test (suc n) = (if test n then 1 else 0) + count_below test n
 abbrev pub is_used : Tree → ℕ → Bool
 is_used t v = list_any (λ operands. list_any (λ w. nat_eq w v) operands) t.operands
 
--- whether a value with this definition may fold: a result of an operation with operands
+-- whether a value with this definition may fold: an argument, or a result of an operation with operands
 abbrev pub is_foldable : Tree → Option Def → Bool
 is_foldable t None = false
-is_foldable t (Some (Argument block i)) = false
+is_foldable t (Some (Argument block i)) = true
 is_foldable t (Some (Result k i)) = has_entries (operands_of t k)
 
 abbrev pub is_counted : Tree → ℕ → Bool

@@ -1,3 +1,4 @@
 pub mod Folds
 pub mod Counts
+pub mod Sites
 pub mod Steps

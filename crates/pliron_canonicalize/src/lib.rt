@@ -1,4 +1,5 @@
-//! Canonicalization: results that are operands of their operations, or constants, go, and their uses go to those.
+//! Canonicalization: uses of results that are operands of their operations, or constants, and of arguments of blocks that
+//! are one value, go to those.
 //!
 //! It stands on the theory of runs, the laws of dialects and dominance order. Of the other optimisations, of passes
 //! and of the program it knows nothing.
@@ -13,35 +14,40 @@ ghost use Rattle.pliron_theory.specs.Edges.{KeepsEdges};
 ghost use Rattle.pliron_canonicalize.specs.Folds.{Fold, FoldInTurn, AreFolded, HasFolds, ReportsFolds};
 ghost use Rattle.pliron_canonicalize.specs.Counts.{foldable_count};
 
+mod arguments;
+mod sites;
 mod sweep;
 
+use crate::sites::visited_sites;
 use crate::sweep::fold_all;
 use pliron_core::{Context, IRRewriter, IRStatus, Operation, Ptr, Rewriter};
 use pliron_laws::{OptError, Room};
 use pliron_operand_folding::OperandFoldInterface;
 use pliron_operand_laws::HasOperandFolding;
-use pliron_order::dominance_order;
 use std::alloc::Global;
 
-/// Folds operations inside the operation: where the dialect answers that a result is an operand of its operation, or
-/// a constant, the uses of the result go there, to a new operation just before that makes the constant. A constant is
-/// known of an operand where an operation of no operands, regions and side effects makes it. Operations are visited in
-/// the blocks that the entries of their regions reach, in regions with SSA dominance, however deep, but for those that
-/// have successors, no operands, or a result of their own as an operand.
+/// Folds what is inside the operation: where the dialect answers that a result is an operand of its operation, or a
+/// constant, the uses of the result go there, to a new operation just before that makes the constant; where an argument
+/// of a block is one value, which each edge forwards that doesn't forward the argument itself, its uses go to that. A
+/// constant is known of an operand where an operation of no operands, regions and side effects makes it. Operations, and
+/// blocks that have some, are visited where the entries of their regions reach them, in regions with SSA dominance,
+/// however deep, but for operations that have successors, no operands, or a result of their own as an operand, and for
+/// entries.
 ///
-/// Nothing is erased, and a result without uses is left alone. Values and operations keep their keys; blocks and
-/// edges stay.
+/// Nothing is erased, and a value without uses is left alone. Values and operations keep their keys; blocks and edges
+/// stay.
 ///
 /// Runs are kept of every root that is otherwise fit to run, also of one whose head may not be a root's.
 ///
-/// Asks that the operation stands and is well linked. Answers `Changed` exactly if some result folded, and the tree
-/// changed; then no result folds any more.
+/// Asks that the operation stands and is well linked. Answers `Changed` exactly if something folded, and the tree
+/// changed; then nothing folds any more.
 ///
 /// Errors: allocation failure. The tree is then one after some folds, each of them whole.
 ///
-/// Cost: that of a dominator tree for each region, and for each sweep over the operations what the dialect answers for
-/// each result with uses, and a step for each use that moves. Each sweep but the last lessens the count of used values
-/// that may fold; where definitions come before uses the first one folds all, as it goes in dominance order.
+/// Cost: that of a dominator tree for each region, and for each sweep what the dialect answers for each result with
+/// uses, one `successor_operand` for each argument with uses and each edge to its block, and a step for each use that
+/// moves. Each sweep but the last lessens the count of used values that may fold. Where definitions come before uses the
+/// first one folds all but what waits for an edge that comes behind its block in dominance order.
 pub fn canonicalize<D: OperandFoldInterface>(
     alloc: Global,
     op: Ptr<Operation>,
@@ -65,7 +71,7 @@ pub fn canonicalize<D: OperandFoldInterface>(
     canonicalize_through::<D, IRRewriter>(alloc, op, ctx, &mut rewriter)
 }
 
-/// Folds operations inside the operation, as `canonicalize` does, and makes each change through this rewriter, whose
+/// Folds what is inside the operation, as `canonicalize` does, and makes each change through this rewriter, whose
 /// listener hears of it: the room for a whole rewrite is asked of it before the first change of that.
 ///
 /// Asks that the operation stands and is well linked. Errors: as `canonicalize`, and where the rewriter has no room.
@@ -91,6 +97,6 @@ pub fn canonicalize_through<D: OperandFoldInterface, R: Rewriter + Room>(
     ensures memory { IsOkUnless result OptError.Memory }
 {
     ctx.well_formed();
-    let order = dominance_order(alloc, op, ctx)?;
-    fold_all::<D, R>(alloc, op, &order.operations, ctx, rewriter)
+    let sites = visited_sites(alloc, op, ctx)?;
+    fold_all::<D, R>(alloc, op, &sites, ctx, rewriter)
 }

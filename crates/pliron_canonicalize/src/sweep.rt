@@ -1,14 +1,16 @@
-//! Sweeps over operations, each of which folds what it can.
+//! Sweeps over results and arguments, each of which folds what it can.
 ghost use Rattle.std.specs.Prelude.{◌≡◌, ◌↔◌, ◌<◌, ◌≤◌, ℕ, List, Some, IsSome, IfOk, OnErr, OnOk, IsOkUnless, IsTrue, length};
 ghost use Rattle.pliron_core.specs.declared.attrs.IRStatus.TheVariants.{Changed as IsChanged, Unchanged as IsUnchanged};
 ghost use Rattle.pliron_core.specs.Tree.{In, IsDefined, IsLive, results_of, parent_of};
 ghost use Rattle.pliron_laws.specs.Linked.{IsWellLinked, IsAdmitted};
-ghost use Rattle.pliron_order.specs.Seen.{IsSeen};
 ghost use Rattle.pliron_canonicalize.specs.Counts.{foldable_count};
 ghost use Rattle.pliron_canonicalize.specs.Folds.{Fold, FoldInTurn, AreFolded, HasFolds, ReportsFolds};
 ghost use Rattle.pliron_operand_laws.specs.Answered.{MayFold, UsesItself};
-ghost use Rattle.pliron_canonicalize.specs.Steps.{AreAnswers, PutsAnswer, FoldsResult, IsUndone, IsOnWay, AreDone, AreDonePartly, AreListed};
+ghost use Rattle.pliron_canonicalize.specs.Sites.{AreListed, IsAmong, IsLiveSite, IsSeenAt, index_of, site_of, values_at};
+ghost use Rattle.pliron_canonicalize.specs.Steps.{AreAnswers, PutsAnswer, FoldsResult, IsUndone, IsOnWay, AreDone, AreDonePartly};
 
+use crate::arguments::fold_argument;
+use crate::sites::Site;
 use pliron_core::{Context, Def, IRStatus, Operation, Ptr, Rewriter, Value};
 use pliron_laws::{OptError, Room};
 use pliron_operand_folding::{OpFoldResult, OperandFoldInterface};
@@ -132,76 +134,118 @@ fn fold_result<D: OperandFoldInterface, R: Rewriter + Room>(
     put_answer::<D, R>(alloc, op, index, &constants, ctx, rewriter)
 }
 
-// The results of the operation fold, one after the other.
-fn fold_operation<D: OperandFoldInterface, R: Rewriter + Room>(
+// How many values stand at the site.
+fn value_count(site: &Site, ctx: &Context) -> usize
+    requires { IsLiveSite ctx.now.tree site.now }
+    ensures { result ≡ length (values_at ctx.now.tree site.now) }
+{
+    match site {
+        Site::Arguments(block) => block.num_argument(ctx),
+        Site::Results(op) => op.num_result(ctx),
+    }
+}
+
+// The value at the site with this index folds, if it is used.
+fn fold_value<D: OperandFoldInterface, R: Rewriter + Room>(
     alloc: Global,
     root: Ptr<Operation>,
-    op: Ptr<Operation>,
+    site: &Site,
+    index: usize,
     ctx: &mut Context,
     rewriter: &mut R,
 ) -> Result<IRStatus, OptError>
     requires live { IsLive ctx.old.tree root }
     requires linked { IsWellLinked D.meaning ctx.old.tree root }
-    requires seen { IsSeen ctx.old.tree root op }
+    requires seen { IsSeenAt ctx.old.tree root site.now }
+    requires index { index < length (values_at ctx.old.tree site.now) }
     ensures ok { IfOk result (λ status. AreDone ⟦<D as HasOperandFolding>⟧.operand_folding ctx.old.tree ctx.new.tree
-        root (λ k i. k ≡ op) status) }
+        root (λ f. (site_of f ≡ site.now) × (index_of f ≡ index)) status) }
+    ensures refused { OnErr result (AreDonePartly ⟦<D as HasOperandFolding>⟧.operand_folding ctx.old.tree ctx.new.tree
+        root) }
+    ensures memory { IsOkUnless result OptError.Memory }
+{
+    ctx.well_formed();
+    match site {
+        Site::Arguments(block) => {
+            let outcome = fold_argument::<D, R>(alloc, *block, index, ctx, rewriter);
+            ctx.well_formed();
+            outcome
+        }
+        Site::Results(op) => {
+            let outcome = fold_result::<D, R>(alloc, *op, index, ctx, rewriter);
+            ctx.well_formed();
+            outcome
+        }
+    }
+}
+
+// The values at the site fold, one after the other.
+fn fold_site<D: OperandFoldInterface, R: Rewriter + Room>(
+    alloc: Global,
+    root: Ptr<Operation>,
+    site: &Site,
+    ctx: &mut Context,
+    rewriter: &mut R,
+) -> Result<IRStatus, OptError>
+    requires live { IsLive ctx.old.tree root }
+    requires linked { IsWellLinked D.meaning ctx.old.tree root }
+    requires seen { IsSeenAt ctx.old.tree root site.now }
+    ensures ok { IfOk result (λ status. AreDone ⟦<D as HasOperandFolding>⟧.operand_folding ctx.old.tree ctx.new.tree
+        root (λ f. site_of f ≡ site.now) status) }
     ensures refused { OnErr result (AreDonePartly ⟦<D as HasOperandFolding>⟧.operand_folding ctx.old.tree ctx.new.tree
         root) }
     ensures memory { IsOkUnless result OptError.Memory }
 {
     ctx.well_formed();
     let mut status = IRStatus::Unchanged;
-    for index in 0..op.num_result(ctx) {
-        ctx.well_formed();
-        let outcome = fold_result::<D, R>(alloc, op, index, ctx, rewriter);
-        ctx.well_formed();
-        let folded = outcome?;
+    for index in 0..value_count(site, ctx) {
+        let folded = fold_value::<D, R>(alloc, root, site, index, ctx, rewriter)?;
         status |= folded;
     }
     Ok(status)
 }
 
-// One sweep over these operations.
+// One sweep over these sites.
 fn sweep<D: OperandFoldInterface, R: Rewriter + Room>(
     alloc: Global,
     root: Ptr<Operation>,
-    ops: &[Ptr<Operation>],
+    sites: &[Site],
     ctx: &mut Context,
     rewriter: &mut R,
 ) -> Result<IRStatus, OptError>
     requires live { IsLive ctx.old.tree root }
     requires linked { IsWellLinked D.meaning ctx.old.tree root }
-    requires listed { AreListed ctx.old.tree root ops.now }
+    requires listed { AreListed ctx.old.tree root sites.now }
     ensures ok { IfOk result (λ status. AreDone ⟦<D as HasOperandFolding>⟧.operand_folding ctx.old.tree ctx.new.tree
-        root (λ k i. In k ops.now) status) }
+        root (λ f. IsAmong sites.now (length sites.now) (site_of f)) status) }
     ensures refused { OnErr result (AreDonePartly ⟦<D as HasOperandFolding>⟧.operand_folding ctx.old.tree ctx.new.tree
         root) }
     ensures memory { IsOkUnless result OptError.Memory }
 {
     ctx.well_formed();
     let mut status = IRStatus::Unchanged;
-    for place in 0..ops.len() {
-        let folded = fold_operation::<D, R>(alloc, root, ops[place], ctx, rewriter)?;
+    for place in 0..sites.len() {
+        let folded = fold_site::<D, R>(alloc, root, &sites[place], ctx, rewriter)?;
         status |= folded;
     }
     Ok(status)
 }
 
-/// Folds these operations until none of them folds.
+/// Folds what stands at these sites until nothing there folds.
 ///
-/// Asks that the root stands and is well linked, and that each operation that is seen in it and has operands is one of
-/// these. Errors: allocation failure, after some whole folds. Cost: that of as many sweeps as lessen the count of
-/// values that may fold, and one more.
+/// Asks that the root stands and is well linked, and that each block that is seen in it is one of these, and each
+/// operation that has operands. Errors: allocation failure, after some whole folds. Cost: that of as many sweeps as
+/// lessen the count of values that may fold, and one more.
 pub fn fold_all<D: OperandFoldInterface, R: Rewriter + Room>(
     alloc: Global,
     root: Ptr<Operation>,
-    ops: &[Ptr<Operation>],
+    sites: &[Site],
     ctx: &mut Context,
     rewriter: &mut R,
 ) -> Result<IRStatus, OptError>
     requires live { IsLive ctx.old.tree root }
     requires linked { IsWellLinked D.meaning ctx.old.tree root }
-    requires listed { AreListed ctx.old.tree root ops.now }
+    requires listed { AreListed ctx.old.tree root sites.now }
     ensures way { IsOnWay D.meaning ctx.old.tree ctx.new.tree root }
     ensures folded { (fs : List Fold) × AreFolded ⟦<D as HasOperandFolding>⟧.operand_folding root fs ctx.old.tree
         ctx.new.tree × OnOk result (FoldInTurn ⟦<D as HasOperandFolding>⟧.operand_folding root fs ctx.old.tree
@@ -216,7 +260,7 @@ pub fn fold_all<D: OperandFoldInterface, R: Rewriter + Room>(
     let mut status = IRStatus::Unchanged;
     let mut going = true;
     while going {
-        let swept = sweep::<D, R>(alloc, root, ops, ctx, rewriter)?;
+        let swept = sweep::<D, R>(alloc, root, sites, ctx, rewriter)?;
         going = is_change(swept);
         status |= swept;
     }

@@ -1,5 +1,5 @@
 //! Texts, and what is left of them. `C` stands before one that changes, `U` before one that does not, and before that a
-//! name. They were worked out by hand; five are what tests of MLIR's canonicalization and constant folding ask, in this
+//! name. They were worked out by hand; eleven are what tests of MLIR's canonicalization and constant folding ask, in this
 //! dialect.
 
 pub static ROWS: &str = "\
@@ -53,4 +53,46 @@ what reads or has two results -- U func { b0(): r = read; l, s = pair; a = add r
 uses before definitions -- C func { b0(): c = add b a; b = add a a; a = const 2; ret c } => func { b0(): \
     v0 = const 6; v1 = add v2 v4; v2 = const 4; v3 = add v4 v4; v4 = const 2; ret v0 }
 an operation that uses itself -- U func { b0(): a = mul a z; z = const 0; ret a } => func { b0(): v0 = \
-    mul v0 v1; v1 = const 0; ret v0 }";
+    mul v0 v1; v1 = const 0; ret v0 }
+a branch that forwards a constant, as br_folding of MLIR's canonicalize.mlir -- C func { b0(): z = const 0; \
+    br b1(z); b1(p): ret p } => func { b0(): v0 = const 0; br b1(v0); b1(v1): ret v0 }
+two edges that forward one value, as cond_br_same_successor there -- C func { b0(c, x): cbr c b1(x) b1(x); \
+    b1(p): ret p } => func { b0(v0, v1): cbr v0 b1(v1) b1(v1); b1(v2): ret v1 }
+two edges that forward two values, as cond_br_same_successor_insert_select there -- U func { b0(c, x): cbr c \
+    b1(x) b1(c); b1(p): ret p } => func { b0(v0, v1): cbr v0 b1(v1) b1(v0); b1(v2): ret v2 }
+through a block to a join, as cond_br_passthrough there -- C func { b0(c, x): cbr c b1(x) b2(); b1(p): br \
+    b3(p); b2(): br b3(x); b3(q): ret q } => func { b0(v0, v1): cbr v0 b1(v1) b2(); b1(v2): br b3(v1); b2(): br \
+    b3(v1); b3(v3): ret v1 }
+a loop that nothing leaves, as values in a cycle in MLIR's canonicalize-dce.mlir -- C func { b0(x): br \
+    b1(x); b1(p): br b1(p) } => func { b0(v0): br b1(v0); b1(v1): br b1(v0) }
+one of two arguments, as redundant_block_args0 of MLIR's canonicalize-block-merge.mlir -- C func { b0(c, x, \
+    y): cbr c b2(x, y) b1(); b1(): br b2(x, c); b2(p, q): ret p q } => func { b0(v0, v1, v2): cbr v0 b2(v1, v2) \
+    b1(); b1(): br b2(v1, v0); b2(v3, v4): ret v1 v4 }
+an argument that is known makes a product known -- C func { b0(x): z = const 0; br b1(z); b1(p): a = mul x \
+    p; br b2(a); b2(q): ret q } => func { b0(v0): v1 = const 0; br b1(v1); b1(v2): v3 = mul v0 v1; br b2(v1); \
+    b2(v4): ret v1 }
+a product that is known makes edges forward one value -- C func { b0(x): z = const 0; cbr x b1() b2(); b1(): \
+    a = mul x z; br b3(a); b2(): br b3(z); b3(p): ret p } => func { b0(v0): v1 = const 0; cbr v0 b1() b2(); \
+    b1(): v2 = mul v0 v1; br b3(v1); b2(): br b3(v1); b3(v3): ret v1 }
+loops in a loop that forward what came -- C func { b0(x): br b1(x); b1(p): br b2(p); b2(q): r = read; cbr r \
+    b2(q) b3(); b3(): s = read; cbr s b1(p) b4(); b4(): ret q } => func { b0(v0): br b1(v0); b1(v1): br b2(v0); \
+    b2(v2): v3 = read; cbr v3 b2(v0) b3(); b3(): v4 = read; cbr v4 b1(v0) b4(); b4(): ret v0 }
+a loop that changes its argument -- U func { b0(x): br b1(x); b1(p): q = add p p; cbr q b1(q) b2(); b2(): \
+    ret p } => func { b0(v0): br b1(v0); b1(v1): v2 = add v1 v1; cbr v2 b1(v2) b2(); b2(): ret v1 }
+an entry, which a value reaches that does not dominate it -- U func { b0(x): r = read; cbr r b0(r) b1(); \
+    b1(): ret x } => func { b0(v0): v1 = read; cbr v1 b0(v1) b1(); b1(): ret v0 }
+two arguments that go round -- U func { b0(x): br b1(x, x); b1(p, q): r = read; cbr r b1(q, p) b2(); b2(): \
+    ret p } => func { b0(v0): br b1(v0, v0); b1(v1, v2): v3 = read; cbr v3 b1(v2, v1) b2(); b2(): ret v1 }
+an edge from what is not reached -- U func { b0(x): br b2(x); b1(): z = const 1; br b2(z); b2(p): ret p } => \
+    func { b0(v0): br b2(v0); b1(): v1 = const 1; br b2(v1); b2(v2): ret v2 }
+a block that is not reached -- U func { b0(): ret; b1(x): br b2(x); b2(p): ret p } => func { b0(): ret; \
+    b1(v0): br b2(v0); b2(v1): ret v1 }
+an edge that forwards too few values -- U func { b0(x): cbr x b1(x) b1(); b1(p): ret p } => func { b0(v0): \
+    cbr v0 b1(v0) b1(); b1(v1): ret v1 }
+an argument without uses -- U func { b0(x): br b1(x); b1(p): ret x } => func { b0(v0): br b1(v0); b1(v1): \
+    ret v0 }
+an argument that a region uses -- C func { b0(x): br b1(x); b1(p): scope { b0(): print p; ret }; ret } => \
+    func { b0(v0): br b1(v0); b1(v1): scope { b0(): print v0; ret }; ret }
+an argument in a region that is visited again -- C func { b0(x): br b1(); b1(): scope { b0(): r = read; br \
+    b1(r); b1(p): print p; ret }; br b1() } => func { b0(v0): br b1(); b1(): scope { b0(): v1 = read; br b1(v1); \
+    b1(v2): print v1; ret }; br b1() }";

@@ -1,5 +1,4 @@
-use Rattle.std.proofs.Common.{rules, OnOk, [], refl, sym, subst, inl}
-use Rattle.pliron_core.specs.Tree.{In}
+use Rattle.std.proofs.Common.{rules, OnOk, [], refl}
 use Rattle.pliron_theory.proofs.WholeChanges.{whole_refl}
 use Rattle.pliron_operand_laws.specs.Answers.{Folding}
 use Rattle.pliron_canonicalize.specs.Folds.{FoldInTurn}
@@ -7,16 +6,11 @@ use Rattle.pliron_canonicalize.proofs.Parts.{folding}
 use Rattle.pliron_canonicalize.proofs.Doing.{same_itself}
 use Rattle.pliron_canonicalize.proofs.canonicalize_through.Goals as goal
 
-pub fold_all-requires-clause-listed : goal.fold_all-requires-clause-listed
-fold_all-requires-clause-listed g c =
-    let e = c.deref.ensures.value in
-    record { seen = λ k i. (c.in_ok-order.ensures.order.each k).0 (subst (In k) e i); each = λ k s. inl (subst (In k) (sym e) ((c.in_ok-order.ensures.order.each k).1 s)) }
+pub returns-in_err-sites-clause-change : goal.returns-in_err-sites-clause-change
+returns-in_err-sites-clause-change g c = whole_refl g.D.HasMeaning.meaning c.args.ctx.now.tree c.args.op c.requires.live c.requires.linked
 
-pub returns-in_err-order-clause-change : goal.returns-in_err-order-clause-change
-returns-in_err-order-clause-change g c = whole_refl g.D.HasMeaning.meaning c.args.ctx.now.tree c.args.op c.requires.live c.requires.linked
-
-pub returns-in_err-order-clause-folded : goal.returns-in_err-order-clause-folded
-returns-in_err-order-clause-folded g c =
+pub returns-in_err-sites-clause-folded : goal.returns-in_err-sites-clause-folded
+returns-in_err-sites-clause-folded g c =
     let x : Folding = folding g.D.HasMeaning.meaning g.D.SideEffects.side_effects g.D.ConstFoldInterface.can_fold g.D.ConstFoldInterface.constants g.D.ConstFoldInterface.accepts g.D.ConstFoldInterface.constant_head g.D.OperandFoldInterface.operand_folds in
     let none : OnOk c.from_residual.result (FoldInTurn x c.args.op [] c.args.ctx.now.tree c.args.ctx.now.tree) = search rules in
     ([], (c.args.ctx.now.tree, refl, same_itself c.args.ctx.now.tree), none)

@@ -1,4 +1,4 @@
-use Rattle.std.proofs.Common.{◌≡◌, ◌∙◌, ◌<◌, IsSome, OnErr, length, sym, subst, arith}
+use Rattle.std.proofs.Common.{◌∙◌, ◌<◌, IsSome, OnErr, length, sym, subst, arith}
 use Rattle.std.proofs.lemmas.Result.{IfOk-weaker}
 use Rattle.pliron_core.specs.Tree.{IsLive, results_of, parent_of}
 use Rattle.pliron_core.proofs.StandingLemmas.{no_use, some_use}

@@ -1,4 +1,4 @@
-use Rattle.std.proofs.Common.{◌≡◌, rules, true≢false, sym, arith}
+use Rattle.std.proofs.Common.{◌≡◌, rules, true≢false, sym}
 use Rattle.pliron_canonicalize.proofs.Putting.{is_result, no_result, result_is}
 use Rattle.pliron_canonicalize.proofs.sweep.is_result_of.Goals as goal
 

@@ -1,0 +1,38 @@
+//! Arguments that are one value.
+ghost use Rattle.std.specs.Prelude.{◌≡◌, ◌<◌, IfOk, OnErr, IsOkUnless, length};
+ghost use Rattle.pliron_core.specs.Tree.{IsBlock, arguments_of};
+ghost use Rattle.pliron_canonicalize.specs.Steps.{FoldsArgument};
+
+use pliron_argument_laws::finding::find_one_value;
+use pliron_argument_laws::rewrites::replace_argument_by_value;
+use pliron_core::{BasicBlock, Context, IRStatus, Ptr, Rewriter};
+use pliron_laws::{Dialect, OptError, Room};
+use std::alloc::Global;
+
+/// The uses of the argument of the block with this index go to its one value, if it is used and is one.
+///
+/// Asks that the block is live and has the argument. Errors: allocation failure, which changes nothing. Cost: one
+/// `successor_operand` for each edge to the block, up to one that tells, and a step for each use of the argument.
+pub fn fold_argument<D: Dialect, R: Rewriter + Room>(
+    alloc: Global,
+    block: Ptr<BasicBlock>,
+    index: usize,
+    ctx: &mut Context,
+    rewriter: &mut R,
+) -> Result<IRStatus, OptError>
+    requires block { IsBlock ctx.old.tree block }
+    requires index { index < length (arguments_of ctx.old.tree block) }
+    ensures ok { IfOk result (λ status. FoldsArgument D.meaning ctx.old.tree ctx.new.tree block index status) }
+    ensures refused { OnErr result (ctx.new.tree ≡ ctx.old.tree) }
+    ensures memory { IsOkUnless result OptError.Memory }
+{
+    ctx.well_formed();
+    if block.get_argument(ctx, index).num_use(ctx) == 0 {
+        return Ok(IRStatus::Unchanged);
+    }
+    let Some(value) = find_one_value::<D>(alloc, block, index, ctx)? else {
+        return Ok(IRStatus::Unchanged);
+    };
+    replace_argument_by_value::<D, R>(alloc, block, index, value, ctx, rewriter)?;
+    Ok(IRStatus::Changed)
+}
