@@ -69,16 +69,16 @@ fn in_region(
 fn in_block(
     rt: &impl Abort,
     alloc: Global,
-    held: HeldBlock,
+    held: &HeldBlock,
     ctx: &mut Context,
     call: Call,
     rewriter: &mut Counting,
 ) -> Result<IRStatus, OptError>
-    requires live { IsLive ctx.old.tree held.holder }
-    requires linked { IsWellLinked bench ctx.old.tree held.holder }
+    requires live { IsLive ctx.old.tree held.now.holder }
+    requires linked { IsWellLinked bench ctx.old.tree held.now.holder }
 {
     ctx.well_formed();
-    let HeldBlock { holder, block } = held;
+    let (holder, block) = (held.holder, held.block);
     assert!(rt; holder.num_region(ctx) == 1);
     assert!(rt; block.is_live(ctx));
     let region = holder.get_region(ctx, 0);
@@ -103,15 +103,15 @@ fn assert_callable(rt: &impl Abort, holder: Ptr<Operation>, ctx: &Context)
 fn answer(
     rt: &impl Abort,
     alloc: Global,
-    target: Target,
+    target: &Target,
     ctx: &mut Context,
     call: Call,
 ) -> Option<IRStatus> {
     let mut rewriter = Counting::new();
     let told = match target {
         Target::Region(holder) => {
-            assert_callable(rt, holder, ctx);
-            in_region(rt, alloc, holder, ctx, call, &mut rewriter)
+            assert_callable(rt, *holder, ctx);
+            in_region(rt, alloc, *holder, ctx, call, &mut rewriter)
         }
         Target::Block(held) => {
             assert_callable(rt, held.holder, ctx);
@@ -127,7 +127,7 @@ fn check_once(
     rt: &impl Abort,
     alloc: Global,
     whole: Ptr<Operation>,
-    target: Target,
+    target: &Target,
     ctx: &mut Context,
     call: Call,
 ) -> bool {
@@ -138,7 +138,7 @@ fn check_once(
 }
 
 /// A further call finds nothing more to do.
-fn check_settled(rt: &impl Abort, alloc: Global, target: Target, ctx: &mut Context, call: Call) {
+fn check_settled(rt: &impl Abort, alloc: Global, target: &Target, ctx: &mut Context, call: Call) {
     let again = answer(rt, alloc, target, ctx, call);
     assert!(rt; again == Some(IRStatus::Unchanged));
 }
@@ -148,7 +148,7 @@ fn check_twice(
     rt: &impl Abort,
     alloc: Global,
     whole: Ptr<Operation>,
-    target: Target,
+    target: &Target,
     ctx: &mut Context,
     call: Call,
 ) {
@@ -169,7 +169,8 @@ fn check_region(
     let Some(holder) = holders_of(rt, alloc, whole, ctx).get(index).copied() else {
         return false;
     };
-    check_twice(rt, alloc, whole, Target::Region(holder), ctx, call);
+    let target = Target::Region(holder);
+    check_twice(rt, alloc, whole, &target, ctx, call);
     true
 }
 
@@ -205,7 +206,8 @@ fn check_block(
     let Some(held) = all_blocks(rt, alloc, whole, ctx).get(index).copied() else {
         return false;
     };
-    check_twice(rt, alloc, whole, Target::Block(held), ctx, call);
+    let target = Target::Block(held);
+    check_twice(rt, alloc, whole, &target, ctx, call);
     true
 }
 
