@@ -234,7 +234,7 @@ static void try_module_edges(void) {
     expect_module("sccp,dce", long_text, (size_t)PLIR_MAX_MODULE + 1, PLIR_TEXT, 0);
     expect_module("", many, length, PLIR_ANSWERED, length);
     plir_place place = {9, 9, 9, 9}, end = {PLIR_MAX_MODULE, 1, 9, (size_t)PLIR_MAX_MODULE + 1};
-    end.line = 7, end.column -= sizeof SUM - 1;
+    end.line = 8, end.column -= sizeof SUM - 1;
     if (plir_find_fault_mlir(long_text, (size_t)PLIR_MAX_MODULE + 1, expected, sizeof expected, &needed, &place) != PLIR_ANSWERED
         || memcmp(&place, &end, sizeof end) != 0)
         fault(NULL, "a module that is too long");

@@ -51,17 +51,22 @@ def with_lines(text):
     return text.replace("|", "\n").encode()
 
 
+def without_name(row):
+    """A row of texts without the name that stands before ` :: `."""
+    return row.split(" :: ", 1)[1]
+
+
 def optimised():
     """Status, pipeline, text and answer of each row."""
     for row in static("plir_run", "texts", "ROWS"):
-        text, answer = row.split(" => ")
+        text, answer = without_name(row).split(" => ")
         yield ANSWERED, b"sccp", text.encode(), with_lines(answer)
     for row in static("plir_run", "texts", "LISTS"):
-        pipeline, rest = row.split(" :: ")
+        pipeline, rest = without_name(row).split(" :: ")
         text, answer = rest.split(" => ")
         yield ANSWERED, pipeline.encode(), text.encode(), with_lines(answer)
     for row in static("plir_run", "texts", "REFUSED"):
-        pipeline, rest = row.split(" :: ")
+        pipeline, rest = without_name(row).split(" :: ")
         text, told = rest.split(" => ")
         yield REFUSED if told.startswith("refused") else TEXT, pipeline.encode(), text.encode(), b""
     for text in static("plir_run", "texts", "UNREADABLE"):
