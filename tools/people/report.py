@@ -23,14 +23,21 @@ h1 { font-size: 1.5em; } h2 { font-size: 1.15em; margin-top: 2em; border-bottom:
 pre, table.sides td { font: 13px/1.5 ui-monospace, monospace; }
 table.sides { border-collapse: collapse; width: 100%; table-layout: fixed; }
 table.sides td { vertical-align: top; padding: 0 .6em; white-space: pre-wrap; overflow-wrap: anywhere; }
-table.sides td.number { width: 2.6em; color: #6e7781; text-align: right; user-select: none; }
+table.sides col.number { width: 3.4em; } table.sides th { text-align: left; padding: 0 .6em; }
+table.sides td.number { color: #6e7781; text-align: right; user-select: none; }
 table.sides td.went { background: #ffebe9; } table.sides td.came { background: #dafbe1; }
 table.reasons { border-collapse: collapse; } table.reasons td { padding: .15em .8em .15em 0; vertical-align: top; }
-.pictures { display: flex; gap: 2em; flex-wrap: wrap; } .pictures figure { margin: 0; max-width: 100%; overflow-x: auto; }
+.pictures { display: flex; gap: 2em; flex-wrap: wrap; margin-bottom: 1.5em; }
+.pictures figure { margin: 0; flex: 1 1 30em; min-width: 0; max-width: 100%; overflow: auto; max-height: 60em; }
+.pictures figure.wide { flex-basis: 100%; } .pictures figure:not(.wide) svg { max-width: 100%; height: auto; }
+figcaption { font-weight: 600; margin-bottom: .4em; }
 pre { background: #f6f8fa; padding: .7em 1em; overflow-x: auto; border-radius: 6px; }
 span.went { color: #b3261e; } span.came { color: #116329; }
 .place { color: #6e7781; font: 13px ui-monospace, monospace; }
 """
+
+# The width of a picture, in points, from which on it takes a row of its own and keeps its size.
+WIDE = 640
 
 
 def cell(kind, line):
@@ -39,6 +46,7 @@ def cell(kind, line):
 
 def sides(before, after):
     """Both texts side by side, equal lines beside one another."""
+    columns = '<col class="number"><col>'
     rows = ["<tr><th></th><th>before</th><th></th><th>after</th></tr>"]
     matcher = difflib.SequenceMatcher(a=before, b=after, autojunk=False)
     for tag, a, b, c, d in matcher.get_opcodes():
@@ -50,7 +58,7 @@ def sides(before, after):
                 f'<tr><td class="number">{a + at + 1 if old is not None else ""}</td>{cell("" if same else "went", old)}'
                 f'<td class="number">{c + at + 1 if new is not None else ""}</td>{cell("" if same else "came", new)}</tr>'
             )
-    return f'<table class="sides">{"".join(rows)}</table>'
+    return f'<table class="sides"><colgroup>{columns * 2}</colgroup>{"".join(rows)}</table>'
 
 
 def picture(plir, text, title, region):
@@ -62,7 +70,10 @@ def picture(plir, text, title, region):
     if shutil.which("dot"):
         drawn = subprocess.run(["dot", "-Tsvg"], input=dot, capture_output=True, text=True)
         if drawn.returncode == 0:
-            return f"<figure>{caption}{drawn.stdout[drawn.stdout.index('<svg'):]}</figure>"
+            svg = drawn.stdout[drawn.stdout.index("<svg") :]
+            width = re.search(r'<svg width="(\d+)pt"', svg)
+            wide = ' class="wide"' if width and int(width.group(1)) > WIDE else ""
+            return f"<figure{wide}>{caption}{svg}</figure>"
     return f"<figure>{caption}<pre>{html.escape(dot)}</pre></figure>"
 
 
@@ -107,11 +118,12 @@ def page(asked, plir, text):
     stats = plir.run("opt", "--stats", asked.pipeline, text=text)[2]
     changed = plir.run("opt", "--print-changed", asked.pipeline, text=text)[2]
     why = plir.run("explain", "--missed", asked.pipeline, text=text)[1]
-    unfit = plir.run("check", text=text)
+    unfit, said, wrong = plir.run("check", text=text)
+    wrong = wrong.replace("standard input", Path(asked.file).name)
     title = f"{Path(asked.file).name}: {asked.pipeline}"
     parts = [
         f"<h1>{html.escape(title)}</h1>",
-        f"<p>{html.escape(unfit[1].strip() or 'not fit to run')}</p>" if not unfit[0] else f"<pre>{html.escape(unfit[2])}</pre>",
+        f"<p>{html.escape(said.strip())}</p>" if not unfit else f"<pre>{html.escape(wrong)}</pre>",
         "<h2>Before and after</h2>",
         sides(before.rstrip("\n").split("\n"), after.rstrip("\n").split("\n")),
         "<h2>Control flow</h2>",

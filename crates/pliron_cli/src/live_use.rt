@@ -177,11 +177,7 @@ impl LiveUseSearch {
     }
 
     /// The same of the regions of an operation.
-    fn look_at(
-        &mut self,
-        op: Ptr<Operation>,
-        ctx: &Context,
-    ) -> Result<Option<LiveUse>, OptError>
+    fn look_at(&mut self, op: Ptr<Operation>, ctx: &Context) -> Result<Option<LiveUse>, OptError>
         requires { IsLive ctx.now.tree op }
         ensures { IfOk result (λ found. IfSome found
             (λ it. slice_get (operands_of ctx.now.tree it.user) it.index ≡ Some it.value)) }

@@ -408,7 +408,9 @@ pub fn live_use_message<N: Shown>(
     }
     let mut label = String::new(alloc);
     text.push_value(&mut label, found.value)?;
-    label.push_str(" is defined here, where nothing leads; an operation that a pass made takes it")?;
+    label.push_str(
+        " is defined here, where nothing leads; an operation that a pass made takes it",
+    )?;
     let made = ViolationWords {
         message: words.message,
         label,
