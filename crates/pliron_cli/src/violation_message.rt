@@ -389,7 +389,7 @@ pub fn violation_message<N: Shown>(
 /// has, the definition alone.
 ///
 /// Errors: allocation failure. Cost: linear in the text.
-pub fn live_use_message<N: Shown>(
+pub(crate) fn live_use_message<N: Shown>(
     alloc: Global,
     source: &Source,
     found: &LiveUse,
