@@ -1,5 +1,5 @@
-//! Well-defined texts made at random, and what is left of them, as in `cases`: a plain model outside this repository
-//! folded any result or argument that folds, in eight orders which all left this, until none was left.
+//! Well-defined texts made at random, and what is left of them, as in `cases`: `tools/expected` folds any result or
+//! argument that folds, until none is left.
 
 pub static RANDOM: &str = "\
 random 101 -- C func { b0(v0): v1 = div v0 v0; cbr v1 b2() b1(v1, v1); b1(v2, v3): v4 = div v1 v3; br b0(v1); \
