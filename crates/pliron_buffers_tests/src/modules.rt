@@ -8,7 +8,10 @@ use std::process::Abort;
 
 /// A module whose function adds one and two, and that module with their sum.
 static SUM: &str = "\
-\"builtin.module\"() ({|  \"func.func\"() <{function_type = () -> i32, sym_name = \"f\"}> ({|    %0 = \"arith.constant\"() <{value = 1 : i32}> : () -> i32|    %1 = \"arith.constant\"() <{value = 2 : i32}> : () -> i32|    %2 = \"arith.addi\"(%0, %1) <{overflowFlags = #arith.overflow<none>}> : (i32, i32) -> i32|    \"func.return\"(%2) : (i32) -> ()|  }) : () -> ()|}) : () -> ()|";
+\"builtin.module\"() ({|  \"func.func\"() <{function_type = () -> i32, sym_name = \"f\"}> ({|    %0 \
+    = \"arith.constant\"() <{value = 1 : i32}> : () -> i32|    %1 = \"arith.constant\"() <{value = 2 : i32}> : \
+    () -> i32|    %2 = \"arith.addi\"(%0, %1) <{overflowFlags = #arith.overflow<none>}> : (i32, i32) -> \
+    i32|    \"func.return\"(%2) : (i32) -> ()|  }) : () -> ()|}) : () -> ()|";
 
 static LEFT: &str = "\
 \"builtin.module\"() ({|  \"func.func\"() <{function_type = () -> i32, sym_name = \"f\"}> ({|    %3 = \"arith.constant\"() <{value = 3 : i32}> : () -> i32|    \"func.return\"(%3) : (i32) -> ()|  }) : () -> ()|}) : () -> ()|";

@@ -148,7 +148,10 @@ fn expect_report(rt: &impl Abort, alloc: Global, case: &str, options: &StageOpti
 
 /// Lists, texts, and the lines that each run changed.
 static CHANGED: &str = "\
-nested(sccp,dce) => mod { m(): func { f(): a = const 2; b = mul a a; ret b }; func { g(x): br h(x); h(y): ret y } } => --- run 1, changed by sccp at 0.0|  ..| f():|   a = const 2;|+  b_1 = const 4;|   b = mul a a;|-  ret b|+  ret b_1| }|--- run 2, changed by dce at 0.0| func {| f():|-  a = const 2;|   b_1 = const 4;|-  b = mul a a;|   ret b_1| }|
+nested(sccp,dce) => mod { m(): func { f(): a = const 2; b = mul a a; ret b }; func { g(x): br h(x); h(y): ret y \
+    } } => --- run 1, changed by sccp at 0.0|  ..| f():|   a = const 2;|+  b_1 = const 4;|   b = mul a \
+    a;|-  ret b|+  ret b_1| }|--- run 2, changed by dce at 0.0| func {| f():|-  a = const 2;|   b_1 = const \
+    4;|-  b = mul a a;|   ret b_1| }|
 dce => func { b0(): ret } => ";
 
 #[test]

@@ -37,7 +37,10 @@ sccp | func { b0(x): c = const 2; d = mul c c; e = mul d x; ret e } => 0 ended w
 nested(dce) | func { b0(x): print x; print x; ret } => 0 effect (print 3)|effect (print 3)|ended with nothing|the same before and after|
 dce | func { b0(x): z = const 0; d = div x z; ret d } => 0 trapped|the same before and after|
 repeat<4>(sccp,dce,simplify-cfg) | func { b0(x): br b1(); b1(): br b1() } => 3 before: made no further move: steps or the world's answers were used up|after: made no further move: steps or the world's answers were used up|the same as far as the runs went|
-sccp | func { b0(x): print x; print x; print x; ret } => 3 before: effect (print 3)|effect (print 3)|effect (print 3)|made no further move: steps or the world's answers were used up|after: effect (print 3)|effect (print 3)|effect (print 3)|made no further move: steps or the world's answers were used up|the same as far as the runs went|
+sccp | func { b0(x): print x; print x; print x; ret } => 3 before: effect (print 3)|effect (print 3)|effect \
+    (print 3)|made no further move: steps or the world's answers were used up|after: effect (print 3)|effect \
+    (print 3)|effect (print 3)|made no further move: steps or the world's answers were used up|the same as far \
+    as the runs went|
 dce | func { b0(x): br b1(); b1(y): ret } => 3 before: trapped|after: ended with nothing|not the same|";
 
 #[test]

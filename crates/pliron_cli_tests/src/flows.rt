@@ -53,11 +53,18 @@ fn lines_of(rt: &impl Abort, alloc: Global, lines: &str) -> String {
 static PICTURES: &str = "\
 0 => func { b0(): ret } => 0 [label='b0():/lret/l', peripheries='2']
 0 => func { a(x): br  b( x ) ; b(y): ret  y } => 0 [label='a(x):/lbr b( x )/l', peripheries='2']|1 [label='b(y):/lret y/l']|0 -> 1 [label=' x ']
-!0 => func { a(c): cbr c b(c) d(); b(y): br d(); d(): ret } => 0 [label='a(c):/lcbr c b(c) d()/l', peripheries='2']|1 [label='b(y):/lbr d()/l']|2 [label='d():/lret/l']|0 -> 1 [label=' true: c ']|0 -> 2 [label=' false ']|1 -> 2|0 -> 1 [style='dotted', color='blue', constraint='false']|0 -> 2 [style='dotted', color='blue', constraint='false']
+!0 => func { a(c): cbr c b(c) d(); b(y): br d(); d(): ret } => 0 [label='a(c):/lcbr c b(c) d()/l', \
+    peripheries='2']|1 [label='b(y):/lbr d()/l']|2 [label='d():/lret/l']|0 -> 1 [label=' true: c ']|0 -> 2 \
+    [label=' false ']|1 -> 2|0 -> 1 [style='dotted', color='blue', constraint='false']|0 -> 2 [style='dotted', \
+    color='blue', constraint='false']
 0 => func { a(): ret; lost(): x = const 1; br a() } => 0 [label='a():/lret/l', peripheries='2']|1 [label='lost():/lx = const 1/lbr a()/l', color='grey', fontcolor='grey']|1 -> 0 [color='grey', fontcolor='grey']
 0 => mod { m(): func { f(): ret }; func { g(): ret } } => 0 [label='m():/lfunc { 0.0.0 }/lfunc { 0.1.0 }/l', peripheries='2']
 0.1.0 => mod { m(): func { f(): ret }; func { g(): ret } } => 2 [label='g():/lret/l', peripheries='2']
-+0 => mod { m(): func { f(): box { b(): ret }; ret }; func { g(): ret } } => 0 [label='m():/lfunc { 0.0.0 }/lfunc { 0.1.0 }/l', peripheries='2']|subgraph cluster0 {|graph [label='0.0.0', labelloc='t']|1 [label='f():/lbox { 0.0.0.0.0 }/lret/l', peripheries='2']|subgraph cluster1 {|graph [label='0.0.0.0.0', labelloc='t']|2 [label='b():/lret/l', peripheries='2']|}|}|subgraph cluster2 {|graph [label='0.1.0', labelloc='t']|3 [label='g():/lret/l', peripheries='2']|}";
++0 => mod { m(): func { f(): box { b(): ret }; ret }; func { g(): ret } } => 0 [label='m():/lfunc { 0.0.0 \
+    }/lfunc { 0.1.0 }/l', peripheries='2']|subgraph cluster0 {|graph [label='0.0.0', labelloc='t']|1 \
+    [label='f():/lbox { 0.0.0.0.0 }/lret/l', peripheries='2']|subgraph cluster1 {|graph [label='0.0.0.0.0', \
+    labelloc='t']|2 [label='b():/lret/l', peripheries='2']|}|}|subgraph cluster2 {|graph [label='0.1.0', \
+    labelloc='t']|3 [label='g():/lret/l', peripheries='2']|}";
 
 #[test]
 fn flows_are_drawn(rt: HostRuntime) {
