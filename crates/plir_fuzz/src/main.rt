@@ -12,7 +12,7 @@ use std::alloc::Global;
 use std::env;
 use std::process::ExitCode;
 
-/// The words after the program's name, as numbers, if there are two.
+// The words after the program's name, as numbers, if there are two.
 fn numbers(rt: &HostRuntime) -> Option<(u64, u64)> {
     let mut args = env::args(rt).ok()?;
     let _ = args.next();
@@ -31,7 +31,7 @@ enum Failure {
     Writing,
 }
 
-/// Makes the text of this seed, judges it, and writes a line where the answer shows a fault.
+// Makes the text of this seed, judges it, and writes a line where the answer shows a fault.
 fn try_seed(rt: &HostRuntime, alloc: Global, seed: u64, tally: &mut Tally) -> Result<(), Failure> {
     let subject = Subject::new(alloc, seed).map_err(|error| Failure::Refused(error.into()))?;
     let verdict = judge(alloc, &subject).map_err(Failure::Refused)?;
@@ -43,7 +43,7 @@ fn try_seed(rt: &HostRuntime, alloc: Global, seed: u64, tally: &mut Tally) -> Re
     Ok(())
 }
 
-/// Tries the seeds, and writes the counts.
+// Tries the seeds, and writes the counts.
 fn try_seeds(rt: &HostRuntime, alloc: Global, first: u64, count: u64) -> Result<bool, Failure> {
     let mut tally = Tally::new();
     for place in 0..count {

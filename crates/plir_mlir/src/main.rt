@@ -28,8 +28,8 @@ use std::time::{Clock, Duration};
 /// The most bytes of a text.
 const MAX_TEXT: usize = 268_435_456;
 
-/// The text of the file, or of standard input where it is called `-`; of one that is too long, a byte more than the
-/// most.
+// The text of the file, or of standard input where it is called `-`; of one that is too long, a byte more than the
+// most.
 fn text_of(rt: &HostRuntime, name: &str) -> io::Result<Vec<u8>> {
     let mut text = Vec::new(rt.alloc());
     let most = MAX_TEXT as u64 + 1;
@@ -41,7 +41,7 @@ fn text_of(rt: &HostRuntime, name: &str) -> io::Result<Vec<u8>> {
     Ok(text)
 }
 
-/// What users call the input.
+// What users call the input.
 fn input_name(name: &str) -> &str {
     if name == "-" { "standard input" } else { name }
 }
@@ -66,7 +66,7 @@ impl Progress for Terminal<'_> {
     fn pass_ended(&self, _: usize, _: &str) {}
 }
 
-/// Runs the passes of the plan on the text, once it is told how the module stands after each, where that is asked for.
+// Runs the passes of the plan on the text, once it is told how the module stands after each, where that is asked for.
 fn run_plan<'r, N: ModuleNotation>(
     rt: &'r HostRuntime,
     matches: &ArgMatches,
@@ -92,7 +92,7 @@ fn run_plan<'r, N: ModuleNotation>(
     Ok(run_passes::<N, Terminal>(alloc, source, &options, plan, Terminal { rt })?)
 }
 
-/// Runs the passes that the word asks for on the text.
+// Runs the passes that the word asks for on the text.
 #[tactic(auto, using(crate::proofs::WordLemmas::ends_by_word, crate::proofs::WordLemmas::ends_without_word))]
 fn run_word<'r, N: ModuleNotation>(
     rt: &'r HostRuntime,
@@ -112,7 +112,7 @@ fn run_word<'r, N: ModuleNotation>(
     }
 }
 
-/// What becomes of the input.
+// What becomes of the input.
 fn outcome(rt: &HostRuntime, matches: &ArgMatches) -> io::Result<Outcome> {
     let alloc = rt.alloc();
     let name = matches.get_str("file").unwrap_or("-");
@@ -135,8 +135,8 @@ fn outcome(rt: &HostRuntime, matches: &ArgMatches) -> io::Result<Outcome> {
     run_word::<GenericForm<Mlir<AnyMeaning>>>(rt, matches, &source, word)
 }
 
-/// Writes what the program leaves: to the file that is named, where there is an answer, or to standard output, where a
-/// pipe that nobody reads any more ends the answer quietly.
+// Writes what the program leaves: to the file that is named, where there is an answer, or to standard output, where a
+// pipe that nobody reads any more ends the answer quietly.
 fn write(rt: &HostRuntime, outcome: &Outcome, file: Option<&str>) -> io::Result<()> {
     let _ = eprint!(rt; "{}", outcome.report);
     if outcome.status != 0 {
@@ -152,14 +152,14 @@ fn write(rt: &HostRuntime, outcome: &Outcome, file: Option<&str>) -> io::Result<
     }
 }
 
-/// Does what the words ask for, and answers its status.
+// Does what the words ask for, and answers its status.
 fn act(rt: &HostRuntime, matches: &ArgMatches) -> io::Result<u8> {
     let outcome = outcome(rt, matches)?;
     write(rt, &outcome, matches.get_str("output"))?;
     Ok(outcome.status)
 }
 
-/// Tells why there is no answer, and answers the status: 1 for want of memory.
+// Tells why there is no answer, and answers the status: 1 for want of memory.
 fn failure_status(rt: &HostRuntime, error: &io::Error) -> u8
     ensures { 1 ≤ result }
 {
@@ -172,7 +172,7 @@ fn failure_status(rt: &HostRuntime, error: &io::Error) -> u8
     }
 }
 
-/// The status of what the words ask for.
+// The status of what the words ask for.
 fn act_on(rt: &HostRuntime, matches: &ArgMatches) -> u8 {
     match act(rt, matches) {
         Ok(status) => status,
@@ -180,7 +180,7 @@ fn act_on(rt: &HostRuntime, matches: &ArgMatches) -> u8 {
     }
 }
 
-/// Writes what is wrong with the words, or the help that they ask for, and answers the status.
+// Writes what is wrong with the words, or the help that they ask for, and answers the status.
 fn write_usage(rt: &HostRuntime, error: &Error) -> u8 {
     if error.kind() == clap::error::ErrorKind::OutOfMemory {
         return failure_status(rt, &io::Error::from(ErrorKind::OutOfMemory));
@@ -189,7 +189,7 @@ fn write_usage(rt: &HostRuntime, error: &Error) -> u8 {
     if error.exit_code() == 0 { 0 } else { 2 }
 }
 
-/// The words of the program, of which the first is its name.
+// The words of the program, of which the first is its name.
 fn program_words(rt: &HostRuntime) -> io::Result<Vec<String>> {
     let mut words = Vec::new(rt.alloc());
     for word in env::args(rt)? {

@@ -19,7 +19,7 @@ static KINDS: [BenchFactKind; 3] = [
     BenchFactKind::Total,
 ];
 
-/// Whether both hold the same fact.
+// Whether both hold the same fact.
 fn is_same_fact(one: Option<&BenchFacts>, other: Option<&BenchFacts>) -> bool {
     match (one, other) {
         (Some(BenchFacts::Edges(pairs)), Some(BenchFacts::Edges(others))) => pairs == others,
@@ -29,8 +29,8 @@ fn is_same_fact(one: Option<&BenchFacts>, other: Option<&BenchFacts>) -> bool {
     }
 }
 
-/// How many facts of the operation are cached, if they are the first ones in their order and each is as it is
-/// computed anew.
+// How many facts of the operation are cached, if they are the first ones in their order and each is as it is
+// computed anew.
 fn first_facts(
     root: Ptr<Operation>,
     analyses: &AnalysisManager<BenchFacts>,

@@ -47,7 +47,7 @@ nested | mod { b0(): func { b0(): a = const 1; c = add a a; ret c }; func { b0()
     | mod { b0(): func { b0(): v0 = const 2; ret v0 }; func { b0(): v0 = const 4; ret } } \
     | mod { b0(): func { b0(): v0 = const 2; ret v0 }; func { b0(): ret } }";
 
-/// A `Passes` of `sccp` and `dce`.
+// A `Passes` of `sccp` and `dce`.
 fn both(alloc: Global) -> Result<Passes<PassStep<Bench, BenchFacts>>, OptError> {
     let mut passes = Passes::new(alloc);
     for name in ["sccp", "dce"] {
@@ -58,7 +58,7 @@ fn both(alloc: Global) -> Result<Passes<PassStep<Bench, BenchFacts>>, OptError> 
     Ok(passes)
 }
 
-/// Runs the passes in the combinator of this name.
+// Runs the passes in the combinator of this name.
 fn run(
     alloc: Global,
     name: &str,
@@ -90,7 +90,7 @@ fn run(
     }
 }
 
-/// Checks the case in this context and cache, which are empty.
+// Checks the case in this context and cache, which are empty.
 fn check_in(
     alloc: Global,
     case: &str,

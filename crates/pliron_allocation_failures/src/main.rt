@@ -18,7 +18,7 @@ use std::process::ExitCode;
 /// More cases than there are of any kind.
 const CASES: usize = 100;
 
-/// Takes note of what is seen: writes a line where it is wrong, and answers whether the call was refused.
+// Takes note of what is seen: writes a line where it is wrong, and answers whether the call was refused.
 fn is_refused(
     rt: &HostRuntime,
     name: &str,

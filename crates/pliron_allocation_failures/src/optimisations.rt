@@ -70,7 +70,7 @@ cse | func { b0(x): sink x; scope x { b0(p): sink x; sink p; sink p; ret }; ret 
 cse | func { b0(x): r = read; cbr r b1() b2(); b1(): a = add x x; ret a; b2(): b = add x x; ret b } \
     | func { b0(v0): v1 = read; cbr v1 b1() b2(); b1(): v2 = add v0 v0; ret v2; b2(): v3 = add v0 v0; ret v3 }";
 
-/// Runs the optimisation of this name.
+// Runs the optimisation of this name.
 fn run(
     alloc: Global,
     name: &str,
@@ -88,7 +88,7 @@ fn run(
     }
 }
 
-/// Whether one of the trees, which ` | ` sets apart, is printed so.
+// Whether one of the trees, which ` | ` sets apart, is printed so.
 fn is_one_of(trees: &str, line: &str) -> bool {
     trees.split('|').any(|tree| tree.trim() == line)
 }
@@ -105,7 +105,7 @@ pub fn seen_of<T>(answer: &Result<T, OptError>, trees: &str, line: &str) -> Obse
     }
 }
 
-/// Checks the case in this context, which is empty.
+// Checks the case in this context, which is empty.
 fn check_in(alloc: Global, case: &str, ctx: &mut Context) -> Result<Observation, OptError> {
     let Some((name, rest)) = case.split_once(" | ") else {
         return Ok(Observation::Wrong);

@@ -83,10 +83,10 @@ static BEFORE: &str = "func { b0(): v0, v1 = pair; sink v0 v1 v0 v1 v1; print v0
 static AFTER: &str =
     "func { b0(): v0 = const 1; v1 = const 2; v2, v3 = pair; sink v0 v1 v0 v1 v1; print v0; ret v1 v0 }";
 
-/// Folds a pair in place: constants are put for both results or, on allocation failure, for none.
-///
-/// Asks that it is live in a block, is a pair, and has no operands and two results. Errors: allocation failure,
-/// after which the tree is as before, but for erased handles. Cost: the number of uses of its results.
+// Folds a pair in place: constants are put for both results or, on allocation failure, for none.
+//
+// Asks that it is live in a block, is a pair, and has no operands and two results. Errors: allocation failure,
+// after which the tree is as before, but for erased handles. Cost: the number of uses of its results.
 fn fold_pair(alloc: Global, pair: Ptr<Operation>, ctx: &mut Context) -> Result<IRStatus, OptError>
     requires live { IsLive ctx.old.tree pair }
     requires placed { IsSome (parent_of ctx.old.tree pair) }
@@ -104,7 +104,7 @@ fn fold_pair(alloc: Global, pair: Ptr<Operation>, ctx: &mut Context) -> Result<I
     Pairs::fold_in_place(alloc, pair, ctx, &[], &mut rewriter)
 }
 
-/// Folds the first operation inside the root, if it is a pair in a block.
+// Folds the first operation inside the root, if it is a pair in a block.
 fn fold_first(
     alloc: Global,
     root: Ptr<Operation>,

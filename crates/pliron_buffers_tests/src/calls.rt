@@ -83,7 +83,7 @@ fn graphs(rt: HostRuntime) {
     }
 }
 
-/// What is told of a text, in a buffer that has room for it, with the place.
+// What is told of a text, in a buffer that has room for it, with the place.
 fn expect_fault(rt: &impl Abort, alloc: Global, text: &[u8], wanted: &str) {
     let mut buffer = dots(rt, alloc, "100");
     let mut needed = 7;

@@ -32,7 +32,7 @@ dce :: \"m\"() ({ :: 3 => 0 2 0 ...
 licm :: m :: 3 => 0 3 0 ...
 repeat:65:dce :: m :: 3 => 0 3 0 ...";
 
-/// Runs the passes on the text, and compares what the call answered and left.
+// Runs the passes on the text, and compares what the call answered and left.
 fn expect_module(rt: &impl Abort, alloc: Global, asked: (&str, &[u8], &str), wanted: &str) {
     let (list, text, capacity) = asked;
     let (wanted_change, wanted) = wanted.split_once(' ').expect(rt, "whether it changed");
@@ -85,7 +85,7 @@ fn lists_that_are_no_text(rt: HostRuntime) {
     assert!(&rt; (status.number(), needed, changed) == (3, 0, 0));
 }
 
-/// What is told of a module, in a buffer that has room for it, with the place.
+// What is told of a module, in a buffer that has room for it, with the place.
 fn expect_fault(rt: &impl Abort, alloc: Global, text: &[u8], wanted: &str) {
     let mut buffer = dots(rt, alloc, "100");
     let mut needed = 7;

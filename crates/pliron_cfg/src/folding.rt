@@ -17,7 +17,7 @@ use pliron_core::{AttrObj, Context, IRStatus, Operation, Ptr, Rewriter};
 use pliron_laws::{BranchOpFoldInterface, Dialect, OptError, Room};
 use std::alloc::Global;
 
-/// Adds the operation, if it folds as a branch.
+// Adds the operation, if it folds as a branch.
 fn add_branch<D: Dialect>(
     op: Ptr<Operation>,
     ctx: &Context,
@@ -33,7 +33,7 @@ fn add_branch<D: Dialect>(
     Ok(())
 }
 
-/// The operations inside the root that fold as branches, in pre-order.
+// The operations inside the root that fold as branches, in pre-order.
 fn branches_inside<D: Dialect>(
     alloc: Global,
     root: Ptr<Operation>,
@@ -53,7 +53,7 @@ fn branches_inside<D: Dialect>(
     Ok(branches)
 }
 
-/// Folds one branch in place by these constants.
+// Folds one branch in place by these constants.
 fn fold_known<D: Dialect, R: Rewriter + Room>(
     alloc: Global,
     op: Ptr<Operation>,
@@ -80,7 +80,7 @@ fn fold_known<D: Dialect, R: Rewriter + Room>(
     done
 }
 
-/// Folds one branch in place by what is known of its operands.
+// Folds one branch in place by what is known of its operands.
 fn fold_one<D: Dialect, R: Rewriter + Room>(
     alloc: Global,
     op: Ptr<Operation>,

@@ -7,7 +7,7 @@ use pliron_instrument::Timeless;
 use std::alloc::Global;
 use std::process::Abort;
 
-/// The command ended with 2, wrote nothing, and told this place and label.
+// The command ended with 2, wrote nothing, and told this place and label.
 fn expect_told(rt: &impl Abort, outcome: &Outcome, text: &str, place: &str, label: &str) {
     assert!(rt; outcome.status == 2, "{text}");
     assert!(rt; outcome.output.is_empty(), "{text}");

@@ -4,7 +4,7 @@ use pliron_cli::{BenchNotation, CompareOptions, RunOptions, Source, compare};
 use std::alloc::Global;
 use std::process::Abort;
 
-/// Runs before and after these passes.
+// Runs before and after these passes.
 fn before_and_after<'w>(run: RunOptions<'w>, pipeline: &'w str) -> CompareOptions<'w> {
     CompareOptions { run, pipeline }
 }

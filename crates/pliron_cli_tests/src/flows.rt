@@ -27,7 +27,7 @@ fn draw_region(rt: &impl Abort, alloc: Global, region: &str, text: &str) -> Outc
     draw_flow(alloc, &source, &options).expect(rt, "memory")
 }
 
-/// The lines in the order of the picture, each behind a bar, where `'` stands for a quote and `/` for a backslash.
+// The lines in the order of the picture, each behind a bar, where `'` stands for a quote and `/` for a backslash.
 fn lines_of(rt: &impl Abort, alloc: Global, lines: &str) -> String {
     let mut text = String::from_str(alloc, HEAD).expect(rt, "memory");
     for line in lines.split('|') {

@@ -11,7 +11,7 @@ static PICTURES: &str = "\
 1: 2 3|2: 4|3: 4|4: => 1 [peripheries='2'];|3;|2;|4;|1 -> 2 [color='black'];|1 -> 3 [color='black'];|2 -> 4 [color='black'];|3 -> 4 [color='blue'];
 7: 7 8|8: => subgraph cluster0 {|7 [peripheries='2'];|}|8;|7 -> 7 [color='red'];|7 -> 8 [color='black'];";
 
-/// The text with an end of a line for each bar, and a quote for each `'`.
+// The text with an end of a line for each bar, and a quote for each `'`.
 fn with_lines(rt: &impl Abort, alloc: Global, text: &str, begin: &str) -> String {
     let mut lines = String::new(alloc);
     for line in text.split('|') {

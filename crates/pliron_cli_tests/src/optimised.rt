@@ -71,8 +71,8 @@ func { b0(): c = const 0; cbr c b1() b2(); b1(): v = const 1; br b2(); b2(): pri
 func { b0(): a = const 1
 func { b0(): z = const 0; br b1(z); b1(p): cbr p b3() b2(); b2(): o = const 1; br b1(o); b3(): k = const 0; m = mul p k; ret m }";
 
-/// `plir opt` on a word writes what `plir_opt` does on another, but for the line that says whether the tree changed,
-/// and ends with the same status.
+// `plir opt` on a word writes what `plir_opt` does on another, but for the line that says whether the tree changed,
+// and ends with the same status.
 fn expect_same(rt: &impl Abort, alloc: Global, list: &str, options: &OptOptions, text: &str) {
     let mut words = Vec::new(alloc);
     words

@@ -17,7 +17,7 @@ sccp => func { b0(): a = const 2; b = add a a; ret } => 1:27 b = add a a: folded
 repeat:3:nested:sccp,dce => mod { m(): func { b0(): a = const 2; b = mul a a; ret b } } => 1:38 b = mul a a: folded to 4 by its operands (sccp, run 1)|1:51 ret b: takes 4 for b (sccp, run 1)|1:25 a = const 2: unused (dce, run 1)|1:38 b = mul a a: unused (dce, run 1)
 repeat<3>(nested(sccp,dce)) => mod { m(): func { b0(): a = const 2; b = mul a a; ret b } } => 1:38 b = mul a a: folded to 4 by its operands (sccp, run 1)|1:51 ret b: takes 4 for b (sccp, run 1)|1:25 a = const 2: unused (dce, run 1)|1:38 b = mul a a: unused (dce, run 1)";
 
-/// The text with an end of a line for each bar.
+// The text with an end of a line for each bar.
 fn with_lines(rt: &impl Abort, alloc: Global, text: &str) -> String {
     let mut lines = String::new(alloc);
     for letter in text.chars() {

@@ -27,7 +27,7 @@ impl Progress for Broken {
     fn pass_ended(&self, _: usize, _: &str) {}
 }
 
-/// What is told of the passes on the text.
+// What is told of the passes on the text.
 fn report_on(rt: &impl Abort, alloc: Global, text: &str, options: &OptOptions) -> Outcome {
     let source = Source {
         name: "in.plir",
@@ -99,7 +99,7 @@ fn rounds_of_a_repetition(rt: HostRuntime) {
     expect_report(&rt, rt.alloc(), text, &options, ROUNDS);
 }
 
-/// The rows of what was rewritten, without rounds.
+// The rows of what was rewritten, without rounds.
 fn rewritten_rows(rt: &impl Abort, alloc: Global, report: &str) -> String {
     let mut found = String::new(alloc);
     let (_, table) = report

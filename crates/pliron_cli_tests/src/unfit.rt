@@ -14,7 +14,7 @@ func { b0(x): br b1(); b1(y): ret } => an edge passes another number of values t
 func { b0(c): cbr c b1(c, c) b2(); b1(y): ret; b2(): ret } => an edge passes another number of values than its block takes|--> in.plir:1:15|edge 1 passes 2, and its block takes 1|note: this block takes 1|--> in.plir:1:36
 mod { } => a region in which definitions need not come before uses|--> in.plir:1:1|^^^ this operation has such a region";
 
-/// Each of the parts stands in what is told.
+// Each of the parts stands in what is told.
 fn expect_parts(rt: &impl Abort, text: &str, told: &str, wanted: &str) {
     for part in wanted.split('|') {
         assert!(rt; told.contains(part), "{text} => {told}");
@@ -79,7 +79,7 @@ fn opt_warns(rt: HostRuntime) {
     }
 }
 
-/// With `is_strict` an unfit text is told of as an error, and nothing is written.
+// With `is_strict` an unfit text is told of as an error, and nothing is written.
 fn expect_strict(rt: &impl Abort, alloc: Global, text: &str, status: u8) {
     let source = Source {
         name: "in.plir",
@@ -107,7 +107,7 @@ fn strictly(rt: HostRuntime) {
     expect_strict(&rt, rt.alloc(), "func { b0(): rat }", 2);
 }
 
-/// Where each run is verified, it is told that the text wasn't fit before.
+// Where each run is verified, it is told that the text wasn't fit before.
 #[test]
 fn verifying_looks_at_the_input(rt: HostRuntime) {
     let source = Source {

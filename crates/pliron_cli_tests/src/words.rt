@@ -78,7 +78,7 @@ repeat<1>(nested(dce,dce)) => 1 each dce dce
 repeat:20:nested(sccp) => 20 each sccp
 repeat<20>(nested:sccp) => 20 each sccp";
 
-/// What is planned, in words.
+// What is planned, in words.
 fn in_words(rt: &impl Abort, alloc: Global, plan: &PipelineText) -> String {
     let mut told = match plan.runs {
         Some(runs) => format!(in alloc; "{runs}").expect(rt, "memory"),

@@ -12,7 +12,7 @@ use pliron_laws::OptError;
 use std::alloc::Global;
 use std::process::Abort;
 
-/// Node 0 leads to 1 and 2, these to 3, and 3 to 0 and 4.
+// Node 0 leads to 1 and 2, these to 3, and 3 to 0 and 4.
 fn sample_graph(alloc: Global) -> Result<Option<AdjacencyList>, OptError>
     ensures { IfOk result (λ found. IfSome found (λ graph. AreInverse graph)) }
 {
@@ -23,7 +23,7 @@ fn sample_graph(alloc: Global) -> Result<Option<AdjacencyList>, OptError>
     AdjacencyList::new(alloc, rows)
 }
 
-/// The numbers of a line.
+// The numbers of a line.
 fn row(alloc: Global, words: &str) -> Result<Vec<u32>, OptError> {
     let mut row = Vec::new(alloc);
     for word in words.split_ascii_whitespace() {

@@ -22,7 +22,7 @@ fn deep(alloc: Global) -> Result<Deep, OptError> {
     Ok(passes)
 }
 
-/// How many runs the inner pass has counted.
+// How many runs the inner pass has counted.
 fn count_inner_runs(passes: &Deep) -> usize {
     let mut runs: usize = 0;
     for repeat in passes.passes() {

@@ -56,7 +56,7 @@ impl Pass for Tally {
 /// One of two passes.
 type Mine = Either<SweepLarge, Tally>;
 
-/// A sweep between two counts.
+// A sweep between two counts.
 fn line(alloc: Global) -> Result<Passes<Mine>, OptError> {
     let mut passes = Passes::new(alloc);
     passes.add_pass(Either::Right(Tally { runs: 0 }))?;
@@ -65,7 +65,7 @@ fn line(alloc: Global) -> Result<Passes<Mine>, OptError> {
     Ok(passes)
 }
 
-/// How many runs the passes of a list have counted.
+// How many runs the passes of a list have counted.
 fn count_runs(passes: &Passes<Mine>) -> usize {
     let mut runs: usize = 0;
     for pass in passes.passes() {

@@ -12,7 +12,7 @@ use pliron_pipeline::{DCEPass, PassStep, SCCPPass, run_pipeline};
 use std::alloc::{AllocError, Global};
 use std::process::Abort;
 
-/// A new function with one empty block.
+// A new function with one empty block.
 fn function(alloc: Global, ctx: &mut Context) -> Option<(Ptr<Operation>, Ptr<BasicBlock>)> {
     let func = Operation::create(ctx, plain_head(alloc, BenchKind::Func), 0, 1).ok()?;
     if !func.is_live(ctx) || func.num_region(ctx) == 0 {
@@ -23,7 +23,7 @@ fn function(alloc: Global, ctx: &mut Context) -> Option<(Ptr<Operation>, Ptr<Bas
     Some((func, block))
 }
 
-/// A new last operation of the block, with these operands and so many results.
+// A new last operation of the block, with these operands and so many results.
 fn append(
     ctx: &mut Context,
     block: Ptr<BasicBlock>,
@@ -45,7 +45,7 @@ fn append(
     Some(op)
 }
 
-/// The first result of the operation.
+// The first result of the operation.
 fn first_result(op: Ptr<Operation>, ctx: &Context) -> Option<Value> {
     if !op.is_live(ctx) || op.num_result(ctx) == 0 {
         return None;
@@ -53,7 +53,7 @@ fn first_result(op: Ptr<Operation>, ctx: &Context) -> Option<Value> {
     Some(op.get_result(ctx, 0))
 }
 
-/// The result of a new constant, last in the block.
+// The result of a new constant, last in the block.
 fn constant(
     alloc: Global,
     ctx: &mut Context,
@@ -65,7 +65,7 @@ fn constant(
     first_result(op, ctx)
 }
 
-/// A function that returns six by seven.
+// A function that returns six by seven.
 fn six_by_seven(alloc: Global, ctx: &mut Context) -> Option<Ptr<Operation>> {
     let (func, block) = function(alloc, ctx)?;
     let six = constant(alloc, ctx, block, 6)?;
@@ -77,13 +77,13 @@ fn six_by_seven(alloc: Global, ctx: &mut Context) -> Option<Ptr<Operation>> {
     Some(func)
 }
 
-/// What is seen of a run of at most a hundred steps.
+// What is seen of a run of at most a hundred steps.
 fn sight_of_run(alloc: Global, root: Ptr<Operation>, ctx: &Context) -> Result<String, AllocError> {
     let sight = evaluate::<Bench>(alloc, ctx, root, Vec::new(alloc), Vec::new(alloc), 100)?;
     Ok(format!(in alloc; "{sight:?}")?)
 }
 
-/// Folds constants, takes out what is dead, and prints. `None`: the tree isn't well linked.
+// Folds constants, takes out what is dead, and prints. `None`: the tree isn't well linked.
 fn fold_and_sweep(
     alloc: Global,
     root: Ptr<Operation>,

@@ -26,7 +26,7 @@ pub struct SweepLarge {
     pub least: usize,
 }
 
-/// How many operations are inside the operation.
+// How many operations are inside the operation.
 fn count_inside(op: Ptr<Operation>, ctx: &Context) -> usize
     requires { IsLive ctx.now.tree op }
 {
@@ -37,7 +37,7 @@ fn count_inside(op: Ptr<Operation>, ctx: &Context) -> usize
     count
 }
 
-/// Takes dead code out of an operation that is directly inside `holder`.
+// Takes dead code out of an operation that is directly inside `holder`.
 fn sweep_held(
     alloc: Global,
     holder: Ptr<Operation>,
@@ -55,7 +55,7 @@ fn sweep_held(
     swept
 }
 
-/// The walk: the items are taken into a list first, since an iterator lends the context.
+// The walk: the items are taken into a list first, since an iterator lends the context.
 fn sweep_each(
     alloc: Global,
     op: Ptr<Operation>,

@@ -13,7 +13,7 @@ use pliron_pipeline::PassStep;
 use std::alloc::Global;
 use std::process::Abort;
 
-/// A new operation with these operands and so many results, in no block.
+// A new operation with these operands and so many results, in no block.
 fn make_operation(
     ctx: &mut Context,
     head: Head,
@@ -30,7 +30,7 @@ fn make_operation(
     Some(op)
 }
 
-/// The operations go to the end of the block, in this order.
+// The operations go to the end of the block, in this order.
 fn put(ctx: &mut Context, block: Ptr<BasicBlock>, ops: &[Ptr<Operation>]) -> Option<()> {
     for op in ops {
         if !op.is_live(ctx) || !block.is_live(ctx) || op.holds_block(block, ctx) {
@@ -48,7 +48,7 @@ fn first_result(op: Ptr<Operation>, ctx: &Context) -> Option<Value> {
     Some(op.get_result(ctx, 0))
 }
 
-/// A function that returns the square of six; its constant stands first or, by a slip, last.
+// A function that returns the square of six; its constant stands first or, by a slip, last.
 fn square(alloc: Global, ctx: &mut Context, is_right: bool) -> Option<Ptr<Operation>> {
     let func = Operation::create(ctx, plain_head(alloc, BenchKind::Func), 0, 1).ok()?;
     if !func.is_live(ctx) || func.num_region(ctx) == 0 {
@@ -69,7 +69,7 @@ fn square(alloc: Global, ctx: &mut Context, is_right: bool) -> Option<Ptr<Operat
     Some(func)
 }
 
-/// What the passes make of the operation, or what keeps it from being fit to run.
+// What the passes make of the operation, or what keeps it from being fit to run.
 fn optimise_root(alloc: Global, root: Ptr<Operation>, ctx: &mut Context) -> Result<String, OptError>
     requires { IsLive ctx.old.tree root }
 {

@@ -13,7 +13,7 @@ use std::process::Abort;
 /// A third of those that dead code elimination and constant propagation are tested with.
 const TEXTS: u64 = 160;
 
-/// Whether functions are directly in it.
+// Whether functions are directly in it.
 fn is_module(root: Ptr<Operation>, ctx: &Context) -> bool {
     root.is_live(ctx) && !root.head(ctx).ssa
 }
@@ -38,7 +38,7 @@ fn compare(
     fit
 }
 
-/// Whether the operation is the whole, or is directly in it where that is a module, and is none itself.
+// Whether the operation is the whole, or is directly in it where that is a module, and is none itself.
 fn is_function(op: Ptr<Operation>, whole: Ptr<Operation>, ctx: &Context) -> bool {
     if !op.is_live(ctx) || is_module(op, ctx) {
         return false;

@@ -78,7 +78,7 @@ fn third_texts(rt: HostRuntime) {
     run_texts(&rt, rt.alloc(), 320);
 }
 
-/// What both runs answer for the operation, in this order.
+// What both runs answer for the operation, in this order.
 fn answers(
     rt: &impl Abort,
     alloc: Global,

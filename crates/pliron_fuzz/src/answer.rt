@@ -17,7 +17,7 @@ pub enum Answer {
     Ended(u8),
 }
 
-/// Takes what is written on success apart.
+// Takes what is written on success apart.
 fn parse_answer(alloc: Global, written: &[u8]) -> Result<Answer, AllocError> {
     let text = std::str::from_utf8(written).unwrap_or("");
     Ok(match text.split_once('\n') {

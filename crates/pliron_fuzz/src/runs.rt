@@ -31,7 +31,7 @@ fn data(alloc: Global, numbers: &[i128]) -> Result<Vec<Datum>, AllocError> {
     Ok(data)
 }
 
-/// The operation and all that are inside it that are functions, in the order of the text.
+// The operation and all that are inside it that are functions, in the order of the text.
 fn functions(
     alloc: Global,
     root: Ptr<Operation>,
@@ -51,8 +51,8 @@ fn functions(
     Ok(found)
 }
 
-/// What is seen of each function of the text, on each of a few inputs and worlds, up to so many moves; `None`
-/// for a text outside the notation.
+// What is seen of each function of the text, on each of a few inputs and worlds, up to so many moves; `None`
+// for a text outside the notation.
 fn sights(alloc: Global, text: &str, most: usize) -> Result<Option<Vec<Sight>>, OptError>
     ensures { IsOkUnless result OptError.Memory }
 {
@@ -74,7 +74,7 @@ fn sights_in(
     }
 }
 
-/// The same of the functions in the root.
+// The same of the functions in the root.
 fn sights_of(
     alloc: Global,
     root: Ptr<Operation>,
@@ -94,7 +94,7 @@ fn sights_of(
     Ok(found)
 }
 
-/// Whether the one list ends with the other.
+// Whether the one list ends with the other.
 fn ends_with(effects: &[Datum], last: &[Datum]) -> bool {
     match effects.len().checked_sub(last.len()) {
         Some(count) => effects.get(count..) == Some(last),
@@ -102,21 +102,21 @@ fn ends_with(effects: &[Datum], last: &[Datum]) -> bool {
     }
 }
 
-/// The effects of a run, latest first.
+// The effects of a run, latest first.
 fn effects(sight: &Sight) -> &[Datum] {
     match sight {
         Sight::Ended(_, effects) | Sight::Trapped(effects) | Sight::Reached(effects) => effects,
     }
 }
 
-/// Whether a run may be the same as one that made no further move: the effects of one of both are the first
-/// effects of the other.
+// Whether a run may be the same as one that made no further move: the effects of one of both are the first
+// effects of the other.
 fn may_be_same(old: &Sight, new: &Sight) -> bool {
     ends_with(effects(old), effects(new)) || ends_with(effects(new), effects(old))
 }
 
-/// Whether runs before and after, on the same inputs and worlds, may be the same. One that ended before has
-/// to end so after; so the second should have more moves to make.
+// Whether runs before and after, on the same inputs and worlds, may be the same. One that ended before has
+// to end so after; so the second should have more moves to make.
 fn are_kept(before: &[Sight], after: &[Sight]) -> bool {
     before.len() == after.len()
         && before.iter().zip(after.iter()).all(|(old, new)| match old {

@@ -29,7 +29,7 @@ pub fn is_settled(
     }
 }
 
-/// Whether a call on control flow left the tree as it was, and wasn't refused.
+// Whether a call on control flow left the tree as it was, and wasn't refused.
 fn leaves_it(answer: Result<IRStatus, OptError>) -> Result<bool, OptError>
     ensures { IsOkUnless result OptError.Memory }
 {

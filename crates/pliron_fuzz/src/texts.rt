@@ -6,7 +6,7 @@ use pliron_laws::OptError;
 use pliron_notation::{print_text, read_text};
 use std::alloc::Global;
 
-/// The text as it is printed; `None` for one outside the notation.
+// The text as it is printed; `None` for one outside the notation.
 fn print_if_read(alloc: Global, text: &str) -> Result<Option<String>, OptError>
     ensures { IsOkUnless result OptError.Memory }
 {

@@ -48,8 +48,8 @@ pub enum Verdict {
     Found(AnswerFault),
 }
 
-/// Whether the status is true. A list of one pass never makes again what it took away, so that it changed
-/// the tree is seen in the text.
+// Whether the status is true. A list of one pass never makes again what it took away, so that it changed
+// the tree is seen in the text.
 fn tells_truly(list: &str, is_same: bool, is_changed: bool) -> bool {
     let is_one_pass = !list.contains(',');
     if is_one_pass {
@@ -59,7 +59,7 @@ fn tells_truly(list: &str, is_same: bool, is_changed: bool) -> bool {
     }
 }
 
-/// What is wrong with the line that is answered, and what it says of change.
+// What is wrong with the line that is answered, and what it says of change.
 fn fault_of_line(
     alloc: Global,
     subject: &Subject,
@@ -78,7 +78,7 @@ fn fault_of_line(
     Ok(None)
 }
 
-/// What is wrong with what the passes leave of the text, which is the line.
+// What is wrong with what the passes leave of the text, which is the line.
 fn fault_of_passes(
     alloc: Global,
     subject: &Subject,
@@ -106,7 +106,7 @@ fn fault_of_passes(
     Ok(None)
 }
 
-/// What is wrong with the answer, which is this line.
+// What is wrong with the answer, which is this line.
 fn fault_of(
     alloc: Global,
     subject: &Subject,

@@ -30,7 +30,7 @@ struct Line {
     successors: Vec<u32>,
 }
 
-/// The number that the text begins with, and what follows it. It has no leading zero but in 0.
+// The number that the text begins with, and what follows it. It has no leading zero but in 0.
 fn number(text: &[u8]) -> Option<(u32, &[u8])>
     ensures { IfSome result (λ found. length found.1.now < length text.now) }
 {
@@ -48,8 +48,8 @@ fn number(text: &[u8]) -> Option<(u32, &[u8])>
     Some((value, &text[count..]))
 }
 
-/// The numbers that the text begins with, each after one blank, and what follows them; `None` where a
-/// blank isn't followed by a number.
+// The numbers that the text begins with, each after one blank, and what follows them; `None` where a
+// blank isn't followed by a number.
 fn numbers(alloc: Global, text: &[u8]) -> Result<Option<(Vec<u32>, &[u8])>, AllocError>
     ensures { IfOk result (λ found. IfSome found (λ read. length read.1.now ≤ length text.now)) }
 {
@@ -65,7 +65,7 @@ fn numbers(alloc: Global, text: &[u8]) -> Result<Option<(Vec<u32>, &[u8])>, Allo
     Ok(Some((found, rest)))
 }
 
-/// The line that the text begins with, and what follows it.
+// The line that the text begins with, and what follows it.
 fn first_line(alloc: Global, text: &[u8]) -> Result<Option<(Line, &[u8])>, AllocError>
     ensures { IfOk result (λ found. IfSome found (λ read. length read.1.now < length text.now)) }
 {
@@ -83,7 +83,7 @@ fn first_line(alloc: Global, text: &[u8]) -> Result<Option<(Line, &[u8])>, Alloc
     Ok(Some((Line { node, successors }, rest)))
 }
 
-/// The lines of a text.
+// The lines of a text.
 fn lines(alloc: Global, text: &[u8]) -> Result<Option<Vec<Line>>, AllocError> {
     let mut found = Vec::new(alloc);
     let mut rest = text;
@@ -97,7 +97,7 @@ fn lines(alloc: Global, text: &[u8]) -> Result<Option<Vec<Line>>, AllocError> {
     Ok(Some(found))
 }
 
-/// The place of each node; `None` where a node has two lines, or there are more than 32 bits can count.
+// The place of each node; `None` where a node has two lines, or there are more than 32 bits can count.
 fn places(alloc: Global, lines: &[Line]) -> Result<Option<BTreeMap<u32, u32>>, OptError> {
     let mut places = BTreeMap::new(alloc);
     let mut place: u32 = 0;
@@ -113,7 +113,7 @@ fn places(alloc: Global, lines: &[Line]) -> Result<Option<BTreeMap<u32, u32>>, O
     Ok(Some(places))
 }
 
-/// The places of these nodes; `None` where one has no line.
+// The places of these nodes; `None` where one has no line.
 fn places_of(
     alloc: Global,
     places: &BTreeMap<u32, u32>,

@@ -13,8 +13,8 @@ use pliron_test_cases::cases::read;
 use std::alloc::Global;
 use std::process::Abort;
 
-/// The searches in the region of the parent operation find something exactly where the operation is inside the
-/// parent operation, and the same thing.
+// The searches in the region of the parent operation find something exactly where the operation is inside the
+// parent operation, and the same thing.
 fn check_operation(
     rt: &impl Abort,
     op: Ptr<Operation>,
@@ -32,7 +32,7 @@ fn check_operation(
     }
 }
 
-/// The block is found in its own region, and by the search for the nearest block around it.
+// The block is found in its own region, and by the search for the nearest block around it.
 fn check_block(
     rt: &impl Abort,
     block: Ptr<BasicBlock>,
@@ -46,7 +46,7 @@ fn check_block(
     assert!(rt; around.is_some() == holder.holds_block(block, ctx));
 }
 
-/// One of two different operations of a block comes before the other, and none before itself.
+// One of two different operations of a block comes before the other, and none before itself.
 fn check_places(rt: &impl Abort, a: Ptr<Operation>, b: Ptr<Operation>, ctx: &Context) {
     assert!(rt; a.is_live(ctx));
     assert!(rt; b.is_live(ctx));
@@ -58,7 +58,7 @@ fn check_places(rt: &impl Abort, a: Ptr<Operation>, b: Ptr<Operation>, ctx: &Con
     assert!(rt; !(first && second));
 }
 
-/// What has a function around it has an operation whose regions may lose arguments around it.
+// What has a function around it has an operation whose regions may lose arguments around it.
 fn check_kinds(rt: &impl Abort, op: Ptr<Operation>, ctx: &Context) {
     assert!(rt; op.is_live(ctx));
     let function = find_ancestor_of_op_type::<Bench>(ctx, op, BenchKind::Func);

@@ -17,7 +17,7 @@ use pliron_traversal::{
 use std::alloc::Global;
 use std::process::Abort;
 
-/// How many nodes the lists have together.
+// How many nodes the lists have together.
 fn total<N>(lists: &[Vec<N>]) -> usize {
     let mut total = 0usize;
     for list in lists {
@@ -26,7 +26,7 @@ fn total<N>(lists: &[Vec<N>]) -> usize {
     total
 }
 
-/// Each order has so many nodes, and is made of walks that have as many together.
+// Each order has so many nodes, and is made of walks that have as many together.
 fn check_orders<C, G: ControlFlowGraph<C>>(
     rt: &impl Abort,
     alloc: Global,
@@ -46,7 +46,7 @@ fn check_orders<C, G: ControlFlowGraph<C>>(
     assert_eq!(rt; total(&walks), nodes);
 }
 
-/// The components have so many nodes together.
+// The components have so many nodes together.
 fn check_components<C, G: ControlFlowGraph<C>>(
     rt: &impl Abort,
     alloc: Global,
@@ -65,8 +65,8 @@ fn check_components<C, G: ControlFlowGraph<C>>(
     assert_eq!(rt; count, nodes);
 }
 
-/// A search and the tree of dominators reach the same nodes. The entry dominates each node, and only itself
-/// dominates the entry.
+// A search and the tree of dominators reach the same nodes. The entry dominates each node, and only itself
+// dominates the entry.
 fn check_dominators<C, G: ControlFlowGraph<C>>(
     rt: &impl Abort,
     alloc: Global,
@@ -104,7 +104,7 @@ fn check_graph<C, G: ControlFlowGraph<C>>(
     check_dominators(rt, alloc, ctx, graph, nodes);
 }
 
-/// Whether the graph of the region may be read.
+// Whether the graph of the region may be read.
 fn may_be_read(ctx: &Context, region: Ptr<Region>) -> bool
     requires { IsRegion ctx.now.tree region }
     ensures { IsTrue result → IsLawfulRegion ctx.now.tree region }

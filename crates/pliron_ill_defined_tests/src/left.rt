@@ -30,7 +30,7 @@ fn check_again(rt: &impl Abort, alloc: Global, ctx: &mut Context, text: &str) {
     assert_eq!(rt; printed.as_str(), text);
 }
 
-/// The line is read again and printed the same.
+// The line is read again and printed the same.
 fn check_readable(rt: &impl Abort, alloc: Global, text: &str) {
     let mut ctx = Context::new(alloc);
     check_again(rt, alloc, &mut ctx, text)

@@ -41,7 +41,7 @@ enum Target {
     Block(HeldBlock),
 }
 
-/// What the call answers for the region of the parent operation.
+// What the call answers for the region of the parent operation.
 fn in_region(
     rt: &impl Abort,
     alloc: Global,
@@ -65,7 +65,7 @@ fn in_region(
     }
 }
 
-/// What the call answers for the block, which is directly in the parent operation.
+// What the call answers for the block, which is directly in the parent operation.
 fn in_block(
     rt: &impl Abort,
     alloc: Global,
@@ -90,7 +90,7 @@ fn in_block(
     }
 }
 
-/// Asserts that the operation may be called on.
+// Asserts that the operation may be called on.
 fn assert_callable(rt: &impl Abort, holder: Ptr<Operation>, ctx: &Context)
     ensures live { IsLive ctx.now.tree holder }
     ensures linked { IsWellLinked bench ctx.now.tree holder }
@@ -99,7 +99,7 @@ fn assert_callable(rt: &impl Abort, holder: Ptr<Operation>, ctx: &Context)
     assert!(rt; is_well_linked::<Bench>(holder, ctx));
 }
 
-/// What the call answers for the region or the block; each change had room.
+// What the call answers for the region or the block; each change had room.
 fn answer(
     rt: &impl Abort,
     alloc: Global,
@@ -122,7 +122,7 @@ fn answer(
     answer_if_any(rt, told)
 }
 
-/// Calls it once, tests its answer and the whole, and says whether it answered.
+// Calls it once, tests its answer and the whole, and says whether it answered.
 fn check_once(
     rt: &impl Abort,
     alloc: Global,
@@ -137,13 +137,13 @@ fn check_once(
     told.is_some()
 }
 
-/// A further call finds nothing more to do.
+// A further call finds nothing more to do.
 fn check_settled(rt: &impl Abort, alloc: Global, target: &Target, ctx: &mut Context, call: Call) {
     let again = answer(rt, alloc, target, ctx, call);
     assert!(rt; again == Some(IRStatus::Unchanged));
 }
 
-/// Calls it twice.
+// Calls it twice.
 fn check_twice(
     rt: &impl Abort,
     alloc: Global,
@@ -174,7 +174,7 @@ fn check_region(
     true
 }
 
-/// The blocks of the whole.
+// The blocks of the whole.
 fn all_blocks(
     rt: &impl Abort,
     alloc: Global,
@@ -211,13 +211,13 @@ fn check_block(
     true
 }
 
-/// Calls it on the region with this index, if there is one.
+// Calls it on the region with this index, if there is one.
 fn check_one_region(rt: &impl Abort, alloc: Global, text: &str, index: usize, call: Call) -> bool {
     let mut ctx = Context::new(alloc);
     check_region(rt, alloc, &mut ctx, text, index, call)
 }
 
-/// Calls it on the block with this index, if there is one.
+// Calls it on the block with this index, if there is one.
 fn check_one_block(rt: &impl Abort, alloc: Global, text: &str, index: usize, call: Call) -> bool {
     let mut ctx = Context::new(alloc);
     check_block(rt, alloc, &mut ctx, text, index, call)

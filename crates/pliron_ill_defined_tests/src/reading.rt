@@ -12,7 +12,7 @@ use pliron_walks::{Children, Contents};
 use std::alloc::Global;
 use std::process::Abort;
 
-/// Whether it is fit to run is told alike by the violation, the answer and the list of roots.
+// Whether it is fit to run is told alike by the violation, the answer and the list of roots.
 fn check_fit(rt: &impl Abort, alloc: Global, root: Ptr<Operation>, ctx: &Context) {
     assert!(rt; root.is_live(ctx));
     let violation = find_violation::<Bench>(alloc, root, ctx).expect(rt, "memory");
@@ -22,13 +22,13 @@ fn check_fit(rt: &impl Abort, alloc: Global, root: Ptr<Operation>, ctx: &Context
     assert!(rt; roots.is_empty() != fit);
 }
 
-/// Not all of them are fit to run.
+// Not all of them are fit to run.
 fn check_hostile(rt: &impl Abort, alloc: Global, holders: &[Ptr<Operation>], ctx: &Context) {
     let fit = fit_roots::<Bench>(alloc, holders, ctx).expect(rt, "memory");
     assert!(rt; fit.len() < holders.len());
 }
 
-/// It is well linked, as each operation of a text is.
+// It is well linked, as each operation of a text is.
 fn check_linked(rt: &impl Abort, root: Ptr<Operation>, ctx: &Context) {
     assert!(rt; root.is_live(ctx));
     assert!(rt; is_well_linked::<Bench>(root, ctx));
@@ -36,7 +36,7 @@ fn check_linked(rt: &impl Abort, root: Ptr<Operation>, ctx: &Context) {
     assert!(rt; is_admitted::<Bench>(root, ctx));
 }
 
-/// Whether each edge forwards as many values as its block has arguments.
+// Whether each edge forwards as many values as its block has arguments.
 fn edges_fit(rt: &impl Abort, alloc: Global, op: Ptr<Operation>, ctx: &Context) -> bool {
     ctx.well_formed();
     assert!(rt; op.is_live(ctx));
@@ -52,8 +52,8 @@ fn edges_fit(rt: &impl Abort, alloc: Global, op: Ptr<Operation>, ctx: &Context) 
     true
 }
 
-/// A fault is found exactly where a branch that may fold forwards another number of values than its block has
-/// arguments.
+// A fault is found exactly where a branch that may fold forwards another number of values than its block has
+// arguments.
 fn check_verified(rt: &impl Abort, alloc: Global, root: Ptr<Operation>, ctx: &Context) {
     let mut is_faultless = true;
     for op in &all_of(rt, alloc, root, ctx) {
@@ -66,7 +66,7 @@ fn check_verified(rt: &impl Abort, alloc: Global, root: Ptr<Operation>, ctx: &Co
     assert!(rt; verify_operation::<Bench>(alloc, root, ctx).is_ok() == is_faultless);
 }
 
-/// How many operations are inside it.
+// How many operations are inside it.
 fn count_contents(rt: &impl Abort, root: Ptr<Operation>, ctx: &Context) -> usize {
     assert!(rt; root.is_live(ctx));
     let mut count = 0usize;
@@ -78,7 +78,7 @@ fn count_contents(rt: &impl Abort, root: Ptr<Operation>, ctx: &Context) -> usize
     count
 }
 
-/// How many of them are directly inside it.
+// How many of them are directly inside it.
 fn count_children(rt: &impl Abort, root: Ptr<Operation>, ctx: &Context) -> usize {
     assert!(rt; root.is_live(ctx));
     let mut count = 0usize;
@@ -90,7 +90,7 @@ fn count_children(rt: &impl Abort, root: Ptr<Operation>, ctx: &Context) -> usize
     count
 }
 
-/// What is cached of this kind, as a number.
+// What is cached of this kind, as a number.
 fn fact(
     rt: &impl Abort,
     analyses: &mut AnalysisManager<BenchFacts>,
@@ -106,7 +106,7 @@ fn fact(
     }
 }
 
-/// The total is that of edges and size, and the size is that of a walk.
+// The total is that of edges and size, and the size is that of a walk.
 fn check_analyses(rt: &impl Abort, alloc: Global, root: Ptr<Operation>, ctx: &Context) {
     let mut analyses = AnalysisManager::new(alloc);
     let total = fact(rt, &mut analyses, BenchFactKind::Total, root, ctx);
@@ -117,7 +117,7 @@ fn check_analyses(rt: &impl Abort, alloc: Global, root: Ptr<Operation>, ctx: &Co
     assert!(rt; count_children(rt, root, ctx) as u128 <= size);
 }
 
-/// The block is a predecessor of each of its successors, and a successor of each of its predecessors.
+// The block is a predecessor of each of its successors, and a successor of each of its predecessors.
 fn check_neighbours(rt: &impl Abort, block: Ptr<BasicBlock>, ctx: &Context) {
     ctx.well_formed();
     assert!(rt; block.is_live(ctx));
@@ -130,7 +130,7 @@ fn check_neighbours(rt: &impl Abort, block: Ptr<BasicBlock>, ctx: &Context) {
     }
 }
 
-/// Runs end, are cut short or trap, and a second time as the first time.
+// Runs end, are cut short or trap, and a second time as the first time.
 fn check_runs(rt: &impl Abort, alloc: Global, root: Ptr<Operation>, ctx: &Context) {
     let first = sights(alloc, ctx, root, MOVES).expect(rt, "memory");
     let second = sights(alloc, ctx, root, MOVES).expect(rt, "memory");
@@ -140,7 +140,7 @@ fn check_runs(rt: &impl Abort, alloc: Global, root: Ptr<Operation>, ctx: &Contex
 /// As many moves as any run of these texts shows something by.
 const MOVES: usize = 60;
 
-/// What dialects are asked of an operation.
+// What dialects are asked of an operation.
 fn check_asked(rt: &impl Abort, op: Ptr<Operation>, ctx: &Context) {
     assert!(rt; op.is_live(ctx));
     assert!(rt; Bench::admits(op, ctx));

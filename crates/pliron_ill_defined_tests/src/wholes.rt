@@ -45,8 +45,8 @@ static CALLS: [Call; 11] = [
     Call::Checked("simplify-cfg"),
 ];
 
-/// Whether a second call finds nothing more to do. Propagation makes its constants anew, and simplification may
-/// fold what its merging made known.
+// Whether a second call finds nothing more to do. Propagation makes its constants anew, and simplification may
+// fold what its merging made known.
 fn settles(call: Call) -> bool {
     matches!(
         call,
@@ -71,7 +71,7 @@ fn run_pass(
     }
 }
 
-/// What the call answers, of which each change had room where it takes a rewriter.
+// What the call answers, of which each change had room where it takes a rewriter.
 fn answer(
     rt: &impl Abort,
     alloc: Global,
@@ -100,7 +100,7 @@ fn answer(
     told
 }
 
-/// Calls it on the operation with regions that has this index, if there is one.
+// Calls it on the operation with regions that has this index, if there is one.
 fn check_in(
     rt: &impl Abort,
     alloc: Global,
@@ -128,7 +128,7 @@ fn check(rt: &impl Abort, alloc: Global, text: &str, index: usize, call: Call) -
     check_in(rt, alloc, &mut ctx, text, index, call)
 }
 
-/// Calls it on each operation with regions, and answers how many these are.
+// Calls it on each operation with regions, and answers how many these are.
 fn check_all(rt: &impl Abort, alloc: Global, text: &str, call: Call) -> usize {
     for index in 0..MOST {
         if !check(rt, alloc, text, index, call) {

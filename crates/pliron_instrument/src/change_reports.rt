@@ -9,26 +9,26 @@ use pliron_opts::Notation;
 use pliron_pass::{Analyses, BenchFacts, Pass, Passes};
 use pliron_pipeline::PassStep;
 
-/// Each of the three passes reports accurately.
+// Each of the three passes reports accurately.
 fn steps_report_accurately<D: Dialect, E: Analyses + Drop>()
     ensures { IsAccurate ⟦<PassStep<D, E> as Pass>⟧.outcome }
 {}
 
-/// So does each where it is instrumented.
+// So does each where it is instrumented.
 fn instrumented_report_accurately<N: Notation, C: Progress + Drop>()
     ensures { IsAccurate ⟦<Instrumented<N, C> as Pass>⟧.outcome }
 {
     steps_report_accurately::<N::D, BenchFacts>();
 }
 
-/// So is a list of them.
+// So is a list of them.
 fn lists_report_accurately<N: Notation, C: Progress + Drop>()
     ensures { IsAccurate ⟦<Passes<Instrumented<N, C>> as Pass>⟧.outcome }
 {
     instrumented_report_accurately::<N, C>();
 }
 
-/// So is a list that is run on an operation itself, or on each operation directly inside it.
+// So is a list that is run on an operation itself, or on each operation directly inside it.
 fn pipelines_report_accurately<N: Notation, C: Progress + Drop>()
     ensures { IsAccurate ⟦<InstrumentedPipeline<N, C> as Pass>⟧.outcome }
 {

@@ -54,7 +54,7 @@ pub struct Snapshot {
 }
 
 impl RewriteCounts {
-    /// Nothing.
+    // Nothing.
     fn none() -> Self {
         RewriteCounts {
             made: 0,
@@ -66,7 +66,7 @@ impl RewriteCounts {
         }
     }
 
-    /// Adds what the others count.
+    // Adds what the others count.
     fn add(&mut self, others: &RewriteCounts) {
         self.made = self.made.saturating_add(others.made);
         self.erased = self.erased.saturating_add(others.erased);
@@ -76,7 +76,7 @@ impl RewriteCounts {
         self.arguments = self.arguments.saturating_add(others.arguments);
     }
 
-    /// Adds what became of an operation that had these operands.
+    // Adds what became of an operation that had these operands.
     fn add_operation(&mut self, before: &OperationBefore, operands: &[Value], ctx: &Context) {
         if !before.op.is_live(ctx) {
             self.erased = self.erased.saturating_add(1);
@@ -90,7 +90,7 @@ impl RewriteCounts {
     }
 }
 
-/// How many operands of an operation are other values than these, or how many were taken out.
+// How many operands of an operation are other values than these, or how many were taken out.
 fn changed_operands(op: Ptr<Operation>, before: &[Value], ctx: &Context) -> usize
     requires { IsLive ctx.now.tree op }
 {
@@ -126,7 +126,7 @@ impl Comparison {
 }
 
 impl Snapshot {
-    /// Adds an operation with its operands and its blocks.
+    // Adds an operation with its operands and its blocks.
     fn add_operation(&mut self, op: Ptr<Operation>, ctx: &Context) -> Result<(), AllocError>
         requires { IsLive ctx.now.tree op }
     {
@@ -142,7 +142,7 @@ impl Snapshot {
         push_layouts(op, ctx, &mut self.blocks)
     }
 
-    /// Adds the arguments of the blocks.
+    // Adds the arguments of the blocks.
     fn add_arguments(&mut self, ctx: &Context) -> Result<(), AllocError> {
         for block in &self.blocks {
             if block.is_live(ctx) {
@@ -154,7 +154,7 @@ impl Snapshot {
         Ok(())
     }
 
-    /// Adds the operation and all that stands inside it.
+    // Adds the operation and all that stands inside it.
     fn add_all(&mut self, op: Ptr<Operation>, ctx: &Context) -> Result<(), AllocError>
         requires { IsLive ctx.now.tree op }
     {
@@ -183,7 +183,7 @@ impl Snapshot {
         Ok(snapshot)
     }
 
-    /// What was rewritten since, where so much stands inside the operation.
+    // What was rewritten since, where so much stands inside the operation.
     fn rewrites(&self, after: &ContentsCount, ctx: &Context) -> RewriteCounts {
         let mut rewrites = RewriteCounts::none();
         let mut operands = self.operands.as_slice();

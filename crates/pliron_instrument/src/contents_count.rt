@@ -33,7 +33,7 @@ impl ContentsCount {
         self.edges = self.edges.saturating_add(others.edges);
     }
 
-    /// Adds the blocks of a region and their arguments.
+    // Adds the blocks of a region and their arguments.
     fn add_region(&mut self, region: Ptr<Region>, ctx: &Context)
         requires { IsRegion ctx.now.tree region }
     {
@@ -48,7 +48,7 @@ impl ContentsCount {
         }
     }
 
-    /// Adds an operation with its edges, and its blocks with their arguments.
+    // Adds an operation with its edges, and its blocks with their arguments.
     fn add_operation(&mut self, op: Ptr<Operation>, ctx: &Context)
         requires { IsLive ctx.now.tree op }
     {

@@ -34,7 +34,7 @@ pub struct Instrumented<N: Notation, C: Progress + Drop> {
     records: InstrumentationRecord,
 }
 
-/// What stood inside the operation, what stands there, and what was rewritten, where it is known what stood.
+// What stood inside the operation, what stands there, and what was rewritten, where it is known what stood.
 fn compare_after(before: &Option<Snapshot>, op: Ptr<Operation>, ctx: &Context) -> Comparison
     requires { IsLive ctx.now.tree op }
 {
@@ -44,7 +44,7 @@ fn compare_after(before: &Option<Snapshot>, op: Ptr<Operation>, ctx: &Context) -
     }
 }
 
-/// The time of the clock in nanoseconds; 0 where it can't be read.
+// The time of the clock in nanoseconds; 0 where it can't be read.
 fn nanos<C: Clock>(clock: &C) -> u128 {
     match clock.monotonic() {
         Ok(time) => time.as_nanos(),
@@ -84,7 +84,7 @@ impl<N: Notation, C: Progress + Drop> Instrumented<N, C> {
         &self.records
     }
 
-    /// What stands inside the operation, where the options ask for a comparison.
+    // What stands inside the operation, where the options ask for a comparison.
     fn snapshot(&mut self, alloc: Global, op: Ptr<Operation>, ctx: &Context) -> Option<Snapshot>
         requires { IsLive ctx.now.tree op }
         ensures { self.new.step ≡ self.old.step }
@@ -99,7 +99,7 @@ impl<N: Notation, C: Progress + Drop> Instrumented<N, C> {
         snapshot
     }
 
-    /// What verifying the operation finds and how it is printed, as far as the options ask for it.
+    // What verifying the operation finds and how it is printed, as far as the options ask for it.
     fn verify_and_print(
         &self,
         alloc: Global,
@@ -121,7 +121,7 @@ impl<N: Notation, C: Progress + Drop> Instrumented<N, C> {
         Ok((fault, printed))
     }
 
-    /// Notes the run, before which so many passes ran.
+    // Notes the run, before which so many passes ran.
     fn note(
         &mut self,
         alloc: Global,

@@ -69,7 +69,7 @@ pub fn optimise<N: Notation, C: Progress + Drop>(
     optimise_in(alloc, schedule, text, &mut ctx)
 }
 
-/// The same in this context, which is empty.
+// The same in this context, which is empty.
 fn optimise_in<N: Notation, C: Progress + Drop>(
     alloc: Global,
     schedule: &mut InstrumentedSchedule<N, C>,

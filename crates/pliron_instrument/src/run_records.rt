@@ -53,7 +53,7 @@ pub struct RunMeasure {
 }
 
 impl RoundRecord {
-    /// Adds a run.
+    // Adds a run.
     fn add(&mut self, run: &RunMeasure) {
         self.runs = self.runs.saturating_add(1);
         if run.status == IRStatus::Changed {

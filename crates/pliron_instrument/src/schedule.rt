@@ -35,7 +35,7 @@ pub struct InstrumentationOptions<'w> {
 }
 
 impl<'w> InstrumentationOptions<'w> {
-    /// What is recorded around the runs of the pass of this name.
+    // What is recorded around the runs of the pass of this name.
     fn instrumentation(&self, name: &str) -> Instrumentation {
         Instrumentation {
             counts: self.counts,
@@ -45,7 +45,7 @@ impl<'w> InstrumentationOptions<'w> {
     }
 }
 
-/// The instrumented pass comes last.
+// The instrumented pass comes last.
 fn add<N: Notation, C: Progress + Copy + Drop>(
     passes: &mut Passes<Instrumented<N, C>>,
     instrumented: Instrumented<N, C>,
@@ -58,7 +58,7 @@ fn add<N: Notation, C: Progress + Copy + Drop>(
     Ok(())
 }
 
-/// The instrumented passes of these names in turn, if each is the name of one.
+// The instrumented passes of these names in turn, if each is the name of one.
 fn passes<N: Notation, C: Progress + Copy + Drop>(
     alloc: Global,
     names: &[&str],
@@ -81,7 +81,7 @@ fn passes<N: Notation, C: Progress + Copy + Drop>(
     Ok(Some(passes))
 }
 
-/// The same on the operation itself or on each operation directly inside it.
+// The same on the operation itself or on each operation directly inside it.
 fn pipeline<N: Notation, C: Progress + Copy + Drop>(
     nested: bool,
     passes: Passes<Instrumented<N, C>>,
@@ -96,7 +96,7 @@ fn pipeline<N: Notation, C: Progress + Copy + Drop>(
     }
 }
 
-/// The pipeline once, or at most so many times where a number of runs is given.
+// The pipeline once, or at most so many times where a number of runs is given.
 fn schedule<N: Notation, C: Progress + Copy + Drop>(
     runs: Option<usize>,
     pipeline: InstrumentedPipeline<N, C>,

@@ -90,7 +90,7 @@ fn removals_in(rt: &impl Abort, alloc: Global, ctx: &mut Context) {
     }
 }
 
-/// An operation of another dialect: this one has no answer on it.
+// An operation of another dialect: this one has no answer on it.
 fn check_outside(rt: &impl Abort, alloc: Global, ctx: &mut Context) {
     let op = build(alloc, ctx, "0 / kind 16").expect(rt, "a tree");
     assert!(rt; op.is_live(ctx));
@@ -131,7 +131,7 @@ static QUOTIENTS: &str = "7 2 => 3
 0 ? => ?
 ? 1 => ?";
 
-/// The number in the only answer.
+// The number in the only answer.
 fn only_number(rt: &impl Abort, answers: &[Option<AttrObj>]) -> Option<i128> {
     assert_eq!(rt; answers.len(), 1);
     match &answers[0] {
@@ -141,7 +141,7 @@ fn only_number(rt: &impl Abort, answers: &[Option<AttrObj>]) -> Option<i128> {
     }
 }
 
-/// What is known of the operation's only result.
+// What is known of the operation's only result.
 fn known_result(
     rt: &impl Abort,
     alloc: Global,
@@ -182,7 +182,7 @@ static IN_PLACE: &str =
 7 0 / func { b0(v0, v1): v2 = div v0 v1; ret v2 } => func { b0(v0, v1): v2 = div v0 v1; ret v2 }
  / func { b0(): v0 = const 7; ret v0 } => func { b0(): v0 = const 7; ret v0 }";
 
-/// Folds the operation in place.
+// Folds the operation in place.
 fn fold_in_place(
     rt: &impl Abort,
     alloc: Global,
@@ -232,7 +232,7 @@ static MADE: &str = "'7 => ?
 9223372036854775807 => 9223372036854775807
 -9223372036854775808 => -9223372036854775808";
 
-/// The number of the constant that is made of the datum.
+// The number of the constant that is made of the datum.
 fn made_number(rt: &impl Abort, alloc: Global, ctx: &mut Context, word: &str) -> Option<i128> {
     let attr = known_operand(alloc, word)
         .expect(rt, "memory")

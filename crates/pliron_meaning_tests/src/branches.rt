@@ -43,7 +43,7 @@ static IN_PLACE: &str =
 '7 ? ? ? => func { b0(v0, v1, v2): br b2(v2, v1); b1(v3): ret v3; b2(v4, v5): ret v5 }
 ? ? ? ? => func { b0(v0, v1, v2): cbr v0 b1(v1) b2(v2, v1); b1(v3): ret v3; b2(v4, v5): ret v5 }";
 
-/// The blocks are the successors of the branch with these indices.
+// The blocks are the successors of the branch with these indices.
 fn check_blocks(
     rt: &impl Abort,
     ctx: &Context,
@@ -60,7 +60,7 @@ fn check_blocks(
     }
 }
 
-/// The blocks that the branch may go to are its successors with these indices.
+// The blocks that the branch may go to are its successors with these indices.
 fn check_targets(
     rt: &impl Abort,
     alloc: Global,
@@ -88,7 +88,7 @@ fn targets_in(rt: &impl Abort, alloc: Global, ctx: &mut Context) {
     }
 }
 
-/// Folds the branch in place.
+// Folds the branch in place.
 fn fold_in_place(
     rt: &impl Abort,
     alloc: Global,

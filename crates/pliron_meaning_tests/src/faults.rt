@@ -10,7 +10,7 @@ VerifyBefore => verification failed before the pass
 VerifyAfter => verification failed after the pass
 Pass(7) => the pass failed with code 7";
 
-/// The name of the fault, and its text after an arrow, are the case.
+// The name of the fault, and its text after an arrow, are the case.
 fn check_fault(rt: &impl Abort, alloc: Global, fault: &OptError, case: &str) {
     let got = format!(in alloc; "{fault:?} => {fault}").expect(rt, "memory");
     assert_eq!(rt; got.as_str(), case, "{case}");

@@ -22,7 +22,7 @@ use pliron_test_cases::cases::read;
 use std::alloc::Global;
 use std::process::Abort;
 
-/// A type has each trait of a dialect.
+// A type has each trait of a dialect.
 fn is_dialect<D>()
 where
     D: HasMeaning + SideEffects + BlockArgRemoval + ConstFoldInterface + BranchOpFoldInterface,
@@ -84,7 +84,7 @@ fn names_of_users(rt: HostRuntime) {
     names_in(&rt, alloc, &mut ctx)
 }
 
-/// What a kind says of its operations.
+// What a kind says of its operations.
 #[test]
 fn kinds(rt: HostRuntime) {
     assert_eq!(rt; TinyKind::Const.number(), 0);

@@ -21,14 +21,14 @@ use std::process::Abort;
 /// A constant that is asked, a question and a constant without uses, in a block with an argument.
 static STEPS: &str = "scope; block 0 1; const 0 @0; ask @0 v1; const 0 @0";
 
-/// What is seen of the run of the root on one input, in a world that answers once.
+// What is seen of the run of the root on one input, in a world that answers once.
 fn sight_of_root(rt: &impl Abort, alloc: Global, ctx: &Context, root: Ptr<Operation>) -> Sight {
     let inputs = Vec::from_array(alloc, [Datum::Number(3)]).expect(rt, "memory");
     let world = Vec::from_array(alloc, [Datum::Number(8)]).expect(rt, "memory");
     evaluate::<Tiny>(alloc, ctx, root, inputs, world, 100).expect(rt, "memory")
 }
 
-/// Whether the operation is a constant of this number.
+// Whether the operation is a constant of this number.
 fn makes(ctx: &Context, op: Ptr<Operation>, number: i128) -> bool
     requires { IsLive ctx.now.tree op }
     ensures { (h : Head) → head_of ctx.now.tree op ≡ Some h → IsTrue result → (kind_of h.kind ≡ Some Const)
@@ -54,7 +54,7 @@ fn erase<D: Dialect>(
     status
 }
 
-/// Replaces the result of a constant of this number by another one of the same number.
+// Replaces the result of a constant of this number by another one of the same number.
 fn replace_result(
     rt: &impl Abort,
     alloc: Global,
@@ -83,7 +83,7 @@ fn replace_result(
     status
 }
 
-/// Replaces the argument of the block, which has no uses, by a constant.
+// Replaces the argument of the block, which has no uses, by a constant.
 fn replace_argument<D: Dialect>(
     rt: &impl Abort,
     alloc: Global,
@@ -109,8 +109,8 @@ fn replace_argument<D: Dialect>(
     status
 }
 
-/// A constant without uses goes, and a question stays; the question asks the new constant; and the
-/// constant for the argument stands first in the block, though the argument has no uses.
+// A constant without uses goes, and a question stays; the question asks the new constant; and the
+// constant for the argument stands first in the block, though the argument has no uses.
 fn rewrites_in(rt: &impl Abort, alloc: Global, ctx: &mut Context) {
     let mut made = Made::new(alloc);
     make(alloc, ctx, &mut made, STEPS).expect(rt, "a tree");

@@ -93,7 +93,7 @@ fn simple(rt: &impl Abort, alloc: Global, word: &str) -> Datum {
     }
 }
 
-/// The datum of the word.
+// The datum of the word.
 fn datum(rt: &impl Abort, alloc: Global, word: &str) -> Datum {
     let (rest, last) = word.rsplit_once(':').unwrap_or(("", word));
     let mut datum = simple(rt, alloc, last);
@@ -113,14 +113,14 @@ fn data(rt: &impl Abort, alloc: Global, words: &str) -> Vec<Datum> {
     data
 }
 
-/// The two last fields of a side, and what stands before them.
+// The two last fields of a side, and what stands before them.
 fn last_fields<'t>(rt: &impl Abort, side: &'t str) -> (&'t str, &'t str, &'t str) {
     let (rest, last) = side.rsplit_once('/').expect(rt, "a last field");
     let (rest, middle) = rest.rsplit_once('/').expect(rt, "a field before the last");
     (rest.trim(), middle, last)
 }
 
-/// How a run is to end.
+// How a run is to end.
 fn sight(rt: &impl Abort, alloc: Global, side: &str) -> Sight {
     let (end, values, effects) = last_fields(rt, side);
     let effects = data(rt, alloc, effects);
@@ -156,7 +156,7 @@ fn runs_in(rt: &impl Abort, alloc: Global, ctx: &mut Context) {
     assert_eq!(rt; got, Sight::Trapped(Vec::new(alloc)));
 }
 
-/// What is seen of the run of the tree.
+// What is seen of the run of the tree.
 fn sight_of_run(
     rt: &impl Abort,
     alloc: Global,
@@ -192,7 +192,7 @@ fn trees_in(rt: &impl Abort, alloc: Global, ctx: &mut Context) {
     }
 }
 
-/// A root that was erased traps, and a constant's text is given as it is.
+// A root that was erased traps, and a constant's text is given as it is.
 fn roots_in(rt: &impl Abort, alloc: Global, ctx: &mut Context) {
     let root = build(alloc, ctx, "0 / ask").expect(rt, "a tree");
     assert!(rt; root.is_live(ctx));

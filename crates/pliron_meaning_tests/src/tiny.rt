@@ -104,7 +104,7 @@ fn edges_in(rt: &impl Abort, alloc: Global, ctx: &mut Context) {
     }
 }
 
-/// The operation in a block is a constant of this number and folds to it. Folding in place leaves it.
+// The operation in a block is a constant of this number and folds to it. Folding in place leaves it.
 fn constant_in(rt: &impl Abort, alloc: Global, ctx: &mut Context) {
     let op = build(alloc, ctx, "1 / scope; block 0; const 0 @0").expect(rt, "a tree");
     assert!(rt; op.is_live(ctx));
@@ -134,7 +134,7 @@ fn constant_in(rt: &impl Abort, alloc: Global, ctx: &mut Context) {
     );
 }
 
-/// Folds the operation, which has no operands, by constants.
+// Folds the operation, which has no operands, by constants.
 fn fold<D: Dialect>(
     rt: &impl Abort,
     alloc: Global,
@@ -199,7 +199,7 @@ fn folding_in(rt: &impl Abort, alloc: Global, ctx: &mut Context) {
     );
 }
 
-/// The values that the branch forwards along its edge.
+// The values that the branch forwards along its edge.
 fn check_forwarded(
     rt: &impl Abort,
     alloc: Global,

@@ -18,7 +18,7 @@ pub fn folds_are_monotone<I: Interpretation>()
     pliron_roles::laws::folds_are_monotone::<MlirKind<I>>()
 }
 
-/// Asks for a dialect.
+// Asks for a dialect.
 fn of_dialect<D: Dialect>() {}
 
 /// `Mlir<I>` is a dialect under every interpretation, and so is that of programs. Cost: constant.

@@ -21,7 +21,7 @@ struct Trace {
     runs: usize,
 }
 
-/// The plan of one run of the pass of this name.
+// The plan of one run of the pass of this name.
 fn plan_of(alloc: Global, name: &str, nested: bool) -> Result<PipelineText<'_>, AllocError> {
     let mut names = Vec::new(alloc);
     names.push(name)?;
@@ -32,7 +32,7 @@ fn plan_of(alloc: Global, name: &str, nested: bool) -> Result<PipelineText<'_>, 
     })
 }
 
-/// Runs the pass of this name on the module. Where no pass has the name, nothing is run.
+// Runs the pass of this name on the module. Where no pass has the name, nothing is run.
 fn run_alone<N: ModuleNotation>(
     alloc: Global,
     name: &str,
@@ -58,7 +58,7 @@ fn run_alone<N: ModuleNotation>(
     }
 }
 
-/// Writes the module behind a line that says which run it was, of which pass, and whether that changed something.
+// Writes the module behind a line that says which run it was, of which pass, and whether that changed something.
 fn write_module<N: ModuleNotation>(
     alloc: Global,
     trace: &mut Trace,
@@ -82,7 +82,7 @@ fn write_module<N: ModuleNotation>(
         .extend_from_slice(&N::print_module(alloc, loaded, ctx)?)
 }
 
-/// A round of the passes: the module is written after each. Answers whether one changed something.
+// A round of the passes: the module is written after each. Answers whether one changed something.
 fn write_round<N: ModuleNotation>(
     alloc: Global,
     trace: &mut Trace,
@@ -104,7 +104,7 @@ fn write_round<N: ModuleNotation>(
     Ok(changes)
 }
 
-/// The rounds of the plan, until one changes nothing.
+// The rounds of the plan, until one changes nothing.
 fn write_rounds<N: ModuleNotation>(
     alloc: Global,
     trace: &mut Trace,
@@ -123,7 +123,7 @@ fn write_rounds<N: ModuleNotation>(
     Ok(())
 }
 
-/// Writes the module that the text says, read into this context, as it stands after each pass.
+// Writes the module that the text says, read into this context, as it stands after each pass.
 fn write_in<N: ModuleNotation>(
     alloc: Global,
     trace: &mut Trace,
@@ -139,7 +139,7 @@ fn write_in<N: ModuleNotation>(
     }
 }
 
-/// The module that the text says as it stands after each pass, by this context.
+// The module that the text says as it stands after each pass, by this context.
 fn print_in<N: ModuleNotation>(
     alloc: Global,
     text: &[u8],

@@ -69,7 +69,7 @@ pub fn optimise<N: ModuleNotation, C: Progress + Drop>(
     optimise_in(alloc, schedule, text, options, &mut ctx)
 }
 
-/// The same in this context, which is empty.
+// The same in this context, which is empty.
 fn optimise_in<N: ModuleNotation, C: Progress + Drop>(
     alloc: Global,
     schedule: &mut InstrumentedSchedule<N, C>,
@@ -88,7 +88,7 @@ fn optimise_in<N: ModuleNotation, C: Progress + Drop>(
     }
 }
 
-/// Whether this text says the module as it stands.
+// Whether this text says the module as it stands.
 fn reads_as<N: ModuleNotation>(
     alloc: Global,
     text: &[u8],
@@ -99,7 +99,7 @@ fn reads_as<N: ModuleNotation>(
     reads_as_in::<N>(alloc, text, loaded, ctx, &mut again)
 }
 
-/// The same, by reading it into another context.
+// The same, by reading it into another context.
 fn reads_as_in<N: ModuleNotation>(
     alloc: Global,
     text: &[u8],
@@ -125,7 +125,7 @@ fn view_of<'m>(loaded: &'m Module, ctx: &'m Context) -> ModuleView<'m> {
     }
 }
 
-/// Whether this text says the module as it stands, where that is asked for.
+// Whether this text says the module as it stands, where that is asked for.
 fn agreement<N: ModuleNotation>(
     alloc: Global,
     text: &[u8],
@@ -140,7 +140,7 @@ fn agreement<N: ModuleNotation>(
     }
 }
 
-/// What stood before and what stands, where it is known what stood.
+// What stood before and what stands, where it is known what stood.
 fn counts_after(before: Option<(Tally, Fitness)>, loaded: &Module, ctx: &Context) -> Option<Counts>
     requires { IsLive ctx.now.tree loaded.now.root }
 {
@@ -162,7 +162,7 @@ struct Answer {
     counts: Option<Counts>,
 }
 
-/// The module printed, and what is asked for beside it.
+// The module printed, and what is asked for beside it.
 fn answer_of<N: ModuleNotation>(
     alloc: Global,
     loaded: &Module,
@@ -182,7 +182,7 @@ fn answer_of<N: ModuleNotation>(
     })
 }
 
-/// How much of each class stands, and which functions are fit to run, where that is asked for.
+// How much of each class stands, and which functions are fit to run, where that is asked for.
 fn counts_before<N: ModuleNotation>(
     alloc: Global,
     loaded: &Module,
@@ -198,7 +198,7 @@ fn counts_before<N: ModuleNotation>(
     Ok(Some((Tally::of(loaded.root, ctx), fitness)))
 }
 
-/// The same of a module that was read from the text, of which only the contract speaks.
+// The same of a module that was read from the text, of which only the contract speaks.
 fn optimise_module<N: ModuleNotation, C: Progress + Drop>(
     alloc: Global,
     schedule: &mut InstrumentedSchedule<N, C>,

@@ -9,7 +9,7 @@ pub struct Position {
     pub column: usize,
 }
 
-/// How many bytes stand behind the last end of a line.
+// How many bytes stand behind the last end of a line.
 fn last_line_len(text: &[u8]) -> usize
     ensures { result ≡ length (take_while (λ byte. not (is_line_end byte)) (reverse text.now)) }
 {

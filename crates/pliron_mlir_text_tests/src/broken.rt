@@ -6,7 +6,7 @@ use pliron_mlir_text::{Fault, position_of, read_module};
 use std::alloc::Global;
 use std::process::Abort;
 
-/// The place where the text is broken, and what was expected there.
+// The place where the text is broken, and what was expected there.
 fn fault_of(rt: &impl Abort, alloc: Global, text: &str, ctx: &mut Context) -> String {
     match read_module::<Mlir<AnyMeaning>>(alloc, text.as_bytes(), ctx) {
         Err(Fault::Expected(at, expected)) => {

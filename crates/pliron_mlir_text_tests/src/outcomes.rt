@@ -10,7 +10,7 @@ use std::process::Abort;
 
 type Form = GenericForm<Mlir<AnyMeaning>>;
 
-/// What becomes of a text that is called `t`.
+// What becomes of a text that is called `t`.
 fn outcome_of(
     rt: &impl Abort,
     alloc: Global,
@@ -31,7 +31,7 @@ fn outcome_of(
     }
 }
 
-/// The words and the text end with this status, output and report.
+// The words and the text end with this status, output and report.
 fn expect_outcome(
     rt: &impl Abort,
     alloc: Global,

@@ -65,9 +65,9 @@ pub fn build(alloc: Global, syntax: &Syntax, ctx: &mut Context) -> Result<Ptr<Op
     build_reserved(alloc, syntax, ctx)
 }
 
-/// Makes room for all operations, blocks and values of a text, and for as many operations and values again, so
-/// that a pass that makes a few, as a constant for each value, grows no table. Errors: allocation failure. Cost: what
-/// isn't used is never written, and takes addresses and no memory where a system gives memory at the first write.
+// Makes room for all operations, blocks and values of a text, and for as many operations and values again, so
+// that a pass that makes a few, as a constant for each value, grows no table. Errors: allocation failure. Cost: what
+// isn't used is never written, and takes addresses and no memory where a system gives memory at the first write.
 fn reserve_all(syntax: &Syntax, ctx: &mut Context) -> Result<(), NoMemory>
     ensures { ctx.new ≡ ctx.old }
 {
@@ -79,7 +79,7 @@ fn reserve_all(syntax: &Syntax, ctx: &mut Context) -> Result<(), NoMemory>
     )
 }
 
-/// Builds the operation of a text, for which room is reserved.
+// Builds the operation of a text, for which room is reserved.
 fn build_reserved(
     alloc: Global,
     syntax: &Syntax,
@@ -105,7 +105,7 @@ fn build_reserved(
     }
 }
 
-/// Builds all that is inside the operation of a text.
+// Builds all that is inside the operation of a text.
 fn fill(
     alloc: Global,
     syntax: &Syntax,
@@ -132,7 +132,7 @@ fn fill(
     connect_all(syntax, ctx, &built)
 }
 
-/// Makes all operations and blocks inside the operation of a text.
+// Makes all operations and blocks inside the operation of a text.
 fn make_all(
     alloc: Global,
     syntax: &Syntax,
@@ -158,7 +158,7 @@ fn make_all(
     Ok(())
 }
 
-/// Gives all operations their operands and successors.
+// Gives all operations their operands and successors.
 fn connect_all(syntax: &Syntax, ctx: &mut Context, built: &Built) -> Result<(), NoMemory>
     requires sound { AreSoundOperations syntax.now }
     requires made { HasAllMade syntax.now built.now }
@@ -173,7 +173,7 @@ fn connect_all(syntax: &Syntax, ctx: &mut Context, built: &Built) -> Result<(), 
     Ok(())
 }
 
-/// One more at the end. Errors: allocation failure.
+// One more at the end. Errors: allocation failure.
 fn remember<T: Copy + Drop>(table: &mut Vec<T>, item: T) -> Result<(), NoMemory>
     ensures ok { OnOk result (table.new.items ≡ table.old.items ++ item ∷ []) }
     ensures err { OnErr result (table.new.items ≡ table.old.items) }
@@ -184,7 +184,7 @@ fn remember<T: Copy + Drop>(table: &mut Vec<T>, item: T) -> Result<(), NoMemory>
     }
 }
 
-/// A new operation at the end of the block. Errors: allocation failure, which changes nothing.
+// A new operation at the end of the block. Errors: allocation failure, which changes nothing.
 fn append_operation(
     ctx: &mut Context,
     block: Ptr<BasicBlock>,
@@ -203,7 +203,7 @@ fn append_operation(
     Ok(op)
 }
 
-/// The next operation of the text, at the end of its block, without operands and successors.
+// The next operation of the text, at the end of its block, without operands and successors.
 fn add_operation(
     alloc: Global,
     ctx: &mut Context,
@@ -232,7 +232,7 @@ fn add_operation(
     remember_operation(ctx, built, op)
 }
 
-/// Remembers a new operation, its results and its regions.
+// Remembers a new operation, its results and its regions.
 fn remember_operation(ctx: &Context, built: &mut Built, op: Ptr<Operation>) -> Result<(), NoMemory>
     requires { IsLive ctx.now.tree op }
     ensures blocks { built.new.blocks.items ≡ built.old.blocks.items }
@@ -301,7 +301,7 @@ fn remember_arguments(
     Ok(())
 }
 
-/// The next block of the text, at the end of its region.
+// The next block of the text, at the end of its region.
 fn add_block(ctx: &mut Context, built: &mut Built, text: &BlockText) -> Result<(), NoMemory>
     requires region { text.now.region < length built.old.regions.items }
     requires standing { AreStanding ctx.old.tree built.old }
@@ -321,7 +321,7 @@ fn add_block(ctx: &mut Context, built: &mut Built, text: &BlockText) -> Result<(
     remember_arguments(ctx, &mut built.values, block)
 }
 
-/// Gives the operation of this number its operands and successors.
+// Gives the operation of this number its operands and successors.
 fn connect(
     ctx: &mut Context,
     built: &Built,

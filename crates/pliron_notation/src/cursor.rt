@@ -38,12 +38,12 @@ impl<'t, K: Word> Cursor<'t, K> {
         self.taken.saturating_sub(1)
     }
 
-    /// The next token. Cost: constant.
+    // The next token. Cost: constant.
     fn peek(&self) -> Option<Token<K>> {
         self.tokens.get(self.taken).copied()
     }
 
-    /// Goes to the token after the next one. Cost: constant.
+    // Goes to the token after the next one. Cost: constant.
     fn skip(&mut self) {
         self.taken = self.taken.wrapping_add(1);
     }

@@ -57,7 +57,7 @@ impl Labels {
         }
     }
 
-    /// The place of the label, if it is its name's in the scope that opened last.
+    // The place of the label, if it is its name's in the scope that opened last.
     fn latest_as(&self, label: Label) -> Option<usize> {
         let place = self.latest.get(label.name.number)?.checked_sub(1)?;
         let entry = self.entries.get(place)?;
@@ -68,7 +68,7 @@ impl Labels {
         }
     }
 
-    /// The place of a label that isn't its name's in the scope that opened last.
+    // The place of a label that isn't its name's in the scope that opened last.
     #[inline(never)]
     fn earlier_or_new(&mut self, label: Label, mention: usize) -> Result<usize, AllocError> {
         let place = match self.last_up_to(label) {
@@ -81,8 +81,8 @@ impl Labels {
         Ok(place)
     }
 
-    /// The name's label in the scope or, if it has none there, in the last that opened before: its place
-    /// and its scope.
+    // The name's label in the scope or, if it has none there, in the last that opened before: its place
+    // and its scope.
     fn last_up_to(&self, label: Label) -> Option<(usize, usize)> {
         let mut place = self.latest.get(label.name.number)?.checked_sub(1);
         // Each turn goes to a scope that opened before.
@@ -96,7 +96,7 @@ impl Labels {
         None
     }
 
-    /// Adds a label, and answers its place.
+    // Adds a label, and answers its place.
     fn add(
         &mut self,
         scope: usize,

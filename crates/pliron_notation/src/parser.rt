@@ -25,7 +25,7 @@ struct OpenRegion {
 }
 
 impl OpenRegion {
-    /// No open region, which nothing reads.
+    // No open region, which nothing reads.
     fn none(kind: BenchKind) -> Self {
         OpenRegion {
             kind,
@@ -35,7 +35,7 @@ impl OpenRegion {
         }
     }
 
-    /// Whether the region has a block at least.
+    // Whether the region has a block at least.
     fn needs_block(&self) -> bool {
         self.kind == BenchKind::Func || self.kind == BenchKind::Scope
     }
@@ -96,14 +96,14 @@ pub fn parse(alloc: Global, text: &Tokens<BenchKind>) -> Result<Syntax, Stop> {
 }
 
 impl Parser<'_> {
-    /// Makes room for what most texts of these tokens have.
+    // Makes room for what most texts of these tokens have.
     fn reserve(&mut self, text: &Tokens<BenchKind>) -> Result<(), Stop> {
         self.values.reserve(text.names)?;
         self.syntax.reserve(text.tokens.len() / 4)?;
         Ok(())
     }
 
-    /// Reads what stands in the open region and all that it holds, up to the end of the text.
+    // Reads what stands in the open region and all that it holds, up to the end of the text.
     fn contents(&mut self, count: usize) -> Result<(), Stop> {
         let mut place = LastRead::RegionStart;
         // Each turn takes a token.
@@ -120,7 +120,7 @@ impl Parser<'_> {
         }
     }
 
-    /// Reads the next block or operation of the region, or its end.
+    // Reads the next block or operation of the region, or its end.
     fn step(&mut self, place: LastRead) -> Result<LastRead, Stop> {
         if self.cursor.accept(Token::CloseBrace) {
             return self.close_region(place);
@@ -135,7 +135,7 @@ impl Parser<'_> {
         }
     }
 
-    /// What was to stand next in the region, after this and with a semicolon or without one.
+    // What was to stand next in the region, after this and with a semicolon or without one.
     fn expectation(&self, place: LastRead, is_parted: bool) -> Expected {
         match (place, is_parted) {
             (LastRead::RegionStart, _) if self.region.needs_block() => Expected::BlockOfRegion,
@@ -148,7 +148,7 @@ impl Parser<'_> {
         }
     }
 
-    /// Opens the region of an operation of this kind.
+    // Opens the region of an operation of this kind.
     fn open_region(&mut self, kind: BenchKind) -> Result<(), Stop> {
         if self.outer.len() >= MAX_DEPTH {
             return Err(self.cursor.stop_before(Expected::FewerRegions));
@@ -171,7 +171,7 @@ impl Parser<'_> {
         Ok(())
     }
 
-    /// Ends the region. The brace is taken.
+    // Ends the region. The brace is taken.
     fn close_region(&mut self, place: LastRead) -> Result<LastRead, Stop> {
         if self.region.needs_block() && place == LastRead::RegionStart {
             return Err(self.cursor.stop_before(Expected::BlockOfRegion));
@@ -182,7 +182,7 @@ impl Parser<'_> {
         Ok(LastRead::Operation)
     }
 
-    /// Reads the head of a block.
+    // Reads the head of a block.
     fn block(&mut self) -> Result<LastRead, Stop> {
         let name = self.cursor.name(Expected::Block)?;
         let number = self.syntax.blocks.len();
@@ -204,7 +204,7 @@ impl Parser<'_> {
         Ok(LastRead::BlockStart)
     }
 
-    /// Reads the arguments of a block up to the closing bracket, and answers how many there are.
+    // Reads the arguments of a block up to the closing bracket, and answers how many there are.
     fn arguments(&mut self) -> Result<usize, Stop> {
         let first = self.syntax.values;
         if self.cursor.accept(Token::CloseRound) {
@@ -224,7 +224,7 @@ impl Parser<'_> {
         Err(self.cursor.stop(Expected::Value))
     }
 
-    /// Reads what follows a member of a list in brackets, and answers whether it is the closing one.
+    // Reads what follows a member of a list in brackets, and answers whether it is the closing one.
     fn is_list_end(&mut self) -> Result<bool, Stop> {
         if self.cursor.accept(Token::CloseRound) {
             return Ok(true);
@@ -234,7 +234,7 @@ impl Parser<'_> {
         Ok(false)
     }
 
-    /// Takes in that the next value of the text has this name.
+    // Takes in that the next value of the text has this name.
     fn define(&mut self, name: Name) -> Result<(), Stop> {
         let number = self.syntax.values;
         let scope = self.region.func;
@@ -246,7 +246,7 @@ impl Parser<'_> {
         Ok(())
     }
 
-    /// Reads an operation up to its region, which it opens.
+    // Reads an operation up to its region, which it opens.
     fn operation(&mut self) -> Result<LastRead, Stop> {
         let kind = self.kind()?;
         let Some(block) = self.region.block else {
@@ -276,7 +276,7 @@ impl Parser<'_> {
         })
     }
 
-    /// Reads the results and the kind of an operation, which are to fit one another and the region.
+    // Reads the results and the kind of an operation, which are to fit one another and the region.
     fn kind(&mut self) -> Result<BenchKind, Stop> {
         let count = self.results()?;
         let kind = self.cursor.kind(Expected::Kind)?;
@@ -300,7 +300,7 @@ impl Parser<'_> {
         Ok(kind)
     }
 
-    /// Reads the results before a kind, of which there are at most two, and answers how many.
+    // Reads the results before a kind, of which there are at most two, and answers how many.
     fn results(&mut self) -> Result<usize, Stop> {
         let Some(name) = self.cursor.accept_name() else {
             return Ok(0);
@@ -316,7 +316,7 @@ impl Parser<'_> {
         Ok(2)
     }
 
-    /// Reads what stands behind a kind, up to a region.
+    // Reads what stands behind a kind, up to a region.
     fn tail(&mut self, text: &mut OperationText) -> Result<(), Stop> {
         match text.kind {
             BenchKind::Const => {
@@ -340,14 +340,14 @@ impl Parser<'_> {
         }
     }
 
-    /// Reads an operand.
+    // Reads an operand.
     #[inline(always)]
     fn operand(&mut self, text: &mut OperationText) -> Result<(), Stop> {
         let name = self.cursor.name(Expected::Value)?;
         self.add_operand(name, text)
     }
 
-    /// Takes in that the name that was read last is an operand.
+    // Takes in that the name that was read last is an operand.
     #[inline(always)]
     fn add_operand(&mut self, name: Name, text: &mut OperationText) -> Result<(), Stop> {
         let scope = self.region.func;
@@ -357,7 +357,7 @@ impl Parser<'_> {
         Ok(())
     }
 
-    /// Reads operands as long as names follow.
+    // Reads operands as long as names follow.
     fn operands(&mut self, text: &mut OperationText) -> Result<(), Stop> {
         // Each turn takes a token.
         for _ in 0..self.cursor.len() {
@@ -369,7 +369,7 @@ impl Parser<'_> {
         Ok(())
     }
 
-    /// Reads a successor.
+    // Reads a successor.
     fn successor(&mut self, text: &mut OperationText) -> Result<(), Stop> {
         let name = self.cursor.name(Expected::Block)?;
         let scope = self.region.number;
@@ -379,7 +379,7 @@ impl Parser<'_> {
         Ok(())
     }
 
-    /// Reads a successor and what is forwarded to it.
+    // Reads a successor and what is forwarded to it.
     fn edge(&mut self, text: &mut OperationText) -> Result<(), Stop> {
         self.successor(text)?;
         self.cursor.expect(Token::OpenRound, Expected::OpenRound)?;
@@ -396,7 +396,7 @@ impl Parser<'_> {
         Err(self.cursor.stop(Expected::Value))
     }
 
-    /// Reads the condition and the two edges of a `cbr`.
+    // Reads the condition and the two edges of a `cbr`.
     fn edges(&mut self, text: &mut OperationText) -> Result<(), Stop> {
         self.operand(text)?;
         self.edge(text)?;
@@ -404,8 +404,8 @@ impl Parser<'_> {
         self.edge(text)
     }
 
-    /// Writes the numbers of values and blocks for their names. A name that the text doesn't define
-    /// makes it unreadable.
+    // Writes the numbers of values and blocks for their names. A name that the text doesn't define
+    // makes it unreadable.
     fn resolve(&mut self) -> Result<(), Stop> {
         match (self.values.first_undefined(), self.blocks.first_undefined()) {
             (None, None) => {}

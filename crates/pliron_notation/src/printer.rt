@@ -53,8 +53,8 @@ pub fn print_as<P: Printed>(
 }
 
 impl Printer {
-    /// A printer with room for a text of the usual length, and for twice as many keys as there are values and
-    /// blocks, since some of those between may be erased. Errors: allocation failure.
+    // A printer with room for a text of the usual length, and for twice as many keys as there are values and
+    // blocks, since some of those between may be erased. Errors: allocation failure.
     fn new(alloc: Global, outline: &Outline) -> Result<Printer, AllocError> {
         let extent = outline.extent;
         let letters = outline.steps.len().saturating_mul(24);
@@ -67,7 +67,7 @@ impl Printer {
         })
     }
 
-    /// Gives each value and each block its number.
+    // Gives each value and each block its number.
     fn number<P: Printed>(&mut self, ctx: &Context, steps: &[OutlineStep]) -> Result<(), AllocError>
         requires { AllStand ctx.now.tree steps.now }
     {
@@ -78,8 +78,8 @@ impl Printer {
         Ok(())
     }
 
-    /// Gives what the step makes its numbers, where `next` is the next number of a value, and answers
-    /// the number after them.
+    // Gives what the step makes its numbers, where `next` is the next number of a value, and answers
+    // the number after them.
     #[inline(always)]
     fn number_step<P: Printed>(
         &mut self,
@@ -161,7 +161,7 @@ impl Printer {
         Ok(())
     }
 
-    /// Prints what the step names, and what parts it from what was printed last.
+    // Prints what the step names, and what parts it from what was printed last.
     #[inline(always)]
     fn print_step<P: Printed>(
         &mut self,
@@ -196,7 +196,7 @@ impl Printer {
         }
     }
 
-    /// What parts an operation from what was printed last.
+    // What parts an operation from what was printed last.
     #[inline(always)]
     fn print_separator(&mut self, last: &Last) -> Result<(), AllocError> {
         match last {
@@ -209,7 +209,7 @@ impl Printer {
         }
     }
 
-    /// A value's name. A value that stands outside what is printed is written `_`.
+    // A value's name. A value that stands outside what is printed is written `_`.
     #[inline(always)]
     fn value(&mut self, value: Value) -> Result<(), AllocError> {
         match self.values.get(value.key()) {
@@ -218,7 +218,7 @@ impl Printer {
         }
     }
 
-    /// A block's name. A block that stands outside what is printed is written `_`.
+    // A block's name. A block that stands outside what is printed is written `_`.
     fn block_name(&mut self, block: Ptr<BasicBlock>) -> Result<(), AllocError> {
         match self.blocks.get(block.key()) {
             Some(number) => self.name('b', number),
@@ -226,14 +226,14 @@ impl Printer {
         }
     }
 
-    /// The letter and the number.
+    // The letter and the number.
     #[inline(always)]
     fn name(&mut self, letter: char, number: usize) -> Result<(), AllocError> {
         self.text.push(letter)?;
         self.text.push_str(Buffer::new().format(number))
     }
 
-    /// A comma and a blank, if it is not the first item.
+    // A comma and a blank, if it is not the first item.
     #[inline(always)]
     fn comma(&mut self, is_first: bool) -> Result<(), AllocError> {
         if is_first {
@@ -243,7 +243,7 @@ impl Printer {
         self.text.push(' ')
     }
 
-    /// A block's name and arguments.
+    // A block's name and arguments.
     fn block(&mut self, ctx: &Context, block: Ptr<BasicBlock>) -> Result<(), AllocError>
         requires { IsBlock ctx.now.tree block }
     {
@@ -256,7 +256,7 @@ impl Printer {
         self.text.push_str("):")
     }
 
-    /// An operation up to its regions.
+    // An operation up to its regions.
     #[inline(always)]
     fn operation<P: Printed>(&mut self, ctx: &Context, op: Ptr<Operation>) -> Result<(), AllocError>
         requires { IsLive ctx.now.tree op }
@@ -277,14 +277,14 @@ impl Printer {
         }
     }
 
-    /// A blank and the number.
+    // A blank and the number.
     #[inline(always)]
     fn number_behind(&mut self, number: i128) -> Result<(), AllocError> {
         self.text.push(' ')?;
         self.text.push_str(Buffer::new().format(number))
     }
 
-    /// The results of an operation, and an equals sign behind them.
+    // The results of an operation, and an equals sign behind them.
     #[inline(always)]
     fn results(&mut self, ctx: &Context, op: Ptr<Operation>) -> Result<(), AllocError>
         requires { IsLive ctx.now.tree op }
@@ -300,7 +300,7 @@ impl Printer {
         self.text.push_str(" = ")
     }
 
-    /// The operands before this index, with a blank before each.
+    // The operands before this index, with a blank before each.
     #[inline(always)]
     fn operands(&mut self, ctx: &Context, op: Ptr<Operation>, end: usize) -> Result<(), AllocError>
         requires { IsLive ctx.now.tree op }
@@ -312,7 +312,7 @@ impl Printer {
         Ok(())
     }
 
-    /// The successors, with a blank before each.
+    // The successors, with a blank before each.
     #[inline(always)]
     fn successors(&mut self, ctx: &Context, op: Ptr<Operation>) -> Result<(), AllocError>
         requires { IsLive ctx.now.tree op }
@@ -324,8 +324,8 @@ impl Printer {
         Ok(())
     }
 
-    /// The successors, the first with the operands from `start` to `cut`, the others with those from
-    /// there on.
+    // The successors, the first with the operands from `start` to `cut`, the others with those from
+    // there on.
     fn edges(
         &mut self,
         ctx: &Context,
@@ -348,7 +348,7 @@ impl Printer {
         Ok(())
     }
 
-    /// The operands from `start` to `end`, in brackets.
+    // The operands from `start` to `end`, in brackets.
     fn print_forwarded(
         &mut self,
         ctx: &Context,

@@ -68,7 +68,7 @@ pub fn find_text_fault(alloc: Global, text: &[u8]) -> Result<Option<TextFault>, 
     }
 }
 
-/// The syntax of a text. Errors: the first place at which it leaves the notation; allocation failure.
+// The syntax of a text. Errors: the first place at which it leaves the notation; allocation failure.
 fn read_syntax(alloc: Global, text: &[u8]) -> Result<Syntax, Stop>
     ensures { IfOk result (λ syntax. IsSoundSyntax syntax) }
 {
@@ -80,7 +80,7 @@ fn read_syntax(alloc: Global, text: &[u8]) -> Result<Syntax, Stop>
     }
 }
 
-/// The syntax that was parsed, if it makes a tree.
+// The syntax that was parsed, if it makes a tree.
 fn sound(parsed: Result<Syntax, Stop>) -> Result<Syntax, Stop>
     ensures { IfOk result (λ syntax. IsSoundSyntax syntax) }
 {
@@ -92,7 +92,7 @@ fn sound(parsed: Result<Syntax, Stop>) -> Result<Syntax, Stop>
     }
 }
 
-/// Why reading ends that parsed tokens up to this misread place.
+// Why reading ends that parsed tokens up to this misread place.
 fn earlier(parsed: Result<Syntax, Stop>, misread: Misread) -> Stop {
     match parsed {
         Err(Stop::NoMemory) => Stop::NoMemory,

@@ -103,7 +103,7 @@ impl Extent {
     }
 }
 
-/// What is written after this step.
+// What is written after this step.
 #[inline(always)]
 fn step_after(root: Ptr<Operation>, ctx: &Context, step: &OutlineStep) -> Option<OutlineStep>
     requires { IsStanding ctx.now.tree step.now }

@@ -88,8 +88,8 @@ impl Syntax {
         self.root.is_top() && self.are_operations_sound()
     }
 
-    /// Whether the steps have each operation and each block once, in order and where its place is
-    /// made already, and make so many values.
+    // Whether the steps have each operation and each block once, in order and where its place is
+    // made already, and make so many values.
     fn is_ordered(&self) -> bool
         ensures { IsTrue result → IsOrdered self.now first_made self.now.steps.items }
     {
@@ -115,8 +115,8 @@ impl Syntax {
         true
     }
 
-    /// Whether the dialect has the operation, and it names values and blocks of the text and, if it has
-    /// successors, is the last of its block and names blocks of its own region.
+    // Whether the dialect has the operation, and it names values and blocks of the text and, if it has
+    // successors, is the last of its block and names blocks of its own region.
     fn is_operation_sound(&self, number: usize, operation: &OperationText) -> bool
         ensures { IsTrue result → IsSoundOperation self.now number operation.now }
     {
@@ -146,14 +146,14 @@ impl Syntax {
 }
 
 impl OperationText {
-    /// Whether the dialect has operations with this head and these counts.
+    // Whether the dialect has operations with this head and these counts.
     fn is_admitted(&self) -> bool
         ensures { IsTrue result → IsAdmittedText self.now }
     {
         self.is_count_right() && self.successors.len() == self.kind.successor_count()
     }
 
-    /// Whether an operation with this head may have so many operands.
+    // Whether an operation with this head may have so many operands.
     fn is_count_right(&self) -> bool
         ensures { IsTrue result → IsTrue (takes_attributes self.now.kind (head_with self.now.kind self.now.number
             (pos self.now.first_edge)).attrs (length self.now.operands.items) && takes_operands self.now.kind
@@ -172,7 +172,7 @@ impl OperationText {
     }
 }
 
-/// Whether the operation doesn't stand after the last of its block, and with successors is that last.
+// Whether the operation doesn't stand after the last of its block, and with successors is that last.
 fn is_placed(last: Option<usize>, number: usize, operation: &OperationText) -> bool
     ensures { IsTrue result → IsUpToLast last number operation.now }
 {
@@ -182,7 +182,7 @@ fn is_placed(last: Option<usize>, number: usize, operation: &OperationText) -> b
     }
 }
 
-/// Whether all of these are below the count.
+// Whether all of these are below the count.
 fn are_below(numbers: &[usize], count: usize) -> bool
     ensures { IsTrue result → AllBelow count numbers.now }
 {
@@ -215,7 +215,7 @@ impl Made {
         }
     }
 
-    /// Counts what the step makes, and answers whether it is the next and its place is made.
+    // Counts what the step makes, and answers whether it is the next and its place is made.
     fn take(&mut self, syntax: &Syntax, step: SyntaxStep) -> bool
         ensures { IsTrue result → IsNext syntax.now self.old step self.new }
     {
@@ -237,7 +237,7 @@ impl Made {
         }
     }
 
-    /// Counts so many more regions and values, and answers whether they can be counted.
+    // Counts so many more regions and values, and answers whether they can be counted.
     fn add(&mut self, regions: usize, values: usize) -> bool
         ensures { IsTrue result → self.new ≡ record {
           operations = self.old.operations;

@@ -37,7 +37,7 @@ enum Lexeme<K> {
 }
 
 impl<K> Lexeme<K> {
-    /// The token, if it is one, and else what was to stand there.
+    // The token, if it is one, and else what was to stand there.
     fn of(token: Option<Token<K>>, expected: Expected) -> Self {
         match token {
             Some(token) => Lexeme::Token(token),
@@ -46,7 +46,7 @@ impl<K> Lexeme<K> {
     }
 }
 
-/// The token that a byte is by itself.
+// The token that a byte is by itself.
 fn token_of_byte<K>(byte: u8) -> Option<Token<K>> {
     match byte {
         b'{' => Some(Token::OpenBrace),
@@ -84,7 +84,7 @@ impl LexemeForm {
     }
 }
 
-/// How many bytes the number has that a text begins with: its first byte and the digits behind it.
+// How many bytes the number has that a text begins with: its first byte and the digits behind it.
 fn number_len(text: &[u8]) -> usize
     requires { 0 < length text.now }
     ensures some { 0 < result }
@@ -97,7 +97,7 @@ fn number_len(text: &[u8]) -> usize
     len
 }
 
-/// The number that a lexeme writes: decimal digits without a leading zero, and no `-0`.
+// The number that a lexeme writes: decimal digits without a leading zero, and no `-0`.
 fn number_of(lexeme: &[u8]) -> Option<i64> {
     match lexeme {
         [b'0', _, ..] | [b'-', b'0', ..] | [b'-'] => None,
@@ -106,7 +106,7 @@ fn number_of(lexeme: &[u8]) -> Option<i64> {
     }
 }
 
-/// The number below zero that these digits write.
+// The number below zero that these digits write.
 fn negative_of(digits: &[u8]) -> Option<i64> {
     let mut number: i64 = 0;
     for digit in digits {
@@ -116,7 +116,7 @@ fn negative_of(digits: &[u8]) -> Option<i64> {
     Some(number)
 }
 
-/// What a text begins with, and what stands behind it. Errors: allocation failure.
+// What a text begins with, and what stands behind it. Errors: allocation failure.
 fn first_lexeme<'t, K: Word>(
     text: &'t [u8],
     words: &mut WordTable<'t, K>,
@@ -193,7 +193,7 @@ pub struct Span {
     pub len: usize,
 }
 
-/// How many bytes the first lexeme has: a word, a number or one other byte.
+// How many bytes the first lexeme has: a word, a number or one other byte.
 fn lexeme_len(text: &[u8]) -> usize
     requires { 0 < length text.now }
     ensures some { 0 < result }

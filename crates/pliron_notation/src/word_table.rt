@@ -66,7 +66,7 @@ impl<'t> Written<'t> {
         }
     }
 
-    /// Whether the other is the same word. Cost: constant for words of a few bytes, and else their length.
+    // Whether the other is the same word. Cost: constant for words of a few bytes, and else their length.
     fn is(self, other: Written<'_>) -> bool {
         self.key == other.key
             && self.word.len() == other.word.len()
@@ -74,7 +74,7 @@ impl<'t> Written<'t> {
     }
 }
 
-/// Whether two long words are the same.
+// Whether two long words are the same.
 #[inline(never)]
 fn is_same(word: &[u8], other: &[u8]) -> bool {
     word == other
@@ -155,19 +155,19 @@ impl<'t, K: Word> WordTable<'t, K> {
         }
     }
 
-    /// The slot of the word's key.
+    // The slot of the word's key.
     fn first_slot(&self, written: Written<'t>) -> usize {
         let hash = written.key.wrapping_mul(0x9e37_79b9_7f4a_7c15);
         hash.wrapping_shr(self.spare_bits)
     }
 
-    /// The entry that stands in the slot, if one does.
+    // The entry that stands in the slot, if one does.
     fn entry_of(&self, slot: usize) -> Option<WordEntry<'t, K>> {
         let number = self.slots.get(slot)?.checked_sub(1)?;
         self.entries.get(number).copied()
     }
 
-    /// The token of a word whose first slot is this one.
+    // The token of a word whose first slot is this one.
     #[inline(never)]
     fn token_from(
         &mut self,
@@ -181,7 +181,7 @@ impl<'t, K: Word> WordTable<'t, K> {
         }
     }
 
-    /// Where a word stands, or may, in its slots from the first on.
+    // Where a word stands, or may, in its slots from the first on.
     fn place(&self, first: usize, written: Written<'t>) -> WordPlace<K> {
         for slot in first..first.saturating_add(TRIES) {
             match self.slots.get(slot) {
@@ -197,7 +197,7 @@ impl<'t, K: Word> WordTable<'t, K> {
         WordPlace::Crowded
     }
 
-    /// The token of a word that wasn't met, for which this slot is free.
+    // The token of a word that wasn't met, for which this slot is free.
     fn put(&mut self, slot: usize, written: Written<'t>) -> Result<Option<Token<K>>, AllocError> {
         let Some(token) = self.new_token(written.word) else {
             return Ok(None);
@@ -209,7 +209,7 @@ impl<'t, K: Word> WordTable<'t, K> {
         Ok(Some(token))
     }
 
-    /// The token of a word that no slot has.
+    // The token of a word that no slot has.
     fn other(&mut self, word: &'t [u8]) -> Result<Option<Token<K>>, AllocError> {
         if let Some(token) = self.others.get(word) {
             return Ok(Some(*token));
@@ -221,8 +221,8 @@ impl<'t, K: Word> WordTable<'t, K> {
         Ok(Some(token))
     }
 
-    /// The token of a word that wasn't met: a kind, or a name with the next number; `None` where the word is
-    /// too long for a name.
+    // The token of a word that wasn't met: a kind, or a name with the next number; `None` where the word is
+    // too long for a name.
     fn new_token(&mut self, word: &[u8]) -> Option<Token<K>> {
         if let Some(kind) = K::from_word(word) {
             return Some(Token::Kind(kind));

@@ -79,9 +79,9 @@ fn known_of<D: OperandFoldInterface>(
     }
 }
 
-/// The constants that are known of the operation's operands.
-///
-/// Errors: allocation failure. Cost: for each operand, what the dialect's answer for a constant costs.
+// The constants that are known of the operation's operands.
+//
+// Errors: allocation failure. Cost: for each operand, what the dialect's answer for a constant costs.
 fn known_operands<D: OperandFoldInterface>(
     alloc: Global,
     op: Ptr<Operation>,

@@ -10,7 +10,7 @@ use std::env;
 use std::io::{self, ErrorKind};
 use std::process::ExitCode;
 
-/// The words after the program's name, made by pushes, so that a refused request is always allocation failure.
+// The words after the program's name, made by pushes, so that a refused request is always allocation failure.
 fn words(rt: &HostRuntime) -> io::Result<Vec<String>> {
     let mut args = env::args(rt)?;
     let _ = args.next();

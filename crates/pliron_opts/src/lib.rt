@@ -38,7 +38,7 @@ use program::{Failure, read_input, write_answer};
 use std::alloc::Global;
 use std::io::{Read, Write};
 
-/// What the command answers to the input, if that is readable.
+// What the command answers to the input, if that is readable.
 fn answer<N: Notation>(
     alloc: Global,
     command: Command<N::D>,
@@ -54,7 +54,7 @@ fn answer<N: Notation>(
     }
 }
 
-/// What is to be written for the words and the input.
+// What is to be written for the words and the input.
 fn answer_to_input<N: Notation, R: Read>(
     alloc: Global,
     words: &[String],

@@ -4,8 +4,8 @@ use pliron_opts::plir_run;
 use std::alloc::Global;
 use std::process::Abort;
 
-/// The program ends with this status on the graph, and has written and reported this. `|` stands for the
-/// end of a line.
+// The program ends with this status on the graph, and has written and reported this. `|` stands for the
+// end of a line.
 fn expect_graph(
     rt: &impl Abort,
     alloc: Global,
@@ -54,7 +54,7 @@ fn worked_graphs(rt: HostRuntime) {
 /// The last node of a long chain.
 const LAST: u32 = 65_535;
 
-/// A chain of nodes from 0 on.
+// A chain of nodes from 0 on.
 fn chain(rt: &impl Abort, alloc: Global) -> String {
     let mut text = String::new(alloc);
     for node in 0..LAST {
@@ -65,7 +65,7 @@ fn chain(rt: &impl Abort, alloc: Global) -> String {
     text
 }
 
-/// Adds both orders of the chain, which are one walk and its reverse.
+// Adds both orders of the chain, which are one walk and its reverse.
 fn push_orders(rt: &impl Abort, written: &mut String) {
     write!(written, "post-order: [{LAST}").expect(rt, "memory");
     for before in 0..LAST {
@@ -80,7 +80,7 @@ fn push_orders(rt: &impl Abort, written: &mut String) {
     write!(written, "]|").expect(rt, "memory");
 }
 
-/// Adds the numbers of the search, and the edges.
+// Adds the numbers of the search, and the edges.
 fn push_search(rt: &impl Abort, written: &mut String) {
     write!(written, "numbers:").expect(rt, "memory");
     for node in 0..65_536u32 {

@@ -277,7 +277,7 @@ fn unreadable_texts(rt: HostRuntime) {
     )
 }
 
-/// A text followed by so many blanks.
+// A text followed by so many blanks.
 fn pad_text(rt: &impl Abort, alloc: Global, text: &str, blanks: usize) -> Vec<u8> {
     let mut padded = Vec::from_slice(alloc, text.as_bytes()).expect(rt, "memory");
     padded

@@ -5,19 +5,19 @@ use crate::step::{PassStep, Pipeline, Schedule};
 use pliron_laws::Dialect;
 use pliron_pass::{Analyses, Pass, Passes};
 
-/// Each of the three reports accurately.
+// Each of the three reports accurately.
 fn steps_report_accurately<D: Dialect, E: Analyses + Drop>()
     ensures { IsAccurate ⟦<PassStep<D, E> as Pass>⟧.outcome }
 {}
 
-/// A list of them does so too.
+// A list of them does so too.
 fn lists_report_accurately<D: Dialect, E: Analyses + Drop>()
     ensures { IsAccurate ⟦<Passes<PassStep<D, E>> as Pass>⟧.outcome }
 {
     steps_report_accurately::<D, E>();
 }
 
-/// So does a list that is run on an operation itself, or on each operation directly inside it.
+// So does a list that is run on an operation itself, or on each operation directly inside it.
 fn pipelines_report_accurately<D: Dialect, E: Analyses + Drop>()
     ensures { IsAccurate ⟦<Pipeline<D, E> as Pass>⟧.outcome }
 {

@@ -71,7 +71,7 @@ impl<O: Optimisation, E: Analyses + Drop> Default for OptimisingPass<O, E> {
     }
 }
 
-/// The answer with this status that preserves nothing.
+// The answer with this status that preserves nothing.
 fn preserving_none<K: Copy + Eq + Hash>(alloc: Global, status: IRStatus) -> PassResult<K>
     ensures changed { has_changed result ≡ status }
     ensures kept { kept_kinds result ≡ [] }

@@ -51,7 +51,7 @@ impl Subject {
     }
 }
 
-/// A function, or a module of a few.
+// A function, or a module of a few.
 fn whole(alloc: Global, mut dice: Dice, kind: Kind) -> Result<(Dice, String), AllocError> {
     let is_hostile = kind != Kind::Defined;
     if !dice.once_in(6) {
@@ -77,7 +77,7 @@ fn whole(alloc: Global, mut dice: Dice, kind: Kind) -> Result<(Dice, String), Al
     Ok((dice, text))
 }
 
-/// The text with up to three characters removed, doubled or replaced.
+// The text with up to three characters removed, doubled or replaced.
 fn mangle(alloc: Global, dice: &mut Dice, text: &str) -> Result<String, AllocError> {
     let rare = (text.len() as u64).saturating_add(1) / 3;
     let mut result = String::new(alloc);

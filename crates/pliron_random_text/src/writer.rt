@@ -86,7 +86,7 @@ pub fn function(alloc: Global, dice: Dice, is_hostile: bool) -> Result<(Dice, St
     Ok((dice, text))
 }
 
-/// Adds the names of a block's arguments, and of the results of its first so many operations.
+// Adds the names of a block's arguments, and of the results of its first so many operations.
 fn push_names(
     names: &mut Vec<Name>,
     plan: &RegionPlan,
@@ -105,7 +105,7 @@ fn push_names(
     Ok(())
 }
 
-/// Adds the names of all values that the region makes.
+// Adds the names of all values that the region makes.
 fn push_all_names(names: &mut Vec<Name>, plan: &RegionPlan) -> Result<(), AllocError> {
     for block in 0..plan.blocks.len() {
         push_names(names, plan, block, usize::MAX)?;
@@ -126,7 +126,7 @@ impl Writer {
         Ok(())
     }
 
-    /// Opens a region.
+    // Opens a region.
     fn open(&mut self, is_entered: bool) -> Result<(), AllocError> {
         let may_nest = self.frames.len() < DEEP && self.regions < REGIONS;
         let number = self.regions;
@@ -142,7 +142,7 @@ impl Writer {
         Ok(())
     }
 
-    /// What comes next.
+    // What comes next.
     fn next_part(&self) -> Part {
         let Some(frame) = self.frames.last() else {
             return Part::Close;
@@ -157,7 +157,7 @@ impl Writer {
         }
     }
 
-    /// Writes what comes next.
+    // Writes what comes next.
     fn write_part(&mut self) -> Result<(), AllocError> {
         match self.next_part() {
             Part::Name => self.write_name(),
@@ -167,7 +167,7 @@ impl Writer {
         }
     }
 
-    /// Closes the innermost region.
+    // Closes the innermost region.
     fn close(&mut self) -> Result<(), AllocError> {
         self.text.push_str(" }")?;
         if let Some(frame) = self.frames.pop() {
@@ -176,7 +176,7 @@ impl Writer {
         Ok(())
     }
 
-    /// Writes the name of a block, with its arguments.
+    // Writes the name of a block, with its arguments.
     fn write_name(&mut self) -> Result<(), AllocError> {
         let Some(frame) = self.frames.last_mut() else {
             return Ok(());
@@ -193,7 +193,7 @@ impl Writer {
         self.text.push_str("):")
     }
 
-    /// Writes an operation, and opens its region if it has one.
+    // Writes an operation, and opens its region if it has one.
     fn write_step(&mut self, step: PlannedOperation) -> Result<(), AllocError> {
         self.write_results(step)?;
         match step {
@@ -218,7 +218,7 @@ impl Writer {
         }
     }
 
-    /// Writes what stands before an operation: the mark after the one before, and its results.
+    // Writes what stands before an operation: the mark after the one before, and its results.
     fn write_results(&mut self, step: PlannedOperation) -> Result<(), AllocError> {
         let Some(frame) = self.frames.last() else {
             return Ok(());
@@ -245,7 +245,7 @@ impl Writer {
         write!(self.text, "const {number}").map_err(|_| AllocError)
     }
 
-    /// Writes the word and so many operands.
+    // Writes the word and so many operands.
     fn write_operands(&mut self, word: &str, count: usize) -> Result<(), AllocError> {
         self.text.push_str(word)?;
         for _ in 0..count {
@@ -255,13 +255,13 @@ impl Writer {
         Ok(())
     }
 
-    /// Writes the word and up to three operands.
+    // Writes the word and up to three operands.
     fn write_some_operands(&mut self, word: &str) -> Result<(), AllocError> {
         let count = self.dice.below(4) as usize;
         self.write_operands(word, count)
     }
 
-    /// Writes the end of a block, and goes on to the next one.
+    // Writes the end of a block, and goes on to the next one.
     fn write_exit(&mut self, exit: Exit) -> Result<(), AllocError> {
         match exit {
             Exit::Open => {}
@@ -293,7 +293,7 @@ impl Writer {
         Ok(())
     }
 
-    /// How many values an edge to the block forwards.
+    // How many values an edge to the block forwards.
     fn forwarded_count(&mut self, to: usize) -> usize {
         let Some(frame) = self.frames.last() else {
             return 0;
@@ -309,7 +309,7 @@ impl Writer {
         }
     }
 
-    /// Writes an edge to the block.
+    // Writes an edge to the block.
     fn write_edge(&mut self, to: usize) -> Result<(), AllocError> {
         write!(self.text, " b{to}(").map_err(|_| AllocError)?;
         for place in 0..self.forwarded_count(to) {
@@ -320,7 +320,7 @@ impl Writer {
         self.text.push_str(")")
     }
 
-    /// A value that a use may name here.
+    // A value that a use may name here.
     fn value(&mut self) -> Result<Name, AllocError> {
         let names = if self.is_hostile && !self.dice.once_in(2) {
             self.all_names()?
@@ -331,7 +331,7 @@ impl Writer {
         Ok(self.dice.one_of(&names).unwrap_or(Name::Result(0, 0, 0)))
     }
 
-    /// The values that are defined before what comes next, on every path to it.
+    // The values that are defined before what comes next, on every path to it.
     fn names_before(&self) -> Result<Vec<Name>, AllocError> {
         let mut names = Vec::new(self.alloc);
         for frame in &self.frames {
@@ -343,7 +343,7 @@ impl Writer {
         Ok(names)
     }
 
-    /// The values of all regions that are open or left.
+    // The values of all regions that are open or left.
     fn all_names(&self) -> Result<Vec<Name>, AllocError> {
         let mut names = Vec::new(self.alloc);
         names.extend_from_slice(&self.left)?;

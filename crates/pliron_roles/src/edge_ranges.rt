@@ -23,7 +23,7 @@ pub struct EdgeRange {
     pub count: usize,
 }
 
-/// How many operands the attribute counts, at most so many. Cost: constant.
+// How many operands the attribute counts, at most so many. Cost: constant.
 fn count_up_to(attr: &AttrObj, most: usize) -> usize
     ensures { result ≡ min (counted_by attr.now) most }
 {

@@ -89,7 +89,7 @@ impl Scratch {
     }
 }
 
-/// The block is executable, and its arguments are not constants.
+// The block is executable, and its arguments are not constants.
 fn constrain_entry(
     block: Ptr<BasicBlock>,
     ctx: &Context,
@@ -107,7 +107,7 @@ fn constrain_entry(
     Ok(())
 }
 
-/// No result is a constant.
+// No result is a constant.
 fn constrain_unknown(
     op: Ptr<Operation>,
     ctx: &Context,
@@ -124,7 +124,7 @@ fn constrain_unknown(
     Ok(())
 }
 
-/// The region's entry is entered, if it has one.
+// The region's entry is entered, if it has one.
 fn constrain_region(
     region: Ptr<Region>,
     ctx: &Context,
@@ -161,7 +161,7 @@ pub fn constrain_entries(
     Ok(())
 }
 
-/// The value is no constant.
+// The value is no constant.
 fn constrain_varying(value: Value, constraints: &mut Vec<Constraint>) -> Result<(), OptError>
     ensures ok { OnOk result (AlwaysAdds constraints.old.items constraints.new.items
         (λ now. now.lattice_value value ≡ Varies)) }
@@ -171,7 +171,7 @@ fn constrain_varying(value: Value, constraints: &mut Vec<Constraint>) -> Result<
     Ok(())
 }
 
-/// The value is at or below the operand at this place, if there is one.
+// The value is at or below the operand at this place, if there is one.
 fn constrain_operand(
     op: Ptr<Operation>,
     place: usize,
@@ -192,7 +192,7 @@ fn constrain_operand(
     Ok(())
 }
 
-/// The argument of the entry is at or below what the operation names for it.
+// The argument of the entry is at or below what the operation names for it.
 fn constrain_named<D: Dialect>(
     entry: &RegionEntry,
     index: usize,
@@ -217,7 +217,7 @@ fn constrain_named<D: Dialect>(
     }
 }
 
-/// The entry is executable, and its arguments are at or below what the operation names for them.
+// The entry is executable, and its arguments are at or below what the operation names for them.
 fn constrain_named_entry<D: Dialect>(
     entry: &RegionEntry,
     ctx: &Context,
@@ -240,7 +240,7 @@ fn constrain_named_entry<D: Dialect>(
     Ok(())
 }
 
-/// The entry of the region with this index, if it has one, is executable, with what the operation names for it.
+// The entry of the region with this index, if it has one, is executable, with what the operation names for it.
 fn constrain_invocation<D: Dialect>(
     op: Ptr<Operation>,
     region: usize,
@@ -265,7 +265,7 @@ fn constrain_invocation<D: Dialect>(
     }
 }
 
-/// The entry of each region is executable, and its arguments are at or below what the operation names for them.
+// The entry of each region is executable, and its arguments are at or below what the operation names for them.
 fn constrain_invocations<D: Dialect>(
     op: Ptr<Operation>,
     ctx: &Context,
@@ -287,8 +287,8 @@ fn constrain_invocations<D: Dialect>(
 /// How many arguments are few. A block with more is constrained to be entered once.
 const FEW_ARGUMENTS: usize = 8;
 
-/// Whether the block is still to be constrained to be entered. One with more than a few arguments is recorded,
-/// so that it is constrained once.
+// Whether the block is still to be constrained to be entered. One with more than a few arguments is recorded,
+// so that it is constrained once.
 fn record_entry(
     block: Ptr<BasicBlock>,
     ctx: &Context,
@@ -304,7 +304,7 @@ fn record_entry(
     Ok(entered.insert(block.key())?)
 }
 
-/// The block is entered: a constraint, unless it was one before.
+// The block is entered: a constraint, unless it was one before.
 fn constrain_jump(
     block: Ptr<BasicBlock>,
     ctx: &Context,
@@ -327,7 +327,7 @@ fn constrain_jump(
     }
 }
 
-/// Each successor is entered: a constraint on those that were not entered so before.
+// Each successor is entered: a constraint on those that were not entered so before.
 fn constrain_jumps(
     op: Ptr<Operation>,
     ctx: &Context,
@@ -384,7 +384,7 @@ pub(crate) fn add_known(
     Ok(())
 }
 
-/// What is known of one of these values.
+// What is known of one of these values.
 fn forwarded_cell(values: &[Value], j: usize, tables: &Tables) -> LatticeCell
     requires { j < length values.now }
     ensures { (w : ℕ) → slice_get values.now j ≡ Some w → Means (known_constants tables.now) result
@@ -393,8 +393,8 @@ fn forwarded_cell(values: &[Value], j: usize, tables: &Tables) -> LatticeCell
     tables.cell(values[j])
 }
 
-/// The block is executable, and each argument that receives one of these values is at or below its lattice
-/// value.
+// The block is executable, and each argument that receives one of these values is at or below its lattice
+// value.
 fn constrain_forwarded(
     block: Ptr<BasicBlock>,
     values: &[Value],
@@ -416,7 +416,7 @@ fn constrain_forwarded(
     Ok(())
 }
 
-/// One block more.
+// One block more.
 fn add_block(blocks: &mut HashSet<u64>, block: Ptr<BasicBlock>) -> Result<(), OptError>
     ensures ok { OnOk result ((b : ℕ) → contains nat_eq blocks.new b ≡ (if nat_eq block b then true else contains nat_eq
         blocks.old b)) }
@@ -426,7 +426,7 @@ fn add_block(blocks: &mut HashSet<u64>, block: Ptr<BasicBlock>) -> Result<(), Op
     Ok(())
 }
 
-/// The blocks that a branch may go to, where it folds.
+// The blocks that a branch may go to, where it folds.
 fn branch_blocks<D: Dialect>(
     alloc: Global,
     op: Ptr<Operation>,
@@ -448,7 +448,7 @@ fn branch_blocks<D: Dialect>(
     Ok(blocks)
 }
 
-/// The blocks that a branch may go to; `None` where it doesn't fold, and may go to all.
+// The blocks that a branch may go to; `None` where it doesn't fold, and may go to all.
 fn feasible_blocks<D: Dialect>(
     alloc: Global,
     op: Ptr<Operation>,
@@ -469,7 +469,7 @@ fn feasible_blocks<D: Dialect>(
     }
 }
 
-/// Whether the branch may go to the block.
+// Whether the branch may go to the block.
 fn may_go(feasible: &Option<HashSet<u64>>, block: Ptr<BasicBlock>) -> bool
     ensures { MayLead feasible.now block result }
 {
@@ -479,7 +479,7 @@ fn may_go(feasible: &Option<HashSet<u64>>, block: Ptr<BasicBlock>) -> bool
     }
 }
 
-/// Where the edge is feasible, its block is executable, with the values that it forwards.
+// Where the edge is feasible, its block is executable, with the values that it forwards.
 fn constrain_edge<D: Dialect>(
     alloc: Global,
     branch: &Branch,
@@ -509,7 +509,7 @@ fn constrain_edge<D: Dialect>(
     }
 }
 
-/// Where an edge is feasible, its block is executable, with the values that it forwards.
+// Where an edge is feasible, its block is executable, with the values that it forwards.
 fn constrain_each_edge<D: Dialect>(
     alloc: Global,
     branch: &Branch,
@@ -533,8 +533,8 @@ fn constrain_each_edge<D: Dialect>(
     Ok(())
 }
 
-/// Each block that the branch may go to is executable, with the values that its edges forward. Answers these blocks,
-/// where it folds.
+// Each block that the branch may go to is executable, with the values that its edges forward. Answers these blocks,
+// where it folds.
 fn constrain_branches<D: Dialect>(
     alloc: Global,
     op: Ptr<Operation>,
@@ -559,7 +559,7 @@ fn constrain_branches<D: Dialect>(
     Ok(branch.feasible)
 }
 
-/// The result at this index, if there is one, is at or below the answer.
+// The result at this index, if there is one, is at or below the answer.
 #[inline(always)]
 fn constrain_answer(
     op: Ptr<Operation>,
@@ -584,7 +584,7 @@ fn constrain_answer(
     Ok(())
 }
 
-/// Each result is at or below its answer.
+// Each result is at or below its answer.
 #[inline(always)]
 fn constrain_answers(
     op: Ptr<Operation>,
@@ -604,7 +604,7 @@ fn constrain_answers(
     Ok(())
 }
 
-/// Results of what folds are at or below their answers, other results are not constants.
+// Results of what folds are at or below their answers, other results are not constants.
 #[inline(always)]
 fn constrain_results<D: Dialect>(
     alloc: Global,
@@ -628,8 +628,8 @@ fn constrain_results<D: Dialect>(
     }
 }
 
-/// The constraints of the operation's edges, in the scratch set. The blocks that it may go to are reported, where it
-/// folds as a branch.
+// The constraints of the operation's edges, in the scratch set. The blocks that it may go to are reported, where it
+// folds as a branch.
 fn constrain_edges<D: Dialect>(
     op: Ptr<Operation>,
     ctx: &Context,
@@ -710,7 +710,7 @@ pub fn constraints_of<D: Dialect>(
     )
 }
 
-/// Satisfies one constraint, and does nothing else. Takes no memory.
+// Satisfies one constraint, and does nothing else. Takes no memory.
 #[inline(always)]
 fn satisfy(demand: Constraint, tables: &mut Tables)
     requires { CanSatisfy tables.old (demand ∷ []) }

@@ -33,7 +33,7 @@ pub struct DeferredOperations {
 /// The number of the last set.
 const LAST: usize = 64;
 
-/// The number of the set for an operation with so many operands.
+// The number of the set for an operation with so many operands.
 fn set_number(operands: usize, is_urgent: bool) -> usize
     requires { 0 < operands }
     ensures { result ≤ 64 }
@@ -88,7 +88,7 @@ impl DeferredOperations {
         self.sets[i].pop()
     }
 
-    /// The first set that isn't empty.
+    // The first set that isn't empty.
     fn first(&self) -> Option<usize>
         ensures some { IfSome result (λ i. HasFirst self.now i) }
         ensures none { IfNone result (deferred_operations self.now ≡ []) }

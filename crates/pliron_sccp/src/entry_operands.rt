@@ -53,7 +53,7 @@ impl EntryCandidates {
         Ok(candidates)
     }
 
-    /// Lists the arguments of the region's entry, if it has one.
+    // Lists the arguments of the region's entry, if it has one.
     fn list_entry<D: Dialect>(
         &mut self,
         op: Ptr<Operation>,

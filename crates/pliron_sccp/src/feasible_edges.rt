@@ -45,7 +45,7 @@ impl FeasibleEdges {
         }
     }
 
-    /// Counts a visit of the operation, and answers how often it was visited.
+    // Counts a visit of the operation, and answers how often it was visited.
     fn count(&mut self, op: Ptr<Operation>) -> Result<usize, OptError>
         ensures ok { OnOk result (self.new.blocks ≡ self.old.blocks) }
         ensures memory { IsOkUnless result OptError.Memory }

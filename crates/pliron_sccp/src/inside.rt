@@ -12,7 +12,7 @@ use pliron_core::{BasicBlock, Context, Operation, Ptr, Region, Value};
 use pliron_laws::OptError;
 use std::alloc::Global;
 
-/// Adds the blocks of the region, in order.
+// Adds the blocks of the region, in order.
 fn list_region(
     region: Ptr<Region>,
     ctx: &Context,
@@ -31,7 +31,7 @@ fn list_region(
     Ok(())
 }
 
-/// Adds the blocks of the operation's regions, in order.
+// Adds the blocks of the operation's regions, in order.
 #[inline(always)]
 fn list_regions(
     op: Ptr<Operation>,
@@ -48,7 +48,7 @@ fn list_regions(
     Ok(())
 }
 
-/// Adds the blocks of the regions of the block's operations, in order.
+// Adds the blocks of the regions of the block's operations, in order.
 fn list_body(
     block: Ptr<BasicBlock>,
     ctx: &Context,
@@ -68,7 +68,7 @@ fn list_body(
     Ok(())
 }
 
-/// Puts these on the stack, so that the first comes off first.
+// Puts these on the stack, so that the first comes off first.
 fn stack_up<T: Copy + Drop>(items: Vec<T>, stack: &mut Vec<T>) -> Result<(), OptError>
     ensures ok { OnOk result (stack.new.items ≡ stack.old.items ++ reverse items.items) }
     ensures memory { IsOkUnless result OptError.Memory }
@@ -80,7 +80,7 @@ fn stack_up<T: Copy + Drop>(items: Vec<T>, stack: &mut Vec<T>) -> Result<(), Opt
     Ok(())
 }
 
-/// Puts the blocks of the operation's regions on the stack, so that the first comes off first.
+// Puts the blocks of the operation's regions on the stack, so that the first comes off first.
 fn stack_regions(
     alloc: Global,
     op: Ptr<Operation>,
@@ -96,8 +96,8 @@ fn stack_regions(
     stack_up(blocks, stack)
 }
 
-/// Puts the blocks of the regions of the block's operations on the stack, so that the first comes off
-/// first.
+// Puts the blocks of the regions of the block's operations on the stack, so that the first comes off
+// first.
 fn stack_body(
     alloc: Global,
     block: Ptr<BasicBlock>,
@@ -156,7 +156,7 @@ pub fn block_numbers(
     Ok(numbered)
 }
 
-/// One block more.
+// One block more.
 fn add_block(block: Ptr<BasicBlock>, blocks: &mut IndexSet<Ptr<BasicBlock>>) -> Result<(), OptError>
     ensures ok { OnOk result (AddsKeys (block ∷ []) blocks.old.keys blocks.new.keys) }
     ensures memory { IsOkUnless result OptError.Memory }
@@ -165,7 +165,7 @@ fn add_block(block: Ptr<BasicBlock>, blocks: &mut IndexSet<Ptr<BasicBlock>>) -> 
     Ok(())
 }
 
-/// One value more.
+// One value more.
 #[inline(always)]
 fn add_value(value: Value, values: &mut IndexSet<Value>) -> Result<(), OptError>
     ensures ok { OnOk result (AddsKeys (value ∷ []) values.old.keys values.new.keys) }
@@ -175,7 +175,7 @@ fn add_value(value: Value, values: &mut IndexSet<Value>) -> Result<(), OptError>
     Ok(())
 }
 
-/// The operation's results more.
+// The operation's results more.
 #[inline(always)]
 fn add_results(
     op: Ptr<Operation>,
@@ -192,7 +192,7 @@ fn add_results(
     Ok(())
 }
 
-/// The block's arguments more.
+// The block's arguments more.
 fn add_arguments(
     block: Ptr<BasicBlock>,
     ctx: &Context,
@@ -215,7 +215,7 @@ pub enum Part {
     Operation(Ptr<Operation>),
 }
 
-/// The values that the block or operation defines more.
+// The values that the block or operation defines more.
 fn add_defined(part: &Part, ctx: &Context, values: &mut IndexSet<Value>) -> Result<(), OptError>
     requires { IsStanding ctx.now.tree part.now }
     ensures ok { OnOk result (AddsKeys (defined_by ctx.now.tree part.now) values.old.keys values.new.keys) }
@@ -227,7 +227,7 @@ fn add_defined(part: &Part, ctx: &Context, values: &mut IndexSet<Value>) -> Resu
     }
 }
 
-/// Adds the operations of the block, in order.
+// Adds the operations of the block, in order.
 fn list_operations(
     block: Ptr<BasicBlock>,
     ctx: &Context,
@@ -247,7 +247,7 @@ fn list_operations(
     Ok(())
 }
 
-/// Adds the blocks of the operation's regions, in order.
+// Adds the blocks of the operation's regions, in order.
 fn list_blocks(
     alloc: Global,
     op: Ptr<Operation>,
@@ -267,7 +267,7 @@ fn list_blocks(
     Ok(())
 }
 
-/// Puts what stands directly inside the block or operation on the stack, so that the first comes off first.
+// Puts what stands directly inside the block or operation on the stack, so that the first comes off first.
 fn stack_inner(
     alloc: Global,
     part: &Part,
@@ -286,7 +286,7 @@ fn stack_inner(
     stack_up(parts, stack)
 }
 
-/// How many values the block lists, to make room for them.
+// How many values the block lists, to make room for them.
 fn count_in_block(block: Ptr<BasicBlock>, ctx: &Context) -> usize
     requires { IsBlock ctx.now.tree block }
 {

@@ -133,7 +133,7 @@ impl Tables {
         })
     }
 
-    /// The number of the block, if it has one. Cost: one step where it is guessed, otherwise one look-up.
+    // The number of the block, if it has one. Cost: one step where it is guessed, otherwise one look-up.
     #[inline(always)]
     fn block_number(&self, block: Ptr<BasicBlock>) -> Option<usize>
         ensures index { result ≡ index_of nat_eq self.now.blocks block }
@@ -148,7 +148,7 @@ impl Tables {
         self.blocks.get_index_of(&block)
     }
 
-    /// The number of the value, if it has one. Cost: one step where it is guessed, otherwise one look-up.
+    // The number of the value, if it has one. Cost: one step where it is guessed, otherwise one look-up.
     #[inline(always)]
     fn value_number(&self, value: Value) -> Option<usize>
         ensures index { result ≡ index_of nat_eq self.now.values value }
@@ -272,7 +272,7 @@ impl Tables {
         }
     }
 
-    /// Puts the value with this number on the worklist, and stamps its lowering. Takes no memory.
+    // Puts the value with this number on the worklist, and stamps its lowering. Takes no memory.
     #[inline(always)]
     fn push_value(&mut self, n: usize)
         requires { n < length self.old.values.keys }
@@ -285,7 +285,7 @@ impl Tables {
         }
     }
 
-    /// What the lattice value is lowered to, where that is another one than before.
+    // What the lattice value is lowered to, where that is another one than before.
     #[inline(always)]
     fn lowered_value(&self, old: LatticeCell, to: LatticeCell) -> Option<LatticeCell>
         requires old { (f : LatticeValue) × Means (known_constants self.now) old f }

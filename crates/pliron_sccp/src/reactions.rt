@@ -71,8 +71,8 @@ pub enum Reaction {
     Ask(usize, usize),
 }
 
-/// Whether the constraints of the operation may depend on all its operands: it folds, or folds as a branch, or names
-/// operands for the entries of its regions.
+// Whether the constraints of the operation may depend on all its operands: it folds, or folds as a branch, or names
+// operands for the entries of its regions.
 fn reads_all<D: Dialect>(op: Ptr<Operation>, ctx: &Context) -> bool
     requires { IsLive ctx.now.tree op }
     ensures { ReadsHead (λ h. either (D.can_fold h) (either (D.can_fold_branch h) (D.has_interface h RegionBranch)))
@@ -81,7 +81,7 @@ fn reads_all<D: Dialect>(op: Ptr<Operation>, ctx: &Context) -> bool
     D::folds(op, ctx) || D::folds_branch(op, ctx) || D::implements(op, ctx, Interface::RegionBranch)
 }
 
-/// What is to be done where the operand at this place was lowered. Cost: that of a few tests of the dialect.
+// What is to be done where the operand at this place was lowered. Cost: that of a few tests of the dialect.
 fn reaction_to<D: Dialect>(op: Ptr<Operation>, place: usize, ctx: &Context) -> Reaction
     requires { IsLive ctx.now.tree op }
     ensures { IsReactionTo ⟦<D as HasFolding>⟧.folding ctx.now.tree op place result }
@@ -98,7 +98,7 @@ fn reaction_to<D: Dialect>(op: Ptr<Operation>, place: usize, ctx: &Context) -> R
     }
 }
 
-/// The argument at this index of the edge, if it has one, is at or below the lattice value of the lowered value.
+// The argument at this index of the edge, if it has one, is at or below the lattice value of the lowered value.
 fn constrain_argument(
     from: &LoweredUse,
     edge: usize,
@@ -126,7 +126,7 @@ fn constrain_argument(
 /// How many operands are few. What has more is deferred, and visited where nothing else is left to visit.
 pub(crate) const FEW_OPERANDS: usize = 8;
 
-/// Whether the block is executable, and kept as one that the operation may go to.
+// Whether the block is executable, and kept as one that the operation may go to.
 fn is_open(
     op: Ptr<Operation>,
     block: Ptr<BasicBlock>,
@@ -138,7 +138,7 @@ fn is_open(
     tables.is_executable(block) && edges.leads(op, block)
 }
 
-/// The argument of an entry that is listed so, if it is there and the operation names this place for it.
+// The argument of an entry that is listed so, if it is there and the operation names this place for it.
 fn named_argument<D: Dialect>(
     op: Ptr<Operation>,
     place: usize,
@@ -163,7 +163,7 @@ fn named_argument<D: Dialect>(
     }
 }
 
-/// Constrains the argument that is listed so, if the operation names this place for it.
+// Constrains the argument that is listed so, if the operation names this place for it.
 fn constrain_candidate<D: Dialect>(
     from: &LoweredUse,
     candidate: EntryCandidate,
@@ -184,8 +184,8 @@ fn constrain_candidate<D: Dialect>(
     Ok(())
 }
 
-/// Constrains the arguments for which an operation with many operands names this place, if it was visited more than
-/// a few times.
+// Constrains the arguments for which an operation with many operands names this place, if it was visited more than
+// a few times.
 fn propagate_named_eagerly<D: Dialect>(
     from: &LoweredUse,
     ctx: &Context,
@@ -209,7 +209,7 @@ fn propagate_named_eagerly<D: Dialect>(
     Ok(())
 }
 
-/// Constrains the one argument to which a branch forwards the value from this place, if the edge was found feasible.
+// Constrains the one argument to which a branch forwards the value from this place, if the edge was found feasible.
 fn propagate_forwarded_eagerly<D: Dialect>(
     from: &LoweredUse,
     ctx: &Context,
@@ -235,8 +235,8 @@ fn propagate_forwarded_eagerly<D: Dialect>(
     }
 }
 
-/// Propagates eagerly what an operation with many operands passes on from this place: so a visit for its other
-/// operands may be deferred until all of them are lowered.
+// Propagates eagerly what an operation with many operands passes on from this place: so a visit for its other
+// operands may be deferred until all of them are lowered.
 fn propagate_eagerly<D: Dialect>(
     from: &LoweredUse,
     ctx: &Context,
@@ -256,7 +256,7 @@ fn propagate_eagerly<D: Dialect>(
     propagate_forwarded_eagerly::<D>(from, ctx, tables, edges, constraints)
 }
 
-/// Whether the stamps say that the operation was visited since the value was last lowered.
+// Whether the stamps say that the operation was visited since the value was last lowered.
 #[inline(always)]
 fn was_visited_since_lowered(
     op: Ptr<Operation>,
@@ -271,8 +271,8 @@ fn was_visited_since_lowered(
         && tables.lowered_stamp(value) < tables.visit_stamp(op.get_result(ctx, 0))
 }
 
-/// Whether all that the operation does with the operand at this place was propagated eagerly, so far as is known:
-/// then a visit of it may be deferred until the end. The lattice values don't depend on it.
+// Whether all that the operation does with the operand at this place was propagated eagerly, so far as is known:
+// then a visit of it may be deferred until the end. The lattice values don't depend on it.
 fn is_propagated_eagerly<D: Dialect>(
     op: Ptr<Operation>,
     place: usize,
@@ -287,7 +287,7 @@ fn is_propagated_eagerly<D: Dialect>(
     !D::is_branch(op, ctx) || D::forwarded_from(op, ctx, place).is_some()
 }
 
-/// Marks an operation with many operands that is to be visited before those whose operands were propagated eagerly.
+// Marks an operation with many operands that is to be visited before those whose operands were propagated eagerly.
 fn mark_urgent<D: Dialect>(
     op: Ptr<Operation>,
     place: usize,
@@ -304,7 +304,7 @@ fn mark_urgent<D: Dialect>(
     Ok(())
 }
 
-/// Schedules one use of a lowered value, by an operation that was visited, and not since the lowering.
+// Schedules one use of a lowered value, by an operation that was visited, and not since the lowering.
 #[inline(always)]
 fn add_use<D: Dialect>(
     from: &LoweredUse,

@@ -40,7 +40,7 @@ pub struct Folds {
 }
 
 impl Folds {
-    /// No folds, with room for so many of one operand. Errors: allocation failure.
+    // No folds, with room for so many of one operand. Errors: allocation failure.
     fn with_capacity(alloc: Global, count: usize) -> Result<Folds, OptError>
         ensures none { IfOk result (λ folds. folds.rows.items ≡ []) }
         ensures memory { IsOkUnless result OptError.Memory }
@@ -50,7 +50,7 @@ impl Folds {
         Ok(Folds { rows, known })
     }
 
-    /// What is known of the operands of one of the folds. Asks that its part lies within the list.
+    // What is known of the operands of one of the folds. Asks that its part lies within the list.
     fn known_of(&self, fold: Fold) -> &[Option<AttrObj>]
         requires rising { fold.start ≤ fold.end }
         requires within { fold.end ≤ length self.now.known.items }
@@ -76,7 +76,7 @@ pub struct Found {
     pub(crate) arguments: Vec<ConstantArgument>,
 }
 
-/// Whether the operation folds and is in an executable block.
+// Whether the operation folds and is in an executable block.
 fn is_folded<D: Dialect>(op: Ptr<Operation>, ctx: &Context, tables: &Tables) -> bool
     requires { IsLive ctx.now.tree op }
     ensures { result ≡ is_folding D.can_fold ctx.now.tree (lattice_values_of tables.now) op }
@@ -91,7 +91,7 @@ fn is_folded<D: Dialect>(op: Ptr<Operation>, ctx: &Context, tables: &Tables) -> 
     D::folds(op, ctx)
 }
 
-/// Adds the fold of the operation, if it has one.
+// Adds the fold of the operation, if it has one.
 #[inline(always)]
 fn add_fold<D: Dialect>(
     alloc: Global,
@@ -136,7 +136,7 @@ pub(crate) fn all_folds<D: Dialect>(
     Ok(folds)
 }
 
-/// Adds the constant arguments of an executable block, in the order of their indices.
+// Adds the constant arguments of an executable block, in the order of their indices.
 fn add_arguments(
     alloc: Global,
     block: Ptr<BasicBlock>,

@@ -51,7 +51,7 @@ use pliron_theory::HasFolding;
 use std::alloc::Global;
 use std::collections::HashSet;
 
-/// Nothing is known yet of the values inside the root, no block is executable, and the worklists are empty.
+// Nothing is known yet of the values inside the root, no block is executable, and the worklists are empty.
 fn initial_tables(alloc: Global, root: Ptr<Operation>, ctx: &Context) -> Result<Tables, OptError>
     requires { IsLive ctx.now.tree root }
     ensures ok { IfOk result (λ tables. IsUnsearched ctx.now.tree root tables) }
@@ -80,11 +80,11 @@ pub fn start(alloc: Global, root: Ptr<Operation>, ctx: &Context) -> Result<Table
     Ok(tables)
 }
 
-/// Pops all values off the worklist, one by one. Answers the users that are to be visited again, each once, the
-/// constraints of others on one argument each, and how many values were popped. Users in other blocks put no
-/// constraint: a block on the worklist is still to be visited, and one that is not executable puts none. The most
-/// precise lattice values need this rule: an operation that is visited before its block was could read a value of
-/// which nothing is known yet. Errors: allocation failure. Cost: one step for each value and for each use of it.
+// Pops all values off the worklist, one by one. Answers the users that are to be visited again, each once, the
+// constraints of others on one argument each, and how many values were popped. Users in other blocks put no
+// constraint: a block on the worklist is still to be visited, and one that is not executable puts none. The most
+// precise lattice values need this rule: an operation that is visited before its block was could read a value of
+// which nothing is known yet. Errors: allocation failure. Cost: one step for each value and for each use of it.
 fn take_values<D: Dialect>(
     alloc: Global,
     ctx: &Context,
@@ -111,7 +111,7 @@ fn take_values<D: Dialect>(
     Ok((scheduled, taken))
 }
 
-/// The visit of the operation gets its stamp, kept with its first result, if it has one.
+// The visit of the operation gets its stamp, kept with its first result, if it has one.
 #[inline(always)]
 fn stamp(op: Ptr<Operation>, ctx: &Context, tables: &mut Tables)
     requires { IsLive ctx.now.tree op }
@@ -123,10 +123,10 @@ fn stamp(op: Ptr<Operation>, ctx: &Context, tables: &mut Tables)
     }
 }
 
-/// Satisfies the constraints of the operation under the lattice values so far, and does nothing else. Where it folds
-/// as a branch, reports the blocks that it may go to. Asks that it is live, that the blocks which it may enter have
-/// numbers, that those recorded in the scratch set are entered, which holds again afterwards, and for a place that
-/// is empty. Errors: allocation failure. Cost: that of its constraints.
+// Satisfies the constraints of the operation under the lattice values so far, and does nothing else. Where it folds
+// as a branch, reports the blocks that it may go to. Asks that it is live, that the blocks which it may enter have
+// numbers, that those recorded in the scratch set are entered, which holds again afterwards, and for a place that
+// is empty. Errors: allocation failure. Cost: that of its constraints.
 #[inline(always)]
 fn visit_operation<D: Dialect>(
     op: Ptr<Operation>,
@@ -152,9 +152,9 @@ fn visit_operation<D: Dialect>(
     Ok(())
 }
 
-/// Satisfies the constraints of the operation under the lattice values so far, and does nothing else. Asks that it
-/// is live, that the blocks which it may enter have numbers, and that those recorded in the scratch set are entered,
-/// which holds again afterwards. Errors: allocation failure. Cost: that of its constraints.
+// Satisfies the constraints of the operation under the lattice values so far, and does nothing else. Asks that it
+// is live, that the blocks which it may enter have numbers, and that those recorded in the scratch set are entered,
+// which holds again afterwards. Errors: allocation failure. Cost: that of its constraints.
 #[inline(always)]
 fn visit_with_scratch<D: Dialect>(
     op: Ptr<Operation>,
@@ -174,7 +174,7 @@ fn visit_with_scratch<D: Dialect>(
     visit_operation::<D>(op, ctx, tables, scratch, &mut feasible)
 }
 
-/// Keeps these blocks, if the operation has many operands.
+// Keeps these blocks, if the operation has many operands.
 fn keep_feasible(
     op: Ptr<Operation>,
     feasible: Option<HashSet<u64>>,
@@ -195,8 +195,8 @@ fn keep_feasible(
     }
 }
 
-/// Lists the arguments that the operation names operands for, if it has many operands and was visited more than a
-/// few times.
+// Lists the arguments that the operation names operands for, if it has many operands and was visited more than a
+// few times.
 fn keep_candidates<D: Dialect>(
     alloc: Global,
     op: Ptr<Operation>,
@@ -214,9 +214,9 @@ fn keep_candidates<D: Dialect>(
     }
 }
 
-/// Visits the operation, and if it has many operands keeps the blocks that it may go to, where it folds as a branch,
-/// and lists the arguments that it names operands for. Asks what `visit_with_scratch` asks. Errors: allocation
-/// failure. Cost: that of its constraints.
+// Visits the operation, and if it has many operands keeps the blocks that it may go to, where it folds as a branch,
+// and lists the arguments that it names operands for. Asks what `visit_with_scratch` asks. Errors: allocation
+// failure. Cost: that of its constraints.
 fn visit_and_keep<D: Dialect>(
     op: Ptr<Operation>,
     ctx: &Context,
@@ -241,8 +241,8 @@ fn visit_and_keep<D: Dialect>(
     keep_feasible(op, feasible, ctx, edges)
 }
 
-/// Visits the operation, or defers it where it has more than a few operands. Asks what `visit_with_scratch` asks.
-/// Errors: allocation failure. Cost: that of its constraints, or constant.
+// Visits the operation, or defers it where it has more than a few operands. Asks what `visit_with_scratch` asks.
+// Errors: allocation failure. Cost: that of its constraints, or constant.
 fn visit_or_defer<D: Dialect>(
     op: Ptr<Operation>,
     urgent: &HashSet<u64>,
@@ -268,8 +268,8 @@ fn visit_or_defer<D: Dialect>(
     }
 }
 
-/// Visits these operations, one after the other, but defers what has more than a few operands. Asks what
-/// `visit_with_scratch` asks, of each. Errors: allocation failure. Cost: that of their constraints.
+// Visits these operations, one after the other, but defers what has more than a few operands. Asks what
+// `visit_with_scratch` asks, of each. Errors: allocation failure. Cost: that of their constraints.
 fn visit_or_defer_all<D: Dialect>(
     ops: &[Ptr<Operation>],
     urgent: &HashSet<u64>,
@@ -293,9 +293,9 @@ fn visit_or_defer_all<D: Dialect>(
     Ok(())
 }
 
-/// Visits the operations of the block, in order. Asks that the block is live, that the blocks which these may enter
-/// have numbers, and that those recorded in the scratch set are entered. Errors: allocation failure. Cost: that of
-/// their constraints.
+// Visits the operations of the block, in order. Asks that the block is live, that the blocks which these may enter
+// have numbers, and that those recorded in the scratch set are entered. Errors: allocation failure. Cost: that of
+// their constraints.
 fn visit_block<D: Dialect>(
     block: Ptr<BasicBlock>,
     ctx: &Context,
@@ -321,8 +321,8 @@ fn visit_block<D: Dialect>(
     Ok(())
 }
 
-/// Pops all values off the worklist, satisfies the constraints that are propagated eagerly, and visits their other
-/// users or defers them. Answers how many values these were.
+// Pops all values off the worklist, satisfies the constraints that are propagated eagerly, and visits their other
+// users or defers them. Answers how many values these were.
 fn visit_values<D: Dialect>(
     ctx: &Context,
     tables: &mut Tables,
@@ -352,8 +352,8 @@ fn visit_values<D: Dialect>(
     Ok(taken)
 }
 
-/// Pops a block off its worklist and visits it, or else pops all values and visits their users or defers them.
-/// Answers how many were popped, none where the worklists were empty.
+// Pops a block off its worklist and visits it, or else pops all values and visits their users or defers them.
+// Answers how many were popped, none where the worklists were empty.
 fn step<D: Dialect>(
     ctx: &Context,
     tables: &mut Tables,
@@ -380,8 +380,8 @@ fn step<D: Dialect>(
     }
 }
 
-/// Visits one deferred operation, of those with the fewest operands. Answers whether there was one. Errors:
-/// allocation failure. Cost: that of its constraints.
+// Visits one deferred operation, of those with the fewest operands. Answers whether there was one. Errors:
+// allocation failure. Cost: that of its constraints.
 fn visit_deferred<D: Dialect>(
     ctx: &Context,
     tables: &mut Tables,

@@ -20,7 +20,7 @@ struct BuiltTable {
     values: Vec<Value>,
 }
 
-/// The text says no tree. No syntax that `parse` makes does so.
+// The text says no tree. No syntax that `parse` makes does so.
 fn no_tree() -> Stop {
     Stop::at(0, Expected::Tree)
 }
@@ -71,7 +71,7 @@ pub fn build<K: Kinds>(
     }
 }
 
-/// The next operation of the text, at the end of its block, without operands and successors.
+// The next operation of the text, at the end of its block, without operands and successors.
 fn add_operation<K: Kinds>(
     alloc: Global,
     text: &TableOperation<K>,
@@ -102,7 +102,7 @@ fn append(ctx: &mut Context, block: Ptr<BasicBlock>, op: Ptr<Operation>) -> Resu
     Ok(())
 }
 
-/// The next block of the text, at the end of its region.
+// The next block of the text, at the end of its region.
 fn add_block(text: &TableBlock, ctx: &mut Context, built: &mut BuiltTable) -> Result<(), Stop> {
     let holder = built.operations.get(text.holder).copied().ok_or(no_tree())?;
     if !holder.is_live(ctx) || holder.num_region(ctx) <= text.region {
@@ -120,7 +120,7 @@ fn add_block(text: &TableBlock, ctx: &mut Context, built: &mut BuiltTable) -> Re
     Ok(())
 }
 
-/// Gives all operations their operands and successors.
+// Gives all operations their operands and successors.
 fn connect_all<K>(
     syntax: &TableSyntax<K>,
     ctx: &mut Context,

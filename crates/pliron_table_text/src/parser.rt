@@ -66,7 +66,7 @@ pub fn parse<K: Kinds + Word>(alloc: Global, text: &Tokens<K>) -> Result<TableSy
 }
 
 impl<K: Kinds + Word> TableParser<'_, K> {
-    /// Reads the operation that is the whole text.
+    // Reads the operation that is the whole text.
     fn whole(&mut self, count: usize) -> Result<(), Stop> {
         let mut place = self.operation(None)?;
         // Each turn takes a token.
@@ -83,7 +83,7 @@ impl<K: Kinds + Word> TableParser<'_, K> {
         }
     }
 
-    /// Reads the next block or operation of the region, or its end.
+    // Reads the next block or operation of the region, or its end.
     fn step(
         &mut self,
         region: OpenTableRegion,
@@ -107,7 +107,7 @@ impl<K: Kinds + Word> TableParser<'_, K> {
         }
     }
 
-    /// Opens the region at this place of the operation, if one follows.
+    // Opens the region at this place of the operation, if one follows.
     fn region(&mut self, holder: usize, place: usize) -> Result<LastReadOfTable, Stop> {
         if !self.cursor.accept(Token::OpenBrace) {
             return Ok(LastReadOfTable::Operation);
@@ -128,7 +128,7 @@ impl<K: Kinds + Word> TableParser<'_, K> {
         Ok(LastReadOfTable::RegionStart)
     }
 
-    /// Reads the head of a block.
+    // Reads the head of a block.
     fn block(&mut self, region: OpenTableRegion) -> Result<LastReadOfTable, Stop> {
         let name = self.cursor.name(Expected::Block)?;
         let number = self.syntax.blocks.len();
@@ -152,7 +152,7 @@ impl<K: Kinds + Word> TableParser<'_, K> {
         Ok(LastReadOfTable::BlockStart)
     }
 
-    /// Reads the arguments of a block up to the closing bracket, and answers how many there are.
+    // Reads the arguments of a block up to the closing bracket, and answers how many there are.
     fn arguments(&mut self) -> Result<usize, Stop> {
         let first = self.value_count;
         if self.cursor.accept(Token::CloseRound) {
@@ -169,7 +169,7 @@ impl<K: Kinds + Word> TableParser<'_, K> {
         Err(self.cursor.stop(Expected::Value))
     }
 
-    /// Reads what follows a member of a list in brackets, and answers whether it is the closing one.
+    // Reads what follows a member of a list in brackets, and answers whether it is the closing one.
     fn is_list_end(&mut self) -> Result<bool, Stop> {
         if self.cursor.accept(Token::CloseRound) {
             return Ok(true);
@@ -179,7 +179,7 @@ impl<K: Kinds + Word> TableParser<'_, K> {
         Ok(false)
     }
 
-    /// Takes in that the next value of the text has this name.
+    // Takes in that the next value of the text has this name.
     fn define(&mut self, name: Name) -> Result<(), Stop> {
         let number = self.value_count;
         let token = self.cursor.last();
@@ -191,7 +191,7 @@ impl<K: Kinds + Word> TableParser<'_, K> {
         Ok(())
     }
 
-    /// Reads an operation up to its first region, which it opens.
+    // Reads an operation up to its first region, which it opens.
     fn operation(&mut self, block: Option<usize>) -> Result<LastReadOfTable, Stop> {
         let results = self.results()?;
         let kind = self.cursor.kind(Expected::Kind)?;
@@ -211,7 +211,7 @@ impl<K: Kinds + Word> TableParser<'_, K> {
         self.region(number, 0)
     }
 
-    /// Reads the results before a kind, and answers how many there are.
+    // Reads the results before a kind, and answers how many there are.
     fn results(&mut self) -> Result<usize, Stop> {
         let first = self.value_count;
         let Some(name) = self.cursor.accept_name() else {
@@ -230,7 +230,7 @@ impl<K: Kinds + Word> TableParser<'_, K> {
         Err(self.cursor.stop(Expected::CommaOrEquals))
     }
 
-    /// Reads what stands behind a kind, up to a region.
+    // Reads what stands behind a kind, up to a region.
     fn tail(&mut self, text: &mut TableOperation<K>) -> Result<(), Stop> {
         match text.kind.form() {
             Form::Constant => text.attribute = Some(self.cursor.number()?),
@@ -241,7 +241,7 @@ impl<K: Kinds + Word> TableParser<'_, K> {
         Ok(())
     }
 
-    /// Takes in an operand of this name.
+    // Takes in an operand of this name.
     fn operand(&mut self, name: Name, text: &mut TableOperation<K>) -> Result<(), Stop> {
         let label = Label { scope: 0, name };
         let place = self.values.place(label, self.cursor.last())?;
@@ -249,7 +249,7 @@ impl<K: Kinds + Word> TableParser<'_, K> {
         Ok(())
     }
 
-    /// Reads operands as long as names follow.
+    // Reads operands as long as names follow.
     fn operands(&mut self, text: &mut TableOperation<K>) -> Result<(), Stop> {
         // Each turn takes a token.
         for _ in 0..self.cursor.len() {
@@ -261,7 +261,7 @@ impl<K: Kinds + Word> TableParser<'_, K> {
         Ok(())
     }
 
-    /// Reads a successor and what is forwarded to it.
+    // Reads a successor and what is forwarded to it.
     fn edge(&mut self, text: &mut TableOperation<K>) -> Result<(), Stop> {
         let name = self.cursor.name(Expected::Block)?;
         let scope = self.open.last().copied().map_or(0, |region| region.number);
@@ -284,7 +284,7 @@ impl<K: Kinds + Word> TableParser<'_, K> {
         Err(self.cursor.stop(Expected::Value))
     }
 
-    /// Reads the condition and the two edges of a branch.
+    // Reads the condition and the two edges of a branch.
     fn edges(&mut self, text: &mut TableOperation<K>) -> Result<(), Stop> {
         let name = self.cursor.name(Expected::Value)?;
         self.operand(name, text)?;
@@ -294,8 +294,8 @@ impl<K: Kinds + Word> TableParser<'_, K> {
         self.edge(text)
     }
 
-    /// Writes the numbers of values and blocks for their names. A name that the text doesn't define
-    /// makes it unreadable.
+    // Writes the numbers of values and blocks for their names. A name that the text doesn't define
+    // makes it unreadable.
     fn resolve(&mut self) -> Result<(), Stop> {
         if let Some(token) = self.values.first_undefined() {
             return Err(Stop::at(token, Expected::DefinedValue));

@@ -44,7 +44,7 @@ pub fn read_text<K: Kinds + Word>(
     }
 }
 
-/// Builds the operation of a text.
+// Builds the operation of a text.
 fn read<K: Kinds + Word>(
     alloc: Global,
     text: &[u8],

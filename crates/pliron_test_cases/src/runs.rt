@@ -4,7 +4,7 @@ use pliron_meaning::bench::Bench;
 use pliron_meaning::evaluator::{Datum, Sight, evaluate};
 use std::alloc::{AllocError, Global};
 
-/// The numbers as data.
+// The numbers as data.
 fn data(alloc: Global, numbers: &[i128]) -> Result<Vec<Datum>, AllocError> {
     let mut data = Vec::new(alloc);
     for number in numbers {

@@ -50,7 +50,7 @@ impl Made {
     }
 }
 
-/// A new operation of this kind, with the number for its attribute.
+// A new operation of this kind, with the number for its attribute.
 fn operation(
     alloc: Global,
     ctx: &mut Context,
@@ -82,7 +82,7 @@ fn operation(
     Some(op)
 }
 
-/// A new last block of the operation's region with this index.
+// A new last block of the operation's region with this index.
 fn block(
     ctx: &mut Context,
     made: &mut Made,
@@ -104,7 +104,7 @@ fn block(
     Some(block)
 }
 
-/// The operation becomes the last of the block.
+// The operation becomes the last of the block.
 fn put(ctx: &mut Context, op: Ptr<Operation>, block: Ptr<BasicBlock>) -> Option<()> {
     if !block.is_live(ctx) || !op.is_live(ctx) || op.holds_block(block, ctx) {
         return None;
@@ -113,7 +113,7 @@ fn put(ctx: &mut Context, op: Ptr<Operation>, block: Ptr<BasicBlock>) -> Option<
     Some(())
 }
 
-/// The operation gets its place, an operand or a successor.
+// The operation gets its place, an operand or a successor.
 fn give(ctx: &mut Context, made: &Made, op: Ptr<Operation>, word: &str) -> Option<()> {
     if let Some(index) = word.strip_prefix('@') {
         return put(ctx, op, made.block(index)?);
@@ -135,8 +135,8 @@ fn give(ctx: &mut Context, made: &Made, op: Ptr<Operation>, word: &str) -> Optio
     Some(())
 }
 
-/// The block that the words ask for: an operation, how many arguments, and the index of a region, each of the
-/// two 0 where it is missing.
+// The block that the words ask for: an operation, how many arguments, and the index of a region, each of the
+// two 0 where it is missing.
 fn block_of_words(ctx: &mut Context, made: &mut Made, words: &str) -> Option<()> {
     let mut words = words.split_ascii_whitespace();
     let op = made.operation(words.next()?)?;
@@ -146,7 +146,7 @@ fn block_of_words(ctx: &mut Context, made: &mut Made, words: &str) -> Option<()>
     Some(())
 }
 
-/// Does a step.
+// Does a step.
 fn step(alloc: Global, ctx: &mut Context, made: &mut Made, text: &str) -> Option<()> {
     let (name, rest) = text.split_once(' ').unwrap_or((text, ""));
     if name == "block" {

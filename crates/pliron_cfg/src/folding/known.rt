@@ -9,7 +9,7 @@ use pliron_core::{AttrObj, Context, Def, Operation, Ptr, Value};
 use pliron_laws::{ConstFoldInterface, Dialect, OptError};
 use std::alloc::Global;
 
-/// As many entries without a constant.
+// As many entries without a constant.
 fn nothing_known(alloc: Global, count: usize) -> Result<Vec<Option<AttrObj>>, OptError>
     ensures ok { IfOk result (λ entries. entries.items ≡ replicate count None) }
     ensures memory { IsOkUnless result OptError.Memory }
@@ -21,7 +21,7 @@ fn nothing_known(alloc: Global, count: usize) -> Result<Vec<Option<AttrObj>>, Op
     Ok(entries)
 }
 
-/// What folding the operation answers for its result at this index, with no operand known.
+// What folding the operation answers for its result at this index, with no operand known.
 fn answer_without_constants<D: Dialect>(
     alloc: Global,
     op: Ptr<Operation>,
@@ -43,7 +43,7 @@ fn answer_without_constants<D: Dialect>(
     }
 }
 
-/// The constant that is known of a value.
+// The constant that is known of a value.
 fn known_of<D: Dialect>(
     alloc: Global,
     value: Value,

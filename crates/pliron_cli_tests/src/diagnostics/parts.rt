@@ -97,7 +97,7 @@ error: unreadable text| --> in:2:19|  !|2 ! b0(): x|  !       ^^^ expected `;`| 
 warning: a| --> a:b:1:2|  !|1 ! x|  ! ^|help: h|note: n| --> a:b:3:4|  !|3 ! y|  ! ^| => a:b:1:2: warning: a|a:b:3:4: note: n| => {'severity':'warning','message':'a','file':'a:b','line':1,'column':2,'help':'h'}|{'severity':'note','message':'n','file':'a:b','line':3,'column':4}|
 round  pass|    1  dce| => round  pass|    1  dce| => round  pass|    1  dce|";
 
-/// The text with an end of a line for each `|`, a bar for each `!`, and a quote for each `'`.
+// The text with an end of a line for each `|`, a bar for each `!`, and a quote for each `'`.
 fn with_signs(rt: &impl Abort, alloc: Global, text: &str) -> String {
     let mut lines = String::new(alloc);
     for letter in text.chars() {

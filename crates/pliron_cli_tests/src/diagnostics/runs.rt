@@ -151,7 +151,7 @@ impl EffectSink for Told {
     }
 }
 
-/// The effects that are told and what is seen behind them are what is seen of the whole run.
+// The effects that are told and what is seen behind them are what is seen of the whole run.
 fn expect_streamed(rt: &impl Abort, alloc: Global, text: &str, options: &RunOptions) -> usize {
     let source = Source {
         name: "in.plir",

@@ -10,12 +10,12 @@ use pliron_walks::Contents;
 use std::alloc::Global;
 use std::process::Abort;
 
-/// Whether the operation is of this kind.
+// Whether the operation is of this kind.
 fn is_kind(op: Ptr<Operation>, kind: BenchKind, ctx: &Context) -> bool {
     op.is_live(ctx) && op.head(ctx).kind == kind.number()
 }
 
-/// The number that a constant makes the value, if one does.
+// The number that a constant makes the value, if one does.
 fn number_of(value: Value, ctx: &Context) -> Option<i128> {
     if !value.is_live(ctx) {
         return None;
@@ -32,7 +32,7 @@ fn number_of(value: Value, ctx: &Context) -> Option<i128> {
     }
 }
 
-/// How many operations inside `root` are of this kind.
+// How many operations inside `root` are of this kind.
 fn count_kind(root: Ptr<Operation>, kind: BenchKind, ctx: &Context) -> usize
     requires { IsLive ctx.now.tree root }
 {
@@ -45,7 +45,7 @@ fn count_kind(root: Ptr<Operation>, kind: BenchKind, ctx: &Context) -> usize
     count
 }
 
-/// All uses of the operation's result become uses of `value`, and the operation is erased.
+// All uses of the operation's result become uses of `value`, and the operation is erased.
 fn replace(ctx: &mut Context, op: Ptr<Operation>, value: Value) -> Option<()> {
     let mut rewriter = IRRewriter::new();
     let old = first_result(op, ctx)?;
@@ -60,7 +60,7 @@ fn replace(ctx: &mut Context, op: Ptr<Operation>, value: Value) -> Option<()> {
     Some(())
 }
 
-/// A new operation without results directly before `at`, with one operand.
+// A new operation without results directly before `at`, with one operand.
 fn insert_before(
     ctx: &mut Context,
     at: Ptr<Operation>,
@@ -84,7 +84,7 @@ fn insert_before(
     Some(op)
 }
 
-/// `mul x 1` becomes `x`.
+// `mul x 1` becomes `x`.
 fn drop_mul_by_one(ctx: &mut Context, op: Ptr<Operation>) -> Option<()> {
     if !op.is_live(ctx) || !is_kind(op, BenchKind::Mul, ctx) || op.num_operand(ctx) != 2 {
         return None;
@@ -96,7 +96,7 @@ fn drop_mul_by_one(ctx: &mut Context, op: Ptr<Operation>) -> Option<()> {
     replace(ctx, op, value)
 }
 
-/// A function that returns five by one.
+// A function that returns five by one.
 fn five_by_one(alloc: Global, ctx: &mut Context) -> Option<(Ptr<Operation>, Ptr<Operation>)> {
     let (func, block) = function(alloc, ctx)?;
     let five = constant(alloc, ctx, block, 5)?;

@@ -42,7 +42,7 @@ pub(super) fn first_operation(rest: &VecDeque<Ptr<Operation>>) -> Option<Ptr<Ope
     }
 }
 
-/// Binds the value to a copy of the datum.
+// Binds the value to a copy of the datum.
 fn bind_one(
     alloc: Global,
     environment: &mut HashMap<Value, Datum>,

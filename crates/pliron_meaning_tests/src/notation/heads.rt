@@ -28,7 +28,7 @@ static HEADS: &str = "0 / mod { b0(): mod { } } => 0 false None [0, 0, 0, 1]
 root / mod { } => 0 false None [0, 0, 0, 1]
 root / func { b0(): } => 1 true None [0, 0, 0, 1]";
 
-/// The only attribute of the operation, if it has one.
+// The only attribute of the operation, if it has one.
 fn number_of(rt: &impl Abort, ctx: &Context, op: Ptr<Operation>) -> Option<i128> {
     assert!(rt; op.is_live(ctx));
     let attrs = &op.head(ctx).attrs;
@@ -58,7 +58,7 @@ fn head(rt: &impl Abort, alloc: Global, ctx: &mut Context, case: &str) -> String
     format!(in alloc; "{} {} {number:?} {counts:?}", head.kind, head.ssa).expect(rt, "memory")
 }
 
-/// The operands are the block's arguments in order, and the successors are the two blocks after it.
+// The operands are the block's arguments in order, and the successors are the two blocks after it.
 fn check_branch(rt: &impl Abort, ctx: &Context, op: Ptr<Operation>) {
     assert!(rt; op.is_live(ctx));
     let block = op.get_parent_block(ctx).expect(rt, "a block");

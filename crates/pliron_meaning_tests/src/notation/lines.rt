@@ -139,7 +139,7 @@ mod { b0(): func { b0(): v0 = const 1; v1 = const 2; v2 = add v0 v0; ret v1 } }
 mod { b0(): func { b0(): ret }; b1(): func { b0(): br b1(); b1(): ret } }
 mod { b0(): func { b0(): ret }; b1(): func { b0(): ret } }";
 
-/// Each text is printed as its line, and this once more in the same way.
+// Each text is printed as its line, and this once more in the same way.
 #[test]
 fn texts_and_their_lines(rt: HostRuntime) {
     let alloc = rt.alloc();

@@ -6,7 +6,7 @@ use pliron_test_cases::cases::{fields, line};
 use std::alloc::Global;
 use std::process::Abort;
 
-/// The text of so many operations in one another, at least two: of the first, the last and all between.
+// The text of so many operations in one another, at least two: of the first, the last and all between.
 fn nested_text(rt: &impl Abort, alloc: Global, case: &str, depth: usize) -> String {
     let (first, rest) = fields(case).expect(rt, "two fields");
     let (between, last) = fields(rest).expect(rt, "two fields");
@@ -42,7 +42,7 @@ fn sixty_four_regions_in_one_another(rt: HostRuntime) {
     }
 }
 
-/// A new operation of this kind with an empty region, in no block.
+// A new operation of this kind with an empty region, in no block.
 fn holder(rt: &impl Abort, alloc: Global, ctx: &mut Context, kind: BenchKind) -> Ptr<Operation> {
     let head = Head {
         kind: kind.number(),
@@ -52,7 +52,7 @@ fn holder(rt: &impl Abort, alloc: Global, ctx: &mut Context, kind: BenchKind) ->
     Operation::create(ctx, head, 0, 1).expect(rt, "memory")
 }
 
-/// A new operation of this kind, in no block, around another one.
+// A new operation of this kind, in no block, around another one.
 fn around(
     rt: &impl Abort,
     alloc: Global,
@@ -71,7 +71,7 @@ fn around(
     outer
 }
 
-/// A function around 2,999 boxes.
+// A function around 2,999 boxes.
 fn deep_in(rt: &impl Abort, alloc: Global, ctx: &mut Context) -> String {
     let mut root = holder(rt, alloc, ctx, BenchKind::Box);
     for _ in 2..3000 {
@@ -86,7 +86,7 @@ fn deep(rt: &impl Abort, alloc: Global) -> String {
     deep_in(rt, alloc, &mut ctx)
 }
 
-/// A tree may be deeper than any text.
+// A tree may be deeper than any text.
 #[test]
 fn deep_tree_is_printed(rt: HostRuntime) {
     let alloc = rt.alloc();

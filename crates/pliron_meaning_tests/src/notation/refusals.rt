@@ -13,7 +13,7 @@ static TEXT: &str =
 static LINE: &str =
     "func { b0(v0): v1 = const 3; v2, v3 = pair; scope v1 { b0(v4): sink v4 v2 v3; ret }; cbr v0 b1(v1) b2(); b1(v5): ret v5; b2(): fork v0 b1 b1 }";
 
-/// The line of the operation, asked for once more on allocation failure.
+// The line of the operation, asked for once more on allocation failure.
 fn check_line(rt: &impl Abort, alloc: Global, ctx: &Context, root: Ptr<Operation>, want: &str) {
     assert!(rt; root.is_live(ctx));
     let line = match print_text(alloc, root, ctx) {
@@ -26,8 +26,8 @@ fn check_line(rt: &impl Abort, alloc: Global, ctx: &Context, root: Ptr<Operation
     assert_eq!(rt; line.as_str(), want, "{want}");
 }
 
-/// Reads a text beside an operation that stands, if one does. On allocation failure that one stays as it is,
-/// and the text is read once more.
+// Reads a text beside an operation that stands, if one does. On allocation failure that one stays as it is,
+// and the text is read once more.
 fn read_beside(
     rt: &impl Abort,
     alloc: Global,

@@ -3,7 +3,7 @@ use super::printed_bytes;
 use std::alloc::Global;
 use std::process::Abort;
 
-/// Whether the text with this piece at its place is read.
+// Whether the text with this piece at its place is read.
 fn is_read(rt: &impl Abort, alloc: Global, piece: &[u8], around: (&str, &str)) -> bool {
     let mut text = Vec::new(alloc);
     text.extend_from_slice(around.0.as_bytes())
@@ -17,7 +17,7 @@ fn is_read(rt: &impl Abort, alloc: Global, piece: &[u8], around: (&str, &str)) -
 /// Words that are no names.
 static WORDS: &str = "mod func const add mul div read print pair sink scope box br cbr ret fork";
 
-/// No word of the notation is a name, and each is one with a letter more.
+// No word of the notation is a name, and each is one with a letter more.
 #[test]
 fn words_that_are_no_names(rt: HostRuntime) {
     let alloc = rt.alloc();
@@ -40,7 +40,7 @@ fn words_that_are_no_names(rt: HostRuntime) {
     }
 }
 
-/// Each byte as a blank, as the first letter of a name and as a later one.
+// Each byte as a blank, as the first letter of a name and as a later one.
 #[test]
 fn bytes(rt: HostRuntime) {
     let alloc = rt.alloc();

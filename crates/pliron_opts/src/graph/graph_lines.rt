@@ -11,7 +11,7 @@ use pliron_graph::{
 use pliron_laws::OptError;
 use std::alloc::Global;
 
-/// A list of nodes in brackets, after a blank.
+// A list of nodes in brackets, after a blank.
 fn push_list(
     alloc: Global,
     graph: &NumberedGraph,
@@ -27,7 +27,7 @@ fn push_list(
     Ok(())
 }
 
-/// Each list of nodes in brackets.
+// Each list of nodes in brackets.
 fn push_lists(
     alloc: Global,
     graph: &NumberedGraph,
@@ -40,7 +40,7 @@ fn push_lists(
     Ok(())
 }
 
-/// The walks, and the same walks reversed.
+// The walks, and the same walks reversed.
 fn push_orders(alloc: Global, graph: &NumberedGraph, text: &mut String) -> Result<(), OptError>
     requires { AreInverse graph.now.edges }
 {
@@ -52,7 +52,7 @@ fn push_orders(alloc: Global, graph: &NumberedGraph, text: &mut String) -> Resul
     push_lists(alloc, graph, &reversed, text)
 }
 
-/// The reached nodes by rising pre-order number, each with its numbers.
+// The reached nodes by rising pre-order number, each with its numbers.
 fn push_numbers(
     alloc: Global,
     graph: &NumberedGraph,
@@ -70,7 +70,7 @@ fn push_numbers(
     Ok(())
 }
 
-/// The edges of a reached node, successors by index, each with its kind.
+// The edges of a reached node, successors by index, each with its kind.
 fn push_edges_of(
     alloc: Global,
     graph: &NumberedGraph,
@@ -93,7 +93,7 @@ fn push_edges_of(
     Ok(())
 }
 
-/// The edges of reached nodes, nodes in the order of their lines.
+// The edges of reached nodes, nodes in the order of their lines.
 fn push_edges(
     alloc: Global,
     graph: &NumberedGraph,
@@ -113,7 +113,7 @@ fn push_edges(
     Ok(())
 }
 
-/// The components, each with a star if it is cyclic.
+// The components, each with a star if it is cyclic.
 fn push_components(alloc: Global, graph: &NumberedGraph, text: &mut String) -> Result<(), OptError>
     requires { AreInverse graph.now.edges }
 {
@@ -127,7 +127,7 @@ fn push_components(alloc: Global, graph: &NumberedGraph, text: &mut String) -> R
     Ok(())
 }
 
-/// The pre-sentinels of the reverse graph.
+// The pre-sentinels of the reverse graph.
 fn push_pre_sentinels(
     alloc: Global,
     graph: &NumberedGraph,

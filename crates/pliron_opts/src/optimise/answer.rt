@@ -16,9 +16,9 @@ use pliron_pass::{AnalysisManager, BenchFactKind, BenchFacts, Pass};
 use pliron_pipeline::{Schedule, run_pipeline, schedules_report_accurately};
 use std::alloc::{AllocError, Global};
 
-/// Runs the passes once on the operation, with nothing configured and nothing cached.
-///
-/// Errors: those of the passes; allocation failure, after some whole rewrites.
+// Runs the passes once on the operation, with nothing configured and nothing cached.
+//
+// Errors: those of the passes; allocation failure, after some whole rewrites.
 fn run_schedule<D: Dialect>(
     alloc: Global,
     mut schedule: Schedule<D, BenchFacts>,
@@ -40,7 +40,7 @@ fn run_schedule<D: Dialect>(
     run_pipeline(&mut schedule, alloc, root, ctx, &mut analyses)
 }
 
-/// The text, and a line that says whether the tree changed.
+// The text, and a line that says whether the tree changed.
 fn with_status(mut text: String, status: IRStatus) -> Result<String, AllocError>
     ensures { IfOk result (λ answer. string_bytes answer ≡ string_bytes text ++ status_line status) }
 {
@@ -66,7 +66,7 @@ pub fn optimise_text<N: Notation>(
     optimised_in::<N>(alloc, schedule, text, &mut ctx)
 }
 
-/// The same in this context, which is empty.
+// The same in this context, which is empty.
 fn optimised_in<N: Notation>(
     alloc: Global,
     schedule: Schedule<N::D, BenchFacts>,

@@ -19,7 +19,7 @@ pub enum Command<D: Dialect> {
     Graph,
 }
 
-/// The passes of these names in turn, if each is the name of one.
+// The passes of these names in turn, if each is the name of one.
 fn passes<D: Dialect>(
     alloc: Global,
     names: &[&str],
@@ -39,8 +39,8 @@ fn passes<D: Dialect>(
     Ok(Some(passes))
 }
 
-/// The passes of these names in turn, on the operation itself or on each operation directly inside it, if
-/// each is the name of one.
+// The passes of these names in turn, on the operation itself or on each operation directly inside it, if
+// each is the name of one.
 fn pipeline<D: Dialect>(
     alloc: Global,
     nested: bool,
@@ -60,7 +60,7 @@ fn pipeline<D: Dialect>(
     }))
 }
 
-/// The pipeline once, or at most so many times where a number of runs is given.
+// The pipeline once, or at most so many times where a number of runs is given.
 fn schedule<D: Dialect>(
     runs: Option<usize>,
     pipeline: Pipeline<D, BenchFacts>,

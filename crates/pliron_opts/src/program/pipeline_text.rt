@@ -54,7 +54,7 @@ enum Words {
 }
 
 impl Words {
-    /// Whether they have this name, and a pass has it.
+    // Whether they have this name, and a pass has it.
     fn have_name(self, name: &str) -> bool
         ensures { IsTrue result → IsNoPass name.now → ⊥ }
     {
@@ -66,7 +66,7 @@ impl Words {
     }
 }
 
-/// The fault of this part.
+// The fault of this part.
 fn fault<T>(start: usize, len: usize, expected: &'static str) -> Result<T, PlanError>
     ensures { IfOk result (λ found. ⊥) }
 {
@@ -77,8 +77,8 @@ fn fault<T>(start: usize, len: usize, expected: &'static str) -> Result<T, PlanE
     }))
 }
 
-/// The number that is written so after so many bytes of the word. Errors: it isn't one from 1 to the most runs as it is
-/// printed; allocation failure.
+// The number that is written so after so many bytes of the word. Errors: it isn't one from 1 to the most runs as it is
+// printed; allocation failure.
 fn count(alloc: Global, digits: &str, start: usize) -> Result<usize, PlanError>
     ensures digits { IfOk result (λ count. digits.now ≡ decimal count) }
     ensures few { IfOk result (λ count. (1 ≤ count) × (count ≤ 64)) }
@@ -103,7 +103,7 @@ struct RestOfWord<'w> {
     start: usize,
 }
 
-/// What stands behind the start of the text, if it begins so.
+// What stands behind the start of the text, if it begins so.
 fn text_behind<'w>(text: &'w str, start: &str) -> Option<&'w str>
     ensures some { IfSome result (λ rest. text.now ≡ start.now ++ rest.now) }
     ensures none { IfNone result (BeginsWith text.now start.now → ⊥) }
@@ -114,7 +114,7 @@ fn text_behind<'w>(text: &'w str, start: &str) -> Option<&'w str>
     }
 }
 
-/// The same, where these words have brackets.
+// The same, where these words have brackets.
 fn text_behind_bracket<'w>(text: &'w str, start: &str, words: Words) -> Option<&'w str>
     ensures some { IfSome result (λ rest. IsTrue (has_brackets words) × (text.now ≡ start.now ++ rest.now)) }
     ensures none { IfNone result (IsTrue (has_brackets words) → BeginsWith text.now start.now → ⊥) }
@@ -125,14 +125,14 @@ fn text_behind_bracket<'w>(text: &'w str, start: &str, words: Words) -> Option<&
     }
 }
 
-/// What stands before the bracket that closes the text, if one does.
+// What stands before the bracket that closes the text, if one does.
 fn text_before_bracket(text: &str) -> Option<&str>
     ensures { IfSome result (λ inner. text.now ≡ inner.now ++ codes ")") }
 {
     text.strip_suffix(')')
 }
 
-/// The fault of a list, after so many bytes of the word, whose last letter isn't the bracket that closes it.
+// The fault of a list, after so many bytes of the word, whose last letter isn't the bracket that closes it.
 fn bracket_fault<T>(behind: &str, start: usize) -> Result<T, PlanError>
     ensures { IfOk result (λ found. ⊥) }
 {
@@ -146,8 +146,8 @@ fn bracket_fault<T>(behind: &str, start: usize) -> Result<T, PlanError>
     }
 }
 
-/// The runs that the rest of a word behind `repeat:` asks for, and what is run. Errors: it asks for none; allocation
-/// failure.
+// The runs that the rest of a word behind `repeat:` asks for, and what is run. Errors: it asks for none; allocation
+// failure.
 fn counted_by_colon<'w>(alloc: Global, rest: &'w str) -> Result<(usize, RestOfWord<'w>), PlanError>
     ensures whole { IfOk result (λ read. rest.now ≡ decimal read.0 ++ (codes ":" ++ read.1.text.now)) }
     ensures few { IfOk result (λ read. (1 ≤ read.0) × (read.0 ≤ 64)) }
@@ -160,7 +160,7 @@ fn counted_by_colon<'w>(alloc: Global, rest: &'w str) -> Result<(usize, RestOfWo
     Ok((runs, RestOfWord { text, start }))
 }
 
-/// The same of the rest of a word behind `repeat<`.
+// The same of the rest of a word behind `repeat<`.
 fn counted_in_brackets<'w>(
     alloc: Global,
     rest: &'w str,
@@ -179,8 +179,8 @@ fn counted_in_brackets<'w>(
     }
 }
 
-/// The runs that the word asks for, if it does, and what is run. Errors: it asks for none that can be; allocation
-/// failure.
+// The runs that the word asks for, if it does, and what is run. Errors: it asks for none that can be; allocation
+// failure.
 fn read_runs<'w>(
     alloc: Global,
     word: &'w str,
@@ -203,7 +203,7 @@ fn read_runs<'w>(
     Ok((Some(runs), rest))
 }
 
-/// Whether it is for each operation directly inside, and the list. Errors: a bracket that isn't closed.
+// Whether it is for each operation directly inside, and the list. Errors: a bracket that isn't closed.
 fn read_nesting<'w>(rest: RestOfWord<'w>, words: Words) -> Result<(bool, RestOfWord<'w>), PlanError>
     ensures { IfOk result (λ read. Nests (has_brackets words) rest.entry.text.now read.0 read.1.text.now) }
 {
@@ -220,7 +220,7 @@ fn read_nesting<'w>(rest: RestOfWord<'w>, words: Words) -> Result<(bool, RestOfW
     }
 }
 
-/// The names that commas set apart. Errors: one that no pass has; allocation failure.
+// The names that commas set apart. Errors: one that no pass has; allocation failure.
 fn names<'w>(alloc: Global, list: RestOfWord<'w>, words: Words) -> Result<Vec<&'w str>, PlanError>
     ensures { IfOk result (λ names. map (λ name. name.now) names.items ≡ slice_split
         (λ b. b == 44) list.entry.text.now) }
@@ -240,7 +240,7 @@ fn names<'w>(alloc: Global, list: RestOfWord<'w>, words: Words) -> Result<Vec<&'
 }
 
 impl<'w> PipelineText<'w> {
-    /// What the word says, if it is one of these words.
+    // What the word says, if it is one of these words.
     fn read_among(alloc: Global, word: &'w str, words: Words) -> Result<Self, PlanError>
         ensures { IfOk result (λ plan. Plans (has_brackets words) word.now plan.runs plan.nested
             (map (λ name. name.now) plan.names.items)) }

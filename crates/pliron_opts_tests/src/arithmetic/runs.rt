@@ -28,7 +28,7 @@ static CASES: &str = "\
 1 | function { b0(n): one = lit 1; m = lit -1; z, f = while n one { w(i, a): p = mul a i; j = add i m; return j j p }; return f } => 1
 3 | function { b0(n): k = lit 2; r = while n { w(i): z = lit 0; q = add k k; return z q i }; return r } => 4";
 
-/// The numbers of a text as data.
+// The numbers of a text as data.
 fn data(rt: &impl Abort, alloc: Global, words: &str) -> Vec<Datum> {
     let mut data = Vec::new(alloc);
     for word in words.split(' ') {

@@ -15,7 +15,7 @@ enum Answer<'n> {
     Unreadable,
 }
 
-/// What the passes of these names make of a text; nothing is run where no pass has one of the names.
+// What the passes of these names make of a text; nothing is run where no pass has one of the names.
 fn optimise_by_names<'n>(
     alloc: Global,
     names: &[&'n str],
