@@ -28,8 +28,8 @@ status_line Unchanged = 10 ∷ codes "unchanged" ++ 10 ∷ []
 module _ (reads : Reads) (prints : Prints) (m : Meaning) where
   -- a tree and its operation are read from the text, and passes run on that. In the tree after, every operation
   -- that was fit to run and is still live does as before, the text's operation is live and well linked, and
-  -- only what is inside it is changed. The answer is that tree printed, and an accurate line on whether it
-  -- changed
+  -- only what is inside it is changed. The answer is that tree printed, and a line on whether it changed: where
+  -- that says that it didn't, the tree is the same
   pub record IsOptimised (ran : ℕ → Tree → Tree → IRStatus → Type 0) (text answer : List ℕ) : Type 0 where
     pub root : ℕ
     pub before : Tree

@@ -20,7 +20,7 @@ use std::alloc::Global;
 use std::collections::HashSet;
 
 /// How many visits are few. What was visited more often has its edges kept, and its named operands listed.
-const FEW_LOOKS: usize = 4;
+const FEW_VISITS: usize = 4;
 
 /// Of operations that fold as branches and were visited more than a few times, the blocks that they may go to
 /// by the lattice values of their last visit. Values are only lowered, and where folds are monotone such a
@@ -28,7 +28,7 @@ const FEW_LOOKS: usize = 4;
 /// them for.
 #[derive(Drop)]
 pub struct FeasibleEdges {
-    visit_stamps: IndexMap<Ptr<Operation>, usize>,
+    visits: IndexMap<Ptr<Operation>, usize>,
     blocks: IndexMap<Ptr<Operation>, HashSet<u64>>,
     named: IndexMap<Ptr<Operation>, EntryCandidates>,
 }
@@ -39,7 +39,7 @@ impl FeasibleEdges {
         ensures { (k b : ℕ) → leads result k b ≡ false }
     {
         FeasibleEdges {
-            visit_stamps: IndexMap::new(alloc),
+            visits: IndexMap::new(alloc),
             blocks: IndexMap::new(alloc),
             named: IndexMap::new(alloc),
         }
@@ -50,13 +50,13 @@ impl FeasibleEdges {
         ensures ok { OnOk result (self.new.blocks ≡ self.old.blocks) }
         ensures memory { IsOkUnless result OptError.Memory }
     {
-        let before = match self.visit_stamps.get(&op) {
-            Some(visit_stamps) => *visit_stamps,
+        let before = match self.visits.get(&op) {
+            Some(visits) => *visits,
             None => 0,
         };
-        let visit_stamps = before.saturating_add(1);
-        self.visit_stamps.insert(op, visit_stamps)?;
-        Ok(visit_stamps)
+        let visits = before.saturating_add(1);
+        self.visits.insert(op, visits)?;
+        Ok(visits)
     }
 
     /// The operation was visited once more, and may go to these blocks: where that was more than a few times they
@@ -67,7 +67,7 @@ impl FeasibleEdges {
         ensures ok { OnOk result (KeepsAmong op (Some blocks) self.old self.new) }
         ensures memory { IsOkUnless result OptError.Memory }
     {
-        if self.count(op)? <= FEW_LOOKS {
+        if self.count(op)? <= FEW_VISITS {
             return Ok(());
         }
         self.blocks.insert(op, blocks)?;
@@ -89,7 +89,7 @@ impl FeasibleEdges {
         ensures ok { OnOk result ((k b : ℕ) → leads self.new k b ≡ leads self.old k b) }
         ensures memory { IsOkUnless result OptError.Memory }
     {
-        if self.count(op)? <= FEW_LOOKS || self.named.contains_key(&op) {
+        if self.count(op)? <= FEW_VISITS || self.named.contains_key(&op) {
             return Ok(());
         }
         let candidates = EntryCandidates::of::<D>(alloc, op, ctx)?;

@@ -6,5 +6,5 @@ use Rattle.pliron_sccp.proofs.feasible_edges.FeasibleEdges.keep_named.Goals as g
 pub returns-clause-ok : goal.returns-clause-ok
 returns-clause-ok g c = λ k b. ap (λ m. holds (get is_one_key m k) b) c.in_ok-count.ensures.ok
 
-pub returns-then-branch-le-FEW_LOOKS-clause-ok : goal.returns-then-branch-le-FEW_LOOKS-clause-ok
-returns-then-branch-le-FEW_LOOKS-clause-ok g c = λ k b. ap (λ m. holds (get is_one_key m k) b) c.in_ok-count.ensures.ok
+pub returns-then-branch-le-FEW_VISITS-clause-ok : goal.returns-then-branch-le-FEW_VISITS-clause-ok
+returns-then-branch-le-FEW_VISITS-clause-ok g c = λ k b. ap (λ m. holds (get is_one_key m k) b) c.in_ok-count.ensures.ok
