@@ -3,3 +3,4 @@ pub mod BenchReads
 pub mod BenchReplace
 pub mod BenchSingle
 pub mod BenchEdges
+mod BenchOperandReads
