@@ -10,3 +10,5 @@ pub mod BenchFolds
 pub mod BenchBranches
 pub mod BenchRemoval
 pub mod BenchInPlace
+pub mod BenchOperandFolds
+pub mod BenchOperandLaws

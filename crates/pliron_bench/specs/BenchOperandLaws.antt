@@ -1,5 +1,5 @@
 -- The results of `mul` and `div` that are said to be operands, or decided by equal operands, are these.
-use Rattle.std.proofs.Common.{◌≡◌, ℕ, zero, suc, ◌<◌, nat_eq, if◌then◌else◌, Bool, true, false, List, [], ◌∷◌, Option, Some, None, length, slice_get, refl, ap, sym, ◌∙◌, subst, arith}
+use Rattle.std.proofs.Common.{◌≡◌, ℕ, zero, suc, ◌<◌, if◌then◌else◌, Bool, true, false, List, [], ◌∷◌, Option, Some, None, length, slice_get, refl, ap, sym, ◌∙◌, subst, arith}
 use Rattle.std.specs.Prelude.{ℤ, pos, negsuc, int_div, ◌*ℤ◌}
 use Rattle.std.specs.Int.{w64, int_wrap}
 use Rattle.std.proofs.lemmas.Int.{ints}
@@ -18,7 +18,7 @@ use Rattle.pliron_bench.specs.Bench.{by_kind, kind_of}
 use Rattle.pliron_bench.specs.BenchNumbers.{datum_at, number_at, as_number, product, quotient, fits, is_zero}
 use Rattle.pliron_bench.specs.BenchMoves.{give_or_trap, act_of, no_act, bench}
 use Rattle.pliron_bench.specs.BenchParts.{Admits, IsOfKind, of_kind, same, IsQuiet, comes_first}
-use Rattle.pliron_canonicalize_tests.specs.OperandFolds.{is_zero_constant, is_known_zero, product_fold, are_same, quotient_fold, operand_folds_of, no_folds_to_operands, bench_operand_folds}
+use Rattle.pliron_bench.specs.BenchOperandFolds.{is_zero_constant, is_known_zero, product_fold, are_same, quotient_fold, operand_folds_of, no_folds_to_operands, bench_operand_folds}
 
 -- ---- one answer
 

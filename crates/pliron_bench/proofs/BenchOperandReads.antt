@@ -10,7 +10,7 @@ use Rattle.pliron_operand_folding.specs.OperandFolding.{ReadsOperands}
 use Rattle.pliron_bench.specs.declared.kind.BenchKind.{BenchKind}
 use Rattle.pliron_bench.specs.Bench.{by_kind, kind_of}
 use Rattle.pliron_bench.specs.BenchMoves.{bench}
-use Rattle.pliron_canonicalize_tests.specs.OperandFolds.{operand_folds_of, no_folds_to_operands, bench_operand_folds}
+use Rattle.pliron_bench.specs.BenchOperandFolds.{operand_folds_of, no_folds_to_operands, bench_operand_folds}
 
 pub operands_read : (t : Tree) (op : ℕ) (k : BenchKind) (known : List (Option AttrObj)) (items : List (Option OpFoldResult)) → ReadsHead (λ h. kind_of h.kind) t op (Some k) → items ≡ operand_folds_of k known (operands_of t op) → ReadsOperands bench bench_operand_folds known t op items
 unfolding bench_operand_folds shape_of
