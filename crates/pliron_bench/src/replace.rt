@@ -46,5 +46,12 @@ pub fn jump_in_place<R: Rewriter + Room>(
     let target = op.get_successor(ctx, edge);
     // the insertion, and one erasing: of the old operation, or of the new one on the way back
     rewriter.room(alloc, 2)?;
-    replace_by_jump(op, ctx, plain_head(alloc, BenchKind::Br), &values, target, rewriter)
+    replace_by_jump(
+        op,
+        ctx,
+        plain_head(alloc, BenchKind::Br),
+        &values,
+        target,
+        rewriter,
+    )
 }
