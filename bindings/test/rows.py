@@ -52,8 +52,8 @@ def with_lines(text):
 
 
 def without_name(row):
-    """A row of texts without the name that stands before ` :: `."""
-    return row.split(" :: ", 1)[1]
+    """A row without the name that stands before ` -- `."""
+    return row.split(" -- ", 1)[1]
 
 
 def optimised():
@@ -69,17 +69,17 @@ def optimised():
         pipeline, rest = without_name(row).split(" :: ")
         text, told = rest.split(" => ")
         yield REFUSED if told.startswith("refused") else TEXT, pipeline.encode(), text.encode(), b""
-    for text in static("plir_run", "texts", "UNREADABLE"):
-        yield TEXT, b"sccp", text.encode(), b""
+    for row in static("plir_run", "texts", "UNREADABLE"):
+        yield TEXT, b"sccp", without_name(row).encode(), b""
 
 
 def graphs():
     """Status, text and answer of each graph."""
     for row in static("plir_run", "graphs", "GRAPHS"):
-        text, answer = row.split(" => ")
+        text, answer = without_name(row).split(" => ")
         yield ANSWERED, with_lines(text), with_lines(answer)
-    for text in static("plir_run", "graphs", "UNREADABLE"):
-        yield TEXT, with_lines(text), b""
+    for row in static("plir_run", "graphs", "UNREADABLE"):
+        yield TEXT, with_lines(without_name(row)), b""
 
 
 def faults():
@@ -101,10 +101,10 @@ def modules():
     """Status, whether it changed, pipeline, module and answer of each module."""
     yield ANSWERED, 1, stored("args").strip(), stored("stdin"), stored("stdout")
     for row in static("print_module", "printed", "PRINTED"):
-        text, answer = row.split(" => ")
+        text, answer = without_name(row).split(" => ")
         yield ANSWERED, 0, b"", with_lines(text), with_lines(answer)
     for row in static("optimise_module_into", "modules", "OPTIMISED"):
-        pipeline, text, rest = row.split(" :: ")
+        pipeline, text, rest = without_name(row).split(" :: ")
         changed, status, length, left = rest.split(" => ")[1].split(" ", 3)
         if int(status) != TOO_SMALL:
             yield int(status), int(changed), pipeline.encode(), with_lines(text), with_lines(left[:int(length)])
@@ -113,7 +113,7 @@ def modules():
 def module_faults():
     """Line, column, module and what was to stand there, of each broken module."""
     for row in static("read_module", "broken", "BROKEN"):
-        text, told = row.split(" => ")
+        text, told = without_name(row).split(" => ")
         place, expected = told.split(" ", 1)
         line, column = place.split(":")
         yield int(line), int(column), with_lines(text), expected.encode()

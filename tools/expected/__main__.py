@@ -4,7 +4,7 @@
   python3 tools/expected               says of each table how many of its lines the models make alike; the status is 0 if all are
   python3 tools/expected TABLE         prints the lines of a table as the models make them of its texts, one unbroken line a case
 
-A table is named by its file and its name, as `pliron_dce_tests/src/cases.rt:DEFINED`. Its texts, to the left of ` => `, are kept as they
+A table is named by its file and its name, as `pliron_dce_tests/src/cases.rt:DEFINED`. Its names, and its texts to the left of ` => `, are kept as they
 are: texts made at random, or written by hand.
 """
 import re

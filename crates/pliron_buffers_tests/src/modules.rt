@@ -1,5 +1,5 @@
 //! Calls on modules of MLIR. Before each call the buffer holds dots; `|` stands for the end of a line.
-use crate::buffers::{dots, expect_left, with_lines};
+use crate::buffers::{dots, left_of, with_lines};
 use pliron_buffers::{Place, find_module_fault_into, optimise_module_into};
 use pliron_mlir::{AnyMeaning, Mlir};
 use pliron_mlir_opt::GenericForm;
@@ -16,26 +16,33 @@ static SUM: &str = "\
 static LEFT: &str = "\
 \"builtin.module\"() ({|  \"func.func\"() <{function_type = () -> i32, sym_name = \"f\"}> ({|    %3 = \"arith.constant\"() <{value = 3 : i32}> : () -> i32|    \"func.return\"(%3) : (i32) -> ()|  }) : () -> ()|}) : () -> ()|";
 
-/// Lists of passes, texts and lengths of buffers; then whether something changed, statuses, lengths that are told, and
+/// Names, lists of passes, texts and lengths of buffers; then whether something changed, statuses, lengths that are told, and
 /// what the buffers hold.
 static OPTIMISED: &str = "\
-dce :: \"m\"() : () -> () :: 17 => 0 0 17 \"m\"() : () -> ()|
-dce :: \"m\"() : () -> () :: 19 => 0 0 17 \"m\"() : () -> ()|..
-dce :: \"m\"() : () -> () :: 16 => 0 4 17 ................
- ::  \"m\"()  : ()->() :: 17 => 0 0 17 \"m\"() : () -> ()|
-dce :: \"m\"() ({|  %0 = \"arith.constant\"() <{value = 1 : i32}> : () -> i32|}) : () -> () :: 29 => 1 0 29 \"m\"() ({|^bb0:|}) : () -> ()|
-simplify-cfg :: \"m\"() ({|  \"func.func\"() <{sym_name = \"f\"}> ({|    \"func.return\"(%0) : (i32) -> ()|  ^b:|    %0 = \"arith.constant\"() <{value = 1 : i32}> : () -> i32|    \"cf.br\"()[^b] : () -> ()|  }) : () -> ()|}) : () -> () :: 3 => 0 1 0 ...
-repeat<2>(nested(sccp,cse)) :: \"m\"() : () -> () :: 17 => 0 0 17 \"m\"() : () -> ()|
-dce ::  :: 3 => 0 2 0 ...
-dce :: m :: 3 => 0 2 0 ...
-dce :: \"m\"() ({ :: 3 => 0 2 0 ...
-licm :: m :: 3 => 0 3 0 ...
-repeat:65:dce :: m :: 3 => 0 3 0 ...";
+as long as the answer -- dce :: \"m\"() : () -> () :: 17 => 0 0 17 \"m\"() : () -> ()|
+longer than the answer -- dce :: \"m\"() : () -> () :: 19 => 0 0 17 \"m\"() : () -> ()|..
+one byte short -- dce :: \"m\"() : () -> () :: 16 => 0 4 17 ................
+an empty list --  ::  \"m\"()  : ()->() :: 17 => 0 0 17 \"m\"() : () -> ()|
+an unused constant -- dce :: \"m\"() ({|  %0 = \"arith.constant\"() <{value = 1 : i32}> : () -> i32|}) : () -> () \
+    :: 29 => 1 0 29 \"m\"() ({|^bb0:|}) : () -> ()|
+a used value of an unreachable block -- simplify-cfg :: \"m\"() ({|  \"func.func\"() <{sym_name = \"f\"}> \
+    ({|    \"func.return\"(%0) : (i32) -> ()|  ^b:|    %0 = \"arith.constant\"() <{value = 1 : i32}> : () -> \
+    i32|    \"cf.br\"()[^b] : () -> ()|  }) : () -> ()|}) : () -> () :: 3 => 0 1 0 ...
+the other spelling of lists -- repeat<2>(nested(sccp,cse)) :: \"m\"() : () -> () :: 17 => 0 0 17 \"m\"() : () -> ()|
+an empty text -- dce ::  :: 3 => 0 2 0 ...
+a word -- dce :: m :: 3 => 0 2 0 ...
+a region that does not end -- dce :: \"m\"() ({ :: 3 => 0 2 0 ...
+no such pass -- licm :: m :: 3 => 0 3 0 ...
+too many rounds -- repeat:65:dce :: m :: 3 => 0 3 0 ...";
 
-// Runs the passes on the text, and compares what the call answered and left.
-fn expect_module(rt: &impl Abort, alloc: Global, asked: (&str, &[u8], &str), wanted: &str) {
-    let (list, text, capacity) = asked;
-    let (wanted_change, wanted) = wanted.split_once(' ').expect(rt, "whether it changed");
+// Whether the passes changed the text, and what the call answered and left.
+fn module_left_of(
+    rt: &impl Abort,
+    alloc: Global,
+    list: &str,
+    text: &[u8],
+    capacity: &str,
+) -> String {
     let mut buffer = dots(rt, alloc, capacity);
     let (mut needed, mut changed) = (7, 7);
     let status = optimise_module_into::<GenericForm<Mlir<AnyMeaning>>>(
@@ -46,19 +53,21 @@ fn expect_module(rt: &impl Abort, alloc: Global, asked: (&str, &[u8], &str), wan
         &mut needed,
         &mut changed,
     );
-    assert!(rt; wanted_change.parse::<u32>() == Ok(changed), "{changed}");
-    expect_left(rt, alloc, status, needed, &buffer, wanted);
+    let left = left_of(rt, alloc, status, needed, &buffer);
+    format!(in alloc; "{changed} {left}").expect(rt, "memory")
 }
 
 #[test]
 fn optimised(rt: HostRuntime) {
     let alloc = rt.alloc();
     for case in OPTIMISED.lines() {
-        let (list, rest) = case.split_once(" :: ").expect(&rt, "a list");
+        let (name, rest) = case.split_once(" -- ").expect(&rt, "a name");
+        let (list, rest) = rest.split_once(" :: ").expect(&rt, "a list");
         let (text, rest) = rest.split_once(" :: ").expect(&rt, "a text");
         let (capacity, wanted) = rest.split_once(" => ").expect(&rt, "a length");
         let lines = with_lines(&rt, alloc, text);
-        expect_module(&rt, alloc, (list, &lines, capacity), wanted);
+        let left = module_left_of(&rt, alloc, list, &lines, capacity);
+        assert!(&rt; left.as_str() == wanted, "{name}: {left}");
     }
 }
 
@@ -67,8 +76,10 @@ fn changed_modules(rt: HostRuntime) {
     let alloc = rt.alloc();
     let text = with_lines(&rt, alloc, SUM);
     let wanted = format!(in alloc; "1 0 213 {LEFT}").expect(&rt, "memory");
-    expect_module(&rt, alloc, ("sccp,dce", &text, "213"), wanted.as_str());
-    expect_module(&rt, alloc, ("sccp,dce", &text, "3"), "1 4 213 ...");
+    let left = module_left_of(&rt, alloc, "sccp,dce", &text, "213");
+    assert_eq!(rt; left.as_str(), wanted.as_str());
+    let left = module_left_of(&rt, alloc, "sccp,dce", &text, "3");
+    assert_eq!(rt; left.as_str(), "1 4 213 ...");
 }
 
 #[test]
@@ -86,7 +97,7 @@ fn lists_that_are_no_text(rt: HostRuntime) {
 }
 
 // What is told of a module, in a buffer that has room for it, with the place.
-fn expect_fault(rt: &impl Abort, alloc: Global, text: &[u8], wanted: &str) {
+fn fault_of(rt: &impl Abort, alloc: Global, text: &[u8]) -> String {
     let mut buffer = dots(rt, alloc, "100");
     let mut needed = 7;
     let mut place = Place {
@@ -111,23 +122,26 @@ fn expect_fault(rt: &impl Abort, alloc: Global, text: &[u8], wanted: &str) {
         place.start,
         place.len
     );
-    let told = told.expect(rt, "memory");
-    assert!(rt; told.as_str() == wanted, "{told}");
+    told.expect(rt, "memory")
 }
 
-/// Broken modules, and what is told of them: the status, the length of the words, these, and the place.
+/// Names and broken modules, and what is told of them: the status, the length of the words, these, and the place.
 static BROKEN: &str = "\
-\"m\"() : () -> () => 0 0  0+0 0:0
-\"m\"() : () -> ()|\"n\"() : () -> () => 0 19 the end of the text 17+0 2:1
-\"m\"() ({ => 0 28 an operation, a block or `}` 8+0 1:9
-\"m\"() ({|  \"a\"()[^b] : () -> ()|}) : () -> () => 0 22 a block of this region 17+0 2:9
-\"m\"() ({|^a:|  \"b\"()[^a] : () -> ()|  \"c\"() : () -> ()|}) : () -> () => 0 53 operations with successors only at the ends of blocks 15+0 3:3";
+nothing broken -- \"m\"() : () -> () => 0 0  0+0 0:0
+a second operation -- \"m\"() : () -> ()|\"n\"() : () -> () => 0 19 the end of the text 17+0 2:1
+a region that does not begin -- \"m\"() ({ => 0 28 an operation, a block or `}` 8+0 1:9
+a block that the region lacks -- \"m\"() ({|  \"a\"()[^b] : () -> ()|}) : () -> () => 0 22 a block of this region \
+    17+0 2:9
+an operation behind one with successors -- \"m\"() ({|^a:|  \"b\"()[^a] : () -> ()|  \"c\"() : () -> ()|}) : () -> \
+    () => 0 53 operations with successors only at the ends of blocks 15+0 3:3";
 
 #[test]
 fn faults(rt: HostRuntime) {
     let alloc = rt.alloc();
     for case in BROKEN.lines() {
-        let (text, wanted) = case.split_once(" => ").expect(&rt, "a case");
-        expect_fault(&rt, alloc, &with_lines(&rt, alloc, text), wanted);
+        let (name, row) = case.split_once(" -- ").expect(&rt, "a name");
+        let (text, wanted) = row.split_once(" => ").expect(&rt, "a case");
+        let told = fault_of(&rt, alloc, &with_lines(&rt, alloc, text));
+        assert!(&rt; told.as_str() == wanted, "{name}: {told}");
     }
 }

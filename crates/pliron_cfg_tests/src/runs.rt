@@ -2,32 +2,26 @@
 use super::cases::DEFINED;
 use pliron_bench::Bench;
 use pliron_cfg::simplify_cfg;
-use pliron_core::Context;
-use pliron_test_cases::cases::{Case, case_of, read};
-use pliron_test_cases::runs::{are_kept, sights};
+use pliron_core::{Context, Operation, Ptr};
+use pliron_test_cases::cases::case_of;
+use pliron_test_cases::runs::{Rewrite, keeps_runs};
 use std::alloc::Global;
-use std::process::Abort;
 
 const ENOUGH: usize = 60;
 
-fn compare_in(rt: &impl Abort, alloc: Global, ctx: &mut Context, case: &Case) {
-    let name = case.name;
-    let root = read(alloc, ctx, case.text).expect(rt, "a text");
-    let before = sights(alloc, ctx, root, ENOUGH).expect(rt, "memory");
-    assert!(rt; simplify_cfg::<Bench>(alloc, root, ctx).is_ok(), "{name}");
-    let after = sights(alloc, ctx, root, ENOUGH).expect(rt, "memory");
-    assert!(rt; are_kept(&before, &after), "{name}");
-}
+struct Simplify;
 
-fn compare(rt: &impl Abort, alloc: Global, case: &Case) {
-    let mut ctx = Context::new(alloc);
-    compare_in(rt, alloc, &mut ctx, case)
+impl Rewrite for Simplify {
+    fn rewrite(alloc: Global, root: Ptr<Operation>, ctx: &mut Context) -> bool {
+        simplify_cfg::<Bench>(alloc, root, ctx).is_ok()
+    }
 }
 
 #[test]
 fn runs_are_kept(rt: HostRuntime) {
     for line in DEFINED.lines() {
         let case = case_of(line).expect(&rt, "a case");
-        compare(&rt, rt.alloc(), &case);
+        let kept = keeps_runs::<Simplify>(rt.alloc(), case.text, ENOUGH);
+        assert_eq!(&rt; kept, Some(true), "{}", case.name);
     }
 }

@@ -6,21 +6,21 @@ use std::alloc::Global;
 use std::process::Abort;
 use std::test::Fail;
 
-// How many arguments the block has at first; then the place of each argument that is removed; and those
+// A name; how many arguments the block has at first; then the place of each argument that is removed; and those
 // that are left in the end, by their first places. Made by `tools/expected` over plain lists.
 static REMOVALS: &str = "\
-1 0 =>
-5 4 3 2 1 0 =>
-5 0 0 0 0 0 =>
-6 5 3 1 => 0 2 4
-6 0 1 2 => 1 3 5
-6 0 4 0 2 => 2 3
-8 1 5 2 2 0 => 2 5 7
-9 7 7 4 4 1 1 2 => 0 3
-9 2 1 3 2 1 0 2 0 => 7
-10 7 2 0 6 4 0 => 3 4 5 8
-6 1 1 0 => 3 4 5
-12 5 7 9 3 3 5 2 3 0 2 => 1 6";
+the only one -- 1 0 =>
+from the last to the first -- 5 4 3 2 1 0 =>
+from the first to the last -- 5 0 0 0 0 0 =>
+each second, the last first -- 6 5 3 1 => 0 2 4
+each second, the first first -- 6 0 1 2 => 1 3 5
+ends and a middle -- 6 0 4 0 2 => 2 3
+five of eight -- 8 1 5 2 2 0 => 2 5 7
+seven of nine -- 9 7 7 4 4 1 1 2 => 0 3
+eight of nine -- 9 2 1 3 2 1 0 2 0 => 7
+six of ten -- 10 7 2 0 6 4 0 => 3 4 5 8
+three of six, two at one place -- 6 1 1 0 => 3 4 5
+ten of twelve -- 12 5 7 9 3 3 5 2 3 0 2 => 1 6";
 
 fn number(rt: &impl Abort, word: &str) -> usize {
     word.parse::<usize>().ok().expect(rt, "a number")
@@ -71,9 +71,8 @@ pub fn arguments_of(
 }
 
 fn check_case(rt: &impl Abort, alloc: Global, ctx: &mut Context, case: &str) -> Result<(), Fail> {
-    let Some((steps, want)) = case.split_once(" =>") else {
-        return Ok(());
-    };
+    let (name, row) = case.split_once(" -- ").expect(rt, "a name");
+    let (steps, want) = row.split_once(" =>").expect(rt, "a case");
     let (count, steps) = steps.split_once(" ").expect(rt, "steps");
     let count = number(rt, count);
     let op = operation(rt, ctx, head(alloc, CONST, None)?, 0, 1)?;
@@ -83,15 +82,15 @@ fn check_case(rt: &impl Abort, alloc: Global, ctx: &mut Context, case: &str) -> 
         remove_argument(rt, ctx, block, number(rt, word));
     }
     let mut place = 0usize;
-    for name in want.split_whitespace() {
-        let i = number(rt, name);
-        assert!(rt; i < values.len());
+    for word in want.split_whitespace() {
+        let i = number(rt, word);
+        assert!(rt; i < values.len(), "{name}");
         check_argument(rt, ctx, block, place, values[i]);
         assert!(rt; place < 100);
         place += 1;
     }
     assert!(rt; block.is_live(ctx));
-    assert_eq!(rt; block.num_argument(ctx), place, "{case}");
+    assert_eq!(rt; block.num_argument(ctx), place, "{name}");
     Ok(())
 }
 

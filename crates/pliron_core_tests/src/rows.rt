@@ -5,50 +5,50 @@ use pliron_core::InlineList;
 use std::alloc::Global;
 use std::process::Abort;
 
-// The calls on a new list, in turn, and its items in the end. A number is pushed; `set:4=7` writes 7 at index
+// A name, the calls on a new list, in turn, and its items in the end. A number is pushed; `set:4=7` writes 7 at index
 // 4; `remove:4` and `pop` take away; `extend:3` adds another list, of 0, 1 and 2. By hand.
 static CALLS: &str = "\
-=>
-pop =>
-1 => 1
-1 pop =>
-1 pop pop 2 => 2
-1 set:0=7 => 7
-1 remove:0 =>
-1 remove:0 2 3 => 2 3
-1 2 => 1 2
-1 2 pop => 1
-1 2 pop 3 => 1 3
-1 2 set:0=7 => 7 2
-1 2 set:1=7 => 1 7
-1 2 remove:0 => 2
-1 2 remove:1 => 1
-1 2 remove:0 remove:0 =>
-1 2 3 => 1 2 3
-1 2 3 pop => 1 2
-1 2 3 pop pop pop pop =>
-1 2 3 pop pop pop 4 5 => 4 5
-1 2 3 set:0=7 => 7 2 3
-1 2 3 set:2=7 => 1 2 7
-1 2 3 remove:0 => 2 3
-1 2 3 remove:1 => 1 3
-1 2 3 remove:2 4 => 1 2 4
-1 2 3 4 5 6 7 8 9 10 => 1 2 3 4 5 6 7 8 9 10
-1 2 3 4 5 6 7 8 9 10 pop remove:4 set:0=0 => 0 2 3 4 6 7 8 9
-extend:0 =>
-extend:1 => 0
-extend:2 => 0 1
-extend:3 => 0 1 2
-extend:10 => 0 1 2 3 4 5 6 7 8 9
-5 extend:0 => 5
-5 extend:1 => 5 0
-5 extend:2 => 5 0 1
-5 extend:3 => 5 0 1 2
-5 6 extend:0 => 5 6
-5 6 extend:1 => 5 6 0
-5 6 extend:2 => 5 6 0 1
-5 6 7 extend:1 => 5 6 7 0
-5 6 7 extend:2 extend:10 => 5 6 7 0 1 0 1 2 3 4 5 6 7 8 9";
+no calls -- =>
+pop of none -- pop =>
+push of one -- 1 => 1
+pop of one -- 1 pop =>
+pops of one, then a push -- 1 pop pop 2 => 2
+set of one -- 1 set:0=7 => 7
+removal of one -- 1 remove:0 =>
+removal of one, then pushes -- 1 remove:0 2 3 => 2 3
+push of two -- 1 2 => 1 2
+pop of two -- 1 2 pop => 1
+pop of two, then a push -- 1 2 pop 3 => 1 3
+set of the first of two -- 1 2 set:0=7 => 7 2
+set of the last of two -- 1 2 set:1=7 => 1 7
+removal of the first of two -- 1 2 remove:0 => 2
+removal of the last of two -- 1 2 remove:1 => 1
+removal of both -- 1 2 remove:0 remove:0 =>
+push of three -- 1 2 3 => 1 2 3
+pop of three -- 1 2 3 pop => 1 2
+pops of three -- 1 2 3 pop pop pop pop =>
+pops of three, then pushes -- 1 2 3 pop pop pop 4 5 => 4 5
+set of the first of three -- 1 2 3 set:0=7 => 7 2 3
+set of the last of three -- 1 2 3 set:2=7 => 1 2 7
+removal of the first of three -- 1 2 3 remove:0 => 2 3
+removal of the second of three -- 1 2 3 remove:1 => 1 3
+removal of the last of three, then a push -- 1 2 3 remove:2 4 => 1 2 4
+push of ten -- 1 2 3 4 5 6 7 8 9 10 => 1 2 3 4 5 6 7 8 9 10
+pop, removal and set of ten -- 1 2 3 4 5 6 7 8 9 10 pop remove:4 set:0=0 => 0 2 3 4 6 7 8 9
+none by none -- extend:0 =>
+none by one -- extend:1 => 0
+none by two -- extend:2 => 0 1
+none by three -- extend:3 => 0 1 2
+none by ten -- extend:10 => 0 1 2 3 4 5 6 7 8 9
+one by none -- 5 extend:0 => 5
+one by one -- 5 extend:1 => 5 0
+one by two -- 5 extend:2 => 5 0 1
+one by three -- 5 extend:3 => 5 0 1 2
+two by none -- 5 6 extend:0 => 5 6
+two by one -- 5 6 extend:1 => 5 6 0
+two by two -- 5 6 extend:2 => 5 6 0 1
+three by one -- 5 6 7 extend:1 => 5 6 7 0
+three by two, then by ten -- 5 6 7 extend:2 extend:10 => 5 6 7 0 1 0 1 2 3 4 5 6 7 8 9";
 
 fn number(rt: &impl Abort, word: &str) -> u32 {
     word.parse::<u32>().ok().expect(rt, "a number")
@@ -91,29 +91,30 @@ fn call(rt: &impl Abort, alloc: Global, row: &mut InlineList<u32>, word: &str) {
     }
 }
 
-fn check_items(rt: &impl Abort, row: &InlineList<u32>, items: &str) {
+fn check_items(rt: &impl Abort, row: &InlineList<u32>, items: &str, name: &str) {
     let mut count = 0;
     let mut last = None;
     for word in items.split_whitespace() {
         let item = number(rt, word);
-        assert!(rt; count < row.len());
-        assert_eq!(rt; row.get(count), item);
+        assert!(rt; count < row.len(), "{name}");
+        assert_eq!(rt; row.get(count), item, "{name}");
         last = Some(item);
         count += 1;
     }
-    assert_eq!(rt; row.len(), count);
-    assert_eq!(rt; row.is_empty(), count == 0);
-    assert_eq!(rt; row.last(), last);
+    assert_eq!(rt; row.len(), count, "{name}");
+    assert_eq!(rt; row.is_empty(), count == 0, "{name}");
+    assert_eq!(rt; row.last(), last, "{name}");
 }
 
 #[test]
 fn calls_on_rows(rt: HostRuntime) {
     for line in CALLS.lines() {
-        let (calls, items) = line.split_once("=>").expect(&rt, "a case");
+        let (name, case) = line.split_once(" -- ").expect(&rt, "a name");
+        let (calls, items) = case.split_once("=>").expect(&rt, "a case");
         let mut row = InlineList::new(rt.alloc());
         for word in calls.split_whitespace() {
             call(&rt, rt.alloc(), &mut row, word);
         }
-        check_items(&rt, &row, items);
+        check_items(&rt, &row, items, name);
     }
 }

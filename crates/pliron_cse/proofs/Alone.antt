@@ -5,7 +5,7 @@ use Rattle.std.specs.Cmp.Lexicographic.{pointwise, same_text, other_text}
 use Rattle.pliron_core.specs.Tree.{Tree, IsLive}
 use Rattle.pliron_laws.specs.Datum.{Head}
 use Rattle.pliron_cse.specs.Keys.{key_words}
-use Rattle.pliron_cse.specs.Steps.{MayRepeat, LeadsAt, AreFound, StaysAlone}
+use Rattle.pliron_cse.specs.MergingSteps.{MayRepeat, LeadsAt, AreFound, StaysAlone}
 use Rattle.pliron_cse.proofs.KeyLemmas.{same_key_alike, alike_same_key, alike_repeats}
 
 same_or_not : (xs ys : List ℕ) → (xs ≡ ys) ⊎ (xs ≢ ys)

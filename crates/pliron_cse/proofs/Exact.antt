@@ -20,7 +20,7 @@ use Rattle.pliron_order.proofs.NumberLemmas.{at_in}
 use Rattle.pliron_order.proofs.PreorderLemmas.{in_at}
 use Rattle.pliron_cse.specs.Keys.{head_words_of, operand_words, key_words, region_around}
 use Rattle.pliron_cse.specs.Left.{HasRedundancy, UsesAreBehind, LeavesNoRedundancy, ReportsEquivalent}
-use Rattle.pliron_cse.specs.Steps.{MayRepeat, AreNearAlike, LeadsAt, AreFound, StaysAlone, AreNotRedundant, IsOrdered, IsExact}
+use Rattle.pliron_cse.specs.MergingSteps.{MayRepeat, AreNearAlike, LeadsAt, AreFound, StaysAlone, AreNotRedundant, IsOrdered, IsExact}
 use Rattle.pliron_cse.specs.Taking.{IsPair}
 use Rattle.pliron_cse.proofs.Moved.{moved_regions, moved_successors}
 use Rattle.pliron_cse.proofs.OnWay.{merged_stands, merged_seen, merged_gone, merged_fewer, row_of_merged, operands_of_merged, successors_of_merged, place_of_merged}

@@ -11,7 +11,7 @@ use Rattle.pliron_core.specs.declared.attrs.Head.{Head}
 use Rattle.pliron_core.specs.Tree.{Tree, IsLive, head_of, operands_of, results_of}
 use Rattle.pliron_core.proofs.HoldingLemmas.{some_of}
 use Rattle.pliron_cse.specs.Keys.{int_words, attr_words, attrs_words, flag_word, head_words, head_words_of, region_around, operand_words, key_words}
-use Rattle.pliron_cse.specs.Steps.{MayRepeat, AreNearAlike}
+use Rattle.pliron_cse.specs.MergingSteps.{MayRepeat, AreNearAlike}
 
 -- lists of one length in front
 split_front : (xs ys r s : List ℕ) → length xs ≡ length ys → xs ++ r ≡ ys ++ s → (xs ≡ ys) × (r ≡ s)

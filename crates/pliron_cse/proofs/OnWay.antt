@@ -25,7 +25,7 @@ use Rattle.pliron_order.proofs.NumberLemmas.{at_in}
 use Rattle.pliron_order.proofs.PreorderLemmas.{distinct_at}
 use Rattle.pliron_order.proofs.SeenLemmas.{seen_inside}
 use Rattle.pliron_cse.specs.Keys.{region_around}
-use Rattle.pliron_cse.specs.Steps.{AreNearAlike, IsOrdered, IsOnWay}
+use Rattle.pliron_cse.specs.MergingSteps.{AreNearAlike, IsOrdered, IsOnWay}
 use Rattle.pliron_cse.specs.Taking.{IsPair, Pair, TakeInTurn}
 use Rattle.pliron_cse.proofs.Changing.{links_all, inside_all, changing}
 use Rattle.pliron_cse.proofs.ErasedEdges.{erased_alike}

@@ -9,7 +9,7 @@ use Rattle.pliron_laws.specs.Laws.{KeepsCounts, GivesAtOnce}
 use Rattle.pliron_laws.specs.Linked.{IsWellLinked}
 use Rattle.pliron_equivalence.specs.Merging.{after_merging, partly_merged}
 use Rattle.pliron_cse.specs.Left.{LeavesNoRedundancy, ReportsEquivalent}
-use Rattle.pliron_cse.specs.Steps.{IsOnWay, IsOrdered, IsTaking, LeadsAt, LeadsOn, TakesInPart, TakesOrStays, ReportsErased, status_after}
+use Rattle.pliron_cse.specs.MergingSteps.{IsOnWay, IsOrdered, IsTaking, LeadsAt, LeadsOn, TakesInPart, TakesOrStays, ReportsErased, status_after}
 use Rattle.pliron_cse.specs.Taking.{IsPair, IsTakenSoFar, Pair}
 use Rattle.pliron_cse.proofs.Exact.{exact_start, exact_merged, exact_stays, exact_end}
 use Rattle.pliron_cse.proofs.OnWay.{way_start, way_more, way_merged, way_partly, ordered_merged, ordered_on, merged_gone, pair_of, turn_more}

@@ -4,7 +4,7 @@ ghost use Rattle.pliron_core.specs.Tree.{IsLive};
 ghost use Rattle.pliron_laws.specs.Linked.{IsWellLinked};
 ghost use Rattle.pliron_cse.specs.Leaders.{leader_with};
 ghost use Rattle.pliron_cse.specs.Left.{LeavesNoRedundancy, ReportsEquivalent};
-ghost use Rattle.pliron_cse.specs.Steps.{AreNearAlike, IsOnWay, IsOrdered, LeadsAt, LeadsOn, MayRepeat, TakesInPart, TakesOrStays, ReportsErased, status_after};
+ghost use Rattle.pliron_cse.specs.MergingSteps.{AreNearAlike, IsOnWay, IsOrdered, LeadsAt, LeadsOn, MayRepeat, TakesInPart, TakesOrStays, ReportsErased, status_after};
 ghost use Rattle.pliron_cse.specs.Taking.{IsTakenSoFar, Pair, TakeInTurn};
 
 use crate::keys::{key_of, region_of_operation};

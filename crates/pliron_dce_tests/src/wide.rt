@@ -4,7 +4,7 @@
 ghost use Rattle.std.specs.Prelude.{◌<◌};
 
 use super::texts::check;
-use pliron_test_cases::cases::Case;
+use pliron_test_cases::cases::{Case, Row, row_of};
 use std::alloc::Global;
 use std::process::Abort;
 use std::test::Fail;
@@ -12,27 +12,29 @@ use std::test::Fail;
 // `%front%` and `%back%` are the two halves of the arguments, `%to_front%` and `%to_back%` what is forwarded to them,
 // and `%ones%` is `o` for each of a half. `%others%` and `%more%` are arguments that nothing uses.
 static WIDE: &str = "\
-func { b0(): o = const 1; br b1(%ones%, %ones%); b1(%front%, %back%): br b1(%to_front%, %to_back%) } \
-    => func { b0(): br b1(); b1(): br b1() }
-func { b0(): o = const 1; br b1(o, %ones%, o, %ones%, o); b1(x, %front%, y, %back%, z): print x; print y; print z; \
-    br b1(y, %to_front%, z, %to_back%, x) } \
-    => func { b0(): v0 = const 1; br b1(v0, v0, v0); b1(v1, v2, v3): print v1; print v2; print v3; br b1(v2, v3, v1) }
-func { b0(): o = const 1; br b1(%ones%, %ones%); b1(%front%, %back%): r = read; cbr r b1(%to_front%, %to_back%) b1(%to_front%, %to_back%) } \
-    => func { b0(): br b1(); b1(): v0 = read; cbr v0 b1() b1() }
-func { b0(): o = const 1; br b1(o, %ones%, o, %ones%, o); b1(x, %front%, y, %back%, z): print x; print y; print z; \
-    cbr x b1(y, %to_front%, z, %to_back%, x) b1(o, %to_front%, y, %to_back%, z) } \
-    => func { b0(): v0 = const 1; br b1(v0, v0, v0); b1(v1, v2, v3): print v1; print v2; print v3; cbr v1 b1(v2, v3, v1) b1(v0, v2, v3) }
-func { b0(): o = const 1; br b1(o, %ones%, %ones%); b1(x, %front%, %back%): print x; \
-    cbr x b1(x, %to_front%, %to_back%) b2(x, %to_front%, %to_back%, x); b2(p, %others%, %more%, q): ret q } \
-    => func { b0(): v0 = const 1; br b1(v0); b1(v1): print v1; cbr v1 b1(v1) b2(v1); b2(v2): ret v2 }
-func { b0(): o = const 1; br b1(%ones%, %ones%); b1(%front%, %back%): br b1(%to_front%, %to_back%); b2(): br b1(%ones%, o); b3(): br b1() } \
-    => func { b0(): br b1(); b1(): br b1(); b2(): br b1(); b3(): br b1() }
-func { b0(): box { b0(): o = const 1; br b1(%ones%, %ones%); b1(%front%, %back%): br b1(%to_front%, %to_back%) }; ret } \
-    => func { b0(): ret }
-func { b0(): o = const 1; br b1(%ones%, %ones%); b1(%front%, %back%): box { b0(): br b1(%to_front%, %to_back%); b1(%others%, %more%): ret }; \
-    br b1(%to_front%, %to_back%) } \
-    => func { b0(): br b1(); b1(): br b1() }
-";
+all go -- func { b0(): o = const 1; br b1(%ones%, %ones%); b1(%front%, %back%): br b1(%to_front%, %to_back%) } => \
+    func { b0(): br b1(); b1(): br b1() }
+three stay -- func { b0(): o = const 1; br b1(o, %ones%, o, %ones%, o); b1(x, %front%, y, %back%, z): print x; \
+    print y; print z; br b1(y, %to_front%, z, %to_back%, x) } => func { b0(): v0 = const 1; br b1(v0, v0, v0); \
+    b1(v1, v2, v3): print v1; print v2; print v3; br b1(v2, v3, v1) }
+all go, along both edges of a branch -- func { b0(): o = const 1; br b1(%ones%, %ones%); b1(%front%, %back%): r = \
+    read; cbr r b1(%to_front%, %to_back%) b1(%to_front%, %to_back%) } => func { b0(): br b1(); b1(): v0 = read; \
+    cbr v0 b1() b1() }
+three stay, along both edges of a branch -- func { b0(): o = const 1; br b1(o, %ones%, o, %ones%, o); b1(x, \
+    %front%, y, %back%, z): print x; print y; print z; cbr x b1(y, %to_front%, z, %to_back%, x) b1(o, %to_front%, \
+    y, %to_back%, z) } => func { b0(): v0 = const 1; br b1(v0, v0, v0); b1(v1, v2, v3): print v1; print v2; print \
+    v3; cbr v1 b1(v2, v3, v1) b1(v0, v2, v3) }
+the first stays, and others go elsewhere -- func { b0(): o = const 1; br b1(o, %ones%, %ones%); b1(x, %front%, \
+    %back%): print x; cbr x b1(x, %to_front%, %to_back%) b2(x, %to_front%, %to_back%, x); b2(p, %others%, %more%, \
+    q): ret q } => func { b0(): v0 = const 1; br b1(v0); b1(v1): print v1; cbr v1 b1(v1) b2(v1); b2(v2): ret v2 }
+all go, with jumps from unreached blocks -- func { b0(): o = const 1; br b1(%ones%, %ones%); b1(%front%, %back%): \
+    br b1(%to_front%, %to_back%); b2(): br b1(%ones%, o); b3(): br b1() } => func { b0(): br b1(); b1(): br b1(); \
+    b2(): br b1(); b3(): br b1() }
+all go, in a box -- func { b0(): box { b0(): o = const 1; br b1(%ones%, %ones%); b1(%front%, %back%): br \
+    b1(%to_front%, %to_back%) }; ret } => func { b0(): ret }
+all go, with a jump in a box -- func { b0(): o = const 1; br b1(%ones%, %ones%); b1(%front%, %back%): box { b0(): \
+    br b1(%to_front%, %to_back%); b1(%others%, %more%): ret }; br b1(%to_front%, %to_back%) } => func { b0(): br \
+    b1(); b1(): br b1() }";
 
 // How many arguments are in a half. A list of 64 is a short one, and one of 66 has an index.
 static HALVES: [u8; 4] = [3, 32, 33, 150];
@@ -103,15 +105,15 @@ fn fill_case(rt: &impl Abort, alloc: Global, case: &str, half: usize) -> String
 fn check_filled(rt: &impl Abort, alloc: Global, case: &str, half: usize) -> Result<(), Fail>
     requires { half < 256 }
 {
-    let Some((before, after)) = case.split_once(" => ") else {
-        return Err(Fail::from("no arrow"));
+    let Some(Row { name, asked, want }) = row_of(case) else {
+        return Err(Fail::from("no case"));
     };
-    let text = fill_case(rt, alloc, before, half);
+    let text = fill_case(rt, alloc, asked, half);
     let case = Case {
-        name: before,
+        name,
         answer: "C",
         text: text.as_str(),
-        after,
+        after: want,
     };
     check(rt, alloc, &case)
 }

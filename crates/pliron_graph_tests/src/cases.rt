@@ -1,15 +1,35 @@
-//! How cases are read. A graph is the successors of its nodes 0, 1, 2, .., each list closed by a semicolon.
+//! How cases are read: a line `NAME -- ASKED => ANSWER`. A graph is the successors of its nodes 0, 1, 2, .., each list closed by a semicolon.
 ghost use Rattle.pliron_traversal.specs.Adjacency.{AreInverse};
 
 use pliron_graph::AdjacencyList;
 use std::alloc::Global;
 use std::process::Abort;
 
-/// What is asked, of which graph, and the answer.
-pub fn parts<'t>(rt: &impl Abort, case: &'t str) -> (&'t str, &'t str, &'t str) {
+/// A case of a table.
+#[derive(Clone, Copy)]
+pub struct Case<'t> {
+    /// What a failure prints.
+    pub name: &'t str,
+    /// A graph, behind a word and a colon for what is asked of it where the table asks for more than one thing.
+    pub asked: &'t str,
+    /// The answer.
+    pub want: &'t str,
+}
+
+/// The case of a line.
+pub fn case_of<'t>(rt: &impl Abort, line: &'t str) -> Case<'t> {
+    let (name, case) = line.split_once(" -- ").expect(rt, "a name");
     let (asked, answer) = case.split_once(" =>").expect(rt, "a case");
-    let (what, rows) = asked.split_once(": ").expect(rt, "a question");
-    (what, rows, answer.trim())
+    Case {
+        name,
+        asked,
+        want: answer.trim(),
+    }
+}
+
+/// What the case asks, and of which graph.
+pub fn question_of<'t>(rt: &impl Abort, case: &Case<'t>) -> (&'t str, &'t str) {
+    case.asked.split_once(": ").expect(rt, "a question")
 }
 
 // The numbers of a list.

@@ -2,41 +2,52 @@
 ghost use Rattle.pliron_core.specs.Tree.{IsRegion};
 ghost use Rattle.pliron_traversal.specs.Regions.{IsLawfulRegion};
 
-use crate::cases::{parts, rows_of};
+use crate::cases::{case_of, question_of, rows_of};
 use crate::texts::answer;
 use pliron_core::{Attrs, BasicBlock, Context, Head, Operation, Ptr, Region};
 use pliron_laws::edges_last;
 use std::alloc::Global;
 use std::process::Abort;
 
-static REGIONS: &str =
-    "orders: 1 2;3;3;; => [block3 block1 block2 block0] / [block0 block2 block1 block3] / block3 block1 block2 block0 / block0 block2 block1 block3
-orders: 1;2;0;; => [block2 block1 block0][block3] / [block0 block1 block2][block3] / block2 block1 block0 block3 / block0 block1 block2 block3
-orders: ;0 2;1; => [block0][block2 block1] / [block0][block1 block2] / block0 block2 block1 / block0 block1 block2
-searches: 1 2;2;1;0; => block0 block1 block2 / block2 block1 block0 / block0 block1 block2 / block0=0/2/0 block1=1/1/1 block2=2/0/2 block3=-
-searches: 1 2;3;3;0 3; => block0 block1 block3 block2 / block3 block1 block2 block0 / block0 block2 block1 block3 / block0=0/3/0 block1=1/1/2 block2=3/2/1 block3=2/0/3
-edges: 1 2;3;3;0 3; => block0>block1:Forward block0>block2:Forward block1>block3:Forward block2>block3:Cross block3>block0:Back block3>block3:Back
-components: 1 2;3;4;;2;3; => [block5] [block0] [block4 block2]* [block1] [block3]
-neighbours: 1 1;1;1 1; => >block0>block1 block1, block0 block1 block2>block1>block1, >block2>block1 block1
-indices: 1 1;1;1 1; => >block0>block1 block1, block0 block1 block2>block1>block1, >block2>block1 block1
-entry: 1 1;1;1 1; => block0
-entry:  => none";
+static REGIONS: &str = "\
+orders, a diamond -- orders: 1 2;3;3;; => [block3 block1 block2 block0] / [block0 block2 block1 block3] / block3 \
+    block1 block2 block0 / block0 block2 block1 block3
+orders, a ring and a node -- orders: 1;2;0;; => [block2 block1 block0][block3] / [block0 block1 block2][block3] / \
+    block2 block1 block0 block3 / block0 block1 block2 block3
+orders, a ring that leads to the first node -- orders: ;0 2;1; => [block0][block2 block1] / [block0][block1 \
+    block2] / block0 block2 block1 / block0 block1 block2
+searches, a ring of two and an unreached node -- searches: 1 2;2;1;0; => block0 block1 block2 / block2 block1 \
+    block0 / block0 block1 block2 / block0=0/2/0 block1=1/1/1 block2=2/0/2 block3=-
+searches, a diamond in a loop -- searches: 1 2;3;3;0 3; => block0 block1 block3 block2 / block3 block1 block2 \
+    block0 / block0 block2 block1 block3 / block0=0/3/0 block1=1/1/2 block2=3/2/1 block3=2/0/3
+edges, a diamond in a loop -- edges: 1 2;3;3;0 3; => block0>block1:Forward block0>block2:Forward \
+    block1>block3:Forward block2>block3:Cross block3>block0:Back block3>block3:Back
+components, a loop and an unreached node -- components: 1 2;3;4;;2;3; => [block5] [block0] [block4 block2]* \
+    [block1] [block3]
+neighbours, parallel edges to a loop -- neighbours: 1 1;1;1 1; => >block0>block1 block1, block0 block1 \
+    block2>block1>block1, >block2>block1 block1
+indices, parallel edges to a loop -- indices: 1 1;1;1 1; => >block0>block1 block1, block0 block1 \
+    block2>block1>block1, >block2>block1 block1
+entry, parallel edges to a loop -- entry: 1 1;1;1 1; => block0
+entry, no nodes -- entry:  => none";
 
 static REVERSED: &str = "\
-reverse pre-sentinels: 1 2;3;4;;2;3; => block4 block3
-reverse neighbours: 1 2;3;4;;2;3; \
-    => >sentinel>block4 block3, block1 block2>block0>, block3>block1>block0, block4>block2>block0 block4, sentinel>block3>block1 block5, block2 \
-        sentinel>block4>block2, block3>block5>
-reverse searches: 1 2;3;4;;2;3; \
-    => sentinel block4 block2 block0 block3 block1 block5 / block0 block2 block4 block1 block5 block3 sentinel / sentinel block3 block5 block1 block4 block2 \
-        block0 / sentinel=0/6/0 block0=3/0/6 block1=5/3/3 block2=2/1/5 block3=4/5/1 block4=1/2/4 block5=6/4/2
-reverse orders: 1 2;3;4;;2;3; \
-    => [block0 block2 block4 block1 block5 block3 sentinel] / [sentinel block3 block5 block1 block4 block2 block0] / block0 block2 block4 block1 block5 \
-        block3 sentinel / sentinel block3 block5 block1 block4 block2 block0
-reverse components: 1 2;3;4;;2;3; => [sentinel] [block3] [block5] [block1] [block2 block4]* [block0]
-reverse indices: 1 2;3;4;;2;3; \
-    => >sentinel>block4 block3, block1 block2>block0>, block3>block1>block0, block4>block2>block0 block4, sentinel>block3>block1 block5, block2 \
-        sentinel>block4>block2, block3>block5>";
+reverse pre-sentinels, a loop and an unreached node -- reverse pre-sentinels: 1 2;3;4;;2;3; => block4 block3
+reverse neighbours, a loop and an unreached node -- reverse neighbours: 1 2;3;4;;2;3; => >sentinel>block4 block3, \
+    block1 block2>block0>, block3>block1>block0, block4>block2>block0 block4, sentinel>block3>block1 block5, \
+    block2 sentinel>block4>block2, block3>block5>
+reverse searches, a loop and an unreached node -- reverse searches: 1 2;3;4;;2;3; => sentinel block4 block2 block0 \
+    block3 block1 block5 / block0 block2 block4 block1 block5 block3 sentinel / sentinel block3 block5 block1 \
+    block4 block2 block0 / sentinel=0/6/0 block0=3/0/6 block1=5/3/3 block2=2/1/5 block3=4/5/1 block4=1/2/4 \
+    block5=6/4/2
+reverse orders, a loop and an unreached node -- reverse orders: 1 2;3;4;;2;3; => [block0 block2 block4 block1 \
+    block5 block3 sentinel] / [sentinel block3 block5 block1 block4 block2 block0] / block0 block2 block4 block1 \
+    block5 block3 sentinel / sentinel block3 block5 block1 block4 block2 block0
+reverse components, a loop and an unreached node -- reverse components: 1 2;3;4;;2;3; => [sentinel] [block3] \
+    [block5] [block1] [block2 block4]* [block0]
+reverse indices, a loop and an unreached node -- reverse indices: 1 2;3;4;;2;3; => >sentinel>block4 block3, block1 \
+    block2>block0>, block3>block1>block0, block4>block2>block0 block4, sentinel>block3>block1 block5, block2 \
+    sentinel>block4>block2, block3>block5>";
 
 // A new operation in no block, with this many regions.
 fn operation(rt: &impl Abort, alloc: Global, ctx: &mut Context, regions: usize) -> Ptr<Operation> {
@@ -139,24 +150,25 @@ fn check_lawful(rt: &impl Abort, ctx: &Context, region: Ptr<Region>)
     assert!(rt; edges_last(region.get_parent_op(ctx), ctx));
 }
 
-fn check_in(rt: &impl Abort, alloc: Global, ctx: &mut Context, case: &str) {
-    let (what, rows, want) = parts(rt, case);
+fn check_in(rt: &impl Abort, alloc: Global, ctx: &mut Context, line: &str) {
+    let case = case_of(rt, line);
+    let (what, rows) = question_of(rt, &case);
     let region = region_with(rt, alloc, ctx, rows);
     let text = answer(rt, alloc, ctx, &region, what);
-    assert_eq!(rt; text.trim(), want, "{case}");
+    assert_eq!(rt; text.trim(), case.want, "{}", case.name);
 }
 
 // Each case has a context of its own, since the labels of blocks are numbers of the context.
-fn check_case(rt: &impl Abort, alloc: Global, case: &str) {
+fn check_case(rt: &impl Abort, alloc: Global, line: &str) {
     let mut ctx = Context::new(alloc);
-    check_in(rt, alloc, &mut ctx, case)
+    check_in(rt, alloc, &mut ctx, line)
 }
 
 #[test]
 fn worked_regions(rt: HostRuntime) {
     for table in [REGIONS, REVERSED] {
-        for case in table.lines() {
-            check_case(&rt, rt.alloc(), case);
+        for line in table.lines() {
+            check_case(&rt, rt.alloc(), line);
         }
     }
 }

@@ -13,7 +13,7 @@ use pliron_graph::{
 use std::alloc::Global;
 use std::process::Abort;
 
-/// The lists of successors, as the bits of the numbers below 8.
+/// The lists of successors.
 static SETS: &str = ";0;1;0 1;2;0 2;1 2;0 1 2";
 
 fn push_order(rt: &impl Abort, alloc: Global, nodes: OrderIter<'_, u32>, text: &mut String) {
@@ -58,58 +58,69 @@ fn component_text(rt: &impl Abort, alloc: Global, components: &[Scc<u32>]) -> St
     text
 }
 
-fn check_components(rt: &impl Abort, alloc: Global, components: &[Scc<u32>], want: &str) {
-    assert_eq!(rt; component_text(rt, alloc, components).as_str(), want);
+/// A graph, as its rows, and its answers.
+#[derive(Clone, Copy)]
+struct Graph<'t> {
+    rows: &'t str,
+    numbering: &'t str,
+    components: &'t str,
 }
 
-fn check_low_numbers(rt: &impl Abort, alloc: Global, rows: &[Vec<u32>], want: &str) {
-    let components = components_by_low_numbers(rt, alloc, rows);
-    check_components(rt, alloc, &components, want);
+fn check_components(rt: &impl Abort, alloc: Global, components: &[Scc<u32>], graph: &Graph) {
+    let text = component_text(rt, alloc, components);
+    assert_eq!(rt; text.as_str(), graph.components, "{}", graph.rows);
 }
 
-fn check_graph(rt: &impl Abort, alloc: Global, graph: &AdjacencyList, numbers: &str, wanted: &str)
-    requires { AreInverse graph.now }
+fn check_list(rt: &impl Abort, alloc: Global, list: &AdjacencyList, graph: &Graph)
+    requires { AreInverse list.now }
 {
-    assert_eq!(rt; numbering(rt, alloc, graph).as_str(), numbers);
-    let components = sccs_in_topological_order(alloc, &(), graph).expect(rt, "memory");
-    check_components(rt, alloc, &components, wanted);
+    let numbers = numbering(rt, alloc, list);
+    assert_eq!(rt; numbers.as_str(), graph.numbering, "{}", graph.rows);
+    let components = sccs_in_topological_order(alloc, &(), list).expect(rt, "memory");
+    check_components(rt, alloc, &components, graph);
 }
 
-fn check_rows(rt: &impl Abort, alloc: Global, text: &str, numbers: &str, wanted: &str) {
-    let rows = rows_of(rt, alloc, text);
-    check_low_numbers(rt, alloc, &rows, wanted);
-    let graph = graph_of(rt, alloc, rows);
-    check_graph(rt, alloc, &graph, numbers, wanted);
+fn check_graph(rt: &impl Abort, alloc: Global, graph: &Graph) {
+    let rows = rows_of(rt, alloc, graph.rows);
+    let components = components_by_low_numbers(rt, alloc, &rows);
+    check_components(rt, alloc, &components, graph);
+    let list = graph_of(rt, alloc, rows);
+    check_list(rt, alloc, &list, graph);
 }
 
-// The graphs with these successors of the nodes 0 and 1.
-fn check_line(
-    rt: &impl Abort,
-    alloc: Global,
-    first: &str,
-    second: &str,
-    numberings: &str,
-    components: &str,
-) {
-    let mut numberings = numberings.split(' ');
-    let mut components = components.split(' ');
+// What stands in a line behind its name, which is this pair of lists.
+fn items_of<'t>(rt: &impl Abort, line: &'t str, pair: &str) -> &'t str {
+    let (name, items) = line.split_once(" -- ").expect(rt, "a name");
+    assert_eq!(rt; name, pair);
+    items
+}
+
+// The graphs with this pair of lists of successors of the nodes 0 and 1.
+fn check_line(rt: &impl Abort, alloc: Global, pair: &str, numberings: &str, components: &str) {
+    let mut numberings = items_of(rt, numberings, pair).split(' ');
+    let mut components = items_of(rt, components, pair).split(' ');
     for third in SETS.split(';') {
-        let numbers = numberings.next().expect(rt, "a numbering for each list");
-        let wanted = components.next().expect(rt, "components for each list");
-        let text = format!(in alloc; "{first};{second};{third};").expect(rt, "memory");
-        check_rows(rt, alloc, text.as_str(), numbers, wanted);
+        let rows = format!(in alloc; "{pair};{third};").expect(rt, "memory");
+        let graph = Graph {
+            rows: rows.as_str(),
+            numbering: numberings.next().expect(rt, "a numbering for each list"),
+            components: components.next().expect(rt, "components for each list"),
+        };
+        check_graph(rt, alloc, &graph);
     }
 }
 
 #[test]
 fn graphs_of_three_nodes(rt: HostRuntime) {
+    let alloc = rt.alloc();
     let mut numberings = NUMBERINGS.lines();
     let mut components = COMPONENTS.lines();
     for first in SETS.split(';') {
         for second in SETS.split(';') {
+            let pair = format!(in alloc; "{first};{second}").expect(&rt, "memory");
             let numbers = numberings.next().expect(&rt, "a line for each pair");
             let wanted = components.next().expect(&rt, "a line for each pair");
-            check_line(&rt, rt.alloc(), first, second, numbers, wanted);
+            check_line(&rt, alloc, pair.as_str(), numbers, wanted);
         }
     }
 }

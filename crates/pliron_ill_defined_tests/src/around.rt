@@ -1,5 +1,5 @@
 //! What is around each operation and each block, in each region.
-use super::texts::TEXTS;
+use super::texts::{TEXTS, name_and_text};
 use super::trees::{all_of, blocks_of, holders_of};
 use pliron_bench::{Bench, BenchKind};
 use pliron_core::{BasicBlock, Context, Operation, Ptr, Region};
@@ -88,8 +88,9 @@ fn check_holder(
     }
 }
 
-fn check_text(rt: &impl Abort, alloc: Global, ctx: &mut Context, text: &str) {
-    let whole = read(alloc, ctx, text).expect(rt, "a readable text");
+fn check_case(rt: &impl Abort, alloc: Global, ctx: &mut Context, case: &str) {
+    let (name, text) = name_and_text(rt, case);
+    let whole = read(alloc, ctx, text).expect(rt, name);
     let all = all_of(rt, alloc, whole, ctx);
     let holders = holders_of(rt, alloc, whole, ctx);
     let mut blocks = Vec::new(alloc);
@@ -109,14 +110,14 @@ fn check_text(rt: &impl Abort, alloc: Global, ctx: &mut Context, text: &str) {
     }
 }
 
-fn check(rt: &impl Abort, alloc: Global, text: &str) {
+fn check(rt: &impl Abort, alloc: Global, case: &str) {
     let mut ctx = Context::new(alloc);
-    check_text(rt, alloc, &mut ctx, text)
+    check_case(rt, alloc, &mut ctx, case)
 }
 
 #[test]
 fn what_stands_around(rt: HostRuntime) {
-    for text in TEXTS.lines() {
-        check(&rt, rt.alloc(), text);
+    for case in TEXTS.lines() {
+        check(&rt, rt.alloc(), case);
     }
 }

@@ -3,7 +3,7 @@ ghost use Rattle.std.specs.Prelude.{IsTrue};
 ghost use Rattle.pliron_core.specs.Tree.{IsRegion};
 ghost use Rattle.pliron_traversal.specs.Regions.{IsLawfulRegion};
 
-use super::texts::TEXTS;
+use super::texts::{TEXTS, name_and_text};
 use super::trees::{blocks_of, holders_of};
 use pliron_core::{Context, Operation, Ptr, Region};
 use pliron_dominance::DominatorTree;
@@ -124,21 +124,22 @@ fn check_region(rt: &impl Abort, alloc: Global, holder: Ptr<Operation>, ctx: &Co
     check_graph(rt, alloc, ctx, &reverse, nodes.saturating_add(1));
 }
 
-fn check_text(rt: &impl Abort, alloc: Global, ctx: &mut Context, text: &str) {
-    let whole = read(alloc, ctx, text).expect(rt, "a readable text");
+fn check_case(rt: &impl Abort, alloc: Global, ctx: &mut Context, case: &str) {
+    let (name, text) = name_and_text(rt, case);
+    let whole = read(alloc, ctx, text).expect(rt, name);
     for holder in &holders_of(rt, alloc, whole, ctx) {
         check_region(rt, alloc, *holder, ctx);
     }
 }
 
-fn check(rt: &impl Abort, alloc: Global, text: &str) {
+fn check(rt: &impl Abort, alloc: Global, case: &str) {
     let mut ctx = Context::new(alloc);
-    check_text(rt, alloc, &mut ctx, text)
+    check_case(rt, alloc, &mut ctx, case)
 }
 
 #[test]
 fn graphs_of_regions(rt: HostRuntime) {
-    for text in TEXTS.lines() {
-        check(&rt, rt.alloc(), text);
+    for case in TEXTS.lines() {
+        check(&rt, rt.alloc(), case);
     }
 }

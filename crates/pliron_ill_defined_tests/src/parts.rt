@@ -4,7 +4,7 @@ ghost use Rattle.pliron_core.specs.Tree.{IsLive};
 ghost use Rattle.pliron_laws.specs.Linked.{IsWellLinked};
 
 use super::left::{answer_if_any, check_left, whole_line};
-use super::texts::{BLOCKS, HOLDERS, MOST, TEXTS};
+use super::texts::{BLOCKS, HOLDERS, MOST, TEXTS, name_and_text};
 use super::trees::{blocks_of, holders_of};
 use pliron_bench::Bench;
 use pliron_cfg::{
@@ -161,11 +161,12 @@ fn check_region(
     rt: &impl Abort,
     alloc: Global,
     ctx: &mut Context,
-    text: &str,
+    case: &str,
     index: usize,
     call: Call,
 ) -> bool {
-    let whole = read(alloc, ctx, text).expect(rt, "a readable text");
+    let (name, text) = name_and_text(rt, case);
+    let whole = read(alloc, ctx, text).expect(rt, name);
     let Some(holder) = holders_of(rt, alloc, whole, ctx).get(index).copied() else {
         return false;
     };
@@ -198,11 +199,12 @@ fn check_block(
     rt: &impl Abort,
     alloc: Global,
     ctx: &mut Context,
-    text: &str,
+    case: &str,
     index: usize,
     call: Call,
 ) -> bool {
-    let whole = read(alloc, ctx, text).expect(rt, "a readable text");
+    let (name, text) = name_and_text(rt, case);
+    let whole = read(alloc, ctx, text).expect(rt, name);
     let Some(held) = all_blocks(rt, alloc, whole, ctx).get(index).copied() else {
         return false;
     };
@@ -212,29 +214,29 @@ fn check_block(
 }
 
 // Calls it on the region with this index, if there is one.
-fn check_one_region(rt: &impl Abort, alloc: Global, text: &str, index: usize, call: Call) -> bool {
+fn check_one_region(rt: &impl Abort, alloc: Global, case: &str, index: usize, call: Call) -> bool {
     let mut ctx = Context::new(alloc);
-    check_region(rt, alloc, &mut ctx, text, index, call)
+    check_region(rt, alloc, &mut ctx, case, index, call)
 }
 
 // Calls it on the block with this index, if there is one.
-fn check_one_block(rt: &impl Abort, alloc: Global, text: &str, index: usize, call: Call) -> bool {
+fn check_one_block(rt: &impl Abort, alloc: Global, case: &str, index: usize, call: Call) -> bool {
     let mut ctx = Context::new(alloc);
-    check_block(rt, alloc, &mut ctx, text, index, call)
+    check_block(rt, alloc, &mut ctx, case, index, call)
 }
 
-fn check_all_regions(rt: &impl Abort, alloc: Global, text: &str, call: Call) -> usize {
+fn check_all_regions(rt: &impl Abort, alloc: Global, case: &str, call: Call) -> usize {
     for index in 0..MOST {
-        if !check_one_region(rt, alloc, text, index, call) {
+        if !check_one_region(rt, alloc, case, index, call) {
             return index;
         }
     }
     MOST
 }
 
-fn check_all_blocks(rt: &impl Abort, alloc: Global, text: &str, call: Call) -> usize {
+fn check_all_blocks(rt: &impl Abort, alloc: Global, case: &str, call: Call) -> usize {
     for index in 0..MOST {
-        if !check_one_block(rt, alloc, text, index, call) {
+        if !check_one_block(rt, alloc, case, index, call) {
             return index;
         }
     }
@@ -245,8 +247,8 @@ fn check_all_blocks(rt: &impl Abort, alloc: Global, text: &str, call: Call) -> u
 fn each_call_on_a_region_answers(rt: HostRuntime) {
     for call in &CALLS {
         let mut count = 0usize;
-        for text in TEXTS.lines() {
-            count = count.saturating_add(check_all_regions(&rt, rt.alloc(), text, *call));
+        for case in TEXTS.lines() {
+            count = count.saturating_add(check_all_regions(&rt, rt.alloc(), case, *call));
         }
         assert_eq!(&rt; count, HOLDERS);
     }
@@ -256,8 +258,8 @@ fn each_call_on_a_region_answers(rt: HostRuntime) {
 fn each_call_on_a_block_answers(rt: HostRuntime) {
     for call in &CALLS {
         let mut count = 0usize;
-        for text in TEXTS.lines() {
-            count = count.saturating_add(check_all_blocks(&rt, rt.alloc(), text, *call));
+        for case in TEXTS.lines() {
+            count = count.saturating_add(check_all_blocks(&rt, rt.alloc(), case, *call));
         }
         assert_eq!(&rt; count, BLOCKS);
     }

@@ -1,5 +1,5 @@
 //! Calls that read a tree: whether it is fit to run, its contents, what is cached of it, its runs and its texts.
-use super::texts::TEXTS;
+use super::texts::{TEXTS, name_and_text};
 use super::trees::{all_of, blocks_of, holders_of};
 use pliron_bench::Bench;
 use pliron_core::{BasicBlock, Context, Operation, Ptr};
@@ -148,8 +148,9 @@ fn check_asked(rt: &impl Abort, op: Ptr<Operation>, ctx: &Context) {
     assert!(rt; !Bench::is_branch(op, ctx) || op.num_successor(ctx) != 0);
 }
 
-fn check_text(rt: &impl Abort, alloc: Global, ctx: &mut Context, text: &str) {
-    let whole = read(alloc, ctx, text).expect(rt, "a readable text");
+fn check_case(rt: &impl Abort, alloc: Global, ctx: &mut Context, case: &str) {
+    let (name, text) = name_and_text(rt, case);
+    let whole = read(alloc, ctx, text).expect(rt, name);
     let holders = holders_of(rt, alloc, whole, ctx);
     check_hostile(rt, alloc, &holders, ctx);
     for holder in &holders {
@@ -167,14 +168,14 @@ fn check_text(rt: &impl Abort, alloc: Global, ctx: &mut Context, text: &str) {
     }
 }
 
-fn check(rt: &impl Abort, alloc: Global, text: &str) {
+fn check(rt: &impl Abort, alloc: Global, case: &str) {
     let mut ctx = Context::new(alloc);
-    check_text(rt, alloc, &mut ctx, text)
+    check_case(rt, alloc, &mut ctx, case)
 }
 
 #[test]
 fn each_call_that_reads_answers(rt: HostRuntime) {
-    for text in TEXTS.lines() {
-        check(&rt, rt.alloc(), text);
+    for case in TEXTS.lines() {
+        check(&rt, rt.alloc(), case);
     }
 }

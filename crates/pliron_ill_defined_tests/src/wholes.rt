@@ -1,6 +1,6 @@
 //! Calls that may change what is inside an operation, on each operation with regions.
 use super::left::{answer_if_any, check_left, whole_line};
-use super::texts::{HOLDERS, MOST, TEXTS};
+use super::texts::{HOLDERS, MOST, TEXTS, name_and_text};
 use super::trees::holders_of;
 use pliron_bench::Bench;
 use pliron_cfg::{fold_branches, merge_inside_op, remove_blocks_inside_op, simplify_cfg};
@@ -105,11 +105,12 @@ fn check_in(
     rt: &impl Abort,
     alloc: Global,
     ctx: &mut Context,
-    text: &str,
+    case: &str,
     index: usize,
     call: Call,
 ) -> bool {
-    let whole = read(alloc, ctx, text).expect(rt, "a readable text");
+    let (name, text) = name_and_text(rt, case);
+    let whole = read(alloc, ctx, text).expect(rt, name);
     let Some(root) = holders_of(rt, alloc, whole, ctx).get(index).copied() else {
         return false;
     };
@@ -118,20 +119,20 @@ fn check_in(
     check_left(rt, alloc, whole, ctx, &before, told);
     if told.is_some() && settles(call) {
         let again = answer_if_any(rt, answer(rt, alloc, root, ctx, call));
-        assert!(rt; again == Some(IRStatus::Unchanged), "{call:?} {text}");
+        assert!(rt; again == Some(IRStatus::Unchanged), "{call:?} {name}");
     }
     true
 }
 
-fn check(rt: &impl Abort, alloc: Global, text: &str, index: usize, call: Call) -> bool {
+fn check(rt: &impl Abort, alloc: Global, case: &str, index: usize, call: Call) -> bool {
     let mut ctx = Context::new(alloc);
-    check_in(rt, alloc, &mut ctx, text, index, call)
+    check_in(rt, alloc, &mut ctx, case, index, call)
 }
 
 // Calls it on each operation with regions, and answers how many these are.
-fn check_all(rt: &impl Abort, alloc: Global, text: &str, call: Call) -> usize {
+fn check_all(rt: &impl Abort, alloc: Global, case: &str, call: Call) -> usize {
     for index in 0..MOST {
-        if !check(rt, alloc, text, index, call) {
+        if !check(rt, alloc, case, index, call) {
             return index;
         }
     }
@@ -142,8 +143,8 @@ fn check_all(rt: &impl Abort, alloc: Global, text: &str, call: Call) -> usize {
 fn each_call_answers(rt: HostRuntime) {
     for call in &CALLS {
         let mut count = 0usize;
-        for text in TEXTS.lines() {
-            count = count.saturating_add(check_all(&rt, rt.alloc(), text, *call));
+        for case in TEXTS.lines() {
+            count = count.saturating_add(check_all(&rt, rt.alloc(), case, *call));
         }
         assert_eq!(&rt; count, HOLDERS);
     }

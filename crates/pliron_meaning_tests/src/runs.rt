@@ -1,86 +1,109 @@
 //! Runs of texts of the bench notation and of trees of the tiny dialect, whose ends were worked out by hand
 //! from the table of moves and the definition of a run.
 //!
-//! A case is a program, its inputs and the world's answers, and after ` => ` how the run ends, with which
+//! A case is a name, a program, its inputs and the world's answers, and after ` => ` how the run ends, with which
 //! values, and with which effects, the latest first. Data are numbers and texts; `a:b` joins two, and `-` is `Empty`.
 use pliron_core::{AttrObj, Attrs, Context, Head, IRRewriter, Operation, Ptr, Rewriter, Text};
 use pliron_meaning::bench::Bench;
 use pliron_meaning::evaluator::{Datum, Sight, evaluate};
 use pliron_meaning::{Tiny, TinyKind};
-use pliron_test_cases::cases::{number, read, sides};
+use pliron_test_cases::cases::{Row, number, read, row_of};
 use pliron_test_cases::trees::build;
 use std::alloc::Global;
 use std::process::Abort;
 
 const ENOUGH: usize = 200;
 
-static RUNS: &str = "func { b0(x): ret x } / 4 5 / => ended / 4 /
-func { b0(x, y): ret y x } / 3 / => ended / 0 3 /
-func { b0(x): } / 3 / => ended / /
-mod { b0(): func { b0(): a = read; print a } } / 3 / 8 9 => ended / /
-func { b0(): a = const -7; b = const 12; ret b a } / / => ended / 12 -7 /
-func { b0(x, y): z = add x y; ret z } / 20 22 / => ended / 42 /
-func { b0(x, y): z = add x y; ret z } / 9223372036854775807 1 / => ended / -9223372036854775808 /
-func { b0(x, y): z = add x y; ret z } / -9223372036854775808 -1 / => ended / 9223372036854775807 /
-func { b0(x, y): z = add x y; ret z } / 18446744073709551617 5 / => ended / 6 /
-func { b0(x, y): z = add x y; ret z } / 9223372036854775808 0 / => ended / -9223372036854775808 /
-func { b0(x, y): z = add x y; ret z } / a 5 / => ended / 5 /
-func { b0(x, y): z = mul x y; ret z } / -6 7 / => ended / -42 /
-func { b0(x, y): z = mul x y; ret z } / 4294967296 4294967296 / => ended / 0 /
-func { b0(x, y): z = mul x y; ret z } / -1 -9223372036854775808 / => ended / -9223372036854775808 /
-func { b0(x, y): print x; z = div x y; ret z } / 7 -2 / 8 9 => ended / -3 / print:7
-func { b0(x, y): print x; z = div x y; ret z } / -7 2 / 8 9 => ended / -3 / print:-7
-func { b0(x, y): print x; z = div x y; ret z } / 5 0 / 8 => trapped / / print:5
-func { b0(x, y): print x; z = div x y; ret z } / -9223372036854775808 -1 / 8 => trapped / / print:-9223372036854775808
-func { b0(): a = read; b = read; ret b a } / / 8 9 => ended / 9 8 / read read
-func { b0(): a = read; b = read; ret b a } / / 8 => reached / / read read
-func { b0(x): print x; y = add x x; print y; ret } / 3 / 8 9 => ended / / print:6 print:3
-func { b0(): a = read; print a; ret a } / / print:4 => reached / / print:print:4 read
-func { b0(): l, r = pair; ret r l r } / / => ended / 2 1 2 /
-func { b0(x): sink x x; sink; ret x } / 6 / => ended / 6 /
-func { b0(x): scope x { b0(p, q): print p; print q; ret p }; ret x } / 4 / 8 9 => ended / 4 / print:0 print:4
-func { b0(x, y): scope x y { b0(p): print p; br b1(); b1(): }; ret y } / 4 5 / 8 9 => ended / 5 / print:4
-func { b0(x): box { b0(): print x; ret }; ret x } / 2 / 8 9 => ended / 2 /
-func { b0(x, y): br b1(y, x); b1(p, q): ret p q } / 21 22 / => ended / 22 21 /
-func { b0(x): br b1(x); b1(): } / 1 / 8 => trapped / /
-func { b0(x): a = const 1; cbr x b1(a) b2(a, x); b1(p): ret p; b2(q, r): ret q r } / 5 / => ended / 1 /
-func { b0(x): a = const 1; cbr x b1(a) b2(a, x); b1(p): ret p; b2(q, r): ret q r } / -1 / => ended / 1 /
-func { b0(x): a = const 1; cbr x b1(a) b2(a, x); b1(p): ret p; b2(q, r): ret q r } / 0 / => ended / 1 0 /
-func { b0(x): a = const 1; cbr x b1(a) b2(a, x); b1(p): ret p; b2(q, r): ret q r } / 18446744073709551616 / => ended / 1 18446744073709551616 /
-func { b0(x): scope { b0(): ret x; print x }; ret x x } / 7 / 8 9 => ended / 7 7 /
-func { b0(x): fork x b1 b2; b1(p, q): ret p q; b2(r): ret r r r } / 3 / => ended / 3 3 /
-func { b0(x): fork x b1 b2; b1(p, q): ret p q; b2(r): ret r r r } / 0 / => ended / 0 0 0 /
-func { b0(n): z = const 0; br b1(n, z); b1(i, s): m = const -1; cbr i b2() b3(); b2(): t = add s i; j = add i m; br b1(j, t); b3(): ret s } / 4 / => ended / 10 /";
+static RUNS: &str = "\
+more inputs than arguments -- func { b0(x): ret x } / 4 5 / => ended / 4 /
+fewer inputs than arguments -- func { b0(x, y): ret y x } / 3 / => ended / 0 3 /
+no operations -- func { b0(x): } / 3 / => ended / /
+a module -- mod { b0(): func { b0(): a = read; print a } } / 3 / 8 9 => ended / /
+two constants -- func { b0(): a = const -7; b = const 12; ret b a } / / => ended / 12 -7 /
+a sum -- func { b0(x, y): z = add x y; ret z } / 20 22 / => ended / 42 /
+a sum past the greatest -- func { b0(x, y): z = add x y; ret z } / 9223372036854775807 1 / => ended / \
+    -9223372036854775808 /
+a sum past the least -- func { b0(x, y): z = add x y; ret z } / -9223372036854775808 -1 / => ended / \
+    9223372036854775807 /
+a sum of a number above 64 bits -- func { b0(x, y): z = add x y; ret z } / 18446744073709551617 5 / => ended / 6 /
+a sum of one above the greatest -- func { b0(x, y): z = add x y; ret z } / 9223372036854775808 0 / => ended / \
+    -9223372036854775808 /
+a sum of a text -- func { b0(x, y): z = add x y; ret z } / a 5 / => ended / 5 /
+a product -- func { b0(x, y): z = mul x y; ret z } / -6 7 / => ended / -42 /
+a product above 64 bits -- func { b0(x, y): z = mul x y; ret z } / 4294967296 4294967296 / => ended / 0 /
+a product past the greatest -- func { b0(x, y): z = mul x y; ret z } / -1 -9223372036854775808 / => ended / \
+    -9223372036854775808 /
+a quotient by a negative number -- func { b0(x, y): print x; z = div x y; ret z } / 7 -2 / 8 9 => ended / -3 / \
+    print:7
+a quotient of a negative number -- func { b0(x, y): print x; z = div x y; ret z } / -7 2 / 8 9 => ended / -3 / \
+    print:-7
+a quotient by 0 -- func { b0(x, y): print x; z = div x y; ret z } / 5 0 / 8 => trapped / / print:5
+a quotient of the least by -1 -- func { b0(x, y): print x; z = div x y; ret z } / -9223372036854775808 -1 / 8 => \
+    trapped / / print:-9223372036854775808
+two reads -- func { b0(): a = read; b = read; ret b a } / / 8 9 => ended / 9 8 / read read
+more reads than answers -- func { b0(): a = read; b = read; ret b a } / / 8 => reached / / read read
+two prints -- func { b0(x): print x; y = add x x; print y; ret } / 3 / 8 9 => ended / / print:6 print:3
+more effects than answers -- func { b0(): a = read; print a; ret a } / / print:4 => reached / / print:print:4 read
+a pair -- func { b0(): l, r = pair; ret r l r } / / => ended / 2 1 2 /
+sinks -- func { b0(x): sink x x; sink; ret x } / 6 / => ended / 6 /
+a scope with more arguments than operands -- func { b0(x): scope x { b0(p, q): print p; print q; ret p }; ret x } \
+    / 4 / 8 9 => ended / 4 / print:0 print:4
+a scope that jumps -- func { b0(x, y): scope x y { b0(p): print p; br b1(); b1(): }; ret y } / 4 5 / 8 9 => ended \
+    / 5 / print:4
+a box, which is not run -- func { b0(x): box { b0(): print x; ret }; ret x } / 2 / 8 9 => ended / 2 /
+a jump that swaps its values -- func { b0(x, y): br b1(y, x); b1(p, q): ret p q } / 21 22 / => ended / 22 21 /
+a jump with more values than arguments -- func { b0(x): br b1(x); b1(): } / 1 / 8 => trapped / /
+a branch on a number above 0 -- func { b0(x): a = const 1; cbr x b1(a) b2(a, x); b1(p): ret p; b2(q, r): ret q r } \
+    / 5 / => ended / 1 /
+a branch on a number below 0 -- func { b0(x): a = const 1; cbr x b1(a) b2(a, x); b1(p): ret p; b2(q, r): ret q r } \
+    / -1 / => ended / 1 /
+a branch on 0 -- func { b0(x): a = const 1; cbr x b1(a) b2(a, x); b1(p): ret p; b2(q, r): ret q r } / 0 / => ended \
+    / 1 0 /
+a branch on a number that is 0 in 64 bits -- func { b0(x): a = const 1; cbr x b1(a) b2(a, x); b1(p): ret p; b2(q, \
+    r): ret q r } / 18446744073709551616 / => ended / 1 18446744073709551616 /
+a return in a scope -- func { b0(x): scope { b0(): ret x; print x }; ret x x } / 7 / 8 9 => ended / 7 7 /
+a fork on a number but 0 -- func { b0(x): fork x b1 b2; b1(p, q): ret p q; b2(r): ret r r r } / 3 / => ended / 3 3 /
+a fork on 0 -- func { b0(x): fork x b1 b2; b1(p, q): ret p q; b2(r): ret r r r } / 0 / => ended / 0 0 0 /
+a loop that counts down -- func { b0(n): z = const 0; br b1(n, z); b1(i, s): m = const -1; cbr i b2() b3(); b2(): \
+    t = add s i; j = add i m; br b1(j, t); b3(): ret s } / 4 / => ended / 10 /";
 
 /// Steps of a tree behind the number of the root.
-static TREES: &str =
-    "0 / scope; block 0; block 0 1; const 1 @0; br @0 b1 v1; ask @1 v0; br @1 b1 v2 / 4 / => reached / / 1
-0 / scope; block 0; block 0 1; const 1 @0; br @0 b1 v1; ask @1 v0; br @1 b1 v2 / 4 / 5 7 => reached / / 7 5 1
-0 / scope; block 0; const 3 @0; const 5 @0; scope @0 v0; block 3 1; ask @1 v2; ask @0 v1 / 4 / 9 8 => ended / / 5 3
-0 / scope; block 0 1; ask @0 v0 / 4 / 0 => ended / / 4
-0 / scope; block 0 1; ask @0 v0; kind 9 @0 / 4 / 2 => trapped / / 4
-0 / ask / 4 / => reached / / 4
-0 / ask / 4 / 6 => ended / 6 / 4
-0 / scope; block 0 / 4 / => ended / /
-0 / scope; block 0; block 0 1; ask @0 v0 / 4 / 2 => trapped / /
-1 / scope; block 0; block 0 1; br @0 b1 / 4 / 2 => trapped / /
-0 / scope; block 0; block 0 1; br @0 b1 / 4 / 2 => trapped / /
-0 / scope / 4 / 2 => trapped / /
-0 / scope; block 0 2; both @0 v0 v1; block 1 2; block 1 1 1; ask @1 v2; ask @1 v3; ask @2 v4 / 4 5 / 1 2 3 => ended / / - - 5
-0 / scope; block 0 1; both @0 v0; block 1 1; block 1 2 1; ask @1 v1; ask @2 v3 / 4 / 1 2 => ended / / - -
-0 / both; block 0 1; block 0 0 1; ask @0 v0 / 4 5 / 1 => ended / / 5
-0 / both; block 0 1; ask @0 v0 / 4 5 / 1 => trapped / / 5
-0 / scope; block 0 1; twice @0 v0; block 1 2; ask @1 v1; ask @1 v2 / 4 / 1 2 3 4 => ended / / - 4 - 4
-0 / scope; block 0 1; twice @0 v0; block 1 1; ask @1 v1 / a:b / 1 2 => ended / / a:b a:b
-0 / scope; block 0 1; twice @0 v0; block 1 1; ask @1 v1 / - / 1 2 => ended / / - -
-0 / scope; block 0 1; twice @0 v0; block 1; ask @1 v0 / 4 / 1 => reached / / 4 4
-0 / twice / 4 / => trapped / /";
+static TREES: &str = "\
+a loop of questions without answers -- 0 / scope; block 0; block 0 1; const 1 @0; br @0 b1 v1; ask @1 v0; br @1 b1 \
+    v2 / 4 / => reached / / 1
+a loop of questions with two answers -- 0 / scope; block 0; block 0 1; const 1 @0; br @0 b1 v1; ask @1 v0; br @1 \
+    b1 v2 / 4 / 5 7 => reached / / 7 5 1
+a question in a scope and one behind it -- 0 / scope; block 0; const 3 @0; const 5 @0; scope @0 v0; block 3 1; ask \
+    @1 v2; ask @0 v1 / 4 / 9 8 => ended / / 5 3
+a question -- 0 / scope; block 0 1; ask @0 v0 / 4 / 0 => ended / / 4
+a kind without a meaning -- 0 / scope; block 0 1; ask @0 v0; kind 9 @0 / 4 / 2 => trapped / / 4
+a question as the root, without an answer -- 0 / ask / 4 / => reached / / 4
+a question as the root -- 0 / ask / 4 / 6 => ended / 6 / 4
+an empty block -- 0 / scope; block 0 / 4 / => ended / /
+a use of another block's argument -- 0 / scope; block 0; block 0 1; ask @0 v0 / 4 / 2 => trapped / /
+a jump as the root -- 1 / scope; block 0; block 0 1; br @0 b1 / 4 / 2 => trapped / /
+a jump with too few values -- 0 / scope; block 0; block 0 1; br @0 b1 / 4 / 2 => trapped / /
+a scope without blocks -- 0 / scope / 4 / 2 => trapped / /
+both, with two operands -- 0 / scope; block 0 2; both @0 v0 v1; block 1 2; block 1 1 1; ask @1 v2; ask @1 v3; ask \
+    @2 v4 / 4 5 / 1 2 3 => ended / / - - 5
+both, with one operand -- 0 / scope; block 0 1; both @0 v0; block 1 1; block 1 2 1; ask @1 v1; ask @2 v3 / 4 / 1 2 \
+    => ended / / - -
+both as the root -- 0 / both; block 0 1; block 0 0 1; ask @0 v0 / 4 5 / 1 => ended / / 5
+both as the root, with one block -- 0 / both; block 0 1; ask @0 v0 / 4 5 / 1 => trapped / / 5
+twice, with two arguments -- 0 / scope; block 0 1; twice @0 v0; block 1 2; ask @1 v1; ask @1 v2 / 4 / 1 2 3 4 => \
+    ended / / - 4 - 4
+twice, on joined data -- 0 / scope; block 0 1; twice @0 v0; block 1 1; ask @1 v1 / a:b / 1 2 => ended / / a:b a:b
+twice, on nothing -- 0 / scope; block 0 1; twice @0 v0; block 1 1; ask @1 v1 / - / 1 2 => ended / / - -
+twice, with an answer for one visit -- 0 / scope; block 0 1; twice @0 v0; block 1; ask @1 v0 / 4 / 1 => reached / \
+    / 4 4
+twice without blocks -- 0 / twice / 4 / => trapped / /";
 
 /// Steps before the bound, and what is reached then of the loop: a visit, a constant, a jump, a question,
 /// its answer, a jump, a question.
-static BOUNDS: &str = "3 =>
-6 => 1
-7 => 8 1";
+static BOUNDS: &str = "\
+three transitions -- 3 =>
+six transitions -- 6 => 1
+seven transitions -- 7 => 8 1";
 
 static LOOP: &str =
     "0 / scope; block 0; block 0 1; const 1 @0; br @0 b1 v1; ask @1 v0; br @1 b1 v2";
@@ -134,7 +157,7 @@ fn sight(rt: &impl Abort, alloc: Global, side: &str) -> Sight {
 
 fn runs_in(rt: &impl Abort, alloc: Global, ctx: &mut Context) {
     for case in RUNS.lines() {
-        let (asked, want) = sides(case).expect(rt, "a case");
+        let Row { name, asked, want } = row_of(case).expect(rt, "a case");
         let (text, inputs, world) = last_fields(rt, asked);
         let root = read(alloc, ctx, text).expect(rt, "a text");
         let inputs = data(rt, alloc, inputs);
@@ -146,7 +169,7 @@ fn runs_in(rt: &impl Abort, alloc: Global, ctx: &mut Context) {
             data(rt, alloc, world),
             ENOUGH,
         ).expect(rt, "memory");
-        assert_eq!(rt; got, sight(rt, alloc, want), "{case}");
+        assert_eq!(rt; got, sight(rt, alloc, want), "{name}");
     }
     // An operation of no kind traps.
     let root = build(alloc, ctx, "0 / kind 16").expect(rt, "a tree");
@@ -171,15 +194,19 @@ fn sight_of_run(
 
 fn trees_in(rt: &impl Abort, alloc: Global, ctx: &mut Context) {
     for case in TREES.lines() {
-        let (asked, want) = sides(case).expect(rt, "a case");
+        let Row { name, asked, want } = row_of(case).expect(rt, "a case");
         let (steps, inputs, world) = last_fields(rt, asked);
         let root = build(alloc, ctx, steps).expect(rt, "a tree");
         let got = sight_of_run(rt, alloc, ctx, root, (inputs, world), ENOUGH);
-        assert_eq!(rt; got, sight(rt, alloc, want), "{case}");
+        assert_eq!(rt; got, sight(rt, alloc, want), "{name}");
     }
     let root = build(alloc, ctx, LOOP).expect(rt, "a tree");
     for case in BOUNDS.lines() {
-        let (fuel, effects) = case.split_once(" =>").expect(rt, "a case");
+        let Row {
+            name,
+            asked: fuel,
+            want: effects,
+        } = row_of(case).expect(rt, "a case");
         let got = sight_of_run(
             rt,
             alloc,
@@ -188,7 +215,7 @@ fn trees_in(rt: &impl Abort, alloc: Global, ctx: &mut Context) {
             ("", "8 8 8"),
             number(fuel).expect(rt, "a number"),
         );
-        assert_eq!(rt; got, Sight::Reached(data(rt, alloc, effects)), "{case}");
+        assert_eq!(rt; got, Sight::Reached(data(rt, alloc, effects)), "{name}");
     }
 }
 

@@ -5,7 +5,7 @@ use pliron_meaning::{
     BranchOpFoldInterface, ConstFoldInterface, Dialect, Room, Tiny, TinyKind, edges_last,
 };
 use pliron_test_cases::answers::{effects, entry_operand_of, interfaces, removable};
-use pliron_test_cases::cases::{number, sides};
+use pliron_test_cases::cases::{Row, number, row_of};
 use pliron_test_cases::listener::Counting;
 use pliron_test_cases::losses::lose;
 use pliron_test_cases::trees::{Made, build, make};
@@ -14,26 +14,31 @@ use std::process::Abort;
 
 /// Operations of trees, and what is said of their heads: on side effects, whether they fold, whether they
 /// fold as branches, and their interfaces.
-static HEADS: &str = "1 / scope; block 0; const 0 @0 => Some(false) true false SideEffects ConstFold
-0 / scope; block 0; block 0 1 => Some(true) false false SideEffects BlockArgRemoval
-2 / scope; block 0; block 0 1; const 1 @0; br @0 b1 v1 v1 => None false false Branch Terminator
-0 / both => Some(true) false false SideEffects BlockArgRemoval RegionBranch
-2 / scope; block 0; const 1 @0; twice @0 v0 => Some(true) false false SideEffects BlockArgRemoval RegionBranch";
+static HEADS: &str = "\
+a constant -- 1 / scope; block 0; const 0 @0 => Some(false) true false SideEffects ConstFold
+a scope -- 0 / scope; block 0; block 0 1 => Some(true) false false SideEffects BlockArgRemoval
+a jump -- 2 / scope; block 0; block 0 1; const 1 @0; br @0 b1 v1 v1 => None false false Branch Terminator
+both -- 0 / both => Some(true) false false SideEffects BlockArgRemoval RegionBranch
+twice -- 2 / scope; block 0; const 1 @0; twice @0 v0 => Some(true) false false SideEffects BlockArgRemoval \
+    RegionBranch";
 
 /// Operations of trees, blocks of them, and whether their arguments may be removed.
-static REMOVALS: &str = "0 / scope; block 0; block 0 1 / 0 => Some(false)
-0 / scope; block 0; block 0 1 / 1 => Some(true)
-0 / twice; block 0; block 0 1 / 0 => Some(false)
-0 / twice; block 0; block 0 1 / 1 => Some(true)";
+static REMOVALS: &str = "\
+the entry of a scope -- 0 / scope; block 0; block 0 1 / 0 => Some(false)
+the second block of a scope -- 0 / scope; block 0; block 0 1 / 1 => Some(true)
+the entry of a twice -- 0 / twice; block 0; block 0 1 / 0 => Some(false)
+the second block of a twice -- 0 / twice; block 0; block 0 1 / 1 => Some(true)";
 
 /// Operations of trees, regions of them and arguments there, and the operands that are named for these.
-static NAMED: &str = "1 / scope; block 0 2; both @0 v0 v1; block 1 2; block 1 1 1 / 0 0 => Some(1)
-1 / scope; block 0 2; both @0 v0 v1; block 1 2; block 1 1 1 / 0 1 => None
-1 / scope; block 0 2; both @0 v0 v1; block 1 2; block 1 1 1 / 1 0 => None
-1 / scope; block 0 2; both @0 v0; block 1 2; block 1 1 1 / 0 0 => None
-1 / scope; block 0 2; twice @0 v0 v1; block 1 2 / 0 0 => Some(0)
-1 / scope; block 0 2; twice @0 v0 v1; block 1 2 / 0 1 => None
-1 / scope; block 0 2; scope @0 v0 v1; block 1 2 / 0 0 => None";
+static NAMED: &str = "\
+both, first region -- 1 / scope; block 0 2; both @0 v0 v1; block 1 2; block 1 1 1 / 0 0 => Some(1)
+both, second argument of the first region -- 1 / scope; block 0 2; both @0 v0 v1; block 1 2; block 1 1 1 / 0 1 => \
+    None
+both, second region -- 1 / scope; block 0 2; both @0 v0 v1; block 1 2; block 1 1 1 / 1 0 => None
+both, with one operand -- 1 / scope; block 0 2; both @0 v0; block 1 2; block 1 1 1 / 0 0 => None
+twice, first argument -- 1 / scope; block 0 2; twice @0 v0 v1; block 1 2 / 0 0 => Some(0)
+twice, second argument -- 1 / scope; block 0 2; twice @0 v0 v1; block 1 2 / 0 1 => None
+a scope -- 1 / scope; block 0 2; scope @0 v0 v1; block 1 2 / 0 0 => None";
 
 fn head(rt: &impl Abort, alloc: Global, ctx: &mut Context, case: &str) -> String {
     let op = build(alloc, ctx, case).expect(rt, "a tree");
@@ -49,25 +54,25 @@ fn head(rt: &impl Abort, alloc: Global, ctx: &mut Context, case: &str) -> String
 
 fn heads_in(rt: &impl Abort, alloc: Global, ctx: &mut Context) {
     for case in HEADS.lines() {
-        let (asked, want) = sides(case).expect(rt, "a case");
-        assert_eq!(rt; head(rt, alloc, ctx, asked).as_str(), want, "{case}");
+        let Row { name, asked, want } = row_of(case).expect(rt, "a case");
+        assert_eq!(rt; head(rt, alloc, ctx, asked).as_str(), want, "{name}");
     }
 }
 
 fn removals_in(rt: &impl Abort, alloc: Global, ctx: &mut Context) {
     for case in REMOVALS.lines() {
-        let (asked, want) = sides(case).expect(rt, "a case");
+        let Row { name, asked, want } = row_of(case).expect(rt, "a case");
         let (steps, index) = asked.rsplit_once(" / ").expect(rt, "a block");
         let op = build(alloc, ctx, steps).expect(rt, "a tree");
         let index = number(index).expect(rt, "a number");
         let got = removable::<Tiny>(alloc, ctx, op, index).expect(rt, "an answer");
-        assert_eq!(rt; got.as_str(), want, "{case}");
+        assert_eq!(rt; got.as_str(), want, "{name}");
     }
 }
 
 fn named_in(rt: &impl Abort, alloc: Global, ctx: &mut Context) {
     for case in NAMED.lines() {
-        let (asked, want) = sides(case).expect(rt, "a case");
+        let Row { name, asked, want } = row_of(case).expect(rt, "a case");
         let (steps, place) = asked.rsplit_once(" / ").expect(rt, "a place");
         let (region, argument) = place.split_once(' ').expect(rt, "an argument");
         let op = build(alloc, ctx, steps).expect(rt, "a tree");
@@ -77,30 +82,32 @@ fn named_in(rt: &impl Abort, alloc: Global, ctx: &mut Context) {
             rt,
             "an answer",
         );
-        assert_eq!(rt; got.as_str(), want, "{case}");
+        assert_eq!(rt; got.as_str(), want, "{name}");
     }
 }
 
 /// Trees, and whether edges stand last in the first operation and in the second, which is in it.
-static EDGES: &str = "scope; block 0; block 0; scope @0; block 1 => true true
-scope; block 0; block 0; scope @0; block 1; br @0 b1; br @2 b2 => true true
-scope; block 0; block 0; scope @0; block 1; br @0 b1; br @0 b1 => false true
-scope; block 0; block 0; scope @0; block 1; br @0 b2 => false false
-scope; block 0; block 0; scope @0; block 1; br @2 b1 => false false
-scope; block 0; block 0; scope @0; block 1; br @0 b1; on 1 b1 => false true";
+static EDGES: &str = "\
+no edges -- scope; block 0; block 0; scope @0; block 1 => true true
+edges at the ends of blocks -- scope; block 0; block 0; scope @0; block 1; br @0 b1; br @2 b2 => true true
+an edge in mid-block -- scope; block 0; block 0; scope @0; block 1; br @0 b1; br @0 b1 => false true
+an edge into a region -- scope; block 0; block 0; scope @0; block 1; br @0 b2 => false false
+an edge out of a region -- scope; block 0; block 0; scope @0; block 1; br @2 b1 => false false
+an edge of an operation with a region, in mid-block -- scope; block 0; block 0; scope @0; block 1; br @0 b1; on 1 \
+    b1 => false true";
 
 fn edges_in(rt: &impl Abort, alloc: Global, ctx: &mut Context) {
     for case in EDGES.lines() {
-        let (steps, want) = sides(case).expect(rt, "a case");
+        let Row { name, asked, want } = row_of(case).expect(rt, "a case");
         let mut made = Made::new(alloc);
-        make(alloc, ctx, &mut made, steps).expect(rt, "a tree");
+        make(alloc, ctx, &mut made, asked).expect(rt, "a tree");
         let outer = made.operation("0").expect(rt, "an operation");
         let inner = made.operation("1").expect(rt, "an operation");
         assert!(rt; outer.is_live(ctx));
         assert!(rt; inner.is_live(ctx));
         let (outer, inner) = (edges_last(outer, ctx), edges_last(inner, ctx));
         let answer = format!(in alloc; "{outer} {inner}").expect(rt, "memory");
-        assert_eq!(rt; answer.as_str(), want, "{case}");
+        assert_eq!(rt; answer.as_str(), want, "{name}");
     }
 }
 

@@ -1,6 +1,6 @@
 //! Branches, by what LLVM leaves of them.
 use crate::integers::{kind, width};
-use crate::rows::edges;
+use crate::rows::{edges, sides};
 use pliron_mlir::{Class, branch_head, class_named, integer_of, number, plain_head, switch_head};
 use pliron_roles::Roles;
 use std::alloc::Global;
@@ -52,7 +52,7 @@ fn taken(alloc: Global, asked: &str) -> Option<usize> {
 }
 
 fn agrees(alloc: Global, row: &str) -> bool {
-    match row.split_once(" => ") {
+    match sides(row) {
         Some((asked, answer)) => match answer.parse::<usize>() {
             Ok(edge) => taken(alloc, asked) == Some(edge),
             Err(_) => false,

@@ -1,6 +1,6 @@
 //! Operations that leave one operand as it is, by what LLVM leaves of them.
 use crate::integers::{flags, kind, width};
-use crate::rows::identities;
+use crate::rows::{identities, sides};
 use pliron_bits::BinaryOperator;
 use pliron_mlir::{Class, binary_head, cast_head, class_named, number};
 use pliron_roles::{Identity, Roles};
@@ -70,7 +70,7 @@ fn left_of_row(alloc: Global, words: &[&str]) -> Option<Option<usize>> {
 
 // Whether the table's answer is that of the row.
 fn agrees(alloc: Global, row: &str) -> bool {
-    let Some((asked, answer)) = row.split_once(" => ") else {
+    let Some((asked, answer)) = sides(row) else {
         return false;
     };
     let Ok(words) = asked.split(' ').collect::<Vec<&str>>(alloc) else {

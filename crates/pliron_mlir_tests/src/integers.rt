@@ -1,5 +1,5 @@
 //! Integers, by the answers of LLVM and MLIR.
-use crate::rows::{casts, compare, division, index, logic, shifts, wrapping};
+use crate::rows::{casts, compare, division, index, logic, shifts, sides, wrapping};
 use pliron_bits::{Flags, Predicate};
 use pliron_core::Head;
 use pliron_mlir::{
@@ -97,7 +97,7 @@ fn wanted(word: &str) -> Option<u64> {
 
 // Whether the table's answer is that of the row.
 fn agrees(alloc: Global, row: &str) -> bool {
-    let Some((asked, answer)) = row.split_once(" => ") else {
+    let Some((asked, answer)) = sides(row) else {
         return false;
     };
     let Ok(words) = asked.split(' ').collect::<Vec<&str>>(alloc) else {

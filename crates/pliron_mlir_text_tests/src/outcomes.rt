@@ -31,31 +31,37 @@ fn outcome_of(
     }
 }
 
-// The words and the text end with this status, output and report.
-fn expect_outcome(
+// The status, the output and the report with which the words and the text end.
+fn ending(
     rt: &impl Abort,
     alloc: Global,
-    (word, text): (&str, &str),
-    wanted: &str,
+    word: &str,
+    text: &str,
     options: &ModuleOptions,
-) {
+) -> String {
     let lines = with_lines(alloc, text).expect(rt, "memory");
     let outcome = outcome_of(rt, alloc, word, lines.as_bytes(), options);
     let output = in_one_line(alloc, &outcome.output).expect(rt, "memory");
     let report = in_one_line(alloc, outcome.report.as_bytes()).expect(rt, "memory");
-    let told = format!(in alloc; "{} {output} => {report}", outcome.status).expect(rt, "memory");
-    assert!(rt; told.as_str() == wanted, "{told}");
+    format!(in alloc; "{} {output} => {report}", outcome.status).expect(rt, "memory")
 }
 
-/// Words and texts; then the status, what is written, and what is told.
+/// Names, words and texts; then the status, what is written, and what is told.
 static OUTCOMES: &str = "\
-dce :: \"m\"() ({|  %0 = \"arith.constant\"() <{value = 1 : i32}> : () -> i32|}) : () -> () => 0 \"m\"() ({|^bb0:|}) : () -> ()| => changed|
- :: \"m\"()  : ()->() => 0 \"m\"() : () -> ()| => unchanged|
-dce :: m => 2  => t:1:1: expected the name of an operation in quotes; print with --mlir-print-op-generic|
-dce :: \"m\"() ({|  \"a\"()[^b] : () -> ()|}) : () -> () => 2  => t:2:9: expected a block of this region|
-dce,licm :: \"m\"() : () -> () => 2  => error: no such passes: dce,licm: at byte 5: expected `sccp`, `dce`, `simplify-cfg` or `cse`|
-repeat:65:dce :: \"m\"() : () -> () => 2  => error: no such passes: repeat:65:dce: at byte 8: expected a number from 1 to 64|
-simplify-cfg :: \"m\"() ({|  \"func.func\"() <{sym_name = \"f\"}> ({|    \"func.return\"(%0) : (i32) -> ()|  ^b:|    %0 = \"arith.constant\"() <{value = 1 : i32}> : () -> i32|    \"cf.br\"()[^b] : () -> ()|  }) : () -> ()|}) : () -> () => 1  => error: refused: a value of an unreachable block is used|";
+an unused constant -- dce :: \"m\"() ({|  %0 = \"arith.constant\"() <{value = 1 : i32}> : () -> i32|}) : () -> () \
+    => 0 \"m\"() ({|^bb0:|}) : () -> ()| => changed|
+no passes --  :: \"m\"()  : ()->() => 0 \"m\"() : () -> ()| => unchanged|
+a word -- dce :: m => 2  => t:1:1: expected the name of an operation in quotes; print with --mlir-print-op-generic|
+a block that the region lacks -- dce :: \"m\"() ({|  \"a\"()[^b] : () -> ()|}) : () -> () => 2  => t:2:9: expected \
+    a block of this region|
+no such pass -- dce,licm :: \"m\"() : () -> () => 2  => error: no such passes: dce,licm: at byte 5: expected \
+    `sccp`, `dce`, `simplify-cfg` or `cse`|
+too many rounds -- repeat:65:dce :: \"m\"() : () -> () => 2  => error: no such passes: repeat:65:dce: at byte 8: \
+    expected a number from 1 to 64|
+a used value of an unreachable block -- simplify-cfg :: \"m\"() ({|  \"func.func\"() <{sym_name = \"f\"}> \
+    ({|    \"func.return\"(%0) : (i32) -> ()|  ^b:|    %0 = \"arith.constant\"() <{value = 1 : i32}> : () -> \
+    i32|    \"cf.br\"()[^b] : () -> ()|  }) : () -> ()|}) : () -> () => 1  => error: refused: a value of an \
+    unreachable block is used|";
 
 static NOTHING: ModuleOptions = ModuleOptions {
     counts: false,
@@ -67,9 +73,11 @@ static NOTHING: ModuleOptions = ModuleOptions {
 #[test]
 fn ends(rt: HostRuntime) {
     for case in OUTCOMES.lines() {
-        let (word, rest) = case.split_once(" :: ").expect(&rt, "a word");
+        let (name, rest) = case.split_once(" -- ").expect(&rt, "a name");
+        let (word, rest) = rest.split_once(" :: ").expect(&rt, "a word");
         let (text, wanted) = rest.split_once(" => ").expect(&rt, "an outcome");
-        expect_outcome(&rt, rt.alloc(), (word, text), wanted, &NOTHING);
+        let told = ending(&rt, rt.alloc(), word, text, &NOTHING);
+        assert!(&rt; told.as_str() == wanted, "{name}: {told}");
     }
 }
 
@@ -88,5 +96,6 @@ fn tells_what_passes_did(rt: HostRuntime) {
         times: false,
         checks: true,
     };
-    expect_outcome(&rt, rt.alloc(), ("sccp,dce", SUM), TOLD, &options);
+    let told = ending(&rt, rt.alloc(), "sccp,dce", SUM, &options);
+    assert!(rt; told.as_str() == TOLD, "{told}");
 }

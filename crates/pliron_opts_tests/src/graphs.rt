@@ -4,50 +4,47 @@ use pliron_opts::plir_run;
 use std::alloc::Global;
 use std::process::Abort;
 
-// The program ends with this status on the graph, and has written and reported this. `|` stands for the
-// end of a line.
-fn expect_graph(
-    rt: &impl Abort,
-    alloc: Global,
-    text: &str,
-    status: u8,
-    written: &str,
-    reported: &str,
-) {
+// The program has written this of the graph, or that it is unreadable. `|` stands for the end of a line.
+fn expect_graph(rt: &impl Abort, alloc: Global, name: &str, text: &str, written: Option<&str>) {
     let bytes = with_lines(rt, alloc, text);
     let case = Case {
-        name: text,
+        name,
         args: &["graph"],
         text: bytes.as_slice(),
         failing_read: 0,
         failing_write: 0,
     };
-    expect_run(rt, alloc, &case, status, written, reported);
+    match written {
+        Some(written) => expect_run(rt, alloc, &case, 0, written, ""),
+        None => expect_run(rt, alloc, &case, 2, "", "unreadable text|"),
+    }
 }
 
-/// Graphs, and what is written of them.
+/// Names, graphs, and what is written of them.
 static GRAPHS: &str = "\
-0: 1 5|1: 2 4|2: 3 6|3: 4 2|4: 5 1|5:|6: 3| \
-    => post-order: [5 4 3 6 2 1 0]|topological: [0 1 2 6 3 4 5]|numbers: 0=0/6 1=1/5 2=2/4 3=3/2 4=4/1 5=5/0 6=6/3|\
-        edges: 0>1:Forward 0>5:Forward 1>2:Forward 1>4:Forward 2>3:Forward 2>6:Forward 3>4:Forward 3>2:Back 4>5:Forward 4>1:Back 6>3:Cross|\
-        components: [0] [6 4 3 2 1]* [5]|pre-sentinels: 5|
-0: 1 2|1: 3|2: 4|3:|4: 2|5: 3 \
-    => post-order: [3 1 4 2 0] [5]|topological: [0 2 4 1 3] [5]|numbers: 0=0/4 1=1/1 3=2/0 2=3/3 4=4/2|\
-        edges: 0>1:Forward 0>2:Forward 1>3:Forward 2>4:Forward 4>2:Back|components: [5] [0] [4 2]* [1] [3]|pre-sentinels: 4 3|
-0:|1: 0| => post-order: [0] [1]|topological: [0] [1]|numbers: 0=0/0|edges:|components: [1] [0]|pre-sentinels: 0|
- => post-order:|topological:|numbers:|edges:|components:|pre-sentinels:|
-7: 4294967295 7 4294967295|4294967295: 7| \
-    => post-order: [4294967295 7]|topological: [7 4294967295]|numbers: 7=0/1 4294967295=1/0|\
-        edges: 7>4294967295:Forward 7>7:Back 7>4294967295:Forward 4294967295>7:Back|components: [4294967295 7]*|pre-sentinels: 4294967295|
-0: 2|1: 0 3|2: 0 4|3: 1|4:| \
-    => post-order: [4 2 0] [3 1]|topological: [0 2 4] [1 3]|numbers: 0=0/2 2=1/1 4=2/0|edges: 0>2:Forward 2>0:Back 2>4:Forward|components: [3 1]* [2 0]* [4]|\
-        pre-sentinels: 4|";
+nested loops -- 0: 1 5|1: 2 4|2: 3 6|3: 4 2|4: 5 1|5:|6: 3| => post-order: [5 4 3 6 2 1 0]|topological: [0 1 2 6 3 \
+    4 5]|numbers: 0=0/6 1=1/5 2=2/4 3=3/2 4=4/1 5=5/0 6=6/3|edges: 0>1:Forward 0>5:Forward 1>2:Forward 1>4:Forward \
+    2>3:Forward 2>6:Forward 3>4:Forward 3>2:Back 4>5:Forward 4>1:Back 6>3:Cross|components: [0] [6 4 3 2 1]* \
+    [5]|pre-sentinels: 5|
+a loop and an unreached node -- 0: 1 2|1: 3|2: 4|3:|4: 2|5: 3 => post-order: [3 1 4 2 0] [5]|topological: [0 2 4 1 \
+    3] [5]|numbers: 0=0/4 1=1/1 3=2/0 2=3/3 4=4/2|edges: 0>1:Forward 0>2:Forward 1>3:Forward 2>4:Forward \
+    4>2:Back|components: [5] [0] [4 2]* [1] [3]|pre-sentinels: 4 3|
+an edge to the first node -- 0:|1: 0| => post-order: [0] [1]|topological: [0] [1]|numbers: \
+    0=0/0|edges:|components: [1] [0]|pre-sentinels: 0|
+no nodes --  => post-order:|topological:|numbers:|edges:|components:|pre-sentinels:|
+parallel edges between the greatest label and 7 -- 7: 4294967295 7 4294967295|4294967295: 7| => post-order: \
+    [4294967295 7]|topological: [7 4294967295]|numbers: 7=0/1 4294967295=1/0|edges: 7>4294967295:Forward 7>7:Back \
+    7>4294967295:Forward 4294967295>7:Back|components: [4294967295 7]*|pre-sentinels: 4294967295|
+a ring that leads to a ring -- 0: 2|1: 0 3|2: 0 4|3: 1|4:| => post-order: [4 2 0] [3 1]|topological: [0 2 4] [1 \
+    3]|numbers: 0=0/2 2=1/1 4=2/0|edges: 0>2:Forward 2>0:Back 2>4:Forward|components: [3 1]* [2 0]* \
+    [4]|pre-sentinels: 4|";
 
 #[test]
 fn worked_graphs(rt: HostRuntime) {
     for case in GRAPHS.lines() {
-        let (text, written) = case.split_once(" => ").expect(&rt, "a case");
-        expect_graph(&rt, rt.alloc(), text, 0, written, "");
+        let (name, row) = case.split_once(" -- ").expect(&rt, "a name");
+        let (text, written) = row.split_once(" => ").expect(&rt, "a case");
+        expect_graph(&rt, rt.alloc(), name, text, Some(written));
     }
 }
 
@@ -120,34 +117,36 @@ fn a_long_chain(rt: HostRuntime) {
     assert!(rt; errors.is_empty());
 }
 
-/// Texts that cannot be read, one a line.
-static UNREADABLE: &str = "|
-0
-0 :
-0:1
-0:\x20
-0:  0
-0: 0\x20
-0: 1
-0:|0:
-00:
-0: 00
-01:
--0:
-+0:
-4294967296:
-0:||
-0:\r|
- 0:
-a:
-0: a
-0;
-0:\t0
-0:|1: 2|";
+/// Names and texts that cannot be read.
+static UNREADABLE: &str = "\
+an empty line -- |
+no colon -- 0
+a blank before the colon -- 0 :
+no blank behind the colon -- 0:1
+a blank behind the colon alone -- 0:\x20
+two blanks behind the colon -- 0:  0
+a blank behind the last label -- 0: 0\x20
+a label that has no line -- 0: 1
+a label with two lines -- 0:|0:
+two zeros before the colon -- 00:
+two zeros behind the colon -- 0: 00
+0 before a label -- 01:
+a sign before the colon -- -0:
+a plus sign before the colon -- +0:
+a label above 32 bits -- 4294967296:
+an empty line behind the first -- 0:||
+a return at the end of a line -- 0:\r|
+a blank before the label --  0:
+a letter before the colon -- a:
+a letter behind the colon -- 0: a
+a semicolon -- 0;
+a tab behind the colon -- 0:\t0
+a label of the last line that has no line -- 0:|1: 2|";
 
 #[test]
 fn unreadable_graphs(rt: HostRuntime) {
-    for text in UNREADABLE.lines() {
-        expect_graph(&rt, rt.alloc(), text, 2, "", "unreadable text|");
+    for case in UNREADABLE.lines() {
+        let (name, text) = case.split_once(" -- ").expect(&rt, "a name");
+        expect_graph(&rt, rt.alloc(), name, text, None);
     }
 }

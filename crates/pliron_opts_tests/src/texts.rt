@@ -69,30 +69,72 @@ fn propagation<'t>(name: &'t str, text: &'t [u8]) -> Case<'t> {
     }
 }
 
+/// A row of a table of lists of passes: a line `NAME -- LIST :: TEXT => WRITTEN`.
+#[derive(Clone, Copy)]
+struct ListRow<'t> {
+    name: &'t str,
+    list: &'t str,
+    text: &'t str,
+    written: &'t str,
+}
+
+fn list_row_of<'t>(rt: &impl Abort, line: &'t str) -> ListRow<'t> {
+    let (name, row) = line.split_once(" -- ").expect(rt, "a name");
+    let (list, row) = row.split_once(" :: ").expect(rt, "a list");
+    let (text, written) = row.split_once(" => ").expect(rt, "a case");
+    ListRow {
+        name,
+        list,
+        text,
+        written,
+    }
+}
+
+/// The program writes of each text of the table what its row says.
+pub fn expect_lists(rt: &impl Abort, alloc: Global, table: &str) {
+    for line in table.lines() {
+        let row = list_row_of(rt, line);
+        let args = [row.list];
+        let case = Case {
+            name: row.name,
+            args: &args,
+            text: row.text.as_bytes(),
+            failing_read: 0,
+            failing_write: 0,
+        };
+        expect_run(rt, alloc, &case, 0, row.written, "");
+    }
+}
+
 /// Names, texts, and what is written of them, with ends of lines as `|`.
 static ROWS: &str = "\
-a sum of two constants :: func { b0(): a = const 1; b = const 2; c = add a b; ret c } => func { b0(): v0 = const 1; v1 = const 2; v2 = const 3; v3 = add v0 v1; ret v2 }|changed|
-a sum that wraps :: func { b0(): a = const 9223372036854775807; b = const 1; c = add a b; ret c } \
-    => func { b0(): v0 = const 9223372036854775807; v1 = const 1; v2 = const -9223372036854775808; v3 = add v0 v1; ret v2 }|changed|
-an empty function :: func { b0(): ret } => func { b0(): ret }|unchanged|
-sums of sums :: func { b0(): a = const 5; b = add a a; c = add b a; ret c b } \
-    => func { b0(): v0 = const 5; v1 = const 10; v2 = add v0 v0; v3 = const 15; v4 = add v1 v0; ret v3 v1 }|changed|
-the smallest number, twice :: func{b0():a=const -9223372036854775808;b=add a a;ret} => func { b0(): v0 = const -9223372036854775808; v1 = const 0; v2 = add v0 v0; ret }|changed|
-one name for a block and a value :: func { a(): a = const 7; ret a a } => func { b0(): v0 = const 7; ret v0 v0 }|unchanged|
-an empty module :: mod { } => mod { }|unchanged|
-a read :: func { b0(): a = read; ret a } => func { b0(): v0 = read; ret v0 }|unchanged|
-an operation of itself :: func { b0(): a = add a a; ret a } => func { b0(): v0 = add v0 v0; ret v0 }|unchanged|
-an operation behind a terminator :: func { b0(): ret; ret } => func { b0(): ret; ret }|unchanged|
-a constant that goes round a loop :: func { b0(): z = const 0; br b1(z); b1(i): r = read; cbr r b1(i) b2(); b2(): ret i } \
-    => func { b0(): v0 = const 0; br b1(v0); b1(v1): v2 = const 0; v3 = read; cbr v3 b1(v2) b2(); b2(): ret v2 }|changed|
-a sum in a region :: func { b0(): a = const 2; scope { b0(): b = add a a; print b; ret }; ret } \
-    => func { b0(): v0 = const 2; scope { b0(): v1 = const 4; v2 = add v0 v0; print v1; ret }; ret }|changed|
-a function in a module :: mod { b0(): func { b0(): a = const 1; b = add a a; ret b } } => mod { b0(): func { b0(): v0 = const 1; v1 = const 2; v2 = add v0 v0; ret v1 } }|changed|";
+a sum of two constants -- func { b0(): a = const 1; b = const 2; c = add a b; ret c } => func { b0(): v0 = const \
+    1; v1 = const 2; v2 = const 3; v3 = add v0 v1; ret v2 }|changed|
+a sum that wraps -- func { b0(): a = const 9223372036854775807; b = const 1; c = add a b; ret c } => func { b0(): \
+    v0 = const 9223372036854775807; v1 = const 1; v2 = const -9223372036854775808; v3 = add v0 v1; ret v2 }|changed|
+an empty function -- func { b0(): ret } => func { b0(): ret }|unchanged|
+sums of sums -- func { b0(): a = const 5; b = add a a; c = add b a; ret c b } => func { b0(): v0 = const 5; v1 = \
+    const 10; v2 = add v0 v0; v3 = const 15; v4 = add v1 v0; ret v3 v1 }|changed|
+the smallest number, twice -- func{b0():a=const -9223372036854775808;b=add a a;ret} => func { b0(): v0 = const \
+    -9223372036854775808; v1 = const 0; v2 = add v0 v0; ret }|changed|
+one name for a block and a value -- func { a(): a = const 7; ret a a } => func { b0(): v0 = const 7; ret v0 v0 \
+    }|unchanged|
+an empty module -- mod { } => mod { }|unchanged|
+a read -- func { b0(): a = read; ret a } => func { b0(): v0 = read; ret v0 }|unchanged|
+an operation of itself -- func { b0(): a = add a a; ret a } => func { b0(): v0 = add v0 v0; ret v0 }|unchanged|
+an operation behind a terminator -- func { b0(): ret; ret } => func { b0(): ret; ret }|unchanged|
+a constant that goes round a loop -- func { b0(): z = const 0; br b1(z); b1(i): r = read; cbr r b1(i) b2(); b2(): \
+    ret i } => func { b0(): v0 = const 0; br b1(v0); b1(v1): v2 = const 0; v3 = read; cbr v3 b1(v2) b2(); b2(): \
+    ret v2 }|changed|
+a sum in a region -- func { b0(): a = const 2; scope { b0(): b = add a a; print b; ret }; ret } => func { b0(): v0 \
+    = const 2; scope { b0(): v1 = const 4; v2 = add v0 v0; print v1; ret }; ret }|changed|
+a function in a module -- mod { b0(): func { b0(): a = const 1; b = add a a; ret b } } => mod { b0(): func { b0(): \
+    v0 = const 1; v1 = const 2; v2 = add v0 v0; ret v1 } }|changed|";
 
 #[test]
 fn rows(rt: HostRuntime) {
     for case in ROWS.lines() {
-        let (name, row) = case.split_once(" :: ").expect(&rt, "a name");
+        let (name, row) = case.split_once(" -- ").expect(&rt, "a name");
         let (text, written) = row.split_once(" => ").expect(&rt, "a case");
         expect_run(
             &rt,
@@ -108,121 +150,146 @@ fn rows(rt: HostRuntime) {
 /// Names, lists of passes and texts, and what is written of them. After `dce` of `dce,sccp` the keys of values lie too
 /// far apart to be guessed.
 static LISTS: &str = "\
-a sum is folded and erased :: sccp,dce :: func { b0(): a = const 1; b = const 2; c = add a b; ret c } => func { b0(): v0 = const 3; ret v0 }|changed|
-a sum is folded twice :: sccp,sccp :: func { b0(): a = const 1; b = const 2; c = add a b; ret c } \
-    => func { b0(): v0 = const 1; v1 = const 2; v2 = const 3; v3 = const 3; v4 = add v0 v1; ret v2 }|changed|
-a division by 0 stays :: sccp,dce :: func { b0(): a = const 1; z = const 0; d = div a z; ret a } => func { b0(): v0 = const 1; v1 = const 0; v2 = div v0 v1; ret v0 }|unchanged|
-a quotient is folded, and the division stays :: sccp,dce :: func { b0(): a = const 7; b = const -2; d = div a b; ret d } \
-    => func { b0(): v0 = const 7; v1 = const -2; v2 = const -3; v3 = div v0 v1; ret v2 }|changed|
-a product with 0 :: sccp,dce :: func { b0(x): z = const 0; m = mul x z; ret m } => func { b0(v0): v1 = const 0; ret v1 }|changed|
-keys far apart :: dce,sccp :: func { b0(): a = const 1; d = add a a; e = add d a; f = add e a; g = add f a; h = add g a; i = add h a; b = const 2; c = add a b; ret c } \
-    => func { b0(): v0 = const 1; v1 = const 2; v2 = const 3; v3 = add v0 v1; ret v2 }|changed|
-dead code twice :: dce,dce :: func { b0(): x = const 1; br b1(x); b1(a): c = const 7; ret c } => func { b0(): br b1(); b1(): v0 = const 7; ret v0 }|changed|
-a division by 0 stays, by dce alone :: dce :: func { b0(): a = const 1; z = const 0; d = div a z; ret a } => func { b0(): v0 = const 1; v1 = const 0; v2 = div v0 v1; ret v0 }|unchanged|
-arguments that a sink alone reads :: dce :: func { b0(): l, r = pair; sink l l r r; br b1(l, r); b1(a, b): k = const 99; ret k } => func { b0(): br b1(); b1(): v0 = const 99; ret v0 }|changed|
-a box with what it uses :: dce :: func { b0(): k = const 4; box { b0(): sink k }; ret } => func { b0(): ret }|changed|
-an argument that goes round a loop :: dce :: func { b0(): z = const 0; br b1(z); b1(i): r = read; cbr r b1(i) b2(); b2(): ret } \
-    => func { b0(): v0 = const 0; br b1(v0); b1(v1): v2 = read; cbr v2 b1(v1) b2(); b2(): ret }|unchanged|
-a fork keeps arguments :: dce :: func { b0(x): fork x b1 b1; b1(p): ret } => func { b0(v0): fork v0 b1 b1; b1(v1): ret }|unchanged|
-both edges of a branch to one block :: dce :: func { b0(x): cbr x b1(x) b1(x); b1(p): ret } => func { b0(v0): cbr v0 b1() b1(); b1(): ret }|changed|
-a branch on an argument folds in a second run :: simplify-cfg :: func { b0(): a = const 1; br b1(a); b1(p): cbr p b2() b3(); b2(): ret p; b3(): ret } \
-    => func { b0(): v0 = const 1; cbr v0 b1() b2(); b1(): ret v0; b2(): ret }|changed|
-a ring behind the entry :: simplify-cfg :: func { b0(): br b1(); b1(): br b2(); b2(): br b1() } => func { b0(): br b1(); b1(): br b1() }|changed|
-an empty module :: simplify-cfg :: mod { } => mod { }|unchanged|
-an empty function :: simplify-cfg :: func { b0(): ret } => func { b0(): ret }|unchanged|
-a loop of one block :: simplify-cfg :: func { b0(): br b0() } => func { b0(): br b0() }|unchanged|
-a known condition, with both edges to one block :: simplify-cfg :: func { b0(): c = const 0; d = const 2; cbr c b1(c) b1(d); b1(p): ret p } => func { b0(): v0 = const 0; v1 = const 2; ret v1 }|changed|
-what is forwarded is the argument itself :: simplify-cfg :: func { b0(): br b1(p); b1(p): ret p } => func { b0(): br b1(v0); b1(v0): ret v0 }|unchanged|
-fewer values than the block takes :: simplify-cfg :: func { b0(): br b1(); b1(p): ret p } => func { b0(): br b1(); b1(v0): ret v0 }|unchanged|
-a module's first block alone :: simplify-cfg :: mod { b0(): func { b0(): br b1(); b1(): ret }; b1(): func { b0(): br b1(); b1(): ret } } \
-    => mod { b0(): func { b0(): ret }; b1(): func { b0(): br b1(); b1(): ret } }|changed|
-a branch whose way is known, by all three :: sccp,simplify-cfg,dce :: func { b0(): c = const 1; x = const 5; cbr c b1(x) b2(); b1(p): br b3(p); b2(): y = const 6; br b3(y); b3(q): ret q } \
-    => func { b0(): v0 = const 5; ret v0 }|changed|
-a branch on an argument, by all three :: sccp,simplify-cfg,dce :: func { b0(): a = const 1; br b1(a); b1(p): cbr p b2() b3(); b2(): ret p; b3(): ret } => func { b0(): v0 = const 1; ret v0 }|changed|
-each function of a module :: nested:simplify-cfg :: mod { b0(): func { b0(): br b1(); b1(): ret }; b1(): func { b0(): br b1(); b1(): ret } } \
-    => mod { b0(): func { b0(): ret }; b1(): func { b0(): ret } }|changed|
-nothing directly inside to simplify :: nested:simplify-cfg :: func { b0(): br b1(); b1(): ret } => func { b0(): br b1(); b1(): ret }|unchanged|
-dead code inside a box alone :: nested:dce :: func { b0(): k = const 4; box { b0(): sink k }; ret } => func { b0(): v0 = const 4; box { b0(): }; ret }|changed|
-two passes on each function :: nested:sccp,dce :: mod { b0(): func { b0(): a = const 1; b = const 2; c = add a b; ret c }; func { b0(): ret } } \
-    => mod { b0(): func { b0(): v0 = const 3; ret v0 }; func { b0(): ret } }|changed|
-nothing directly inside :: nested:dce :: mod { } => mod { }|unchanged|
-until nothing changes :: repeat:8:simplify-cfg :: func { b0(): a = const 1; br b1(a); b1(p): cbr p b2() b3(); b2(): ret p; b3(): ret } => func { b0(): v0 = const 1; ret v0 }|changed|
-once :: repeat:1:simplify-cfg :: func { b0(): a = const 1; br b1(a); b1(p): cbr p b2() b3(); b2(): ret p; b3(): ret } \
-    => func { b0(): v0 = const 1; cbr v0 b1() b2(); b1(): ret v0; b2(): ret }|changed|
-twice :: repeat:2:sccp :: func { b0(): a = const 1; b = const 2; c = add a b; ret c } \
-    => func { b0(): v0 = const 1; v1 = const 2; v2 = const 3; v3 = const 3; v4 = add v0 v1; ret v2 }|changed|
-three times :: repeat:3:sccp :: func { b0(): a = const 1; b = const 2; c = add a b; ret c } \
-    => func { b0(): v0 = const 1; v1 = const 2; v2 = const 3; v3 = const 3; v4 = const 3; v5 = add v0 v1; ret v2 }|changed|
-two passes until nothing changes :: repeat:8:sccp,dce :: func { b0(): a = const 1; b = const 2; c = add a b; ret c } => func { b0(): v0 = const 3; ret v0 }|changed|
-nothing to repeat :: repeat:64:dce :: func { b0(): ret } => func { b0(): ret }|unchanged|
-regions that hand on a constant :: repeat:8:sccp,dce :: func { b0(): a = const 7; scope a { b0(p): scope p { b0(q): print q; ret }; ret }; ret } \
-    => func { b0(): v0 = const 7; scope v0 { b0(v1): v2 = const 7; scope v2 { b0(v3): v4 = const 7; print v4; ret }; ret }; ret }|changed|
-a sum is no branch :: simplify-cfg :: func { b0(): a = const 1; b = const 2; c = add a b; ret c } => func { b0(): v0 = const 1; v1 = const 2; v2 = add v0 v1; ret v2 }|unchanged|
-a branch whose way is known, by sccp :: sccp :: func { b0(): c = const 1; x = const 5; cbr c b1(x) b2(); b1(p): br b3(p); b2(): y = const 6; br b3(y); b3(q): ret q } \
-    => func { b0(): v0 = const 1; v1 = const 5; cbr v0 b1(v1) b2(); b1(v2): v3 = const 5; br b3(v3); b2(): v4 = const 6; br b3(v4); \
-        b3(v5): v6 = const 5; ret v6 }|changed|
-a branch whose way is known, by dce :: dce :: func { b0(): c = const 1; x = const 5; cbr c b1(x) b2(); b1(p): br b3(p); b2(): y = const 6; br b3(y); b3(q): ret q } \
-    => func { b0(): v0 = const 1; v1 = const 5; cbr v0 b1(v1) b2(); b1(v2): br b3(v2); b2(): v3 = const 6; br b3(v3); b3(v4): ret v4 }|unchanged|
-a branch whose way is known, by simplify-cfg :: simplify-cfg :: func { b0(): c = const 1; x = const 5; cbr c b1(x) b2(); b1(p): br b3(p); b2(): y = const 6; br b3(y); b3(q): ret q } \
-    => func { b0(): v0 = const 1; v1 = const 5; ret v1 }|changed|
-arguments that a sink alone reads, by sccp :: sccp :: func { b0(): l, r = pair; sink l l r r; br b1(l, r); b1(a, b): k = const 99; ret k } \
-    => func { b0(): v0, v1 = pair; sink v0 v0 v1 v1; br b1(v0, v1); b1(v2, v3): v4 = const 99; ret v4 }|unchanged|
-arguments that a sink alone reads, by simplify-cfg :: simplify-cfg :: func { b0(): l, r = pair; sink l l r r; br b1(l, r); b1(a, b): k = const 99; ret k } \
-    => func { b0(): v0, v1 = pair; sink v0 v0 v1 v1; v2 = const 99; ret v2 }|changed|
-dead arguments, then one block :: dce,simplify-cfg :: func { b0(): l, r = pair; sink l l r r; br b1(l, r); b1(a, b): k = const 99; ret k } => func { b0(): v0 = const 99; ret v0 }|changed|
-a constant argument that branches :: sccp :: func { b0(): a = const 1; br b1(a); b1(p): cbr p b2() b3(); b2(): ret p; b3(): ret } \
-    => func { b0(): v0 = const 1; br b1(v0); b1(v1): v2 = const 1; cbr v2 b2() b3(); b2(): ret v2; b3(): ret }|changed|
-a read argument that branches :: dce :: func { b0(): a = const 1; br b1(a); b1(p): cbr p b2() b3(); b2(): ret p; b3(): ret } \
-    => func { b0(): v0 = const 1; br b1(v0); b1(v1): cbr v1 b2() b3(); b2(): ret v1; b3(): ret }|unchanged|
-each function until nothing changes :: repeat:10:nested:simplify-cfg :: mod { b0(): func { b0(): br b1(); b1(): ret }; b1(): func { b0(): br b1(); b1(): ret } } \
-    => mod { b0(): func { b0(): ret }; b1(): func { b0(): ret } }|changed|";
+a sum is folded and erased -- sccp,dce :: func { b0(): a = const 1; b = const 2; c = add a b; ret c } => func { \
+    b0(): v0 = const 3; ret v0 }|changed|
+a sum is folded twice -- sccp,sccp :: func { b0(): a = const 1; b = const 2; c = add a b; ret c } => func { b0(): \
+    v0 = const 1; v1 = const 2; v2 = const 3; v3 = const 3; v4 = add v0 v1; ret v2 }|changed|
+a division by 0 stays -- sccp,dce :: func { b0(): a = const 1; z = const 0; d = div a z; ret a } => func { b0(): \
+    v0 = const 1; v1 = const 0; v2 = div v0 v1; ret v0 }|unchanged|
+a quotient is folded, and the division stays -- sccp,dce :: func { b0(): a = const 7; b = const -2; d = div a b; \
+    ret d } => func { b0(): v0 = const 7; v1 = const -2; v2 = const -3; v3 = div v0 v1; ret v2 }|changed|
+a product with 0 -- sccp,dce :: func { b0(x): z = const 0; m = mul x z; ret m } => func { b0(v0): v1 = const 0; \
+    ret v1 }|changed|
+keys far apart -- dce,sccp :: func { b0(): a = const 1; d = add a a; e = add d a; f = add e a; g = add f a; h = \
+    add g a; i = add h a; b = const 2; c = add a b; ret c } => func { b0(): v0 = const 1; v1 = const 2; v2 = const \
+    3; v3 = add v0 v1; ret v2 }|changed|
+dead code twice -- dce,dce :: func { b0(): x = const 1; br b1(x); b1(a): c = const 7; ret c } => func { b0(): br \
+    b1(); b1(): v0 = const 7; ret v0 }|changed|
+a division by 0 stays, by dce alone -- dce :: func { b0(): a = const 1; z = const 0; d = div a z; ret a } => func \
+    { b0(): v0 = const 1; v1 = const 0; v2 = div v0 v1; ret v0 }|unchanged|
+arguments that a sink alone reads -- dce :: func { b0(): l, r = pair; sink l l r r; br b1(l, r); b1(a, b): k = \
+    const 99; ret k } => func { b0(): br b1(); b1(): v0 = const 99; ret v0 }|changed|
+a box with what it uses -- dce :: func { b0(): k = const 4; box { b0(): sink k }; ret } => func { b0(): ret \
+    }|changed|
+an argument that goes round a loop -- dce :: func { b0(): z = const 0; br b1(z); b1(i): r = read; cbr r b1(i) \
+    b2(); b2(): ret } => func { b0(): v0 = const 0; br b1(v0); b1(v1): v2 = read; cbr v2 b1(v1) b2(); b2(): ret \
+    }|unchanged|
+a fork keeps arguments -- dce :: func { b0(x): fork x b1 b1; b1(p): ret } => func { b0(v0): fork v0 b1 b1; b1(v1): \
+    ret }|unchanged|
+both edges of a branch to one block -- dce :: func { b0(x): cbr x b1(x) b1(x); b1(p): ret } => func { b0(v0): cbr \
+    v0 b1() b1(); b1(): ret }|changed|
+a branch on an argument folds in a second run -- simplify-cfg :: func { b0(): a = const 1; br b1(a); b1(p): cbr p \
+    b2() b3(); b2(): ret p; b3(): ret } => func { b0(): v0 = const 1; cbr v0 b1() b2(); b1(): ret v0; b2(): ret \
+    }|changed|
+a ring behind the entry -- simplify-cfg :: func { b0(): br b1(); b1(): br b2(); b2(): br b1() } => func { b0(): br \
+    b1(); b1(): br b1() }|changed|
+an empty module -- simplify-cfg :: mod { } => mod { }|unchanged|
+an empty function -- simplify-cfg :: func { b0(): ret } => func { b0(): ret }|unchanged|
+a loop of one block -- simplify-cfg :: func { b0(): br b0() } => func { b0(): br b0() }|unchanged|
+a known condition, with both edges to one block -- simplify-cfg :: func { b0(): c = const 0; d = const 2; cbr c \
+    b1(c) b1(d); b1(p): ret p } => func { b0(): v0 = const 0; v1 = const 2; ret v1 }|changed|
+what is forwarded is the argument itself -- simplify-cfg :: func { b0(): br b1(p); b1(p): ret p } => func { b0(): \
+    br b1(v0); b1(v0): ret v0 }|unchanged|
+fewer values than the block takes -- simplify-cfg :: func { b0(): br b1(); b1(p): ret p } => func { b0(): br b1(); \
+    b1(v0): ret v0 }|unchanged|
+a module's first block alone -- simplify-cfg :: mod { b0(): func { b0(): br b1(); b1(): ret }; b1(): func { b0(): \
+    br b1(); b1(): ret } } => mod { b0(): func { b0(): ret }; b1(): func { b0(): br b1(); b1(): ret } }|changed|
+a branch whose way is known, by all three -- sccp,simplify-cfg,dce :: func { b0(): c = const 1; x = const 5; cbr c \
+    b1(x) b2(); b1(p): br b3(p); b2(): y = const 6; br b3(y); b3(q): ret q } => func { b0(): v0 = const 5; ret v0 \
+    }|changed|
+a branch on an argument, by all three -- sccp,simplify-cfg,dce :: func { b0(): a = const 1; br b1(a); b1(p): cbr p \
+    b2() b3(); b2(): ret p; b3(): ret } => func { b0(): v0 = const 1; ret v0 }|changed|
+each function of a module -- nested:simplify-cfg :: mod { b0(): func { b0(): br b1(); b1(): ret }; b1(): func { \
+    b0(): br b1(); b1(): ret } } => mod { b0(): func { b0(): ret }; b1(): func { b0(): ret } }|changed|
+nothing directly inside to simplify -- nested:simplify-cfg :: func { b0(): br b1(); b1(): ret } => func { b0(): br \
+    b1(); b1(): ret }|unchanged|
+dead code inside a box alone -- nested:dce :: func { b0(): k = const 4; box { b0(): sink k }; ret } => func { \
+    b0(): v0 = const 4; box { b0(): }; ret }|changed|
+two passes on each function -- nested:sccp,dce :: mod { b0(): func { b0(): a = const 1; b = const 2; c = add a b; \
+    ret c }; func { b0(): ret } } => mod { b0(): func { b0(): v0 = const 3; ret v0 }; func { b0(): ret } }|changed|
+nothing directly inside -- nested:dce :: mod { } => mod { }|unchanged|
+until nothing changes -- repeat:8:simplify-cfg :: func { b0(): a = const 1; br b1(a); b1(p): cbr p b2() b3(); \
+    b2(): ret p; b3(): ret } => func { b0(): v0 = const 1; ret v0 }|changed|
+once -- repeat:1:simplify-cfg :: func { b0(): a = const 1; br b1(a); b1(p): cbr p b2() b3(); b2(): ret p; b3(): \
+    ret } => func { b0(): v0 = const 1; cbr v0 b1() b2(); b1(): ret v0; b2(): ret }|changed|
+twice -- repeat:2:sccp :: func { b0(): a = const 1; b = const 2; c = add a b; ret c } => func { b0(): v0 = const \
+    1; v1 = const 2; v2 = const 3; v3 = const 3; v4 = add v0 v1; ret v2 }|changed|
+three times -- repeat:3:sccp :: func { b0(): a = const 1; b = const 2; c = add a b; ret c } => func { b0(): v0 = \
+    const 1; v1 = const 2; v2 = const 3; v3 = const 3; v4 = const 3; v5 = add v0 v1; ret v2 }|changed|
+two passes until nothing changes -- repeat:8:sccp,dce :: func { b0(): a = const 1; b = const 2; c = add a b; ret c \
+    } => func { b0(): v0 = const 3; ret v0 }|changed|
+nothing to repeat -- repeat:64:dce :: func { b0(): ret } => func { b0(): ret }|unchanged|
+regions that hand on a constant -- repeat:8:sccp,dce :: func { b0(): a = const 7; scope a { b0(p): scope p { \
+    b0(q): print q; ret }; ret }; ret } => func { b0(): v0 = const 7; scope v0 { b0(v1): v2 = const 7; scope v2 { \
+    b0(v3): v4 = const 7; print v4; ret }; ret }; ret }|changed|
+a sum is no branch -- simplify-cfg :: func { b0(): a = const 1; b = const 2; c = add a b; ret c } => func { b0(): \
+    v0 = const 1; v1 = const 2; v2 = add v0 v1; ret v2 }|unchanged|
+a branch whose way is known, by sccp -- sccp :: func { b0(): c = const 1; x = const 5; cbr c b1(x) b2(); b1(p): br \
+    b3(p); b2(): y = const 6; br b3(y); b3(q): ret q } => func { b0(): v0 = const 1; v1 = const 5; cbr v0 b1(v1) \
+    b2(); b1(v2): v3 = const 5; br b3(v3); b2(): v4 = const 6; br b3(v4); b3(v5): v6 = const 5; ret v6 }|changed|
+a branch whose way is known, by dce -- dce :: func { b0(): c = const 1; x = const 5; cbr c b1(x) b2(); b1(p): br \
+    b3(p); b2(): y = const 6; br b3(y); b3(q): ret q } => func { b0(): v0 = const 1; v1 = const 5; cbr v0 b1(v1) \
+    b2(); b1(v2): br b3(v2); b2(): v3 = const 6; br b3(v3); b3(v4): ret v4 }|unchanged|
+a branch whose way is known, by simplify-cfg -- simplify-cfg :: func { b0(): c = const 1; x = const 5; cbr c b1(x) \
+    b2(); b1(p): br b3(p); b2(): y = const 6; br b3(y); b3(q): ret q } => func { b0(): v0 = const 1; v1 = const 5; \
+    ret v1 }|changed|
+arguments that a sink alone reads, by sccp -- sccp :: func { b0(): l, r = pair; sink l l r r; br b1(l, r); b1(a, \
+    b): k = const 99; ret k } => func { b0(): v0, v1 = pair; sink v0 v0 v1 v1; br b1(v0, v1); b1(v2, v3): v4 = \
+    const 99; ret v4 }|unchanged|
+arguments that a sink alone reads, by simplify-cfg -- simplify-cfg :: func { b0(): l, r = pair; sink l l r r; br \
+    b1(l, r); b1(a, b): k = const 99; ret k } => func { b0(): v0, v1 = pair; sink v0 v0 v1 v1; v2 = const 99; ret \
+    v2 }|changed|
+dead arguments, then one block -- dce,simplify-cfg :: func { b0(): l, r = pair; sink l l r r; br b1(l, r); b1(a, \
+    b): k = const 99; ret k } => func { b0(): v0 = const 99; ret v0 }|changed|
+a constant argument that branches -- sccp :: func { b0(): a = const 1; br b1(a); b1(p): cbr p b2() b3(); b2(): ret \
+    p; b3(): ret } => func { b0(): v0 = const 1; br b1(v0); b1(v1): v2 = const 1; cbr v2 b2() b3(); b2(): ret v2; \
+    b3(): ret }|changed|
+a read argument that branches -- dce :: func { b0(): a = const 1; br b1(a); b1(p): cbr p b2() b3(); b2(): ret p; \
+    b3(): ret } => func { b0(): v0 = const 1; br b1(v0); b1(v1): cbr v1 b2() b3(); b2(): ret v1; b3(): ret \
+    }|unchanged|
+each function until nothing changes -- repeat:10:nested:simplify-cfg :: mod { b0(): func { b0(): br b1(); b1(): \
+    ret }; b1(): func { b0(): br b1(); b1(): ret } } => mod { b0(): func { b0(): ret }; b1(): func { b0(): ret } \
+    }|changed|";
 
 #[test]
 fn lists(rt: HostRuntime) {
-    for line in LISTS.lines() {
-        let (name, row) = line.split_once(" :: ").expect(&rt, "a name");
-        let (list, rest) = row.split_once(" :: ").expect(&rt, "a list");
-        let (text, written) = rest.split_once(" => ").expect(&rt, "a case");
-        let args = [list];
-        let case = Case {
-            name,
-            args: &args,
-            text: text.as_bytes(),
-            failing_read: 0,
-            failing_write: 0,
-        };
-        expect_run(&rt, rt.alloc(), &case, 0, written, "");
-    }
+    expect_lists(&rt, rt.alloc(), LISTS)
 }
 
 /// Names, lists of passes and texts of which each ends with status 1 or 2, and what is reported. Where a text is
 /// refused, writing would fail too; where reading fails, the text would be unreadable too.
-static REFUSED: &str =
-    "a used value of an unreachable block :: simplify-cfg :: func { b0(): ret v; b1(): v = const 1; br b1() } => refused: a value of an unreachable block is used|
-refused in a second pass :: dce,simplify-cfg :: func { b0(): ret v; b1(): v = const 1; br b1() } => refused: a value of an unreachable block is used|
-refused in a function of a module :: nested:simplify-cfg :: mod { b0(): func { b0(): ret v; b1(): v = const 1; br b1() } } => refused: a value of an unreachable block is used|
-refused in a repeated pass :: repeat:3:simplify-cfg :: func { b0(): ret v; b1(): v = const 1; br b1() } => refused: a value of an unreachable block is used|
-a use in a nested region :: simplify-cfg :: func { b0(): br b2(); b1(): v = const 1; br b2(); b2(): scope { b0(): print v; ret }; ret } => refused: a value of an unreachable block is used|
-unreachable once a branch is folded :: simplify-cfg :: func { b0(): c = const 0; cbr c b1() b2(); b1(): v = const 1; br b2(); b2(): print v; ret } => refused: a value of an unreachable block is used|
-an unreadable text :: dce :: func { b0(): a = const 1 => unreadable text|
-an unreadable number :: repeat:2:nested:dce :: func { b0(): a = const 9223372036854775808; ret a } => unreadable text|";
+static REFUSED: &str = "\
+a used value of an unreachable block -- simplify-cfg :: func { b0(): ret v; b1(): v = const 1; br b1() } => \
+    refused: a value of an unreachable block is used|
+refused in a second pass -- dce,simplify-cfg :: func { b0(): ret v; b1(): v = const 1; br b1() } => refused: a \
+    value of an unreachable block is used|
+refused in a function of a module -- nested:simplify-cfg :: mod { b0(): func { b0(): ret v; b1(): v = const 1; br \
+    b1() } } => refused: a value of an unreachable block is used|
+refused in a repeated pass -- repeat:3:simplify-cfg :: func { b0(): ret v; b1(): v = const 1; br b1() } => \
+    refused: a value of an unreachable block is used|
+a use in a nested region -- simplify-cfg :: func { b0(): br b2(); b1(): v = const 1; br b2(); b2(): scope { b0(): \
+    print v; ret }; ret } => refused: a value of an unreachable block is used|
+unreachable once a branch is folded -- simplify-cfg :: func { b0(): c = const 0; cbr c b1() b2(); b1(): v = const \
+    1; br b2(); b2(): print v; ret } => refused: a value of an unreachable block is used|
+an unreadable text -- dce :: func { b0(): a = const 1 => unreadable text|
+an unreadable number -- repeat:2:nested:dce :: func { b0(): a = const 9223372036854775808; ret a } => unreadable \
+    text|";
 
 #[test]
 fn refused_texts(rt: HostRuntime) {
     for line in REFUSED.lines() {
-        let (name, row) = line.split_once(" :: ").expect(&rt, "a name");
-        let (list, rest) = row.split_once(" :: ").expect(&rt, "a list");
-        let (text, reported) = rest.split_once(" => ").expect(&rt, "a case");
+        let row = list_row_of(&rt, line);
+        let reported = row.written;
         let status = if reported.starts_with("refused") {
             1
         } else {
             2
         };
-        let args = [list];
+        let args = [row.list];
         let mut case = Case {
-            name,
+            name: row.name,
             args: &args,
-            text: text.as_bytes(),
+            text: row.text.as_bytes(),
             failing_read: 0,
             failing_write: 1,
         };
@@ -232,33 +299,36 @@ fn refused_texts(rt: HostRuntime) {
     }
 }
 
-/// Texts that cannot be read, one a line. The first is empty.
-static UNREADABLE: &str = "
-func
-func { b0(): a = const 1
-func { }
-func { b0(): ret b0 }
-func { b0(): a = const 1; a = const 2; ret a }
-func { b0(): a = const 9223372036854775808; ret a }
-func { b0(): a = const -9223372036854775809; ret a }
-func { b0(): a = const -0; ret a }
-func { b0(): a = const 01; ret a }
-func { b0(): a = const -; ret a }
-func { b0(): add = const 1; ret add }
-func { b0(): mul = const 1; ret mul }
-func { b0(): ret; }
-func { b0(): ret } func { b0(): ret }
-func { b0(): ret # }
-func { b0(): \u{e4} = const 1; ret }
-func { b0(): a234567890123456789012345678901234567890123456789012345678901234x = const 1; ret }";
+/// Names and texts that cannot be read. The first is empty.
+static UNREADABLE: &str = "\
+nothing --\x20
+no braces -- func
+no closing brace -- func { b0(): a = const 1
+a function without blocks -- func { }
+a return of a block -- func { b0(): ret b0 }
+one name for two results -- func { b0(): a = const 1; a = const 2; ret a }
+one above the greatest -- func { b0(): a = const 9223372036854775808; ret a }
+one below the least -- func { b0(): a = const -9223372036854775809; ret a }
+a sign before 0 -- func { b0(): a = const -0; ret a }
+0 before a number -- func { b0(): a = const 01; ret a }
+a sign alone -- func { b0(): a = const -; ret a }
+a sum's word as a name -- func { b0(): add = const 1; ret add }
+a product's word as a name -- func { b0(): mul = const 1; ret mul }
+a semicolon behind the last operation -- func { b0(): ret; }
+two functions at the top -- func { b0(): ret } func { b0(): ret }
+a hash -- func { b0(): ret # }
+a letter with a mark -- func { b0(): \u{e4} = const 1; ret }
+a name of 65 letters -- func { b0(): a234567890123456789012345678901234567890123456789012345678901234x = const 1; \
+    ret }";
 
 #[test]
 fn unreadable_texts(rt: HostRuntime) {
-    for text in UNREADABLE.lines() {
+    for case in UNREADABLE.lines() {
+        let (name, text) = case.split_once(" -- ").expect(&rt, "a name");
         expect_run(
             &rt,
             rt.alloc(),
-            &propagation(text, text.as_bytes()),
+            &propagation(name, text.as_bytes()),
             2,
             "",
             "unreadable text|",
@@ -325,35 +395,36 @@ fn reads_no_more_than_one_byte_past_the_limit(rt: HostRuntime) {
     );
 }
 
-/// Words of which none is a list.
-static BAD_LISTS: &str = "
-dce,,sccp
-dce,
-,dce
-SCCP
-sccp\x20
-passes
-graph,dce
-nested
-nested:
-nested:graph
-nested: dce
-nested:nested:dce
-nested:repeat:2:dce
-repeat:8
-repeat:8:
-repeat::dce
-repeat:0:dce
-repeat:65:dce
-repeat:08:dce
-repeat:+8:dce
-repeat:-1:dce
-repeat: 8:dce
-repeat:184467440737095516168:dce
-repeat:8:graph
-repeat:2:repeat:2:dce
-repeat:8,dce
-Nested:dce";
+/// Names, and words of which none is a list.
+static BAD_LISTS: &str = "\
+nothing --\x20
+nothing between commas -- dce,,sccp
+nothing behind a comma -- dce,
+nothing before a comma -- ,dce
+capitals -- SCCP
+a blank behind a pass -- sccp\x20
+no pass -- passes
+graph before a pass -- graph,dce
+nested alone -- nested
+nested with nothing -- nested:
+nested graph -- nested:graph
+a blank behind nested -- nested: dce
+nested in nested -- nested:nested:dce
+repeat in nested -- nested:repeat:2:dce
+repeat with a number alone -- repeat:8
+repeat with nothing -- repeat:8:
+repeat without a number -- repeat::dce
+no rounds -- repeat:0:dce
+too many rounds -- repeat:65:dce
+0 before the number of rounds -- repeat:08:dce
+a plus sign -- repeat:+8:dce
+a minus sign -- repeat:-1:dce
+a blank before the number of rounds -- repeat: 8:dce
+a number above 64 bits -- repeat:184467440737095516168:dce
+repeat of graph -- repeat:8:graph
+repeat in repeat -- repeat:2:repeat:2:dce
+a comma for a colon -- repeat:8,dce
+a capital in nested -- Nested:dce";
 
 #[test]
 fn bad_arguments(rt: HostRuntime) {
@@ -370,10 +441,11 @@ fn bad_arguments(rt: HostRuntime) {
         };
         expect_run(&rt, rt.alloc(), &case, 2, "", usage);
     }
-    for list in BAD_LISTS.lines() {
+    for line in BAD_LISTS.lines() {
+        let (name, list) = line.split_once(" -- ").expect(&rt, "a name");
         let args = [list];
         let case = Case {
-            name: list,
+            name,
             args: &args,
             text: b"#",
             failing_read: 1,
@@ -396,7 +468,9 @@ fn failing_streams(rt: HostRuntime) {
     case.failing_read = 7;
     expect_run(&rt, rt.alloc(), &case, 0, printed, "");
     // 46 bytes go by six writes, of eight each but the last.
-    for (kth, written) in (1u32..).zip(WRITTEN.lines()) {
+    for (kth, line) in (1u32..).zip(WRITTEN.lines()) {
+        let (name, written) = line.split_once(" -- ").expect(&rt, "a name");
+        case.name = name;
         case.failing_write = kth;
         expect_run(
             &rt,
@@ -411,13 +485,14 @@ fn failing_streams(rt: HostRuntime) {
     expect_run(&rt, rt.alloc(), &case, 0, printed, "");
 }
 
-/// What was written before each write that fails, one a line. The first is empty.
-static WRITTEN: &str = "
-func { b
-func { b0(): v0\x20
-func { b0(): v0 = const\x20
-func { b0(): v0 = const 1; ret v
-func { b0(): v0 = const 1; ret v0 }|unch";
+/// The name of a write, and what was written before it. Before the first it is nothing.
+static WRITTEN: &str = "\
+the first write --\x20
+the second write -- func { b
+the third write -- func { b0(): v0\x20
+the fourth write -- func { b0(): v0 = const\x20
+the fifth write -- func { b0(): v0 = const 1; ret v
+the sixth write -- func { b0(): v0 = const 1; ret v0 }|unch";
 
 #[test]
 fn a_failed_report_is_ignored(rt: HostRuntime) {
@@ -450,7 +525,8 @@ fn texts_of_faults(rt: HostRuntime) {
             format!(in rt.alloc(); "{fault}")
                 .expect(&rt, "memory")
                 .as_str(),
-            want
+            want,
+            "{fault:?}"
         );
     }
 }

@@ -4,22 +4,25 @@ ghost use Rattle.pliron_core.specs.Tree.{IsLive};
 use super::lines::read;
 use pliron_core::{Context, IRStatus, Operation, Ptr};
 use pliron_pass::{AnalysisManager, BenchFactKind, BenchFacts, PassResult};
+use pliron_test_cases::cases::{Row, row_of};
 use std::alloc::Global;
 use std::process::Abort;
 
 static LOOP: &str =
     "func { b0(): z = const 0; br b1(z); b1(i): r = read; cbr r b1(i) b2(); b2(): ret i }";
 
-// A text, and its edges by the keys of blocks, which count up in the order of the text, its size and its
-// total.
-static CASES: &str =
-    "func { b0(): z = const 0; br b1(z); b1(i): r = read; cbr r b1(i) b2(); b2(): ret i } => edges 0-1 1-1 1-2, size 5, total 8
-func { b0(): ret } => edges, size 1, total 1
-mod {} => edges, size 0, total 0
-func { b0(x): cbr x b1(x) b1(x); b1(p): ret } => edges 0-1 0-1, size 2, total 4
-func { b0(): k = const 4; box { b0(): sink k }; ret } => edges, size 4, total 4
-func { b0(): box { b0(): }; br b1(); b1(): ret } => edges 0-2, size 3, total 4
-mod { b0(): func { b0(): br b1(); b1(): ret }; func { b0(): ret; b1(): br b0() } } => edges 1-2 4-3, size 6, total 8";
+// A name and a text, and its edges by the keys of blocks, which count up in the order of the text, its size and
+// its total.
+static CASES: &str = "\
+a loop -- func { b0(): z = const 0; br b1(z); b1(i): r = read; cbr r b1(i) b2(); b2(): ret i } => edges 0-1 1-1 \
+    1-2, size 5, total 8
+a return -- func { b0(): ret } => edges, size 1, total 1
+an empty module -- mod {} => edges, size 0, total 0
+both edges to one block -- func { b0(x): cbr x b1(x) b1(x); b1(p): ret } => edges 0-1 0-1, size 2, total 4
+a box -- func { b0(): k = const 4; box { b0(): sink k }; ret } => edges, size 4, total 4
+a box before a jump -- func { b0(): box { b0(): }; br b1(); b1(): ret } => edges 0-2, size 3, total 4
+functions in a module -- mod { b0(): func { b0(): br b1(); b1(): ret }; func { b0(): ret; b1(): br b0() } } => \
+    edges 1-2 4-3, size 6, total 8";
 
 // Writes what the fact says.
 fn write_fact(rt: &impl Abort, text: &mut String, fact: &BenchFacts) {
@@ -80,12 +83,14 @@ fn facts_in(
     ctx: &mut Context,
     analyses: &mut AnalysisManager<BenchFacts>,
 ) {
-    let (text, want) = case.split_once(" => ").expect(rt, "an arrow");
-    let root = read(rt, alloc, ctx, text);
+    let Row { name, asked, want } = row_of(case).expect(rt, "a case");
+    let root = read(rt, alloc, ctx, asked);
     analyses
         .compute_analysis(BenchFactKind::Total, root, ctx)
         .expect(rt, "memory");
-    check_cached(rt, alloc, analyses, root, want);
+    let mut text = String::new(alloc);
+    write_cached(rt, &mut text, analyses, root);
+    assert_eq!(rt; text.as_str(), want, "{name}");
 }
 
 fn check(rt: &impl Abort, alloc: Global, case: &str) {

@@ -9,6 +9,7 @@ use pliron_core::{Context, Operation, Ptr};
 use pliron_dce::dce;
 use pliron_notation::print_text;
 use pliron_pass::{AnalysisManager, OptError, Pass, PassManager, PassResult, Passes};
+use pliron_test_cases::cases::{Row, row_of};
 use std::alloc::Global;
 use std::process::Abort;
 
@@ -88,10 +89,12 @@ impl Pass for Annotate {
     }
 }
 
-// A text, and what a sweep answers, what it leaves of the cache and of the text.
-static CASES: &str =
-    "func { b0(): x = const 1; br b1(x); b1(a): c = const 7; ret c } => Changed, 1 runs, func { b0(): br b1(); b1(): v0 = const 7; ret v0 }
-func { b0(): x = const 1; br b1(x); b1(a): ret a } => Unchanged 0 1 2, 1 runs, func { b0(): v0 = const 1; br b1(v0); b1(v1): ret v1 }";
+// A name and a text, and what a sweep answers, what it leaves of the cache and of the text.
+static CASES: &str = "\
+an unused argument -- func { b0(): x = const 1; br b1(x); b1(a): c = const 7; ret c } => Changed, 1 runs, func { \
+    b0(): br b1(); b1(): v0 = const 7; ret v0 }
+nothing dead -- func { b0(): x = const 1; br b1(x); b1(a): ret a } => Unchanged 0 1 2, 1 runs, func { b0(): v0 = \
+    const 1; br b1(v0); b1(v1): ret v1 }";
 
 // What comes of a sweep over the text.
 fn swept_in(
@@ -112,11 +115,11 @@ fn swept_in(
 }
 
 fn check(rt: &impl Abort, alloc: Global, case: &str) {
-    let (text, want) = case.split_once(" => ").expect(rt, "an arrow");
+    let Row { name, asked, want } = row_of(case).expect(rt, "a case");
     let mut ctx = Context::new(alloc);
     let mut analyses = AnalysisManager::<Fact>::new(alloc);
-    let said = swept_in(rt, alloc, text, &mut ctx, &mut analyses);
-    assert_eq!(rt; said.as_str(), want, "{text}");
+    let said = swept_in(rt, alloc, asked, &mut ctx, &mut analyses);
+    assert_eq!(rt; said.as_str(), want, "{name}");
 }
 
 #[test]

@@ -13,6 +13,7 @@ use pliron_pass::{
     AnalysisManager, GuardedPass, NestedOpsPass, OpGuard, OptError, PMConfig, PassManager,
     PassResult, Passes, Repeat,
 };
+use pliron_test_cases::cases::{Row, row_of};
 use std::alloc::Global;
 use std::process::Abort;
 
@@ -21,33 +22,34 @@ static MISFIT: &str = "func { b0(): c = const 1; d = const 2; cbr c b1() b1(); b
 
 static FIT: &str = "func { b0(): c = const 1; d = const 2; ret c }";
 
-// A shape, words for the configuration and the passes, and what comes of it.
-static CASES: &str = "flat => Unchanged 0 1 2, 0 runs
-flat idle => Unchanged 0 1 2, 1 runs
-flat tally tally idle => Unchanged 0 1 2, 3 runs
-flat touch => Changed 0, 1 runs
-flat idle touch idle => Changed 0, 3 runs
-flat touch fail idle => code 7, 2 runs
-flat idle fail => code 7, 2 runs
-flat skip=fail skip=passes touch fail => Changed 0, 1 runs
-flat skip=touch touch => Unchanged 0 1 2, 0 runs
-flat before after idle => Unchanged 0 1 2, 1 runs
-misfit idle => Unchanged 0 1 2, 1 runs
-misfit before idle => before, 0 runs
-misfit before=touch idle touch => before, 1 runs
-misfit after idle => after, 0 runs
-misfit after fail => after, 0 runs
-misfit after=tally touch tally => after, 1 runs
-misfit before=passes after=passes idle => Unchanged 0 1 2, 1 runs
-nested idle => Unchanged 0 1 2, 3 runs
-nested touch idle => Changed 0, 6 runs
-nested touch fail => code 7, 2 runs
-barred touch fail => Unchanged 0 1 2, 0 runs
-allowed touch => Changed 0, 1 runs
-allowed touch fail => code 7, 2 runs
-repeat idle => Unchanged 0 1 2, 1 runs
-repeat touch idle => Changed 0, 6 runs
-repeat touch fail => code 7, 2 runs";
+// A name, a shape, words for the configuration and the passes, and what comes of it.
+static CASES: &str = "\
+no passes -- flat => Unchanged 0 1 2, 0 runs
+an idle pass -- flat idle => Unchanged 0 1 2, 1 runs
+three idle passes -- flat tally tally idle => Unchanged 0 1 2, 3 runs
+a change -- flat touch => Changed 0, 1 runs
+a change between idle passes -- flat idle touch idle => Changed 0, 3 runs
+a failure behind a change -- flat touch fail idle => code 7, 2 runs
+a failure behind an idle pass -- flat idle fail => code 7, 2 runs
+a failure that is skipped -- flat skip=fail skip=passes touch fail => Changed 0, 1 runs
+a change that is skipped -- flat skip=touch touch => Unchanged 0 1 2, 0 runs
+a fit text, verified before and after -- flat before after idle => Unchanged 0 1 2, 1 runs
+a misfit that nothing verifies -- misfit idle => Unchanged 0 1 2, 1 runs
+a misfit, verified before each pass -- misfit before idle => before, 0 runs
+a misfit, verified before the second pass -- misfit before=touch idle touch => before, 1 runs
+a misfit, verified after each pass -- misfit after idle => after, 0 runs
+a misfit, verified after a failure -- misfit after fail => after, 0 runs
+a misfit, verified after the second pass -- misfit after=tally touch tally => after, 1 runs
+a misfit, verified around the list alone -- misfit before=passes after=passes idle => Unchanged 0 1 2, 1 runs
+an idle pass on each operation inside -- nested idle => Unchanged 0 1 2, 3 runs
+a change on each operation inside -- nested touch idle => Changed 0, 6 runs
+a failure on the first operation inside -- nested touch fail => code 7, 2 runs
+a guard that bars -- barred touch fail => Unchanged 0 1 2, 0 runs
+a guard that allows -- allowed touch => Changed 0, 1 runs
+a failure under a guard that allows -- allowed touch fail => code 7, 2 runs
+repeated without a change -- repeat idle => Unchanged 0 1 2, 1 runs
+repeated up to the bound -- repeat touch idle => Changed 0, 6 runs
+a failure in the first round -- repeat touch fail => code 7, 2 runs";
 
 /// The operation of the text.
 pub fn read(rt: &impl Abort, alloc: Global, ctx: &mut Context, text: &str) -> Ptr<Operation>
@@ -202,10 +204,10 @@ fn run_in(rt: &impl Abort, alloc: Global, shape: &str, words: &str, ctx: &mut Co
 
 fn lines_in(rt: &impl Abort, alloc: Global, ctx: &mut Context) {
     for case in CASES.lines() {
-        let (line, want) = case.split_once(" => ").expect(rt, "a case");
-        let (shape, words) = line.split_once(" ").unwrap_or((line, ""));
+        let Row { name, asked, want } = row_of(case).expect(rt, "a case");
+        let (shape, words) = asked.split_once(" ").unwrap_or((asked, ""));
         let said = run_in(rt, alloc, shape, words, ctx);
-        assert_eq!(rt; said.as_str(), want, "{line}");
+        assert_eq!(rt; said.as_str(), want, "{name}");
     }
 }
 

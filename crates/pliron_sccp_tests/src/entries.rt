@@ -1,7 +1,7 @@
 //! Operations that name operands for their regions: trees of the tiny dialect before and after `sccp`, worked
 //! out by hand, and the run of the whole before and after.
 //!
-//! A case is the number of the operation that `sccp` is called on and the steps of a tree whose operation 0 is
+//! A case is a name, the number of the operation that `sccp` is called on and the steps of a tree whose operation 0 is
 //! a root; and after ` => ` what each question reads then, in the order of making, a number where it is a
 //! constant's and `?` elsewhere, and what the root's run emits, the latest first, where `-` is `Empty`. The
 //! world answers 1, 2, 3 and 4.
@@ -9,7 +9,7 @@ use super::tiny::propagate_operation;
 use pliron_core::{AttrObj, Context, Def, Operation, Ptr, Value};
 use pliron_evaluator::evaluator::{Datum, Sight, evaluate};
 use pliron_evaluator::{Tiny, TinyKind};
-use pliron_test_cases::cases::{fields, sides};
+use pliron_test_cases::cases::{Row, fields, row_of};
 use pliron_test_cases::trees::{Made, make};
 use std::alloc::Global;
 use std::process::Abort;
@@ -17,31 +17,46 @@ use std::process::Abort;
 const ENOUGH: usize = 200;
 
 /// Constants that are forwarded into regions.
-static REGIONS: &str =
-    "0 / scope; block 0; const 7 @0; const 5 @0; both @0 v0 v1; block 3 1; block 3 1 1; ask @1 v2; ask @2 v3 => 5 ? / - 5
-0 / scope; block 0; const 7 @0; both @0 v0; block 2 1; block 2 1 1; ask @1 v1; ask @2 v2 => ? ? / - -
-0 / scope; block 0; const 7 @0; ask @0 v0; both @0 v0 v1; block 3 1; ask @1 v2; block 3 0 1 => 7 ? / 1 7
-0 / scope; block 0; const 7 @0; const 5 @0; both @0 v0 v1; block 3 2; ask @1 v3; block 3 0 1 => ? / -
-0 / scope; block 0; const 7 @0; twice @0 v0; block 2 1; ask @1 v1 => 7 / 7 7
-0 / scope; block 0; const 7 @0; const 5 @0; twice @0 v0 v1; block 3 2; ask @1 v2; ask @1 v3 => 7 ? / - 7 - 7
-0 / scope; block 0; const 7 @0; twice @0 v0; block 2 1; twice @1 v1; block 3 1; ask @2 v2 => 7 / 7 7 7 7
-0 / scope; block 0; const 7 @0; both @0 v0 v0; block 2; block 2 1 1; twice @2 v1; block 3 1; ask @3 v2 => ? / - -
-0 / scope; block 0; const 7 @0; scope @0 v0; block 2 1; ask @1 v1 => ? / 7";
+static REGIONS: &str = "\
+both, with two operands -- 0 / scope; block 0; const 7 @0; const 5 @0; both @0 v0 v1; block 3 1; block 3 1 1; ask \
+    @1 v2; ask @2 v3 => 5 ? / - 5
+both, with one operand -- 0 / scope; block 0; const 7 @0; both @0 v0; block 2 1; block 2 1 1; ask @1 v1; ask @2 v2 \
+    => ? ? / - -
+a question between the constant and a both -- 0 / scope; block 0; const 7 @0; ask @0 v0; both @0 v0 v1; block 3 1; \
+    ask @1 v2; block 3 0 1 => 7 ? / 1 7
+both, with two arguments -- 0 / scope; block 0; const 7 @0; const 5 @0; both @0 v0 v1; block 3 2; ask @1 v3; block \
+    3 0 1 => ? / -
+twice -- 0 / scope; block 0; const 7 @0; twice @0 v0; block 2 1; ask @1 v1 => 7 / 7 7
+twice, with two operands -- 0 / scope; block 0; const 7 @0; const 5 @0; twice @0 v0 v1; block 3 2; ask @1 v2; ask \
+    @1 v3 => 7 ? / - 7 - 7
+twice in a twice -- 0 / scope; block 0; const 7 @0; twice @0 v0; block 2 1; twice @1 v1; block 3 1; ask @2 v2 => 7 \
+    / 7 7 7 7
+twice in a second region of a both -- 0 / scope; block 0; const 7 @0; both @0 v0 v0; block 2; block 2 1 1; twice \
+    @2 v1; block 3 1; ask @3 v2 => ? / - -
+a scope -- 0 / scope; block 0; const 7 @0; scope @0 v0; block 2 1; ask @1 v1 => ? / 7";
 
 /// Entry blocks that are also successors: the environment's answers are used up.
-static SUCCESSORS: &str =
-    "0 / scope; block 0; const 7 @0; twice @0 v0; block 2 1; const 9 @1; ask @1 v1; br @1 b1 v2 => ? / 9 9 9 9 7
-0 / scope; block 0; const 7 @0; twice @0 v0; block 2 1; const 7 @1; ask @1 v1; br @1 b1 v2 => 7 / 7 7 7 7 7
-0 / scope; block 0; const 7 @0; twice @0 v0; block 2 1; ask @1 v1; br @1 b1 v1 => 7 / 7 7 7 7 7
-0 / scope; block 0; const 7 @0; twice @0 v0; block 2 1; ask @1 v1; br @1 b1 v2 => ? / 4 3 2 1 7
-0 / scope; block 0; const 7 @0; both @0 v0 v0; block 2 1; const 9 @1; ask @1 v1; br @1 b1 v2; block 2 0 1 => ? / 9 9 9 9 7
-0 / scope; block 0; const 7 @0; both @0 v0 v0; block 2 1; const 7 @1; ask @1 v1; br @1 b1 v2; block 2 0 1 => 7 / 7 7 7 7 7";
+static SUCCESSORS: &str = "\
+a twice that jumps with another constant -- 0 / scope; block 0; const 7 @0; twice @0 v0; block 2 1; const 9 @1; \
+    ask @1 v1; br @1 b1 v2 => ? / 9 9 9 9 7
+a twice that jumps with the same constant -- 0 / scope; block 0; const 7 @0; twice @0 v0; block 2 1; const 7 @1; \
+    ask @1 v1; br @1 b1 v2 => 7 / 7 7 7 7 7
+a twice that jumps with its argument -- 0 / scope; block 0; const 7 @0; twice @0 v0; block 2 1; ask @1 v1; br @1 \
+    b1 v1 => 7 / 7 7 7 7 7
+a twice that jumps with an answer -- 0 / scope; block 0; const 7 @0; twice @0 v0; block 2 1; ask @1 v1; br @1 b1 \
+    v2 => ? / 4 3 2 1 7
+a both that jumps with another constant -- 0 / scope; block 0; const 7 @0; both @0 v0 v0; block 2 1; const 9 @1; \
+    ask @1 v1; br @1 b1 v2; block 2 0 1 => ? / 9 9 9 9 7
+a both that jumps with the same constant -- 0 / scope; block 0; const 7 @0; both @0 v0 v0; block 2 1; const 7 @1; \
+    ask @1 v1; br @1 b1 v2; block 2 0 1 => 7 / 7 7 7 7 7";
 
 /// Calls on what names operands itself: whatever may come in at its own entries.
-static CALLED: &str =
-    "3 / scope; block 0; const 7 @0; const 5 @0; both @0 v0 v1; block 3 1; block 3 1 1; ask @1 v2; ask @2 v3 => ? ? / - 5
-2 / scope; block 0; const 7 @0; twice @0 v0; block 2 1; ask @1 v1 => ? / 7 7
-2 / scope; block 0; const 7 @0; twice @0 v0; block 2 1; const 3 @1; twice @1 v2; block 4 1; ask @2 v3; ask @1 v1 => 3 ? / 3 3 7 3 3";
+static CALLED: &str = "\
+both as the root -- 3 / scope; block 0; const 7 @0; const 5 @0; both @0 v0 v1; block 3 1; block 3 1 1; ask @1 v2; \
+    ask @2 v3 => ? ? / - 5
+twice as the root -- 2 / scope; block 0; const 7 @0; twice @0 v0; block 2 1; ask @1 v1 => ? / 7 7
+a twice in a twice that is the root -- 2 / scope; block 0; const 7 @0; twice @0 v0; block 2 1; const 3 @1; twice \
+    @1 v2; block 4 1; ask @2 v3; ask @1 v1 => 3 ? / 3 3 7 3 3";
 
 // What is known of the value: the number of the constant that makes it.
 fn number_of(ctx: &Context, value: Value) -> Option<i128> {
@@ -130,8 +145,8 @@ fn sight_text(rt: &impl Abort, alloc: Global, sight: &Sight) -> String {
 }
 
 fn case_in(rt: &impl Abort, alloc: Global, ctx: &mut Context, case: &str) {
-    let (tree, want) = sides(case).expect(rt, "a case");
-    let (index, steps) = fields(tree).expect(rt, "a number");
+    let Row { name, asked, want } = row_of(case).expect(rt, "a case");
+    let (index, steps) = fields(asked).expect(rt, "a number");
     let mut made = Made::new(alloc);
     make(alloc, ctx, &mut made, steps).expect(rt, "a tree");
     let root = made.operation("0").expect(rt, "a root");
@@ -142,8 +157,8 @@ fn case_in(rt: &impl Abort, alloc: Global, ctx: &mut Context, case: &str) {
     let after = sight_of_root(rt, alloc, ctx, root);
     let told = sight_text(rt, alloc, &before);
     let got = format!(in alloc; "{asked}/{told}").expect(rt, "memory");
-    assert_eq!(rt; got.as_str(), want, "{case}");
-    assert!(rt; before == after, "{case}");
+    assert_eq!(rt; got.as_str(), want, "{name}");
+    assert!(rt; before == after, "{name}");
 }
 
 fn cases(rt: &impl Abort, alloc: Global, lines: &str) {

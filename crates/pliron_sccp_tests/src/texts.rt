@@ -9,7 +9,7 @@ use pliron_bench::Bench;
 use pliron_core::{Context, IRStatus, Operation, Ptr};
 use pliron_notation::{print_text, read_text};
 use pliron_sccp::{sccp, sccp_counted};
-use pliron_test_cases::cases::{Case, case_of};
+use pliron_test_cases::cases::{Case, Row, case_of, row_of};
 use std::alloc::Global;
 use std::process::Abort;
 use std::test::Fail;
@@ -236,28 +236,30 @@ fn left_around(
 
 /// Texts before and after `sccp` on their second operation, worked out by hand. Nothing is known of values
 /// from outside the root nor of what it passes to its own region, also where that is defined inside it.
-static NESTED: &str =
-    "func { b0(): k = const 4; scope k { b0(x): a = const 1; b = add a a; c = add k b; d = add x b; print b }; e = add k k; ret e } \
-    => func { b0(): v0 = const 4; scope v0 { b0(v1): v2 = const 1; v3 = const 2; v4 = add v2 v2; v5 = add v0 v3; v6 = add v1 v3; print v3 }; \
-        v7 = add v0 v0; ret v7 }
-func { b0(): k = const 4; scope a { b0(p): a = const 1; b = add a a; print p; print b }; ret } \
-    => func { b0(): v0 = const 4; scope v2 { b0(v1): v2 = const 1; v3 = const 2; v4 = add v2 v2; print v1; print v3 }; ret }
-func { b0(): k = const 4; scope k { b0(p): a = const 1; scope a p { b0(q, r): print q; print r } }; ret } \
-    => func { b0(): v0 = const 4; scope v0 { b0(v1): v2 = const 1; scope v2 v1 { b0(v3, v4): v5 = const 1; print v5; print v4 } }; ret }";
+static NESTED: &str = "\
+a scope with an operand from outside -- func { b0(): k = const 4; scope k { b0(x): a = const 1; b = add a a; c = \
+    add k b; d = add x b; print b }; e = add k k; ret e } => func { b0(): v0 = const 4; scope v0 { b0(v1): v2 = \
+    const 1; v3 = const 2; v4 = add v2 v2; v5 = add v0 v3; v6 = add v1 v3; print v3 }; v7 = add v0 v0; ret v7 }
+a scope with an operand from inside -- func { b0(): k = const 4; scope a { b0(p): a = const 1; b = add a a; print \
+    p; print b }; ret } => func { b0(): v0 = const 4; scope v2 { b0(v1): v2 = const 1; v3 = const 2; v4 = add v2 \
+    v2; print v1; print v3 }; ret }
+a scope in a scope -- func { b0(): k = const 4; scope k { b0(p): a = const 1; scope a p { b0(q, r): print q; print \
+    r } }; ret } => func { b0(): v0 = const 4; scope v0 { b0(v1): v2 = const 1; scope v2 v1 { b0(v3, v4): v5 = \
+    const 1; print v5; print v4 } }; ret }";
 
 // Only what is inside the root is rewritten.
 fn nested_root(rt: &impl Abort, alloc: Global, ctx: &mut Context, line: &str) -> Result<(), Fail> {
-    let Some((text, after)) = line.split_once(" => ") else {
-        return Err(Fail::from("no arrow"));
+    let Some(Row { name, asked, want }) = row_of(line) else {
+        return Err(Fail::from("no case"));
     };
-    let Some(whole) = read_text(alloc, text.as_bytes(), ctx)? else {
+    let Some(whole) = read_text(alloc, asked.as_bytes(), ctx)? else {
         return Err(Fail::from("unreadable"));
     };
     let Some(root) = second_inside(ctx, whole) else {
         return Err(Fail::from("no second operation"));
     };
     let printed = left_around(rt, alloc, ctx, whole, root)?;
-    assert_eq!(rt; printed.as_str(), after, "{text}");
+    assert_eq!(rt; printed.as_str(), want, "{name}");
     Ok(())
 }
 

@@ -1,5 +1,5 @@
-//! How cases are read. A case is a line, with what is asked to the left of ` => ` and the answer to its
-//! right; fields are set apart by `/`, and a name stands before ` -- `.
+//! How cases are read. A case is a line: its name before ` -- `, what is asked to the left of ` => ` and the answer to
+//! its right; fields are set apart by `/`.
 ghost use Rattle.std.specs.Prelude.{IfSome};
 ghost use Rattle.pliron_core.specs.Tree.{IsLive};
 ghost use Rattle.pliron_laws.specs.Linked.{IsWellLinked};
@@ -9,9 +9,26 @@ use pliron_core::{AttrObj, BasicBlock, Context, IRStatus, Operation, Ptr, Text};
 use pliron_meaning::bench::{print_text, read_text};
 use std::alloc::{AllocError, Global};
 
-/// Both sides of a case. Cost: linear in the line.
-pub fn sides<'t>(line: &'t str) -> Option<(&'t str, &'t str)> {
-    line.split_once(" => ")
+/// A row of a table: a line `NAME -- ASKED => WANT`.
+#[derive(Clone, Copy)]
+pub struct Row<'t> {
+    /// What a failure prints.
+    pub name: &'t str,
+    /// What is asked.
+    pub asked: &'t str,
+    /// The answer.
+    pub want: &'t str,
+}
+
+/// The row of a line, if it is one. Cost: linear in the line.
+pub fn row_of<'t>(line: &'t str) -> Option<Row<'t>> {
+    let (name, row) = line.split_once(" -- ")?;
+    let (asked, want) = row.split_once(" =>")?;
+    Some(Row {
+        name,
+        asked,
+        want: want.strip_prefix(' ').unwrap_or(want),
+    })
 }
 
 /// A case of a table of texts: a line `NAME -- ANSWER TEXT => AFTER`.
@@ -40,14 +57,13 @@ impl Case<'_> {
 
 /// The case of a line, if it is one. Cost: linear in the line.
 pub fn case_of<'t>(line: &'t str) -> Option<Case<'t>> {
-    let (name, case) = line.split_once(" -- ")?;
-    let (before, after) = sides(case)?;
-    let (answer, text) = before.split_once(' ')?;
+    let row = row_of(line)?;
+    let (answer, text) = row.asked.split_once(' ')?;
     Some(Case {
-        name,
+        name: row.name,
         answer,
         text,
-        after,
+        after: row.want,
     })
 }
 

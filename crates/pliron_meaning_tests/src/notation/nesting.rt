@@ -23,21 +23,23 @@ fn nested_text(rt: &impl Abort, alloc: Global, case: &str, depth: usize) -> Stri
     text
 }
 
-static NESTS: &str = "mod { b0(): / mod { b0(): / mod { }
-mod { b0(): / mod { b0(): / func { b0(): }
-func { b0(): / box { b0(): / box { }
-func { b0(): / scope { b0(): / scope { b0(): }";
+static NESTS: &str = "\
+modules -- mod { b0(): / mod { b0(): / mod { }
+modules round a function -- mod { b0(): / mod { b0(): / func { b0(): }
+boxes -- func { b0(): / box { b0(): / box { }
+scopes -- func { b0(): / scope { b0(): / scope { b0(): }";
 
 #[test]
 fn sixty_four_regions_in_one_another(rt: HostRuntime) {
     let alloc = rt.alloc();
     for case in NESTS.lines() {
-        let most = nested_text(&rt, alloc, case, 64);
-        assert!(&rt; printed_line(&rt, alloc, most.as_str()) == most, "{case}");
-        let more = nested_text(&rt, alloc, case, 65);
+        let (name, nest) = case.split_once(" -- ").expect(&rt, "a name");
+        let most = nested_text(&rt, alloc, nest, 64);
+        assert!(&rt; printed_line(&rt, alloc, most.as_str()) == most, "{name}");
+        let more = nested_text(&rt, alloc, nest, 65);
         assert!(&rt;
             printed_line(&rt, alloc, more.as_str()).as_str() == "unreadable",
-            "{case}"
+            "{name}"
         );
     }
 }

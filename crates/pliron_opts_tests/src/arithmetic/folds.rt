@@ -11,25 +11,27 @@ use std::alloc::Global;
 use std::process::Abort;
 use std::test::Fail;
 
-// The number of an operation of the first block, what is known of its operands, the function, what it becomes.
+// A name, the number of an operation of the first block, what is known of its operands, the function, what it becomes.
 static CASES: &str = "\
-0 | | function { b0(): a = lit 6; return a } => function { b0(): v0 = lit 6; return v0 }
-2 | 6 7 | function { b0(): a = lit 6; b = lit 7; p = mul a b; return p } \
-    => function { b0(): v0 = lit 6; v1 = lit 7; v2 = lit 42; v3 = mul v0 v1; return v2 }
-2 | 6 ? | function { b0(): a = lit 6; b = lit 7; p = mul a b; return p } => function { b0(): v0 = lit 6; v1 = lit 7; v2 = mul v0 v1; return v2 }
-1 | 5 | function { b0(): a = lit 5; n = neg a; return n } => function { b0(): v0 = lit 5; v1 = lit -5; v2 = neg v0; return v1 }
-2 | 3 4 | function { b0(): a = lit 3; b = lit 4; l = less a b; return l } \
-    => function { b0(): v0 = lit 3; v1 = lit 4; v2 = lit 1; v3 = less v0 v1; return v2 }
-2 | 4 3 | function { b0(): a = lit 4; b = lit 3; l = less a b; return l } \
-    => function { b0(): v0 = lit 4; v1 = lit 3; v2 = lit 0; v3 = less v0 v1; return v2 }
-0 | 9223372036854775807 1 | function { b0(x, y): s = add x y; return s } \
-    => function { b0(v0, v1): v2 = lit -9223372036854775808; v3 = add v0 v1; return v2 }
-0 | 0 ? ? | function { b0(c, x, y): branch c t(x) f(y); t(p): return p; f(q): return q } \
-    => function { b0(v0, v1, v2): jump b2(v2); b1(v3): return v3; b2(v4): return v4 }
-0 | 5 ? ? | function { b0(c, x, y): branch c t(x) f(y); t(p): return p; f(q): return q } \
-    => function { b0(v0, v1, v2): jump b1(v1); b1(v3): return v3; b2(v4): return v4 }
-0 | ? ? ? | function { b0(c, x, y): branch c t(x) f(y); t(p): return p; f(q): return q } \
-    => function { b0(v0, v1, v2): branch v0 b1(v1) b2(v2); b1(v3): return v3; b2(v4): return v4 }";
+a number -- 0 | | function { b0(): a = lit 6; return a } => function { b0(): v0 = lit 6; return v0 }
+a product -- 2 | 6 7 | function { b0(): a = lit 6; b = lit 7; p = mul a b; return p } => function { b0(): v0 = lit \
+    6; v1 = lit 7; v2 = lit 42; v3 = mul v0 v1; return v2 }
+a product with one unknown -- 2 | 6 ? | function { b0(): a = lit 6; b = lit 7; p = mul a b; return p } => function \
+    { b0(): v0 = lit 6; v1 = lit 7; v2 = mul v0 v1; return v2 }
+a negative -- 1 | 5 | function { b0(): a = lit 5; n = neg a; return n } => function { b0(): v0 = lit 5; v1 = lit \
+    -5; v2 = neg v0; return v1 }
+less, of a smaller one -- 2 | 3 4 | function { b0(): a = lit 3; b = lit 4; l = less a b; return l } => function { \
+    b0(): v0 = lit 3; v1 = lit 4; v2 = lit 1; v3 = less v0 v1; return v2 }
+less, of a greater one -- 2 | 4 3 | function { b0(): a = lit 4; b = lit 3; l = less a b; return l } => function { \
+    b0(): v0 = lit 4; v1 = lit 3; v2 = lit 0; v3 = less v0 v1; return v2 }
+a sum past the greatest -- 0 | 9223372036854775807 1 | function { b0(x, y): s = add x y; return s } => function { \
+    b0(v0, v1): v2 = lit -9223372036854775808; v3 = add v0 v1; return v2 }
+a branch on 0 -- 0 | 0 ? ? | function { b0(c, x, y): branch c t(x) f(y); t(p): return p; f(q): return q } => \
+    function { b0(v0, v1, v2): jump b2(v2); b1(v3): return v3; b2(v4): return v4 }
+a branch on a number but 0 -- 0 | 5 ? ? | function { b0(c, x, y): branch c t(x) f(y); t(p): return p; f(q): return \
+    q } => function { b0(v0, v1, v2): jump b1(v1); b1(v3): return v3; b2(v4): return v4 }
+a branch on an unknown one -- 0 | ? ? ? | function { b0(c, x, y): branch c t(x) f(y); t(p): return p; f(q): return \
+    q } => function { b0(v0, v1, v2): branch v0 b1(v1) b2(v2); b1(v3): return v3; b2(v4): return v4 }";
 
 fn known_operands(rt: &impl Abort, alloc: Global, words: &str) -> Vec<Option<AttrObj>> {
     let mut attrs = Vec::new(alloc);
@@ -120,12 +122,11 @@ fn folded_in(rt: &impl Abort, alloc: Global, ctx: &mut Context, case: &str) -> S
 }
 
 fn check(rt: &impl Abort, alloc: Global, line: &str) {
-    let Some((before, after)) = line.split_once(" => ") else {
-        panic!(rt; "no arrow");
-    };
+    let (name, row) = line.split_once(" -- ").expect(rt, "a name");
+    let (before, after) = row.split_once(" => ").expect(rt, "a case");
     let mut ctx = Context::new(alloc);
     let text = folded_in(rt, alloc, &mut ctx, before);
-    assert_eq!(rt; text.as_str(), after, "{before}");
+    assert_eq!(rt; text.as_str(), after, "{name}");
 }
 
 #[test]

@@ -20,116 +20,126 @@ fn printed_in(rt: &impl Abort, alloc: Global, ctx: &mut Context, text: &str) -> 
     }
 }
 
-fn check(rt: &impl Abort, alloc: Global, text: &str, printed: &str) {
+fn check(rt: &impl Abort, alloc: Global, name: &str, text: &str, printed: &str) {
     let mut ctx = Context::new(alloc);
     let found = printed_in(rt, alloc, &mut ctx, text);
-    assert_eq!(rt; found.as_str(), printed, "{text}");
+    assert_eq!(rt; found.as_str(), printed, "{name}");
 }
 
-// Texts, and what is printed of each.
+// Names, texts, and what is printed of each.
 static READ: &str = "\
-function { } => function { }
-function { b0(): } => function { b0(): }
-function { b0(): ; b1(): } => function { b0():; b1(): }
-function{b0():return} => function { b0(): return }
-\x20 function\t{ a ( x , y ) : return\ty x } => function { b0(v0, v1): return v1 v0 }
-function { x(x): return x } => function { b0(v0): return v0 }
-function { a_1B(x9_): return x9_ } => function { b0(v0): return v0 }
-function { b0(): s = neg t; t = lit 1; return s } => function { b0(): v0 = neg v1; v1 = lit 1; return v0 }
-function { b0(): a = lit -9223372036854775808; b = lit 9223372036854775807; z = lit 0; m = lit -1; return a b z m } \
-    => function { b0(): v0 = lit -9223372036854775808; v1 = lit 9223372036854775807; v2 = lit 0; v3 = lit -1; return v0 v1 v2 v3 }
-function { b0(a, b): s = add a b; p = mul a b; l = less s p; n = neg l; return n } \
-    => function { b0(v0, v1): v2 = add v0 v1; v3 = mul v0 v1; v4 = less v2 v3; v5 = neg v4; return v5 }
-function { b0(c, x): branch c t(x) f(); f(): return; t(y): jump f() } \
-    => function { b0(v0, v1): branch v0 b2(v1) b1(); b1(): return; b2(v2): jump b1() }
-function { b0(): jump b1(); b1(x): return x } => function { b0(): jump b1(); b1(v0): return v0 }
-function { b0(c): p, q = if c { } { }; return q p } => function { b0(v0): v1, v2 = if v0 { } { }; return v2 v1 }
-function { b0(c, x): r = if c x { t(y): return y } { f(z): n = neg z; return n }; return r } \
-    => function { b0(v0, v1): v2 = if v0 v1 { b0(v3): return v3 } { b0(v4): v5 = neg v4; return v5 }; return v2 }
-function { b(): while { b(): return }; return } => function { b0(): while { b0(): return }; return }
-function { b(): function { b(): x = lit 1; return x }; y = lit 2; return y } \
-    => function { b0(): function { b0(): v0 = lit 1; return v0 }; v1 = lit 2; return v1 }
-x = lit 5 => v0 = lit 5
-return => return
-while { } => while { }
-function { b0(): a23456789012345678901234567890123456789012345678901234567890123x = lit 1; return } => function { b0(): v0 = lit 1; return }";
+an empty function -- function { } => function { }
+an empty block -- function { b0(): } => function { b0(): }
+two empty blocks -- function { b0(): ; b1(): } => function { b0():; b1(): }
+no blanks -- function{b0():return} => function { b0(): return }
+many blanks -- \x20 function\t{ a ( x , y ) : return\ty x } => function { b0(v0, v1): return v1 v0 }
+one name for a block and a value -- function { x(x): return x } => function { b0(v0): return v0 }
+names of letters and digits -- function { a_1B(x9_): return x9_ } => function { b0(v0): return v0 }
+a use before its definition -- function { b0(): s = neg t; t = lit 1; return s } => function { b0(): v0 = neg v1; \
+    v1 = lit 1; return v0 }
+the least and the greatest number -- function { b0(): a = lit -9223372036854775808; b = lit 9223372036854775807; z \
+    = lit 0; m = lit -1; return a b z m } => function { b0(): v0 = lit -9223372036854775808; v1 = lit \
+    9223372036854775807; v2 = lit 0; v3 = lit -1; return v0 v1 v2 v3 }
+each operation on numbers -- function { b0(a, b): s = add a b; p = mul a b; l = less s p; n = neg l; return n } => \
+    function { b0(v0, v1): v2 = add v0 v1; v3 = mul v0 v1; v4 = less v2 v3; v5 = neg v4; return v5 }
+a branch -- function { b0(c, x): branch c t(x) f(); f(): return; t(y): jump f() } => function { b0(v0, v1): branch \
+    v0 b2(v1) b1(); b1(): return; b2(v2): jump b1() }
+a jump with too few values -- function { b0(): jump b1(); b1(x): return x } => function { b0(): jump b1(); b1(v0): \
+    return v0 }
+two empty regions -- function { b0(c): p, q = if c { } { }; return q p } => function { b0(v0): v1, v2 = if v0 { } \
+    { }; return v2 v1 }
+an if with arguments -- function { b0(c, x): r = if c x { t(y): return y } { f(z): n = neg z; return n }; return r \
+    } => function { b0(v0, v1): v2 = if v0 v1 { b0(v3): return v3 } { b0(v4): v5 = neg v4; return v5 }; return v2 }
+a while without values -- function { b(): while { b(): return }; return } => function { b0(): while { b0(): return \
+    }; return }
+a function in a function -- function { b(): function { b(): x = lit 1; return x }; y = lit 2; return y } => \
+    function { b0(): function { b0(): v0 = lit 1; return v0 }; v1 = lit 2; return v1 }
+a number at the top -- x = lit 5 => v0 = lit 5
+a return at the top -- return => return
+a while at the top -- while { } => while { }
+a name of 64 letters -- function { b0(): a23456789012345678901234567890123456789012345678901234567890123x = lit 1; \
+    return } => function { b0(): v0 = lit 1; return }";
 
 #[test]
 fn read_and_printed(rt: HostRuntime) {
     for line in READ.lines() {
-        let (text, printed) = line.split_once(" => ").expect(&rt, "a case");
-        check(&rt, rt.alloc(), text, printed);
-        check(&rt, rt.alloc(), printed, printed);
+        let (name, row) = line.split_once(" -- ").expect(&rt, "a name");
+        let (text, printed) = row.split_once(" => ").expect(&rt, "a case");
+        check(&rt, rt.alloc(), name, text, printed);
+        check(&rt, rt.alloc(), name, printed, printed);
     }
 }
 
-// Texts outside the notation, each by one rule. The first is empty.
-static UNREADABLE: &str = "
-function
-function {
-function { b0(): return
-function { b0(): return } return
-function { return }
-function { b0() return }
-function { b0: return }
-function { b0(x: return x }
-function { b0(x y): return x }
-function { b0(x,): return x }
-function { b0(): return; }
-function { b0(): ; return }
-function { b0(): a = lit 1 return a }
-function { b0(): a = lit; return }
-function { b0(): a = lit 01; return }
-function { b0(): a = lit -0; return }
-function { b0(): a = lit +1; return }
-function { b0(): a = lit - 1; return }
-function { b0(): a = lit 9223372036854775808; return }
-function { b0(): a = lit -9223372036854775809; return }
-function { b0(): a = lit 1 a; return }
-function { b0(): a = sub a a; return }
-function { b0(): a = add b; b = lit 1; return }
-function { b0(): a, b = lit 1; return }
-function { b0(): lit 1; return }
-function { b0(): a b = lit 1; return }
-function { b0(): = lit 1; return }
-function { b0(): return x }
-function { b0(): return b0 }
-function { b0(): jump b1() }
-function { b0(): jump b0 }
-function { b0(): jump b0(; return }
-function { b0(): jump }
-function { b0(c): branch c b0(c) }
-function { b0(c): branch b0(c) b0(c) }
-function { b0(c): branch c b0(c) b0(c) b0(c) }
-function { b0(): jump b0(); return }
-function { b0(): while { b1(): jump b0() }; return }
-function { b0(): a = jump b0() }
-function { b0(): a = return }
-function { b0(): a = lit 1; a = lit 2; return }
-function { b0(): return; b0(): return }
-function { b0(a): while a { b0(a): return }; return }
-function { b0(): add = lit 1; return }
-function { add(): return }
-function { b0(): 1a = lit 1; return }
-function { b0(): _a = lit 1; return }
-function { b0(): a-b = lit 1; return }
-function { b0(): \u{e4} = lit 1; return }
-function { b0(): a234567890123456789012345678901234567890123456789012345678901234x = lit 1; return }
-function { b0(): return # }
-function { b0(): if { }; return }
-function { b0(): if { } { } { }; return }
-function { b0(): while { } { }; return }
-function { b0(): while; return }
-function { b0(): a = lit 1 { }; return }
-function { b0(x): function x { }; return }
-r = function { b0(): return }
-Function { b0(): return }
-func { b0(): ret }";
+// Names, and texts outside the notation, each by one rule. The first is empty.
+static UNREADABLE: &str = "\
+nothing --\x20
+no braces -- function
+no closing brace -- function {
+no closing brace behind a block -- function { b0(): return
+a return behind the end -- function { b0(): return } return
+operations without a block -- function { return }
+no colon of a block -- function { b0() return }
+no brackets of a block -- function { b0: return }
+no closing bracket of a block -- function { b0(x: return x }
+no comma between arguments -- function { b0(x y): return x }
+a comma behind the last argument -- function { b0(x,): return x }
+a semicolon behind the last operation -- function { b0(): return; }
+a semicolon before the first operation -- function { b0(): ; return }
+no semicolon between operations -- function { b0(): a = lit 1 return a }
+no number -- function { b0(): a = lit; return }
+0 before a number -- function { b0(): a = lit 01; return }
+a sign before 0 -- function { b0(): a = lit -0; return }
+a plus sign -- function { b0(): a = lit +1; return }
+a blank behind a sign -- function { b0(): a = lit - 1; return }
+one above the greatest -- function { b0(): a = lit 9223372036854775808; return }
+one below the least -- function { b0(): a = lit -9223372036854775809; return }
+an operand behind a number -- function { b0(): a = lit 1 a; return }
+a word of no operation -- function { b0(): a = sub a a; return }
+one operand of a sum -- function { b0(): a = add b; b = lit 1; return }
+two results of a number -- function { b0(): a, b = lit 1; return }
+no result of a number -- function { b0(): lit 1; return }
+no comma between results -- function { b0(): a b = lit 1; return }
+no name before an equals sign -- function { b0(): = lit 1; return }
+a return of no value -- function { b0(): return x }
+a return of a block -- function { b0(): return b0 }
+a jump to no block -- function { b0(): jump b1() }
+a jump without brackets -- function { b0(): jump b0 }
+a jump without its closing bracket -- function { b0(): jump b0(; return }
+a jump without a target -- function { b0(): jump }
+one target of a branch -- function { b0(c): branch c b0(c) }
+a branch without a condition -- function { b0(c): branch b0(c) b0(c) }
+three targets of a branch -- function { b0(c): branch c b0(c) b0(c) b0(c) }
+a jump in mid-block -- function { b0(): jump b0(); return }
+a jump out of a region -- function { b0(): while { b1(): jump b0() }; return }
+a result of a jump -- function { b0(): a = jump b0() }
+a result of a return -- function { b0(): a = return }
+one name for two results -- function { b0(): a = lit 1; a = lit 2; return }
+one name for two blocks -- function { b0(): return; b0(): return }
+an argument's name again in a region -- function { b0(a): while a { b0(a): return }; return }
+an operation's word as a name -- function { b0(): add = lit 1; return }
+an operation's word as a block's name -- function { add(): return }
+a digit before a letter -- function { b0(): 1a = lit 1; return }
+an underscore before a letter -- function { b0(): _a = lit 1; return }
+a dash in a name -- function { b0(): a-b = lit 1; return }
+a letter with a mark -- function { b0(): \u{e4} = lit 1; return }
+a name of 65 letters -- function { b0(): a234567890123456789012345678901234567890123456789012345678901234x = lit \
+    1; return }
+a hash -- function { b0(): return # }
+one region of an if -- function { b0(): if { }; return }
+three regions of an if -- function { b0(): if { } { } { }; return }
+two regions of a while -- function { b0(): while { } { }; return }
+a while without a region -- function { b0(): while; return }
+a region of a number -- function { b0(): a = lit 1 { }; return }
+an operand of a function -- function { b0(x): function x { }; return }
+a result of a function -- r = function { b0(): return }
+a capital in the word of the root -- Function { b0(): return }
+a text of another notation -- func { b0(): ret }";
 
 #[test]
 fn unreadable_texts(rt: HostRuntime) {
-    for text in UNREADABLE.lines() {
-        check(&rt, rt.alloc(), text, "none");
+    for line in UNREADABLE.lines() {
+        let (name, text) = line.split_once(" -- ").expect(&rt, "a name");
+        check(&rt, rt.alloc(), name, text, "none");
     }
 }
 
@@ -150,6 +160,8 @@ fn nest(rt: &impl Abort, alloc: Global, depth: usize) -> String {
 fn depths(rt: HostRuntime) {
     let alloc = rt.alloc();
     let deepest = nest(&rt, alloc, 64);
-    check(&rt, alloc, deepest.as_str(), deepest.as_str());
-    check(&rt, alloc, nest(&rt, alloc, 65).as_str(), "none");
+    let text = deepest.as_str();
+    check(&rt, alloc, "64 regions", text, text);
+    let deeper = nest(&rt, alloc, 65);
+    check(&rt, alloc, "65 regions", deeper.as_str(), "none");
 }

@@ -1,7 +1,7 @@
 use Rattle.std.proofs.Common.{rules, ◌+◌, OnOk, inl, refl, sym, subst, arith}
 use Rattle.pliron_cse.specs.Taking.{TakeInTurn}
 use Rattle.pliron_cse.specs.Leaders.{leader_with}
-use Rattle.pliron_cse.specs.Steps.{IsTaking}
+use Rattle.pliron_cse.specs.MergingSteps.{IsTaking}
 use Rattle.pliron_cse.proofs.TakingSteps.{taking_start, taking_next, taking_end, refused_way, refused_taken}
 use Rattle.pliron_cse.proofs.take.take_all.Goals as goal
 

@@ -1,5 +1,5 @@
 use Rattle.pliron_cse.specs.Leaders.{leader_with}
-use Rattle.pliron_cse.specs.Steps.{IsTaking}
+use Rattle.pliron_cse.specs.MergingSteps.{IsTaking}
 use Rattle.pliron_cse.proofs.take.take_all.Given as goal
 
 abbrev pub invariant-loop-place : goal.invariant-loop-place

@@ -2,7 +2,7 @@ use Rattle.std.proofs.Common.{◌≡◌, true≢false, sym, ap, ◌∙◌, subst
 use Rattle.pliron_core.specs.Tree.{IsLive}
 use Rattle.pliron_laws.proofs.FoldLemmas.{on_err}
 use Rattle.pliron_cse.specs.Leaders.{leader_with}
-use Rattle.pliron_cse.specs.Steps.{LeadsAt}
+use Rattle.pliron_cse.specs.MergingSteps.{LeadsAt}
 use Rattle.pliron_equivalence.specs.Redundancy.{IsLeader}
 use Rattle.pliron_equivalence.specs.Merging.{IsPartlyMerged, after_merging}
 use Rattle.pliron_cse.proofs.Alone.{alone_other, alone_leads}
