@@ -11,6 +11,7 @@ pub mod jumps;
 mod kind;
 pub mod laws;
 pub mod numbers;
+mod operand_folds;
 mod replace;
 pub mod tables;
 mod verify;

@@ -4,8 +4,6 @@
 #[cfg(test)]
 mod cases;
 #[cfg(test)]
-mod identities;
-#[cfg(test)]
 mod passes;
 #[cfg(test)]
 mod random;

@@ -3,7 +3,7 @@ ghost use Rattle.pliron_bench.specs.BenchMoves.{bench};
 ghost use Rattle.pliron_core.specs.Tree.{IsLive};
 ghost use Rattle.pliron_laws.specs.Linked.{IsWellLinked};
 
-use super::identities::Identities;
+use pliron_bench::Bench;
 use pliron_canonicalize_pass::{CanonicalizePass, canonicalization_reports_accurately};
 use pliron_core::{Context, IRStatus, Operation, Ptr};
 use pliron_laws::OptError;
@@ -16,9 +16,9 @@ use std::process::Abort;
 
 static TEXT: &str = "func { b0(x): z = const 0; a = mul x z; b = mul a x; ret b }";
 
-type Canonicalize = CanonicalizePass<Identities, BenchFacts>;
+type Canonicalize = CanonicalizePass<Bench, BenchFacts>;
 
-type Step = Either<Canonicalize, PassStep<Identities, BenchFacts>>;
+type Step = Either<Canonicalize, PassStep<Bench, BenchFacts>>;
 
 // What is left by the list of both passes, and its answer.
 fn run(
@@ -52,7 +52,7 @@ fn the_pass_and_another_in_a_list(rt: HostRuntime) {
 
 #[test]
 fn the_name_of_the_pass(rt: HostRuntime) {
-    canonicalization_reports_accurately::<Identities, BenchFacts>();
+    canonicalization_reports_accurately::<Bench, BenchFacts>();
     let pass = Canonicalize::new();
     assert_eq!(rt; pass.name(), "canonicalize");
 }

@@ -1,6 +1,6 @@
 //! Runs of texts before and after `canonicalize`, compared by the evaluator.
-use super::identities::Identities;
 use super::random::RANDOM;
+use pliron_bench::Bench;
 use pliron_canonicalize::canonicalize;
 use pliron_core::Context;
 use pliron_test_cases::cases::{Case, case_of, read};
@@ -14,10 +14,7 @@ fn compare_in(rt: &impl Abort, alloc: Global, ctx: &mut Context, case: &Case) {
     let name = case.name;
     let root = read(alloc, ctx, case.text).expect(rt, "a text");
     let before = sights(alloc, ctx, root, ENOUGH).expect(rt, "memory");
-    assert!(rt;
-        canonicalize::<Identities>(alloc, root, ctx).is_ok(),
-        "{name}"
-    );
+    assert!(rt; canonicalize::<Bench>(alloc, root, ctx).is_ok(), "{name}");
     let after = sights(alloc, ctx, root, ENOUGH).expect(rt, "memory");
     assert!(rt; are_kept(&before, &after), "{name}");
 }

@@ -4,8 +4,8 @@ ghost use Rattle.pliron_core.specs.Tree.{IsLive};
 ghost use Rattle.pliron_laws.specs.Linked.{IsWellLinked};
 
 use super::cases::ROWS;
-use super::identities::Identities;
 use super::random::RANDOM;
+use pliron_bench::Bench;
 use pliron_canonicalize::{canonicalize, canonicalize_through};
 use pliron_core::{Context, IRStatus, Operation, Ptr};
 use pliron_notation::{print_text, read_text};
@@ -29,10 +29,10 @@ fn left_of(
     requires linked { IsWellLinked bench ctx.old.tree root }
 {
     let mut rewriter = Counting::new();
-    let first = canonicalize_through::<Identities, Counting>(alloc, root, ctx, &mut rewriter)?;
+    let first = canonicalize_through::<Bench, Counting>(alloc, root, ctx, &mut rewriter)?;
     assert!(rt; first == expected);
     assert!(rt; rewriter.had_room());
-    let again = canonicalize::<Identities>(alloc, root, ctx)?;
+    let again = canonicalize::<Bench>(alloc, root, ctx)?;
     assert!(rt; again == IRStatus::Unchanged);
     if !whole.is_live(ctx) {
         return Err(Fail::from("gone"));

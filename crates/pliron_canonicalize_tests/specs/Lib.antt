@@ -1,2 +1,0 @@
-pub mod OperandFolds
-pub mod OperandLaws
