@@ -60,8 +60,8 @@ fn format<'a>(alloc: Global) -> Arg<'a> {
 
 fn at<'a>(alloc: Global) -> Arg<'a> {
     Arg::new(alloc, "at").long("at").value_name("PATH").help(
-        "Take this `func` or `mod` of the text alone: numbers with dots between them, as `0.1` for operation 1 \
-         of region 0, counted from 0; `0.1.0`, its region, says the same",
+        "Take this `func` or `mod` of the text alone (`dot` and `explain`: any operation): numbers with dots \
+         between them, as `0.1` for operation 1 of region 0, counted from 0; `0.1.0`, its region, says the same",
     )
 }
 

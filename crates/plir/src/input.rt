@@ -1,4 +1,5 @@
 //! What the program reads.
+use crate::inner::{function_around, is_text};
 use pliron_cli::{TextRange, blank_comments, isolate, operation_range, without_mark};
 use std::alloc::{AllocError, Global};
 use std::fs;
@@ -9,10 +10,12 @@ use std::io::{self, Read};
 pub struct Input {
     /// All that was read, without a byte order mark.
     whole: Vec<u8>,
-    /// The text with blanks for comments, and for all but one operation where one is asked for.
+    /// The text with blanks for comments, and for all but one `func` or `mod` where one is asked for.
     pub text: Vec<u8>,
-    /// Where that operation stands.
+    /// Where that one stands.
     part: Option<TextRange>,
+    /// Where the operation stands that is asked for, if it is one inside a function: the text is all of it then.
+    pub inner: Option<TextRange>,
 }
 
 // The bytes of the file, or of standard input where it is called `-`. Errors: those of the file. Cost: linear in it.
@@ -38,6 +41,7 @@ pub fn read_graph_input(rt: &HostRuntime, name: &str) -> io::Result<Input> {
         whole: Vec::new(rt.alloc()),
         text: without_returns(rt.alloc(), whole)?,
         part: None,
+        inner: None,
     })
 }
 
@@ -54,8 +58,9 @@ fn without_returns(alloc: Global, bytes: &[u8]) -> Result<Vec<u8>, AllocError> {
     Ok(text)
 }
 
-/// The text that stands in the file, or the operation in it that the path leads to, where one is given; `None` where
-/// the path leads nowhere. Errors: those of the file; allocation failure. Cost: linear in it.
+/// The text that stands in the file, or the `func` or `mod` in it that the path leads to, where one is given; where that
+/// leads to an operation inside a function the whole text, and where it stands. `None` where the path leads nowhere.
+/// Errors: those of the file; allocation failure. Cost: linear in it.
 pub fn read_input(rt: &HostRuntime, name: &str, path: Option<&str>) -> io::Result<Option<Input>> {
     let alloc = rt.alloc();
     let bytes = bytes_of(rt, name)?;
@@ -66,20 +71,38 @@ pub fn read_input(rt: &HostRuntime, name: &str, path: Option<&str>) -> io::Resul
             whole,
             text,
             part: None,
+            inner: None,
         }));
     };
     let Some(part) = operation_range(&text, path) else {
         return Ok(None);
     };
-    let text = isolate(alloc, &text, part)?;
+    let is_alone = is_text(&text, part);
+    let text = if is_alone {
+        isolate(alloc, &text, part)?
+    } else {
+        text
+    };
     Ok(Some(Input {
         whole,
         text,
-        part: Some(part),
+        part: if is_alone { Some(part) } else { None },
+        inner: if is_alone { None } else { Some(part) },
     }))
 }
 
 impl Input {
+    /// The text with blanks for all but the function around the operation that the path leads to. Errors: allocation
+    /// failure. Cost: that of `function_around`.
+    pub fn around_inner(&self, alloc: Global, path: &str) -> Result<Vec<u8>, AllocError> {
+        match function_around(&self.text, path) {
+            Some((part, _)) if part.start.saturating_add(part.len) <= self.text.len() => {
+                isolate(alloc, &self.text, part)
+            }
+            _ => Vec::from_slice(alloc, &self.text),
+        }
+    }
+
     /// The whole text with an answer in the place of the operation that was asked for, if one was, and else the answer.
     /// Errors: allocation failure. Cost: linear in both.
     pub fn around(&self, alloc: Global, answer: &[u8]) -> Result<Vec<u8>, AllocError> {

@@ -5,6 +5,7 @@
 
 mod command;
 mod help;
+mod inner;
 mod input;
 mod optimise;
 mod output;
@@ -13,13 +14,15 @@ mod pipeline;
 use clap::{ArgMatches, Error};
 use command::parse_arguments;
 use help::{lay_out, width_of};
+use inner::{inner_failure, lines_inside, operation_path};
 use input::{Input, input_name, read_graph_input, read_input};
 use optimise::opt_as_asked;
 use output::{write_answer, write_file, write_lines, write_report};
 use pipeline::{pipeline_and_file, without_blanks};
 use pliron_cli::{
     BenchNotation, CompareOptions, EffectSink, ExplainOptions, FlowOptions, MessageForm, Outcome,
-    RunOptions, Source, check, compare, draw_flow, draw_graph, explain, in_form, run, run_streamed,
+    RunOptions, Source, TextRange, check, compare, draw_flow, draw_graph, explain, in_form, run,
+    run_streamed,
 };
 use std::alloc::Global;
 use std::env;
@@ -90,10 +93,20 @@ fn output_file<'a>(matches: &ArgMatches<'a>) -> Option<&'a str> {
     }
 }
 
-// Draws the region that the words ask for.
-fn draw_as_asked(alloc: Global, source: &Source, matches: &ArgMatches) -> io::Result<Outcome> {
+// Draws the region that the words ask for, of the operation at this path of the text.
+fn draw_as_asked(
+    alloc: Global,
+    source: &Source,
+    matches: &ArgMatches,
+    path: Option<&str>,
+) -> io::Result<Outcome> {
+    let region = matches.get_str("region").unwrap_or("0");
+    let region = match path {
+        Some(path) => format!(in alloc; "{}.{region}", operation_path(path))?,
+        None => String::from_str(alloc, region)?,
+    };
     let options = FlowOptions {
-        region: matches.get_str("region").unwrap_or("0"),
+        region: region.as_str(),
         dominators: matches.get_flag("dominators"),
         blocks_alone: matches.get_flag("blocks"),
         nested: matches.get_flag("nested"),
@@ -115,6 +128,39 @@ fn explain_as_asked(
         missed: matches.get_flag("missed"),
     };
     Ok(explain(alloc, source, &options)?)
+}
+
+// What the command makes of an operation inside a function.
+fn outcome_of_inner(
+    alloc: Global,
+    command: &str,
+    matches: &ArgMatches,
+    input: &Input,
+    part: TextRange,
+) -> io::Result<Outcome> {
+    let (pipeline, name) = pipeline_and_file(alloc, matches)?;
+    let path = matches.get_str("at").unwrap_or("0");
+    let mut source = Source {
+        name: input_name(name),
+        text: &input.text,
+    };
+    if command == "dot" {
+        return draw_as_asked(alloc, &source, matches, Some(path));
+    }
+    if command != "explain" {
+        return Ok(inner_failure(alloc, &source, part, path)?);
+    }
+    let function = input.around_inner(alloc, path)?;
+    source.text = &function;
+    let told = explain_as_asked(alloc, &source, matches, pipeline)?;
+    if told.status != 0 {
+        return Ok(told);
+    }
+    Ok(Outcome {
+        output: lines_inside(alloc, &input.text, part, &told.output)?,
+        report: told.report,
+        status: 0,
+    })
 }
 
 // The outcome of a command that can't read its input: what went wrong is told.
@@ -142,7 +188,7 @@ fn outcome_of_text(
     match command {
         "check" => Ok(check::<BenchNotation>(alloc, &source)?),
         "opt" => opt_as_asked(rt, &source, matches, pipeline, input),
-        "dot" => draw_as_asked(alloc, &source, matches),
+        "dot" => draw_as_asked(alloc, &source, matches, None),
         "graph" => Ok(draw_graph(alloc, &source)?),
         "explain" => explain_as_asked(alloc, &source, matches, pipeline),
         _ => run_as_asked(rt, &source, matches),
@@ -164,7 +210,10 @@ fn outcome(rt: &HostRuntime, command: &str, matches: &ArgMatches) -> io::Result<
         read_input(rt, name, path)
     };
     match read {
-        Ok(Some(input)) => outcome_of_text(rt, command, matches, &input),
+        Ok(Some(input)) => match input.inner {
+            Some(part) => outcome_of_inner(alloc, command, matches, &input, part),
+            None => outcome_of_text(rt, command, matches, &input),
+        },
         Ok(None) => {
             let (path, help) = (path.unwrap_or(""), AT_HELP);
             let report = format!(in alloc; "error: no operation `{path}`\nhelp: {help}\n")?;

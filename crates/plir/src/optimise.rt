@@ -8,16 +8,19 @@ use pliron_cli::{
     Source, opt_with_check,
 };
 use std::alloc::{AllocError, Global};
+use std::cell::Cell;
 use std::env;
 use std::io::{self, IsTerminal};
 use std::time::{Clock, Duration};
 
-/// The clock of the process, which shows on standard error what ended, once a command takes more than a second.
+/// The clock of the process, which shows on standard error what ended, at most once a second.
 #[derive(Clone, Copy, Drop)]
 struct Terminal<'r> {
     rt: &'r HostRuntime,
     /// When the command began.
     start: Duration,
+    /// How many seconds after that something was shown last.
+    told: &'r Cell<u64>,
 }
 
 impl Clock for Terminal<'_> {
@@ -35,10 +38,10 @@ impl Progress for Terminal<'_> {
         let Ok(now) = self.rt.monotonic() else {
             return;
         };
-        let spent = now.saturating_sub(self.start);
-        if spent >= Duration::from_secs(1) {
+        let seconds = now.saturating_sub(self.start).as_secs();
+        if seconds > self.told.get() {
+            self.told.set(seconds);
             let run = number.saturating_add(1);
-            let seconds = spent.as_secs();
             let _ = eprintln!(self.rt; "after {seconds} s: run {run}, {name}");
         }
     }
@@ -113,7 +116,12 @@ fn opt_instrumented<'w>(
         times: matches.get_flag("time"),
     };
     let start = rt.monotonic().unwrap_or(Duration::ZERO);
-    let terminal = Terminal { rt, start };
+    let told = Cell::new(0);
+    let terminal = Terminal {
+        rt,
+        start,
+        told: &told,
+    };
     let is_strict = matches.get_flag("strict");
     Ok(opt_with_check::<BenchNotation, _>(rt.alloc(), source, &options, is_strict, terminal)?)
 }

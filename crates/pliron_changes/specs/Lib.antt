@@ -1,1 +1,2 @@
+pub mod LineDiff
 pub mod NamedAnswer

@@ -5,6 +5,7 @@ ghost use Rattle.pliron_cli.specs.Checked.{IsChecked, IsFitText, IsUnfitText, fi
 ghost use Rattle.pliron_cli.specs.Outcomes.{Ends};
 
 use crate::failure::CommandFailure;
+use crate::one_by_one::{first_unfit, is_container};
 use crate::outcome::{Outcome, failure_outcome};
 use crate::shown::Shown;
 use crate::violation_message::violation_message;
@@ -60,6 +61,26 @@ pub(crate) fn find_message<N: Shown>(
     find_message_in::<N>(alloc, source, &mut ctx)
 }
 
+// What is told of what keeps the operation of a text from being fit to run. Of a `mod`, at which no run begins, it is
+// what keeps the first of its functions from that, and where nothing does it is told so.
+fn unfit_message<N: Shown>(
+    alloc: Global,
+    source: &Source,
+    root: Ptr<Operation>,
+    violation: &Violation,
+    ctx: &Context,
+) -> Result<String, OptError> {
+    if !is_container(violation, root, ctx) {
+        return violation_message::<N>(alloc, "error", source, root, violation, ctx);
+    }
+    if let Some((op, inner)) = first_unfit::<N::D>(alloc, root, ctx)? {
+        return violation_message::<N>(alloc, "error", source, op, &inner, ctx);
+    }
+    let mut message = violation_message::<N>(alloc, "error", source, root, violation, ctx)?;
+    message.push_str("note: what stands directly inside is fit to run, each by itself\n")?;
+    Ok(message)
+}
+
 // The same in this context.
 #[tactic(auto, using(crate::proofs::CommandLemmas::fit_when, crate::proofs::CommandLemmas::unfit_when))]
 fn find_message_in<N: Shown>(
@@ -76,14 +97,14 @@ fn find_message_in<N: Shown>(
         Checked::Unreadable => Ok(None),
         Checked::Fit => Ok(Some(None)),
         Checked::Unfit(root, violation) => {
-            let message = violation_message::<N>(alloc, "error", source, root, &violation, ctx)?;
+            let message = unfit_message::<N>(alloc, source, root, &violation, ctx)?;
             Ok(Some(Some(message)))
         }
     }
 }
 
 /// Looks whether the operation of a text is well linked and fit to run, and tells one thing that keeps it from that,
-/// with its place.
+/// with its place; of a `mod`, at which no run begins, of its functions one by one.
 ///
 /// Statuses: 0 where nothing keeps it; 1 where memory was refused; 2 for an unreadable text; 3 where something does.
 /// With all but 0 nothing is to be written to the output. Errors: allocation failure for what is told. Cost: reading,

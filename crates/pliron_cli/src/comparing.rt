@@ -11,6 +11,7 @@ ghost use Rattle.pliron_cli.specs.Outcomes.{Ends};
 use crate::failure::CommandFailure;
 use crate::optimising::misspelling_outcome;
 use crate::outcome::{Outcome, failure_outcome};
+use crate::refusal::refused_outcome;
 use crate::shown::Shown;
 use pliron_core::Context;
 use pliron_diagnostics::{RunOptions, Source, sight_text};
@@ -202,12 +203,13 @@ fn outcome_of(alloc: Global, sights: &Sights) -> Result<Outcome, AllocError>
     })
 }
 
-// Compares runs before and after the passes of the schedule.
+// Compares runs before and after the passes of the schedule, which are the plan's.
 #[tactic(auto, using(crate::proofs::CommandLemmas::are_compared))]
 fn compare_in<N: Shown>(
     alloc: Global,
     source: &Source,
     options: &RunOptions,
+    plan: &PipelineText,
     schedule: &mut InstrumentedSchedule<N, Timeless>,
     ctx: &mut Context,
 ) -> Result<Outcome, AllocError>
@@ -221,7 +223,7 @@ fn compare_in<N: Shown>(
     match compare_text(alloc, source.text, options, schedule, ctx) {
         Ok(Some(sights)) => outcome_of(alloc, &sights),
         Ok(None) => failure_outcome::<N>(alloc, CommandFailure::Text, source),
-        Err(error) => failure_outcome::<N>(alloc, CommandFailure::Refused(error), source),
+        Err(error) => refused_outcome::<N>(alloc, source, error, plan),
     }
 }
 
@@ -230,6 +232,7 @@ fn compare_with<N: Shown>(
     alloc: Global,
     source: &Source,
     options: &RunOptions,
+    plan: &PipelineText,
     schedule: &mut InstrumentedSchedule<N, Timeless>,
 ) -> Result<Outcome, AllocError>
     ensures { IfOk result (EndsCompared N.reads N.D.meaning (map NumberOf options.now.inputs.now)
@@ -239,7 +242,7 @@ fn compare_with<N: Shown>(
         source.now.text.now) }
 {
     let mut ctx = Context::new(alloc);
-    compare_in(alloc, source, options, schedule, &mut ctx)
+    compare_in(alloc, source, options, plan, schedule, &mut ctx)
 }
 
 // Compares runs before and after the passes that the plan asks for.
@@ -264,7 +267,7 @@ fn compare_by<N: Shown>(
         prints: &[],
     };
     match build_schedule(alloc, plan, &nothing, Timeless)? {
-        Some(mut schedule) => compare_with::<N>(alloc, source, options, &mut schedule),
+        Some(mut schedule) => compare_with::<N>(alloc, source, options, plan, &mut schedule),
         None => failure_outcome::<N>(alloc, CommandFailure::Text, source),
     }
 }

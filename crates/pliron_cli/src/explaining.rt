@@ -3,10 +3,12 @@ ghost use Rattle.std.specs.Prelude.{◌≡◌, ⊤, length, IfOk, IfSome};
 ghost use Rattle.pliron_cli.specs.Outcomes.{Ends};
 
 use crate::ending::{DrawFailure, draw_failure_outcome, success_outcome};
+use crate::refusal::refused_outcome;
 use crate::{CommandFailure, Outcome, Source, misspelling_outcome};
 use pliron_graphviz::{PassList, explain_changes};
 use pliron_instrument::{PipelineText, PlanError};
 use pliron_laws::OptError;
+use pliron_opts::BenchNotation;
 use pliron_pipeline::PassName;
 use std::alloc::{AllocError, Global};
 
@@ -72,11 +74,7 @@ fn explain_by(
     match explain_changes(alloc, source.text, &list) {
         Ok(Some(lines)) => explanation_outcome(alloc, lines),
         Ok(None) => draw_failure_outcome(alloc, DrawFailure::Failed(CommandFailure::Text), source),
-        Err(error) => draw_failure_outcome(
-            alloc,
-            DrawFailure::Failed(CommandFailure::Refused(error)),
-            source,
-        ),
+        Err(error) => refused_outcome::<BenchNotation>(alloc, source, error, plan),
     }
 }
 

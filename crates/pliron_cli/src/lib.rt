@@ -11,8 +11,11 @@ mod ending;
 mod explaining;
 mod failure;
 mod graph_fault;
+mod live_use;
+mod one_by_one;
 mod optimising;
 mod outcome;
+mod refusal;
 mod report;
 mod running;
 mod shown;
@@ -29,8 +32,8 @@ pub use failure::CommandFailure;
 pub use optimising::{OptOptions, misspelling_outcome, opt};
 pub use outcome::Outcome;
 pub use pliron_diagnostics::{
-    EffectSink, MessageForm, RunOptions, Source, TextRange, blank_comments, in_form, isolate,
-    operation_range, without_mark,
+    EffectSink, MessageForm, Position, RunOptions, Source, SourceMark, TextRange, blank_comments,
+    in_form, isolate, mark_source, operation_range, position_of, without_mark,
 };
 pub use pliron_graphviz::FlowOptions;
 pub use pliron_instrument::{InstrumentationOptions, PipelineText, PlanError, Progress};

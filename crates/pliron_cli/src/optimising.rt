@@ -7,6 +7,7 @@ ghost use Rattle.pliron_cli.specs.Optimised.{EndsOptimised, IsLaidOut};
 
 use crate::failure::CommandFailure;
 use crate::outcome::{Outcome, failure_outcome};
+use crate::refusal::refused_outcome;
 use crate::report::{ReportOptions, report_of, write_refused};
 use crate::shown::Shown;
 use pliron_diagnostics::{Source, SourceMark, mark_source, pretty};
@@ -113,26 +114,30 @@ fn refusal_outcome<N: Shown, C: Progress + Drop>(
     mut report: String,
     source: &Source,
     error: OptError,
+    plan: &PipelineText,
     passes: &[Instrumented<N, C>],
 ) -> Result<Outcome, AllocError>
     ensures { IfOk result EndsBadly }
 {
-    let failure = CommandFailure::Refused(error);
-    report.push_str(failure.message_in::<N>(alloc, source)?.as_str())?;
-    write_refused(&mut report, passes)?;
+    let refused = refused_outcome::<N>(alloc, source, error, plan)?;
+    report.push_str(refused.report.as_str())?;
+    if error != OptError::LiveUse {
+        write_refused(&mut report, passes)?;
+    }
     Ok(Outcome {
         output: Vec::new(alloc),
         report,
-        status: failure.status(),
+        status: refused.status,
     })
 }
 
-// What these passes make of the text; the report begins with this one.
+// What these passes, which are the plan's, make of the text; the report begins with this one.
 #[tactic(auto, using(crate::proofs::CommandLemmas::is_made))]
 fn opt_with<N: Shown, C: Progress + Copy + Drop>(
     alloc: Global,
     source: &Source,
     options: &OptOptions,
+    plan: &PipelineText,
     schedule: &mut InstrumentedSchedule<N, C>,
     mut report: String,
 ) -> Result<Outcome, AllocError>
@@ -148,6 +153,7 @@ fn opt_with<N: Shown, C: Progress + Copy + Drop>(
             report,
             source,
             OptError::Memory,
+            plan,
             passes,
         ),
         Ok(Some(_)) if has_fault(passes) => Ok(Outcome {
@@ -161,7 +167,7 @@ fn opt_with<N: Shown, C: Progress + Copy + Drop>(
             status: 0,
         }),
         Ok(None) => failure_outcome::<N>(alloc, CommandFailure::Text, source),
-        Err(error) => refusal_outcome(alloc, report, source, error, passes),
+        Err(error) => refusal_outcome(alloc, report, source, error, plan, passes),
     }
 }
 
@@ -182,7 +188,7 @@ fn opt_by<N: Shown, C: Progress + Copy + Drop>(
         plan.now.nested (map (λ name. name.now) plan.now.names.items)) }
 {
     match build_schedule::<N, C>(alloc, plan, &options.instrumentation, clock)? {
-        Some(mut schedule) => opt_with(alloc, source, options, &mut schedule, report),
+        Some(mut schedule) => opt_with(alloc, source, options, plan, &mut schedule, report),
         None => failure_outcome::<N>(alloc, CommandFailure::Text, source),
     }
 }

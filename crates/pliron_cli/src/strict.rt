@@ -8,76 +8,17 @@ ghost use Rattle.pliron_cli.specs.Optimised.{EndsOptimised};
 
 use crate::checking::find_message;
 use crate::failure::CommandFailure;
+use crate::one_by_one::first_unfit;
 use crate::optimising::{OptOptions, opt, opt_after};
 use crate::outcome::{Outcome, failure_outcome};
 use crate::shown::Shown;
 use crate::violation_message::violation_message;
-use pliron_core::{Context, Operation, Ptr};
+use pliron_core::Context;
 use pliron_diagnostics::Source;
-use pliron_fit::{Violation, find_violation};
 use pliron_instrument::{Instrumented, InstrumentedSchedule, Progress};
-use pliron_laws::reads::{all_operations, push_layouts};
-use pliron_laws::{Dialect, OptError};
+use pliron_laws::OptError;
 use pliron_pass::{BenchFactKind, Pass};
 use std::alloc::{AllocError, Global};
-
-// Whether the violation is that the operation itself has a region in which definitions need not come before uses, as a
-// `mod` has, so that what stands directly inside runs by itself.
-fn is_container(violation: &Violation, op: Ptr<Operation>, ctx: &Context) -> bool {
-    match violation {
-        Violation::NoDominance(region) if region.is_live(ctx) => region.get_parent_op(ctx) == op,
-        _ => false,
-    }
-}
-
-/// Operations that are yet to be checked.
-#[derive(Drop)]
-struct Unchecked {
-    alloc: Global,
-    operations: Vec<Ptr<Operation>>,
-}
-
-impl Unchecked {
-    // Takes in what stands directly inside the operation.
-    fn add_inside(&mut self, op: Ptr<Operation>, ctx: &Context) -> Result<(), AllocError> {
-        if !op.is_live(ctx) {
-            return Ok(());
-        }
-        let mut blocks = Vec::new(self.alloc);
-        push_layouts(op, ctx, &mut blocks)?;
-        for block in blocks.iter().rev() {
-            if block.is_live(ctx) {
-                let inside = all_operations(self.alloc, *block, ctx)?;
-                for inner in inside.iter().rev() {
-                    self.operations.push(*inner)?;
-                }
-            }
-        }
-        Ok(())
-    }
-
-    // The first of the operations that isn't fit to run, with what keeps it from that; of a container the first
-    // directly inside it.
-    fn first_unfit<D: Dialect>(
-        &mut self,
-        ctx: &Context,
-    ) -> Result<Option<(Ptr<Operation>, Violation)>, OptError> {
-        for _ in 0..u64::MAX {
-            let Some(op) = self.operations.pop() else {
-                return Ok(None);
-            };
-            if !op.is_live(ctx) {
-                continue;
-            }
-            match find_violation::<D>(self.alloc, op, ctx)? {
-                None => {}
-                Some(violation) if is_container(&violation, op, ctx) => self.add_inside(op, ctx)?,
-                Some(violation) => return Ok(Some((op, violation))),
-            }
-        }
-        Ok(None)
-    }
-}
 
 // How bad it is that the text isn't fit to run; where each run is verified it is told that it was so before the first
 // one.
@@ -99,14 +40,10 @@ fn warning_in<N: Shown>(
 ) -> Result<String, OptError>
     requires { ctx.old.tree ≡ no_tree }
 {
-    let mut unchecked = Unchecked {
-        alloc,
-        operations: Vec::new(alloc),
+    let Some(root) = N::read(alloc, source.text, ctx)? else {
+        return Ok(String::new(alloc));
     };
-    if let Some(root) = N::read(alloc, source.text, ctx)? {
-        unchecked.operations.push(root)?;
-    }
-    match unchecked.first_unfit::<N::D>(ctx)? {
+    match first_unfit::<N::D>(alloc, root, ctx)? {
         Some((op, violation)) => {
             violation_message::<N>(alloc, severity_of(verifies), source, op, &violation, ctx)
         }

@@ -1,5 +1,6 @@
 //! What is told of a violation: the operand by its number and its name, where it is defined, and of an edge both
 //! counts.
+use crate::live_use::LiveUse;
 use crate::shown::Shown;
 use pliron_core::{BasicBlock, Context, Def, Operation, Ptr, Region, Value};
 use pliron_diagnostics::{Source, SourceMark, TextPart, TextParts, mark_source_as};
@@ -97,6 +98,13 @@ static INVISIBLE: PlainWords = PlainWords {
     message: "an operand isn't visible at this operation",
     label: "is defined inside another operation, and isn't visible here",
     help: "a value is visible in its own region and inside that: define it before the operation that holds it",
+};
+
+/// What is said of a use for which passes are refused.
+static UNREACHED: PlainWords = PlainWords {
+    message: "refused: a value of an unreachable block is used",
+    label: "is defined in a block that isn't reached",
+    help: "define the value in a block that is reached, or pass it as an argument of a block",
 };
 
 // The operation that is wrong.
@@ -328,6 +336,28 @@ impl ViolationText<'_> {
         let text = mark_source_as(self.alloc, "note", self.source.text, &mark)?;
         message.push_str(text.as_str())
     }
+
+    // The words with a mark under this part, what helps, and the note.
+    fn message(
+        &self,
+        severity: &str,
+        part: Option<TextPart>,
+        words: &ViolationWords,
+    ) -> Result<String, AllocError> {
+        let mark = SourceMark {
+            message: words.message,
+            label: words.label.as_str(),
+            name: self.source.name,
+            start: part.map_or(0, |part| part.start),
+            len: part.map_or(0, |part| part.len),
+        };
+        let mut message = mark_source_as(self.alloc, severity, self.source.text, &mark)?;
+        write!(message, "help: {}\n", words.help)?;
+        if let Some(note) = &words.note {
+            self.push_note(&mut message, note)?;
+        }
+        Ok(message)
+    }
 }
 
 /// What is told of a violation of an operation that was read from the text into an empty context: this word for how bad
@@ -350,17 +380,42 @@ pub fn violation_message<N: Shown>(
     };
     let words = text.words::<N::D>(ctx, violation)?;
     let part = parts.operation_part(operation_of(violation, root).key());
-    let mark = SourceMark {
-        message: words.message,
-        label: words.label.as_str(),
-        name: source.name,
-        start: part.map_or(0, |part| part.start),
-        len: part.map_or(0, |part| part.len),
+    Ok(text.message(severity, part, &words)?)
+}
+
+/// What is told of a use for which passes are refused on an operation that was read from the text into an empty
+/// context: the user with a mark under it, and where the value is defined; where a pass made the user, which no text
+/// has, the definition alone.
+///
+/// Errors: allocation failure. Cost: linear in the text.
+pub(crate) fn live_use_message<N: Shown>(
+    alloc: Global,
+    source: &Source,
+    found: &LiveUse,
+    ctx: &Context,
+) -> Result<String, OptError> {
+    let parts = N::parts(alloc, source.text)?;
+    let text = ViolationText {
+        alloc,
+        source,
+        parts: &parts,
     };
-    let mut message = mark_source_as(alloc, severity, source.text, &mark)?;
-    write!(message, "help: {}\n", words.help)?;
-    if let Some(note) = &words.note {
-        text.push_note(&mut message, note)?;
+    let words = text.operand_words(ctx, found.user, found.index, UNREACHED)?;
+    let part = parts.operation_part(found.user.key());
+    if part.is_some() {
+        return Ok(text.message("error", part, &words)?);
     }
-    Ok(message)
+    let mut label = String::new(alloc);
+    text.push_value(&mut label, found.value)?;
+    label.push_str(
+        " is defined here, where nothing leads; an operation that a pass made takes it",
+    )?;
+    let made = ViolationWords {
+        message: words.message,
+        label,
+        help: words.help,
+        note: None,
+    };
+    let part = parts.value(found.value.key()).map(|name| name.part);
+    Ok(text.message("error", part, &made)?)
 }

@@ -12,6 +12,9 @@ func { b0(): x = add y y; y = const 4; ret x } => an operand isn't defined on ea
 func { b0(c): cbr c b1() b2(); b1(): x = const 1; br b2(); b2(): print x; ret } => an operand isn't defined on each way to this operation|--> in.plir:1:66|^^^^^^^ operand 1, `x`, may not be defined yet when this runs|note: `x` is defined here|--> in.plir:1:38
 func { b0(x): br b1(); b1(y): ret } => an edge passes another number of values than its block takes|--> in.plir:1:15|^^^^^^^ edge 1 passes 0, and its block takes 1|note: this block takes 1|--> in.plir:1:24
 func { b0(c): cbr c b1(c, c) b2(); b1(y): ret; b2(): ret } => an edge passes another number of values than its block takes|--> in.plir:1:15|edge 1 passes 2, and its block takes 1|note: this block takes 1|--> in.plir:1:36
+mod { m(): func { b0(): ret }; func { b0(): x = add y y; y = const 4; ret x } } => an operand isn't defined on each way to this operation|--> in.plir:1:45
+mod { m(): mod { n(): func { b0(x): br b1(); b1(y): ret } } } => an edge passes another number of values than its block takes|--> in.plir:1:37
+mod { m(): func { b0(): ret } } => a region in which definitions need not come before uses|--> in.plir:1:1|^^^ this operation has such a region|note: what stands directly inside is fit to run, each by itself
 mod { } => a region in which definitions need not come before uses|--> in.plir:1:1|^^^ this operation has such a region";
 
 // Each of the parts stands in what is told.

@@ -1,0 +1,94 @@
+//! What is told where passes are refused.
+ghost use Rattle.std.specs.Prelude.{IfOk};
+ghost use Rattle.pliron_core.specs.Writes.{no_tree};
+ghost use Rattle.pliron_cli.specs.Outcomes.{EndsBadly};
+
+use crate::failure::CommandFailure;
+use crate::live_use::find_live_use;
+use crate::outcome::{Outcome, failure_outcome};
+use crate::report::write_refused;
+use crate::shown::Shown;
+use crate::violation_message::live_use_message;
+use pliron_core::Context;
+use pliron_diagnostics::Source;
+use pliron_instrument::{
+    InstrumentationOptions, PipelineText, Timeless, build_schedule, instrumented_passes,
+    run_instrumented,
+};
+use pliron_laws::OptError;
+use std::alloc::{AllocError, Global};
+
+// What is told of the plan's passes on the text, in this empty context.
+fn refusal_message_in<N: Shown>(
+    alloc: Global,
+    source: &Source,
+    plan: &PipelineText,
+    ctx: &mut Context,
+) -> Result<Option<String>, OptError>
+    requires { ctx.old.tree ≡ no_tree }
+{
+    let nothing = InstrumentationOptions {
+        counts: false,
+        verifies: false,
+        prints_all: false,
+        prints: &[],
+    };
+    let Some(root) = N::read(alloc, source.text, ctx)? else {
+        return Ok(None);
+    };
+    let Some(mut schedule) = build_schedule::<N, Timeless>(alloc, plan, &nothing, Timeless)? else {
+        return Ok(None);
+    };
+    match run_instrumented(alloc, &mut schedule, root, ctx) {
+        Err(OptError::LiveUse) => {}
+        Err(error) => return Err(error),
+        Ok(_) => return Ok(None),
+    }
+    let Some(found) = find_live_use(alloc, root, plan.nested, ctx)? else {
+        return Ok(None);
+    };
+    let mut message = live_use_message::<N>(alloc, source, &found, ctx)?;
+    write_refused(&mut message, instrumented_passes(&schedule))?;
+    Ok(Some(message))
+}
+
+// What is told where the plan's passes are refused on the text since a value of an unreachable block is used: the use
+// and the definition in the text, and the pass; `None` where they aren't refused so. The passes are run once more, so
+// that those that nothing refuses pay nothing.
+//
+// Errors: those of the passes; allocation failure. Cost: reading, the passes, and that of `find_live_use`.
+fn refusal_message<N: Shown>(
+    alloc: Global,
+    source: &Source,
+    plan: &PipelineText,
+) -> Result<Option<String>, OptError> {
+    let mut ctx = Context::new(alloc);
+    refusal_message_in::<N>(alloc, source, plan, &mut ctx)
+}
+
+/// The outcome where the plan's passes were refused: nothing is to be written, and it is told why; of a value of an
+/// unreachable block that is used the use, the definition and the pass.
+///
+/// Errors: allocation failure. Cost: that of reading the text, and of the passes where such a value is used.
+pub(crate) fn refused_outcome<N: Shown>(
+    alloc: Global,
+    source: &Source,
+    error: OptError,
+    plan: &PipelineText,
+) -> Result<Outcome, AllocError>
+    ensures { IfOk result EndsBadly }
+{
+    let told = if error == OptError::LiveUse {
+        refusal_message::<N>(alloc, source, plan).ok().flatten()
+    } else {
+        None
+    };
+    match told {
+        Some(report) => Ok(Outcome {
+            output: Vec::new(alloc),
+            report,
+            status: 1,
+        }),
+        None => failure_outcome::<N>(alloc, CommandFailure::Refused(error), source),
+    }
+}
