@@ -28,16 +28,12 @@ use Rattle.pliron_core.proofs.ArgumentLemmas.{take_more}
 use Rattle.pliron_core.proofs.GrownLemmas.{range_at}
 use Rattle.pliron_bench.specs.BenchOutcomes.{known_edge, admits_shape, edge_under, BecomesJump, JumpsWhereKnown, bench_branch_outcome, edge_places, EdgesFit}
 use Rattle.pliron_laws.proofs.ShapeLemmas.{head_at, operands_at, live_at}
-use Rattle.pliron_bench.proofs.BenchReads.{successors_with, places_same, forwarded_read}
+use Rattle.pliron_bench.proofs.BenchReads.{places_same, forwarded_read}
+use Rattle.pliron_branches.proofs.RangeReads.{successors_with}
 
 -- the places of an edge as an answer that is read off the head
 abbrev pub ReadsPlaces : Tree → ℕ → ℕ → List ℕ → Type 0
 ReadsPlaces t op i places = ReadsHead (λ h. by_kind no_places_in places_in (kind_of h.kind) h.attrs (length (operands_of t op)) i) t op places
-
--- one more successor
-pub block_more : (xs items more : List ℕ) (j block : ℕ) → more ≡ items ++ block ∷ [] → items ≡ take j xs → slice_get xs j ≡ Some block → more ≡ take (j + 1) xs
-block_more xs items more j block e f at =
-    e ∙ ap (λ z. z ++ block ∷ []) f ∙ sym (take_more xs j block at) ∙ ap (λ n. take n xs) (sym (add-one j))
 
 -- ---- whether an edge fits
 
@@ -108,12 +104,12 @@ edge_loses t u u' op i j first count v reads at e shortened = λ o p is place.
 
 -- ---- a jump in the place of a branch
 
-pub becomes_jump : (t u : Tree) (op b edge : ℕ) (places values items : List ℕ) → slice_get (successors_of t op) edge ≡ Some b → ReadsPlaces t op edge places → values ≡ items → map Some items ≡ pick places (operands_of t op) → u ≡ branch_replaced t op (plain_head Br) values (b ∷ []) → (o : Operation) → op_at t op ≡ Some o → BecomesJump t u op o edge
-becomes_jump t u op b edge places values items to reads same picked e o at = record {
+pub becomes_jump : (t u : Tree) (op b edge : ℕ) (places values : List ℕ) → slice_get (successors_of t op) edge ≡ Some b → ReadsPlaces t op edge places → map Some values ≡ pick places (operands_of t op) → u ≡ branch_replaced t op (plain_head Br) values (b ∷ []) → (o : Operation) → op_at t op ≡ Some o → BecomesJump t u op o edge
+becomes_jump t u op b edge places values to reads picked e o at = record {
   block = b;
   values = values;
   target = ap (λ z. slice_get z edge) (successors_with t op o at) ∙ to;
-  forwarded = forwarded_read t op edge places values reads (ap (map Some) same ∙ picked) o at;
+  forwarded = forwarded_read t op edge places values reads picked o at;
   tree = e;
 }
 

@@ -23,6 +23,7 @@ use Rattle.pliron_bench.specs.BenchNumbers.{known_at}
 use Rattle.pliron_bench.specs.BenchMoves.{bench, places_in, no_places_in, places_of, no_places}
 use Rattle.pliron_bench.specs.BenchAnswers.{bench_folds, bench_constants, bench_accepts, bench_constant_head, is_const_kind, bench_folds_branch, bench_feasible, folds_of, folds_branch_of, answer_of, constants_of, no_constants, feasible_of, no_jump, edges_taken, entry_operand_of, no_operand, bench_entry_operands}
 use Rattle.pliron_laws.proofs.ShapeLemmas.{head_at, operands_at}
+use Rattle.pliron_branches.proofs.RangeReads.{successors_with}
 
 same_head : (t : Tree) (op : ℕ) (h : Head) (o : Operation) → head_of t op ≡ Some h → op_at t op ≡ Some o → h ≡ o.head
 same_head t op h o e at = same_Some h o.head (sym e ∙ head_at t op o at)
@@ -47,14 +48,6 @@ unfolding bench_constants shape_of
 no_answers_read t op known items r e = λ o at. e ∙ ap (λ z. by_kind no_constants constants_of z o.head known) (r o.head (head_at t op o at))
 
 -- ---- jumps
-
-pub successors_with : (t : Tree) (op : ℕ) (o : Operation) → op_at t op ≡ Some o → o.successors ≡ successors_of t op
-unfolding op_at
-successors_with t op o at = go (head_of t op) at
-  where
-    go : (h : Option Head) → op_with t op h ≡ Some o → o.successors ≡ successors_of t op
-    go None e = grind arith
-    go (Some h) e = sym (ap (λ z. z.successors) (same_Some _ o e))
 
 kind_taken : (k : BenchKind) (targets : List ℕ) (known : List (Option AttrObj)) → IsTrue (folds_branch_of k) → edges_taken targets (known_at known 0) ≡ feasible_of k targets known
 kind_taken Cbr targets known f = refl

@@ -17,7 +17,7 @@ use Rattle.pliron_laws.specs.InPlace.{IsSingle, ReportsChange, materialising_out
 use Rattle.pliron_bench.specs.Bench.{plain_head}
 use Rattle.pliron_bench.specs.BenchMoves.{bench}
 use Rattle.pliron_bench.specs.BenchAnswers.{bench_constants, bench_accepts, bench_constant_head}
-use Rattle.pliron_bench.specs.BenchLists.{same_data}
+use Rattle.pliron_branches.specs.Ranges.{same_data}
 use Rattle.pliron_bench.specs.BenchOutcomes.{kind_in, fold_of, bench_outcome, edge_under, BecomesJump, JumpsWhereKnown, bench_branch_outcome}
 
 -- ---- constants

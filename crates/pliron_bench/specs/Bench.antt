@@ -6,6 +6,7 @@ use Rattle.pliron_core.specs.declared.attrs.AttrObj.TheVariants.{Int, Text as Wo
 use Rattle.pliron_bench.specs.declared.kind.BenchKind.{BenchKind}
 use Rattle.pliron_bench.specs.declared.kind.BenchKind.TheVariants.{Mod, Func, Const, Add, Mul, Div, Read, Print, Pair, Sink, Scope, Box, Br, Cbr, Ret, Fork}
 use Rattle.pliron_bench.specs.BenchNumbers.{fits}
+use Rattle.pliron_branches.specs.Counts.{counted_by}
 
 -- the kinds by number, from 0
 abbrev pub kinds : List BenchKind
@@ -138,13 +139,8 @@ first_attribute [] = Int (pos 0)
 first_attribute (a ∷ attrs) = a
 
 -- how many operands the first edge of a `cbr` forwards
-abbrev pub count_of : AttrObj → ℕ
-count_of (Int (pos n)) = n
-count_of (Int (negsuc n)) = 0
-count_of (Words s) = 0
-
 abbrev pub first_edge_count : List AttrObj → ℕ
-first_edge_count attrs = count_of (first_attribute attrs)
+first_edge_count attrs = counted_by (first_attribute attrs)
 
 -- operations of the kind are in no block
 abbrev pub IsTopKind : BenchKind → Type 0

@@ -11,6 +11,7 @@ use Rattle.pliron_laws.specs.Entries.{EntryOperands}
 use Rattle.pliron_bench.specs.Bench.{by_kind, kind_of, number_of, is_number, attribute_head, first_attribute}
 use Rattle.pliron_bench.specs.BenchNumbers.{known_at, known_sum, known_product, known_quotient}
 use Rattle.pliron_bench.specs.BenchMoves.{ends_block, branches, passes_operands, edge_of}
+use Rattle.pliron_branches.specs.Counts.{only_successor}
 
 -- whether an operation of the kind has side effects, where it says so
 abbrev pub effects_of : BenchKind → Option Bool
@@ -98,14 +99,9 @@ folds_branch_of _ = false
 unfoldable pub bench_folds_branch : Head → Bool
 bench_folds_branch h = by_kind false folds_branch_of (kind_of h.kind)
 
--- the successor at this index alone
-abbrev pub only : Option ℕ → List ℕ
-only None = []
-only (Some b) = b ∷ []
-
 abbrev pub edges_taken : List ℕ → Option ℤ → List ℕ
 edges_taken targets None = targets
-edges_taken targets (Some c) = only (slice_get targets (edge_of c))
+edges_taken targets (Some c) = only_successor (slice_get targets (edge_of c))
 
 abbrev pub feasible_of : BenchKind → List ℕ → List (Option AttrObj) → List ℕ
 feasible_of Cbr targets known = edges_taken targets (known_at known 0)

@@ -12,7 +12,7 @@ use Rattle.pliron_bench.specs.BenchMoves.{edge_of, edge_values, act_of, no_act, 
 use Rattle.pliron_bench.specs.BenchAnswers.{folds_of}
 use Rattle.pliron_bench.specs.BenchParts.{Admits, IsOfKind, of_kind, count_below}
 use Rattle.pliron_laws.specs.PlaceLaws.{pick_all}
-use Rattle.pliron_bench.specs.BenchLists.{picked_behind, picked_first, picked_last, in_range, not_cut}
+use Rattle.pliron_branches.specs.Ranges.{picked_behind, picked_first, picked_last, in_range, not_cut}
 
 -- ---- what branches have beside their edges
 

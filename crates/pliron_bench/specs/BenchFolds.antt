@@ -14,7 +14,8 @@ use Rattle.pliron_laws.specs.Folding.{AnswersTrue, AnswersJumps, KnowsMore, Fold
 use Rattle.pliron_bench.specs.Bench.{by_kind, kind_of, result_count}
 use Rattle.pliron_bench.specs.BenchNumbers.{as_number, number_at, sum, product, quotient, known_as, known_at, known_sum, zero_only, known_product, known_quotient}
 use Rattle.pliron_bench.specs.BenchMoves.{give_or_trap, edge_of, act_of, no_act, branches, bench}
-use Rattle.pliron_bench.specs.BenchAnswers.{folds_of, bench_folds, as_constant, constants_of, no_constants, bench_constants, folds_branch_of, bench_folds_branch, only, edges_taken as taken_of, feasible_of, no_jump, bench_feasible}
+use Rattle.pliron_bench.specs.BenchAnswers.{folds_of, bench_folds, as_constant, constants_of, no_constants, bench_constants, folds_branch_of, bench_folds_branch, edges_taken as taken_of, feasible_of, no_jump, bench_feasible}
+use Rattle.pliron_branches.specs.Counts.{only_successor}
 use Rattle.pliron_bench.specs.BenchParts.{Admits, of_kind, IsQuiet, comes_first}
 
 -- ---- numbers that are known
@@ -154,14 +155,14 @@ folds_branches : (o : Option BenchKind) → IsTrue (by_kind false folds_branch_o
 folds_branches None f = f
 folds_branches (Some k) f = kind_branches k f
 
-only_in : (targets : List ℕ) (i b : ℕ) → In b (only (slice_get targets i)) → In b targets
+only_in : (targets : List ℕ) (i b : ℕ) → In b (only_successor (slice_get targets i)) → In b targets
 only_in [] i b h = h
 only_in (x ∷ targets) zero b (inl e) = inl e
 only_in (x ∷ targets) zero b (inr h) = absurd h
 only_in (x ∷ targets) (suc i) b h = inr (only_in targets i b h)
 
 pub get_in : (targets : List ℕ) (i b : ℕ) → slice_get targets i ≡ Some b → In b targets
-get_in targets i b e = only_in targets i b (subst (λ o. In b (only o)) (sym e) (inl refl))
+get_in targets i b e = only_in targets i b (subst (λ o. In b (only_successor o)) (sym e) (inl refl))
 
 taken_in : (targets : List ℕ) (p : Option ℤ) (b : ℕ) → In b (taken_of targets p) → In b targets
 taken_in targets None b h = h
@@ -186,7 +187,7 @@ JumpsWithin targets blocks Trap = Unit {0}
 
 edge_within : (targets : List ℕ) (p : Option ℤ) (c : ℤ) → Agrees p c → (b : ℕ) → slice_get targets (edge_of c) ≡ Some b → In b (taken_of targets p)
 edge_within targets None c a b e = get_in targets (edge_of c) b e
-edge_within targets (Some n) c a b e = subst (λ o. In b (only o)) (sym e ∙ ap (λ x. slice_get targets (edge_of x)) (sym a)) (inl refl)
+edge_within targets (Some n) c a b e = subst (λ o. In b (only_successor o)) (sym e ∙ ap (λ x. slice_get targets (edge_of x)) (sym a)) (inl refl)
 
 kind_goes : (k : BenchKind) (s : Shape) (targets : List ℕ) (known : List (Option AttrObj)) (memo : Datum) (first : List Datum) → IsTrue (folds_branch_of k) → Known known first → JumpsWithin targets (feasible_of k targets known) (act_of k s memo first)
 kind_goes Cbr s targets known memo first f h = edge_within targets (known_at known 0) (number_at first 0) (known_agrees known first 0 h)

@@ -30,7 +30,7 @@ use Rattle.pliron_bench.specs.BenchMoves.{edge_of, edge_values, act_of, no_act, 
 use Rattle.pliron_bench.specs.BenchAnswers.{bench_constants, bench_accepts, bench_constant_head}
 use Rattle.pliron_bench.specs.BenchParts.{Admits, comes_first}
 use Rattle.pliron_laws.specs.PlaceLaws.{pick_all}
-use Rattle.pliron_bench.specs.BenchLists.{same_data}
+use Rattle.pliron_branches.specs.Ranges.{same_data}
 use Rattle.pliron_bench.specs.BenchFolds.{Agrees, known_agrees, branch_quiet}
 use Rattle.pliron_bench.specs.BenchBranches.{passes, goto_alike, nowhere}
 use Rattle.pliron_bench.specs.BenchOutcomes.{kind_in, fold_of, bench_outcome, known_edge, admits_shape, BecomesJump, JumpsWhereKnown, bench_branch_outcome}

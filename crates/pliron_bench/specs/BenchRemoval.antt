@@ -18,7 +18,7 @@ use Rattle.pliron_bench.specs.BenchAnswers.{bench_folds, bench_folds_branch, is_
 use Rattle.pliron_bench.specs.BenchParts.{Admits, of_kind, takes_again, count_below, count_set, count_fits, count_kept, comes_first}
 use Rattle.pliron_bench.specs.BenchFolds.{branch_quiet}
 use Rattle.pliron_laws.specs.PlaceLaws.{shifted}
-use Rattle.pliron_bench.specs.BenchLists.{range_below, range_without, take_without, drop_without, take_kept, drop_kept, not_cut}
+use Rattle.pliron_branches.specs.Ranges.{range_below, range_without, take_without, drop_without, take_kept, drop_kept, not_cut}
 use Rattle.pliron_bench.specs.BenchBranches.{alone, some_edge, within, distinct, PassesAt, passes, at_once, goto_alike, nowhere}
 
 -- the tests of the dialect read the same of both heads

@@ -3,7 +3,6 @@ pub mod Bench
 pub mod BenchMoves
 pub mod BenchAnswers
 pub mod BenchOutcomes
-pub mod BenchLists
 pub mod BenchParts
 pub mod BenchLaws
 pub mod BenchEntries

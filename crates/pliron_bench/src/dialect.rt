@@ -13,14 +13,15 @@ ghost use Rattle.pliron_bench.specs.BenchInPlace.{bench_in_place};
 
 use crate::folds::{answer_of, makes_constant, one_answer};
 use crate::heads::attribute_head;
-use crate::jumps::{
-    all_successors, only_successor, operand_among, operands_at, place_among, places_at, shorten,
-};
+use crate::jumps::{places_at, shorten};
 use crate::kind::BenchKind;
 use crate::numbers::{edge_of, is_number, known_number};
 use crate::replace::jump_in_place;
 use crate::tables::{begins_region, kind_at};
 use crate::verify::edges_fit;
+use pliron_branches::ranges::{
+    all_successors, only_successor, operand_among, operands_at, place_among,
+};
 use pliron_core::{AttrObj, BasicBlock, Context, IRStatus, Operation, Ptr, Rewriter, Value};
 use pliron_laws::{
     BlockArgRemoval, BranchOpFoldInterface, ConstFoldInterface, Dialect, HasMeaning, Interface,

@@ -1,8 +1,8 @@
 //! Attributes as numbers of 64 signed bits.
-ghost use Rattle.std.specs.Prelude.{◌≡◌, min, ◌-◌};
+ghost use Rattle.std.specs.Prelude.{◌≡◌, ◌-◌};
 ghost use Rattle.std.specs.Int.{w64, int_wrap};
 ghost use Rattle.pliron_laws.specs.Datum.{datum_of};
-ghost use Rattle.pliron_bench.specs.Bench.{is_number as is_number_within, count_of};
+ghost use Rattle.pliron_bench.specs.Bench.{is_number as is_number_within};
 ghost use Rattle.pliron_bench.specs.BenchNumbers.{as_number as number_in, fits as is_within, known_at, sum as sum_of, product as product_of, known_sum as sum_known, known_product as product_known, zero_only as zero_of, known_quotient as quotient_known, quotient as quotient_in};
 ghost use Rattle.pliron_bench.specs.BenchMoves.{edge_of as edge_in};
 
@@ -128,22 +128,4 @@ pub fn edge_of(condition: i64) -> usize
     ensures { result ≡ edge_in condition }
 {
     if condition == 0 { 1 } else { 0 }
-}
-
-/// How many operands the attribute counts, at most so many. Cost: constant.
-pub fn count_up_to(attr: &AttrObj, most: usize) -> usize
-    ensures { result ≡ min (count_of attr.now) most }
-{
-    match attr {
-        AttrObj::Int(number) => {
-            if *number < 0 {
-                0
-            } else if *number < most as i128 {
-                *number as usize
-            } else {
-                most
-            }
-        }
-        AttrObj::Text(_) => 0,
-    }
 }

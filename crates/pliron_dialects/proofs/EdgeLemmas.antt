@@ -27,12 +27,8 @@ use Rattle.pliron_dialects.specs.Roles.{Role, Constant, Computes, Jumps, Branche
 use Rattle.pliron_dialects.specs.RoleTables.{branch_folds_by, shortened_by}
 use Rattle.pliron_dialects.specs.RoleOutcomes.{known_edge, admits_shape, edge_under, BecomesJump, JumpsWhereKnown, branch_outcome_by}
 use Rattle.pliron_dialects.specs.RoleParts.{no_result, IsTaken, is_taken}
-use Rattle.pliron_dialects.proofs.RoleReads.{ReadsPlaces, successors_with, forwarded_read}
-
--- one more successor
-pub block_more : (xs items more : List ℕ) (j block : ℕ) → more ≡ items ++ block ∷ [] → items ≡ take j xs → slice_get xs j ≡ Some block → more ≡ take (j + 1) xs
-block_more xs items more j block e f at =
-    e ∙ ap (λ z. z ++ block ∷ []) f ∙ sym (take_more xs j block at) ∙ ap (λ n. take n xs) (sym (add-one j))
+use Rattle.pliron_dialects.proofs.RoleReads.{ReadsPlaces, forwarded_read}
+use Rattle.pliron_branches.proofs.RangeReads.{successors_with}
 
 -- the edge of a number that was stored in 64 bits
 pub edge_is : (e : ℕ) (c : ℤ) → FitsSigned w64 c → e ≡ edge_by_condition (to_z w64 (of_z w64 c)) → e ≡ edge_by_condition c
@@ -69,12 +65,12 @@ module _ (roles : ℕ → Option Role) (n : ℕ) where
 
   -- ---- a jump in the place of a branch
 
-  pub becomes_jump : (t u : Tree) (op b edge : ℕ) (places values items : List ℕ) → slice_get (successors_of t op) edge ≡ Some b → ReadsPlaces roles t op edge places → values ≡ items → map Some items ≡ pick places (operands_of t op) → u ≡ branch_replaced t op (head_of_kind n) values (b ∷ []) → (o : Operation) → op_at t op ≡ Some o → BecomesJump roles n t u op o edge
-  becomes_jump t u op b edge places values items to reads same picked e o at = record {
+  pub becomes_jump : (t u : Tree) (op b edge : ℕ) (places values : List ℕ) → slice_get (successors_of t op) edge ≡ Some b → ReadsPlaces roles t op edge places → map Some values ≡ pick places (operands_of t op) → u ≡ branch_replaced t op (head_of_kind n) values (b ∷ []) → (o : Operation) → op_at t op ≡ Some o → BecomesJump roles n t u op o edge
+  becomes_jump t u op b edge places values to reads picked e o at = record {
     block = b;
     values = values;
     target = ap (λ z. slice_get z edge) (successors_with t op o at) ∙ to;
-    forwarded = forwarded_read roles t op edge places values reads (ap (map Some) same ∙ picked) o at;
+    forwarded = forwarded_read roles t op edge places values reads picked o at;
     tree = e;
   }
 

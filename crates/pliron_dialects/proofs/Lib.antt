@@ -1,4 +1,3 @@
 pub mod NumberLemmas
 pub mod RoleReads
-pub mod JumpLemmas
 pub mod EdgeLemmas

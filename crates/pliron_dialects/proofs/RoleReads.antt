@@ -23,6 +23,7 @@ use Rattle.pliron_dialects.specs.Forms.{by_form, places_by_form, forwards_nothin
 use Rattle.pliron_dialects.specs.Roles.{Role, Tables, by_role, role_at, form_at, form_of, value_of, meaning_by}
 use Rattle.pliron_dialects.specs.RoleTables.{answers_by, constants_by, accepts_numbers, constant_head_of, branch_folds_by, feasible_by}
 use Rattle.pliron_dialects.specs.RoleOutcomes.{form_in, fold_of, outcome_by}
+use Rattle.pliron_branches.proofs.RangeReads.{successors_with}
 
 -- the places of an edge as an answer that is read off the head
 abbrev pub ReadsPlaces : (ℕ → Option Role) → Tree → ℕ → ℕ → List ℕ → Type 0
@@ -45,14 +46,6 @@ unfolding constants_by shape_of
 no_answers_read tables t op known items r e = λ o at. e ∙ ap (λ z. by_role [] (answers_by o.head known) (option_map tables.role_of z)) (r o.head (head_at t op o at))
 
 -- ---- jumps
-
-pub successors_with : (t : Tree) (op : ℕ) (o : Operation) → op_at t op ≡ Some o → o.successors ≡ successors_of t op
-unfolding op_at
-successors_with t op o at = go (head_of t op) at
-  where
-    go : (h : Option Head) → op_with t op h ≡ Some o → o.successors ≡ successors_of t op
-    go None e = grind arith
-    go (Some h) e = sym (ap (λ z. z.successors) (same_Some _ o e))
 
 form_taken : (f : Form) (targets : List ℕ) (known : List (Option AttrObj)) → IsTrue (folds_branch_of f) → edges_taken targets (known_number_at known 0) ≡ feasible_of f targets known
 form_taken Branches targets known f = refl

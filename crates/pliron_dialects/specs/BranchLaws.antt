@@ -10,7 +10,7 @@ use Rattle.pliron_dialects.specs.Numbers.{is_zero}
 use Rattle.pliron_dialects.specs.Forms.{by_form, first_edge_operands, edge_by_condition, edge_values, branches, jump_places, branch_places, places_by_form, forwards_nothing, folds_of}
 use Rattle.pliron_dialects.specs.Roles.{Role, Jumps, Branches, by_role, form_of, condition_of, act_of, no_act}
 use Rattle.pliron_dialects.specs.RoleParts.{Admits, IsOfRole, of_role, no_result, count_below}
-use Rattle.pliron_dialects.specs.EdgeRanges.{picked_behind, picked_first, picked_last, in_range, not_cut}
+use Rattle.pliron_branches.specs.Ranges.{picked_behind, picked_first, picked_last, in_range, not_cut}
 
 -- the places of the operands that an edge forwards, by the role
 abbrev pub edge_places : Option Role → Shape → ℕ → List ℕ

@@ -9,7 +9,8 @@ use Rattle.pliron_laws.specs.Datum.{Datum, Number, Head, Shape, Move, Give, Visi
 use Rattle.pliron_laws.specs.Acting.{Known}
 use Rattle.pliron_laws.specs.Folding.{AnswersTrue, AnswersJumps}
 use Rattle.pliron_dialects.specs.Numbers.{whole_number_of, nth_number, known_as, known_number_at, all_known, with_number}
-use Rattle.pliron_dialects.specs.Forms.{by_form, edge_by_condition, branches, folds_of, folds_branch_of, only_successor, edges_taken as taken_of, feasible_of, no_jump}
+use Rattle.pliron_dialects.specs.Forms.{by_form, edge_by_condition, branches, folds_of, folds_branch_of, edges_taken as taken_of, feasible_of, no_jump}
+use Rattle.pliron_branches.specs.Counts.{only_successor}
 use Rattle.pliron_dialects.specs.Roles.{Role, Constant, Computes, Jumps, Branches, Leaves, Acts, by_role, form_of, condition_of, act_of, no_act, meaning_by}
 use Rattle.pliron_dialects.specs.RoleTables.{folds_by, answers_by, constants_by, branch_folds_by, feasible_by}
 use Rattle.pliron_dialects.specs.RoleParts.{Admits, of_role, one_result, IsQuiet, comes_first}

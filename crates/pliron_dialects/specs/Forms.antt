@@ -9,6 +9,7 @@ use Rattle.pliron_laws.specs.declared.dialect.Interface.TheVariants.{SideEffects
 use Rattle.pliron_dialects.specs.declared.form.Form.{Form}
 use Rattle.pliron_dialects.specs.declared.form.Form.TheVariants.{Constant, Computes, Jumps, Branches, Leaves, Acts}
 use Rattle.pliron_dialects.specs.Numbers.{is_zero, is_whole_number, known_number_at, all_known}
+use Rattle.pliron_branches.specs.Counts.{counted_by, only_successor}
 
 -- what a table says of a form, or `other` of none
 abbrev pub by_form : {A : Type 0} → A → (Form → A) → Option Form → A
@@ -71,11 +72,6 @@ first_attribute [] = Int (pos 0)
 first_attribute (a ∷ attrs) = a
 
 -- how many operands the first edge of a branch forwards
-abbrev pub counted_by : AttrObj → ℕ
-counted_by (Int (pos n)) = n
-counted_by (Int (negsuc n)) = 0
-counted_by (Words s) = 0
-
 abbrev pub first_edge_operands : List AttrObj → ℕ
 first_edge_operands attrs = counted_by (first_attribute attrs)
 
@@ -177,11 +173,6 @@ abbrev pub answers_of : Form → Option AttrObj → List (Option AttrObj)
 answers_of Constant answer = answer ∷ []
 answers_of (Computes n) answer = answer ∷ []
 answers_of _ answer = []
-
--- the successor at this index alone
-abbrev pub only_successor : Option ℕ → List ℕ
-only_successor None = []
-only_successor (Some b) = b ∷ []
 
 -- a branch folds to the one block that it takes where its condition is known
 abbrev pub edges_taken : List ℕ → Option ℤ → List ℕ

@@ -4,7 +4,6 @@ pub mod Roles
 pub mod Visits
 pub mod RoleTables
 pub mod RoleOutcomes
-pub mod EdgeRanges
 pub mod RoleParts
 pub mod CountLaws
 pub mod FoldLaws

@@ -32,7 +32,7 @@ use Rattle.pliron_dialects.specs.Roles.{Role, Constant, Computes, Jumps, Branche
 use Rattle.pliron_dialects.specs.RoleTables.{constants_by, accepts_numbers, constant_head_of}
 use Rattle.pliron_dialects.specs.RoleOutcomes.{form_in, fold_of, outcome_by, known_edge, admits_shape, BecomesJump, JumpsWhereKnown, branch_outcome_by}
 use Rattle.pliron_dialects.specs.RoleParts.{Admits, comes_first}
-use Rattle.pliron_dialects.specs.EdgeRanges.{same_data}
+use Rattle.pliron_branches.specs.Ranges.{same_data}
 use Rattle.pliron_dialects.specs.FoldLaws.{Agrees, known_agrees, branch_quiet}
 use Rattle.pliron_dialects.specs.BranchLaws.{edge_places, passes, goto_alike, nowhere}
 

@@ -17,7 +17,7 @@ use Rattle.pliron_dialects.specs.Roles.{Role, Jumps, Branches, by_role, form_of,
 use Rattle.pliron_dialects.specs.RoleTables.{folds_by, branch_folds_by, is_of_number, interfaces_by, shortened_by}
 use Rattle.pliron_dialects.specs.RoleParts.{Admits, of_role, takes_again, count_below, count_set, count_fits, count_kept, comes_first}
 use Rattle.pliron_dialects.specs.FoldLaws.{branch_quiet}
-use Rattle.pliron_dialects.specs.EdgeRanges.{range_below, range_without, take_without, drop_without, take_kept, drop_kept, not_cut}
+use Rattle.pliron_branches.specs.Ranges.{range_below, range_without, take_without, drop_without, take_kept, drop_kept, not_cut}
 use Rattle.pliron_dialects.specs.BranchLaws.{edge_places, alone, some_edge, within, distinct, PassesAt, passes, at_once, goto_alike, nowhere}
 
 -- the tests of the dialect read the same of both heads

@@ -11,15 +11,16 @@ ghost use Rattle.pliron_dialects.specs.FoldLaws.{answers_true, answers_jumps};
 ghost use Rattle.pliron_dialects.specs.RemovalLaws.{forwards_operands};
 ghost use Rattle.pliron_dialects.specs.PlaceFolds.{folds_in_place};
 
-use crate::edge_ranges::{
-    all_successors, only_successor, operand_among, operands_at, place_among, places_at, shorten,
-};
+use crate::edge_ranges::{places_at, shorten};
 use crate::folds::{answer_of, answers_of, makes_constant};
 use crate::heads::attribute_head;
 use crate::kinds::Kinds;
 use crate::numbers::{edge_of, is_number, known_number};
 use crate::replace::jump_in_place;
 use crate::tables::{PartCounts, begins_region, form_at, kind_at};
+use pliron_branches::ranges::{
+    all_successors, only_successor, operand_among, operands_at, place_among,
+};
 use pliron_core::{AttrObj, BasicBlock, Context, IRStatus, Operation, Ptr, Rewriter, Value};
 use pliron_laws::{
     BlockArgRemoval, BranchOpFoldInterface, ConstFoldInterface, Dialect, HasMeaning, Interface,

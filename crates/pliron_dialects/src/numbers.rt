@@ -1,9 +1,9 @@
 //! Attributes as numbers of 64 signed bits.
-ghost use Rattle.std.specs.Prelude.{◌≡◌, min, OnOk, IfOk, IfSome, IfNone, option_map};
+ghost use Rattle.std.specs.Prelude.{◌≡◌, OnOk, IfOk, IfSome, IfNone, option_map};
 ghost use Rattle.std.specs.Int.{w64, int_wrap};
 ghost use Rattle.pliron_laws.specs.Datum.{datum_of};
 ghost use Rattle.pliron_dialects.specs.Numbers.{whole_number_of as number_in, fits as is_within, is_whole_number as is_number_within, nth_number as nth_in, known_number_at, all_known, wrapped_sum as sum_of, wrapped_product as product_of, less as less_of};
-ghost use Rattle.pliron_dialects.specs.Forms.{edge_by_condition as edge_in, counted_by};
+ghost use Rattle.pliron_dialects.specs.Forms.{edge_by_condition as edge_in};
 
 use pliron_core::AttrObj;
 use std::alloc::{AllocFailed, Global};
@@ -106,22 +106,4 @@ pub fn edge_of(condition: i64) -> usize
     ensures { result ≡ edge_in condition }
 {
     if condition == 0 { 1 } else { 0 }
-}
-
-/// How many operands the attribute counts, at most so many. Cost: constant.
-pub fn count_up_to(attr: &AttrObj, most: usize) -> usize
-    ensures { result ≡ min (counted_by attr.now) most }
-{
-    match attr {
-        AttrObj::Int(number) => {
-            if *number < 0 {
-                0
-            } else if *number < most as i128 {
-                *number as usize
-            } else {
-                most
-            }
-        }
-        AttrObj::Text(_) => 0,
-    }
 }

@@ -29,7 +29,6 @@ pub use Rattle.pliron_bench.specs.BenchMoves
 pub use Rattle.pliron_bench.specs.BenchAnswers
 pub use Rattle.pliron_laws.specs.OutcomeLaws
 pub use Rattle.pliron_bench.specs.BenchOutcomes
-pub use Rattle.pliron_bench.specs.BenchLists
 pub use Rattle.pliron_bench.specs.BenchParts
 pub use Rattle.pliron_bench.specs.BenchLaws
 pub use Rattle.pliron_bench.specs.BenchFolds

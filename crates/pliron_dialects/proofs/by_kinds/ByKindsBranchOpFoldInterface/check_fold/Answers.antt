@@ -1,6 +1,7 @@
 use Rattle.std.proofs.Common.{slice_get, FitsSigned, w64, ap, ◌∙◌, rules}
 use Rattle.pliron_core.specs.Tree.{successors_of}
-use Rattle.pliron_dialects.specs.Forms.{only_successor, edges_taken}
+use Rattle.pliron_dialects.specs.Forms.{edges_taken}
+use Rattle.pliron_branches.specs.Counts.{only_successor}
 use Rattle.pliron_dialects.proofs.RoleReads.{taken_read}
 use Rattle.pliron_dialects.proofs.EdgeLemmas.{edge_is}
 use Rattle.pliron_dialects.proofs.by_kinds.ByKindsBranchOpFoldInterface.check_fold.Goals as goal

@@ -1,0 +1,2 @@
+pub mod RangeReads
+pub mod JumpLemmas
