@@ -36,9 +36,9 @@ returns-in_err-places-clause-refused g c =
 pub returns-in_err-round-clause-refused : goal.returns-in_err-round-clause-refused
 returns-in_err-round-clause-refused g c =
     let x : Folding = folding g.D.HasMeaning.meaning g.D.SideEffects.side_effects g.D.ConstFoldInterface.can_fold g.D.ConstFoldInterface.constants g.D.ConstFoldInterface.accepts g.D.ConstFoldInterface.constant_head g.D.OperandFoldInterface.operand_folds in
-    on_err _ c.from_residual.result (partly x c.args.root c.args.ctx.now.tree c.rounds.ctx.tree _ _ c.rounds.invariant)
+    on_err _ c.from_residual-in_err-round.result (partly x c.args.root c.args.ctx.now.tree c.rounds.ctx.tree _ _ c.rounds.invariant)
 
 pub returns-in_err-folded-clause-refused : goal.returns-in_err-folded-clause-refused
 returns-in_err-folded-clause-refused g c =
     let x : Folding = folding g.D.HasMeaning.meaning g.D.SideEffects.side_effects g.D.ConstFoldInterface.can_fold g.D.ConstFoldInterface.constants g.D.ConstFoldInterface.accepts g.D.ConstFoldInterface.constant_head g.D.OperandFoldInterface.operand_folds in
-    on_err _ c.from_residual.result (done_partly x c.args.root c.args.ctx.now.tree c.rounds.ctx.tree c.fold_round.new.ctx.tree _ _ c.rounds.invariant c.in_err-folded.ensures.refused)
+    on_err _ c.from_residual-in_err-folded.result (done_partly x c.args.root c.args.ctx.now.tree c.rounds.ctx.tree c.fold_round.new.ctx.tree _ _ c.rounds.invariant c.in_err-folded.ensures.refused)

@@ -21,4 +21,4 @@ returns-clause-ok g c =
 pub returns-in_err-fold_rounds-clause-refused : goal.returns-in_err-fold_rounds-clause-refused
 returns-in_err-fold_rounds-clause-refused g c =
     let x : Folding = folding g.D.HasMeaning.meaning g.D.SideEffects.side_effects g.D.ConstFoldInterface.can_fold g.D.ConstFoldInterface.constants g.D.ConstFoldInterface.accepts g.D.ConstFoldInterface.constant_head g.D.OperandFoldInterface.operand_folds in
-    on_err _ c.from_residual.result (done_partly x c.args.root c.args.ctx.now.tree c.sweep.new.ctx.tree c.fold_rounds.new.ctx.tree _ _ c.in_ok-swept.ensures.ok c.in_err-fold_rounds.ensures.refused)
+    on_err _ c.from_residual-in_err-fold_rounds.result (done_partly x c.args.root c.args.ctx.now.tree c.sweep.new.ctx.tree c.fold_rounds.new.ctx.tree _ _ c.in_ok-swept.ensures.ok c.in_err-fold_rounds.ensures.refused)
