@@ -57,7 +57,7 @@ pub values_still : (t t' : Tree) (root : ℕ) → IsTree t → IsSeenStill t t' 
 values_still t t' root w s (Arguments block) x = s.arguments block
 values_still t t' root w s (Results k) x = s.results k (live_site t root w (Results k) x)
 
-same_listed : (t t' : Tree) (root : ℕ) (sites : List Site) → IsSeenStill t t' root → AreListed t root sites → AreListed t' root sites
+pub same_listed : (t t' : Tree) (root : ℕ) (sites : List Site) → IsSeenStill t t' root → AreListed t root sites → AreListed t' root sites
 same_listed t t' root sites s l = record {
   seen = λ j site at. seen_still t t' root s site (l.seen j site at);
   blocks = λ block seen. l.blocks block ((s.blocks block).0 seen);
@@ -88,6 +88,9 @@ both_true false b e f = grind (arith, e)
 neither : (s a : IRStatus) → changed_by_either s a ≡ Unchanged → (s ≡ Unchanged) × (a ≡ Unchanged)
 neither Changed a e = absurd (cc e)
 neither Unchanged a e = (refl, e)
+
+pub same_itself : (t : Tree) → IsSameTree t t
+same_itself t = record { operations = λ k. refl; operands = λ k. refl; successors = λ k. refl; parents = λ k. refl; bodies = λ b. refl; arguments = λ b. refl; block_parents = λ b. refl; layouts = λ r. refl }
 
 module _ (x : Folding) (root : ℕ) where
   turn_more : (fs gs : List Fold) (t u t' : Tree) → FoldInTurn x root fs t u → FoldInTurn x root gs u t' → FoldInTurn x root (fs ++ gs) t t'
@@ -153,11 +156,22 @@ module _ (x : Folding) (root : ℕ) where
   pub done_as : (t0 t : Tree) (Done Also : Fold → Type 0) (s : IRStatus) → ((f : Fold) (u : Tree) → Also f → FoldsTo x root f t0 u → Done f) → AreDone x t0 t root Done s → AreDone x t0 t root Also s
   done_as t0 t Done Also s h p = record { way = p.way; folded = p.folded; still = p.still; tells = p.tells; none = λ e f u d fold. p.none e f u (h f u d fold) fold }
 
+  -- one after the other, where nothing is said to be done
+  pub done_nothing : (t0 t t' : Tree) (s a : IRStatus) → AreDone x t0 t root (λ f. ⊥) s → AreDone x t t' root (λ f. ⊥) a → AreDone x t0 t' root (λ f. ⊥) (changed_by_either s a)
+  done_nothing t0 t t' s a p q = done_as t0 t' (λ f. ⊥ ⊎ ⊥) (λ f. ⊥) (changed_by_either s a) (λ f u never fold. absurd never) (done_more t0 t t' (λ f. ⊥) (λ f. ⊥) s a p q)
+
   pub done_partly : (t0 t t' : Tree) (Done : Fold → Type 0) (s : IRStatus) → AreDone x t0 t root Done s → AreDonePartly x t t' root → AreDonePartly x t0 t' root
   done_partly t0 t t' Done s p q = record {
     way = way_trans t0 t t' p.way q.way;
     folded = (p.folded.0 ++ q.folded.0, (q.folded.1.0, turn_more p.folded.0 q.folded.0 t0 t q.folded.1.0 p.folded.1 q.folded.1.1, q.folded.1.2));
   }
+
+  -- what was folded may be all that is
+  pub partly : (t0 t : Tree) (Done : Fold → Type 0) (s : IRStatus) → AreDone x t0 t root Done s → AreDonePartly x t0 t root
+  partly t0 t Done s p = record { way = p.way; folded = (p.folded.0, (t, p.folded.1, same_itself t)) }
+
+  pub partly_start : (t : Tree) → IsLive t root → IsWellLinked x.meaning t root → AreDonePartly x t t root
+  partly_start t lives linked = partly t t (λ f. ⊥) Unchanged (done_start t lives linked (λ f. ⊥) (λ f u never fold. never))
 
   -- what folds has a place
   pub index_within : (t u : Tree) (f : Fold) → FoldsTo x root f t u → index_of f < length (values_at t (site_of f))
@@ -262,9 +276,6 @@ module _ (x : Folding) (root : ℕ) (t : Tree) (w : IsTree t) (lives : IsLive t 
         (done_start x root t lives linked (λ f. (site_of f ≡ Arguments block) × (index_of f ≡ i)) (λ f u at fold. no_argument folds.1 f u at.0 at.1 fold))
     argument_done t' Changed folds = subst (λ z. AreDone x t z root (λ f. (site_of f ≡ Arguments block) × (index_of f ≡ i)) Changed) (sym folds.2) (argument_moved folds.0 folds.1)
 
-pub same_itself : (t : Tree) → IsSameTree t t
-same_itself t = record { operations = λ k. refl; operands = λ k. refl; successors = λ k. refl; parents = λ k. refl; bodies = λ b. refl; arguments = λ b. refl; block_parents = λ b. refl; layouts = λ r. refl }
-
 -- whether an argument folds
 module _ (m : Meaning) (t : Tree) (block i : ℕ) where
   pub no_fold : ((v : ℕ) → IsOneValue m t block i v → ⊥) → FoldsArgument m t t block i Unchanged
@@ -331,6 +342,13 @@ module _ (x : Folding) (root : ℕ) (sites : List Site) where
       left : (a : IRStatus) → (a ≡ Changed → ⊥) → a ≡ Unchanged
       left Changed n = absurd (n refl)
       left Unchanged n = refl
+
+  -- a sweep that folds, and what folds behind it
+  pub done_behind : (t0 t t' : Tree) (s a : IRStatus) (changed : Bool) → (IsTrue changed ↔ (s ≡ Changed)) → changed ≡ true → AreDone x t0 t root (λ f. IsAmong sites (length sites) (site_of f)) s → AreDone x t t' root (λ f. ⊥) a → AreDone x t0 t' root (λ f. IsAmong sites (length sites) (site_of f)) Changed
+  done_behind t0 t t' s a changed told e p q =
+      let is : changed_by_either s a ≡ Changed = ap (λ z. changed_by_either z a) (told.0 e) in
+      subst (λ z. AreDone x t0 t' root (λ f. IsAmong sites (length sites) (site_of f)) z) is
+      (done_as x root t0 t' (λ f. IsAmong sites (length sites) (site_of f) ⊎ ⊥) (λ f. IsAmong sites (length sites) (site_of f)) (changed_by_either s a) (λ f u among fold. inl among) (done_more x root t0 t t' (λ f. IsAmong sites (length sites) (site_of f)) (λ f. ⊥) s a p q))
 
   -- a sweep that folds lessens the count, and the other one is the last
   pub folding_smaller : (t t' : Tree) (a : IRStatus) (going : Bool) → AreDone x t t' root (λ f. IsAmong sites (length sites) (site_of f)) a → (IsTrue going ↔ (a ≡ Changed)) → folds_left t' going < folds_left t true

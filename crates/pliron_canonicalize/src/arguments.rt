@@ -3,18 +3,18 @@ ghost use Rattle.std.specs.Prelude.{◌≡◌, ◌<◌, IfOk, OnErr, IsOkUnless,
 ghost use Rattle.pliron_core.specs.Tree.{IsBlock, arguments_of};
 ghost use Rattle.pliron_canonicalize.specs.Steps.{FoldsArgument};
 
+use crate::moved_uses::MovedUses;
 use pliron_argument_laws::finding::find_one_value;
 use pliron_argument_laws::rewrites::replace_argument_by_value;
 use pliron_core::{BasicBlock, Context, IRStatus, Ptr, Rewriter};
 use pliron_laws::{Dialect, OptError, Room};
-use std::alloc::Global;
 
 /// The uses of the argument of the block with this index go to its one value, if it is used and is one.
 ///
 /// Asks that the block is live and has the argument. Errors: allocation failure, which changes nothing. Cost: one
 /// `successor_operand` for each edge to the block, up to one that tells, and a step for each use of the argument.
 pub fn fold_argument<D: Dialect, R: Rewriter + Room>(
-    alloc: Global,
+    moved: &mut MovedUses,
     block: Ptr<BasicBlock>,
     index: usize,
     ctx: &mut Context,
@@ -30,9 +30,10 @@ pub fn fold_argument<D: Dialect, R: Rewriter + Room>(
     if block.get_argument(ctx, index).num_use(ctx) == 0 {
         return Ok(IRStatus::Unchanged);
     }
-    let Some(value) = find_one_value::<D>(alloc, block, index, ctx)? else {
+    let Some(value) = find_one_value::<D>(moved.alloc, block, index, ctx)? else {
         return Ok(IRStatus::Unchanged);
     };
-    replace_argument_by_value::<D, R>(alloc, block, index, value, ctx, rewriter)?;
+    moved.add_uses_of(block.get_argument(ctx, index), ctx)?;
+    replace_argument_by_value::<D, R>(moved.alloc, block, index, value, ctx, rewriter)?;
     Ok(IRStatus::Changed)
 }

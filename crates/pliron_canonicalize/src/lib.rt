@@ -15,11 +15,13 @@ ghost use Rattle.pliron_canonicalize.specs.Folds.{Fold, FoldInTurn, AreFolded, H
 ghost use Rattle.pliron_canonicalize.specs.Counts.{foldable_count};
 
 mod arguments;
+mod moved_uses;
+mod rounds;
 mod sites;
 mod sweep;
 
+use crate::rounds::fold_all;
 use crate::sites::visited_sites;
-use crate::sweep::fold_all;
 use pliron_core::{Context, IRRewriter, IRStatus, Operation, Ptr, Rewriter};
 use pliron_laws::{OptError, Room};
 use pliron_operand_folding::OperandFoldInterface;
@@ -44,10 +46,12 @@ use std::alloc::Global;
 ///
 /// Errors: allocation failure. The tree is then one after some folds, each of them whole.
 ///
-/// Cost: that of a dominator tree for each region, and for each sweep what the dialect answers for each result with
-/// uses, one `successor_operand` for each argument with uses and each edge to its block, and a step for each use that
-/// moves. Each sweep but the last lessens the count of used values that may fold. Where definitions come before uses the
-/// first one folds all but what waits for an edge that comes behind its block in dominance order.
+/// Cost: that of a dominator tree for each region; twice, once where nothing folds, what the dialect answers for each
+/// result with uses and one `successor_operand` for each argument with uses and each edge to its block; for each use
+/// that moves a step, and as much as that for the results, or the argument, to which it goes on. What a fold changes is
+/// visited again, and nothing else, where the dialect's `forwarded_from` tells it: else all is, as often as that lessens
+/// the count of used values that may fold. A use moves once for each value that it comes to, so arguments of n loops in
+/// one another, of which the inner ones fold first, take n squared moves.
 pub fn canonicalize<D: OperandFoldInterface>(
     alloc: Global,
     op: Ptr<Operation>,

@@ -10,7 +10,7 @@ use pliron_order::dominance_order;
 use std::alloc::Global;
 
 /// Where values stand.
-#[derive(Clone, Copy)]
+#[derive(Clone, Copy, PartialEq, Eq, Hash)]
 pub enum Site {
     Arguments(Ptr<BasicBlock>),
     Results(Ptr<Operation>),

@@ -1,24 +1,26 @@
 //! Sweeps over results and arguments, each of which folds what it can.
-ghost use Rattle.std.specs.Prelude.{◌≡◌, ◌↔◌, ◌<◌, ◌≤◌, ℕ, List, Some, IsSome, IfOk, OnErr, OnOk, IsOkUnless, IsTrue, length};
-ghost use Rattle.pliron_core.specs.declared.attrs.IRStatus.TheVariants.{Changed as IsChanged, Unchanged as IsUnchanged};
-ghost use Rattle.pliron_core.specs.Tree.{In, IsDefined, IsLive, results_of, parent_of};
+ghost use Rattle.std.specs.Prelude.{◌≡◌, ◌↔◌, ◌<◌, ◌≤◌, ℕ, Some, IsSome, IfOk, OnOk, OnErr, IsOkUnless, IsTrue, length, get_or, slice_get};
+ghost use Rattle.pliron_core.specs.declared.attrs.IRStatus.TheVariants.{Changed as IsChanged};
+ghost use Rattle.pliron_core.specs.Changes.{IsSameTree};
+ghost use Rattle.pliron_core.specs.Tree.{In, IsDefined, IsLive, operands_of, results_of, parent_of};
+ghost use Rattle.pliron_core.specs.Writes.{after_replacing};
 ghost use Rattle.pliron_laws.specs.Linked.{IsWellLinked, IsAdmitted};
-ghost use Rattle.pliron_canonicalize.specs.Counts.{foldable_count};
-ghost use Rattle.pliron_canonicalize.specs.Folds.{Fold, FoldInTurn, AreFolded, HasFolds, ReportsFolds};
-ghost use Rattle.pliron_operand_laws.specs.Answered.{MayFold, UsesItself};
+ghost use Rattle.pliron_theory.specs.Rewrites.{IsConstant, ReplacesResult};
+ghost use Rattle.pliron_operand_folding.specs.declared.OpFoldResult.TheVariants.{Operand as OperandAnswer};
+ghost use Rattle.pliron_operand_laws.specs.Answered.{HasAnswer, MayFold, UsesItself};
 ghost use Rattle.pliron_canonicalize.specs.Sites.{AreListed, IsAmong, IsLiveSite, IsSeenAt, index_of, site_of, values_at};
-ghost use Rattle.pliron_canonicalize.specs.Steps.{AreAnswers, PutsAnswer, FoldsResult, IsUndone, IsOnWay, AreDone, AreDonePartly};
+ghost use Rattle.pliron_canonicalize.specs.Steps.{AreAnswers, PutsAnswer, FoldsResult, IsUndone, AreDone, AreDonePartly};
 
 use crate::arguments::fold_argument;
+use crate::moved_uses::MovedUses;
 use crate::sites::Site;
-use pliron_core::{Context, Def, IRStatus, Operation, Ptr, Rewriter, Value};
+use pliron_core::{AttrObj, Context, Def, IRStatus, Operation, Ptr, Rewriter, Value};
 use pliron_laws::{OptError, Room};
 use pliron_operand_folding::{OpFoldResult, OperandFoldInterface};
 use pliron_operand_laws::HasOperandFolding;
 use pliron_operand_laws::answers::{constant_answers, operand_answers};
 use pliron_operand_laws::rewrites::replace_result_by_operand;
 use pliron_theory::rewrites::replace_result_by_constant;
-use std::alloc::Global;
 
 // Whether the value is a result of the operation.
 fn is_result_of(value: Value, op: Ptr<Operation>, ctx: &Context) -> bool
@@ -57,8 +59,8 @@ fn may_fold(op: Ptr<Operation>, ctx: &Context) -> bool
     !uses_itself(op, ctx)
 }
 
-// Whether the status tells of a change.
-fn is_change(status: IRStatus) -> bool
+/// Whether the status tells of a change. Cost: constant.
+pub fn is_change(status: IRStatus) -> bool
     ensures { IsTrue result ↔ (status ≡ IsChanged) }
 {
     match status {
@@ -67,9 +69,62 @@ fn is_change(status: IRStatus) -> bool
     }
 }
 
+// The uses of the result with this index go to the operand at this place, and are noted.
+fn move_to_operand<D: OperandFoldInterface, R: Rewriter + Room>(
+    moved: &mut MovedUses,
+    op: Ptr<Operation>,
+    index: usize,
+    operand: usize,
+    ctx: &mut Context,
+    rewriter: &mut R,
+) -> Result<(), OptError>
+    requires live { IsLive ctx.old.tree op }
+    requires index { index < length (results_of ctx.old.tree op) }
+    requires answer { HasAnswer ⟦<D as HasOperandFolding>⟧.operand_folding ctx.old.tree op index
+        (OperandAnswer operand) }
+    requires operand { operand < length (operands_of ctx.old.tree op) }
+    ensures ok { OnOk result ((v : ℕ) → slice_get (results_of ctx.old.tree op) index ≡ Some v → ctx.new.tree
+        ≡ after_replacing ctx.old.tree v (get_or (operands_of ctx.old.tree op) operand 0)) }
+    ensures refused { OnErr result (ctx.new ≡ ctx.old) }
+    ensures memory { IsOkUnless result OptError.Memory }
+{
+    ctx.well_formed();
+    moved.add_uses_of(op.get_result(ctx, index), ctx)?;
+    replace_result_by_operand::<D, R>(moved.alloc, op, index, operand, ctx, rewriter)
+}
+
+// The uses of the result with this index go to a new operation that makes the constant, where the dialect makes it,
+// and are noted.
+fn move_to_constant<D: OperandFoldInterface, R: Rewriter + Room>(
+    moved: &mut MovedUses,
+    op: Ptr<Operation>,
+    index: usize,
+    attr: &AttrObj,
+    ctx: &mut Context,
+    rewriter: &mut R,
+) -> Result<IRStatus, OptError>
+    requires live { IsLive ctx.old.tree op }
+    requires placed { IsSome (parent_of ctx.old.tree op) }
+    requires index { index < length (results_of ctx.old.tree op) }
+    requires constant { (v : ℕ) → slice_get (results_of ctx.old.tree op) index ≡ Some v → IsConstant D.meaning
+        ctx.old.tree v attr.now }
+    ensures ok { IfOk result (λ status. ReplacesResult D.accepts D.constant_head attr.now op index ctx.old.tree
+        ctx.new.tree status) }
+    ensures refused { OnErr result (IsSameTree ctx.old.tree ctx.new.tree) }
+    ensures memory { IsOkUnless result OptError.Memory }
+    ensures grows { length ctx.old.tree.operations ≤ length ctx.new.tree.operations }
+{
+    ctx.well_formed();
+    let before = moved.uses.len();
+    moved.add_uses_of(op.get_result(ctx, index), ctx)?;
+    let outcome = replace_result_by_constant::<D, R>(moved.alloc, op, index, attr, ctx, rewriter);
+    moved.confirm(before, &outcome);
+    outcome
+}
+
 // The uses of the result with this index go to what the answer for it says, where the dialect makes that.
 fn put_answer<D: OperandFoldInterface, R: Rewriter + Room>(
-    alloc: Global,
+    moved: &mut MovedUses,
     op: Ptr<Operation>,
     index: usize,
     answers: &[Option<OpFoldResult>],
@@ -91,11 +146,11 @@ fn put_answer<D: OperandFoldInterface, R: Rewriter + Room>(
     }
     match &answers[index] {
         Some(OpFoldResult::Operand(operand)) => {
-            replace_result_by_operand::<D, R>(alloc, op, index, *operand, ctx, rewriter)?;
+            move_to_operand::<D, R>(moved, op, index, *operand, ctx, rewriter)?;
             Ok(IRStatus::Changed)
         }
         Some(OpFoldResult::Constant(attr)) => {
-            replace_result_by_constant::<D, R>(alloc, op, index, attr, ctx, rewriter)
+            move_to_constant::<D, R>(moved, op, index, attr, ctx, rewriter)
         }
         None => Ok(IRStatus::Unchanged),
     }
@@ -103,7 +158,7 @@ fn put_answer<D: OperandFoldInterface, R: Rewriter + Room>(
 
 // The result with this index folds, if it is used and the dialect answers what it is.
 fn fold_result<D: OperandFoldInterface, R: Rewriter + Room>(
-    alloc: Global,
+    moved: &mut MovedUses,
     op: Ptr<Operation>,
     index: usize,
     ctx: &mut Context,
@@ -125,17 +180,17 @@ fn fold_result<D: OperandFoldInterface, R: Rewriter + Room>(
     if !may_fold(op, ctx) {
         return Ok(IRStatus::Unchanged);
     }
-    let answers = operand_answers::<D>(alloc, op, ctx)?;
-    let status = put_answer::<D, R>(alloc, op, index, &answers, ctx, rewriter)?;
+    let answers = operand_answers::<D>(moved.alloc, op, ctx)?;
+    let status = put_answer::<D, R>(moved, op, index, &answers, ctx, rewriter)?;
     if is_change(status) {
         return Ok(status);
     }
-    let constants = constant_answers::<D>(alloc, op, ctx)?;
-    put_answer::<D, R>(alloc, op, index, &constants, ctx, rewriter)
+    let constants = constant_answers::<D>(moved.alloc, op, ctx)?;
+    put_answer::<D, R>(moved, op, index, &constants, ctx, rewriter)
 }
 
-// How many values stand at the site.
-fn value_count(site: &Site, ctx: &Context) -> usize
+/// How many values stand at the site. Asks that its operation or block is live. Cost: constant.
+pub fn value_count(site: &Site, ctx: &Context) -> usize
     requires { IsLiveSite ctx.now.tree site.now }
     ensures { result ≡ length (values_at ctx.now.tree site.now) }
 {
@@ -145,9 +200,13 @@ fn value_count(site: &Site, ctx: &Context) -> usize
     }
 }
 
-// The value at the site with this index folds, if it is used.
-fn fold_value<D: OperandFoldInterface, R: Rewriter + Room>(
-    alloc: Global,
+/// The value at the site with this index folds, if it is used.
+///
+/// Asks that the root stands and is well linked, that the site is seen in it and has the value. Errors: allocation failure,
+/// after which some whole folds are made. Cost: that of the dialect's answers, or of what the edges forward, and a step for
+/// each use that moves.
+pub fn fold_value<D: OperandFoldInterface, R: Rewriter + Room>(
+    moved: &mut MovedUses,
     root: Ptr<Operation>,
     site: &Site,
     index: usize,
@@ -167,12 +226,12 @@ fn fold_value<D: OperandFoldInterface, R: Rewriter + Room>(
     ctx.well_formed();
     match site {
         Site::Arguments(block) => {
-            let outcome = fold_argument::<D, R>(alloc, *block, index, ctx, rewriter);
+            let outcome = fold_argument::<D, R>(moved, *block, index, ctx, rewriter);
             ctx.well_formed();
             outcome
         }
         Site::Results(op) => {
-            let outcome = fold_result::<D, R>(alloc, *op, index, ctx, rewriter);
+            let outcome = fold_result::<D, R>(moved, *op, index, ctx, rewriter);
             ctx.well_formed();
             outcome
         }
@@ -181,7 +240,7 @@ fn fold_value<D: OperandFoldInterface, R: Rewriter + Room>(
 
 // The values at the site fold, one after the other.
 fn fold_site<D: OperandFoldInterface, R: Rewriter + Room>(
-    alloc: Global,
+    moved: &mut MovedUses,
     root: Ptr<Operation>,
     site: &Site,
     ctx: &mut Context,
@@ -199,15 +258,18 @@ fn fold_site<D: OperandFoldInterface, R: Rewriter + Room>(
     ctx.well_formed();
     let mut status = IRStatus::Unchanged;
     for index in 0..value_count(site, ctx) {
-        let folded = fold_value::<D, R>(alloc, root, site, index, ctx, rewriter)?;
+        let folded = fold_value::<D, R>(moved, root, site, index, ctx, rewriter)?;
         status |= folded;
     }
     Ok(status)
 }
 
-// One sweep over these sites.
-fn sweep<D: OperandFoldInterface, R: Rewriter + Room>(
-    alloc: Global,
+/// One sweep over these sites: what stands there folds, one after the other.
+///
+/// Asks that the root stands and is well linked, and that the sites are seen in it. Errors: allocation failure, after some
+/// whole folds. Cost: that of each of their values.
+pub fn sweep<D: OperandFoldInterface, R: Rewriter + Room>(
+    moved: &mut MovedUses,
     root: Ptr<Operation>,
     sites: &[Site],
     ctx: &mut Context,
@@ -225,45 +287,8 @@ fn sweep<D: OperandFoldInterface, R: Rewriter + Room>(
     ctx.well_formed();
     let mut status = IRStatus::Unchanged;
     for place in 0..sites.len() {
-        let folded = fold_site::<D, R>(alloc, root, &sites[place], ctx, rewriter)?;
+        let folded = fold_site::<D, R>(moved, root, &sites[place], ctx, rewriter)?;
         status |= folded;
     }
-    Ok(status)
-}
-
-/// Folds what stands at these sites until nothing there folds.
-///
-/// Asks that the root stands and is well linked, and that each block that is seen in it is one of these, and each
-/// operation that has operands. Errors: allocation failure, after some whole folds. Cost: that of as many sweeps as
-/// lessen the count of values that may fold, and one more.
-pub fn fold_all<D: OperandFoldInterface, R: Rewriter + Room>(
-    alloc: Global,
-    root: Ptr<Operation>,
-    sites: &[Site],
-    ctx: &mut Context,
-    rewriter: &mut R,
-) -> Result<IRStatus, OptError>
-    requires live { IsLive ctx.old.tree root }
-    requires linked { IsWellLinked D.meaning ctx.old.tree root }
-    requires listed { AreListed ctx.old.tree root sites.now }
-    ensures way { IsOnWay D.meaning ctx.old.tree ctx.new.tree root }
-    ensures folded { (fs : List Fold) × AreFolded ⟦<D as HasOperandFolding>⟧.operand_folding root fs ctx.old.tree
-        ctx.new.tree × OnOk result (FoldInTurn ⟦<D as HasOperandFolding>⟧.operand_folding root fs ctx.old.tree
-        ctx.new.tree) }
-    ensures none { IfOk result (λ a. HasFolds ⟦<D as HasOperandFolding>⟧.operand_folding ctx.new.tree root → ⊥) }
-    ensures status { IfOk result (λ a. ReportsFolds ⟦<D as HasOperandFolding>⟧.operand_folding ctx.old.tree root a) }
-    ensures tells { IfOk result (λ a. (a ≡ IsUnchanged) ↔ (ctx.new.tree ≡ ctx.old.tree)) }
-    ensures fewer { IfOk result (λ a. foldable_count ctx.new.tree ≤ foldable_count ctx.old.tree) }
-    ensures memory { IsOkUnless result OptError.Memory }
-{
-    ctx.well_formed();
-    let mut status = IRStatus::Unchanged;
-    let mut going = true;
-    while going {
-        let swept = sweep::<D, R>(alloc, root, sites, ctx, rewriter)?;
-        going = is_change(swept);
-        status |= swept;
-    }
-    ctx.well_formed();
     Ok(status)
 }

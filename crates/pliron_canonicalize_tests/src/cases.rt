@@ -1,22 +1,22 @@
 //! Texts, and what is left of them. `C` stands before one that changes, `U` before one that does not, and before that a
-//! name. They were worked out by hand; eleven are what tests of MLIR's canonicalization and constant folding ask, in this
+//! name. They were worked out by hand; nine are what tests of MLIR's canonicalization and constant folding ask, in this
 //! dialect.
 
 pub static ROWS: &str = "\
-a sum of constants, as in MLIR's constant-fold.mlir -- C func { b0(): a = const 2; b = const 3; c = add \
+a sum of constants, as simple_addi of MLIR's constant-fold.mlir -- C func { b0(): a = const 2; b = const 3; c = add \
     a b; ret c } => func { b0(): v0 = const 2; v1 = const 3; v2 = const 5; v3 = add v0 v1; ret v2 }
-a product of constants, as in MLIR's constant-fold.mlir -- C func { b0(): a = const 4; b = const 2; c = \
+a product of constants, as muli there -- C func { b0(): a = const 4; b = const 2; c = \
     mul a b; ret c } => func { b0(): v0 = const 4; v1 = const 2; v2 = const 8; v3 = mul v0 v1; ret v2 }
-a quotient of constants, which by 0 stays, as in MLIR's constant-fold.mlir -- C func { b0(): z = const \
+a quotient of constants, which by 0 stays, as simple_divi_signed there -- C func { b0(): z = const \
     0; a = const 7; b = const 2; c = div a b; d = div a z; ret c d } => func { b0(): v0 = const 0; v1 = \
     const 7; v2 = const 2; v3 = const 3; v4 = div v1 v2; v5 = div v1 v0; ret v3 v5 }
-a product with 0, as in MLIR's canonicalize.mlir -- C func { b0(x): z = const 0; a = mul x z; ret a } => \
+a product with 0 -- C func { b0(x): z = const 0; a = mul x z; ret a } => \
     func { b0(v0): v1 = const 0; v2 = mul v0 v1; ret v1 }
-0 on the left -- C func { b0(x): z = const 0; a = mul z x; ret a a } => func { b0(v0): v1 = const 0; v2 \
+0 on the left, as muli_zero of MLIR's Transforms/canonicalize.mlir -- C func { b0(x): z = const 0; a = mul z x; ret a a } => func { b0(v0): v1 = const 0; v2 \
     = mul v1 v0; ret v1 v1 }
 0 on both sides is the left one -- C func { b0(): y = const 0; z = const 0; a = mul y z; ret a } => func \
     { b0(): v0 = const 0; v1 = const 0; v2 = mul v0 v1; ret v0 }
-0 divided, as in MLIR's constant-fold.mlir -- C func { b0(x): z = const 0; a = div z x; ret a } => func \
+0 divided -- C func { b0(x): z = const 0; a = div z x; ret a } => func \
     { b0(v0): v1 = const 0; v2 = div v1 v0; ret v1 }
 a quotient of equal operands, which may trap -- C func { b0(x): a = div x x; ret a } => func { b0(v0): \
     v1 = const 1; v2 = div v0 v0; ret v1 }
@@ -54,7 +54,7 @@ uses before definitions -- C func { b0(): c = add b a; b = add a a; a = const 2;
     v0 = const 6; v1 = add v2 v4; v2 = const 4; v3 = add v4 v4; v4 = const 2; ret v0 }
 an operation that uses itself -- U func { b0(): a = mul a z; z = const 0; ret a } => func { b0(): v0 = \
     mul v0 v1; v1 = const 0; ret v0 }
-a branch that forwards a constant, as br_folding of MLIR's canonicalize.mlir -- C func { b0(): z = const 0; \
+a branch that forwards a constant, as br_folding of MLIR's ControlFlow/canonicalize.mlir -- C func { b0(): z = const 0; \
     br b1(z); b1(p): ret p } => func { b0(): v0 = const 0; br b1(v0); b1(v1): ret v0 }
 two edges that forward one value, as cond_br_same_successor there -- C func { b0(c, x): cbr c b1(x) b1(x); \
     b1(p): ret p } => func { b0(v0, v1): cbr v0 b1(v1) b1(v1); b1(v2): ret v1 }
@@ -63,9 +63,9 @@ two edges that forward two values, as cond_br_same_successor_insert_select there
 through a block to a join, as cond_br_passthrough there -- C func { b0(c, x): cbr c b1(x) b2(); b1(p): br \
     b3(p); b2(): br b3(x); b3(q): ret q } => func { b0(v0, v1): cbr v0 b1(v1) b2(); b1(v2): br b3(v1); b2(): br \
     b3(v1); b3(v3): ret v1 }
-a loop that nothing leaves, as values in a cycle in MLIR's canonicalize-dce.mlir -- C func { b0(x): br \
+a loop that nothing leaves, as the recursively dead arguments of MLIR's canonicalize-dce.mlir -- C func { b0(x): br \
     b1(x); b1(p): br b1(p) } => func { b0(v0): br b1(v0); b1(v1): br b1(v0) }
-one of two arguments, as redundant_block_args0 of MLIR's canonicalize-block-merge.mlir -- C func { b0(c, x, \
+one of two arguments -- C func { b0(c, x, \
     y): cbr c b2(x, y) b1(); b1(): br b2(x, c); b2(p, q): ret p q } => func { b0(v0, v1, v2): cbr v0 b2(v1, v2) \
     b1(); b1(): br b2(v1, v0); b2(v3, v4): ret v1 v4 }
 an argument that is known makes a product known -- C func { b0(x): z = const 0; br b1(z); b1(p): a = mul x \
@@ -95,4 +95,16 @@ an argument that a region uses -- C func { b0(x): br b1(x); b1(p): scope { b0():
     func { b0(v0): br b1(v0); b1(v1): scope { b0(): print v0; ret }; ret }
 an argument in a region that is visited again -- C func { b0(x): br b1(); b1(): scope { b0(): r = read; br \
     b1(r); b1(p): print p; ret }; br b1() } => func { b0(v0): br b1(); b1(): scope { b0(): v1 = read; br b1(v1); \
-    b1(v2): print v1; ret }; br b1() }";
+    b1(v2): print v1; ret }; br b1() }
+diamonds in a chain, each behind the one before -- C func { b0(x): z = const 0; br b1(z); b1(p): cbr x \
+    b2() b3(); b2(): br b4(z); b3(): a = mul x p; br b4(a); b4(q): cbr x b5() b6(); b5(): br b7(z); \
+    b6(): b = mul x q; br b7(b); b7(r): ret r } => func { b0(v0): v1 = const 0; br b1(v1); b1(v2): cbr \
+    v0 b2() b3(); b2(): br b4(v1); b3(): v3 = mul v0 v1; br b4(v1); b4(v4): cbr v0 b5() b6(); b5(): br \
+    b7(v1); b6(): v5 = mul v0 v1; br b7(v1); b7(v6): ret v1 }
+three loops, each in the one before -- C func { b0(x): br b1(x); b1(p): br b2(p); b2(q): br b3(q); \
+    b3(r): s = read; cbr s b3(r) b4(); b4(): t = read; cbr t b2(r) b5(); b5(): u = read; cbr u b1(q) \
+    b6(); b6(): ret p } => func { b0(v0): br b1(v0); b1(v1): br b2(v0); b2(v2): br b3(v0); b3(v3): v4 = \
+    read; cbr v4 b3(v0) b4(); b4(): v5 = read; cbr v5 b2(v0) b5(); b5(): v6 = read; cbr v6 b1(v0) b6(); \
+    b6(): ret v0 }
+arguments that turn out to be the same value -- C func { b0(x): br b1(x, x); b1(p, q): a = div p q; ret \
+    a } => func { b0(v0): br b1(v0, v0); b1(v1, v2): v3 = const 1; v4 = div v0 v0; ret v3 }";

@@ -1,7 +1,7 @@
 use Rattle.pliron_canonicalize.proofs.Parts.{folding}
 use Rattle.pliron_canonicalize.specs.Steps.{IsFolding}
 use Rattle.pliron_canonicalize.proofs.Doing.{folds_left}
-use Rattle.pliron_canonicalize.proofs.sweep.fold_all.Given as goal
+use Rattle.pliron_canonicalize.proofs.rounds.fold_all.Given as goal
 
 abbrev pub invariant-loop-going : goal.invariant-loop-going
 invariant-loop-going g l = IsFolding (folding g.D.HasMeaning.meaning g.D.SideEffects.side_effects g.D.ConstFoldInterface.can_fold g.D.ConstFoldInterface.constants g.D.ConstFoldInterface.accepts g.D.ConstFoldInterface.constant_head g.D.OperandFoldInterface.operand_folds) l.fn.ctx.tree l.ctx.tree l.fn.root l.sites l.status l.going
