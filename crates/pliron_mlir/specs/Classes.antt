@@ -13,7 +13,7 @@ use Rattle.pliron_bits.specs.declared.operators.Cast.{Cast}
 use Rattle.pliron_bits.specs.Operators.{binary, comparison, cast_to, predicate_of_number}
 use Rattle.pliron_mlir.specs.declared.kind.Class.{Class}
 use Rattle.pliron_mlir.specs.declared.kind.Class.TheVariants.{Constant as ConstantClass, Select, Opaque as OpaqueClass, Jump, Branch, Switch, Leave as LeaveClass, Unreachable, Effect, Regions, Root, Module, Fork, Compare, Cast as CastClass, Binary}
-use Rattle.pliron_roles.specs.Counted.{counted_by}
+use Rattle.pliron_branches.specs.Counts.{counted_by}
 use Rattle.pliron_roles.specs.declared.identity.Identity.{Identity}
 use Rattle.pliron_roles.specs.Identities.{no_identity}
 use Rattle.pliron_mlir.specs.IntegerIdentities.{of_cast, identity_at}

@@ -1,6 +1,6 @@
 //! Attributes that count.
 ghost use Rattle.std.specs.Prelude.{◌≡◌, ◌≤◌};
-ghost use Rattle.pliron_roles.specs.Counted.{counted_by};
+ghost use Rattle.pliron_branches.specs.Counts.{counted_by};
 ghost use Rattle.pliron_mlir.specs.Heads.{attribute_at as attribute_in, width_at as width_in, flags_at as flags_in};
 
 use crate::data::is_width;
