@@ -1,5 +1,5 @@
 //! What is told where passes are refused.
-ghost use Rattle.std.specs.Prelude.{IfOk};
+ghost use Rattle.std.specs.Prelude.{◌≡◌, IfOk};
 ghost use Rattle.pliron_core.specs.Writes.{no_tree};
 ghost use Rattle.pliron_cli.specs.Outcomes.{EndsBadly};
 
