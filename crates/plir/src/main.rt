@@ -130,28 +130,19 @@ fn explain_as_asked(
     Ok(explain(alloc, source, &options)?)
 }
 
-// What the command makes of an operation inside a function.
-fn outcome_of_inner(
+// Tells what the passes did to an operation inside a function.
+fn explain_inner(
     alloc: Global,
-    command: &str,
     matches: &ArgMatches,
     input: &Input,
     part: TextRange,
 ) -> io::Result<Outcome> {
     let (pipeline, name) = pipeline_and_file(alloc, matches)?;
-    let path = matches.get_str("at").unwrap_or("0");
-    let mut source = Source {
+    let function = input.around_inner(alloc, matches.get_str("at").unwrap_or("0"))?;
+    let source = Source {
         name: input_name(name),
-        text: &input.text,
+        text: &function,
     };
-    if command == "dot" {
-        return draw_as_asked(alloc, &source, matches, Some(path));
-    }
-    if command != "explain" {
-        return Ok(inner_failure(alloc, &source, part, path)?);
-    }
-    let function = input.around_inner(alloc, path)?;
-    source.text = &function;
     let told = explain_as_asked(alloc, &source, matches, pipeline)?;
     if told.status != 0 {
         return Ok(told);
@@ -161,6 +152,27 @@ fn outcome_of_inner(
         report: told.report,
         status: 0,
     })
+}
+
+// What the command makes of an operation inside a function.
+fn outcome_of_inner(
+    alloc: Global,
+    command: &str,
+    matches: &ArgMatches,
+    input: &Input,
+    part: TextRange,
+) -> io::Result<Outcome> {
+    let (_, name) = pipeline_and_file(alloc, matches)?;
+    let path = matches.get_str("at").unwrap_or("0");
+    let source = Source {
+        name: input_name(name),
+        text: &input.text,
+    };
+    match command {
+        "dot" => draw_as_asked(alloc, &source, matches, Some(path)),
+        "explain" => explain_inner(alloc, matches, input, part),
+        _ => Ok(inner_failure(alloc, &source, part, path)?),
+    }
 }
 
 // The outcome of a command that can't read its input: what went wrong is told.
