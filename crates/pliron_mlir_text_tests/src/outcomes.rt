@@ -83,10 +83,27 @@ fn ends(rt: HostRuntime) {
 
 /// A function that adds one and two, whose sum `sccp` knows and `dce` leaves alone.
 static SUM: &str = "\
-\"builtin.module\"() ({|  \"func.func\"() <{sym_name = \"f\"}> ({|    %0 = \"arith.constant\"() <{value = 1 : i32}> : () -> i32|    %1 = \"arith.constant\"() <{value = 2 : i32}> : () -> i32|    %2 = \"arith.addi\"(%0, %1) <{overflowFlags = #arith.overflow<none>}> : (i32, i32) -> i32|    \"func.return\"(%2) : (i32) -> ()|  }) : () -> ()|}) : () -> ()";
+\"builtin.module\"() ({|  \"func.func\"() <{sym_name = \"f\"}> ({\
+|    %0 = \"arith.constant\"() <{value = 1 : i32}> : () -> i32\
+|    %1 = \"arith.constant\"() <{value = 2 : i32}> : () -> i32\
+|    %2 = \"arith.addi\"(%0, %1) <{overflowFlags = #arith.overflow<none>}> : (i32, i32) -> i32\
+|    \"func.return\"(%2) : (i32) -> ()|  }) : () -> ()|}) : () -> ()";
 
 static TOLD: &str = "\
-0 \"builtin.module\"() ({|  \"func.func\"() <{sym_name = \"f\"}> ({|    %3 = \"arith.constant\"() <{value = 3 : i32}> : () -> i32|    \"func.return\"(%3) : (i32) -> ()|  }) : () -> ()|}) : () -> ()| => verified after each of 2 runs of passes: 2 without a fault|round pass                  operations   blocks arguments    edges|    1 sccp           before          6        2         0        0|      sccp           after           7        2         0        0|      made 1 operations, erased 0, 0 blocks, 0 arguments|    1 dce            before          7        2         0        0|      dce            after           4        2         0        0|      made 0 operations, erased 3, 0 blocks, 0 arguments|class            before      after|constants             2          1|folding               1          0|opaque                0          0|effects               0          0|terminators           1          1|functions             1          1|regions               1          1|functions fit to run: 1, not: 0|changed|checked: what is printed says the same tree|";
+0 \"builtin.module\"() ({|  \"func.func\"() <{sym_name = \"f\"}> ({\
+|    %3 = \"arith.constant\"() <{value = 3 : i32}> : () -> i32|    \"func.return\"(%3) : (i32) -> ()|  }) : () -> ()\
+|}) : () -> ()| => verified after each of 2 runs of passes: 2 without a fault\
+|round pass                  operations   blocks arguments    edges\
+|    1 sccp           before          6        2         0        0\
+|      sccp           after           7        2         0        0\
+|      made 1 operations, erased 0, 0 blocks, 0 arguments\
+|    1 dce            before          7        2         0        0\
+|      dce            after           4        2         0        0\
+|      made 0 operations, erased 3, 0 blocks, 0 arguments|class            before      after\
+|constants             2          1|folding               1          0|opaque                0          0\
+|effects               0          0|terminators           1          1|functions             1          1\
+|regions               1          1|functions fit to run: 1, not: 0|changed\
+|checked: what is printed says the same tree|";
 
 #[test]
 fn tells_what_passes_did(rt: HostRuntime) {
