@@ -1,5 +1,5 @@
 -- Lemmas on the marks of a row, which say of each place whether it is taken.
-use Rattle.std.proofs.Common.{◌≡◌, ◌≢◌, ℕ, zero, suc, ◌+◌, List, [], ◌∷◌, ◌++◌, length, take, set, Some, refl, sym, ap, ◌∙◌, inl, inr, arith}
+use Rattle.std.proofs.Common.{◌≡◌, ◌≢◌, ℕ, zero, suc, ◌+◌, ◌≤◌, List, [], ◌∷◌, ◌++◌, length, take, set, Some, refl, sym, ap, ◌∙◌, inl, inr, arith}
 use Rattle.std.specs.List.{slice_get, sum}
 use Rattle.std.specs.Option.{option_map}
 use Rattle.std.proofs.lemmas.Bool.{cases_eq, eq-eqb, ne_eqb}
@@ -44,6 +44,13 @@ rank-marks (p ∷ ps) (suc n) = elim (cases_eq p.target no_target) [
 
 pub held-marks : (row : List UseSlot) → length (targets_held row) ≡ sum (marks row)
 held-marks row = sym (rank-all row) ∙ rank-marks row (length row) ∙ ap sum (take_all (length row) (marks row) (omega (arith, length-map row mark_of)))
+
+pub held-most : (row : List UseSlot) → length (targets_held row) ≤ length row
+held-most [] = omega arith
+held-most (p ∷ ps) = elim (cases_eq p.target no_target) [
+  | inl e ↦ rw (eq-eqb p.target no_target e) (omega (arith, held-most ps))
+  | inr ne ↦ rw (ne_eqb p.target no_target ne) (omega (arith, held-most ps))
+]
 
 pub marks-set : (row : List UseSlot) (n : ℕ) (p : UseSlot) → marks (set row n p) ≡ set (marks row) n (mark_of p)
 marks-set row n p = map-set mark_of row n p

@@ -67,7 +67,7 @@ less-pairs (x ∷ y ∷ zs) (suc (suc p)) (suc q) e h = ap (λ l. (x + y) ∷ l)
 pub sum-marks : (xs : List ℕ) → AreMarks xs → sum xs ≤ length xs
 sum-marks xs m = omega (arith, sum_by-le (λ z. z) 1 xs m)
 
-sum-marks_take : (xs : List ℕ) (n : ℕ) → AreMarks xs → sum (take n xs) ≤ n
+pub sum-marks_take : (xs : List ℕ) (n : ℕ) → AreMarks xs → sum (take n xs) ≤ n
 sum-marks_take xs zero m = omega arith
 sum-marks_take [] (suc n) m = omega arith
 sum-marks_take (x ∷ xs) (suc n) m =

@@ -5,6 +5,7 @@ use Rattle.std.proofs.lemmas.List.{append-nil, get_or_default, length-map, get_o
 use Rattle.pliron_core.specs.declared.links.Node.{Node}
 use Rattle.pliron_core.specs.declared.links.Ends.{Ends}
 use Rattle.pliron_core.specs.Lists.{Lists, first_of, last_of, without, put_before, next_in, next_in_lists, prev_in, prev_in_lists}
+use Rattle.pliron_core.specs.Keys.{key_limit}
 use Rattle.pliron_core.specs.Nodes.{no_node, no_ends, node_at, ends_at, with_next, with_prev, with_first, with_tail, In, IsDistinct, IsRow, IsList, AreSoundLists, owners_of, lists_of, InRange}
 use Rattle.pliron_core.proofs.ListLemmas.{split_at, without-split, put_before-split, next_in-split, prev_in-split, distinct-apart}
 use Rattle.pliron_core.proofs.NeighbourLemmas.{first_of-In, last_of-In, next_in-In, prev_in-In}
@@ -181,16 +182,18 @@ node_added nodes ends is =
       count = is.count;
       each = λ l h. let was = is.each l h in record { head = was.head; tail = was.tail; row = row-same nodes _ l None _ None (omega (arith, length-append nodes (no_node ∷ []))) (λ y i. get_or-pad nodes no_node y) was.row; distinct = was.distinct };
       owned = λ x l own. is.owned x l (sym (ap (λ n. n.owner) (get_or-pad nodes no_node x)) ∙ own);
+      few = is.few;
     }) (map-append (λ n. n.owner) nodes (no_node ∷ []))
 
 -- the tables after a list was added
-pub list_added : (nodes : List Node) (ends : List Ends) → AreSoundLists nodes ends (lists_of nodes ends) → StandsFor nodes (ends ++ no_ends ∷ []) (lists_of nodes ends ++ [] ∷ []) (owners_of nodes)
-list_added nodes ends is =
+pub list_added : (nodes : List Node) (ends : List Ends) → length ends < key_limit → AreSoundLists nodes ends (lists_of nodes ends) → StandsFor nodes (ends ++ no_ends ∷ []) (lists_of nodes ends ++ [] ∷ []) (owners_of nodes)
+list_added nodes ends room is =
     let longer : length (ends ++ no_ends ∷ []) ≡ length ends + 1 = omega (arith, length-append ends (no_ends ∷ [])) in
     stands _ _ _ _ (record {
       count = omega (arith, longer, is.count, length-append (lists_of nodes ends) ([] ∷ []));
       each = λ l h. rw (get_or-pad ends no_ends l, get_or-pad (lists_of nodes ends) [] l) (elim (cases_lt l) [ inl lt ↦ is.each l lt | inr le ↦ rw (get_or_past ends l no_ends le, get_or_past (lists_of nodes ends) l [] (omega (arith, is.count, le))) (record { head = refl; tail = refl; row = tt; distinct = tt }) ]);
       owned = λ x l own. let o = is.owned x l own in (omega (arith, o.0, longer), rw (get_or-pad (lists_of nodes ends) [] l) o.1);
+      few = omega (arith, longer, room);
     }) refl
   where
     cases_lt : (l : ℕ) → (l < length ends) ⊎ (length ends ≤ l)

@@ -108,4 +108,5 @@ module _ (nodes : List Node) (ends : List Ends) (lists : List (List ℕ)) (l x :
             | inr ne ↦ rw (get_or-set_other ends l k ends2 no_ends ne, get_or-set_other lists l k (front ++ back) [] ne) (others k ne (is.each k (omega (arith, h, length-set ends l ends2))))
           ];
           owned = owned;
+          few = omega (arith, is.few, length-set ends l ends2);
         }

@@ -150,4 +150,5 @@ module _ (nodes : List Node) (ends : List Ends) (lists : List (List ℕ)) (l x :
             | inr ne ↦ rw (get_or-set_other ends l k ends3 no_ends ne, get_or-set_other lists l k (front ++ x ∷ back) [] ne) (others k ne (is.each k (omega (arith, length-set ends l ends3))))
           ];
           owned = owned;
+          few = omega (arith, is.few, length-set ends l ends3);
         }

@@ -1,5 +1,5 @@
 -- Lemmas on a new user with new targets.
-use Rattle.std.proofs.Common.{◌≡◌, ◌≢◌, ◌⊎◌, ℕ, zero, suc, ◌+◌, ◌^◌, ◌<◌, ◌≤◌, List, [], ◌∷◌, ◌++◌, length, map, get_or, Some, refl, sym, ap, ◌∙◌, inl, inr, arith, length-append, replicate}
+use Rattle.std.proofs.Common.{◌≡◌, ◌≢◌, ◌⊎◌, ℕ, zero, suc, ◌+◌, ◌<◌, ◌≤◌, List, [], ◌∷◌, ◌++◌, length, map, get_or, Some, refl, sym, ap, ◌∙◌, inl, inr, arith, length-append, replicate}
 use Rattle.std.specs.List.{slice_get, range_with_len}
 use Rattle.std.proofs.lemmas.List.{map-append, get_or_past, length-replicate}
 use Rattle.std.proofs.lemmas.List.FromFn.{get_or-map-range_with_len, length-map-range_with_len, map-range_with_len_more}
@@ -135,7 +135,7 @@ pub length-uses : (lists : List (List Use)) (user count : ℕ) → length (lists
 length-uses lists user count = length-append lists (uses_by user count) ∙ ap (λ n. length lists + n) (length-map-range_with_len (λ k. (let x : Use = record { user = user; place = k } in x) ∷ []) 0 count)
 
 -- a new user with so many new targets
-pub user-linked : (rows : List (List UseSlot)) (holes : List Holes) (lists : List (List Use)) (count : ℕ) → length lists + count < 2 ^ 64 → AreLinked rows holes lists → AreLinked (rows ++ places_from (length lists) count ∷ []) (holes ++ OneGap no_gap ∷ []) (lists ++ uses_by (length rows) count)
+pub user-linked : (rows : List (List UseSlot)) (holes : List Holes) (lists : List (List Use)) (count : ℕ) → length lists + count ≤ no_target → AreLinked rows holes lists → AreLinked (rows ++ places_from (length lists) count ∷ []) (holes ++ OneGap no_gap ∷ []) (lists ++ uses_by (length rows) count)
 user-linked rows holes lists count few is =
     let n = length-uses lists (length rows) count in
     record {

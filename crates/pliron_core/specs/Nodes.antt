@@ -1,8 +1,9 @@
 -- How nodes with links represent lists.
-use Rattle.std.specs.Prelude.{◌≡◌, ℕ, zero, suc, ◌<◌, List, [], ◌∷◌, length, map, Option, Some, None, slice_index_or, slice_set}
+use Rattle.std.specs.Prelude.{◌≡◌, ℕ, zero, suc, ◌<◌, ◌≤◌, List, [], ◌∷◌, length, map, Option, Some, None, slice_index_or, slice_set}
 pub use Rattle.pliron_core.specs.Lists.{In, IsDistinct}
 use Rattle.pliron_core.specs.declared.links.Node.{Node}
 use Rattle.pliron_core.specs.declared.links.Ends.{Ends}
+use Rattle.pliron_core.specs.Keys.{key_limit}
 use Rattle.pliron_core.specs.Lists.{first_of, last_of}
 
 -- a node in no list
@@ -65,11 +66,12 @@ pub record IsList (nodes : List Node) (l : ℕ) (ends : Ends) (xs : List ℕ) : 
   pub row : IsRow nodes l None xs None
   pub distinct : IsDistinct xs
 
--- nodes and ends represent these lists, and only nodes in a list are owned
+-- nodes and ends represent these lists, only nodes in a list are owned, and each list has a key
 pub record AreSoundLists (nodes : List Node) (ends : List Ends) (lists : List (List ℕ)) : Type 0 where
   pub count : length ends ≡ length lists
   pub each : (l : ℕ) → l < length ends → IsList nodes l (ends_at ends l) (slice_index_or lists l [])
   pub owned : (x l : ℕ) → (node_at nodes x).owner ≡ Some l → (l < length ends) × In x (slice_index_or lists l [])
+  pub few : length ends ≤ key_limit
 
 -- the list's first node, where nothing is before it
 abbrev pub with_first : Ends → Option ℕ → Option ℕ → Ends

@@ -8,4 +8,4 @@ abbrev pub list_of : {T : Type 0} → InlineItems T → List T
 list_of Empty = []
 list_of (One x) = x ∷ []
 list_of (Two x y) = x ∷ y ∷ []
-list_of (Many xs) = xs.items
+list_of (Many xs) = xs.value.items

@@ -7,7 +7,7 @@ use Rattle.pliron_core.specs.declared.use_slots.Gap.{Gap}
 
 -- no target has this key: a slot that names it is free
 abbrev pub no_target : ℕ
-no_target = 18446744073709551615
+no_target = 4294967295
 
 -- the targets of a list of slots, in order: what its free slots name is none
 abbrev pub targets_held : List UseSlot → List ℕ

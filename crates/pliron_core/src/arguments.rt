@@ -1,6 +1,7 @@
 //! The arguments of each block in order, and what makes each value.
 ghost use Rattle.std.specs.Prelude.{◌≡◌, ℕ, ◌+◌, ◌<◌, ◌≤◌, ◌^◌, ◌++◌, ◌∷◌, [], length, drop, remove, slice_get, slice_set, Some, IsTrue, ◌↔◌, IfOk, OnOk, OnErr, vec_len, vec_capacity};
 ghost use Rattle.std.specs.List.{range_with_len};
+ghost use Rattle.pliron_core.specs.Keys.{key_limit};
 ghost use Rattle.pliron_core.specs.Uses.{targets_of};
 ghost use Rattle.pliron_core.specs.Arguments.{Makers, argument_row_of};
 ghost use Rattle.pliron_core.specs.Making.{made_by, definitions_of};
@@ -8,7 +9,7 @@ ghost use Rattle.pliron_core.specs.Writes.{argument_definitions_from, result_def
 
 use crate::context::Def;
 use crate::inline_list::InlineList;
-use crate::keys::{BasicBlock, Operation, Ptr, Value};
+use crate::keys::{BasicBlock, Operation, Ptr, Value, next_key};
 use crate::uses::{Use, Uses};
 use std::alloc::{AllocError, Global};
 use std::marker::Model;
@@ -28,7 +29,7 @@ use std::marker::Model;
 #[derive(Drop)]
 pub struct Arguments {
     lists: Uses,
-    written: Vec<Def>,
+    written: Vec<Made>,
 }
 
 impl Model for Arguments {
@@ -91,7 +92,7 @@ impl Arguments {
     pub fn is_at(&self, block: Ptr<BasicBlock>, i: usize, value: Value) -> bool
         ensures { IsTrue result ↔ (slice_get (argument_row_of self.now block) i ≡ Some value) }
     {
-        if block.index() < self.num_blocks() && i < self.len(block) {
+        if (block.index() as usize) < self.num_blocks() && i < self.len(block) {
             self.get(block, i) == value
         } else {
             false
@@ -104,10 +105,11 @@ impl Arguments {
     pub fn definition(&self, value: Value) -> Option<Def>
         ensures { result ≡ slice_get self.now.definitions value }
     {
-        if value.index() >= self.written.len() {
+        if value.index() as usize >= self.written.len() {
             return None;
         }
-        let written = self.written[value.index()];
+        let made = &self.written[value.index() as usize];
+        let written = made.definition();
         if let Def::Result(_, _) = written {
             self.lists.agree();
             return Some(written);
@@ -116,7 +118,7 @@ impl Arguments {
             return Some(written);
         }
         let Use { user, place } = self.lists.get_use(value.index(), 0);
-        Some(Def::Argument(Ptr::new(user), place))
+        Some(Def::Argument(Ptr::new(user), place as usize))
     }
 
     /// Makes room for so many more blocks and so many more values.
@@ -149,6 +151,7 @@ impl Arguments {
     {
         self.written.reserve(count)?;
         self.lists.reserve(0, count)?;
+        next_key(self.written.len() + count)?;
         let keys = value_keys(alloc, self.written.len(), count)?;
         self.lists.agree();
         self.lists.add_targets(alloc, count);
@@ -168,7 +171,8 @@ impl Arguments {
         ensures err { OnErr result (self.new ≡ self.old) }
     {
         self.written.reserve(count)?;
-        let block = Ptr::new(self.lists.num_users());
+        next_key(self.written.len() + count)?;
+        let block = Ptr::new(next_key(self.lists.num_users())?);
         self.lists.agree();
         self.lists.add_user_with(alloc, count)?;
         self.lists.agree();
@@ -212,8 +216,12 @@ impl Arguments {
             (drop (i + 1) (argument_row_of self.old block)) }
     {
         self.lists.agree();
+        let index = self.lists.place(block.index(), i);
         let value = self.lists.remove(block.index(), i);
-        self.written[value] = Def::Argument(block, i);
+        self.written[value as usize] = Made {
+            maker: Maker::Block(block),
+            index,
+        };
         self.lists.agree();
     }
 
@@ -231,20 +239,49 @@ impl Arguments {
 }
 
 // What makes new values.
-#[derive(Clone, Copy)]
+#[derive(Clone, Copy, Drop)]
 enum Maker {
     Operation(Ptr<Operation>),
     Block(Ptr<BasicBlock>),
 }
 
+// What is written of a value, in 12 bytes: a definition whose index has 32 bits.
+#[derive(Drop)]
+struct Made {
+    maker: Maker,
+    index: u32,
+}
+
+impl Model for Made {
+    ghost use Rattle.pliron_core.specs.declared.context.Def.{Def};
+
+    ghost Value = { Def };
+
+    ghost use Rattle.pliron_core.specs.Making.{made_by};
+
+    ghost view = { λ m. made_by m.maker m.index };
+}
+
+impl Made {
+    #[inline(always)]
+    fn definition(&self) -> Def
+        ensures { result ≡ self.now }
+    {
+        match self.maker {
+            Maker::Operation(op) => Def::Result(op, self.index as usize),
+            Maker::Block(block) => Def::Argument(block, self.index as usize),
+        }
+    }
+}
+
 impl Maker {
     #[inline(always)]
-    fn definition(&self, i: usize) -> Def
+    fn definition(&self, i: u32) -> Made
         ensures { result ≡ made_by self.now i }
     {
-        match self {
-            Maker::Operation(op) => Def::Result(*op, i),
-            Maker::Block(block) => Def::Argument(*block, i),
+        Made {
+            maker: *self,
+            index: i,
         }
     }
 }
@@ -253,35 +290,40 @@ impl Maker {
 #[tactic(auto, using(crate::proofs::GrownLemmas::range_more))]
 #[inline(always)]
 fn value_keys(alloc: Global, first: usize, count: usize) -> Result<InlineList<Value>, AllocError>
-    requires { first + count < 2 ^ 64 }
+    requires { first + count ≤ key_limit }
     ensures { IfOk result (λ row. row ≡ range_with_len first count) }
 {
     let mut row = InlineList::new(alloc);
     for i in 0..count {
-        row.push(Value::new(first + i))?;
+        row.push(Value::new((first + i) as u32))?;
     }
     Ok(row)
 }
 
 // The definitions of so many new values.
 #[inline(always)]
-fn write_definitions(written: &mut Vec<Def>, maker: Maker, count: usize)
-    requires { vec_len written.old + count ≤ vec_capacity written.old }
+fn write_definitions(written: &mut Vec<Made>, maker: Maker, count: usize)
+    requires room { vec_len written.old + count ≤ vec_capacity written.old }
+    requires fits { count ≤ key_limit }
     ensures { written.new.items ≡ written.old.items ++ definitions_of maker count }
 {
     for i in 0..count {
-        written.push_reserved(maker.definition(i));
+        written.push_reserved(maker.definition(i as u32));
     }
 }
 
 // The definitions of the block's arguments.
-fn write_arguments(written: &mut Vec<Def>, lists: &Uses, block: Ptr<BasicBlock>)
+fn write_arguments(written: &mut Vec<Made>, lists: &Uses, block: Ptr<BasicBlock>)
     requires block { block < length lists.now.targets }
     requires values { (k v : ℕ) → slice_get (targets_of lists.now block) k ≡ Some v → v < length written.old.items }
     ensures { written.new.items ≡ argument_definitions_from written.old.items block 0 (targets_of lists.now block) }
 {
     for i in 0..lists.num_targets(block.index()) {
         let value = lists.target(block.index(), i);
-        written[value] = Def::Argument(block, i);
+        let index = lists.place(block.index(), i);
+        written[value as usize] = Made {
+            maker: Maker::Block(block),
+            index,
+        };
     }
 }

@@ -14,7 +14,7 @@ use crate::uses::Use;
 pub(super) fn move_down(
     places: &mut Vec<InlineList<UseSlot>>,
     uses: &mut Vec<InlineList<Use>>,
-    user: usize,
+    user: u32,
 ) -> usize
     requires linked { IsLinked places.old.items uses.old.items }
     requires user { user < length places.old.items }
@@ -32,8 +32,8 @@ pub(super) fn move_down(
         × (vec_len uses.new ≡ vec_len uses.old) × (vec_capacity uses.new ≡ vec_capacity uses.old) }
 {
     let mut taken = 0;
-    for from in 0..places[user].len() {
-        if entry(places, user, from).target == usize::MAX {
+    for from in 0..places[user as usize].len() {
+        if entry(places, user as usize, from).target == u32::MAX {
             continue;
         }
         if taken < from {

@@ -1,5 +1,6 @@
 //! The tables of a tree.
-ghost use Rattle.std.specs.Prelude.{◌≡◌, []};
+ghost use Rattle.std.specs.Prelude.{◌≡◌, ◌≤◌, [], length};
+ghost use Rattle.pliron_core.specs.Keys.{key_limit};
 ghost use Rattle.pliron_core.specs.Invariant.{IsTree, HaveUses, HaveFewKeys};
 ghost use Rattle.pliron_core.specs.Writes.{no_tree};
 
@@ -145,5 +146,12 @@ impl Context {
         self.layout.agree();
         self.operands.agree();
         self.successors.agree();
+    }
+
+    // The law of keys: each block has one. It changes nothing.
+    fn few_blocks(&self)
+        ensures { length self.now.tree.bodies ≤ key_limit }
+    {
+        self.order.few_lists();
     }
 }

@@ -25,24 +25,24 @@ pub(super) fn count_places(
     alloc: Global,
     places: &Vec<InlineList<UseSlot>>,
     holes: &mut Vec<Holes>,
-    user: usize,
+    user: u32,
 ) -> Result<(), AllocError>
     requires holes { HaveHoles places.now.items holes.old.items }
     requires user { user < length holes.old.items }
     ensures holes { HaveHoles places.now.items holes.new.items }
     ensures rooms { (vec_len holes.new ≡ vec_len holes.old) × (vec_capacity holes.new ≡ vec_capacity holes.old) }
 {
-    if places[user].len() <= FEW_PLACES || are_counted(holes, user) {
+    if places[user as usize].len() <= FEW_PLACES || are_counted(holes, user) {
         return Ok(());
     }
-    let counts = SlotCounts::over(alloc, marks_of(alloc, &places[user])?)?;
-    holes[user] = Holes::Counted(Box::new(alloc, counts)?);
+    let counts = SlotCounts::over(alloc, marks_of(alloc, &places[user as usize])?)?;
+    holes[user as usize] = Holes::Counted(Box::new(alloc, counts)?);
     Ok(())
 }
 
 // The slot of the target at an index among those of a user whose slots are counted: the counts have its slot as
 // free from now on.
-fn free_counted(holes: &mut Vec<Holes>, user: usize, i: usize) -> usize
+fn free_counted(holes: &mut Vec<Holes>, user: u32, i: usize) -> usize
     requires user { user < length holes.old.items }
     requires counted { is_counted holes.old.items user ≡ true }
     requires index { i < sum (counts_of holes.old.items user) }
@@ -53,7 +53,7 @@ fn free_counted(holes: &mut Vec<Holes>, user: usize, i: usize) -> usize
     ensures others { (u : ℕ) → u ≢ user → hole_of holes.new.items u ≡ hole_of holes.old.items u }
     ensures rooms { (vec_len holes.new ≡ vec_len holes.old) × (vec_capacity holes.new ≡ vec_capacity holes.old) }
 {
-    match &mut holes[user] {
+    match &mut holes[user as usize] {
         Holes::OneGap(_) => unreachable!(),
         Holes::Counted(counts) => {
             let place = counts.select(i);
@@ -68,9 +68,9 @@ pub(super) fn take_counted(
     places: &mut Vec<InlineList<UseSlot>>,
     holes: &mut Vec<Holes>,
     uses: &mut Vec<InlineList<Use>>,
-    user: usize,
+    user: u32,
     i: usize,
-) -> usize
+) -> u32
     requires linked { AreLinked places.old.items holes.old.items uses.old.items }
     requires user { user < length holes.old.items }
     requires counted { is_counted holes.old.items user ≡ true }
@@ -93,7 +93,7 @@ pub(super) fn settle_places(
     places: &mut Vec<InlineList<UseSlot>>,
     holes: &mut Vec<Holes>,
     uses: &mut Vec<InlineList<Use>>,
-    user: usize,
+    user: u32,
 )
     requires linked { AreLinked places.old.items holes.old.items uses.old.items }
     requires user { user < length holes.old.items }
@@ -113,7 +113,7 @@ fn settle_counted(
     places: &mut Vec<InlineList<UseSlot>>,
     holes: &mut Vec<Holes>,
     uses: &mut Vec<InlineList<Use>>,
-    user: usize,
+    user: u32,
 )
     requires linked { AreLinked places.old.items holes.old.items uses.old.items }
     requires user { user < length holes.old.items }
@@ -124,7 +124,10 @@ fn settle_counted(
     ensures rooms { KeepRooms places.old places.new holes.old holes.new uses.old uses.new }
 {
     let start = move_down(places, uses, user);
-    let len = places[user].len() - start;
-    holes[user] = Holes::OneGap(Gap { start, len });
+    let len = places[user as usize].count() as usize - start;
+    holes[user as usize] = Holes::OneGap(Gap {
+        start: start as u32,
+        len: len as u32,
+    });
     close_gap(places, holes, user);
 }

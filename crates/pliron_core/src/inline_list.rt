@@ -3,8 +3,11 @@
 //! Operand, result, argument, use and successor lists mostly have one or two items, and each allocation costs
 //! 190 instructions with its return. So up to two items are stored in place, and more in an allocation. What
 //! was allocated stays so, and a list that grows and shrinks about two items allocates nothing. `smallvec` asks
-//! for a blank item for each unused place (`T: MadeWith`), which keys don't have, and takes a word more.
-ghost use Rattle.std.specs.Prelude.{remove, ◌≡◌, ◌+◌, ◌-◌, ◌<◌, ◌==◌, [], ◌∷◌, ◌++◌, length, slice_set, take, slice_get, Some, OnOk, OnErr, IsSome, vec_len, vec_capacity};
+//! for a blank item for each unused place (`T: MadeWith`), which keys don't have, and takes two words more.
+//!
+//! A longer list is behind a pointer, so that a row of keys takes 16 bytes, and one of uses 24. A list has fewer
+//! than 2^32 items, so that an index into it fits 32 bits.
+ghost use Rattle.std.specs.Prelude.{remove, ◌≡◌, ◌+◌, ◌-◌, ◌<◌, ◌≤◌, ◌==◌, [], ◌∷◌, ◌++◌, length, slice_set, take, slice_get, Some, IfOk, OnOk, OnErr, IsSome, vec_len, vec_capacity};
 ghost use Rattle.pliron_core.specs.UseSlots.{at, put, cut};
 
 use std::alloc::{AllocError, Global};
@@ -17,7 +20,7 @@ enum InlineItems<T> {
     Empty,
     One(T),
     Two(T, T),
-    Many(Vec<T>),
+    Many(Box<Vec<T>>),
 }
 
 /// A list that contracts see as one. Up to two items are stored in the list itself and take no memory.
@@ -38,6 +41,38 @@ impl<T> Model for InlineList<T> {
     ghost use Rattle.pliron_core.specs.SlotRows.{list_of};
 
     ghost view = { λ r. list_of r.items };
+
+    ghost use Rattle.std.specs.Prelude.{◌≤◌, length};
+
+    ghost invariant = { λ r. length (list_of r.items) ≤ 4294967295 };
+}
+
+// An empty list in an allocation, with room for a few items.
+fn room_for_many<T>(alloc: Global) -> Result<Box<Vec<T>>, AllocError>
+where
+    T: Drop,
+    ensures items { IfOk result (λ b. b.value.items ≡ []) }
+    ensures len { IfOk result (λ b. vec_len b.value ≡ 0) }
+    ensures room { IfOk result (λ b. 3 ≤ vec_capacity b.value) }
+{
+    let items = Vec::with_capacity(alloc, 4)?;
+    Ok(Box::new(alloc, items)?)
+}
+
+// One more at the end of a list in an allocation, if its length still fits 32 bits.
+fn push_within<T>(items: &mut Vec<T>, item: T) -> Result<(), AllocError>
+where
+    T: Drop,
+    requires { length items.old.items ≤ 4294967295 }
+    ensures ok { OnOk result (items.new.items ≡ items.old.items ++ item ∷ []) }
+    ensures short { length items.new.items ≤ 4294967295 }
+    ensures err { OnErr result (items.new.items ≡ items.old.items) }
+{
+    if items.len() >= u32::MAX as usize {
+        return Err(AllocError);
+    }
+    items.push(item)?;
+    Ok(())
 }
 
 impl<T> InlineList<T> {
@@ -50,6 +85,29 @@ impl<T> InlineList<T> {
             alloc,
             items: InlineItems::Empty,
         }
+    }
+
+    // How many items.
+    #[inline(always)]
+    pub(crate) fn count(&self) -> u32
+        ensures { result ≡ length self.now }
+    {
+        match &self.items {
+            InlineItems::Empty => 0,
+            InlineItems::One(_) => 1,
+            InlineItems::Two(_, _) => 2,
+            InlineItems::Many(items) => items.len() as u32,
+        }
+    }
+
+    // This index of an item.
+    #[inline(always)]
+    pub(crate) fn place(&self, i: usize) -> u32
+        requires { i < length self.now }
+        ensures { result ≡ i }
+    {
+        let _ = &self.items;
+        i as u32
     }
 
     /// How many items. Cost: constant.
@@ -100,7 +158,7 @@ impl<T> InlineList<T> {
         match mem::replace(&mut self.items, InlineItems::Empty) {
             InlineItems::Empty => self.items = InlineItems::One(item),
             InlineItems::One(first) => self.items = InlineItems::Two(first, item),
-            InlineItems::Two(first, second) => match Vec::with_capacity(self.alloc, 4) {
+            InlineItems::Two(first, second) => match room_for_many(self.alloc) {
                 Ok(mut items) => {
                     items.push_reserved(first);
                     items.push_reserved(second);
@@ -113,7 +171,7 @@ impl<T> InlineList<T> {
                 }
             },
             InlineItems::Many(mut items) => {
-                let pushed = items.push(item);
+                let pushed = push_within(&mut items, item);
                 self.items = InlineItems::Many(items);
                 pushed?;
             }

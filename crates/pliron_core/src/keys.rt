@@ -1,6 +1,8 @@
 //! Keys of what a context holds.
-ghost use Rattle.std.specs.Prelude.{◌≡◌};
+ghost use Rattle.std.specs.Prelude.{◌≡◌, ◌<◌, IfOk};
+ghost use Rattle.pliron_core.specs.Keys.{key_limit};
 
+use std::alloc::AllocError;
 use std::marker::{Model, PhantomData};
 
 /// Names the operations.
@@ -19,7 +21,7 @@ pub struct Region;
 /// are never used again.
 #[derive(Clone, Copy, Debug, PartialEq, Eq, Hash)]
 pub struct Ptr<T> {
-    key: usize,
+    key: u32,
     of: PhantomData<T>,
 }
 
@@ -34,7 +36,7 @@ impl<T> Model for Ptr<T> {
 }
 
 impl<T> Ptr<T> {
-    pub(crate) fn new(key: usize) -> Self
+    pub(crate) fn new(key: u32) -> Self
         ensures { result ≡ key }
     {
         Ptr {
@@ -44,7 +46,7 @@ impl<T> Ptr<T> {
     }
 
     // The place in a table.
-    pub(crate) fn index(self) -> usize
+    pub(crate) fn index(self) -> u32
         ensures { result ≡ self }
     {
         self.key
@@ -61,7 +63,7 @@ impl<T> Ptr<T> {
 /// The key of a value.
 #[derive(Clone, Copy, Debug, PartialEq, Eq, Hash)]
 pub struct Value {
-    key: usize,
+    key: u32,
 }
 
 impl Model for Value {
@@ -75,14 +77,14 @@ impl Model for Value {
 }
 
 impl Value {
-    pub(crate) fn new(key: usize) -> Self
+    pub(crate) fn new(key: u32) -> Self
         ensures { result ≡ key }
     {
         Value { key }
     }
 
     // The place in a table.
-    pub(crate) fn index(self) -> usize
+    pub(crate) fn index(self) -> u32
         ensures { result ≡ self }
     {
         self.key
@@ -93,5 +95,20 @@ impl Value {
         ensures { result ≡ self }
     {
         self.key as u64
+    }
+}
+
+// The key of the next of so many things.
+//
+// Errors: there are as many as keys of 32 bits, which counts as allocation failure.
+#[inline(always)]
+pub(crate) fn next_key(count: usize) -> Result<u32, AllocError>
+    ensures key { IfOk result (λ key. key ≡ count) }
+    ensures few { IfOk result (λ key. key < key_limit) }
+{
+    if count < u32::MAX as usize {
+        Ok(count as u32)
+    } else {
+        Err(AllocError)
     }
 }

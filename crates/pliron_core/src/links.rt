@@ -2,6 +2,7 @@
 //! constant time and no memory.
 
 ghost use Rattle.std.specs.Prelude.{◌≡◌, ◌+◌, ◌-◌, ◌<◌, ◌≤◌, [], ◌∷◌, ◌++◌, length, slice_set, slice_index_or, IsOk, OnOk, IfSome, Some, vec_len, vec_capacity};
+ghost use Rattle.pliron_core.specs.Keys.{key_limit};
 ghost use Rattle.pliron_core.specs.Lists.{Lists, owner_of, list_of, first_of, last_of, without, put_before, next_in_lists, prev_in_lists, AreOwned};
 ghost use Rattle.pliron_core.specs.Nodes.{with_next, with_prev, with_first, with_tail, InRange};
 
@@ -25,15 +26,15 @@ pub struct Links {
 
 #[derive(Clone, Copy)]
 struct Node {
-    owner: Option<usize>,
-    prev: Option<usize>,
-    next: Option<usize>,
+    owner: Option<u32>,
+    prev: Option<u32>,
+    next: Option<u32>,
 }
 
 #[derive(Clone, Copy)]
 struct Ends {
-    head: Option<usize>,
-    tail: Option<usize>,
+    head: Option<u32>,
+    tail: Option<u32>,
 }
 
 impl Model for Links {
@@ -55,7 +56,7 @@ impl Model for Links {
 }
 
 // Makes `next` follow the node `before`, or at the head where there is none.
-fn link_next(nodes: &mut Vec<Node>, ends: &mut Ends, before: Option<usize>, next: Option<usize>)
+fn link_next(nodes: &mut Vec<Node>, ends: &mut Ends, before: Option<u32>, next: Option<u32>)
     requires { InRange nodes.old.items before }
     ensures nodes { nodes.new.items ≡ with_next nodes.old.items before next }
     ensures len { vec_len nodes.new ≡ vec_len nodes.old }
@@ -64,7 +65,7 @@ fn link_next(nodes: &mut Vec<Node>, ends: &mut Ends, before: Option<usize>, next
 {
     match before {
         Some(key) => {
-            let node = &mut nodes[key];
+            let node = &mut nodes[key as usize];
             node.next = next;
         }
         None => ends.head = next,
@@ -72,7 +73,7 @@ fn link_next(nodes: &mut Vec<Node>, ends: &mut Ends, before: Option<usize>, next
 }
 
 // Makes `prev` precede the node `after`, or at the tail where there is none.
-fn link_prev(nodes: &mut Vec<Node>, ends: &mut Ends, after: Option<usize>, prev: Option<usize>)
+fn link_prev(nodes: &mut Vec<Node>, ends: &mut Ends, after: Option<u32>, prev: Option<u32>)
     requires { InRange nodes.old.items after }
     ensures nodes { nodes.new.items ≡ with_prev nodes.old.items after prev }
     ensures len { vec_len nodes.new ≡ vec_len nodes.old }
@@ -81,7 +82,7 @@ fn link_prev(nodes: &mut Vec<Node>, ends: &mut Ends, after: Option<usize>, prev:
 {
     match after {
         Some(key) => {
-            let node = &mut nodes[key];
+            let node = &mut nodes[key as usize];
             node.prev = prev;
         }
         None => ends.tail = prev,
@@ -107,13 +108,20 @@ impl Links {
         let _ = &self.nodes;
     }
 
+    /// A law: each list has a key. It does nothing.
+    pub fn few_lists(&self)
+        ensures { length self.now.lists ≤ key_limit }
+    {
+        let _ = &self.ends;
+    }
+
     /// The list that has the node, if one does. Asks that the node is one that was added. Cost: constant.
-    pub fn owner(&self, node: usize) -> Option<usize>
+    pub fn owner(&self, node: u32) -> Option<u32>
         requires { node < length self.now.owners }
         ensures owner { result ≡ owner_of self.now node }
         ensures within { IfSome result (λ list. list < length self.now.lists) }
     {
-        self.nodes[node].owner
+        self.nodes[node as usize].owner
     }
 
     /// Makes room for so many more nodes and so many more lists, which then take no memory.
@@ -139,17 +147,19 @@ impl Links {
         self.ends.reserve(lists)
     }
 
-    /// A new node, in no list. The keys count up from 0. Asks that there is room for it. Cost: constant.
+    /// A new node, in no list. The keys count up from 0. Asks that there is room for it, and that its key fits 32
+    /// bits. Cost: constant.
     #[inline(always)]
-    pub fn add_node(&mut self) -> usize
-        requires { 0 < self.old.node_room }
+    pub fn add_node(&mut self) -> u32
+        requires room { 0 < self.old.node_room }
+        requires few { length self.old.owners < key_limit }
         ensures key { result ≡ length self.old.owners }
         ensures added { self.new ≡ record self.old {
           owners = self.old.owners ++ None ∷ [];
           node_room = self.old.node_room - 1;
         } }
     {
-        let key = self.nodes.len();
+        let key = self.nodes.len() as u32;
         self.nodes.push_reserved(Node {
             owner: None,
             prev: None,
@@ -158,17 +168,19 @@ impl Links {
         key
     }
 
-    /// A new list, without nodes. The keys count up from 0. Asks that there is room for it. Cost: constant.
+    /// A new list, without nodes. The keys count up from 0. Asks that there is room for it, and that its key fits 32
+    /// bits. Cost: constant.
     #[inline(always)]
-    pub fn add_list(&mut self) -> usize
-        requires { 0 < self.old.list_room }
+    pub fn add_list(&mut self) -> u32
+        requires room { 0 < self.old.list_room }
+        requires few { length self.old.lists < key_limit }
         ensures key { result ≡ length self.old.lists }
         ensures added { self.new ≡ record self.old {
           lists = self.old.lists ++ [] ∷ [];
           list_room = self.old.list_room - 1;
         } }
     {
-        let key = self.ends.len();
+        let key = self.ends.len() as u32;
         self.ends.push_reserved(Ends {
             head: None,
             tail: None,
@@ -178,7 +190,7 @@ impl Links {
 
     /// Inserts the node at the front of the list. Asks that both were added and that no list has the node.
     /// Cost: constant.
-    pub fn push_front(&mut self, list: usize, node: usize)
+    pub fn push_front(&mut self, list: u32, node: u32)
         requires list { list < length self.old.lists }
         requires node { node < length self.old.owners }
         requires free { owner_of self.old node ≡ None }
@@ -187,22 +199,22 @@ impl Links {
           owners = slice_set self.old.owners node (Some list);
         } }
     {
-        let mut ends = self.ends[list];
+        let mut ends = self.ends[list as usize];
         let after = ends.head;
-        self.nodes[node] = Node {
+        self.nodes[node as usize] = Node {
             owner: Some(list),
             prev: None,
             next: after,
         };
         link_next(&mut self.nodes, &mut ends, None, Some(node));
         link_prev(&mut self.nodes, &mut ends, after, Some(node));
-        self.ends[list] = ends;
+        self.ends[list as usize] = ends;
     }
 
     /// Inserts the node at the end of the list. Asks that both were added and that no list has the node. Cost:
     /// constant.
     #[inline(always)]
-    pub fn push_back(&mut self, list: usize, node: usize)
+    pub fn push_back(&mut self, list: u32, node: u32)
         requires list { list < length self.old.lists }
         requires node { node < length self.old.owners }
         requires free { owner_of self.old node ≡ None }
@@ -211,22 +223,22 @@ impl Links {
           owners = slice_set self.old.owners node (Some list);
         } }
     {
-        let mut ends = self.ends[list];
+        let mut ends = self.ends[list as usize];
         let before = ends.tail;
-        self.nodes[node] = Node {
+        self.nodes[node as usize] = Node {
             owner: Some(list),
             prev: before,
             next: None,
         };
         link_next(&mut self.nodes, &mut ends, before, Some(node));
         link_prev(&mut self.nodes, &mut ends, None, Some(node));
-        self.ends[list] = ends;
+        self.ends[list as usize] = ends;
     }
 
     /// Inserts the node directly before the node `at` of this list. Asks that the list has `at`, and that the
     /// node was added and no list has it. Cost: constant.
     #[inline(always)]
-    pub fn insert_before(&mut self, list: usize, at: usize, node: usize)
+    pub fn insert_before(&mut self, list: u32, at: u32, node: u32)
         requires held { owner_of self.old at ≡ Some list }
         requires node { node < length self.old.owners }
         requires free { owner_of self.old node ≡ None }
@@ -235,34 +247,34 @@ impl Links {
           owners = slice_set self.old.owners node (Some list);
         } }
     {
-        let before = self.nodes[at].prev;
-        let mut ends = self.ends[list];
-        self.nodes[node] = Node {
+        let before = self.nodes[at as usize].prev;
+        let mut ends = self.ends[list as usize];
+        self.nodes[node as usize] = Node {
             owner: Some(list),
             prev: before,
             next: Some(at),
         };
         link_next(&mut self.nodes, &mut ends, before, Some(node));
         link_prev(&mut self.nodes, &mut ends, Some(at), Some(node));
-        self.ends[list] = ends;
+        self.ends[list as usize] = ends;
     }
 
     /// Takes the node out of the list that has it; the others keep their order. Asks that this list has it.
     /// Cost: constant.
     #[inline(always)]
-    pub fn remove(&mut self, list: usize, node: usize)
+    pub fn remove(&mut self, list: u32, node: u32)
         requires held { owner_of self.old node ≡ Some list }
         ensures { self.new ≡ record self.old {
           lists = slice_set self.old.lists list (without node (list_of self.old list));
           owners = slice_set self.old.owners node None;
         } }
     {
-        let Node { prev, next, .. } = self.nodes[node];
-        let mut ends = self.ends[list];
+        let Node { prev, next, .. } = self.nodes[node as usize];
+        let mut ends = self.ends[list as usize];
         link_next(&mut self.nodes, &mut ends, prev, next);
         link_prev(&mut self.nodes, &mut ends, next, prev);
-        self.ends[list] = ends;
-        self.nodes[node] = Node {
+        self.ends[list as usize] = ends;
+        self.nodes[node as usize] = Node {
             owner: None,
             prev: None,
             next: None,
@@ -271,12 +283,12 @@ impl Links {
 
     /// The node directly after this one in the list that has it: none at the list's end, nor for a node in no
     /// list. Asks that the node is one that was added. Cost: constant.
-    pub fn next(&self, node: usize) -> Option<usize>
+    pub fn next(&self, node: u32) -> Option<u32>
         requires { node < length self.now.owners }
         ensures next { result ≡ next_in_lists self.now node }
         ensures same_owner { IfSome result (λ other. owner_of self.now other ≡ owner_of self.now node) }
     {
-        let Node { owner, next, .. } = self.nodes[node];
+        let Node { owner, next, .. } = self.nodes[node as usize];
         match owner {
             Some(_) => next,
             None => None,
@@ -285,12 +297,12 @@ impl Links {
 
     /// The node directly before this one in the list that has it: none at the list's front, nor for a node in
     /// no list. Asks that the node is one that was added. Cost: constant.
-    pub fn prev(&self, node: usize) -> Option<usize>
+    pub fn prev(&self, node: u32) -> Option<u32>
         requires { node < length self.now.owners }
         ensures prev { result ≡ prev_in_lists self.now node }
         ensures same_owner { IfSome result (λ other. owner_of self.now other ≡ owner_of self.now node) }
     {
-        let Node { owner, prev, .. } = self.nodes[node];
+        let Node { owner, prev, .. } = self.nodes[node as usize];
         match owner {
             Some(_) => prev,
             None => None,
@@ -299,21 +311,21 @@ impl Links {
 
     /// The first node of the list; none if the list is empty. Asks that the list is one that was added. Cost:
     /// constant.
-    pub fn head(&self, list: usize) -> Option<usize>
+    pub fn head(&self, list: u32) -> Option<u32>
         requires { list < length self.now.lists }
         ensures first { result ≡ first_of (list_of self.now list) None }
         ensures owned { IfSome result (λ node. owner_of self.now node ≡ Some list) }
     {
-        self.ends[list].head
+        self.ends[list as usize].head
     }
 
     /// The last node of the list; none if the list is empty. Asks that the list is one that was added. Cost:
     /// constant.
-    pub fn tail(&self, list: usize) -> Option<usize>
+    pub fn tail(&self, list: u32) -> Option<u32>
         requires { list < length self.now.lists }
         ensures last { result ≡ last_of None (list_of self.now list) }
         ensures owned { IfSome result (λ node. owner_of self.now node ≡ Some list) }
     {
-        self.ends[list].tail
+        self.ends[list as usize].tail
     }
 }

@@ -142,7 +142,7 @@ pub fn marks_of(alloc: Global, row: &InlineList<UseSlot>) -> Result<InlineList<u
     let mut taken = InlineList::new(alloc);
     for i in 0..row.len() {
         let target = row.get(i).target;
-        taken.push(if target == usize::MAX { 0 } else { 1 })?;
+        taken.push(if target == u32::MAX { 0 } else { 1 })?;
     }
     Ok(taken)
 }

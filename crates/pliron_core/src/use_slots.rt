@@ -5,6 +5,7 @@
 //! counts find the free slots (`counted_slots`).
 
 ghost use Rattle.std.specs.Prelude.{◌≡◌, ◌≢◌, ℕ, false, ◌+◌, ◌-◌, ◌^◌, ◌<◌, ◌≤◌, [], length, slice_set, vec_capacity, vec_len, slice_get, slice_index_or, Some, take, IfOk, remove};
+ghost use Rattle.pliron_core.specs.Keys.{key_limit};
 ghost use Rattle.pliron_core.specs.declared.uses.Use.{Use};
 ghost use Rattle.std.specs.Option.{option_map};
 ghost use Rattle.pliron_core.specs.declared.use_slots.UseSlot.{UseSlot as PlaceOf};
@@ -19,8 +20,8 @@ use std::alloc::{AllocError, Global};
 /// What a slot of a user names, and the index of its use in the target's use list.
 #[derive(Clone, Copy)]
 pub struct UseSlot {
-    pub target: usize,
-    pub at: usize,
+    pub target: u32,
+    pub at: u32,
 }
 
 /// The free slots of a user: the first one, and how many there are.
@@ -29,8 +30,8 @@ pub struct UseSlot {
 /// direction.
 #[derive(Clone, Copy)]
 pub struct Gap {
-    pub start: usize,
-    pub len: usize,
+    pub start: u32,
+    pub len: u32,
 }
 
 /// Where the free slots of a user are.
@@ -48,7 +49,7 @@ pub(super) const NO_GAP: Gap = Gap { start: 0, len: 0 };
 
 // What a free slot has.
 const FREE: UseSlot = UseSlot {
-    target: usize::MAX,
+    target: u32::MAX,
     at: 0,
 };
 
@@ -59,13 +60,13 @@ pub(super) fn new_places(
     first: usize,
     count: usize,
 ) -> Result<InlineList<UseSlot>, AllocError>
-    requires { first + count < 2 ^ 64 }
+    requires { first + count ≤ key_limit }
     ensures { IfOk result (λ row. row ≡ places_from first count) }
 {
     let mut row = InlineList::new(alloc);
     for i in 0..count {
         row.push(UseSlot {
-            target: first + i,
+            target: (first + i) as u32,
             at: 0,
         })?;
     }
@@ -74,11 +75,11 @@ pub(super) fn new_places(
 
 // Whether the slots of a user are counted.
 #[inline(always)]
-pub(super) fn are_counted(holes: &Vec<Holes>, user: usize) -> bool
+pub(super) fn are_counted(holes: &Vec<Holes>, user: u32) -> bool
     requires { user < length holes.now.items }
     ensures { result ≡ is_counted holes.now.items user }
 {
-    match &holes[user] {
+    match &holes[user as usize] {
         Holes::OneGap(_) => false,
         Holes::Counted(_) => true,
     }
@@ -86,35 +87,44 @@ pub(super) fn are_counted(holes: &Vec<Holes>, user: usize) -> bool
 
 // The gap of a user: none where its slots are counted.
 #[inline(always)]
-pub(super) fn gap_at(places: &Vec<InlineList<UseSlot>>, holes: &Vec<Holes>, user: usize) -> Gap
+pub(super) fn gap_at(places: &Vec<InlineList<UseSlot>>, holes: &Vec<Holes>, user: u32) -> Gap
     requires holes { HaveHoles places.now.items holes.now.items }
     requires user { user < length holes.now.items }
     ensures gap { result ≡ gap_of holes.now.items user }
-    ensures few { length (slice_index_or places.now.items user []) < 2 ^ 64 }
+    ensures few { length (slice_index_or places.now.items user []) < 2 ^ 32 }
 {
-    let _ = places[user].len();
-    match &holes[user] {
+    let _ = places[user as usize].count();
+    match &holes[user as usize] {
         Holes::OneGap(gap) => *gap,
         Holes::Counted(_) => NO_GAP,
     }
 }
 
+// This index of a target of a list.
+#[inline(always)]
+pub(super) fn place_at(row: &InlineList<UseSlot>, i: usize) -> u32
+    requires { i < length (targets_held row.now) }
+    ensures { result ≡ i }
+{
+    row.place(i)
+}
+
 // How many targets a user has.
 #[inline(always)]
-pub(super) fn count_at(places: &Vec<InlineList<UseSlot>>, holes: &Vec<Holes>, user: usize) -> usize
+pub(super) fn count_at(places: &Vec<InlineList<UseSlot>>, holes: &Vec<Holes>, user: u32) -> usize
     requires holes { HaveHoles places.now.items holes.now.items }
     requires user { user < length holes.now.items }
     ensures { result ≡ length (targets_held (slice_index_or places.now.items user [])) }
 {
-    match &holes[user] {
-        Holes::OneGap(gap) => places[user].len() - gap.len,
+    match &holes[user as usize] {
+        Holes::OneGap(gap) => places[user as usize].len() - gap.len as usize,
         Holes::Counted(counts) => counts.total(),
     }
 }
 
 // The target at an index among those of a list.
 #[inline(always)]
-pub(super) fn target_at(row: &InlineList<UseSlot>, hole: &Holes, i: usize) -> usize
+pub(super) fn target_at(row: &InlineList<UseSlot>, hole: &Holes, i: usize) -> u32
     requires hole { Tracks row.now hole.now }
     requires index { i < length (targets_held row.now) }
     ensures { slice_get (targets_held row.now) i ≡ Some result }
@@ -127,21 +137,21 @@ pub(super) fn target_at(row: &InlineList<UseSlot>, hole: &Holes, i: usize) -> us
 
 // The target at an index among those of a list with a gap.
 #[inline(always)]
-fn target_beside(row: &InlineList<UseSlot>, gap: Gap, i: usize) -> usize
+fn target_beside(row: &InlineList<UseSlot>, gap: Gap, i: usize) -> u32
     requires gap { HasGap row.now gap }
     requires index { i < length (targets_held row.now) }
     ensures { slice_get (targets_held row.now) i ≡ Some result }
 {
     let _ = row.len();
-    if i < gap.start {
+    if i < gap.start as usize {
         row.get(i).target
     } else {
-        row.get(i + gap.len).target
+        row.get(i + gap.len as usize).target
     }
 }
 
 // The target at an index among those of a list whose slots are counted.
-fn target_counted(row: &InlineList<UseSlot>, counts: &SlotCounts, i: usize) -> usize
+fn target_counted(row: &InlineList<UseSlot>, counts: &SlotCounts, i: usize) -> u32
     requires counts { marks row.now ≡ counts.now }
     requires index { i < length (targets_held row.now) }
     ensures { slice_get (targets_held row.now) i ≡ Some result }
@@ -151,7 +161,7 @@ fn target_counted(row: &InlineList<UseSlot>, counts: &SlotCounts, i: usize) -> u
 
 // The index of a taken slot among those that are taken.
 #[inline(always)]
-pub(super) fn rank_at(row: &InlineList<UseSlot>, hole: &Holes, place: usize) -> usize
+pub(super) fn rank_at(row: &InlineList<UseSlot>, hole: &Holes, place: u32) -> u32
     requires hole { Tracks row.now hole.now }
     requires taken { (p : PlaceOf) × (slice_get row.now place ≡ Some p) × (p.target ≢ no_target) }
     ensures { result ≡ rank row.now place }
@@ -163,18 +173,18 @@ pub(super) fn rank_at(row: &InlineList<UseSlot>, hole: &Holes, place: usize) -> 
 }
 
 // The index of a taken slot of a list whose slots are counted, among those that are taken.
-fn rank_counted(row: &InlineList<UseSlot>, counts: &SlotCounts, place: usize) -> usize
+fn rank_counted(row: &InlineList<UseSlot>, counts: &SlotCounts, place: u32) -> u32
     requires counts { marks row.now ≡ counts.now }
     requires place { place < length row.now }
     ensures { result ≡ rank row.now place }
 {
     let _ = row.len();
-    counts.rank(place)
+    counts.rank(place as usize) as u32
 }
 
 // The index of a taken slot of a list with a gap, among those that are taken.
 #[inline(always)]
-fn rank_beside(row: &InlineList<UseSlot>, gap: Gap, place: usize) -> usize
+fn rank_beside(row: &InlineList<UseSlot>, gap: Gap, place: u32) -> u32
     requires gap { HasGap row.now gap }
     requires taken { (p : PlaceOf) × (slice_get row.now place ≡ Some p) × (p.target ≢ no_target) }
     ensures { result ≡ rank row.now place }
@@ -191,7 +201,7 @@ fn rank_beside(row: &InlineList<UseSlot>, gap: Gap, place: usize) -> usize
 pub(super) fn relocate(
     places: &mut Vec<InlineList<UseSlot>>,
     uses: &mut Vec<InlineList<Use>>,
-    user: usize,
+    user: u32,
     from: usize,
     to: usize,
 )
@@ -205,10 +215,11 @@ pub(super) fn relocate(
     ensures rooms { (vec_len places.new ≡ vec_len places.old) × (vec_capacity places.new ≡ vec_capacity places.old)
         × (vec_len uses.new ≡ vec_len uses.old) × (vec_capacity uses.new ≡ vec_capacity uses.old) }
 {
-    let UseSlot { target, at } = entry(places, user, from);
-    set_entry(uses, target, at, Use { user, place: to });
-    set_entry(places, user, to, UseSlot { target, at });
-    set_entry(places, user, from, FREE);
+    let UseSlot { target, at } = entry(places, user as usize, from);
+    let place = places[user as usize].place(to);
+    set_entry(uses, target as usize, at as usize, Use { user, place });
+    set_entry(places, user as usize, to, UseSlot { target, at });
+    set_entry(places, user as usize, from, FREE);
 }
 
 // The gap of the user moves one slot down: the target before it comes behind it.
@@ -216,7 +227,7 @@ pub(super) fn lower_gap(
     places: &mut Vec<InlineList<UseSlot>>,
     holes: &mut Vec<Holes>,
     uses: &mut Vec<InlineList<Use>>,
-    user: usize,
+    user: u32,
 )
     requires linked { AreLinked places.old.items holes.old.items uses.old.items }
     requires user { user < length holes.old.items }
@@ -233,8 +244,14 @@ pub(super) fn lower_gap(
     ensures rooms { KeepRooms places.old places.new holes.old holes.new uses.old uses.new }
 {
     let Gap { start, len } = gap_at(places, holes, user);
-    relocate(places, uses, user, start - 1, start + len - 1);
-    holes[user] = Holes::OneGap(Gap {
+    relocate(
+        places,
+        uses,
+        user,
+        (start - 1) as usize,
+        (start + len - 1) as usize,
+    );
+    holes[user as usize] = Holes::OneGap(Gap {
         start: start - 1,
         len,
     });
@@ -245,7 +262,7 @@ pub(super) fn raise_gap(
     places: &mut Vec<InlineList<UseSlot>>,
     holes: &mut Vec<Holes>,
     uses: &mut Vec<InlineList<Use>>,
-    user: usize,
+    user: u32,
 )
     requires linked { AreLinked places.old.items holes.old.items uses.old.items }
     requires user { user < length holes.old.items }
@@ -263,8 +280,8 @@ pub(super) fn raise_gap(
     ensures rooms { KeepRooms places.old places.new holes.old holes.new uses.old uses.new }
 {
     let Gap { start, len } = gap_at(places, holes, user);
-    relocate(places, uses, user, start + len, start);
-    holes[user] = Holes::OneGap(Gap {
+    relocate(places, uses, user, (start + len) as usize, start as usize);
+    holes[user as usize] = Holes::OneGap(Gap {
         start: start + 1,
         len,
     });
@@ -276,7 +293,7 @@ pub(super) fn open_gap(
     places: &mut Vec<InlineList<UseSlot>>,
     holes: &mut Vec<Holes>,
     uses: &mut Vec<InlineList<Use>>,
-    user: usize,
+    user: u32,
     i: usize,
 )
     requires linked { AreLinked places.old.items holes.old.items uses.old.items }
@@ -291,13 +308,16 @@ pub(super) fn open_gap(
     ensures rooms { KeepRooms places.old places.new holes.old holes.new uses.old uses.new }
 {
     if gap_at(places, holes, user).len == 0 {
-        holes[user] = Holes::OneGap(Gap { start: i, len: 0 });
+        holes[user as usize] = Holes::OneGap(Gap {
+            start: i as u32,
+            len: 0,
+        });
         return;
     }
-    while gap_at(places, holes, user).start > i {
+    while gap_at(places, holes, user).start as usize > i {
         lower_gap(places, holes, uses, user);
     }
-    while gap_at(places, holes, user).start < i {
+    while (gap_at(places, holes, user).start as usize) < i {
         raise_gap(places, holes, uses, user);
     }
 }
@@ -308,9 +328,9 @@ pub(super) fn open_gap(
 pub(super) fn vacate(
     places: &mut Vec<InlineList<UseSlot>>,
     uses: &mut Vec<InlineList<Use>>,
-    user: usize,
+    user: u32,
     place: usize,
-) -> usize
+) -> u32
     requires linked { IsLinked places.old.items uses.old.items }
     requires taken { (p : PlaceOf) × (at places.old.items user place ≡ Some p) × (p.target ≢ no_target) }
     ensures linked { IsLinked places.new.items uses.new.items }
@@ -324,13 +344,18 @@ pub(super) fn vacate(
     ensures rooms { (vec_len places.new ≡ vec_len places.old) × (vec_capacity places.new ≡ vec_capacity places.old)
         × (vec_len uses.new ≡ vec_len uses.old) × (vec_capacity uses.new ≡ vec_capacity uses.old) }
 {
-    let UseSlot { target, at } = entry(places, user, place);
-    let end = uses[target].len() - 1;
-    let moved = entry(uses, target, end);
-    set_entry(places, moved.user, moved.place, UseSlot { target, at });
-    set_entry(uses, target, at, moved);
-    pop_entry(uses, target);
-    set_entry(places, user, place, FREE);
+    let UseSlot { target, at } = entry(places, user as usize, place);
+    let end = uses[target as usize].len() - 1;
+    let moved = entry(uses, target as usize, end);
+    set_entry(
+        places,
+        moved.user as usize,
+        moved.place as usize,
+        UseSlot { target, at },
+    );
+    set_entry(uses, target as usize, at as usize, moved);
+    pop_entry(uses, target as usize);
+    set_entry(places, user as usize, place, FREE);
     target
 }
 
@@ -340,8 +365,8 @@ pub(super) fn widen_gap(
     places: &mut Vec<InlineList<UseSlot>>,
     holes: &mut Vec<Holes>,
     uses: &mut Vec<InlineList<Use>>,
-    user: usize,
-) -> usize
+    user: u32,
+) -> u32
     requires linked { AreLinked places.old.items holes.old.items uses.old.items }
     requires user { user < length holes.old.items }
     requires gapped { is_counted holes.old.items user ≡ false }
@@ -357,8 +382,8 @@ pub(super) fn widen_gap(
     ensures rooms { KeepRooms places.old places.new holes.old holes.new uses.old uses.new }
 {
     let Gap { start, len } = gap_at(places, holes, user);
-    let target = vacate(places, uses, user, start + len);
-    holes[user] = Holes::OneGap(Gap {
+    let target = vacate(places, uses, user, (start + len) as usize);
+    holes[user as usize] = Holes::OneGap(Gap {
         start,
         len: len + 1,
     });
@@ -367,7 +392,7 @@ pub(super) fn widen_gap(
 
 // The gap of the user, which is at the end, is dropped.
 #[inline(always)]
-pub(super) fn close_gap(places: &mut Vec<InlineList<UseSlot>>, holes: &mut Vec<Holes>, user: usize)
+pub(super) fn close_gap(places: &mut Vec<InlineList<UseSlot>>, holes: &mut Vec<Holes>, user: u32)
     requires holes { HaveHoles places.old.items holes.old.items }
     requires user { user < length holes.old.items }
     requires gapped { is_counted holes.old.items user ≡ false }
@@ -381,8 +406,8 @@ pub(super) fn close_gap(places: &mut Vec<InlineList<UseSlot>>, holes: &mut Vec<H
         × (vec_len holes.new ≡ vec_len holes.old) × (vec_capacity holes.new ≡ vec_capacity holes.old) }
 {
     let start = gap_at(places, holes, user).start;
-    places[user].truncate(start);
-    holes[user] = Holes::OneGap(NO_GAP);
+    places[user as usize].truncate(start as usize);
+    holes[user as usize] = Holes::OneGap(NO_GAP);
 }
 
 // The gap of the user is dropped where it is at the end, or longer than there are targets.
@@ -391,7 +416,7 @@ pub(super) fn settle_gap(
     places: &mut Vec<InlineList<UseSlot>>,
     holes: &mut Vec<Holes>,
     uses: &mut Vec<InlineList<Use>>,
-    user: usize,
+    user: u32,
 )
     requires linked { AreLinked places.old.items holes.old.items uses.old.items }
     requires user { user < length holes.old.items }
@@ -403,7 +428,7 @@ pub(super) fn settle_gap(
 {
     let Gap { start, len } = gap_at(places, holes, user);
     let count = count_at(places, holes, user);
-    if start < count && len <= count {
+    if (start as usize) < count && len as usize <= count {
         return;
     }
     open_gap(places, holes, uses, user, count);
@@ -415,15 +440,15 @@ pub(super) fn settle_gap(
 pub(super) fn retarget(
     places: &mut Vec<InlineList<UseSlot>>,
     moved: &InlineList<Use>,
-    old: usize,
-    new: usize,
+    old: u32,
+    new: u32,
     first: usize,
 )
     requires listed { (k : ℕ) (u : Use) → slice_get moved.now k ≡ Some u → at places.old.items u.user u.place ≡ Some
         (record { target = old; at = k }) }
     requires placed { (k user place : ℕ) → at places.old.items user place ≡ Some (record { target = old; at = k })
         → slice_get moved.now k ≡ Some (record { user = user; place = place }) }
-    requires fits { first + length moved.now < 2 ^ 64 }
+    requires fits { first + length moved.now ≤ key_limit }
     ensures each { (user place : ℕ) → at places.new.items user place ≡ option_map (retarget_slot old new first
         (length moved.now)) (at places.old.items user place) }
     ensures len { length places.new.items ≡ length places.old.items }
@@ -431,12 +456,12 @@ pub(super) fn retarget(
 {
     for k in 0..moved.len() {
         let Use { user, place } = moved.get(k);
-        let row = &mut places[user];
+        let row = &mut places[user as usize];
         row.set(
-            place,
+            place as usize,
             UseSlot {
                 target: new,
-                at: first + k,
+                at: (first + k) as u32,
             },
         );
     }

@@ -2,14 +2,16 @@
 
 ghost use Rattle.std.specs.Prelude.{◌≡◌, ◌≢◌, ◌+◌, ◌-◌, ◌<◌, ◌≤◌, [], ◌∷◌, ◌++◌, length, map, slice_set, vec_capacity, vec_len, slice_get, Some, OnOk, OnErr, IsOk, remove, replicate};
 ghost use Rattle.std.specs.List.{range_with_len};
+ghost use Rattle.pliron_core.specs.Keys.{key_limit};
 ghost use Rattle.pliron_core.specs.Uses.{targets_of, table_uses, AreAgreed, replace_target};
 ghost use Rattle.pliron_core.specs.UseSlots.{uses_by};
 
 use crate::counted_slots::{count_places, settle_places, take_counted};
 use crate::inline_list::{InlineList, entry, pop_entry, set_entry};
+use crate::keys::next_key;
 use crate::use_slots::{
-    Holes, NO_GAP, UseSlot, are_counted, count_at, new_places, open_gap, rank_at, retarget,
-    settle_gap, target_at, widen_gap,
+    Holes, NO_GAP, UseSlot, are_counted, count_at, new_places, open_gap, place_at, rank_at,
+    retarget, settle_gap, target_at, widen_gap,
 };
 use std::alloc::{AllocError, Global};
 use std::marker::Model;
@@ -40,8 +42,8 @@ pub struct Uses {
 /// A use: the user, and the index among its targets.
 #[derive(Clone, Copy, PartialEq, Eq)]
 pub struct Use {
-    pub user: usize,
-    pub place: usize,
+    pub user: u32,
+    pub place: u32,
 }
 
 impl Model for Uses {
@@ -50,14 +52,14 @@ impl Model for Uses {
     ghost Value = { Table };
 
     ghost use Rattle.std.specs.Prelude.{◌-◌, min, vec_capacity, vec_len};
-    ghost use Rattle.pliron_core.specs.UseSlots.{targets_in, uses_in};
+    ghost use Rattle.pliron_core.specs.UseSlots.{no_target, targets_in, uses_in};
     ghost use Rattle.pliron_core.specs.Holes.{AreLinked};
 
     ghost view = { λ c. record {
       targets = targets_in c.places.items;
       uses = uses_in c.places.items c.uses.items;
       user_room = min (vec_capacity c.places - vec_len c.places) (vec_capacity c.holes - vec_len c.holes);
-      target_room = vec_capacity c.uses - vec_len c.uses;
+      target_room = min (vec_capacity c.uses - vec_len c.uses) (no_target - vec_len c.uses);
     } };
 
     ghost invariant = { λ c. AreLinked c.places.items c.holes.items c.uses.items };
@@ -93,7 +95,7 @@ impl Uses {
 
     /// How many targets a user has. Asks that there is such a user. Cost: constant.
     #[inline(always)]
-    pub fn num_targets(&self, user: usize) -> usize
+    pub fn num_targets(&self, user: u32) -> usize
         requires { user < length self.now.targets }
         ensures { result ≡ length (targets_of self.now user) }
     {
@@ -103,33 +105,51 @@ impl Uses {
     /// The target at a place of a user. Asks that there are such a user and such a place (`num_targets` tests
     /// it). Cost: constant, and a logarithm where its slots are counted.
     #[inline(always)]
-    pub fn target(&self, user: usize, place: usize) -> usize
+    pub fn target(&self, user: u32, place: usize) -> u32
         requires user { user < length self.now.targets }
         requires place { place < length (targets_of self.now user) }
         ensures { slice_get (targets_of self.now user) place ≡ Some result }
     {
-        target_at(&self.places[user], &self.holes[user], place)
+        target_at(
+            &self.places[user as usize],
+            &self.holes[user as usize],
+            place,
+        )
+    }
+
+    /// An index of a target, in 32 bits. Asks that there are such a user and such a target. Cost: constant.
+    #[inline(always)]
+    pub fn place(&self, user: u32, i: usize) -> u32
+        requires user { user < length self.now.targets }
+        requires index { i < length (targets_of self.now user) }
+        ensures { result ≡ i }
+    {
+        place_at(&self.places[user as usize], i)
     }
 
     /// How many uses a target has. Asks that there is such a target. Cost: constant.
     #[inline(always)]
-    pub fn num_uses(&self, target: usize) -> usize
+    pub fn num_uses(&self, target: u32) -> usize
         requires { target < length self.now.uses }
         ensures { result ≡ length (table_uses self.now target) }
     {
-        self.uses[target].len()
+        self.uses[target as usize].len()
     }
 
     /// The use of a target at an index, in no given order. Asks that there is such a target, and that the index
     /// is below `num_uses`. Cost: constant, and a logarithm where the slots of the user are counted.
     #[inline(always)]
-    pub fn get_use(&self, target: usize, i: usize) -> Use
+    pub fn get_use(&self, target: u32, i: usize) -> Use
         requires target { target < length self.now.uses }
         requires place { i < length (table_uses self.now target) }
         ensures { slice_get (table_uses self.now target) i ≡ Some result }
     {
-        let Use { user, place } = self.uses[target].get(i);
-        let place = rank_at(&self.places[user], &self.holes[user], place);
+        let Use { user, place } = self.uses[target as usize].get(i);
+        let place = rank_at(
+            &self.places[user as usize],
+            &self.holes[user as usize],
+            place,
+        );
         Use { user, place }
     }
 
@@ -148,7 +168,9 @@ impl Uses {
     {
         self.places.reserve(users)?;
         self.holes.reserve(users)?;
-        self.uses.reserve(targets)
+        self.uses.reserve(targets)?;
+        next_key(self.uses.len() + targets)?;
+        Ok(())
     }
 
     /// A new user, without targets. Asks that room for it is reserved. Cost: constant.
@@ -212,8 +234,9 @@ impl Uses {
         self.places.reserve(1)?;
         self.holes.reserve(1)?;
         self.uses.reserve(count)?;
+        next_key(self.uses.len() + count)?;
         let row = new_places(alloc, self.uses.len(), count)?;
-        let user = self.places.len();
+        let user = next_key(self.places.len())?;
         add_used(&mut self.uses, alloc, user, count)?;
         self.places.push_reserved(row);
         self.holes.push_reserved(Holes::OneGap(NO_GAP));
@@ -225,7 +248,7 @@ impl Uses {
     /// Asks that there are such a user and such a target. Errors: allocation failure, which leaves all as it was.
     /// Cost: constant, amortised. Counted slots are settled first.
     #[inline(always)]
-    pub fn push(&mut self, user: usize, target: usize) -> Result<(), AllocError>
+    pub fn push(&mut self, user: u32, target: u32) -> Result<(), AllocError>
         requires user { user < length self.old.targets }
         requires target { target < length self.old.uses }
         ensures targets { OnOk result (self.new.targets ≡ slice_set self.old.targets user
@@ -235,11 +258,11 @@ impl Uses {
         ensures err { OnErr result (self.new ≡ self.old) }
     {
         settle_places(&mut self.places, &mut self.holes, &mut self.uses, user);
-        let at = self.uses[target].len();
-        let place = self.places[user].len();
-        self.uses[target].push(Use { user, place })?;
-        if let Err(error) = self.places[user].push(UseSlot { target, at }) {
-            self.uses[target].pop();
+        let at = self.uses[target as usize].count();
+        let place = self.places[user as usize].count();
+        self.uses[target as usize].push(Use { user, place })?;
+        if let Err(error) = self.places[user as usize].push(UseSlot { target, at }) {
+            self.uses[target as usize].pop();
             return Err(error);
         }
         Ok(())
@@ -250,7 +273,7 @@ impl Uses {
     /// Asks that there are both targets and that they are two. Errors: allocation failure, which leaves all as
     /// it was. A target without uses takes over the room of `old`, so then no allocation fails.
     /// Cost: the number of uses of `old`, amortised.
-    pub fn replace(&mut self, alloc: Global, old: usize, new: usize) -> Result<(), AllocError>
+    pub fn replace(&mut self, alloc: Global, old: u32, new: u32) -> Result<(), AllocError>
         requires old { old < length self.old.uses }
         requires new { new < length self.old.uses }
         requires differ { old ≢ new }
@@ -260,23 +283,23 @@ impl Uses {
         ensures unused { table_uses self.old new ≡ [] → IsOk result }
         ensures err { OnErr result (self.new ≡ self.old) }
     {
-        if self.uses[new].is_empty() {
+        if self.uses[new as usize].is_empty() {
             self.hand_over(old, new);
             return Ok(());
         }
-        let moved = mem::replace(&mut self.uses[old], InlineList::new(alloc));
-        if let Err(error) = self.uses[new].extend(&moved) {
-            self.uses[old] = moved;
+        let moved = mem::replace(&mut self.uses[old as usize], InlineList::new(alloc));
+        if let Err(error) = self.uses[new as usize].extend(&moved) {
+            self.uses[old as usize] = moved;
             return Err(error);
         }
-        let end = self.uses[new].len();
+        let end = self.uses[new as usize].count() as usize;
         let first = end - moved.len();
         retarget(&mut self.places, &moved, old, new, first);
         Ok(())
     }
 
     // Every use of `old` becomes one of `new`, which has none. Takes no memory.
-    fn hand_over(&mut self, old: usize, new: usize)
+    fn hand_over(&mut self, old: u32, new: u32)
         requires old { old < length self.old.uses }
         requires new { new < length self.old.uses }
         requires differ { old ≢ new }
@@ -285,9 +308,9 @@ impl Uses {
         ensures count { length self.new.uses ≡ length self.old.uses }
         ensures rooms { (self.new.user_room ≡ self.old.user_room) × (self.new.target_room ≡ self.old.target_room) }
     {
-        self.uses.swap(old, new);
-        let _ = self.uses[new].len();
-        retarget(&mut self.places, &self.uses[new], old, new, 0);
+        self.uses.swap(old as usize, new as usize);
+        let _ = self.uses[new as usize].count();
+        retarget(&mut self.places, &self.uses[new as usize], old, new, 0);
     }
 
     /// The slots of a user are counted from now on, if it has many, so that targets far from one another are
@@ -295,7 +318,7 @@ impl Uses {
     ///
     /// Asks that there is such a user. Errors: allocation failure. Nothing that contracts see changes.
     /// Cost: the number of its slots.
-    pub fn index(&mut self, alloc: Global, user: usize) -> Result<(), AllocError>
+    pub fn index(&mut self, alloc: Global, user: u32) -> Result<(), AllocError>
         requires { user < length self.old.targets }
         ensures { self.new ≡ self.old }
     {
@@ -306,7 +329,7 @@ impl Uses {
     ///
     /// Asks that there is such a user. Takes no memory. Nothing that contracts see changes. Cost: the number of
     /// its slots when they were counted, and constant where they are not.
-    pub fn settle(&mut self, user: usize)
+    pub fn settle(&mut self, user: u32)
         requires { user < length self.old.targets }
         ensures { self.new ≡ self.old }
     {
@@ -319,7 +342,7 @@ impl Uses {
     /// it and the place where one was removed last, and constant for the first; amortised, a constant and at
     /// most twice the number of targets after it. A logarithm where its slots are counted.
     #[inline(always)]
-    pub fn remove(&mut self, user: usize, place: usize) -> usize
+    pub fn remove(&mut self, user: u32, place: usize) -> u32
         requires user { user < length self.old.targets }
         requires place { place < length (targets_of self.old user) }
         ensures target { slice_get (targets_of self.old user) place ≡ Some result }
@@ -351,7 +374,7 @@ impl Uses {
     /// Removes all targets of a user. Asks that there is such a user. Takes no memory. Cost: the number of its
     /// targets. Counted slots are settled first.
     #[inline(always)]
-    pub fn clear(&mut self, user: usize)
+    pub fn clear(&mut self, user: u32)
         requires { user < length self.old.targets }
         ensures targets { self.new.targets ≡ slice_set self.old.targets user [] }
         ensures count { length self.new.uses ≡ length self.old.uses }
@@ -369,17 +392,21 @@ impl Uses {
 fn add_used(
     uses: &mut Vec<InlineList<Use>>,
     alloc: Global,
-    user: usize,
+    user: u32,
     count: usize,
 ) -> Result<(), AllocError>
-    requires { vec_len uses.old + count ≤ vec_capacity uses.old }
+    requires room { vec_len uses.old + count ≤ vec_capacity uses.old }
+    requires fits { count ≤ key_limit }
     ensures ok { OnOk result (uses.new.items ≡ uses.old.items ++ uses_by user count) }
     ensures err { OnErr result (uses.new.items ≡ uses.old.items) }
 {
     let first = uses.len();
     for place in 0..count {
         let mut row = InlineList::new(alloc);
-        if let Err(error) = row.push(Use { user, place }) {
+        if let Err(error) = row.push(Use {
+            user,
+            place: place as u32,
+        }) {
             uses.truncate(first);
             return Err(error);
         }

@@ -11,7 +11,7 @@ impl Ptr<BasicBlock> {
     pub fn is_live(self, ctx: &Context) -> bool
         ensures { IsTrue result ↔ IsBlock ctx.now.tree self }
     {
-        if self.index() < ctx.arguments.num_blocks() {
+        if (self.index() as usize) < ctx.arguments.num_blocks() {
             ctx.layout.owner(self.index()).is_some()
         } else {
             false

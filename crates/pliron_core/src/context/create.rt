@@ -1,13 +1,14 @@
 //! Creating operations and blocks.
 ghost use Rattle.std.specs.Prelude.{◌≡◌, ◌+◌, ◌<◌, ◌≤◌, ◌^◌, ◌++◌, [], length, map, replicate, IfOk, OnOk, OnErr, vec_len, vec_capacity};
 ghost use Rattle.std.specs.List.{range_with_len};
+ghost use Rattle.pliron_core.specs.Keys.{key_limit};
 ghost use Rattle.pliron_core.specs.Tree.{IsRegion};
 ghost use Rattle.pliron_core.specs.Writes.{after_creating, block_created, region_slots};
 
 use super::{Context, NoMemory, OperationEntry, RegionSlot};
 use crate::attrs::Head;
 use crate::inline_list::InlineList;
-use crate::keys::{BasicBlock, Operation, Ptr, Region};
+use crate::keys::{BasicBlock, Operation, Ptr, Region, next_key};
 use crate::links::Links;
 use std::alloc::Global;
 
@@ -36,8 +37,9 @@ impl Operation {
         ctx.order.reserve(1, 0)?;
         ctx.layout.reserve(0, regions)?;
         ctx.slots.reserve(regions)?;
+        next_key(ctx.slots.len() + regions)?;
         let region_keys = region_keys(alloc, ctx.slots.len(), regions)?;
-        let op = Ptr::new(ctx.operations.len());
+        let op = Ptr::new(next_key(ctx.operations.len())?);
         let result_keys = ctx.arguments.add_results(alloc, op, results)?;
         ctx.order.add_node();
         ctx.successors.add_user(alloc);
@@ -75,6 +77,7 @@ impl BasicBlock {
         ctx.successors.reserve(0, 1)?;
         ctx.order.reserve(0, 1)?;
         ctx.layout.reserve(1, 0)?;
+        next_key(ctx.arguments.num_blocks())?;
         ctx.arguments.add_block(alloc, arguments)?;
         let block = Ptr::new(ctx.order.add_list());
         ctx.successors.add_target(alloc);
@@ -93,12 +96,12 @@ fn region_keys(
     first: usize,
     count: usize,
 ) -> Result<InlineList<Ptr<Region>>, NoMemory>
-    requires { first + count < 2 ^ 64 }
+    requires { first + count ≤ key_limit }
     ensures { IfOk result (λ row. row ≡ range_with_len first count) }
 {
     let mut row = InlineList::new(alloc);
     for i in 0..count {
-        row.push(Ptr::new(first + i))?;
+        row.push(Ptr::new((first + i) as u32))?;
     }
     Ok(row)
 }
@@ -108,6 +111,7 @@ fn region_keys(
 fn add_regions(slots: &mut Vec<RegionSlot>, layout: &mut Links, op: Ptr<Operation>, count: usize)
     requires slots { vec_len slots.old + count ≤ vec_capacity slots.old }
     requires lists { count ≤ layout.old.list_room }
+    requires few { length layout.old.lists + count ≤ key_limit }
     ensures slots { slots.new.items ≡ slots.old.items ++ region_slots op count }
     ensures lists { layout.new.lists ≡ layout.old.lists ++ replicate count [] }
     ensures owners { layout.new.owners ≡ layout.old.owners }

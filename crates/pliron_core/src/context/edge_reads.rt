@@ -33,7 +33,7 @@ impl Value {
     {
         ctx.well_formed();
         let Use { user, place } = ctx.operands.get_use(self.index(), i);
-        (Ptr::new(user), place)
+        (Ptr::new(user), place as usize)
     }
 }
 
@@ -57,7 +57,7 @@ impl Ptr<BasicBlock> {
     {
         ctx.well_formed();
         let Use { user, place } = ctx.successors.get_use(self.index(), i);
-        (Ptr::new(user), place)
+        (Ptr::new(user), place as usize)
     }
 
     /// How many successors the block has: those of its last operation. Asks that the block is live (`is_live`
@@ -122,7 +122,8 @@ impl Ptr<BasicBlock> {
                 high = middle;
             }
         }
-        Ptr::new(low)
+        ctx.few_blocks();
+        Ptr::new(low as u32)
     }
 
     /// Whether the block has exactly one predecessor. Asks that the block is live (`is_live` tests it). Cost:
@@ -219,7 +220,7 @@ fn count_below(ctx: &Context, block: Ptr<BasicBlock>, bound: usize) -> usize
     let mut count = 0;
     for i in 0..block.num_use(ctx) {
         if let Some(source) = first_edge_source(ctx, block, i) {
-            if source.index() < bound {
+            if (source.index() as usize) < bound {
                 count += 1;
             }
         }

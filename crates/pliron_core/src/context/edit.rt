@@ -94,7 +94,7 @@ impl Operation {
         requires index { IfSome (head_of ctx.old.tree op) (λ head. i < length head.attrs) }
         ensures { ctx.new ≡ record ctx.old { tree = attribute_set ctx.old.tree op i attr } }
     {
-        set_head_attribute(&mut ctx.operations[op.index()].head, i, attr);
+        set_head_attribute(&mut ctx.operations[op.index() as usize].head, i, attr);
     }
 }
 

@@ -36,7 +36,7 @@ fn bury(ctx: &mut Context, op: Ptr<Operation>)
     ensures { ctx.new ≡ record ctx.old { tree = after_dismantling ctx.old.tree op } }
 {
     let alloc = ctx.alloc;
-    ctx.operations[op.index()] = OperationEntry {
+    ctx.operations[op.index() as usize] = OperationEntry {
         head: None,
         results: InlineList::new(alloc),
         regions: InlineList::new(alloc),
@@ -51,7 +51,7 @@ fn pop_region(ctx: &mut Context, op: Ptr<Operation>)
 {
     ctx.layout.agree();
     ctx.order.agree();
-    ctx.operations[op.index()].regions.pop();
+    ctx.operations[op.index() as usize].regions.pop();
 }
 
 // An empty block that no operation names, and whose arguments nothing names, leaves its region.
@@ -79,7 +79,7 @@ fn last_inside(ctx: &Context, op: Ptr<Operation>) -> Inner
     ensures { IsLast ctx.now.tree op result }
 {
     ctx.well_formed();
-    let regions = &ctx.operations[op.index()].regions;
+    let regions = &ctx.operations[op.index() as usize].regions;
     let count = regions.len();
     if count == 0 {
         return Inner::Nothing;

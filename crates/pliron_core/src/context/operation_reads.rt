@@ -12,7 +12,7 @@ impl Ptr<Operation> {
     pub fn is_live(self, ctx: &Context) -> bool
         ensures { IsTrue result ↔ IsLive ctx.now.tree self }
     {
-        match ctx.operations.get(self.index()) {
+        match ctx.operations.get(self.index() as usize) {
             Some(entry) => entry.head.is_some(),
             None => false,
         }
@@ -23,7 +23,7 @@ impl Ptr<Operation> {
         requires { IsLive ctx.now.tree self }
         ensures { head_of ctx.now.tree self ≡ Some result.now }
     {
-        match &ctx.operations[self.index()].head {
+        match &ctx.operations[self.index() as usize].head {
             Some(head) => head,
             None => unreachable!(),
         }
@@ -56,7 +56,7 @@ impl Ptr<Operation> {
         requires { IsLive ctx.now.tree self }
         ensures { result ≡ length (results_of ctx.now.tree self) }
     {
-        ctx.operations[self.index()].results.len()
+        ctx.operations[self.index() as usize].results.len()
     }
 
     /// The result at this index. Asks that the operation is live and has as many (`is_live` and `num_result`
@@ -68,7 +68,7 @@ impl Ptr<Operation> {
         ensures stands { IsDefined ctx.now.tree result }
     {
         ctx.well_formed();
-        ctx.operations[self.index()].results.get(i)
+        ctx.operations[self.index() as usize].results.get(i)
     }
 
     /// How many successors the operation has. Asks that the operation is live (`is_live` tests it). Cost:
@@ -98,7 +98,7 @@ impl Ptr<Operation> {
         requires { IsLive ctx.now.tree self }
         ensures { result ≡ length (regions_of ctx.now.tree self) }
     {
-        ctx.operations[self.index()].regions.len()
+        ctx.operations[self.index() as usize].regions.len()
     }
 
     /// The region at this index. Asks that the operation is live and has as many (`is_live` and `num_region`
@@ -110,7 +110,7 @@ impl Ptr<Operation> {
         ensures stands { IsRegion ctx.now.tree result }
     {
         ctx.well_formed();
-        ctx.operations[self.index()].regions.get(i)
+        ctx.operations[self.index() as usize].regions.get(i)
     }
 
     /// The block that has the operation, if one does. Asks that the operation is live (`is_live` tests it).

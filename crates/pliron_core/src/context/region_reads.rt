@@ -23,8 +23,8 @@ impl Ptr<Region> {
     pub fn is_live(self, ctx: &Context) -> bool
         ensures { IsTrue result ↔ IsRegion ctx.now.tree self }
     {
-        match ctx.slots.get(self.index()) {
-            Some(RegionSlot { op, index }) => match ctx.operations.get(op.index()) {
+        match ctx.slots.get(self.index() as usize) {
+            Some(RegionSlot { op, index }) => match ctx.operations.get(op.index() as usize) {
                 Some(entry) => is_region_at(&entry.regions, *index, self),
                 None => false,
             },
@@ -39,7 +39,7 @@ impl Ptr<Region> {
         ensures stands { IsLive ctx.now.tree result }
     {
         ctx.well_formed();
-        ctx.slots[self.index()].op
+        ctx.slots[self.index() as usize].op
     }
 
     /// The region's first block, if it has one. Asks that the region is live (`is_live` tests it). Cost:

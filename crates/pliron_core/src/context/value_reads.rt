@@ -26,7 +26,7 @@ impl Value {
         ensures { IsTrue result ↔ IsDefined ctx.now.tree self }
     {
         match &ctx.arguments.definition(self) {
-            Some(Def::Result(op, i)) => match ctx.operations.get(op.index()) {
+            Some(Def::Result(op, i)) => match ctx.operations.get(op.index() as usize) {
                 Some(entry) => is_value_at(&entry.results, *i, self),
                 None => false,
             },

@@ -19,7 +19,7 @@ impl Context {
     }
 
     // The first operation of this block, or of the blocks after it in its region.
-    fn first_from_block(&self, from: Option<usize>) -> Option<usize>
+    fn first_from_block(&self, from: Option<u32>) -> Option<u32>
         requires { ForSome from (λ block. IsBlock self.now.tree block) }
         ensures { result ≡ first_in_blocks self.now.tree from }
     {
@@ -36,12 +36,12 @@ impl Context {
     }
 
     // The first operation of the regions of `op` from this index on.
-    fn first_from_region(&self, op: usize, index: usize) -> Option<usize>
+    fn first_from_region(&self, op: u32, index: usize) -> Option<u32>
         requires { IsLive self.now.tree op }
         ensures { result ≡ first_in_regions self.now.tree op index }
     {
         self.well_formed();
-        let regions = &self.operations[op].regions;
+        let regions = &self.operations[op as usize].regions;
         for i in index..regions.len() {
             let region = regions.get(i).index();
             let first = self.first_from_block(self.layout.head(region));
@@ -53,14 +53,14 @@ impl Context {
     }
 
     // The first operation of the regions after this one, of the same operation.
-    fn first_after_region(&self, region: usize) -> Option<usize>
+    fn first_after_region(&self, region: u32) -> Option<u32>
         requires { IsRegion self.now.tree region }
         ensures { ForSome (slot_of self.now.tree region) (λ slot.
             result ≡ first_in_regions self.now.tree slot.op (slot.index + 1)) }
     {
         self.well_formed();
-        let RegionSlot { op, index } = self.slots[region];
-        let count = self.operations[op.index()].regions.len();
+        let RegionSlot { op, index } = self.slots[region as usize];
+        let count = self.operations[op.index() as usize].regions.len();
         let next = index + 1;
         if next == count {
             return None;
@@ -70,7 +70,7 @@ impl Context {
 
     // The operation after `op` among those that its parent operation has.
     #[inline(always)]
-    fn next_sibling(&self, op: usize) -> Option<usize>
+    fn next_sibling(&self, op: u32) -> Option<u32>
         requires { IsLive self.now.tree op }
         ensures { ForSome (parent_operation_of self.now.tree op) (λ holder.
             result ≡ next_in op (children self.now.tree holder)) }
@@ -102,7 +102,7 @@ impl Ptr<Operation> {
         ctx.well_formed();
         let block = ctx.order.owner(self.index())?;
         let region = ctx.layout.owner(block)?;
-        Some(ctx.slots[region].op)
+        Some(ctx.slots[region as usize].op)
     }
 
     /// Whether this operation is inside `op`, at any depth; an operation is not inside itself. Asks that this

@@ -14,15 +14,15 @@ returns-then-index-len c =
 pub returns-in-Result : goal.returns-in-Result
 returns-in-Result c =
     let within : c.args.value < length c.self.inside.written.items = search rules in
-    let read : c.index-written.result.now ≡ slice_index_or c.self.inside.written.items c.args.value c.index-written.result.now = search rules in
-    let there = slice_get_read c.self.inside.written.items _ c.args.value c.index-written.result.now refl within read in
+    let read : c.index-made.result.now ≡ slice_index_or c.self.inside.written.items c.args.value c.index-made.result.now = search rules in
+    let there = slice_get_read c.self.inside.written.items _ c.args.value c.index-made.result.now refl within read ∙ ap Some (sym c.definition-written.ensures) in
     rw (← c.self.view_is) (result-made _ _ _ c.args.value _ _ _ c.agree.ensures c.self.invariant there c.in-Result.is)
 
 pub returns-then-num_uses-eq0 : goal.returns-then-num_uses-eq0
 returns-then-num_uses-eq0 c =
     let within : c.args.value < length c.self.inside.written.items = search rules in
-    let read : c.index-written.result.now ≡ slice_index_or c.self.inside.written.items c.args.value c.index-written.result.now = search rules in
-    let there = slice_get_read c.self.inside.written.items _ c.args.value c.index-written.result.now refl within read in
+    let read : c.index-made.result.now ≡ slice_index_or c.self.inside.written.items c.args.value c.index-made.result.now = search rules in
+    let there = slice_get_read c.self.inside.written.items _ c.args.value c.index-made.result.now refl within read ∙ ap Some (sym c.definition-written.ensures) in
     let none : length (slice_index_or c.self.inside.lists.uses c.args.value []) ≡ 0 = search rules in
     rw (← c.self.view_is) (unused-made c.self.inside.written.items c.self.inside.lists.uses c.args.value _ c.self.invariant.count there none)
 

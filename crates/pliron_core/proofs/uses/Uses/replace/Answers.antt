@@ -30,7 +30,7 @@ overflow_sub-first c =
     let hn : c.args.new < length c.self.inside.uses.items = omega (arith, r.new, long) in
     let q = reads _ _ _ _ _ _ _ _ _ ho hn r.differ c.index_mut.ensures.value c.replace-moved.ensures.value (c.replace-moved.ensures.after ∙ c.new.ensures) c.index_mut-2.ensures.value c.in_default.ensures.ok c.index-2.ensures in
     let fits = q.fits in
-    let end = c.len-end.ensures in
+    let end = c.count-end.ensures in
     let len = c.len.ensures in
     omega (arith, fits, end, len)
 
@@ -59,7 +59,7 @@ invariant_of-self-2 c =
     let ho : c.args.old < length c.self.inside.uses.items = omega (arith, r.old, long) in
     let hn : c.args.new < length c.self.inside.uses.items = omega (arith, r.new, long) in
     let q = reads _ _ _ _ _ _ _ _ _ ho hn r.differ c.index_mut.ensures.value c.replace-moved.ensures.value (c.replace-moved.ensures.after ∙ c.new.ensures) c.index_mut-2.ensures.value c.in_default.ensures.ok c.index-2.ensures in
-    let each = reword _ _ _ _ _ _ _ _ (ap (λ n. n - c.len.result) c.len-end.ensures ∙ ap (λ n. length c.index-2.result.now - n) c.len.ensures ∙ q.first_is) (ap length q.moved_is) c.retarget.ensures.each in
+    let each = reword _ _ _ _ _ _ _ _ (ap (λ n. n - c.len.result) c.count-end.ensures ∙ ap (λ n. length c.index-2.result.now - n) c.len.ensures ∙ q.first_is) (ap length q.moved_is) c.retarget.ensures.each in
     record {
       linked = rw q.lists_is (linked-moved _ _ _ _ _ c.self.invariant.linked ho hn r.differ each);
       holes = holes-moved _ _ _ _ _ c.self.invariant.linked ho hn r.differ each _ c.retarget.ensures.len c.self.invariant.holes;
@@ -72,4 +72,4 @@ returns-clause-targets c =
     let ho : c.args.old < length c.self.inside.uses.items = omega (arith, r.old, long) in
     let hn : c.args.new < length c.self.inside.uses.items = omega (arith, r.new, long) in
     let q = reads _ _ _ _ _ _ _ _ _ ho hn r.differ c.index_mut.ensures.value c.replace-moved.ensures.value (c.replace-moved.ensures.after ∙ c.new.ensures) c.index_mut-2.ensures.value c.in_default.ensures.ok c.index-2.ensures in
-    rw (← c.self.view_is) (targets-moved _ _ _ _ _ c.self.invariant.linked ho hn r.differ (reword _ _ _ _ _ _ _ _ (ap (λ n. n - c.len.result) c.len-end.ensures ∙ ap (λ n. length c.index-2.result.now - n) c.len.ensures ∙ q.first_is) (ap length q.moved_is) c.retarget.ensures.each) c.retarget.ensures.len)
+    rw (← c.self.view_is) (targets-moved _ _ _ _ _ c.self.invariant.linked ho hn r.differ (reword _ _ _ _ _ _ _ _ (ap (λ n. n - c.len.result) c.count-end.ensures ∙ ap (λ n. length c.index-2.result.now - n) c.len.ensures ∙ q.first_is) (ap length q.moved_is) c.retarget.ensures.each) c.retarget.ensures.len)

@@ -12,7 +12,12 @@ loop-high-init c =
     let here : c.args.self < length c.args.ctx.now.tree.arguments = block-within c.args.ctx.now.tree c.well_formed-2.ensures.tree c.args.self c.requires.live in
     let below : length (filter (λ a. nat_lt a 0) (preds_of c.args.ctx.now.tree c.args.self)) ≤ c.args.i = omega (arith, below_zero (preds_of c.args.ctx.now.tree c.args.self)) in
     let above : c.args.i < length (filter (λ a. nat_lt a c.num_blocks-high.result) (preds_of c.args.ctx.now.tree c.args.self)) = omega (arith, preds-below c.args.ctx.now.tree c.well_formed-2.ensures.tree c.args.self c.num_blocks-high.result count) in
-    record { order = omega arith; below = below; above = above }
+    record { order = omega arith; within = omega (arith, count); below = below; above = above }
+
+pub overflow_cast-low : goal.overflow_cast-low
+overflow_cast-low c =
+    let i = c.loop-high.invariant in
+    omega (arith, i.order, i.within, c.well_formed-2.ensures.tree.keys.arguments, c.few_blocks.ensures)
 
 pub returns-clause-predecessor : goal.returns-clause-predecessor
 returns-clause-predecessor c =
