@@ -264,7 +264,7 @@ held-freed (x ∷ xs) (suc n) p e ne = elim (cases_eq x.target no_target) [
 ]
 
 -- free places at the end
-all-free : (row : List UseSlot) → AreFree row 0 (length row) → targets_held row ≡ []
+pub all-free : (row : List UseSlot) → AreFree row 0 (length row) → targets_held row ≡ []
 all-free [] free = refl
 all-free (q ∷ qs) free = held-free q qs (free 0 q refl (omega arith) (omega arith)) ∙ all-free qs (λ n x e a b. free (suc n) x e (omega arith) (omega (arith, b)))
 

@@ -23,6 +23,7 @@ pub mod SettleLemmas
 pub mod MemberLemmas
 pub mod RemovalLemmas
 pub mod CarryLemmas
+pub mod ClearanceLemmas
 pub mod AgreementLemmas
 pub mod RootLemmas
 pub mod TreeLemmas

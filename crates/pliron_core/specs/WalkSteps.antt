@@ -3,7 +3,7 @@ pub use Rattle.pliron_core.specs.Edges.{blocks_in}
 use Rattle.std.specs.Prelude.{◌≡◌, ℕ, nat_eq, if◌then◌else◌, List, [], ◌∷◌, ◌++◌, drop, Option, Some, None}
 use Rattle.std.specs.List.{flat_map}
 use Rattle.pliron_core.specs.Lists.{first_of}
-use Rattle.pliron_core.specs.Tree.{Tree, body_of, regions_of, block_parent_of, layout_of}
+use Rattle.pliron_core.specs.Tree.{Tree, body_of, regions_of, block_parent_of}
 use Rattle.pliron_core.specs.Walks.{children_of_region}
 
 -- what a list has after the first `at`

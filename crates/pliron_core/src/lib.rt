@@ -6,6 +6,7 @@
 
 mod arguments;
 mod attrs;
+mod clearance;
 mod compaction;
 mod context;
 mod counted_slots;

@@ -6,6 +6,7 @@ ghost use Rattle.pliron_core.specs.Keys.{key_limit};
 ghost use Rattle.pliron_core.specs.Uses.{targets_of, table_uses, AreAgreed, replace_target};
 ghost use Rattle.pliron_core.specs.UseSlots.{uses_by};
 
+use crate::clearance::empty_places;
 use crate::counted_slots::{count_places, settle_places, take_counted};
 use crate::inline_list::{InlineList, entry, pop_entry, set_entry};
 use crate::keys::next_key;
@@ -371,8 +372,8 @@ impl Uses {
         target
     }
 
-    /// Removes all targets of a user. Asks that there is such a user. Takes no memory. Cost: the number of its
-    /// targets. Counted slots are settled first.
+    /// Removes all targets of a user, which are not counted from then on. Asks that there is such a user. Takes no
+    /// memory. Cost: the number of its slots.
     #[inline(always)]
     pub fn clear(&mut self, user: u32)
         requires { user < length self.old.targets }
@@ -380,11 +381,7 @@ impl Uses {
         ensures count { length self.new.uses ≡ length self.old.uses }
         ensures rooms { (self.new.user_room ≡ self.old.user_room) × (self.new.target_room ≡ self.old.target_room) }
     {
-        self.settle(user);
-        while self.num_targets(user) > 0 {
-            let last = self.num_targets(user) - 1;
-            self.remove(user, last);
-        }
+        empty_places(&mut self.places, &mut self.holes, &mut self.uses, user);
     }
 }
 
