@@ -10,7 +10,8 @@
                                      twoedges, forks, longbranches, lastuses, deeplastuses,
                                      manyaround, deepuses, deepvalues, deepchain;
                                      and of those for `cse`: repeats, beneath, sides, shared, moveduses,
-                                     and in bench alone scopes, deepscopes, pairs, longrepeats
+                                     and in bench alone scopes, deepscopes, pairs, longrepeats;
+                                     and of those for `canonicalize`: sameargs, ownargs, absorbed
 
 One program is built and printed in three notations, so that all optimisers see the same control flow: in
 that of this repository, with the shortest names and no blanks; in LLVM's, where an argument of a block is
@@ -559,6 +560,45 @@ def moveduses(n, rng):
     return [f]
 
 
+def sameargs(n, rng):
+    """diamonds with unknown conditions; both sides forward one value, which the first block has."""
+    f = Fn(1)
+    cur, p = f.entry, f.entry.args[0]
+    for _ in range(max(1, n // 5)):
+        left, right, nxt = f.block(0), f.block(0), f.block(1)
+        f.cbr(cur, f.read(cur), left, [], right, [])
+        f.br(left, nxt, p)
+        f.br(right, nxt, p)
+        f.print(nxt, nxt.args[0])
+        cur, p = nxt, nxt.args[0]
+    f.ret(cur, p)
+    return [f]
+
+
+def ownargs(n, rng):
+    """loops one after the other, with unknown conditions; each carries two values that stay as they are."""
+    f = Fn(2)
+    cur, own = f.entry, f.entry.args
+    for _ in range(max(1, n // 4)):
+        nxt, end = f.block(2), f.block(0)
+        f.br(cur, nxt, *own)
+        f.print(nxt, nxt.args[0])
+        f.cbr(nxt, f.read(nxt), nxt, nxt.args, end, [])
+        cur, own = end, nxt.args
+    f.ret(cur, *own)
+    return [f]
+
+
+def absorbed(n, rng):
+    """straight line; what is read is multiplied by 0, and that is printed."""
+    f = Fn()
+    zero = f.const(f.entry, 0)
+    for _ in range(max(1, n // 3)):
+        f.print(f.entry, f.bin(f.entry, "mul", f.read(f.entry), zero))
+    f.ret(f.entry, zero)
+    return [f]
+
+
 SHAPES = {"chain": chain, "diamonds": diamonds, "merges": merges, "loops": loops,
           "nest": nest, "brchain": brchain, "brchain_rev": brchain_rev,
           "unreach": unreach, "dead": dead, "deadring": deadring, "fan": fan,
@@ -569,6 +609,9 @@ SHAPES = {"chain": chain, "diamonds": diamonds, "merges": merges, "loops": loops
 
 # with operations that an equivalent one dominates, or displaces, for `cse`
 REDUNDANT = {"repeats": repeats, "beneath": beneath, "sides": sides, "shared": shared, "moveduses": moveduses}
+
+# with arguments that are one value, or results that one operand decides, for `canonicalize`
+FOLDING = {"sameargs": sameargs, "ownargs": ownargs, "absorbed": absorbed}
 
 
 def boxed_sums(n, depth):
@@ -956,7 +999,7 @@ def text_of(shape, n, notation):
     if shape in in_bench:
         return in_bench[shape](n)
     parts = []
-    PRINT[notation]((SHAPES | REDUNDANT)[shape](n, random.Random(1)), parts.append)
+    PRINT[notation]((SHAPES | REDUNDANT | FOLDING)[shape](n, random.Random(1)), parts.append)
     return "".join(parts)
 
 
