@@ -7,12 +7,13 @@ ghost use Rattle.pliron_evaluator.specs.Evaluator.{sight_of};
 use pliron_core::{Context, Operation, Ptr};
 use pliron_diagnostics::{RunOptions, Source, TextParts, parts_of, run_sight, text_fault};
 use pliron_evaluator::evaluator::{Notes, Sight};
+use pliron_instrument::FoldingNotation;
 use pliron_laws::OptError;
-use pliron_opts::{BenchNotation, Notation};
+use pliron_opts::BenchNotation;
 use std::alloc::{AllocError, Global};
 
 /// A notation of which people are shown where texts leave it, where operations stand in them, and how they run.
-pub trait Shown: Notation {
+pub trait Shown: FoldingNotation {
     /// What is told of a text outside the notation; `None` of one inside it. Errors: allocation failure.
     fn fault_message(alloc: Global, source: &Source) -> Result<Option<String>, OptError>;
 

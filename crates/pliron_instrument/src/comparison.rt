@@ -7,7 +7,7 @@ use pliron_laws::reads::push_layouts;
 use pliron_walks::Contents;
 use std::alloc::{AllocError, Global};
 
-/// What runs rewrote inside operations, as far as what stands there before and after tells it: what a run made and
+/// What runs rewrote inside operations: as far as what stands there before and after tells it, so what a run made and
 /// erased again isn't counted.
 #[derive(Clone, Copy, Debug, Drop, PartialEq, Eq)]
 pub struct RewriteCounts {

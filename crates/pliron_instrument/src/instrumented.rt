@@ -1,16 +1,14 @@
 //! A pass that is instrumented.
 ghost use Rattle.std.specs.Prelude.{◌≡◌, false};
 ghost use Rattle.pliron_core.specs.Tree.{IsLive};
-ghost use Rattle.pliron_pipeline.specs.PassSteps.{step_name};
 
 use crate::comparison::{Comparison, Snapshot};
+use crate::program_step::{FoldingNotation, ProgramStep};
 use crate::progress::Progress;
 use crate::run_records::{InstrumentationRecord, RunMeasure, RunNote};
 use pliron_core::{Context, IRStatus, Operation, Ptr};
 use pliron_laws::OptError;
-use pliron_opts::Notation;
 use pliron_pass::{AnalysisKind, AnalysisManager, BenchFacts, Pass, PassResult, verify_operation};
-use pliron_pipeline::PassStep;
 use std::alloc::{AllocError, Global};
 use std::time::Clock;
 
@@ -27,8 +25,8 @@ pub struct Instrumentation {
 
 /// One of the passes, which notes what is seen of its runs. It does to trees and caches what the pass does.
 #[derive(Drop)]
-pub struct Instrumented<N: Notation, C: Progress + Drop> {
-    step: PassStep<N::D, BenchFacts>,
+pub struct Instrumented<N: FoldingNotation, C: Progress + Drop> {
+    step: ProgramStep<N::D>,
     instrumentation: Instrumentation,
     clock: C,
     records: InstrumentationRecord,
@@ -52,11 +50,11 @@ fn nanos<C: Clock>(clock: &C) -> u128 {
     }
 }
 
-impl<N: Notation, C: Progress + Drop> Instrumented<N, C> {
+impl<N: FoldingNotation, C: Progress + Drop> Instrumented<N, C> {
     /// The pass, of which nothing was noted. Cost: constant.
     pub fn new(
         alloc: Global,
-        step: PassStep<N::D, BenchFacts>,
+        step: ProgramStep<N::D>,
         instrumentation: Instrumentation,
         clock: C,
     ) -> Self
@@ -72,7 +70,7 @@ impl<N: Notation, C: Progress + Drop> Instrumented<N, C> {
 
     /// The name of the pass. Cost: constant.
     pub fn pass_name(&self) -> &str
-        ensures { result.now ≡ step_name self.now.step }
+        ensures { result.now ≡ ⟦<ProgramStep<N::D> as Pass>⟧.name self.now.step }
     {
         self.step.name()
     }
@@ -146,16 +144,16 @@ impl<N: Notation, C: Progress + Drop> Instrumented<N, C> {
     }
 }
 
-impl<N: Notation, C: Progress + Drop> Pass for Instrumented<N, C> {
+impl<N: FoldingNotation, C: Progress + Drop> Pass for Instrumented<N, C> {
     type D = N::D;
 
     type E = BenchFacts;
 
     ghost is_pass_manager = { λ p. false };
 
-    ghost name = { λ p. step_name p.step };
+    ghost name = { λ p. ⟦<ProgramStep<N::D> as Pass>⟧.name p.step };
 
-    ghost outcome = { λ p p' op s s' r. ⟦<PassStep<N::D, BenchFacts> as Pass>⟧.outcome p.step p'.step op s s' r };
+    ghost outcome = { λ p p' op s s' r. ⟦<ProgramStep<N::D> as Pass>⟧.outcome p.step p'.step op s s' r };
 
     fn name(&self) -> &str {
         self.step.name()

@@ -11,7 +11,7 @@ pub trait Progress: Clock {
     fn pass_ended(&self, number: usize, name: &str);
 }
 
-/// A clock that always tells the same time and tells nobody what ended, for passes whose time nobody asks for.
+/// A clock that always tells the same time: it tells nobody what ended, and is for passes whose time nobody asks for.
 #[derive(Clone, Copy, Debug, Drop)]
 pub struct Timeless;
 

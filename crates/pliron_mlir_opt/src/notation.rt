@@ -6,8 +6,10 @@ ghost use Rattle.pliron_laws.specs.Linked.{IsWellLinked};
 ghost use Rattle.pliron_opts.specs.Read.{ReadsKinds, PrintsKinds};
 
 use pliron_core::{Context, Operation, Ptr};
+use pliron_instrument::FoldingNotation;
 use pliron_laws::{Dialect, OptError};
 use pliron_mlir_text::{Fault, Module, Sheet, print_module, read_module};
+use pliron_operand_folding::OperandFoldInterface;
 use pliron_opts::Notation;
 use std::alloc::{AllocError, Global};
 use std::marker::PhantomData;
@@ -16,7 +18,7 @@ use std::marker::PhantomData;
 ///
 /// What passes make of a module is proved for each of these. So an answer comes of the very text that was given, by
 /// the relation of that notation between texts and trees, whatever it is.
-pub trait ModuleNotation: Notation {
+pub trait ModuleNotation: FoldingNotation {
     /// Reads a text with its sheet. Its operation is live and well linked. Asks that the context is empty. Errors: the
     /// place where the text is outside the notation, and what was expected; allocation failure.
     fn read_module(alloc: Global, text: &[u8], ctx: &mut Context) -> Result<Module, Fault>
@@ -64,7 +66,7 @@ impl<D: Dialect> Notation for GenericForm<D> {
     }
 }
 
-impl<D: Dialect> ModuleNotation for GenericForm<D> {
+impl<D: OperandFoldInterface> ModuleNotation for GenericForm<D> {
     fn read_module(alloc: Global, text: &[u8], ctx: &mut Context) -> Result<Module, Fault> {
         read_module::<D>(alloc, text, ctx)
     }

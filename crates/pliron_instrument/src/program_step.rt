@@ -1,0 +1,29 @@
+//! One of the passes of the programs for people, and the notations whose dialects can run each of them.
+ghost use Rattle.std.specs.Prelude.{◌≡◌, IfSome};
+
+use pliron_canonicalize_pass::CanonicalizePass;
+use pliron_operand_folding::OperandFoldInterface;
+use pliron_opts::Notation;
+use pliron_pass::{BenchFacts, Either, Pass};
+use pliron_pipeline::PassStep;
+
+/// A notation of a dialect that says which results are operands, so that each of the passes can run on its texts.
+pub trait FoldingNotation: Notation<D: OperandFoldInterface> {}
+
+impl<N: Notation<D: OperandFoldInterface>> FoldingNotation for N {}
+
+/// One of the passes: canonicalization (`Left`), or one that every dialect can run.
+pub type ProgramStep<D> = Either<CanonicalizePass<D, BenchFacts>, PassStep<D, BenchFacts>>;
+
+/// The pass of this name. Cost: constant.
+pub fn step_from_name<D: OperandFoldInterface>(name: &str) -> Option<ProgramStep<D>>
+    ensures { IfSome result (λ step. ⟦<ProgramStep<D> as Pass>⟧.name step ≡ name.now) }
+{
+    if name == "canonicalize" {
+        return Some(Either::Left(CanonicalizePass::new()));
+    }
+    match PassStep::from_name(name) {
+        Some(step) => Some(Either::Right(step)),
+        None => None,
+    }
+}
