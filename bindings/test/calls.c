@@ -229,7 +229,7 @@ static void try_module_edges(void) {
     expect_module("repeat:65:sccp", "none", 4, PLIR_ARGUMENTS, 0);
     expect_module("", SUM, sizeof SUM - 1, PLIR_ANSWERED, sizeof SUM - 1);
     expect_module("sccp,dce", SUM, sizeof SUM - 1, PLIR_ANSWERED, sizeof TWO - 1);
-    expect_module("repeat<8>(nested(sccp,cse,simplify-cfg,dce))", SUM, sizeof SUM - 1, PLIR_ANSWERED, sizeof TWO - 1);
+    expect_module("repeat<8>(nested(sccp,cse,canonicalize,simplify-cfg,dce))", SUM, sizeof SUM - 1, PLIR_ANSWERED, sizeof TWO - 1);
     expect_module("sccp,dce", long_text, 1 << 26, PLIR_ANSWERED, sizeof TWO - 1);
     expect_module("sccp,dce", long_text, (size_t)PLIR_MAX_MODULE + 1, PLIR_TEXT, 0);
     expect_module("", many, length, PLIR_ANSWERED, length);
@@ -252,6 +252,7 @@ static void try_edges(void) {
     expect("an empty list", "", "mod { }", 7, PLIR_ARGUMENTS, 0);
     expect("a list that is no text", "\xff\xfe", "mod { }", 7, PLIR_ARGUMENTS, 0);
     expect("an unknown pass", "sccp,cse", "mod { }", 7, PLIR_ARGUMENTS, 0);
+    expect("another", "canonicalize", "mod { }", 7, PLIR_ARGUMENTS, 0);
     expect("too many runs", "repeat:65:sccp", "mod { }", 7, PLIR_ARGUMENTS, 0);
     expect("the word graph", "graph", "0:\n", 3, PLIR_ARGUMENTS, 0);
     expect("list before text", "none", "none", 4, PLIR_ARGUMENTS, 0);

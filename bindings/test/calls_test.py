@@ -86,7 +86,7 @@ class Edges(unittest.TestCase):
         self.assertIsNone(rachonpas.find_fault(SUM))
 
     def test_pipelines_that_are_none(self):
-        for pipeline in ("", "graph", "cse", "sccp,", "repeat:0:dce", "repeat:65:dce", "nested:", "\u00e4"):
+        for pipeline in ("", "graph", "cse", "canonicalize", "sccp,", "repeat:0:dce", "repeat:65:dce", "nested:", "\u00e4"):
             self.assertEqual(raised(pipeline, "none"), rachonpas.PipelineError)
 
     def test_long_texts(self):

@@ -143,6 +143,7 @@ fn pipelines_that_are_none() {
         "",
         "graph",
         "cse",
+        "canonicalize",
         "sccp,",
         "repeat:0:dce",
         "repeat:65:dce",

@@ -113,7 +113,7 @@ fn compare<'a>(alloc: Global) -> Result<Arg<'a>, AllocError> {
 }
 
 /// The names of the passes.
-static PASSES: [&str; 4] = ["sccp", "dce", "simplify-cfg", "cse"];
+static PASSES: [&str; 5] = ["sccp", "dce", "simplify-cfg", "cse", "canonicalize"];
 
 /// The statuses of `opt`.
 static OPT_STATUSES: &str =
@@ -123,10 +123,11 @@ static OPT_STATUSES: &str =
 /// What `PIPELINE` may be.
 static PIPELINE: &str =
     "The passes, joined by commas: `sccp` (constant propagation), `dce` (dead code elimination), `simplify-cfg` \
-     (simplification of control flow), `cse` (common subexpression elimination). `nested(LIST)` runs them on \
-     each operation directly inside, `repeat<N>(..)` until nothing changes, at most N times, from 1 to 64: \
-     `repeat<8>(nested(sccp,dce))`. `nested:LIST` and `repeat:N:..` say the same, as for `plir_opt`, which has \
-     no `cse`. Blanks around commas and brackets say nothing";
+     (simplification of control flow), `cse` (common subexpression elimination), `canonicalize` (uses go to what \
+     results and arguments are). `nested(LIST)` runs them on each operation directly inside, `repeat<N>(..)` \
+     until nothing changes, at most N times, from 1 to 64: `repeat<8>(nested(sccp,dce))`. `nested:LIST` and \
+     `repeat:N:..` say the same, as for `plir_opt`, which has only the first three. Blanks around commas and \
+     brackets say nothing";
 
 fn pipeline<'a>(alloc: Global) -> Result<Arg<'a>, AllocError> {
     Arg::new(alloc, "pipeline")
@@ -164,8 +165,8 @@ fn with_prints<'a>(command: Command<'a>, alloc: Global) -> Result<Command<'a>, A
         .arg(print_pass(
             alloc,
             "print-after",
-            "Tell the operation after each run of this pass, on standard error: `sccp`, `dce`, `simplify-cfg` \
-             or `cse`; once for each pass",
+            "Tell the operation after each run of this pass, on standard error: `sccp`, `dce`, `simplify-cfg`, \
+             `cse` or `canonicalize`; once for each pass",
         ))?
         .arg(print_pass(
             alloc,

@@ -248,6 +248,7 @@ sccp          sparse conditional constant propagation
 dce           dead code elimination
 simplify-cfg  simplification of control flow
 cse           common subexpression elimination
+canonicalize  folding to operands, constants and what arguments are
 ";
 
 // Writes the answer of the command, and answers the status: to the file that is named, or to standard output. A file

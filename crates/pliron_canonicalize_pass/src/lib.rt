@@ -4,8 +4,9 @@
 //! interface than `Dialect` has, so the pass stands beside the list of those that every dialect can run.
 #![tactic(auto)]
 
-ghost use Rattle.pliron_canonicalize_pass.specs.Canonicalized.{Canonicalizes, canonicalize_name};
+ghost use Rattle.pliron_canonicalize_pass.specs.Canonicalized.{Canonicalizes};
 ghost use Rattle.pliron_pipeline.specs.ChangeReports.{IsAccurate};
+ghost use Rattle.pliron_pipeline.specs.PassNames.{canonicalize_name};
 
 use pliron_canonicalize::canonicalize;
 use pliron_core::{Context, Operation, Ptr};

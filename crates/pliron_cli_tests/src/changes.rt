@@ -90,6 +90,7 @@ sccp,dce => func { b0(): a = const 2; sum = add a a; sum_1 = const 7; ret sum su
 simplify-cfg => func { entry(x): br mid(x); mid(y): br end(y); end(z): print z; ret z } => func { entry(x): print x; ret x }
 nested(dce) => mod { m(): func { f(p): u = const 1; ret p }; func { g(p): scope p { h(q): ret q }; ret } } => mod { m(): func { f(p): ret p }; func { g(p): scope p { h(q): ret q }; ret } }
 cse => func { b0(x): a = add x x; b = add x x; print b; ret a } => func { b0(x): a = add x x; print a; ret a }
+canonicalize,dce => func { entry(x): zero = const 0; a = mul x zero; print a; ret x } => func { entry(x): zero = const 0; print zero; ret x }
 nested(sccp,dce) => mod { m(): func { f(): a = const 2; b = mul a a; ret b }; func { f(): a = const 3; b = mul a a; ret b } } => mod { m(): func { f(): b_1 = const 4; ret b_1 }; func { f(): b_2 = const 9; ret b_2 } }";
 
 fn expect_named(rt: &impl Abort, alloc: Global, list: &str, text: &str, wanted: &str) {
@@ -152,6 +153,8 @@ nested(sccp,dce) => mod { m(): func { f(): a = const 2; b = mul a a; ret b }; fu
     } } => --- run 1, changed by sccp at 0.0|  ..| f():|   a = const 2;|+  b_1 = const 4;|   b = mul a \
     a;|-  ret b|+  ret b_1| }|--- run 2, changed by dce at 0.0| func {| f():|-  a = const 2;|   b_1 = const \
     4;|-  b = mul a a;|   ret b_1| }|
+canonicalize => func { f(x): z = const 0; a = mul x z; ret a } => --- run 1, changed by canonicalize|  ..|   z = const 0;|   a \
+    = mul x z;|-  ret a|+  ret z| }|
 dce => func { b0(): ret } => ";
 
 #[test]

@@ -25,30 +25,31 @@ fn expect_fault(rt: &impl Abort, alloc: Global, word: &str, column: &str, label:
 
 /// Words that plan nothing, the column of what is wrong, and what was to stand there.
 static FAULTS: &str = "\
-passes => 1 `sccp`, `dce`, `simplify-cfg` or `cse`
-sccp, dce => 6 `sccp`, `dce`, `simplify-cfg` or `cse`
-sccp,,dce => 6 `sccp`, `dce`, `simplify-cfg` or `cse`
-sccp,dce, => 10 `sccp`, `dce`, `simplify-cfg` or `cse`
-DCE => 1 `sccp`, `dce`, `simplify-cfg` or `cse`
-nested => 1 `sccp`, `dce`, `simplify-cfg` or `cse`
-nested: => 8 `sccp`, `dce`, `simplify-cfg` or `cse`
-nested:sccp,cs => 13 `sccp`, `dce`, `simplify-cfg` or `cse`
+passes => 1 `sccp`, `dce`, `simplify-cfg`, `cse` or `canonicalize`
+sccp, dce => 6 `sccp`, `dce`, `simplify-cfg`, `cse` or `canonicalize`
+sccp,,dce => 6 `sccp`, `dce`, `simplify-cfg`, `cse` or `canonicalize`
+sccp,dce, => 10 `sccp`, `dce`, `simplify-cfg`, `cse` or `canonicalize`
+DCE => 1 `sccp`, `dce`, `simplify-cfg`, `cse` or `canonicalize`
+canonicalise => 1 `sccp`, `dce`, `simplify-cfg`, `cse` or `canonicalize`
+nested => 1 `sccp`, `dce`, `simplify-cfg`, `cse` or `canonicalize`
+nested: => 8 `sccp`, `dce`, `simplify-cfg`, `cse` or `canonicalize`
+nested:sccp,cs => 13 `sccp`, `dce`, `simplify-cfg`, `cse` or `canonicalize`
 nested(sccp => 12 `)`
-nested(sccp)) => 8 `sccp`, `dce`, `simplify-cfg` or `cse`
+nested(sccp)) => 8 `sccp`, `dce`, `simplify-cfg`, `cse` or `canonicalize`
 nested(sccp),dce => 13 the end, as nothing stands behind `)`
-nested(nested(sccp)) => 8 `sccp`, `dce`, `simplify-cfg` or `cse`
-sccp,nested(dce) => 6 `sccp`, `dce`, `simplify-cfg` or `cse`
+nested(nested(sccp)) => 8 `sccp`, `dce`, `simplify-cfg`, `cse` or `canonicalize`
+sccp,nested(dce) => 6 `sccp`, `dce`, `simplify-cfg`, `cse` or `canonicalize`
 repeat:sccp => 8 a number from 1 to 64, a colon and a list
 repeat:0:sccp => 8 a number from 1 to 64
 repeat:65:sccp => 8 a number from 1 to 64
 repeat:08:sccp => 8 a number from 1 to 64
-repeat:12:nested:x => 18 `sccp`, `dce`, `simplify-cfg` or `cse`
+repeat:12:nested:x => 18 `sccp`, `dce`, `simplify-cfg`, `cse` or `canonicalize`
 repeat<8>sccp => 8 a number from 1 to 64, `>(` and a list
 repeat<x>(sccp) => 8 a number from 1 to 64
 repeat<8>(sccp => 15 `)`
 repeat<8>(nested(sccp) => 22 `)`
 repeat<8>(dce),sccp => 15 the end, as nothing stands behind `)`
-repeat<64>(nested(sccp,y)) => 24 `sccp`, `dce`, `simplify-cfg` or `cse`";
+repeat<64>(nested(sccp,y)) => 24 `sccp`, `dce`, `simplify-cfg`, `cse` or `canonicalize`";
 
 #[test]
 fn words_without_passes(rt: HostRuntime) {
@@ -62,7 +63,7 @@ fn words_without_passes(rt: HostRuntime) {
         rt.alloc(),
         "",
         "1",
-        "`sccp`, `dce`, `simplify-cfg` or `cse`",
+        "`sccp`, `dce`, `simplify-cfg`, `cse` or `canonicalize`",
     );
 }
 
@@ -76,6 +77,8 @@ repeat:5:dce => 5 itself dce
 repeat<64>(simplify-cfg) => 64 itself simplify-cfg
 repeat<1>(nested(dce,dce)) => 1 each dce dce
 repeat:20:nested(sccp) => 20 each sccp
+cse,canonicalize => once itself cse canonicalize
+repeat:8:nested:canonicalize => 8 each canonicalize
 repeat<20>(nested:sccp) => 20 each sccp";
 
 // What is planned, in words.

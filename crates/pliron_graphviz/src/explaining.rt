@@ -10,6 +10,7 @@ use crate::pass_list::PassList;
 use crate::reasons::{Reasons, Rewrite};
 use crate::tree_state::{TreeState, tree_state};
 use pliron_bench::Bench;
+use pliron_canonicalize::canonicalize;
 use pliron_cfg::{fold_branches, merge_inside_op, remove_blocks_inside_op};
 use pliron_core::{Context, IRRewriter, IRStatus, Operation, Ptr};
 use pliron_cse::cse;
@@ -29,6 +30,7 @@ fn rewrites_of(pass: PassName) -> &'static [Rewrite] {
         PassName::Dce => &[Rewrite::DeadCode],
         PassName::SimplifyCfg => &[Rewrite::Branches, Rewrite::Unreachable, Rewrite::Joining],
         PassName::Cse => &[Rewrite::Subexpressions],
+        PassName::Canonicalize => &[Rewrite::Canonicalization],
     }
 }
 
@@ -39,6 +41,7 @@ fn name_of(pass: PassName) -> &'static str {
         PassName::Dce => "dce",
         PassName::SimplifyCfg => "simplify-cfg",
         PassName::Cse => "cse",
+        PassName::Canonicalize => "canonicalize",
     }
 }
 
@@ -62,6 +65,7 @@ fn make_rewrite(
         }
         Rewrite::Joining => merge_inside_op::<Bench, IRRewriter>(alloc, op, ctx, &mut rewriter),
         Rewrite::Subexpressions => cse::<Bench>(alloc, op, ctx),
+        Rewrite::Canonicalization => canonicalize::<Bench>(alloc, op, ctx),
     }
 }
 

@@ -24,6 +24,8 @@ pub enum Rewrite {
     Joining,
     /// Operations go that did what one before them did.
     Subexpressions,
+    /// Uses of results and arguments go to what these are.
+    Canonicalization,
 }
 
 /// What is told of one operation or argument.
@@ -48,7 +50,7 @@ pub struct Reasons<'t> {
     constants: HashMap<Value, i128>,
     /// Those of them that nothing uses.
     unused: HashMap<Value, i128>,
-    /// The values that stand for results of operations that went.
+    /// The values that stand for others now.
     replacements: HashMap<Value, Value>,
     /// By the number of its state, the branch that led to a block and went.
     branches: HashMap<Ptr<BasicBlock>, usize>,
@@ -245,7 +247,9 @@ impl Reasons<'_> {
             let state = &before.operations[i];
             match (self.rewrite, state.op.is_live(ctx), state.successor) {
                 (Rewrite::Constants, true, _) => self.note_constants(ctx, state)?,
-                (Rewrite::Subexpressions, true, _) => self.note_replacements(ctx, state)?,
+                (Rewrite::Subexpressions | Rewrite::Canonicalization, true, _) => {
+                    self.note_replacements(ctx, state)?
+                }
                 (Rewrite::Joining, false, Some(target)) => {
                     self.branches.insert(target, i)?;
                 }
@@ -344,6 +348,43 @@ impl Reasons<'_> {
         Ok(())
     }
 
+    // Adds which constants the results of an operation are.
+    fn push_constants(&self, state: &OperationState, why: &mut String) -> Result<(), AllocError> {
+        for value in &state.results {
+            if let Some(number) = self.constants.get(value) {
+                let number = *number;
+                part_phrases(why)?;
+                write!(why, "folded to {number} by its operands")?;
+                if self.unused.contains_key(value) {
+                    why.push_str(", and nothing uses it")?;
+                }
+            }
+        }
+        Ok(())
+    }
+
+    // Adds which values the results of an operation are that stands, where their uses went there.
+    fn push_folded(
+        &self,
+        ctx: &Context,
+        state: &OperationState,
+        why: &mut String,
+    ) -> Result<(), AllocError> {
+        if self.rewrite != Rewrite::Canonicalization {
+            return Ok(());
+        }
+        for value in &state.results {
+            if let Some(other) = self.replacements.get(value) {
+                let other = *other;
+                part_phrases(why)?;
+                why.push_str("folded to ")?;
+                self.push_value(ctx, why, other)?;
+                why.push_str(" by its operands")?;
+            }
+        }
+        Ok(())
+    }
+
     // How an operation changed that stands; empty where it didn't.
     fn why_changed(&self, ctx: &Context, state: &OperationState) -> Result<String, AllocError>
         requires { IsLive ctx.now.tree state.now.op }
@@ -356,16 +397,8 @@ impl Reasons<'_> {
             why.push_str("merged into ")?;
             self.push_block(&mut why, block)?;
         }
-        for value in &state.results {
-            if let Some(number) = self.constants.get(value) {
-                let number = *number;
-                part_phrases(&mut why)?;
-                write!(why, "folded to {number} by its operands")?;
-                if self.unused.contains_key(value) {
-                    why.push_str(", and nothing uses it")?;
-                }
-            }
-        }
+        self.push_constants(state, &mut why)?;
+        self.push_folded(ctx, state, &mut why)?;
         if state.op.num_operand(ctx) < state.operands.len() {
             self.push_lost(ctx, state, &mut why)?;
         } else {
@@ -430,6 +463,13 @@ impl Reasons<'_> {
                 if let Some(number) = self.constants.get(&argument) {
                     let number = *number;
                     write!(why, "always {number}")?;
+                }
+            }
+            (Rewrite::Canonicalization, true) => {
+                if let Some(value) = self.replacements.get(&argument) {
+                    let value = *value;
+                    why.push_str("always ")?;
+                    self.push_value(ctx, &mut why, value)?;
                 }
             }
             (Rewrite::DeadCode, false) => why.push_str(if state.holder.is_live(ctx) {

@@ -1,11 +1,12 @@
 //! One of the passes of the programs for people, and the notations whose dialects can run each of them.
-ghost use Rattle.std.specs.Prelude.{◌≡◌, IfSome};
+ghost use Rattle.std.specs.Prelude.{◌≡◌, IfSome, IfNone};
+ghost use Rattle.pliron_pipeline.specs.PassNames.{IsNoPass};
 
 use pliron_canonicalize_pass::CanonicalizePass;
 use pliron_operand_folding::OperandFoldInterface;
 use pliron_opts::Notation;
 use pliron_pass::{BenchFacts, Either, Pass};
-use pliron_pipeline::PassStep;
+use pliron_pipeline::{CSEPass, DCEPass, PassName, PassStep, SCCPPass, SimplifyCFGPass};
 
 /// A notation of a dialect that says which results are operands, so that each of the passes can run on its texts.
 pub trait FoldingNotation: Notation<D: OperandFoldInterface> {}
@@ -15,15 +16,19 @@ impl<N: Notation<D: OperandFoldInterface>> FoldingNotation for N {}
 /// One of the passes: canonicalization (`Left`), or one that every dialect can run.
 pub type ProgramStep<D> = Either<CanonicalizePass<D, BenchFacts>, PassStep<D, BenchFacts>>;
 
-/// The pass of this name. Cost: constant.
+/// The pass of this name (`PassName::LIST`). Cost: constant.
 pub fn step_from_name<D: OperandFoldInterface>(name: &str) -> Option<ProgramStep<D>>
-    ensures { IfSome result (λ step. ⟦<ProgramStep<D> as Pass>⟧.name step ≡ name.now) }
+    ensures named { IfSome result (λ step. ⟦<ProgramStep<D> as Pass>⟧.name step ≡ name.now) }
+    ensures unknown { IfNone result (IsNoPass name.now) }
 {
-    if name == "canonicalize" {
-        return Some(Either::Left(CanonicalizePass::new()));
-    }
-    match PassStep::from_name(name) {
-        Some(step) => Some(Either::Right(step)),
+    match PassName::from_name(name) {
+        Some(PassName::Sccp) => Some(Either::Right(PassStep::Sccp(SCCPPass::new()))),
+        Some(PassName::Dce) => Some(Either::Right(PassStep::Dce(DCEPass::new()))),
+        Some(PassName::SimplifyCfg) => Some(Either::Right(PassStep::SimplifyCfg(
+            SimplifyCFGPass::new(),
+        ))),
+        Some(PassName::Cse) => Some(Either::Right(PassStep::Cse(CSEPass::new()))),
+        Some(PassName::Canonicalize) => Some(Either::Left(CanonicalizePass::new())),
         None => None,
     }
 }

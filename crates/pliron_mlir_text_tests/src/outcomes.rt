@@ -55,9 +55,14 @@ a word -- dce :: m => 2  => t:1:1: expected the name of an operation in quotes; 
 a block that the region lacks -- dce :: \"m\"() ({|  \"a\"()[^b] : () -> ()|}) : () -> () => 2  => t:2:9: expected \
     a block of this region|
 no such pass -- dce,licm :: \"m\"() : () -> () => 2  => error: no such passes: dce,licm: at byte 5: expected \
-    `sccp`, `dce`, `simplify-cfg` or `cse`|
+    `sccp`, `dce`, `simplify-cfg`, `cse` or `canonicalize`|
 too many rounds -- repeat:65:dce :: \"m\"() : () -> () => 2  => error: no such passes: repeat:65:dce: at byte 8: \
     expected a number from 1 to 64|
+a sum with 0 -- canonicalize,dce :: \"builtin.module\"() ({|  \"func.func\"() <{sym_name = \"f\"}> ({|  ^bb0(%0: i32):|    \
+    %1 = \"arith.constant\"() <{value = 0 : i32}> : () -> i32|    %2 = \"arith.addi\"(%0, %1) <{overflowFlags = \
+    #arith.overflow<none>}> : (i32, i32) -> i32|    \"func.return\"(%2) : (i32) -> ()|  }) : () -> ()|}) : () -> () \
+    => 0 \"builtin.module\"() ({|  \"func.func\"() <{sym_name = \"f\"}> ({|  ^bb0(%0: i32):|    \"func.return\"(%0) : \
+    (i32) -> ()|  }) : () -> ()|}) : () -> ()| => changed|
 a used value of an unreachable block -- simplify-cfg :: \"m\"() ({|  \"func.func\"() <{sym_name = \"f\"}> \
     ({|    \"func.return\"(%0) : (i32) -> ()|  ^b:|    %0 = \"arith.constant\"() <{value = 1 : i32}> : () -> \
     i32|    \"cf.br\"()[^b] : () -> ()|  }) : () -> ()|}) : () -> () => 1  => error: refused: a value of an \

@@ -404,6 +404,8 @@ nothing before a comma -- ,dce
 capitals -- SCCP
 a blank behind a pass -- sccp\x20
 no pass -- passes
+a pass that the program lacks -- canonicalize
+another -- cse
 graph before a pass -- graph,dce
 nested alone -- nested
 nested with nothing -- nested:

@@ -1,19 +1,20 @@
-//! The names of the passes here: the one list of them.
+//! The names of passes: the one list of them.
 ghost use Rattle.std.specs.Prelude.{◌≡◌, IfSome, IfNone};
 ghost use Rattle.pliron_pipeline.specs.PassNames.{name_of_pass, IsNoPass};
 
-/// One of the passes here.
+/// One of the passes: those here, which every dialect can run, and canonicalization.
 #[derive(Clone, Copy, Debug, PartialEq, Eq)]
 pub enum PassName {
     Sccp,
     Dce,
     SimplifyCfg,
     Cse,
+    Canonicalize,
 }
 
 impl PassName {
     /// All names, as a message lists them.
-    pub const LIST: &'static str = "`sccp`, `dce`, `simplify-cfg` or `cse`";
+    pub const LIST: &'static str = "`sccp`, `dce`, `simplify-cfg`, `cse` or `canonicalize`";
 
     /// The pass of this name. Cost: constant.
     pub fn from_name(name: &str) -> Option<Self>
@@ -25,6 +26,7 @@ impl PassName {
             "dce" => Some(PassName::Dce),
             "simplify-cfg" => Some(PassName::SimplifyCfg),
             "cse" => Some(PassName::Cse),
+            "canonicalize" => Some(PassName::Canonicalize),
             _ => None,
         }
     }

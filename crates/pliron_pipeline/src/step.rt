@@ -1,6 +1,6 @@
 //! One of the passes here, and lists of them.
 ghost use Rattle.std.specs.Prelude.{◌≡◌, true, false, IfSome, IfNone};
-ghost use Rattle.pliron_pipeline.specs.PassNames.{IsNoPass};
+ghost use Rattle.pliron_pipeline.specs.PassNames.{IsNoSharedPass};
 ghost use Rattle.pliron_pipeline.specs.PassSteps.{step_name};
 ghost use Rattle.pliron_pipeline.specs.declared.step.PassStep.TheVariants.{Sccp as ASccp, Dce as ADce, SimplifyCfg as ASimplifyCfg, Cse as ACse};
 
@@ -27,17 +27,17 @@ pub enum PassStep<D: Dialect, E: Analyses + Drop> {
 }
 
 impl<D: Dialect, E: Analyses + Drop> PassStep<D, E> {
-    /// The pass of this name (`PassName::LIST`). Cost: constant.
+    /// The pass of this name; `None` of `canonicalize`, which not every dialect can run. Cost: constant.
     pub fn from_name(name: &str) -> Option<Self>
         ensures named { IfSome result (λ step. step_name step ≡ name.now) }
-        ensures unknown { IfNone result (IsNoPass name.now) }
+        ensures unknown { IfNone result (IsNoSharedPass name.now) }
     {
         match PassName::from_name(name) {
             Some(PassName::Sccp) => Some(PassStep::Sccp(SCCPPass::new())),
             Some(PassName::Dce) => Some(PassStep::Dce(DCEPass::new())),
             Some(PassName::SimplifyCfg) => Some(PassStep::SimplifyCfg(SimplifyCFGPass::new())),
             Some(PassName::Cse) => Some(PassStep::Cse(CSEPass::new())),
-            None => None,
+            Some(PassName::Canonicalize) | None => None,
         }
     }
 }

@@ -60,7 +60,7 @@ impl Words {
     {
         match PassName::from_name(name) {
             Some(PassName::Sccp | PassName::Dce | PassName::SimplifyCfg) => true,
-            Some(_) => matches!(self, Words::All),
+            Some(PassName::Cse | PassName::Canonicalize) => matches!(self, Words::All),
             None => false,
         }
     }
@@ -255,7 +255,7 @@ impl<'w> PipelineText<'w> {
         })
     }
 
-    /// What the word says: names of passes joined by commas; in `nested:..` or `nested(..)` for each operation directly
+    /// What the word says: names of passes (`PassName::LIST`) joined by commas; in `nested:..` or `nested(..)` for each operation directly
     /// inside; and that in `repeat:N:..` or `repeat<N>(..)` for at most N runs, from 1 to 64.
     ///
     /// Errors: the first part of the word that is wrong; allocation failure. Cost: linear in the word.

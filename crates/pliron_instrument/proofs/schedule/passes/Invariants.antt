@@ -1,6 +1,6 @@
 use Rattle.std.proofs.Common.{◌≡◌, map, take}
 use Rattle.either.specs.Either.{either}
-use Rattle.pliron_canonicalize_pass.specs.Canonicalized.{canonicalize_name}
+use Rattle.pliron_pipeline.specs.PassNames.{canonicalize_name}
 use Rattle.pliron_pipeline.specs.PassSteps.{step_name}
 use Rattle.pliron_instrument.proofs.schedule.passes.Given as goal
 
