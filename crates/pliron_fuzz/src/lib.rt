@@ -5,9 +5,9 @@
 #![tactic(auto)]
 
 mod answer;
+mod calls;
 mod runs;
 mod settled;
-mod subexpressions;
 mod tally;
 mod texts;
 mod verdict;

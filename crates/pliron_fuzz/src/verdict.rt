@@ -2,9 +2,9 @@
 ghost use Rattle.std.specs.Prelude.{◌≡◌, IfOk, IsOkUnless};
 
 use crate::answer::{Answer, answer_to};
+use crate::calls::{Call, is_right};
 use crate::runs::runs_are_kept;
 use crate::settled::{is_settled, is_simple_after};
-use crate::subexpressions::subexpressions_are_right;
 use crate::texts::is_printed;
 use pliron_laws::OptError;
 use pliron_random_text::{Kind, Subject};
@@ -34,6 +34,8 @@ pub enum AnswerFault {
     Run,
     #[error("common subexpression elimination leaves some, or changes a run")]
     Subexpressions,
+    #[error("canonicalization leaves something that folds, or changes a run")]
+    Folds,
 }
 
 /// What came of a text.
@@ -78,6 +80,28 @@ fn fault_of_line(
     Ok(None)
 }
 
+// What is wrong with what calls leave of the text, and of the line, for which the program has no words.
+fn fault_of_calls(
+    alloc: Global,
+    subject: &Subject,
+    line: &str,
+) -> Result<Option<AnswerFault>, OptError>
+    ensures { IsOkUnless result OptError.Memory }
+{
+    let is_defined = subject.kind == Kind::Defined;
+    if !is_right(alloc, Call::Cse, &subject.text, is_defined)?
+        || !is_right(alloc, Call::Cse, line, is_defined)?
+    {
+        return Ok(Some(AnswerFault::Subexpressions));
+    }
+    if !is_right(alloc, Call::Canonicalize, &subject.text, is_defined)?
+        || !is_right(alloc, Call::Canonicalize, line, is_defined)?
+    {
+        return Ok(Some(AnswerFault::Folds));
+    }
+    Ok(None)
+}
+
 // What is wrong with what the passes leave of the text, which is the line.
 fn fault_of_passes(
     alloc: Global,
@@ -97,13 +121,7 @@ fn fault_of_passes(
     if subject.kind == Kind::Defined && !runs_are_kept(alloc, &subject.text, line)? {
         return Ok(Some(AnswerFault::Run));
     }
-    let is_defined = subject.kind == Kind::Defined;
-    if !subexpressions_are_right(alloc, &subject.text, is_defined)?
-        || !subexpressions_are_right(alloc, line, is_defined)?
-    {
-        return Ok(Some(AnswerFault::Subexpressions));
-    }
-    Ok(None)
+    fault_of_calls(alloc, subject, line)
 }
 
 // What is wrong with the answer, which is this line.

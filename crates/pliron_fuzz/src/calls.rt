@@ -1,0 +1,106 @@
+//! What calls leave of a text for which the program has no word.
+ghost use Rattle.std.specs.Prelude.{◌≡◌, IsOkUnless};
+ghost use Rattle.pliron_core.specs.Tree.{IsLive};
+ghost use Rattle.pliron_core.specs.Writes.{no_tree};
+ghost use Rattle.pliron_laws.specs.Linked.{IsWellLinked};
+ghost use Rattle.pliron_bench.specs.BenchMoves.{bench};
+
+use crate::runs::runs_are_kept;
+use crate::texts::is_printed;
+use pliron_bench::Bench;
+use pliron_canonicalize::canonicalize;
+use pliron_core::{Context, IRStatus, Operation, Ptr};
+use pliron_cse::cse;
+use pliron_laws::OptError;
+use pliron_notation::{print_text, read_text};
+use std::alloc::Global;
+
+/// One of the calls.
+#[derive(Clone, Copy, Debug, Drop, PartialEq, Eq)]
+pub enum Call {
+    Cse,
+    Canonicalize,
+}
+
+/// What a call leaves of a text that is read: the text before and after, printed, whether the call says that it changed
+/// the tree, and whether a second one does.
+#[derive(Drop)]
+struct Left {
+    before: String,
+    after: String,
+    is_changed: bool,
+    is_changed_again: bool,
+}
+
+// Whether the call says that it changed the tree.
+fn changes(
+    alloc: Global,
+    call: Call,
+    root: Ptr<Operation>,
+    ctx: &mut Context,
+) -> Result<bool, OptError>
+    requires live { IsLive ctx.old.tree root }
+    requires linked { IsWellLinked bench ctx.old.tree root }
+    ensures live { IsLive ctx.new.tree root }
+    ensures linked { IsWellLinked bench ctx.new.tree root }
+    ensures memory { IsOkUnless result OptError.Memory }
+{
+    let status = match call {
+        Call::Cse => cse::<Bench>(alloc, root, ctx)?,
+        Call::Canonicalize => canonicalize::<Bench>(alloc, root, ctx)?,
+    };
+    Ok(status == IRStatus::Changed)
+}
+
+fn call_twice_in(
+    alloc: Global,
+    call: Call,
+    text: &str,
+    ctx: &mut Context,
+) -> Result<Option<Left>, OptError>
+    requires { ctx.old.tree ≡ no_tree }
+    ensures { IsOkUnless result OptError.Memory }
+{
+    let Some(root) = read_text(alloc, text.as_bytes(), ctx)? else {
+        return Ok(None);
+    };
+    let before = print_text(alloc, root, ctx)?;
+    let is_changed = changes(alloc, call, root, ctx)?;
+    let after = print_text(alloc, root, ctx)?;
+    let is_changed_again = changes(alloc, call, root, ctx)?;
+    Ok(Some(Left {
+        before,
+        after,
+        is_changed,
+        is_changed_again,
+    }))
+}
+
+fn call_twice(alloc: Global, call: Call, text: &str) -> Result<Option<Left>, OptError>
+    ensures { IsOkUnless result OptError.Memory }
+{
+    let mut ctx = Context::new(alloc);
+    call_twice_in(alloc, call, text, &mut ctx)
+}
+
+/// Whether the call leaves a text that is read again and printed the same, tells truly whether it changed the tree,
+/// leaves nothing for a second one, and of a well-defined text keeps the runs of its functions; of any other text
+/// common subexpression elimination may leave something. True of a text outside the notation.
+///
+/// Errors: allocation failure. Cost: the call twice, and the runs of each function before and after.
+pub fn is_right(alloc: Global, call: Call, text: &str, is_defined: bool) -> Result<bool, OptError>
+    ensures { IsOkUnless result OptError.Memory }
+{
+    let Some(left) = call_twice(alloc, call, text)? else {
+        return Ok(true);
+    };
+    if left.is_changed == (left.before == left.after)
+        || !is_printed(alloc, &left.after, &left.after)?
+    {
+        return Ok(false);
+    }
+    if !is_defined {
+        return Ok(call == Call::Cse || !left.is_changed_again);
+    }
+    Ok(!left.is_changed_again && runs_are_kept(alloc, text, &left.after)?)
+}
