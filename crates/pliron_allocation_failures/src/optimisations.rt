@@ -5,6 +5,7 @@ ghost use Rattle.pliron_laws.specs.Linked.{IsWellLinked};
 
 use crate::observation::Observation;
 use pliron_bench::Bench;
+use pliron_canonicalize::canonicalize;
 use pliron_cfg::simplify_cfg;
 use pliron_core::{Context, IRStatus, Operation, Ptr};
 use pliron_cse::cse;
@@ -68,7 +69,16 @@ cse | func { b0(x): sink x; scope x { b0(p): sink x; sink p; sink p; ret }; ret 
     | func { b0(v0): sink v0; scope v0 { b0(v1): sink v1; sink v1; ret }; ret } \
     | func { b0(v0): sink v0; scope v0 { b0(v1): sink v1; ret }; ret }
 cse | func { b0(x): r = read; cbr r b1() b2(); b1(): a = add x x; ret a; b2(): b = add x x; ret b } \
-    | func { b0(v0): v1 = read; cbr v1 b1() b2(); b1(): v2 = add v0 v0; ret v2; b2(): v3 = add v0 v0; ret v3 }";
+    | func { b0(v0): v1 = read; cbr v1 b1() b2(); b1(): v2 = add v0 v0; ret v2; b2(): v3 = add v0 v0; ret v3 }
+canonicalize | func { b0(x): z = const 0; a = mul x z; b = div a x; ret a b } \
+    | func { b0(v0): v1 = const 0; v2 = mul v0 v1; v3 = div v2 v0; ret v2 v3 } \
+    | func { b0(v0): v1 = const 0; v2 = mul v0 v1; v3 = div v1 v0; ret v1 v3 } \
+    | func { b0(v0): v1 = const 0; v2 = mul v0 v1; v3 = div v1 v0; ret v1 v1 }
+canonicalize | func { b0(x): a = div x x; br b1(a); b1(p): ret p p } \
+    | func { b0(v0): v1 = div v0 v0; br b1(v1); b1(v2): ret v2 v2 } \
+    | func { b0(v0): v1 = const 1; v2 = div v0 v0; br b1(v1); b1(v3): ret v3 v3 } \
+    | func { b0(v0): v1 = div v0 v0; br b1(v1); b1(v2): ret v1 v1 } \
+    | func { b0(v0): v1 = const 1; v2 = div v0 v0; br b1(v1); b1(v3): ret v1 v1 }";
 
 // Runs the optimisation of this name.
 fn run(
@@ -84,6 +94,7 @@ fn run(
         "sccp" => sccp::<Bench>(alloc, root, ctx),
         "dce" => dce::<Bench>(alloc, root, ctx),
         "cse" => cse::<Bench>(alloc, root, ctx),
+        "canonicalize" => canonicalize::<Bench>(alloc, root, ctx),
         _ => simplify_cfg::<Bench>(alloc, root, ctx),
     }
 }
