@@ -121,12 +121,16 @@ fn rewritten_rows(rt: &impl Abort, alloc: Global, report: &str) -> String {
 /// a branch is defined in the place of a condition. In the third it goes again as its block is joined, `print` and
 /// `ret` take `x`, and the last branches go.
 static REWRITTEN: &str = "\
-sccp,dce,simplify-cfg | func { b0(): c = const 1; x = const 5; cbr c b1(x) b2(); b1(p): br b3(p); b2(): y = const 6; br b3(y); b3(q): ret q } => sccp 2 0 0 2 0 0 dce 0 3 0 3 0 2 simplify-cfg 0 3 2 0 3 0
-simplify-cfg | func { b0(x): c = const 1; cbr c b1(x) b2(); b1(p): cbr p b1(p) b2(); b2(): ret } => simplify-cfg 1 1 0 0 0 0
-simplify-cfg | func { b0(x): c = const 1; cbr c b1(x) b2(x); b1(p): print p; br b3(p); b2(q): print q; br b3(q); b3(r): ret r } => simplify-cfg 0 4 2 2 3 3
+sccp,dce,simplify-cfg | func { b0(): c = const 1; x = const 5; cbr c b1(x) b2(); b1(p): br b3(p); b2(): y = const 6; \
+    br b3(y); b3(q): ret q } => sccp 2 0 0 2 0 0 dce 0 3 0 3 0 2 simplify-cfg 0 3 2 0 3 0
+simplify-cfg | func { b0(x): c = const 1; cbr c b1(x) b2(); b1(p): cbr p b1(p) b2(); b2(): ret } => \
+    simplify-cfg 1 1 0 0 0 0
+simplify-cfg | func { b0(x): c = const 1; cbr c b1(x) b2(x); b1(p): print p; br b3(p); b2(q): print q; br b3(q); \
+    b3(r): ret r } => simplify-cfg 0 4 2 2 3 3
 dce | func { b0(x, y): br b1(x, y, x); b1(p, q, r): print q; ret } => dce 0 0 0 2 0 2
 simplify-cfg | func { b0(): ret; b1(x): scope x { b2(y): z = add y y; ret z }; ret } => simplify-cfg 0 4 0 0 2 2
-nested(sccp) | mod { b0(): func { b0(): a = const 2; b = mul a a; ret b }; func { b0(): a = const 3; b = add a a; print b; ret b } } => sccp 2 0 0 3 0 0";
+nested(sccp) | mod { b0(): func { b0(): a = const 2; b = mul a a; ret b }; func { b0(): a = const 3; b = add a a; \
+    print b; ret b } } => sccp 2 0 0 3 0 0";
 
 #[test]
 fn what_was_rewritten(rt: HostRuntime) {
@@ -151,8 +155,10 @@ fn verifying_and_times(rt: HostRuntime) {
     expect_report(&rt, alloc, "func { b0(): ret }", &options, wanted);
     let mut options = plain("dce,simplify-cfg");
     options.times = true;
-    let wanted =
-        "pass             runs milliseconds  percent|dce                 1        0.000    0.0|simplify-cfg        1        0.000    0.0|all                 2        0.000    0.0|";
+    let wanted = "pass             runs milliseconds  percent|\
+        dce                 1        0.000    0.0|\
+        simplify-cfg        1        0.000    0.0|\
+        all                 2        0.000    0.0|";
     expect_report(&rt, alloc, "func { b0(): ret }", &options, wanted);
 }
 
@@ -160,28 +166,40 @@ fn verifying_and_times(rt: HostRuntime) {
 /// it has no place. In the fourth the pass runs on each function, and the second one is refused.
 static REFUSED: &str = "\
 dce,simplify-cfg | func { b0(): c = const 0; cbr c b1() b2(); b1(): v = const 1; br b2(); b2(): print v; ret } => \
-    error: refused: a value of an unreachable block is used| --> in.plir:1:78|  ||1 | .. br c b1() b2(); b1(): v = const 1; br b2(); b2(): print v; ret }|  \
-    |                                                      ^^^^^^^ operand 1, `v`, is defined in a block that isn't reached|\
-    help: define the value in a block that is reached, or pass it as an argument of a block|note: `v` is defined here| --> in.plir:1:50|  ||1 | \
-    func { b0(): c = const 0; cbr c b1() b2(); b1(): v = const 1; br b2(); b2(): print v; ret }|  |                                                  ^|\
+    error: refused: a value of an unreachable block is used| --> in.plir:1:78|  ||1 | \
+    .. br c b1() b2(); b1(): v = const 1; br b2(); b2(): print v; ret }|  \
+    |                                                      \
+    ^^^^^^^ operand 1, `v`, is defined in a block that isn't reached|\
+    help: define the value in a block that is reached, or pass it as an argument of a block|\
+    note: `v` is defined here| --> in.plir:1:50|  ||1 | \
+    func { b0(): c = const 0; cbr c b1() b2(); b1(): v = const 1; br b2(); b2(): print v; ret }|  \
+    |                                                  ^|\
     note: it was the pass simplify-cfg|
-simplify-cfg | func { b0(): c = const 1; cbr c b1(v) b1(c); b1(p): ret p; b2(): v = read } => error: refused: a value of an unreachable block is used| \
-    --> in.plir:1:66|  ||1 | .. = const 1; cbr c b1(v) b1(c); b1(p): ret p; b2(): v = read }|  |                                                      \
+simplify-cfg | func { b0(): c = const 1; cbr c b1(v) b1(c); b1(p): ret p; b2(): v = read } => \
+    error: refused: a value of an unreachable block is used| --> in.plir:1:66|  ||1 | \
+    .. = const 1; cbr c b1(v) b1(c); b1(p): ret p; b2(): v = read }|  \
+    |                                                      \
     ^ `v` is defined here, where nothing leads; an operation that a pass made takes it|\
-    help: define the value in a block that is reached, or pass it as an argument of a block|note: it was the pass simplify-cfg|
+    help: define the value in a block that is reached, or pass it as an argument of a block|\
+    note: it was the pass simplify-cfg|
 simplify-cfg | func { b0(): scope { c0(): ret q; c1(q): scope { d0(r): ret r }; ret q }; ret } => \
     error: refused: a value of an unreachable block is used| --> in.plir:1:28|  ||1 | \
     func { b0(): scope { c0(): ret q; c1(q): scope { d0(r): ret r }; ret q }; ret }|  |                            \
     ^^^^^ operand 1, `q`, is defined in a block that isn't reached|\
-    help: define the value in a block that is reached, or pass it as an argument of a block|note: `q` is defined here| --> in.plir:1:38|  ||1 | \
-    func { b0(): scope { c0(): ret q; c1(q): scope { d0(r): ret r }; ret q }; ret }|  |                                      ^|\
+    help: define the value in a block that is reached, or pass it as an argument of a block|\
+    note: `q` is defined here| --> in.plir:1:38|  ||1 | \
+    func { b0(): scope { c0(): ret q; c1(q): scope { d0(r): ret r }; ret q }; ret }|  \
+    |                                      ^|\
     note: it was the pass simplify-cfg|
 nested(simplify-cfg) | mod { m(): func { a(): ret }; func { b(): ret v; c(): v = read; ret } } => \
     error: refused: a value of an unreachable block is used| --> in.plir:1:43|  ||1 | \
-    mod { m(): func { a(): ret }; func { b(): ret v; c(): v = read; ret } }|  |                                           \
+    mod { m(): func { a(): ret }; func { b(): ret v; c(): v = read; ret } }|  \
+    |                                           \
     ^^^^^ operand 1, `v`, is defined in a block that isn't reached|\
-    help: define the value in a block that is reached, or pass it as an argument of a block|note: `v` is defined here| --> in.plir:1:55|  ||1 | \
-    .. { m(): func { a(): ret }; func { b(): ret v; c(): v = read; ret } }|  |                                                      ^|\
+    help: define the value in a block that is reached, or pass it as an argument of a block|\
+    note: `v` is defined here| --> in.plir:1:55|  ||1 | \
+    .. { m(): func { a(): ret }; func { b(): ret v; c(): v = read; ret } }|  \
+    |                                                      ^|\
     note: it was the pass simplify-cfg|";
 
 #[test]
