@@ -7,6 +7,10 @@ use std::process::Abort;
 static HEAD: &str =
     "digraph flow {\n  node [shape=\"box\", fontname=\"monospace\"];\n  edge [fontname=\"monospace\"];\n";
 
+/// What one of blocks alone begins with.
+static SMALL_HEAD: &str = "digraph flow {\n  node [shape=\"box\", fontname=\"monospace\", height=\"0.25\", \
+    margin=\"0.06\"];\n  edge [fontname=\"monospace\"];\n";
+
 static END: &str = "}\n";
 
 fn draw_region(rt: &impl Abort, alloc: Global, region: &str, text: &str) -> Outcome {
@@ -27,9 +31,10 @@ fn draw_region(rt: &impl Abort, alloc: Global, region: &str, text: &str) -> Outc
     draw_flow(alloc, &source, &options).expect(rt, "memory")
 }
 
-// The lines in the order of the picture, each behind a bar, where `'` stands for a quote and `/` for a backslash.
-fn lines_of(rt: &impl Abort, alloc: Global, lines: &str) -> String {
-    let mut text = String::from_str(alloc, HEAD).expect(rt, "memory");
+// The picture: its head, and its lines in order, each behind a bar, where `'` stands for a quote and `/` for a
+// backslash.
+fn lines_of(rt: &impl Abort, alloc: Global, head: &str, lines: &str) -> String {
+    let mut text = String::from_str(alloc, head).expect(rt, "memory");
     for line in lines.split('|') {
         text.push_str("  ").expect(rt, "memory");
         for letter in line.chars() {
@@ -60,11 +65,13 @@ static PICTURES: &str = "\
 0 => func { a(): ret; lost(): x = const 1; br a() } => 0 [label='a():/lret/l', peripheries='2']|1 [label='lost():/lx = const 1/lbr a()/l', color='grey', fontcolor='grey']|1 -> 0 [color='grey', fontcolor='grey']
 0 => mod { m(): func { f(): ret }; func { g(): ret } } => 0 [label='m():/lfunc { 0.0.0 }/lfunc { 0.1.0 }/l', peripheries='2']
 0.1.0 => mod { m(): func { f(): ret }; func { g(): ret } } => 2 [label='g():/lret/l', peripheries='2']
+-0 => func { a(x): br b(x); b(y): ret y } => graph [label='T', labelloc='t', fontname='monospace']|0 [label='a(x)', \
+    peripheries='2']|1 [label='b(y)']|0 -> 1 [label=' x ']
 +0 => mod { m(): func { f(): box { b(): ret }; ret }; func { g(): ret } } => 0 [label='m():/lfunc { 0.0.0 \
-    }/lfunc { 0.1.0 }/l', peripheries='2']|subgraph cluster0 {|graph [label='0.0.0', labelloc='t']|1 \
-    [label='f():/lbox { 0.0.0.0.0 }/lret/l', peripheries='2']|subgraph cluster1 {|graph [label='0.0.0.0.0', \
-    labelloc='t']|2 [label='b():/lret/l', peripheries='2']|}|}|subgraph cluster2 {|graph [label='0.1.0', \
-    labelloc='t']|3 [label='g():/lret/l', peripheries='2']|}";
+    }/lfunc { 0.1.0 }/l', peripheries='2']|subgraph cluster0 {|graph [label='0.0.0', labelloc='t', \
+    fontname='monospace']|1 [label='f():/lbox { 0.0.0.0.0 }/lret/l', peripheries='2']|subgraph cluster1 {|graph \
+    [label='0.0.0.0.0', labelloc='t', fontname='monospace']|2 [label='b():/lret/l', peripheries='2']|}|}|subgraph \
+    cluster2 {|graph [label='0.1.0', labelloc='t', fontname='monospace']|3 [label='g():/lret/l', peripheries='2']|}";
 
 #[test]
 fn flows_are_drawn(rt: HostRuntime) {
@@ -72,7 +79,12 @@ fn flows_are_drawn(rt: HostRuntime) {
         let (region, rest) = case.split_once(" => ").expect(&rt, "a case");
         let (text, lines) = rest.split_once(" => ").expect(&rt, "a case");
         let outcome = draw_region(&rt, rt.alloc(), region, text);
-        let wanted = lines_of(&rt, rt.alloc(), lines);
+        let head = if region.starts_with('-') {
+            SMALL_HEAD
+        } else {
+            HEAD
+        };
+        let wanted = lines_of(&rt, rt.alloc(), head, lines);
         assert_eq!(rt;
             std::str::from_utf8(&outcome.output).unwrap_or(""),
             wanted.as_str(),

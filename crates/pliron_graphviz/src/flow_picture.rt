@@ -373,8 +373,8 @@ impl FlowPicture<'_> {
     }
 }
 
-// What is said of a graph or a frame: what stands above it.
-fn title_of(title: &str) -> [Attribute<'_>; 2] {
+// What is said of a graph or a frame: what stands above it, in the letters of the rest.
+fn title_of(title: &str) -> [Attribute<'_>; 3] {
     [
         Attribute {
             name: "label",
@@ -383,6 +383,10 @@ fn title_of(title: &str) -> [Attribute<'_>; 2] {
         Attribute {
             name: "labelloc",
             value: "t",
+        },
+        Attribute {
+            name: "fontname",
+            value: "monospace",
         },
     ]
 }
