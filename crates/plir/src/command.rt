@@ -255,8 +255,8 @@ fn color<'a>(alloc: Global) -> Arg<'a> {
 
 /// The statuses of `check`.
 static CHECK_STATUSES: &str =
-    "Statuses: 0 where the text is fit to run; 1 where memory was refused; 2 for words, files and texts that \
-     can't be used; 3 where it isn't fit.";
+    "Statuses: 0 where the text, or each function of a `mod`, is fit to run; 1 where memory was refused; 2 for \
+     words, files and texts that can't be used; 3 where it isn't fit.";
 
 fn check<'a>(alloc: Global) -> Result<Command<'a>, AllocError> {
     let check = Command::new(alloc, "check")

@@ -19,8 +19,8 @@ use Rattle.pliron_cli.specs.declared.comparing.Sights.{Sights}
 use Rattle.pliron_cli.specs.Asked.{EndsByPlan, EndsByPlan.ByPasses, EndsByPlan.WithoutPasses, EndsByWord, EndsByWord.ByPlan, EndsByWord.WithoutPlan}
 use Rattle.pliron_fit.specs.declared.violation.Violation.{Violation}
 use Rattle.pliron_cli.specs.declared.checking.Checked.{Checked}
-use Rattle.pliron_cli.specs.declared.checking.Checked.TheVariants.{Fit, Unfit}
-use Rattle.pliron_cli.specs.Checked.{IsChecked, IsFitText, IsUnfitText, fit_line}
+use Rattle.pliron_cli.specs.declared.checking.Checked.TheVariants.{Fit, FitByParts, Unfit}
+use Rattle.pliron_cli.specs.Checked.{IsChecked, IsWholeText, IsFitText, IsUnfitText, IsToldFit, IsToldFit.SaysWhole, IsToldFit.SaysParts, fit_line, parts_line}
 use Rattle.pliron_cli.specs.Compared.{AreSeen, are_same, is_cut_off, EndsWith, EndsCompared}
 use Rattle.pliron_cli.specs.Likeness.{IsLikeness, IsTold, IsToldOther, last_line, status_for}
 use Rattle.pliron_cli.specs.Optimised.{IsLaidOut, IsMade, EndsOptimised}
@@ -31,20 +31,32 @@ ends_by o (inl e) = Says tt e
 ends_by o (inr e) = Denies tt e
 
 -- what was found of a text
-pub fit_when : (reads : Reads) (m : Meaning) (text : List ℕ) (found : Checked) → found ≡ Fit → IsChecked reads m text found → IsFitText reads m text
-fit_when reads m text found is said = subst (IsChecked reads m text) is said
+pub whole_when : (reads : Reads) (m : Meaning) (text : List ℕ) (found : Checked) → found ≡ Fit → IsChecked reads m text found → IsWholeText reads m text
+whole_when reads m text found is said = subst (IsChecked reads m text) is said
 
-pub unfit_when : (reads : Reads) (m : Meaning) (text : List ℕ) (found : Checked) (root : ℕ) (violation : Violation) → found ≡ Unfit root violation → IsChecked reads m text found → IsUnfitText reads m text
-unfit_when reads m text found root violation is said =
-    let so : IsChecked reads m text (Unfit root violation) = subst (IsChecked reads m text) is said in
-    record { tree = so.0; root = root; violation = violation; read = so.1; wrong = so.2 }
+pub parts_when : (reads : Reads) (m : Meaning) (text : List ℕ) (found : Checked) → found ≡ FitByParts → IsChecked reads m text found → IsFitText reads m text
+parts_when reads m text found is said = subst (IsChecked reads m text) is said
+
+pub unfit_when : (reads : Reads) (m : Meaning) (text : List ℕ) (found : Checked) (part : ℕ) (violation : Violation) → found ≡ Unfit part violation → IsChecked reads m text found → IsUnfitText reads m text
+unfit_when reads m text found part violation is said =
+    let so : IsChecked reads m text (Unfit part violation) = subst (IsChecked reads m text) is said in
+    record { tree = so.0; root = so.1; part = part; violation = violation; read = so.2; unfit = so.3; wrong = so.4 }
 
 -- how a check ends
-pub says_fit : (reads : Reads) (m : Meaning) (text : List ℕ) (o : Outcome) → IsFitText reads m text → o.output.items ≡ fit_line → o.status ≡ 0 → Ends (IsFitText reads m text × (o.output.items ≡ fit_line)) (IsUnfitText reads m text × (o.output.items ≡ [])) o
-says_fit reads m text o fit line e = Says (fit, line) e
+module _ (reads : Reads) (m : Meaning) (text : List ℕ) where
+  abbrev pub EndsChecked : Outcome → Type 0
+  EndsChecked o = Ends (IsToldFit reads m text o.output.items) (IsUnfitText reads m text × (o.output.items ≡ [])) o
 
-pub says_unfit : (reads : Reads) (m : Meaning) (text : List ℕ) (o : Outcome) → IsUnfitText reads m text → o.output.items ≡ [] → o.status ≡ 3 → Ends (IsFitText reads m text × (o.output.items ≡ fit_line)) (IsUnfitText reads m text × (o.output.items ≡ [])) o
-says_unfit reads m text o unfit none e = Denies (unfit, none) e
+  pub says_whole : {E : Type 0} (r : Result Outcome E) → IsWholeText reads m text → IfOk r (λ o. o.output.items ≡ fit_line) → IfOk r (λ o. o.status ≡ 0) → IfOk r EndsChecked
+  says_whole (Ok o) whole line e = Says (SaysWhole whole line) e
+  says_whole (Err x) whole line e = tt
+
+  pub says_parts : {E : Type 0} (r : Result Outcome E) → IsFitText reads m text → IfOk r (λ o. o.output.items ≡ parts_line) → IfOk r (λ o. o.status ≡ 0) → IfOk r EndsChecked
+  says_parts (Ok o) parts line e = Says (SaysParts parts line) e
+  says_parts (Err x) parts line e = tt
+
+  pub says_unfit : (o : Outcome) → IsUnfitText reads m text → o.output.items ≡ [] → o.status ≡ 3 → EndsChecked o
+  says_unfit o unfit none e = Denies (unfit, none) e
 
 -- two runs of one tree before and after
 pub are_seen : (reads : Reads) (m : Meaning) (inputs world : List Datum) (steps : ℕ) (ran : ℕ → Tree → Tree → IRStatus → Type 0) (text : List ℕ) (sights : Sights) (before after : Tree) (root : ℕ) (status : IRStatus) → reads text before root → ran root before after status → DoAsBefore m before after → sight_of sights.before ≡ sight_after (run m before root inputs world steps) → sight_of sights.after ≡ sight_after (run m after root inputs world steps) → AreSeen reads m inputs world steps ran text sights

@@ -1,3 +1,4 @@
 pub mod CommandLemmas
 pub mod EndingLemmas
+pub mod PartLemmas
 pub mod StrictLemmas

@@ -7,34 +7,61 @@ use Rattle.pliron_opts.specs.Answered.{Reads}
 use Rattle.pliron_fit.specs.Violation.{IsViolation}
 use Rattle.pliron_fit.specs.declared.violation.Violation.{Violation}
 use Rattle.pliron_cli.specs.declared.checking.Checked.{Checked}
-use Rattle.pliron_cli.specs.declared.checking.Checked.TheVariants.{Unreadable, Fit, Unfit}
+use Rattle.pliron_cli.specs.declared.checking.Checked.TheVariants.{Unreadable, Fit, FitByParts, Unfit}
+use Rattle.pliron_cli.specs.declared.checking.Finding.{Finding}
+use Rattle.pliron_cli.specs.declared.checking.Finding.TheVariants.{Whole, ByParts, Wrong}
 use Rattle.pliron_cli.specs.declared.outcome.Outcome.{Outcome}
+use Rattle.pliron_cli.specs.Parts.{IsFitByParts}
 
--- what is written of a text whose operation is fit to run
+-- what is written of a text whose operation is fit to run, and of one whose operation is only so by its parts
 abbrev pub fit_line : List ℕ
 fit_line = codes "well linked and fit to run" ++ 10 ∷ []
 
+abbrev pub parts_line : List ℕ
+parts_line = codes "fit to run, each part by itself" ++ 10 ∷ []
+
 module _ (reads : Reads) (m : Meaning) (text : List ℕ) where
   -- an operation was read of the text, and is fit to run
-  pub record IsFitText : Type 0 where
+  pub record IsWholeText : Type 0 where
     pub tree : Tree
     pub root : ℕ
     pub read : reads text tree root
     pub fit : IsFit m tree root
 
-  -- one was read of it, and something keeps it from being fit to run
+  -- one was read of it, and is fit by its parts
+  pub record IsFitText : Type 0 where
+    pub tree : Tree
+    pub root : ℕ
+    pub read : reads text tree root
+    pub fit : IsFitByParts m tree root
+
+  -- one was read of it that isn't, since something keeps it, or a part of it, from being fit to run
   pub record IsUnfitText : Type 0 where
     pub tree : Tree
     pub root : ℕ
+    pub part : ℕ
     pub violation : Violation
     pub read : reads text tree root
-    pub wrong : IsViolation m tree root violation
+    pub unfit : IsFitByParts m tree root → ⊥
+    pub wrong : IsViolation m tree part violation
 
   -- of a text that is called unreadable nothing is said
   abbrev pub IsChecked : Checked → Type 0
   IsChecked Unreadable = Unit {0}
-  IsChecked Fit = IsFitText
-  IsChecked (Unfit root violation) = (tree : Tree) × reads text tree root × IsViolation m tree root violation
+  IsChecked Fit = IsWholeText
+  IsChecked FitByParts = IsFitText
+  IsChecked (Unfit part violation) = (tree : Tree) × (root : ℕ) × reads text tree root × (IsFitByParts m tree root → ⊥) × IsViolation m tree part violation
+
+  -- what is told of a text that was read
+  abbrev pub IsFinding : Finding → Type 0
+  IsFinding Whole = IsWholeText
+  IsFinding ByParts = IsFitText
+  IsFinding (Wrong told) = IsUnfitText
+
+  -- it is fit by its parts, and the line that is written says whether as a whole
+  pub data IsToldFit (output : List ℕ) : Type 0 where
+    SaysWhole : IsWholeText → output ≡ fit_line → IsToldFit output
+    SaysParts : IsFitText → output ≡ parts_line → IsToldFit output
 
   -- something keeps it from being fit to run, and nothing is to be written
   pub record IsRejected (o : Outcome) : Type 0 where

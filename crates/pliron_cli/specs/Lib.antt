@@ -4,3 +4,4 @@ pub mod Compared
 pub mod Likeness
 pub mod Optimised
 pub mod Outcomes
+pub mod Parts

@@ -1,86 +1,105 @@
 //! What stands in operations at which no run begins, one by one.
-ghost use Rattle.std.specs.Prelude.{IfOk, IfSome};
+ghost use Rattle.std.specs.Prelude.{◌≡◌, ◌↔◌, None, IfOk, IfSome, IsTrue};
+ghost use Rattle.pliron_core.specs.Tree.{IsLive};
+ghost use Rattle.pliron_theory.specs.Keeps.{IsFit};
 ghost use Rattle.pliron_fit.specs.Violation.{IsViolation};
+ghost use Rattle.pliron_cli.specs.Parts.{AreFitParts, IsContainer, IsFitByParts, IsInContainer, IsPart};
 
 use pliron_core::{Context, Operation, Ptr};
 use pliron_fit::{Violation, find_violation};
-use pliron_laws::reads::{all_operations, push_layouts};
 use pliron_laws::{Dialect, OptError};
-use std::alloc::{AllocError, Global};
+use pliron_walks::Contents;
+use std::alloc::Global;
 
-/// Whether the violation is that the operation itself has a region in which definitions need not come before uses, as a
-/// `mod` has, so that what stands directly inside runs by itself. Cost: constant.
-pub(crate) fn is_container(violation: &Violation, op: Ptr<Operation>, ctx: &Context) -> bool {
-    match violation {
-        Violation::NoDominance(region) if region.is_live(ctx) => region.get_parent_op(ctx) == op,
-        _ => false,
+/// Whether the operation has a region in which definitions need not come before uses, as a `mod` has, so that what
+/// stands directly inside runs by itself. Asks that it stands. Cost: linear in its regions.
+pub(crate) fn is_container(op: Ptr<Operation>, ctx: &Context) -> bool
+    requires { IsLive ctx.now.tree op }
+    ensures { IsTrue result ↔ IsContainer ctx.now.tree op }
+{
+    for i in 0..op.num_region(ctx) {
+        if !op.get_region(ctx, i).has_ssa_dominance(ctx) {
+            return true;
+        }
+    }
+    false
+}
+
+// Whether the operation stands directly inside a container.
+fn is_in_container(op: Ptr<Operation>, ctx: &Context) -> bool
+    requires { IsLive ctx.now.tree op }
+    ensures { IsTrue result ↔ IsInContainer ctx.now.tree op }
+{
+    match op.get_parent_op(ctx) {
+        Some(holder) => is_container(holder, ctx),
+        None => false,
     }
 }
 
-/// Operations that are yet to be checked.
-#[derive(Drop)]
-struct Unchecked {
+// Whether runs begin at the operation by itself, since it stands in a container.
+fn is_part(op: Ptr<Operation>, ctx: &Context) -> bool
+    requires { IsLive ctx.now.tree op }
+    ensures { IsTrue result ↔ IsPart ctx.now.tree op }
+{
+    is_in_container(op, ctx) && op.num_region(ctx) != 0 && !is_container(op, ctx)
+}
+
+// What keeps the operation, if it is a part, from being fit to run. Errors: allocation failure.
+fn part_violation<D: Dialect>(
     alloc: Global,
-    operations: Vec<Ptr<Operation>>,
-}
-
-impl Unchecked {
-    // Takes in what stands directly inside the operation.
-    fn add_inside(&mut self, op: Ptr<Operation>, ctx: &Context) -> Result<(), AllocError> {
-        if !op.is_live(ctx) {
-            return Ok(());
-        }
-        let mut blocks = Vec::new(self.alloc);
-        push_layouts(op, ctx, &mut blocks)?;
-        for block in blocks.iter().rev() {
-            if block.is_live(ctx) {
-                let inside = all_operations(self.alloc, *block, ctx)?;
-                for inner in inside.iter().rev() {
-                    self.operations.push(*inner)?;
-                }
-            }
-        }
-        Ok(())
-    }
-
-    // The first of the operations that isn't fit to run, with what keeps it from that; of a container the first
-    // directly inside it.
-    fn first_unfit<D: Dialect>(
-        &mut self,
-        ctx: &Context,
-    ) -> Result<Option<(Ptr<Operation>, Violation)>, OptError>
-        ensures { IfOk result (λ found. IfSome found (λ it. IsViolation D.meaning ctx.now.tree it.0 it.1)) }
-    {
-        for _ in 0..u64::MAX {
-            let Some(op) = self.operations.pop() else {
-                return Ok(None);
-            };
-            if !op.is_live(ctx) {
-                continue;
-            }
-            match find_violation::<D>(self.alloc, op, ctx)? {
-                None => {}
-                Some(violation) if is_container(&violation, op, ctx) => self.add_inside(op, ctx)?,
-                Some(violation) => return Ok(Some((op, violation))),
-            }
-        }
+    op: Ptr<Operation>,
+    ctx: &Context,
+) -> Result<Option<Violation>, OptError>
+    requires { IsLive ctx.now.tree op }
+    ensures none { IfOk result (λ r. (r ≡ None) ↔ (IsPart ctx.now.tree op → IsFit D.meaning ctx.now.tree op)) }
+    ensures some { IfOk result (λ r. IfSome r (λ violation. IsViolation D.meaning ctx.now.tree op violation)) }
+{
+    if is_part(op, ctx) {
+        find_violation::<D>(alloc, op, ctx)
+    } else {
         Ok(None)
     }
 }
 
-/// What keeps the operation from being fit to run, or, of a `mod`, the first of what stands directly inside it, one by
-/// one. Errors: allocation failure. Cost: that of `find_violation` for each that is looked at.
+// The first part inside the operation that isn't fit to run, with what keeps it from that. Errors: allocation failure.
+#[tactic(auto, using(crate::proofs::PartLemmas::search_begins, crate::proofs::PartLemmas::search_goes_on, crate::proofs::PartLemmas::search_ends))]
+fn first_unfit_part<D: Dialect>(
+    alloc: Global,
+    root: Ptr<Operation>,
+    ctx: &Context,
+) -> Result<Option<(Ptr<Operation>, Violation)>, OptError>
+    requires { IsLive ctx.now.tree root }
+    ensures none { IfOk result (λ found. (found ≡ None) ↔ AreFitParts D.meaning ctx.now.tree root) }
+    ensures some { IfOk result (λ found. IfSome found (λ it. IsViolation D.meaning ctx.now.tree it.0 it.1)) }
+{
+    ctx.contents_agree();
+    ctx.well_formed();
+    for op in Contents::new(root, ctx) {
+        if let Some(violation) = part_violation::<D>(alloc, op, ctx)? {
+            return Ok(Some((op, violation)));
+        }
+    }
+    Ok(None)
+}
+
+/// What keeps the operation from being fit to run, or, of a container, the first of the parts inside it, with the
+/// operation that it keeps from that; `None` exactly if it is fit by its parts. Asks that it stands. Errors: allocation
+/// failure. Cost: linear in what is inside, and that of `find_violation` for each part.
+#[tactic(auto, using(crate::proofs::PartLemmas::fit_whole, crate::proofs::PartLemmas::fit_parts))]
 pub(crate) fn first_unfit<D: Dialect>(
     alloc: Global,
     root: Ptr<Operation>,
     ctx: &Context,
 ) -> Result<Option<(Ptr<Operation>, Violation)>, OptError>
-    ensures { IfOk result (λ found. IfSome found (λ it. IsViolation D.meaning ctx.now.tree it.0 it.1)) }
+    requires { IsLive ctx.now.tree root }
+    ensures none { IfOk result (λ found. (found ≡ None) ↔ IsFitByParts D.meaning ctx.now.tree root) }
+    ensures some { IfOk result (λ found. IfSome found (λ it. IsViolation D.meaning ctx.now.tree it.0 it.1)) }
 {
-    let mut unchecked = Unchecked {
-        alloc,
-        operations: Vec::new(alloc),
-    };
-    unchecked.operations.push(root)?;
-    unchecked.first_unfit::<D>(ctx)
+    if is_container(root, ctx) {
+        return first_unfit_part::<D>(alloc, root, ctx);
+    }
+    match find_violation::<D>(alloc, root, ctx)? {
+        Some(violation) => Ok(Some((root, violation))),
+        None => Ok(None),
+    }
 }

@@ -6,7 +6,7 @@ ghost use Rattle.pliron_cli.specs.Asked.{EndsByWord};
 ghost use Rattle.pliron_cli.specs.Checked.{IsFitText, IsRejected};
 ghost use Rattle.pliron_cli.specs.Optimised.{EndsOptimised};
 
-use crate::checking::find_message;
+use crate::checking::{Finding, find_message};
 use crate::failure::CommandFailure;
 use crate::one_by_one::first_unfit;
 use crate::optimising::{OptOptions, opt, opt_after};
@@ -71,12 +71,12 @@ fn opt_if_fit<N: Shown, C: Progress + Copy + Drop>(
     ensures fit { IfOk result (λ outcome. outcome.status ≡ 0 → IsFitText N.reads N.D.meaning source.now.text.now) }
 {
     match find_message::<N>(alloc, source) {
-        Ok(Some(None)) => opt::<N, C>(alloc, source, options, clock),
-        Ok(Some(Some(report))) => Ok(Outcome {
+        Ok(Some(Finding::Wrong(report))) => Ok(Outcome {
             output: Vec::new(alloc),
             report,
             status: 3,
         }),
+        Ok(Some(_)) => opt::<N, C>(alloc, source, options, clock),
         Ok(None) => failure_outcome::<N>(alloc, CommandFailure::Text, source),
         Err(error) => failure_outcome::<N>(alloc, CommandFailure::Refused(error), source),
     }

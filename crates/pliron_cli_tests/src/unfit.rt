@@ -1,4 +1,4 @@
-//! Texts that aren't fit to run: what `check` tells of each, and what `opt` warns of.
+//! Texts that are fit to run and texts that aren't: what `check` tells of each, and what `opt` warns of.
 use crate::optimised::plain;
 use pliron_cli::{BenchNotation, Source, check, opt_with_check};
 use pliron_instrument::Timeless;
@@ -13,9 +13,7 @@ func { b0(c): cbr c b1() b2(); b1(): x = const 1; br b2(); b2(): print x; ret } 
 func { b0(x): br b1(); b1(y): ret } => an edge passes another number of values than its block takes|--> in.plir:1:15|^^^^^^^ edge 1 passes 0, and its block takes 1|note: this block takes 1|--> in.plir:1:24
 func { b0(c): cbr c b1(c, c) b2(); b1(y): ret; b2(): ret } => an edge passes another number of values than its block takes|--> in.plir:1:15|edge 1 passes 2, and its block takes 1|note: this block takes 1|--> in.plir:1:36
 mod { m(): func { b0(): ret }; func { b0(): x = add y y; y = const 4; ret x } } => an operand isn't defined on each way to this operation|--> in.plir:1:45
-mod { m(): mod { n(): func { b0(x): br b1(); b1(y): ret } } } => an edge passes another number of values than its block takes|--> in.plir:1:37
-mod { m(): func { b0(): ret } } => a region in which definitions need not come before uses|--> in.plir:1:1|^^^ this operation has such a region|note: what stands directly inside is fit to run, each by itself
-mod { } => a region in which definitions need not come before uses|--> in.plir:1:1|^^^ this operation has such a region";
+mod { m(): mod { n(): func { b0(x): br b1(); b1(y): ret } } } => an edge passes another number of values than its block takes|--> in.plir:1:37";
 
 // Each of the parts stands in what is told.
 fn expect_parts(rt: &impl Abort, text: &str, told: &str, wanted: &str) {
@@ -82,6 +80,34 @@ fn opt_warns(rt: HostRuntime) {
     }
 }
 
+/// Texts that are fit to run, and the line that is written.
+static FIT: &str = "\
+a function -- func { b0(): ret } => well linked and fit to run
+a module -- mod { m(): func { b0(): ret }; func { b0(x): br b1(x); b1(y): ret y } } => fit to run, each part by itself
+without a function -- mod { } => fit to run, each part by itself
+one inside another -- mod { m(): func { b0(): ret }; mod { n(): func { b0(): ret } } } => \
+    fit to run, each part by itself";
+
+fn expect_fit(rt: &impl Abort, alloc: Global, case: &str) {
+    let (name, case) = case.split_once(" -- ").expect(rt, "a name");
+    let (text, wanted) = case.split_once(" => ").expect(rt, "a case");
+    let source = Source {
+        name: "in.plir",
+        text: text.as_bytes(),
+    };
+    let checked = check::<BenchNotation>(alloc, &source).expect(rt, "memory");
+    assert!(rt; checked.status == 0 && checked.report.is_empty(), "{name}");
+    let written = std::str::from_utf8(&checked.output).unwrap_or("");
+    assert!(rt; written.trim_end() == wanted, "{name}");
+}
+
+#[test]
+fn fit_texts_are_called_so(rt: HostRuntime) {
+    for case in FIT.lines() {
+        expect_fit(&rt, rt.alloc(), case);
+    }
+}
+
 // With `is_strict` an unfit text is told of as an error, and nothing is written.
 fn expect_strict(rt: &impl Abort, alloc: Global, text: &str, status: u8) {
     let source = Source {
@@ -101,6 +127,13 @@ fn expect_strict(rt: &impl Abort, alloc: Global, text: &str, status: u8) {
 #[test]
 fn strictly(rt: HostRuntime) {
     expect_strict(&rt, rt.alloc(), "func { b0(): ret }", 0);
+    expect_strict(&rt, rt.alloc(), "mod { m(): func { b0(): ret } }", 0);
+    expect_strict(
+        &rt,
+        rt.alloc(),
+        "mod { m(): func { b0(): ret }; func { b0(x): br b1(); b1(y): ret } }",
+        3,
+    );
     expect_strict(
         &rt,
         rt.alloc(),

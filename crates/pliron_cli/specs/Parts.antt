@@ -1,0 +1,30 @@
+-- What is fit to run by itself, or by what stands inside it.
+use Rattle.std.specs.Prelude.{◌≢◌, ℕ, [], IsSomeAnd, IsTrue}
+use Rattle.pliron_core.specs.Tree.{Tree, In, IsInside, regions_of, parent_operation_of}
+use Rattle.pliron_core.specs.Reads.{has_ssa}
+use Rattle.pliron_laws.specs.Datum.{Meaning}
+use Rattle.pliron_theory.specs.Keeps.{IsFit}
+
+-- it has a region in which definitions need not come before uses, as a `mod` has
+abbrev pub IsContainer : Tree → ℕ → Type 0
+IsContainer t k = (r : ℕ) × In r (regions_of t k) × (IsTrue (has_ssa t r) → ⊥)
+
+-- it stands directly inside such an operation
+abbrev pub IsInContainer : Tree → ℕ → Type 0
+IsInContainer t k = IsSomeAnd (parent_operation_of t k) (λ holder. IsContainer t holder)
+
+-- runs begin at it by itself: it stands directly inside a container and has regions, but is none, as a `func`
+pub record IsPart (t : Tree) (k : ℕ) : Type 0 where
+  pub held : IsInContainer t k
+  pub regions : regions_of t k ≢ []
+  pub entered : IsContainer t k → ⊥
+
+module _ (m : Meaning) (t : Tree) (root : ℕ) where
+  -- each part inside the operation is fit to run
+  abbrev pub AreFitParts : Type 0
+  AreFitParts = (k : ℕ) → IsInside t root k → IsPart t k → IsFit m t k
+
+  -- the operation is fit to run, or it is a container and each part inside it is
+  pub data IsFitByParts : Type 0 where
+    AsAWhole : IsFit m t root → IsFitByParts
+    InParts : IsContainer t root → AreFitParts → IsFitByParts
