@@ -1,2 +1,3 @@
 pub mod LineDiff
 pub mod NamedAnswer
+pub mod WrittenChanges

@@ -11,7 +11,9 @@ mod names;
 mod renaming;
 mod stages;
 mod subjects;
+mod written_changes;
 
-pub use line_diff::{LineChange, changed_lines, write_changes};
+pub use line_diff::{LineChange, changed_lines};
 pub use named_answer::write_named_answer;
 pub use stages::{StageOptions, Staged, run_stages};
+pub use written_changes::write_changes;

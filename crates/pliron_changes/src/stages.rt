@@ -4,10 +4,11 @@ ghost use Rattle.pliron_core.specs.Tree.{IsLive};
 ghost use Rattle.pliron_core.specs.Writes.{no_tree};
 
 use crate::definition_order::DefinitionOrder;
-use crate::line_diff::{changed_lines, write_changes};
+use crate::line_diff::changed_lines;
 use crate::names::{Names, OperandsBefore, operands_before};
 use crate::renaming::rename_text;
 use crate::subjects::{Subject, subjects_of};
+use crate::written_changes::write_changes;
 use pliron_bench::Bench;
 use pliron_core::{Context, IRStatus, Operation, Ptr};
 use pliron_diagnostics::{TextParts, parts_of, pretty};
