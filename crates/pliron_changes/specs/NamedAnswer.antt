@@ -1,4 +1,4 @@
--- What is written of an answer whose values and blocks may have other names.
+-- What is written of an answer with other names.
 use Rattle.std.specs.Prelude.{◌≡◌, ℕ, List}
 use Rattle.pliron_core.specs.Tree.{Tree}
 use Rattle.pliron_diagnostics.specs.Layout.{without_blanks}
