@@ -8,7 +8,8 @@ static HEAD: &str =
     "digraph flow {\n  node [shape=\"box\", fontname=\"monospace\"];\n  edge [fontname=\"monospace\"];\n";
 
 /// What one of blocks alone begins with.
-static SMALL_HEAD: &str = "digraph flow {\n  node [shape=\"box\", fontname=\"monospace\", height=\"0.25\", \
+static SMALL_HEAD: &str =
+    "digraph flow {\n  node [shape=\"box\", fontname=\"monospace\", height=\"0.25\", \
     margin=\"0.06\"];\n  edge [fontname=\"monospace\"];\n";
 
 static END: &str = "}\n";
