@@ -8,8 +8,6 @@ use Rattle.pliron_fit.specs.Violation.{IsViolation}
 use Rattle.pliron_fit.specs.declared.violation.Violation.{Violation}
 use Rattle.pliron_cli.specs.declared.checking.Checked.{Checked}
 use Rattle.pliron_cli.specs.declared.checking.Checked.TheVariants.{Unreadable, Fit, FitByParts, Unfit}
-use Rattle.pliron_cli.specs.declared.checking.Finding.{Finding}
-use Rattle.pliron_cli.specs.declared.checking.Finding.TheVariants.{Whole, ByParts, Wrong}
 use Rattle.pliron_cli.specs.declared.outcome.Outcome.{Outcome}
 use Rattle.pliron_cli.specs.Parts.{IsFitByParts}
 
@@ -51,12 +49,6 @@ module _ (reads : Reads) (m : Meaning) (text : List ℕ) where
   IsChecked Fit = IsWholeText
   IsChecked FitByParts = IsFitText
   IsChecked (Unfit part violation) = (tree : Tree) × (root : ℕ) × reads text tree root × (IsFitByParts m tree root → ⊥) × IsViolation m tree part violation
-
-  -- what is told of a text that was read
-  abbrev pub IsFinding : Finding → Type 0
-  IsFinding Whole = IsWholeText
-  IsFinding ByParts = IsFitText
-  IsFinding (Wrong told) = IsUnfitText
 
   -- it is fit by its parts, and the line that is written says whether as a whole
   pub data IsToldFit (output : List ℕ) : Type 0 where

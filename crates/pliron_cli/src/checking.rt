@@ -1,7 +1,8 @@
 //! Whether a text's operation is fit to run.
 ghost use Rattle.std.specs.Prelude.{◌≡◌, [], IfOk, IfSome};
 ghost use Rattle.pliron_core.specs.Writes.{no_tree};
-ghost use Rattle.pliron_cli.specs.Checked.{IsChecked, IsFinding, IsToldFit, IsUnfitText};
+ghost use Rattle.pliron_cli.specs.Checked.{IsChecked, IsToldFit, IsUnfitText};
+ghost use Rattle.pliron_cli.specs.Findings.{IsFinding};
 ghost use Rattle.pliron_cli.specs.Outcomes.{Ends};
 
 use crate::failure::CommandFailure;
