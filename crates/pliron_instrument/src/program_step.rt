@@ -16,7 +16,7 @@ impl<N: Notation<D: OperandFoldInterface>> FoldingNotation for N {}
 /// One of the passes: canonicalization (`Left`), or one that every dialect can run.
 pub type ProgramStep<D> = Either<CanonicalizePass<D, BenchFacts>, PassStep<D, BenchFacts>>;
 
-/// The pass of this name (`PassName::LIST`). Cost: constant.
+/// The pass of this name. Cost: constant.
 pub fn step_from_name<D: OperandFoldInterface>(name: &str) -> Option<ProgramStep<D>>
     ensures named { IfSome result (λ step. ⟦<ProgramStep<D> as Pass>⟧.name step ≡ name.now) }
     ensures unknown { IfNone result (IsNoPass name.now) }
