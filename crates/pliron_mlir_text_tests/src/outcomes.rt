@@ -61,7 +61,7 @@ too many rounds -- repeat:65:dce :: \"m\"() : () -> () => 2  => error: no such p
 a sum with 0 -- canonicalize,dce :: \"builtin.module\"() ({|  \"func.func\"() <{sym_name = \"f\"}> ({|  ^bb0(%0: i32):|    \
     %1 = \"arith.constant\"() <{value = 0 : i32}> : () -> i32|    %2 = \"arith.addi\"(%0, %1) <{overflowFlags = \
     #arith.overflow<none>}> : (i32, i32) -> i32|    \"func.return\"(%2) : (i32) -> ()|  }) : () -> ()|}) : () -> () \
-    => 0 \"builtin.module\"() ({|  \"func.func\"() <{sym_name = \"f\"}> ({|  ^bb0(%0: i32):|    \"func.return\"(%0) : \
+    => 0 \"builtin.module\"() ({|  \"func.func\"() <{sym_name = \"f\"}> ({|  ^bb1(%0: i32):|    \"func.return\"(%0) : \
     (i32) -> ()|  }) : () -> ()|}) : () -> ()| => changed|
 a used value of an unreachable block -- simplify-cfg :: \"m\"() ({|  \"func.func\"() <{sym_name = \"f\"}> \
     ({|    \"func.return\"(%0) : (i32) -> ()|  ^b:|    %0 = \"arith.constant\"() <{value = 1 : i32}> : () -> \
