@@ -1,4 +1,4 @@
--- Transitions of operations that invoke their regions, for dialects to cite.
+-- Invocations of regions, for dialects to cite.
 use Rattle.std.proofs.Common.{◌≡◌, ℕ, zero, suc, ◌+◌, ◌<◌, nat_lt, if◌then◌else◌, Bool, true, false, List, [], ◌∷◌, ◌++◌, drop, Option, Some, None, length, slice_get, slice_index_or, IsTrue, refl, ap, sym, ◌∙◌, subst, arith}
 use Rattle.std.specs.Prelude.{ℤ, pos, negsuc, int_lt}
 use Rattle.std.proofs.lemmas.Option.{same_Some}
@@ -193,8 +193,8 @@ comes_kept place turns s first _ _ _ (Answered {memo = memo} {input = input} i d
 comes_kept place turns s first _ _ _ (Told {memo = memo} {input = input} effect next answer c e) =
     absurd (turn_quiet place s (kept_operands memo input) (turns (kept_operands memo input) (stage_of memo) (last_answer memo input)) effect next e)
 
-pub turns_fit : (takes : ℕ → ℕ → ℕ → Bool) (place : ℕ) (turns : Turns) → NamesFit takes (turning place turns) (operands_from place)
-turns_fit takes place turns = record {
+pub turns_fit : {takes : ℕ → ℕ → ℕ → Bool} (place : ℕ) (turns : Turns) → NamesFit takes (turning place turns) (operands_from place)
+turns_fit place turns = record {
   moves = λ s h memo input. turn_fits place s (kept_operands memo input) (turns (kept_operands memo input) (stage_of memo) (last_answer memo input));
   there = λ s h i j k e. (named_there place s.operands i j k e).1;
   passes = λ s h i j k e first l later memo input ds next comes move d read.
@@ -204,5 +204,5 @@ turns_fit takes place turns = record {
       ap (λ z. slice_get z k) (sym kept) ∙ visit_passes place s (kept_operands memo input) (turns (kept_operands memo input) (stage_of memo) (last_answer memo input)) i j k ds next d at.0 inside move read;
 }
 
-pub counted_fits : (takes : ℕ → ℕ → ℕ → Bool) → NamesFit takes counted_loop (operands_from 1)
-counted_fits takes = turns_fit takes 1 counted_turns
+pub counted_fits : {takes : ℕ → ℕ → ℕ → Bool} → NamesFit takes counted_loop (operands_from 1)
+counted_fits = turns_fit 1 counted_turns

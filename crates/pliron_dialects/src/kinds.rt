@@ -4,7 +4,7 @@ ghost use Rattle.pliron_dialects.specs.Roles.{Tables, KeepsTables, form_of, valu
 
 use crate::form::Form;
 
-/// The kinds of the operations of a dialect: `ByKinds` of them is the dialect.
+/// The kinds of a dialect: `ByKinds` of them is the dialect.
 pub trait Kinds: Copy + Eq {
     // the role of each kind, its number, the kind with a number, and the kinds of constants and jumps
     ghost tables: { Tables Self };
