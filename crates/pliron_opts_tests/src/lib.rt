@@ -5,9 +5,9 @@
 mod arithmetic;
 #[cfg(test)]
 mod graphs;
+pub mod looped;
 #[cfg(test)]
 mod loops;
-pub mod looped;
 #[cfg(test)]
 mod named;
 #[cfg(test)]

@@ -25,7 +25,8 @@ no visit -- 0 | function { b0(n): a = lit 7; r = repeat n a { t(x): return x }; 
 fn datum(rt: &impl Abort, alloc: Global, word: &str) -> Vec<Datum> {
     let number = word.parse::<i64>().ok().expect(rt, "a number");
     let mut data = Vec::new(alloc);
-    data.push(Datum::Number(number as i128)).expect(rt, "memory");
+    data.push(Datum::Number(number as i128))
+        .expect(rt, "memory");
     data
 }
 

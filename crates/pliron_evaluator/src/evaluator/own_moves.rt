@@ -17,8 +17,8 @@ use pliron_dialects::Kinds;
 use pliron_dialects::numbers::{edge_of, sum, wrap};
 use std::alloc::{AllocError, Global};
 
-/// What the moves of an operation may depend on, beside its memo and its input: how many results it has, and how
-/// many arguments the entry block of each of its regions has.
+/// What a move may depend on, beside memo and input: how many results the operation has, and how many arguments the
+/// entry block of each of its regions has.
 #[derive(Debug, Drop)]
 pub struct ShapeCounts {
     pub results: usize,
@@ -38,7 +38,7 @@ impl ShapeCounts {
     }
 }
 
-/// The kinds of a dialect by tables whose operations can be run.
+/// Kinds whose operations can be run.
 pub trait OwnMoves: Kinds {
     /// The move of an operation of a kind that acts by its own tables, with this memo on this input; `Trap` for
     /// another kind. Errors: allocation failure.
@@ -117,7 +117,7 @@ fn fitted_to(alloc: Global, count: usize, input: &[Datum]) -> Result<Vec<Datum>,
     Ok(data)
 }
 
-/// The results are given, these values as far as there are results. Errors: allocation failure. Cost: that of copies.
+/// Gives these values, as far as there are results. Errors: allocation failure. Cost: that of copies.
 pub fn give(alloc: Global, counts: &ShapeCounts, values: &[Datum]) -> Result<Move, AllocError>
     ensures { IfOk result (λ next. MovesBy counts.now (move_of next)
         (λ s. Give (fit_data s.results (map datum_of_value values.now)))) }
@@ -125,8 +125,8 @@ pub fn give(alloc: Global, counts: &ShapeCounts, values: &[Datum]) -> Result<Mov
     Ok(Move::Give(fitted_to(alloc, counts.results, values)?))
 }
 
-/// The region with this index is visited, with these values as far as its entry block has arguments. Errors: allocation
-/// failure. Cost: that of copies.
+/// A visit of the region with this index. It passes these values as far as the region's entry block has arguments.
+/// Errors: allocation failure. Cost: that of copies.
 pub fn visit(
     alloc: Global,
     counts: &ShapeCounts,
@@ -140,8 +140,7 @@ pub fn visit(
     Ok(Move::Visit(region, passed, Datum::Number(1)))
 }
 
-/// The region with this index is visited with these values, and then the visit that the operation stands in is
-/// left with what came of it. Errors: allocation failure. Cost: that of copies.
+/// A visit, and then a leave with what it gave. The region has this index, and the input is passed. Errors: allocation failure. Cost: that of copies.
 pub fn visit_and_leave(
     alloc: Global,
     counts: &ShapeCounts,
@@ -158,7 +157,7 @@ pub fn visit_and_leave(
     }
 }
 
-/// What comes next of an operation that passes the same operands at each visit.
+/// A turn of a loop. Each visit passes the same operands, and then other data.
 #[derive(Debug, Drop)]
 pub enum Turn {
     /// The region with this index is visited, with these data behind the operands; then comes this stage.
