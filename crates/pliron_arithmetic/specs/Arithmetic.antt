@@ -107,16 +107,9 @@ again_fits false s values = visit_fits false 0 s values
 -- own transitions pass as many values as there are places for; a line for each kind that acts by its own tables
 acts : (k : ArithmeticKind) → ActsFit (arithmetic_role_of k)
 acts Function = λ s h memo input. once_fits false s memo (visit_of 0 s input) (Leave input) (visit_fits false 0 s input) tt
-acts Lit = tt
-acts Add = tt
-acts Mul = tt
-acts Neg = tt
-acts Less = tt
-acts Jump = tt
-acts Branch = tt
-acts Return = tt
 acts If = λ s h memo input. once_fits false s memo (visit_of (edge_by_condition (condition_of input)) s (drop 1 input)) (Give (fit_data s.results input)) (visit_fits false (edge_by_condition (condition_of input)) s (drop 1 input)) (length-fitted s.results input)
 acts While = λ s h memo input. once_fits false s memo (visit_of 0 s input) (again_unless (is_zero (condition_of input)) s (drop 1 input)) (visit_fits false 0 s input) (again_fits (is_zero (condition_of input)) s (drop 1 input))
+acts _ = tt
 
 pub keeps_arithmetic : KeepsTables arithmetic
 keeps_arithmetic = record { numbered = numbered; constant = refl; jump = refl; acts = acts }

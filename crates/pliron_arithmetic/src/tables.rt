@@ -86,5 +86,9 @@ impl Kinds for ArithmeticKind {
         }
     }
 
+    fn entry_operand(self, _operands: usize, _region: usize, _argument: usize) -> Option<usize> {
+        None
+    }
+
     ghost keeps_tables = { keeps_arithmetic };
 }

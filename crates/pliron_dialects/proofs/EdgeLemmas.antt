@@ -1,5 +1,5 @@
 -- What the functions of a dialect of roles read and leave of the edges of a branch.
-use Rattle.std.proofs.Common.{◌≡◌, inl, inr, ℕ, ◌+◌, ◌<◌, ◌≤◌, Bool, true, false, List, [], ◌∷◌, ◌++◌, Option, Some, None, IsSome, length, map, take, if◌then◌else◌, IsTrue, FitsSigned, w64, to_z, of_z, refl, ap, sym, ◌∙◌, subst, arith, add-one}
+use Rattle.std.proofs.Common.{◌≡◌, ℕ, ◌+◌, ◌<◌, Bool, true, false, List, [], ◌∷◌, Option, Some, None, IsSome, length, map, if◌then◌else◌, IsTrue, FitsSigned, w64, to_z, of_z, refl, ap, sym, ◌∙◌, subst, arith}
 use Rattle.std.specs.List.{slice_get, range_with_len}
 use Rattle.std.specs.Option.{option_map}
 use Rattle.std.specs.Prelude.{ℤ}
@@ -11,7 +11,6 @@ use Rattle.pliron_core.specs.declared.attrs.IRStatus.TheVariants.{Changed, Uncha
 use Rattle.pliron_core.specs.Tree.{Tree, IsLive, head_of, operands_of, results_of, successors_of, regions_of}
 use Rattle.pliron_core.specs.Changes.{IsSameTree}
 use Rattle.pliron_core.specs.Writes.{operand_removed}
-use Rattle.pliron_core.proofs.ArgumentLemmas.{take_more}
 use Rattle.pliron_core.proofs.GrownLemmas.{range_at}
 use Rattle.pliron_laws.specs.Datum.{Head}
 use Rattle.pliron_laws.specs.Tree.{Operation, op_at, op_with, shape_of, count_arguments, entry_block}
@@ -23,7 +22,7 @@ use Rattle.pliron_dialects.specs.declared.form.Form.{Form}
 use Rattle.pliron_dialects.specs.declared.form.Form.TheVariants.{Branches as BranchesForm}
 use Rattle.pliron_dialects.specs.Numbers.{is_zero, known_number_at}
 use Rattle.pliron_dialects.specs.Forms.{by_form, head_of_kind, edge_by_condition, places_by_form, forwards_nothing, head_unchanged, shortened_by_form, folds_branch_of}
-use Rattle.pliron_dialects.specs.Roles.{Role, Constant, Computes, Jumps, Branches, Leaves, Acts, by_role, form_of, form_at, takes_by, meaning_by}
+use Rattle.pliron_dialects.specs.Roles.{Role, Constant, Computes, Jumps, Branches, Leaves, Acts, Names, by_role, form_of, form_at, takes_by, meaning_by}
 use Rattle.pliron_dialects.specs.RoleTables.{branch_folds_by, shortened_by}
 use Rattle.pliron_dialects.specs.RoleOutcomes.{known_edge, admits_shape, edge_under, BecomesJump, JumpsWhereKnown, branch_outcome_by}
 use Rattle.pliron_dialects.specs.RoleParts.{no_result, IsTaken, is_taken}
@@ -84,6 +83,7 @@ module _ (roles : ℕ → Option Role) (n : ℕ) where
   is_branches (Some Jumps) e = grind arith
   is_branches (Some Leaves) e = grind arith
   is_branches (Some (Acts own act)) e = grind arith
+  is_branches (Some (Names own act named)) e = grind arith
 
   folds_branch : (t : Tree) (op : ℕ) (h : Head) → HeadPasses (branch_folds_by roles) t op → head_of t op ≡ Some h → roles h.kind ≡ Some Branches
   unfolding branch_folds_by

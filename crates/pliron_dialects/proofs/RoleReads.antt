@@ -9,19 +9,19 @@ use Rattle.pliron_core.specs.declared.attrs.AttrObj.{AttrObj}
 use Rattle.pliron_core.specs.declared.attrs.IRStatus.{IRStatus}
 use Rattle.pliron_core.specs.declared.attrs.IRStatus.TheVariants.{Unchanged}
 use Rattle.pliron_core.specs.Tree.{Tree, IsLive, head_of, operands_of, successors_of}
-use Rattle.pliron_laws.specs.Datum.{Head, Shape}
-use Rattle.pliron_laws.specs.Tree.{Operation, op_at, op_with, shape_of}
+use Rattle.pliron_laws.specs.Datum.{Head}
+use Rattle.pliron_laws.specs.Tree.{Operation, op_at, shape_of}
 use Rattle.pliron_laws.specs.Acting.{pick}
 use Rattle.pliron_laws.specs.InPlace.{materialising_outcome}
 use Rattle.pliron_laws.specs.Answers.{AreForwarded, IsForwardedAt, IsForwardedOnce, ReadsHead, ReadsShape, ReadsEdges, HeadPasses}
 use Rattle.pliron_laws.proofs.ShapeLemmas.{head_at, operands_at}
 use Rattle.pliron_dialects.specs.declared.form.Form.{Form}
-use Rattle.pliron_dialects.specs.declared.form.Form.TheVariants.{Constant, Computes, Jumps, Branches, Leaves, Acts}
+use Rattle.pliron_dialects.specs.declared.form.Form.TheVariants.{Constant, Branches}
 use Rattle.pliron_dialects.specs.BranchLaws.{distinct}
 use Rattle.pliron_dialects.specs.Numbers.{known_number_at}
 use Rattle.pliron_dialects.specs.Forms.{by_form, places_by_form, forwards_nothing, is_constant, folds_branch_of, answer_of, answers_of, feasible_of, no_jump, edges_taken}
-use Rattle.pliron_dialects.specs.Roles.{Role, Tables, by_role, role_at, form_at, form_of, value_of, meaning_by}
-use Rattle.pliron_dialects.specs.RoleTables.{answers_by, constants_by, accepts_numbers, constant_head_of, branch_folds_by, feasible_by}
+use Rattle.pliron_dialects.specs.Roles.{Role, Tables, by_role, role_at, form_at, form_of, value_of, named_by, no_operand, meaning_by}
+use Rattle.pliron_dialects.specs.RoleTables.{answers_by, constants_by, accepts_numbers, constant_head_of, branch_folds_by, feasible_by, entry_operands_by}
 use Rattle.pliron_dialects.specs.RoleOutcomes.{form_in, fold_of, outcome_by}
 use Rattle.pliron_branches.proofs.RangeReads.{successors_with}
 
@@ -59,6 +59,18 @@ pub taken_read : (roles : ℕ → Option Role) (t : Tree) (op : ℕ) (known : Li
 unfolding branch_folds_by feasible_by shape_of
 taken_read roles t op known items g i = λ o at.
     i ∙ ap (λ z. edges_taken z (known_number_at known 0)) (sym (successors_with t op o at)) ∙ branch_taken (form_at roles o.head.kind) o.successors known (g o.head (head_at t op o at))
+
+-- ---- operands of visits
+
+pub entry_read : {K : Type 0} (tables : Tables K) (t : Tree) (op i j : ℕ) (k : K) (answer : Option ℕ) → ReadsHead (λ h. tables.kind_of h.kind) t op (Some k) → answer ≡ named_by (tables.role_of k) (length (operands_of t op)) i j → ReadsShape (meaning_by (role_at tables)) (λ s. entry_operands_by (role_at tables) s i j) t op answer
+unfolding entry_operands_by shape_of
+entry_read tables t op i j k answer r e = λ o at.
+    e ∙ ap (λ z. by_role no_operand named_by (option_map tables.role_of z) (length (operands_of t op)) i j) (r o.head (head_at t op o at))
+    ∙ ap (λ z. by_role no_operand named_by (role_at tables o.head.kind) (length z) i j) (sym (operands_at t op o at))
+
+pub no_entry_read : {K : Type 0} (tables : Tables K) (t : Tree) (op i j : ℕ) → ReadsHead (λ h. tables.kind_of h.kind) t op None → ReadsShape (meaning_by (role_at tables)) (λ s. entry_operands_by (role_at tables) s i j) t op None
+unfolding entry_operands_by shape_of
+no_entry_read tables t op i j r = λ o at. ap (λ z. by_role no_operand named_by (option_map tables.role_of z) (length o.operands) i j) (r o.head (head_at t op o at))
 
 -- ---- places
 

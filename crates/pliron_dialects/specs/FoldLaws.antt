@@ -1,17 +1,17 @@
 -- What a dialect of roles answers on constants and jumps is true.
 use Rattle.std.proofs.Common.{◌≡◌, inl, inr, ℕ, zero, suc, false, List, [], ◌∷◌, Option, Some, None, length, map, slice_get, IsTrue, refl, ap, ap₂, sym, ◌∙◌, subst, arith}
 use Rattle.std.specs.Option.{option_map}
-use Rattle.std.specs.Prelude.{ℤ, pos}
+use Rattle.std.specs.Prelude.{ℤ}
 use Rattle.pliron_core.specs.declared.attrs.AttrObj.{AttrObj}
 use Rattle.pliron_core.specs.declared.attrs.AttrObj.TheVariants.{Int}
 use Rattle.pliron_core.specs.Lists.{In}
-use Rattle.pliron_laws.specs.Datum.{Datum, Number, Head, Shape, Move, Give, Visit, Goto, Leave, Emit, Trap}
+use Rattle.pliron_laws.specs.Datum.{Datum, Number, Shape, Move, Give, Visit, Goto, Leave, Emit, Trap}
 use Rattle.pliron_laws.specs.Acting.{Known}
 use Rattle.pliron_laws.specs.Folding.{AnswersTrue, AnswersJumps}
-use Rattle.pliron_dialects.specs.Numbers.{whole_number_of, nth_number, known_as, known_number_at, all_known, with_number}
+use Rattle.pliron_dialects.specs.Numbers.{whole_number_of, nth_number, known_number_at, all_known, with_number}
 use Rattle.pliron_dialects.specs.Forms.{by_form, edge_by_condition, branches, folds_of, folds_branch_of, edges_taken as taken_of, feasible_of, no_jump}
 use Rattle.pliron_branches.specs.Counts.{only_successor}
-use Rattle.pliron_dialects.specs.Roles.{Role, Constant, Computes, Jumps, Branches, Leaves, Acts, by_role, form_of, condition_of, act_of, no_act, meaning_by}
+use Rattle.pliron_dialects.specs.Roles.{Role, Constant, Computes, Jumps, Branches, Leaves, Acts, Names, by_role, form_of, condition_of, act_of, no_act, meaning_by}
 use Rattle.pliron_dialects.specs.RoleTables.{folds_by, answers_by, constants_by, branch_folds_by, feasible_by}
 use Rattle.pliron_dialects.specs.RoleParts.{Admits, of_role, one_result, IsQuiet, comes_first}
 
@@ -68,6 +68,7 @@ role_gives Jumps s known memo first f h = grind arith
 role_gives Branches s known memo first f h = grind arith
 role_gives Leaves s known memo first f h = grind arith
 role_gives (Acts takes act) s known memo first f h = grind arith
+role_gives (Names takes act named) s known memo first f h = grind arith
 
 answers_given : (o : Option Role) (s : Shape) (known : List (Option AttrObj)) (memo : Datum) (first : List Datum) → IsTrue (by_form false folds_of (option_map form_of o)) → Known known first → GivesKnown (by_role [] (answers_by s.head known) o) (by_role no_act act_of o s memo first)
 answers_given None s known memo first f h = grind arith
@@ -80,6 +81,7 @@ role_quiet Jumps s f memo input = grind arith
 role_quiet Branches s f memo input = grind arith
 role_quiet Leaves s f memo input = grind arith
 role_quiet (Acts takes act) s f memo input = grind arith
+role_quiet (Names takes act named) s f memo input = grind arith
 
 folds_quiet : (o : Option Role) (s : Shape) → IsTrue (by_form false folds_of (option_map form_of o)) → (memo : Datum) (input : List Datum) → IsQuiet (by_role no_act act_of o s memo input)
 folds_quiet None s f memo input = tt
@@ -92,6 +94,7 @@ role_answers Jumps s known h f = grind arith
 role_answers Branches s known h f = grind arith
 role_answers Leaves s known h f = grind arith
 role_answers (Acts takes act) s known h f = grind arith
+role_answers (Names takes act named) s known h f = grind arith
 
 answer_count : (o : Option Role) (s : Shape) (known : List (Option AttrObj)) → Admits o s → IsTrue (by_form false folds_of (option_map form_of o)) → length (by_role [] (answers_by s.head known) o) ≡ s.results
 answer_count None s known h f = grind arith
@@ -115,6 +118,7 @@ role_branches Constant f = f
 role_branches (Computes n value) f = f
 role_branches Leaves f = f
 role_branches (Acts takes act) f = f
+role_branches (Names takes act named) f = f
 
 folds_branches : (o : Option Role) → IsTrue (by_form false folds_branch_of (option_map form_of o)) → IsTrue (by_form false branches (option_map form_of o))
 folds_branches None f = f
@@ -140,6 +144,7 @@ role_in Constant targets known b h = h
 role_in (Computes n value) targets known b h = h
 role_in Leaves targets known b h = h
 role_in (Acts takes act) targets known b h = h
+role_in (Names takes act named) targets known b h = h
 
 feasible_in : (o : Option Role) (targets : List ℕ) (known : List (Option AttrObj)) (b : ℕ) → In b (by_form no_jump feasible_of (option_map form_of o) targets known) → In b targets
 feasible_in None targets known b h = h
@@ -165,6 +170,7 @@ role_goes Constant s targets known memo first f h = grind arith
 role_goes (Computes n value) s targets known memo first f h = grind arith
 role_goes Leaves s targets known memo first f h = grind arith
 role_goes (Acts takes act) s targets known memo first f h = grind arith
+role_goes (Names takes act named) s targets known memo first f h = grind arith
 
 jumps_given : (o : Option Role) (s : Shape) (targets : List ℕ) (known : List (Option AttrObj)) (memo : Datum) (first : List Datum) → IsTrue (by_form false folds_branch_of (option_map form_of o)) → Known known first → JumpsWithin targets (by_form no_jump feasible_of (option_map form_of o) targets known) (by_role no_act act_of o s memo first)
 jumps_given None s targets known memo first f h = tt
@@ -177,6 +183,7 @@ role_branch_quiet Constant s f memo input = tt
 role_branch_quiet (Computes n value) s f memo input = tt
 role_branch_quiet Leaves s f memo input = tt
 role_branch_quiet (Acts takes act) s f memo input = grind arith
+role_branch_quiet (Names takes act named) s f memo input = grind arith
 
 pub branch_quiet : (o : Option Role) (s : Shape) → IsTrue (by_form false branches (option_map form_of o)) → (memo : Datum) (input : List Datum) → IsQuiet (by_role no_act act_of o s memo input)
 branch_quiet None s f memo input = tt

@@ -1,5 +1,5 @@
 -- What operations of each form are, but for what is computed: a table has a row for each form.
-use Rattle.std.specs.Prelude.{◌≡◌, ℕ, zero, suc, ◌-◌, min, nat_eq, nat_lt, if◌then◌else◌, is_some, Bool, true, false, not, ◌&&◌, List, [], ◌∷◌, Option, Some, None, option_map, slice_get, slice_set, take, drop, ℤ, pos, negsuc}
+use Rattle.std.specs.Prelude.{ℕ, zero, suc, ◌-◌, min, nat_eq, nat_lt, if◌then◌else◌, is_some, Bool, true, false, not, ◌&&◌, List, [], ◌∷◌, Option, Some, None, option_map, slice_get, slice_set, take, drop, ℤ, pos, negsuc}
 use Rattle.std.specs.List.{range_with_len}
 use Rattle.pliron_core.specs.declared.attrs.Head.{Head}
 use Rattle.pliron_core.specs.declared.attrs.AttrObj.{AttrObj}
@@ -7,7 +7,7 @@ use Rattle.pliron_core.specs.declared.attrs.AttrObj.TheVariants.{Int, Text as Wo
 use Rattle.pliron_laws.specs.declared.dialect.Interface.{Interface}
 use Rattle.pliron_laws.specs.declared.dialect.Interface.TheVariants.{SideEffects, BlockArgRemoval, ConstFold, BranchFold, Branch, Terminator, RegionBranch}
 use Rattle.pliron_dialects.specs.declared.form.Form.{Form}
-use Rattle.pliron_dialects.specs.declared.form.Form.TheVariants.{Constant, Computes, Jumps, Branches, Leaves, Acts}
+use Rattle.pliron_dialects.specs.declared.form.Form.TheVariants.{Constant, Computes, Jumps, Branches, Leaves, Acts, Names}
 use Rattle.pliron_dialects.specs.Numbers.{is_zero, is_whole_number, known_number_at, all_known}
 use Rattle.pliron_branches.specs.Counts.{counted_by, only_successor}
 
@@ -52,6 +52,7 @@ abbrev pub takes_counts : Form → Bool → ℕ → ℕ → ℕ → Bool
 takes_counts Constant own a b d = nat_eq a 0 && nat_eq b 1 && nat_eq d 0
 takes_counts (Computes n) own a b d = nat_eq a n && nat_eq b 1 && nat_eq d 0
 takes_counts Acts own a b d = own
+takes_counts Names own a b d = own
 takes_counts _ own a b d = nat_eq b 0 && nat_eq d 0
 
 -- whether there are operations of the form with this head, and with these counts of operands, results,
@@ -139,11 +140,13 @@ abbrev pub effects_of : Form → Option Bool
 effects_of Constant = Some false
 effects_of (Computes n) = Some false
 effects_of Acts = Some true
+effects_of Names = Some true
 effects_of _ = None
 
 -- arguments may be removed from all blocks of a region but its entry
 abbrev pub removable_of : Form → Bool → Option Bool
 removable_of Acts entry = Some (not entry)
+removable_of Names entry = Some (not entry)
 removable_of _ entry = None
 
 abbrev pub no_removal : Bool → Option Bool
@@ -186,6 +189,11 @@ feasible_of _ targets known = targets
 abbrev pub no_jump : List ℕ → List (Option AttrObj) → List ℕ
 no_jump targets known = targets
 
+-- what names operands that every invocation of a region passes
+abbrev pub is_naming : Form → Bool
+is_naming Names = true
+is_naming _ = false
+
 -- a form implements the interfaces on which it has an answer
 abbrev pub interface_of : Interface → Form → Bool
 interface_of SideEffects f = is_some (effects_of f)
@@ -194,4 +202,4 @@ interface_of ConstFold f = folds_of f
 interface_of BranchFold f = folds_branch_of f
 interface_of Branch f = branches f
 interface_of Terminator f = ends_block f
-interface_of RegionBranch f = false
+interface_of RegionBranch f = is_naming f

@@ -28,7 +28,7 @@ use Rattle.pliron_laws.specs.InPlace.{FoldsInPlace, ReportsChange}
 use Rattle.pliron_laws.specs.PlaceLaws.{pick_all}
 use Rattle.pliron_dialects.specs.Numbers.{known_number_at}
 use Rattle.pliron_dialects.specs.Forms.{by_form, first_edge_operands, head_of_kind, edge_by_condition, edge_values, branches}
-use Rattle.pliron_dialects.specs.Roles.{Role, Constant, Computes, Jumps, Branches, Leaves, Acts, by_role, form_of, form_at, condition_of, act_of, no_act, meaning_by}
+use Rattle.pliron_dialects.specs.Roles.{Role, Constant, Computes, Jumps, Branches, Leaves, Acts, Names, by_role, form_of, form_at, condition_of, act_of, no_act, meaning_by}
 use Rattle.pliron_dialects.specs.RoleTables.{constants_by, accepts_numbers, constant_head_of}
 use Rattle.pliron_dialects.specs.RoleOutcomes.{form_in, fold_of, outcome_by, known_edge, admits_shape, BecomesJump, JumpsWhereKnown, branch_outcome_by}
 use Rattle.pliron_dialects.specs.RoleParts.{Admits, comes_first}
@@ -130,6 +130,7 @@ module _ (roles : ℕ → Option Role) (m : ℕ) (jumps : roles m ≡ Some Jumps
   is_branch_role (Some Jumps) e = grind arith
   is_branch_role (Some Leaves) e = grind arith
   is_branch_role (Some (Acts takes act)) e = grind arith
+  is_branch_role (Some (Names takes act named)) e = grind arith
 
   jump_within : (t t' : Tree) (op : ℕ) (known : List (Option AttrObj)) (o : Operation) (s : Shape) (c : ℤ) → op_at t op ≡ Some o → shape_of (meaning_by roles) t o ≡ s → roles s.head.kind ≡ Some Branches → Admits (roles s.head.kind) s → known_number_at known 0 ≡ Some c → BecomesJump roles m t t' op o (edge_by_condition c) → FoldsBranch (meaning_by roles) op known t t' × (IsSameTree t t' → ⊥)
   jump_within t t' op known o s c at e f h k j =

@@ -1,5 +1,5 @@
 -- What it says that a dialect of roles admits an operation, and what an operation can come to.
-use Rattle.std.proofs.Common.{◌≡◌, ℕ, ◌<◌, Bool, true, false, ◌&&◌, nat_eq, nat_lt, List, [], ◌∷◌, Option, Some, None, length, slice_set, IsTrue, refl, subst, sym, ap, ◌∙◌, arith, rules}
+use Rattle.std.proofs.Common.{◌≡◌, ℕ, ◌<◌, Bool, true, false, ◌&&◌, nat_eq, nat_lt, List, [], ◌∷◌, Option, Some, None, length, slice_set, IsTrue, refl, subst, ap, ◌∙◌, arith, rules}
 use Rattle.std.specs.Option.{option_map}
 use Rattle.std.proofs.lemmas.Option.{same_Some}
 use Rattle.pliron_core.specs.declared.attrs.AttrObj.{AttrObj}
@@ -9,7 +9,7 @@ use Rattle.pliron_laws.specs.Datum.{Datum, Empty, Head, Shape, Move, Give, Visit
 use Rattle.pliron_laws.specs.Acting.{Act, Comes}
 use Rattle.pliron_laws.specs.Acting.Comes.{Begins, Answered, Told}
 use Rattle.pliron_dialects.specs.Forms.{takes_attributes, takes_counts, successors_of_form, has_count, first_edge_operands}
-use Rattle.pliron_dialects.specs.Roles.{Role, Tables, KeepsTables, Constant, Computes, Jumps, Branches, Leaves, Acts, ActsFit, by_role, role_at, form_of, own_takes, takes_by}
+use Rattle.pliron_dialects.specs.Roles.{Role, Tables, KeepsTables, Constant, Jumps, ActsFit, by_role, role_at, form_of, own_takes, takes_by}
 
 pub both_parts : (x y : Bool) → IsTrue (x && y) → IsTrue x × IsTrue y
 both_parts true y h = (refl, h)

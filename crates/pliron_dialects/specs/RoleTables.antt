@@ -1,11 +1,12 @@
 -- What a dialect answers of its operations by their roles: side effects, removal, folding, interfaces.
-use Rattle.std.specs.Prelude.{ℕ, nat_eq, Bool, false, List, [], Option, None, Some, ℤ, pos}
+use Rattle.std.specs.Prelude.{ℕ, nat_eq, Bool, false, List, [], Option, None}
 use Rattle.pliron_core.specs.declared.attrs.AttrObj.{AttrObj}
 use Rattle.pliron_laws.specs.declared.dialect.Interface.{Interface}
 use Rattle.pliron_laws.specs.Datum.{Head, Shape}
+use Rattle.pliron_laws.specs.Entries.{EntryOperands}
 use Rattle.pliron_dialects.specs.Numbers.{is_whole_number}
 use Rattle.pliron_dialects.specs.Forms.{by_form, effects_of, removable_of, no_removal, folds_of, folds_branch_of, answer_of, answers_of, feasible_of, no_jump, interface_of, head_with_attribute, shortened_by_form, head_unchanged}
-use Rattle.pliron_dialects.specs.Roles.{Role, by_role, form_of, value_of, form_at}
+use Rattle.pliron_dialects.specs.Roles.{Role, by_role, form_of, value_of, named_by, no_operand, form_at}
 
 unfoldable pub effects_by : (ℕ → Option Role) → Head → Option Bool
 effects_by roles h = by_form None effects_of (form_at roles h.kind)
@@ -34,6 +35,9 @@ branch_folds_by roles h = by_form false folds_branch_of (form_at roles h.kind)
 
 unfoldable pub feasible_by : (ℕ → Option Role) → Shape → List ℕ → List (Option AttrObj) → List ℕ
 feasible_by roles s targets known = by_form no_jump feasible_of (form_at roles s.head.kind) targets known
+
+unfoldable pub entry_operands_by : (ℕ → Option Role) → EntryOperands
+entry_operands_by roles s i j = by_role no_operand named_by (roles s.head.kind) s.operands i j
 
 unfoldable pub is_of_number : {K : Type 0} → (K → ℕ) → Head → K → Bool
 is_of_number number_of h kind = nat_eq h.kind (number_of kind)

@@ -1,9 +1,8 @@
 //! The dialect of some kinds.
 ghost use Rattle.std.specs.Prelude.{◌≡◌, Ok, ◌∷◌, [], Some, IfOk, IfErr, OnOk, OnErr, IsSome, length};
 ghost use Rattle.pliron_core.specs.Tree.{IsLive, operands_of};
-ghost use Rattle.pliron_laws.specs.Entries.{names_none};
 ghost use Rattle.pliron_dialects.specs.Roles.{role_at, meaning_by};
-ghost use Rattle.pliron_dialects.specs.RoleTables.{effects_by, removable_by, folds_by, constants_by, accepts_numbers, constant_head_of, branch_folds_by, feasible_by, is_of_number, interfaces_by, shortened_by};
+ghost use Rattle.pliron_dialects.specs.RoleTables.{effects_by, removable_by, folds_by, constants_by, accepts_numbers, constant_head_of, branch_folds_by, feasible_by, entry_operands_by, is_of_number, interfaces_by, shortened_by};
 ghost use Rattle.pliron_dialects.specs.RoleOutcomes.{outcome_by, branch_outcome_by};
 ghost use Rattle.pliron_dialects.specs.RoleParts.{own_moves_fit, constant_named, jump_named};
 ghost use Rattle.pliron_dialects.specs.CountLaws.{keeps_counts, gives_at_once, acts_without_argument, makes_constants, names_operands, roots};
@@ -37,9 +36,9 @@ use std::marker::PhantomData;
 /// | `Computes` | no | where all operands are known | |
 /// | `Jumps`, `Leaves` | no answer | no | |
 /// | `Branches` | no answer | as a branch, where its condition is known | |
-/// | `Acts` | yes | no | those of all blocks but an entry |
+/// | `Acts`, `Names` | yes | no | those of all blocks but an entry |
 ///
-/// It names no operand for arguments of entries, so runs may begin at all its operations, and its five
+/// Only `Names` names operands for arguments of entries, so runs may begin at all other operations, and its five
 /// `verify` find no fault.
 pub struct ByKinds<K>(PhantomData<K>);
 
@@ -237,16 +236,19 @@ impl<K: Kinds> BranchOpFoldInterface for ByKinds<K> {
 impl<K: Kinds> RegionBranchOpInterface for ByKinds<K> {
     ghost verdict = { λ t op r. r ≡ Ok tt };
 
-    ghost entry_operands = { names_none };
+    ghost entry_operands = { entry_operands_by (role_at K.tables) };
 
-    /// `None`. Cost: constant.
+    /// The operand that the kind names, if it names one. Cost: that of its table.
     fn entry_operand(
-        _op: Ptr<Operation>,
-        _ctx: &Context,
-        _region: usize,
-        _arg: usize,
+        op: Ptr<Operation>,
+        ctx: &Context,
+        region: usize,
+        arg: usize,
     ) -> Option<usize> {
-        None
+        match kind_at::<K>(op, ctx) {
+            Some(kind) => kind.entry_operand(op.num_operand(ctx), region, arg),
+            None => None,
+        }
     }
 
     fn verify(_alloc: Global, _op: Ptr<Operation>, _ctx: &Context) -> Result<(), OptError> {
@@ -270,8 +272,9 @@ impl<K: Kinds> Dialect for ByKinds<K> {
     }
 
     /// `SideEffects` for what is constant, computes or acts by its own tables, `BlockArgRemoval` for the last
-    /// of these, `ConstFold` for the first two, `BranchFold` for what branches, `Branch` also for what jumps,
-    /// `Terminator` also for what leaves. Cost: constant.
+    /// of these, `RegionBranch` for those of them that name operands, `ConstFold` for the first two,
+    /// `BranchFold` for what branches, `Branch` also for what jumps, `Terminator` also for what leaves. Cost:
+    /// constant.
     #[tactic(auto, unfolding(crate::specs::RoleTables::interfaces_by))]
     fn implements(op: Ptr<Operation>, ctx: &Context, interface: Interface) -> bool {
         match form_at::<K>(op, ctx) {
@@ -303,10 +306,13 @@ impl<K: Kinds> Dialect for ByKinds<K> {
         }
     }
 
-    /// Of every operation. Cost: constant.
+    /// Of every operation but what names operands. Cost: constant.
     #[tactic(auto, unfolding(crate::specs::Roles::meaning_by))]
-    fn may_be_root(_op: Ptr<Operation>, _ctx: &Context) -> bool {
-        true
+    fn may_be_root(op: Ptr<Operation>, ctx: &Context) -> bool {
+        match form_at::<K>(op, ctx) {
+            Some(form) => !form.names_operands(),
+            None => true,
+        }
     }
 
     /// Whether it jumps, branches or leaves. Cost: constant.
@@ -395,7 +401,7 @@ impl<K: Kinds> Dialect for ByKinds<K> {
     ghost makes_constants = { makes_constants (role_at K.tables) (K.tables.number_of K.tables.constant)
         (constant_named K.tables K.keeps_tables) };
 
-    ghost names_operands = { names_operands (role_at K.tables) };
+    ghost names_operands = { names_operands (role_at K.tables) (own_moves_fit K.tables K.keeps_tables) };
 
     ghost roots = { roots (role_at K.tables) };
 }

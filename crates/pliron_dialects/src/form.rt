@@ -16,4 +16,6 @@ pub enum Form {
     Leaves,
     /// It has side effects and no successors, and acts as its own tables say.
     Acts,
+    /// As `Acts`. Its tables also name operands that each visit of a region passes, so runs may not begin at it.
+    Names,
 }

@@ -5,8 +5,7 @@ ghost use Rattle.pliron_dialects.specs.Forms.{head_with_attribute, head_of_kind 
 use pliron_core::{AttrObj, Attrs, Head};
 use std::alloc::{AllocFailed, Global};
 
-/// The head of an operation of the kind with this number, without attributes. Takes no memory. Cost:
-/// constant.
+/// The head of an operation without attributes, by the number of its kind. Takes no memory. Cost: constant.
 pub fn plain_head(alloc: Global, number: u32) -> Head
     ensures { result ≡ head_without number }
 {
@@ -17,7 +16,7 @@ pub fn plain_head(alloc: Global, number: u32) -> Head
     }
 }
 
-/// The head of an operation of the kind with this number, with one attribute. Errors: allocation failure. Cost:
+/// The head of an operation with one attribute, by the number of its kind. Errors: allocation failure. Cost:
 /// constant.
 pub fn attribute_head(
     alloc: Global,

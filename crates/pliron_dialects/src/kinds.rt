@@ -1,10 +1,10 @@
 //! The tables of a dialect.
 ghost use Rattle.std.specs.Prelude.{◌≡◌};
-ghost use Rattle.pliron_dialects.specs.Roles.{Tables, KeepsTables, form_of, value_of, own_takes};
+ghost use Rattle.pliron_dialects.specs.Roles.{Tables, KeepsTables, form_of, value_of, own_takes, named_by};
 
 use crate::form::Form;
 
-/// The kinds of the operations of a dialect: `ByKinds` of them is the dialect.
+/// The kinds of a dialect: `ByKinds` of them is the dialect.
 pub trait Kinds: Copy + Eq {
     // the role of each kind, its number, the kind with a number, and the kinds of constants and jumps
     ghost tables: { Tables Self };
@@ -38,7 +38,12 @@ pub trait Kinds: Copy + Eq {
     fn takes(self, operands: usize, results: usize, regions: usize) -> bool
         ensures { result ≡ own_takes (tables.role_of self) operands results regions };
 
-    // A number names its kind, constants and jumps are such, and own transitions pass as many values as there
-    // are places for.
+    /// Of so many operands the one, by its index, that each visit of the region passes as this argument of its
+    /// entry, where a kind of the form `Names` names it; never for another kind.
+    fn entry_operand(self, operands: usize, region: usize, argument: usize) -> Option<usize>
+        ensures { result ≡ named_by (tables.role_of self) operands region argument };
+
+    // A number names its kind, constants and jumps are such, own transitions pass as many values as there are
+    // places for, and operands that are named are passed.
     ghost keeps_tables: { KeepsTables tables };
 }

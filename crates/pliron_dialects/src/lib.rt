@@ -6,6 +6,7 @@
 
 mod by_kinds;
 pub mod edge_ranges;
+pub mod entries;
 mod folds;
 mod form;
 pub mod heads;

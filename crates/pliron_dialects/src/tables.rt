@@ -3,7 +3,7 @@ ghost use Rattle.std.specs.Prelude.{◌≡◌, ℕ, Some};
 ghost use Rattle.pliron_core.specs.Tree.{IsLive, IsBlock, block_parent_of};
 ghost use Rattle.pliron_laws.specs.Answers.{ReadsHead, is_entry};
 ghost use Rattle.pliron_dialects.specs.Forms.{takes_attributes as attributes_taken, takes_counts as counts_taken, successors_of_form, has_number as is_one_number, has_count as is_one_count, is_count, takes as takes_all};
-ghost use Rattle.pliron_dialects.specs.Forms.{ends_block as is_ending, branches as is_branching, effects_of, removable_of, folds_of, folds_branch_of, interface_of};
+ghost use Rattle.pliron_dialects.specs.Forms.{ends_block as is_ending, branches as is_branching, effects_of, removable_of, folds_of, folds_branch_of, is_naming, interface_of};
 ghost use Rattle.pliron_dialects.specs.Roles.{role_at, form_at as form_by};
 
 use crate::form::Form;
@@ -109,7 +109,7 @@ impl Form {
         match self {
             Form::Constant => operands == 0 && results == 1 && regions == 0,
             Form::Computes(count) => operands == count && results == 1 && regions == 0,
-            Form::Acts => own,
+            Form::Acts | Form::Names => own,
             _ => results == 0 && regions == 0,
         }
     }
@@ -145,7 +145,7 @@ impl Form {
         match self {
             Form::Constant => Some(false),
             Form::Computes(_) => Some(false),
-            Form::Acts => Some(true),
+            Form::Acts | Form::Names => Some(true),
             _ => None,
         }
     }
@@ -155,7 +155,7 @@ impl Form {
         ensures { result ≡ removable_of self entry }
     {
         match self {
-            Form::Acts => Some(!entry),
+            Form::Acts | Form::Names => Some(!entry),
             _ => None,
         }
     }
@@ -174,6 +174,13 @@ impl Form {
         matches!(self, Form::Branches)
     }
 
+    // Whether an operation of the form names operands that each visit of a region passes.
+    pub(crate) fn names_operands(self) -> bool
+        ensures { result ≡ is_naming self }
+    {
+        matches!(self, Form::Names)
+    }
+
     // Whether an operation of the form implements the interface.
     pub(crate) fn implements(self, interface: Interface) -> bool
         ensures { result ≡ interface_of interface self }
@@ -185,7 +192,7 @@ impl Form {
             Interface::BranchFold => self.folds_branch(),
             Interface::Branch => self.branches(),
             Interface::Terminator => self.ends_block(),
-            Interface::RegionBranch => false,
+            Interface::RegionBranch => self.names_operands(),
         }
     }
 }

@@ -1,5 +1,5 @@
 -- The moves of dialects by tables, as the evaluator makes them.
-use Rattle.std.proofs.Common.{◌≡◌, ℕ, zero, suc, ◌+◌, ◌<◌, length, List, [], ◌∷◌, ◌++◌, get_or, map, take, drop, Some, None, Result, Ok, Err, refl, sym, ap, ◌∙◌, arith}
+use Rattle.std.proofs.Common.{◌≡◌, ◌⊎◌, inl, inr, ℕ, zero, suc, ◌+◌, ◌<◌, length, List, [], ◌∷◌, ◌++◌, get_or, map, take, drop, Some, None, Result, Ok, Err, refl, sym, ap, ◌∙◌, arith}
 use Rattle.std.specs.Prelude.{slice_get}
 use Rattle.std.specs.Result.{IfOk}
 use Rattle.std.specs.Option.{option_map}
@@ -11,10 +11,11 @@ use Rattle.pliron_laws.specs.Tree.{Operation, op_at, shape_of, entry_block, coun
 use Rattle.pliron_laws.specs.Answers.{ReadsShape}
 use Rattle.pliron_laws.proofs.Records.{op_shows}
 use Rattle.pliron_laws.proofs.ShapeLemmas.{head_at, shape_head}
-use Rattle.pliron_dialects.specs.declared.form.Form.TheVariants.{Constant as ConstantForm, Computes as ComputesForm, Jumps as JumpsForm, Branches as BranchesForm, Leaves as LeavesForm, Acts as ActsForm}
+use Rattle.pliron_dialects.specs.declared.form.Form.{Form}
+use Rattle.pliron_dialects.specs.declared.form.Form.TheVariants.{Constant as ConstantForm, Computes as ComputesForm, Jumps as JumpsForm, Branches as BranchesForm, Leaves as LeavesForm, Acts as ActsForm, Names as NamesForm}
 use Rattle.pliron_dialects.specs.Numbers.{whole_number_of}
 use Rattle.pliron_dialects.specs.Forms.{first_attribute, first_edge_operands, edge_by_condition, edge_values}
-use Rattle.pliron_dialects.specs.Roles.{Role, Constant, Computes, Jumps, Branches, Leaves, Acts, Tables, by_role, no_act, act_of, form_of, value_of, condition_of, role_at, meaning_by}
+use Rattle.pliron_dialects.specs.Roles.{Role, Constant, Computes, Jumps, Branches, Leaves, Acts, Names, Tables, by_role, no_act, act_of, form_of, value_of, condition_of, role_at, meaning_by}
 use Rattle.pliron_dialects.specs.Visits.{fit_data}
 use Rattle.pliron_evaluator.specs.declared.evaluator.own_moves.ShapeCounts.{ShapeCounts}
 use Rattle.pliron_evaluator.specs.declared.evaluator.values.Datum.{Datum as DatumValue}
@@ -62,9 +63,17 @@ module _ (s : Shape) (memo : Datum) (input : List Datum) where
   leave_acts Leaves e = refl
   leave_acts _ e = grind arith
 
-  pub own_acts : (r : Role) → form_of r ≡ ActsForm → own_act r s memo input ≡ act_of r s memo input
-  own_acts (Acts takes act) e = refl
-  own_acts _ e = grind arith
+  acting : (r : Role) → form_of r ≡ ActsForm → own_act r s memo input ≡ act_of r s memo input
+  acting (Acts takes act) e = refl
+  acting _ e = grind arith
+
+  naming : (r : Role) → form_of r ≡ NamesForm → own_act r s memo input ≡ act_of r s memo input
+  naming (Names takes act named) e = refl
+  naming _ e = grind arith
+
+  pub own_acts : (r : Role) (f : Form) → form_of r ≡ f → (f ≡ ActsForm) ⊎ (f ≡ NamesForm) → own_act r s memo input ≡ act_of r s memo input
+  own_acts r f e (inl g) = acting r (e ∙ g)
+  own_acts r f e (inr g) = naming r (e ∙ g)
 
 -- a move that is read off a head, off counts, or off nothing of the operation
 module _ (m : Meaning) (t : Tree) (op : ℕ) (act : Shape → Move) where

@@ -1,10 +1,13 @@
-//! Tests of the program: texts, graphs, arguments and streams that fail. It has no function of its own.
+//! Tests of the program: texts, graphs, arguments and streams that fail; and of a dialect by tables, which stands here.
 #![tactic(auto)]
 
 #[cfg(test)]
 mod arithmetic;
 #[cfg(test)]
 mod graphs;
+pub mod looped;
+#[cfg(test)]
+mod loops;
 #[cfg(test)]
 mod named;
 #[cfg(test)]

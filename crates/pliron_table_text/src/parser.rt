@@ -234,7 +234,7 @@ impl<K: Kinds + Word> TableParser<'_, K> {
     fn tail(&mut self, text: &mut TableOperation<K>) -> Result<(), Stop> {
         match text.kind.form() {
             Form::Constant => text.attribute = Some(self.cursor.number()?),
-            Form::Computes(_) | Form::Leaves | Form::Acts => self.operands(text)?,
+            Form::Computes(_) | Form::Leaves | Form::Acts | Form::Names => self.operands(text)?,
             Form::Jumps => self.edge(text)?,
             Form::Branches => self.edges(text)?,
         }

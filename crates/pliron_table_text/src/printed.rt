@@ -40,8 +40,8 @@ impl<K: Kinds + Word> Printed for Texts<K> {
     }
 }
 
-/// The text of the operation in one line, where blocks are `b0`, `b1`, .. in each region and values are `v0`,
-/// `v1`, .. in the order of the text. An operation of no kind of the dialect has the word `_`, and so have
+/// The text of the operation in one line. Blocks are `b0`, `b1`, .. in each region and values are `v0`, `v1`,
+/// .. in the order of the text. An operation of no kind of the dialect has the word `_`, and so have
 /// values and blocks that are outside what is printed.
 ///
 /// Asks that the operation is live. Errors: allocation failure. Cost: linear in the tree.

@@ -14,7 +14,7 @@ use pliron_notation::tokens::tokenise;
 use pliron_notation::{Stop, Word};
 use std::alloc::Global;
 
-/// Reads a text of the dialect of these kinds and builds its operation, which is in no block and is well
+/// Reads a text and builds its operation. That is of the dialect of these kinds, is in no block and is well
 /// linked. `None` is an unreadable text: one outside the grammar, after which nothing is made, or one with an
 /// operation that the dialect doesn't admit or an edge that isn't at the end of its block, after which its
 /// operations are live in the context.

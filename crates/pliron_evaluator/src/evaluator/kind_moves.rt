@@ -91,7 +91,7 @@ fn act<K: OwnMoves>(
         Form::Jumps => Ok(Move::Goto(0, all_copies(alloc, input)?)),
         Form::Branches => branch_move(alloc, &op.head(ctx).attrs, input),
         Form::Leaves => Ok(Move::Leave(all_copies(alloc, input)?)),
-        Form::Acts => {
+        Form::Acts | Form::Names => {
             let counts = counts_of(alloc, ctx, op)?;
             kind.own_move(alloc, &counts, memo, input)
         }

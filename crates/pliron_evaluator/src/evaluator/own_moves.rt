@@ -1,24 +1,24 @@
 //! What kinds of dialects by tables do when they run, where they act by their own tables.
-ghost use Rattle.std.specs.Prelude.{◌≡◌, map, drop, length, slice_index_or, IfOk};
+ghost use Rattle.std.specs.Prelude.{◌≡◌, ◌++◌, pos, int_lt, map, drop, length, slice_index_or, IfOk};
 ghost use Rattle.pliron_core.specs.Tree.{IsLive, results_of, regions_of};
 ghost use Rattle.pliron_laws.specs.Tree.{entry_block, count_arguments as number_of_arguments};
 ghost use Rattle.pliron_laws.specs.Datum.{Give, Leave};
 ghost use Rattle.pliron_dialects.specs.Numbers.{whole_number_of, is_zero};
 ghost use Rattle.pliron_dialects.specs.Forms.{edge_by_condition};
 ghost use Rattle.pliron_dialects.specs.Roles.{condition_of};
-ghost use Rattle.pliron_dialects.specs.Visits.{once, fit_data, visit_of};
+ghost use Rattle.pliron_dialects.specs.Visits.{once, fit_data, visit_of, chain_of as chain_in, data_of_chain as data_in, kept_operands, stage_of, last_answer, turn_move, turns_left as left_of, again_if, counted_loop as counted_by};
 ghost use Rattle.pliron_evaluator.specs.Evaluator.{datum_of_value, move_of};
-ghost use Rattle.pliron_evaluator.specs.OwnMoves.{MovesBy, own_act, first_or_zero};
+ghost use Rattle.pliron_evaluator.specs.OwnMoves.{MovesBy, own_act, turn_of, first_or_zero};
 
 use crate::evaluator::shapes::num_region_argument;
 use crate::evaluator::values::{Datum, Move, all_copies};
 use pliron_core::{Context, Operation, Ptr};
 use pliron_dialects::Kinds;
-use pliron_dialects::numbers::{edge_of, wrap};
+use pliron_dialects::numbers::{edge_of, sum, wrap};
 use std::alloc::{AllocError, Global};
 
-/// What the moves of an operation may depend on, beside its memo and its input: how many results it has, and how
-/// many arguments the entry block of each of its regions has.
+/// What a move may depend on, beside memo and input: how many results the operation has, and how many arguments the
+/// entry block of each of its regions has.
 #[derive(Debug, Drop)]
 pub struct ShapeCounts {
     pub results: usize,
@@ -38,7 +38,7 @@ impl ShapeCounts {
     }
 }
 
-/// The kinds of a dialect by tables whose operations can be run.
+/// Kinds whose operations can be run.
 pub trait OwnMoves: Kinds {
     /// The move of an operation of a kind that acts by its own tables, with this memo on this input; `Trap` for
     /// another kind. Errors: allocation failure.
@@ -117,7 +117,7 @@ fn fitted_to(alloc: Global, count: usize, input: &[Datum]) -> Result<Vec<Datum>,
     Ok(data)
 }
 
-/// The results are given, these values as far as there are results. Errors: allocation failure. Cost: that of copies.
+/// Gives these values, as far as there are results. Errors: allocation failure. Cost: that of copies.
 pub fn give(alloc: Global, counts: &ShapeCounts, values: &[Datum]) -> Result<Move, AllocError>
     ensures { IfOk result (λ next. MovesBy counts.now (move_of next)
         (λ s. Give (fit_data s.results (map datum_of_value values.now)))) }
@@ -125,8 +125,8 @@ pub fn give(alloc: Global, counts: &ShapeCounts, values: &[Datum]) -> Result<Mov
     Ok(Move::Give(fitted_to(alloc, counts.results, values)?))
 }
 
-/// The region with this index is visited, with these values as far as its entry block has arguments. Errors: allocation
-/// failure. Cost: that of copies.
+/// A visit of the region with this index. It passes these values as far as the region's entry block has arguments.
+/// Errors: allocation failure. Cost: that of copies.
 pub fn visit(
     alloc: Global,
     counts: &ShapeCounts,
@@ -140,8 +140,7 @@ pub fn visit(
     Ok(Move::Visit(region, passed, Datum::Number(1)))
 }
 
-/// The region with this index is visited with these values, and then the visit that the operation stands in is
-/// left with what came of it. Errors: allocation failure. Cost: that of copies.
+/// A visit, and then a leave with what it gave. The region has this index, and the input is passed. Errors: allocation failure. Cost: that of copies.
 pub fn visit_and_leave(
     alloc: Global,
     counts: &ShapeCounts,
@@ -156,6 +155,181 @@ pub fn visit_and_leave(
         Datum::Empty => visit(alloc, counts, region, input),
         _ => Ok(Move::Leave(all_copies(alloc, input)?)),
     }
+}
+
+/// A turn of a loop. Each visit passes the same operands, and then other data.
+#[derive(Debug, Drop)]
+pub enum Turn {
+    /// The region with this index is visited, with these data behind the operands; then comes this stage.
+    Again(usize, Vec<Datum>, Datum),
+    /// The results are given.
+    Over(Vec<Datum>),
+}
+
+// The data of a chain, behind those that are there.
+fn push_chain(alloc: Global, chain: &Datum, values: &mut Vec<Datum>) -> Result<(), AllocError>
+    ensures { IfOk result (λ u. map datum_of_value values.new.items ≡ map datum_of_value values.old.items
+        ++ data_in (datum_of_value chain.now)) }
+{
+    match chain {
+        Datum::Join(first, others) => {
+            values.push(first.copy(alloc)?)?;
+            push_chain(alloc, others, values)
+        }
+        _ => Ok(()),
+    }
+}
+
+// The data of a chain.
+fn data_of_chain(alloc: Global, chain: &Datum) -> Result<Vec<Datum>, AllocError>
+    ensures { IfOk result (λ values. map datum_of_value values.items ≡ data_in (datum_of_value chain.now)) }
+{
+    let mut values = Vec::new(alloc);
+    push_chain(alloc, chain, &mut values)?;
+    Ok(values)
+}
+
+// The data as a chain.
+fn chain_of(alloc: Global, values: &[Datum]) -> Result<Datum, AllocError>
+    ensures { IfOk result (λ chain. datum_of_value chain ≡ chain_in (map datum_of_value values.now)) }
+{
+    let mut chain = Datum::Empty;
+    for i in 0..values.len() {
+        let first = values[values.len() - 1 - i].copy(alloc)?;
+        chain = Datum::join(alloc, first, chain)?;
+    }
+    Ok(chain)
+}
+
+// The data from this place on.
+fn from_place(input: &[Datum], place: usize) -> &[Datum]
+    ensures { map datum_of_value result.now ≡ drop place (map datum_of_value input.now) }
+{
+    if place < input.len() {
+        &input[place..]
+    } else {
+        &input[..0]
+    }
+}
+
+// The operands from this place on, and then the others.
+fn passed_from(
+    alloc: Global,
+    place: usize,
+    operands: &[Datum],
+    others: &[Datum],
+) -> Result<Vec<Datum>, AllocError>
+    ensures { IfOk result (λ passed. map datum_of_value passed.items ≡ drop place (map datum_of_value operands.now)
+        ++ map datum_of_value others.now) }
+{
+    let mut passed = all_copies(alloc, from_place(operands, place))?;
+    for datum in others {
+        passed.push(datum.copy(alloc)?)?;
+    }
+    Ok(passed)
+}
+
+impl Turn {
+    /// The operands: the input at first, and then what the memo keeps. Errors: allocation failure. Cost: that of
+    /// copies.
+    pub fn operands(alloc: Global, memo: &Datum, input: &[Datum]) -> Result<Vec<Datum>, AllocError>
+        ensures { IfOk result (λ operands. map datum_of_value operands.items ≡ kept_operands (datum_of_value memo.now)
+            (map datum_of_value input.now)) }
+    {
+        match memo {
+            Datum::Empty => all_copies(alloc, input),
+            Datum::Join(_, kept) => data_of_chain(alloc, kept),
+            _ => Ok(Vec::new(alloc)),
+        }
+    }
+
+    /// What the last visit gave, at first nothing. Cost: constant.
+    pub fn answer<'a>(memo: &Datum, input: &'a [Datum]) -> &'a [Datum]
+        ensures { map datum_of_value result.now ≡ last_answer (datum_of_value memo.now)
+            (map datum_of_value input.now) }
+    {
+        match memo {
+            Datum::Join(_, _) => input,
+            _ => &input[..0],
+        }
+    }
+
+    /// The move: a visit passes the operands from this place on, and then what the turn says, cut or filled with 0; its
+    /// memo keeps the operands. Errors: allocation failure. Cost: that of copies.
+    pub fn into_move(
+        self,
+        alloc: Global,
+        counts: &ShapeCounts,
+        place: usize,
+        operands: &[Datum],
+    ) -> Result<Move, AllocError>
+        ensures { IfOk result (λ next. MovesBy counts.now (move_of next)
+            (λ s. turn_move place s (map datum_of_value operands.now) (turn_of self))) }
+    {
+        match self {
+            Turn::Again(region, others, stage) => {
+                let values = passed_from(alloc, place, operands, &others)?;
+                let passed = fitted_to(alloc, counts.entry_argument(region), &values)?;
+                let kept = chain_of(alloc, operands)?;
+                let memo = Datum::join(alloc, stage, kept)?;
+                Ok(Move::Visit(region, passed, memo))
+            }
+            Turn::Over(results) => give(alloc, counts, &results),
+        }
+    }
+}
+
+// How many turns are left at this stage of a counted loop.
+fn turns_at(operands: &[Datum], stage: &Datum) -> i64
+    ensures { result ≡ left_of (map datum_of_value operands.now) (datum_of_value stage.now) }
+{
+    match stage {
+        Datum::Empty => condition(operands),
+        _ => number_of(stage),
+    }
+}
+
+// How many turns of a counted loop are left.
+fn turns_left(operands: &[Datum], memo: &Datum) -> i64
+    ensures { result ≡ left_of (map datum_of_value operands.now) (stage_of (datum_of_value memo.now)) }
+{
+    match memo {
+        Datum::Join(stage, _) => turns_at(operands, stage),
+        _ => condition(operands),
+    }
+}
+
+// The turn of a counted loop with so many left.
+fn counted_turn(alloc: Global, left: i64, answer: &[Datum]) -> Result<Turn, AllocError>
+    ensures { IfOk result (λ turn. turn_of turn ≡ again_if (int_lt (pos 0) left) left (map datum_of_value answer.now)) }
+{
+    let data = all_copies(alloc, answer)?;
+    if 0 < left {
+        let stage = Datum::Number(sum(left, -1) as i128);
+        Ok(Turn::Again(0, data, stage))
+    } else {
+        Ok(Turn::Over(data))
+    }
+}
+
+/// A counted loop: the first operand says how often the region with index 0 is visited, with the other operands and
+/// then what the last visit gave; then that is given. Errors: allocation failure. Cost: that of copies.
+pub fn counted_loop(
+    alloc: Global,
+    counts: &ShapeCounts,
+    memo: &Datum,
+    input: &[Datum],
+) -> Result<Move, AllocError>
+    ensures { IfOk result (λ next. MovesBy counts.now (move_of next) (λ s. counted_by s (datum_of_value memo.now)
+        (map datum_of_value input.now))) }
+{
+    let operands = Turn::operands(alloc, memo, input)?;
+    let turn = counted_turn(
+        alloc,
+        turns_left(&operands, memo),
+        Turn::answer(memo, input),
+    )?;
+    turn.into_move(alloc, counts, 1, &operands)
 }
 
 // The counts of an operation.

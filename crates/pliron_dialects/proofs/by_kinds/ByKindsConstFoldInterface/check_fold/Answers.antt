@@ -1,4 +1,4 @@
-use Rattle.std.proofs.Common.{[], ◌∷◌, ap, ◌∙◌}
+use Rattle.std.proofs.Common.{ap, ◌∙◌}
 use Rattle.pliron_dialects.specs.Forms.{answers_of}
 use Rattle.pliron_dialects.proofs.RoleReads.{answers_read, no_answers_read}
 use Rattle.pliron_dialects.proofs.by_kinds.ByKindsConstFoldInterface.check_fold.Goals as goal

@@ -50,4 +50,4 @@ returns-in_ok-counts-in-Acts g c =
     let r = g.K.Kinds.tables.role_of c.args.kind in
     let memo = datum_of_value c.args.memo.now in
     let input = map datum_of_value c.args.input.now in
-    by_counts (meaning_by (role_at g.K.Kinds.tables)) c.args.ctx.now.tree c.args.op (λ s. act_of r s memo input) c.own_move.result c.in_ok-counts-in-Acts.counts (λ s. own_act r s memo input) c.in_ok-counts-in-Acts.ensures.results c.in_ok-counts-in-Acts.ensures.entries (λ s. own_acts s memo input r (sym c.form.ensures ∙ c.in-Acts.is)) c.own_move.ensures
+    by_counts (meaning_by (role_at g.K.Kinds.tables)) c.args.ctx.now.tree c.args.op (λ s. act_of r s memo input) c.own_move.result c.in_ok-counts-in-Acts.counts (λ s. own_act r s memo input) c.in_ok-counts-in-Acts.ensures.results c.in_ok-counts-in-Acts.ensures.entries (λ s. own_acts s memo input r c.form.result (sym c.form.ensures) c.in-Acts.is) c.own_move.ensures

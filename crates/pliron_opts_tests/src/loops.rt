@@ -1,0 +1,89 @@
+//! Counted loops of a dialect by tables before and after constant propagation, and their runs, worked by hand.
+use crate::looped::{Looped, LoopedKind};
+use pliron_core::{Context, Operation, Ptr};
+use pliron_evaluator::evaluator::{Datum, Sight, evaluate};
+use pliron_laws::is_well_linked;
+use pliron_sccp::sccp;
+use pliron_table_text::{print_text, read_text};
+use std::alloc::Global;
+use std::process::Abort;
+
+// A name, an input, a function, the value that its runs end with, and the function after propagation.
+static CASES: &str = "\
+a constant operand falls into the region -- 4 | function { b0(n): a = lit 7; r = repeat n a { t(x, s): y = add x x; \
+    z = add y s; return z }; return r } | 56 => function { b0(v0): v1 = lit 7; v2 = repeat v0 v1 { b0(v3, v4): v5 = \
+    lit 7; v6 = lit 14; v7 = add v5 v5; v8 = add v6 v4; return v8 }; return v2 }
+the second of two operands -- 3 | function { b0(n): a = lit 7; r = repeat n n a { t(x, y, s): q = add x y; z = add q \
+    s; return z }; return r } | 30 => function { b0(v0): v1 = lit 7; v2 = repeat v0 v0 v1 { b0(v3, v4, v5): v6 = lit \
+    7; v7 = add v3 v6; v8 = add v7 v5; return v8 }; return v2 }
+what the last visit gave -- 2 | function { b0(n): a = lit 7; r = repeat n { t(s): y = add s a; return y }; return r \
+    } | 14 => function { b0(v0): v1 = lit 7; v2 = repeat v0 { b0(v3): v4 = add v3 v1; return v4 }; return v2 }
+no visit -- 0 | function { b0(n): a = lit 7; r = repeat n a { t(x): return x }; return r } | 0 => function { b0(v0): \
+    v1 = lit 7; v2 = repeat v0 v1 { b0(v3): v4 = lit 7; return v4 }; return v2 }";
+
+// One datum, the number that the word is.
+fn datum(rt: &impl Abort, alloc: Global, word: &str) -> Vec<Datum> {
+    let number = word.parse::<i64>().ok().expect(rt, "a number");
+    let mut data = Vec::new(alloc);
+    data.push(Datum::Number(number as i128))
+        .expect(rt, "memory");
+    data
+}
+
+/// A case.
+#[derive(Clone, Copy)]
+struct Case<'t> {
+    name: &'t str,
+    input: &'t str,
+    before: &'t str,
+    value: &'t str,
+    after: &'t str,
+}
+
+fn check_run(rt: &impl Abort, alloc: Global, ctx: &Context, root: Ptr<Operation>, case: &Case) {
+    let world = Vec::new(alloc);
+    let input = datum(rt, alloc, case.input);
+    let seen = evaluate::<Looped>(alloc, ctx, root, input, world, 200).expect(rt, "memory");
+    let want = Sight::Ended(datum(rt, alloc, case.value), Vec::new(alloc));
+    assert_eq!(rt; seen, want, "{name}", name = case.name);
+}
+
+fn check_in(rt: &impl Abort, alloc: Global, ctx: &mut Context, case: &Case) {
+    let read = read_text::<LoopedKind>(alloc, case.before.as_bytes(), ctx).expect(rt, "memory");
+    let root = read.expect(rt, "readable");
+    check_run(rt, alloc, ctx, root, case);
+    assert!(rt; root.is_live(ctx));
+    assert!(rt; is_well_linked::<Looped>(root, ctx));
+    let _ = sccp::<Looped>(alloc, root, ctx).expect(rt, "memory");
+    check_run(rt, alloc, ctx, root, case);
+    assert!(rt; root.is_live(ctx));
+    let printed = print_text::<LoopedKind>(alloc, root, ctx).expect(rt, "memory");
+    assert_eq!(rt; printed.as_str(), case.after, "{name}", name = case.name);
+}
+
+// The parts of a line.
+fn case_of<'t>(rt: &impl Abort, line: &'t str) -> Case<'t> {
+    let (name, row) = line.split_once(" -- ").expect(rt, "a name");
+    let (given, after) = row.split_once(" => ").expect(rt, "a case");
+    let (input, rest) = given.split_once(" | ").expect(rt, "an input");
+    let (before, value) = rest.split_once(" | ").expect(rt, "a value");
+    Case {
+        name,
+        input,
+        before,
+        value,
+        after,
+    }
+}
+
+fn check(rt: &impl Abort, alloc: Global, line: &str) {
+    let mut ctx = Context::new(alloc);
+    check_in(rt, alloc, &mut ctx, &case_of(rt, line));
+}
+
+#[test]
+fn texts(rt: HostRuntime) {
+    for line in CASES.lines() {
+        check(&rt, rt.alloc(), line);
+    }
+}
