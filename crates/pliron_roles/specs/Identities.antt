@@ -1,4 +1,4 @@
--- What leaves an operand as it is, or gives one number, whatever the other data are.
+-- What leaves an operand as it is. It may also give one number, whatever the other data are.
 use Rattle.std.specs.Prelude.{ℕ, nat_eq, if◌then◌else◌, Bool, true, false, not, ◌&&◌, ◌||◌, List, [], ◌∷◌, Option, Some, None, ℤ, option_map}
 use Rattle.std.specs.Ordering.{int_eq}
 use Rattle.std.specs.Cmp.Lexicographic.{pointwise}

@@ -70,7 +70,7 @@ impl Identity {
     }
 
     // The number that is absorbed to.
-    fn absorbed(self) -> Option<i128>
+    fn absorbed_number(self) -> Option<i128>
         ensures { result ≡ absorbed_of self }
     {
         match self.absorption() {
@@ -85,9 +85,9 @@ fn given_by(identity: Identity, second: bool, first: bool, equal: bool) -> Optio
     ensures { result ≡ given_by_of identity second first equal }
 {
     if second || first {
-        identity.absorbed()
+        identity.absorbed_number()
     } else if equal {
-        equal_if(identity.neutral, identity.absorbed(), identity.equal)
+        equal_if(identity.neutral, identity.absorbed_number(), identity.equal)
     } else {
         None
     }

@@ -6,14 +6,14 @@ ghost use Rattle.pliron_roles.specs.Identities.{no_identity, is_this as is_this_
 
 use pliron_core::{AttrObj, Context, Operation, Ptr};
 
-/// An operand beside which any other datum gives one number.
+/// What gives one number. The other operand may be any.
 #[derive(Clone, Copy, Debug, PartialEq, Eq)]
 pub struct Absorption {
     pub operand: i128,
     pub result: i128,
 }
 
-/// What leaves an operand as it is, or gives one number, whatever the other data are.
+/// What leaves an operand. It may also give one number, whatever the other data are.
 #[derive(Clone, Copy, Debug, PartialEq, Eq)]
 pub struct Identity {
     /// The number that leaves the first operand, where it is the second.
