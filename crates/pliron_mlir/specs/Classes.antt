@@ -15,8 +15,7 @@ use Rattle.pliron_mlir.specs.declared.kind.Class.{Class}
 use Rattle.pliron_mlir.specs.declared.kind.Class.TheVariants.{Constant as ConstantClass, Select, Opaque as OpaqueClass, Jump, Branch, Switch, Leave as LeaveClass, Unreachable, Effect, Regions, Root, Module, Fork, Compare, Cast as CastClass, Binary}
 use Rattle.pliron_branches.specs.Counts.{counted_by}
 use Rattle.pliron_roles.specs.declared.identity.Identity.{Identity}
-use Rattle.pliron_roles.specs.Identities.{no_identity}
-use Rattle.pliron_mlir.specs.IntegerIdentities.{of_cast, identity_at}
+use Rattle.pliron_mlir.specs.IntegerIdentities.{of_cast, of_compare, identity_at}
 use Rattle.pliron_roles.specs.Roles.{Interpretation, Role, Constant, Folds, Picks, Opaque, Jumps, Chooses, Leaves, Stops, Acts, Forks, Tables, KeepsTables, ActsFit, effect_act, region_act, fit_data, has_some}
 use Rattle.pliron_roles.specs.CountLaws.{effect_fits, region_fits, at_fits, length-fitted}
 use Rattle.pliron_mlir.specs.ClassNumbers.{number_of_class, class_of_number, numbered}
@@ -58,10 +57,10 @@ abbrev pub cast_by : Cast → Head → List ℤ → Option ℤ
 cast_by cast h (a ∷ []) = option_map (number (width_at h.attrs 1)) (of_one (cast_of cast (flags_at h.attrs 2) (width_at h.attrs 0) (width_at h.attrs 1)) (bits_at (width_at h.attrs 0) a))
 cast_by cast h _ = None
 
-abbrev pub leaves_none : Head → Identity
-leaves_none h = no_identity
+-- what leaves an operand as it is or gives one number, by what the attributes say
+abbrev pub compare_identity : Head → Identity
+compare_identity h = of_compare (predicate_of_number (attribute_at h.attrs 1)) (width_at h.attrs 0)
 
--- what leaves an operand as it is, at the widths that the attributes say
 abbrev pub cast_identity : Head → Identity
 cast_identity h = of_cast (width_at h.attrs 0) (width_at h.attrs 1)
 
@@ -132,7 +131,7 @@ role_of_class Regions = Acts any_regions region_act
 role_of_class Root = Acts one_region root_act
 role_of_class Module = Acts one_region module_act
 role_of_class Fork = Forks
-role_of_class Compare = Folds 2 compared_by leaves_none
+role_of_class Compare = Folds 2 compared_by compare_identity
 role_of_class (CastClass cast) = Folds 1 (cast_by cast) cast_identity
 role_of_class (Binary operator) = Folds 2 (computed_by operator) (identity_by operator)
 

@@ -30,7 +30,8 @@ pub fn flags(word: &str) -> Flags {
     }
 }
 
-fn predicate(word: &str) -> Option<Predicate> {
+// The predicate that a word names.
+pub fn predicate(word: &str) -> Option<Predicate> {
     match word {
         "eq" => Some(Predicate::Equal),
         "ne" => Some(Predicate::NotEqual),
@@ -46,7 +47,8 @@ fn predicate(word: &str) -> Option<Predicate> {
     }
 }
 
-fn datum(width: u32, bits: &str) -> Option<i128> {
+// The datum of an integer of this width that a word names.
+pub fn datum(width: u32, bits: &str) -> Option<i128> {
     if width > 65 {
         return None;
     }

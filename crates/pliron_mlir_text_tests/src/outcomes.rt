@@ -63,6 +63,42 @@ a sum with 0 -- canonicalize,dce :: \"builtin.module\"() ({|  \"func.func\"() <{
     #arith.overflow<none>}> : (i32, i32) -> i32|    \"func.return\"(%2) : (i32) -> ()|  }) : () -> ()|}) : () -> () \
     => 0 \"builtin.module\"() ({|  \"func.func\"() <{sym_name = \"f\"}> ({|  ^bb1(%0: i32):|    \"func.return\"(%0) : \
     (i32) -> ()|  }) : () -> ()|}) : () -> ()| => changed|
+a difference of equal operands -- canonicalize,dce :: \"builtin.module\"() ({|  \"func.func\"() <{sym_name = \
+    \"f\"}> ({|  ^bb0(%0: i32):|    %1 = \"arith.subi\"(%0, %0) <{overflowFlags = #arith.overflow<none>}> : \
+    (i32, i32) -> i32|    \"func.return\"(%1) : (i32) -> ()|  }) : () -> ()|}) : () -> () => 0 \
+    \"builtin.module\"() ({|  \"func.func\"() <{sym_name = \"f\"}> ({|  ^bb1(%0: i32):|    %2 = \
+    \"arith.constant\"() <{value = 0 : i32}> : () -> i32|    \"func.return\"(%2) : (i32) -> ()|  }) : () -> \
+    ()|}) : () -> ()| => changed|
+whether an index is less than itself -- canonicalize,dce :: \"builtin.module\"() ({|  \"func.func\"() <{sym_name \
+    = \"f\"}> ({|  ^bb0(%0: index):|    %1 = \"arith.cmpi\"(%0, %0) <{predicate = 6 : i64}> : (index, index) -> \
+    i1|    \"func.return\"(%1) : (i1) -> ()|  }) : () -> ()|}) : () -> () => 0 \"builtin.module\"() ({|  \
+    \"func.func\"() <{sym_name = \"f\"}> ({|  ^bb1(%0: index):|    %2 = \"arith.constant\"() <{value = false}> : \
+    () -> i1|    \"func.return\"(%2) : (i1) -> ()|  }) : () -> ()|}) : () -> ()| => changed|
+a product with 0, which is the first operand -- canonicalize,dce :: \"builtin.module\"() ({|  \"func.func\"() \
+    <{sym_name = \"f\"}> ({|  ^bb0(%0: i32):|    %1 = \"arith.constant\"() <{value = 0 : i32}> : () -> i32|    \
+    %2 = \"arith.muli\"(%1, %0) <{overflowFlags = #arith.overflow<none>}> : (i32, i32) -> i32|    \
+    \"func.return\"(%2) : (i32) -> ()|  }) : () -> ()|}) : () -> () => 0 \"builtin.module\"() ({|  \
+    \"func.func\"() <{sym_name = \"f\"}> ({|  ^bb1(%0: i32):|    %3 = \"arith.constant\"() <{value = 0 : i32}> : \
+    () -> i32|    \"func.return\"(%3) : (i32) -> ()|  }) : () -> ()|}) : () -> ()| => changed|
+a remainder by 1 of an index -- canonicalize,dce :: \"builtin.module\"() ({|  \"func.func\"() <{sym_name = \
+    \"f\"}> ({|  ^bb0(%0: index):|    %1 = \"arith.constant\"() <{value = 1 : index}> : () -> index|    %2 = \
+    \"arith.remui\"(%0, %1) : (index, index) -> index|    \"func.return\"(%2) : (index) -> ()|  }) : () -> ()|}) \
+    : () -> () => 0 \"builtin.module\"() ({|  \"func.func\"() <{sym_name = \"f\"}> ({|  ^bb1(%0: index):|    %3 \
+    = \"arith.constant\"() <{value = 0 : index}> : () -> index|    \"func.return\"(%3) : (index) -> ()|  }) : () \
+    -> ()|}) : () -> ()| => changed|
+a signed minimum with the least number -- canonicalize,dce :: \"builtin.module\"() ({|  \"func.func\"() \
+    <{sym_name = \"f\"}> ({|  ^bb0(%0: i8):|    %1 = \"arith.constant\"() <{value = -128 : i8}> : () -> i8|    \
+    %2 = \"arith.minsi\"(%0, %1) : (i8, i8) -> i8|    \"func.return\"(%2) : (i8) -> ()|  }) : () -> ()|}) : () \
+    -> () => 0 \"builtin.module\"() ({|  \"func.func\"() <{sym_name = \"f\"}> ({|  ^bb1(%0: i8):|    %3 = \
+    \"arith.constant\"() <{value = -128 : i8}> : () -> i8|    \"func.return\"(%3) : (i8) -> ()|  }) : () -> \
+    ()|}) : () -> ()| => changed|
+an or with all bits, which promises no common one -- canonicalize,dce :: \"builtin.module\"() ({|  \
+    \"llvm.func\"() <{sym_name = \"f\"}> ({|  ^bb0(%0: i32):|    %1 = \"llvm.mlir.constant\"() <{value = -1 : \
+    i32}> : () -> i32|    %2 = \"llvm.or\"(%0, %1) <{isDisjoint}> : (i32, i32) -> i32|    \"llvm.return\"(%2) : \
+    (i32) -> ()|  }) : () -> ()|}) : () -> () => 0 \"builtin.module\"() ({|  \"llvm.func\"() <{sym_name = \
+    \"f\"}> ({|  ^bb1(%0: i32):|    %1 = \"llvm.mlir.constant\"() <{value = -1 : i32}> : () -> i32|    %2 = \
+    \"llvm.or\"(%0, %1) <{isDisjoint}> : (i32, i32) -> i32|    \"llvm.return\"(%2) : (i32) -> ()|  }) : () -> \
+    ()|}) : () -> ()| => unchanged|
 a used value of an unreachable block -- simplify-cfg :: \"m\"() ({|  \"func.func\"() <{sym_name = \"f\"}> \
     ({|    \"func.return\"(%0) : (i32) -> ()|  ^b:|    %0 = \"arith.constant\"() <{value = 1 : i32}> : () -> \
     i32|    \"cf.br\"()[^b] : () -> ()|  }) : () -> ()|}) : () -> () => 1  => error: refused: a value of an \

@@ -1,13 +1,14 @@
--- What leaves an operand as it is.
-use Rattle.std.specs.Prelude.{ℕ, nat_eq, if◌then◌else◌, Bool, true, false, ◌&&◌, List, [], ◌∷◌, Option, Some, None, ℤ}
+-- What leaves an operand as it is. It may also give one number, whatever the other data are.
+use Rattle.std.specs.Prelude.{ℕ, nat_eq, if◌then◌else◌, Bool, true, false, not, ◌&&◌, ◌||◌, List, [], ◌∷◌, Option, Some, None, ℤ, option_map}
 use Rattle.std.specs.Ordering.{int_eq}
 use Rattle.std.specs.Cmp.Lexicographic.{pointwise}
 use Rattle.pliron_core.specs.declared.attrs.AttrObj.{AttrObj}
 use Rattle.pliron_laws.specs.Datum.{Datum, Empty, Number, Text, Join, datum_of}
+use Rattle.pliron_roles.specs.declared.identity.Absorption.{Absorption}
 use Rattle.pliron_roles.specs.declared.identity.Identity.{Identity}
 
 abbrev pub no_identity : Identity
-no_identity = record { neutral = None; either_side = false; idempotent = false; only = false }
+no_identity = record { neutral = None; either_side = false; idempotent = false; only = false; equal = None; absorbing = None }
 
 -- whether two data are one
 abbrev pub same_datum : Datum → Datum → Bool
@@ -62,3 +63,57 @@ abbrev pub place_told : Identity → List (Option AttrObj) → List ℕ → Opti
 place_told i (p ∷ []) operands = place_of_one i.only
 place_told i (p ∷ q ∷ []) operands = place_by (is_known_as i.neutral q) (i.either_side && is_known_as i.neutral p) (i.idempotent && are_same operands)
 place_told i _ operands = None
+
+-- ---- the number that is given
+
+-- whether there is no other number
+abbrev pub agrees_with : Option ℤ → ℤ → Bool
+agrees_with None n = true
+agrees_with (Some m) n = int_eq m n
+
+-- what absorbs: where it may be either operand, or one of equal operands is left, it has to give itself
+abbrev pub absorption_if : Bool → Option Absorption → Option Absorption
+absorption_if itself None = None
+absorption_if itself (Some a) = if itself && not (int_eq a.operand a.result) then None else Some a
+
+abbrev pub absorption_of : Identity → Option Absorption
+absorption_of i = absorption_if (i.either_side || i.idempotent) i.absorbing
+
+abbrev pub absorber_of : Identity → Option ℤ
+absorber_of i = option_map (λ a. a.operand) (absorption_of i)
+
+abbrev pub absorbed_of : Identity → Option ℤ
+absorbed_of i = option_map (λ a. a.result) (absorption_of i)
+
+-- what equal operands give: no other number than what is neutral, and than what is absorbed
+abbrev pub equal_if : Option ℤ → Option ℤ → Option ℤ → Option ℤ
+equal_if neutral absorbed None = None
+equal_if neutral absorbed (Some n) = if agrees_with neutral n && agrees_with absorbed n then Some n else None
+
+abbrev pub equal_of : Identity → Option ℤ
+equal_of i = equal_if i.neutral (absorbed_of i) i.equal
+
+-- the number that is given: where the second operand absorbs, where the first does, of equal ones
+abbrev pub given_by : Identity → (second first equal : Bool) → Option ℤ
+given_by i second first equal = if second then absorbed_of i else if first then absorbed_of i else if equal then equal_of i else None
+
+abbrev pub given_between : Identity → Datum → Datum → Option ℤ
+given_between i d e = given_by i (is_this (absorber_of i) e) (i.either_side && is_this (absorber_of i) d) (same_datum d e)
+
+abbrev pub given_in : Identity → List Datum → Option ℤ
+given_in i (d ∷ e ∷ []) = given_between i d e
+given_in i _ = None
+
+-- the number where all operands are known
+abbrev pub given_of_two : Identity → Option AttrObj → Option AttrObj → Option ℤ
+given_of_two i (Some a) (Some b) = given_between i (datum_of a) (datum_of b)
+given_of_two i _ _ = None
+
+abbrev pub given_known : Identity → List (Option AttrObj) → Option ℤ
+given_known i (a ∷ b ∷ []) = given_of_two i a b
+given_known i _ = None
+
+-- the number that one operand tells, or that both are the same value
+abbrev pub given_told : Identity → List (Option AttrObj) → List ℕ → Option ℤ
+given_told i (p ∷ q ∷ []) operands = given_by i (is_known_as (absorber_of i) q) (i.either_side && is_known_as (absorber_of i) p) (are_same operands)
+given_told i _ operands = None

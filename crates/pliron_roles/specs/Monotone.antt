@@ -9,9 +9,9 @@ use Rattle.pliron_core.specs.declared.attrs.AttrObj.TheVariants.{Int}
 use Rattle.pliron_core.specs.Lists.{In}
 use Rattle.pliron_laws.specs.Datum.{Shape}
 use Rattle.pliron_laws.specs.Folding.{KnowsMore, FoldsMonotonely}
-use Rattle.pliron_roles.specs.Roles.{Interpretation, Role, Constant, Folds, Picks, Opaque, Jumps, Chooses, Leaves, Stops, Acts, Forks, told_edge, truth_of, by_role, meaning_by, folds_by, branch_folds_by, constants_by, feasible_by, answers_by, feasible_of, edges_taken, known_as, known_number_at, all_known, with_number, number_computed, left_known, picked_known}
+use Rattle.pliron_roles.specs.Roles.{Interpretation, Role, Constant, Folds, Picks, Opaque, Jumps, Chooses, Leaves, Stops, Acts, Forks, told_edge, truth_of, by_role, meaning_by, folds_by, branch_folds_by, constants_by, feasible_by, answers_by, feasible_of, edges_taken, known_as, known_number_at, all_known, with_number, number_computed, left_known, folded_known, picked_known}
 use Rattle.pliron_roles.specs.declared.identity.Identity.{Identity}
-use Rattle.pliron_roles.specs.Identities.{place_of_one, place_known}
+use Rattle.pliron_roles.specs.Identities.{place_of_one}
 use Rattle.pliron_roles.specs.FoldLaws.{taken_in}
 
 -- what is known stays
@@ -63,9 +63,7 @@ too_few : {P : Type 0} (c e : Option AttrObj) (known : List (Option AttrObj)) (d
 too_few None e known d m = absurd m
 too_few (Some c) e known d m = absurd m.1
 
--- what is computed, or left, of operands that are all known stays
-abbrev left_of : Identity → (List ℤ → Option ℤ) → List (Option AttrObj) → Option AttrObj
-left_of i result known = left_known known (place_known i known) (option_map (λ k. Int k) (number_computed result (all_known known)))
+-- what is computed, left or given of operands that are all known stays
 
 computed_more : (result : List ℤ → Option ℤ) (known more : List (Option AttrObj)) → KnowsMore known more → IsMore (option_map (λ k. Int k) (number_computed result (all_known known))) (option_map (λ k. Int k) (number_computed result (all_known more)))
 computed_more result known more m = kept (λ o. option_map (λ k. Int k) (number_computed result o)) refl (all_known known) (all_known more) (all_more known more m)
@@ -75,8 +73,8 @@ one_more true result None b m = tt
 one_more true result (Some a) b m = subst (IsMore (Some a)) (sym m.0) (no_less (Some a))
 one_more false result a b m = computed_more result (a ∷ []) (b ∷ []) m
 
-left_more : (i : Identity) (result : List ℤ → Option ℤ) (known more : List (Option AttrObj)) → KnowsMore known more → IsMore (left_of i result known) (left_of i result more)
-left_more i result [] [] m = no_less (left_of i result [])
+left_more : (i : Identity) (result : List ℤ → Option ℤ) (known more : List (Option AttrObj)) → KnowsMore known more → IsMore (folded_known i result known) (folded_known i result more)
+left_more i result [] [] m = no_less (folded_known i result [])
 left_more i result [] (b ∷ more) m = absurd m
 left_more i result (a ∷ known) [] m = absurd m
 left_more i result (a ∷ []) (b ∷ []) m = one_more i.only result a b m
@@ -86,7 +84,7 @@ left_more i result (None ∷ c ∷ []) (b ∷ more) m = tt
 left_more i result (None ∷ c ∷ e ∷ known) (b ∷ more) m = tt
 left_more i result (Some a ∷ None ∷ []) (b ∷ more) m = tt
 left_more i result (Some a ∷ c ∷ known) (b ∷ []) m = absurd m.1
-left_more i result (Some a ∷ Some c ∷ []) (b ∷ d ∷ []) m = subst (λ x. IsMore (left_of i result (Some a ∷ Some c ∷ [])) (left_of i result (x ∷ d ∷ []))) (sym m.0) (subst (λ x. IsMore (left_of i result (Some a ∷ Some c ∷ [])) (left_of i result (Some a ∷ x ∷ []))) (sym m.1.0) (no_less (left_of i result (Some a ∷ Some c ∷ []))))
+left_more i result (Some a ∷ Some c ∷ []) (b ∷ d ∷ []) m = subst (λ x. IsMore (folded_known i result (Some a ∷ Some c ∷ [])) (folded_known i result (x ∷ d ∷ []))) (sym m.0) (subst (λ x. IsMore (folded_known i result (Some a ∷ Some c ∷ [])) (folded_known i result (Some a ∷ x ∷ []))) (sym m.1.0) (no_less (folded_known i result (Some a ∷ Some c ∷ []))))
 left_more i result (Some a ∷ Some c ∷ []) (b ∷ d ∷ e ∷ more) m = absurd m.1.1
 left_more i result (Some a ∷ c ∷ e ∷ known) (b ∷ d ∷ []) m = too_few c e known d m.1
 left_more i result (Some a ∷ c ∷ e ∷ known) (b ∷ d ∷ f ∷ more) m = computed_more result (Some a ∷ c ∷ e ∷ known) (b ∷ d ∷ f ∷ more) m

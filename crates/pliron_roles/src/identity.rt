@@ -1,4 +1,4 @@
-//! What leaves an operand as it is.
+//! What leaves an operand as it is, or gives one number.
 ghost use Rattle.std.specs.Prelude.{◌≡◌, ◌&&◌};
 ghost use Rattle.pliron_core.specs.Tree.{IsLive, operands_of};
 ghost use Rattle.pliron_laws.specs.Datum.{datum_of};
@@ -6,21 +6,32 @@ ghost use Rattle.pliron_roles.specs.Identities.{no_identity, is_this as is_this_
 
 use pliron_core::{AttrObj, Context, Operation, Ptr};
 
-/// What leaves an operand as it is, whatever its datum is.
+/// What gives one number. The other operand may be any.
+#[derive(Clone, Copy, Debug, PartialEq, Eq)]
+pub struct Absorption {
+    pub operand: i128,
+    pub result: i128,
+}
+
+/// What leaves an operand. It may also give one number, whatever the other data are.
 #[derive(Clone, Copy, Debug, PartialEq, Eq)]
 pub struct Identity {
     /// The number that leaves the first operand, where it is the second.
     pub neutral: Option<i128>,
-    /// It leaves the second operand, too, where it is the first.
+    /// It leaves the second operand, too, where it is the first; and what absorbs may be the first.
     pub either_side: bool,
     /// Equal operands leave the first of them.
     pub idempotent: bool,
     /// The only operand is left.
     pub only: bool,
+    /// The number that equal operands give. It counts for nothing where what is neutral or absorbed is another one.
+    pub equal: Option<i128>,
+    /// What absorbs as the second operand. Where `either_side` or `idempotent` is so, it counts if it gives itself.
+    pub absorbing: Option<Absorption>,
 }
 
 impl Identity {
-    /// Nothing leaves an operand. Cost: constant.
+    /// Nothing leaves an operand or gives a number. Cost: constant.
     pub fn none() -> Identity
         ensures { result ≡ no_identity }
     {
@@ -29,12 +40,14 @@ impl Identity {
             either_side: false,
             idempotent: false,
             only: false,
+            equal: None,
+            absorbing: None,
         }
     }
 }
 
 // Whether the attribute is this number.
-fn is_this(neutral: Option<i128>, attr: &AttrObj) -> bool
+pub(crate) fn is_this(neutral: Option<i128>, attr: &AttrObj) -> bool
     ensures { result ≡ is_this_of neutral (datum_of attr.now) }
 {
     match neutral {
@@ -47,7 +60,7 @@ fn is_this(neutral: Option<i128>, attr: &AttrObj) -> bool
 }
 
 // Whether the operand is known to be this number.
-fn is_known_as(neutral: Option<i128>, known: &Option<AttrObj>) -> bool
+pub(crate) fn is_known_as(neutral: Option<i128>, known: &Option<AttrObj>) -> bool
     ensures { result ≡ is_known_as_of neutral known.now }
 {
     match known {
@@ -57,7 +70,7 @@ fn is_known_as(neutral: Option<i128>, known: &Option<AttrObj>) -> bool
 }
 
 // Whether both attributes have the same datum.
-fn has_same_datum(a: &AttrObj, b: &AttrObj) -> bool
+pub(crate) fn has_same_datum(a: &AttrObj, b: &AttrObj) -> bool
     ensures { result ≡ same_datum (datum_of a.now) (datum_of b.now) }
 {
     match a {
@@ -130,7 +143,7 @@ pub fn known_place(identity: Identity, operand_attrs: &[Option<AttrObj>]) -> Opt
 }
 
 // Whether there are two operands, which are the same value.
-fn has_same_operands(op: Ptr<Operation>, ctx: &Context) -> bool
+pub(crate) fn has_same_operands(op: Ptr<Operation>, ctx: &Context) -> bool
     requires { IsLive ctx.now.tree op }
     ensures { result ≡ are_same (operands_of ctx.now.tree op) }
 {
