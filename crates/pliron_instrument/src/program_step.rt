@@ -8,7 +8,7 @@ use pliron_opts::Notation;
 use pliron_pass::{BenchFacts, Either, Pass};
 use pliron_pipeline::{CSEPass, DCEPass, PassName, PassStep, SCCPPass, SimplifyCFGPass};
 
-/// A notation of a dialect that says which results are operands, so that each of the passes can run on its texts.
+/// A notation of a dialect that folds to operands, so that each of the passes can run on its texts.
 pub trait FoldingNotation: Notation<D: OperandFoldInterface> {}
 
 impl<N: Notation<D: OperandFoldInterface>> FoldingNotation for N {}
