@@ -102,6 +102,10 @@ module _ (reads : Reads) (m : Meaning) (inputs world : List Datum) (steps : ℕ)
 pub ended : (laid text : List ℕ) → IsLaidOut text laid → IsLaidOut text (laid ++ 10 ∷ [])
 ended laid text e = break_added laid ∙ e
 
+-- what holds of what was made, if something was
+pub made_when : {A X : Type 0} (P : A → Type 0) (r : Result (Option A) X) (found : Option A) (made : A) → r ≡ Ok found → found ≡ Some made → IfOk r (λ z. IfSome z P) → P made
+made_when P r found made e is all = subst (λ z. IfSome z P) is (subst (λ z. IfOk z (λ x. IfSome x P)) e all)
+
 pub is_made : (reads : Reads) (prints : Prints) (m : Meaning) (ran : ℕ → Tree → Tree → IRStatus → Type 0) (text printed : List ℕ) (status : IRStatus) (o : Outcome) → IsOptimised reads prints m ran text (printed ++ status_line status) → IsLaidOut printed o.output.items → o.status ≡ 0 → EndsOptimised reads prints m ran text o
 is_made reads prints m ran text printed status o made laid e = Says (record { printed = printed; status = status; made = made; laid = laid }) e
 

@@ -1,5 +1,9 @@
 -- How passes end on texts that may be unfit to run.
-use Rattle.std.proofs.Common.{◌⊎◌, inl, inr, Bool, IsTrue, Result, Ok, Err, IfOk}
+use Rattle.std.proofs.Common.{◌≡◌, ◌⊎◌, inl, inr, ℕ, Bool, List, IsTrue, Result, Ok, Err, IfOk}
+use Rattle.pliron_laws.specs.Datum.{Meaning}
+use Rattle.pliron_opts.specs.Answered.{Reads}
+use Rattle.pliron_cli.specs.Parts.{IsFitByParts.AsAWhole}
+use Rattle.pliron_cli.specs.Checked.{IsWholeText, IsFitText}
 use Rattle.pliron_cli.specs.declared.outcome.Outcome.{Outcome}
 
 -- where no pass ran
@@ -16,3 +20,12 @@ module _ {X : Type 0} where
   pub rejected_strictly : (A B : Outcome → Type 0) (strict : Bool) (r : Result Outcome X) → IsTrue strict → IfOk r (λ o. A o ⊎ B o) → IfOk r (λ o. A o ⊎ (IsTrue strict × B o))
   rejected_strictly A B strict (Ok o) is ends = strictly A B strict is o ends
   rejected_strictly A B strict (Err e) is ends = tt
+
+  -- however it ends, this is so
+  pub anyway : (A : Type 0) (r : Result Outcome X) → A → IfOk r (λ o. o.status ≡ 0 → A)
+  anyway A (Ok o) a = λ e. a
+  anyway A (Err e) a = tt
+
+-- what is fit as a whole is fit by its parts
+pub whole_fit : (reads : Reads) (m : Meaning) (text : List ℕ) → IsWholeText reads m text → IsFitText reads m text
+whole_fit reads m text whole = record { tree = whole.tree; root = whole.root; read = whole.read; fit = AsAWhole whole.fit }

@@ -47,7 +47,7 @@ pub fn check_text<N: Notation>(
         return Ok(Checked::Unreadable);
     };
     match first_unfit::<N::D>(alloc, root, ctx)? {
-        Some((op, violation)) => Ok(Checked::Unfit(op, violation)),
+        Some(found) => Ok(Checked::Unfit(found.0, found.1)),
         None if is_container(root, ctx) => Ok(Checked::FitByParts),
         None => Ok(Checked::Fit),
     }

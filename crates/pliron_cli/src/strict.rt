@@ -58,6 +58,7 @@ fn warning<N: Shown>(alloc: Global, source: &Source, verifies: bool) -> Result<S
 }
 
 // Runs the passes where the text's operation is fit to run.
+#[tactic(auto, using(crate::proofs::StrictLemmas::anyway, crate::proofs::StrictLemmas::whole_fit))]
 fn opt_if_fit<N: Shown, C: Progress + Copy + Drop>(
     alloc: Global,
     source: &Source,
@@ -76,7 +77,8 @@ fn opt_if_fit<N: Shown, C: Progress + Copy + Drop>(
             report,
             status: 3,
         }),
-        Ok(Some(_)) => opt::<N, C>(alloc, source, options, clock),
+        Ok(Some(Finding::Whole)) => opt::<N, C>(alloc, source, options, clock),
+        Ok(Some(Finding::ByParts)) => opt::<N, C>(alloc, source, options, clock),
         Ok(None) => failure_outcome::<N>(alloc, CommandFailure::Text, source),
         Err(error) => failure_outcome::<N>(alloc, CommandFailure::Refused(error), source),
     }
