@@ -7,7 +7,7 @@ use Rattle.pliron_laws.specs.Laws.{CountsFit}
 use Rattle.pliron_laws.specs.Acting.{Comes}
 use Rattle.pliron_laws.specs.Acting.Comes.{Begins, Answered, Told}
 use Rattle.pliron_dialects.specs.Numbers.{whole_number_of, wrapped_sum}
-use Rattle.pliron_dialects.specs.Roles.{NamesFit, condition_of}
+use Rattle.pliron_dialects.specs.Roles.{MovesFit, NamesFit, condition_of}
 use Rattle.pliron_dialects.specs.RoleParts.{below}
 
 -- the memo after a first transition
@@ -27,9 +27,13 @@ fit_data zero ds = []
 fit_data (suc n) [] = Number (pos 0) ∷ fit_data n []
 fit_data (suc n) (d ∷ ds) = d ∷ fit_data n ds
 
--- the region with this index is invoked with these values, as far as its entry has arguments
+-- the region with this index is invoked with these values, as far as its entry has arguments, and this memo is kept
+abbrev pub visit_keeping : ℕ → Shape → List Datum → Datum → Move
+visit_keeping i s values memo = Visit i (fit_data (slice_index_or s.entry_arguments i 0) values) memo
+
+-- so it is, and the memo says no more than that it was
 abbrev pub visit_of : ℕ → Shape → List Datum → Move
-visit_of i s values = Visit i (fit_data (slice_index_or s.entry_arguments i 0) values) memo_when_done
+visit_of i s values = visit_keeping i s values memo_when_done
 
 pub length-fitted : (n : ℕ) (ds : List Datum) → length (fit_data n ds) ≡ n
 length-fitted zero ds = refl
@@ -41,24 +45,17 @@ entry_fits [] i values n e = grind arith
 entry_fits (c ∷ counts) zero values n e = length-fitted c values ∙ same_Some c n e
 entry_fits (c ∷ counts) (suc i) values n e = entry_fits counts i values n e
 
+pub visit_keeping_fits : (b : Bool) (i : ℕ) (s : Shape) (values : List Datum) (memo : Datum) → CountsFit b s (visit_keeping i s values memo)
+visit_keeping_fits b i s values memo = λ n at. entry_fits s.entry_arguments i values n at
+
 pub visit_fits : (b : Bool) (i : ℕ) (s : Shape) (values : List Datum) → CountsFit b s (visit_of i s values)
-visit_fits b i s values = λ n at. entry_fits s.entry_arguments i values n at
+visit_fits b i s values = visit_keeping_fits b i s values memo_when_done
 
 pub once_fits : (b : Bool) (s : Shape) (memo : Datum) (move after : Move) → CountsFit b s move → CountsFit b s after → CountsFit b s (once memo move after)
 once_fits b s Empty move after x y = x
 once_fits b s (Number n) move after x y = y
 once_fits b s (Text t) move after x y = y
 once_fits b s (Join d e) move after x y = y
-
--- ---- operations that pass the same operands at each visit
-
--- of so many operands the one for this argument, where those from a place on are passed
-abbrev pub operand_from : (place operands argument : ℕ) → Option ℕ
-operand_from place operands argument = if nat_lt (place + argument) operands then Some (place + argument) else None
-
--- the operands from this place on are named, in every region
-abbrev pub operands_from : (place operands region argument : ℕ) → Option ℕ
-operands_from place operands region argument = operand_from place operands argument
 
 -- data as one datum, and as data again
 abbrev pub chain_of : List Datum → Datum
@@ -70,6 +67,25 @@ data_of_chain (Join d e) = d ∷ data_of_chain e
 data_of_chain Empty = []
 data_of_chain (Number n) = []
 data_of_chain (Text s) = []
+
+-- ---- operations that ask the world
+
+-- the world is asked by an effect that has this name and the operands; its answer is the first result, the others are 0
+abbrev pub ask_world : ℤ → Shape → Datum → List Datum → Move
+ask_world name s memo input = once memo (Emit (Join (Number name) (chain_of input)) memo_when_done) (Give (fit_data s.results input))
+
+pub asks_fit : {takes : ℕ → ℕ → ℕ → Bool} (name : ℤ) → MovesFit takes (ask_world name)
+asks_fit name = λ s h memo input. once_fits false s memo (Emit (Join (Number name) (chain_of input)) memo_when_done) (Give (fit_data s.results input)) tt (length-fitted s.results input)
+
+-- ---- operations that pass the same operands at each visit
+
+-- of so many operands the one for this argument, where those from a place on are passed
+abbrev pub operand_from : (place operands argument : ℕ) → Option ℕ
+operand_from place operands argument = if nat_lt (place + argument) operands then Some (place + argument) else None
+
+-- the operands from this place on are named, in every region
+abbrev pub operands_from : (place operands region argument : ℕ) → Option ℕ
+operands_from place operands region argument = operand_from place operands argument
 
 -- between visits the memo is a stage beside the operands; at first it is empty, and the input is the operands
 abbrev pub kept_operands : Datum → List Datum → List Datum
@@ -102,7 +118,7 @@ abbrev pub Turns : Type 0
 Turns = (operands : List Datum) (stage : Datum) (answer : List Datum) → Turn
 
 abbrev pub turn_move : ℕ → Shape → List Datum → Turn → Move
-turn_move place s operands (Again i others stage) = Visit i (fit_data (slice_index_or s.entry_arguments i 0) (drop place operands ++ others)) (Join stage (chain_of operands))
+turn_move place s operands (Again i others stage) = visit_keeping i s (drop place operands ++ others) (Join stage (chain_of operands))
 turn_move place s operands (Over results) = Give (fit_data s.results results)
 
 -- each visit passes the operands from this place on, and then what the turn says, cut or filled with 0
@@ -134,7 +150,7 @@ data-of-chain [] = refl
 data-of-chain (d ∷ ds) = ap (λ z. d ∷ z) (data-of-chain ds)
 
 turn_fits : (place : ℕ) (s : Shape) (operands : List Datum) (turn : Turn) → CountsFit false s (turn_move place s operands turn)
-turn_fits place s operands (Again i others stage) = λ n at. entry_fits s.entry_arguments i (drop place operands ++ others) n at
+turn_fits place s operands (Again i others stage) = visit_keeping_fits false i s (drop place operands ++ others) (Join stage (chain_of operands))
 turn_fits place s operands (Over results) = length-fitted s.results results
 
 unnamed : {k : ℕ} → None ≡ Some k → ⊥

@@ -1,17 +1,28 @@
 -- The tables of the dialect: a line for each kind.
-use Rattle.std.proofs.Common.{◌≡◌, ℕ, nat_eq, if◌then◌else◌, ◌&&◌, Bool, false, List, Option, Some, None, refl}
+use Rattle.std.proofs.Common.{◌≡◌, ℕ, nat_eq, if◌then◌else◌, ◌&&◌, Bool, true, false, List, Option, Some, None, refl}
+use Rattle.std.specs.Prelude.{ℤ, pos, int_lt}
 use Rattle.pliron_opts_tests.specs.declared.looped.LoopedKind.{LoopedKind}
-use Rattle.pliron_opts_tests.specs.declared.looped.LoopedKind.TheVariants.{Function, Lit, Add, Jump, Return, Repeat}
-use Rattle.pliron_laws.specs.Datum.{Datum, Shape, Move, Leave}
-use Rattle.pliron_dialects.specs.Numbers.{nth_number, wrapped_sum}
+use Rattle.pliron_opts_tests.specs.declared.looped.LoopedKind.TheVariants.{Function, Lit, Add, Jump, Return, Repeat, Ask, Twice}
+use Rattle.pliron_laws.specs.Datum.{Datum, Number, Shape, Move, Give, Leave}
+use Rattle.pliron_laws.specs.Laws.{CountsFit}
+use Rattle.pliron_dialects.specs.Numbers.{nth_number, whole_number_of, wrapped_sum}
 use Rattle.pliron_dialects.specs.Roles.{Role, Tables, KeepsTables, ActsFit, Constant, Computes, Jumps, Leaves, Acts, Names}
-use Rattle.pliron_dialects.specs.Visits.{once, visit_of, visit_fits, once_fits, operands_from, counted_loop, counted_fits}
+use Rattle.pliron_dialects.specs.Visits.{once, fit_data, length-fitted, visit_of, visit_fits, visit_keeping, visit_keeping_fits, once_fits, ask_world, asks_fit, operands_from, counted_loop, counted_fits}
 
 abbrev pub function_takes : ℕ → ℕ → ℕ → Bool
 function_takes operands results regions = nat_eq operands 0 && nat_eq results 0 && nat_eq regions 1
 
 abbrev pub function_act : Shape → Datum → List Datum → Move
 function_act s memo input = once memo (visit_of 0 s input) (Leave input)
+
+-- a `twice` invokes its region with its operands, and again with what that gave; then it gives what the second one
+-- gave. Its memo is how often it did
+abbrev pub next_of : Bool → Shape → ℤ → List Datum → Move
+next_of true s visits input = visit_keeping 0 s input (Number (wrapped_sum visits (pos 1)))
+next_of false s visits input = Give (fit_data s.results input)
+
+abbrev pub twice_act : Shape → Datum → List Datum → Move
+twice_act s memo input = next_of (int_lt (whole_number_of memo) (pos 2)) s (whole_number_of memo) input
 
 abbrev pub looped_role_of : LoopedKind → Role
 looped_role_of Function = Acts function_takes function_act
@@ -20,6 +31,8 @@ looped_role_of Add = Computes 2 (λ ns. wrapped_sum (nth_number ns 0) (nth_numbe
 looped_role_of Jump = Jumps
 looped_role_of Return = Leaves
 looped_role_of Repeat = Names (λ operands results regions. nat_eq regions 1) counted_loop (operands_from 1)
+looped_role_of Ask = Acts (λ operands results regions. nat_eq regions 0) (ask_world (pos 6))
+looped_role_of Twice = Acts (λ operands results regions. nat_eq regions 1) twice_act
 
 abbrev pub looped_number_of : LoopedKind → ℕ
 looped_number_of Function = 0
@@ -28,6 +41,8 @@ looped_number_of Add = 2
 looped_number_of Jump = 3
 looped_number_of Return = 4
 looped_number_of Repeat = 5
+looped_number_of Ask = 6
+looped_number_of Twice = 7
 
 abbrev pub looped_kind_of : ℕ → Option LoopedKind
 looped_kind_of n =
@@ -37,6 +52,8 @@ looped_kind_of n =
     else if nat_eq n 3 then Some Jump
     else if nat_eq n 4 then Some Return
     else if nat_eq n 5 then Some Repeat
+    else if nat_eq n 6 then Some Ask
+    else if nat_eq n 7 then Some Twice
     else None
 
 abbrev pub looped : Tables LoopedKind
@@ -49,10 +66,18 @@ numbered Add = refl
 numbered Jump = refl
 numbered Return = refl
 numbered Repeat = refl
+numbered Ask = refl
+numbered Twice = refl
+
+next_fits : (b : Bool) (s : Shape) (visits : ℤ) (input : List Datum) → CountsFit false s (next_of b s visits input)
+next_fits true s visits input = visit_keeping_fits false 0 s input (Number (wrapped_sum visits (pos 1)))
+next_fits false s visits input = length-fitted s.results input
 
 acts : (k : LoopedKind) → ActsFit (looped_role_of k)
 acts Function = λ s h memo input. once_fits false s memo (visit_of 0 s input) (Leave input) (visit_fits false 0 s input) tt
 acts Repeat = counted_fits
+acts Ask = asks_fit (pos 6)
+acts Twice = λ s h memo input. next_fits (int_lt (whole_number_of memo) (pos 2)) s (whole_number_of memo) input
 acts _ = tt
 
 pub keeps_looped : KeepsTables looped

@@ -1,11 +1,15 @@
-//! A dialect by tables with a counted loop, which names the operands that each visit of its region passes.
-ghost use Rattle.pliron_opts_tests.specs.Looped.{looped, keeps_looped};
+//! A dialect by tables with a counted loop, which names the operands that each visit of its region passes, an effect
+//! with its answer, and a kind that keeps a memo of its own.
+ghost use Rattle.std.specs.Prelude.{map, IfOk};
+ghost use Rattle.pliron_evaluator.specs.Evaluator.{datum_of_value, move_of};
+ghost use Rattle.pliron_evaluator.specs.OwnMoves.{MovesBy};
+ghost use Rattle.pliron_opts_tests.specs.Looped.{looped, keeps_looped, twice_act};
 
 use pliron_dialects::entries::operand_from;
 use pliron_dialects::numbers::{nth_number, sum};
 use pliron_dialects::{ByKinds, Form, Kinds};
 use pliron_evaluator::evaluator::own_moves::{
-    OwnMoves, ShapeCounts, counted_loop, visit_and_leave,
+    OwnMoves, ShapeCounts, ask_world, counted_loop, give, number_of, visit_and_leave, visit_keeping,
 };
 use pliron_evaluator::evaluator::{Datum, Move};
 use pliron_notation::Word;
@@ -20,6 +24,8 @@ pub enum LoopedKind {
     Jump,
     Return,
     Repeat,
+    Ask,
+    Twice,
 }
 
 /// The dialect of these kinds.
@@ -36,6 +42,8 @@ impl Kinds for LoopedKind {
             LoopedKind::Jump => 3,
             LoopedKind::Return => 4,
             LoopedKind::Repeat => 5,
+            LoopedKind::Ask => 6,
+            LoopedKind::Twice => 7,
         }
     }
 
@@ -47,6 +55,8 @@ impl Kinds for LoopedKind {
             3 => Some(LoopedKind::Jump),
             4 => Some(LoopedKind::Return),
             5 => Some(LoopedKind::Repeat),
+            6 => Some(LoopedKind::Ask),
+            7 => Some(LoopedKind::Twice),
             _ => None,
         }
     }
@@ -67,6 +77,8 @@ impl Kinds for LoopedKind {
             LoopedKind::Jump => Form::Jumps,
             LoopedKind::Return => Form::Leaves,
             LoopedKind::Repeat => Form::Names,
+            LoopedKind::Ask => Form::Acts,
+            LoopedKind::Twice => Form::Acts,
         }
     }
 
@@ -81,6 +93,8 @@ impl Kinds for LoopedKind {
         match self {
             LoopedKind::Function => operands == 0 && results == 0 && regions == 1,
             LoopedKind::Repeat => regions == 1,
+            LoopedKind::Ask => regions == 0,
+            LoopedKind::Twice => regions == 1,
             _ => false,
         }
     }
@@ -95,6 +109,25 @@ impl Kinds for LoopedKind {
     ghost keeps_tables = { keeps_looped };
 }
 
+// A region two times; the memo counts the visits.
+fn twice_move(
+    alloc: Global,
+    counts: &ShapeCounts,
+    memo: &Datum,
+    input: &[Datum],
+) -> Result<Move, AllocError>
+    ensures { IfOk result (λ next. MovesBy counts.now (move_of next) (λ s. twice_act s (datum_of_value memo.now)
+        (map datum_of_value input.now))) }
+{
+    let visits = number_of(memo);
+    if visits < 2 {
+        let memo = Datum::Number(sum(visits, 1) as i128);
+        visit_keeping(alloc, counts, 0, input, memo)
+    } else {
+        give(alloc, counts, input)
+    }
+}
+
 impl OwnMoves for LoopedKind {
     fn own_move(
         self,
@@ -106,6 +139,8 @@ impl OwnMoves for LoopedKind {
         match self {
             LoopedKind::Function => visit_and_leave(alloc, counts, 0, memo, input),
             LoopedKind::Repeat => counted_loop(alloc, counts, memo, input),
+            LoopedKind::Ask => ask_world(alloc, counts, 6, memo, input),
+            LoopedKind::Twice => twice_move(alloc, counts, memo, input),
             _ => Ok(Move::Trap),
         }
     }
@@ -120,6 +155,8 @@ impl Word for LoopedKind {
             b"jump" => Some(LoopedKind::Jump),
             b"return" => Some(LoopedKind::Return),
             b"repeat" => Some(LoopedKind::Repeat),
+            b"ask" => Some(LoopedKind::Ask),
+            b"twice" => Some(LoopedKind::Twice),
             _ => None,
         }
     }
@@ -132,6 +169,8 @@ impl Word for LoopedKind {
             LoopedKind::Jump => "jump",
             LoopedKind::Return => "return",
             LoopedKind::Repeat => "repeat",
+            LoopedKind::Ask => "ask",
+            LoopedKind::Twice => "twice",
         }
     }
 }

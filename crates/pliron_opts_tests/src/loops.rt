@@ -1,4 +1,5 @@
-//! Counted loops of a dialect by tables before and after constant propagation, and their runs, worked by hand.
+//! Counted loops, effects and a memo in a dialect by tables, before and after constant propagation, and their runs,
+//! worked by hand.
 use crate::looped::{Looped, LoopedKind};
 use pliron_core::{Context, Operation, Ptr};
 use pliron_evaluator::evaluator::{Datum, Sight, evaluate};
@@ -8,7 +9,8 @@ use pliron_table_text::{print_text, read_text};
 use std::alloc::Global;
 use std::process::Abort;
 
-// A name, an input, a function, the value that its runs end with, and the function after propagation.
+// A name, an input, the world's answers, a function, the value that its runs end with, the operands of its effects, the
+// latest first, and the function after propagation.
 static CASES: &str = "\
 a constant operand falls into the region -- 4 | function { b0(n): a = lit 7; r = repeat n a { t(x, s): y = add x x; \
     z = add y s; return z }; return r } | 56 => function { b0(v0): v1 = lit 7; v2 = repeat v0 v1 { b0(v3, v4): v5 = \
@@ -19,15 +21,49 @@ the second of two operands -- 3 | function { b0(n): a = lit 7; r = repeat n n a 
 what the last visit gave -- 2 | function { b0(n): a = lit 7; r = repeat n { t(s): y = add s a; return y }; return r \
     } | 14 => function { b0(v0): v1 = lit 7; v2 = repeat v0 { b0(v3): v4 = add v3 v1; return v4 }; return v2 }
 no visit -- 0 | function { b0(n): a = lit 7; r = repeat n a { t(x): return x }; return r } | 0 => function { b0(v0): \
-    v1 = lit 7; v2 = repeat v0 v1 { b0(v3): v4 = lit 7; return v4 }; return v2 }";
+    v1 = lit 7; v2 = repeat v0 v1 { b0(v3): v4 = lit 7; return v4 }; return v2 }
+two effects and their answers -- 4 ? 9 8 | function { b0(n): a = lit 7; r = ask n a; q = ask r; return q } | 8 ! 9 ! 4 \
+    7 => function { b0(v0): v1 = lit 7; v2 = ask v0 v1; v3 = ask v2; return v3 }
+an effect with two results -- 1 ? 5 | function { b0(n): r, q = ask; s = add r q; return s } | 5 ! => function { \
+    b0(v0): v1, v2 = ask; v3 = add v1 v2; return v3 }
+a region two times -- 3 | function { b0(n): r = twice n { t(x): y = add x x; return y }; return r } | 12 => function { \
+    b0(v0): v1 = twice v0 { b0(v2): v3 = add v2 v2; return v3 }; return v1 }";
 
-// One datum, the number that the word is.
-fn datum(rt: &impl Abort, alloc: Global, word: &str) -> Vec<Datum> {
-    let number = word.parse::<i64>().ok().expect(rt, "a number");
+// What `ask` is named in its effects.
+const ASK: i128 = 6;
+
+// The numbers that the words are.
+fn numbers(rt: &impl Abort, alloc: Global, words: &str) -> Vec<Datum> {
     let mut data = Vec::new(alloc);
-    data.push(Datum::Number(number as i128))
-        .expect(rt, "memory");
+    for word in words.split(' ') {
+        if !word.is_empty() {
+            let number = word.parse::<i64>().ok().expect(rt, "a number");
+            data.push(Datum::Number(number as i128))
+                .expect(rt, "memory");
+        }
+    }
     data
+}
+
+// The effect of an `ask` with these operands.
+fn effect(rt: &impl Abort, alloc: Global, words: &str) -> Datum {
+    let mut chain = Datum::Empty;
+    let mut operands = numbers(rt, alloc, words);
+    while let Some(last) = operands.pop() {
+        chain = Datum::join(alloc, last, chain).expect(rt, "memory");
+    }
+    Datum::join(alloc, Datum::Number(ASK), chain).expect(rt, "memory")
+}
+
+// What is seen of a run: the value, and the effects behind it.
+fn sight(rt: &impl Abort, alloc: Global, text: &str) -> Sight {
+    let mut effects = Vec::new(alloc);
+    let mut parts = text.split('!');
+    let value = numbers(rt, alloc, parts.next().expect(rt, "a value"));
+    for part in parts {
+        effects.push(effect(rt, alloc, part)).expect(rt, "memory");
+    }
+    Sight::Ended(value, effects)
 }
 
 /// A case.
@@ -36,15 +72,16 @@ struct Case<'t> {
     name: &'t str,
     input: &'t str,
     before: &'t str,
-    value: &'t str,
+    seen: &'t str,
     after: &'t str,
 }
 
 fn check_run(rt: &impl Abort, alloc: Global, ctx: &Context, root: Ptr<Operation>, case: &Case) {
-    let world = Vec::new(alloc);
-    let input = datum(rt, alloc, case.input);
+    let (input, world) = case.input.split_once("?").unwrap_or((case.input, ""));
+    let world = numbers(rt, alloc, world);
+    let input = numbers(rt, alloc, input);
     let seen = evaluate::<Looped>(alloc, ctx, root, input, world, 200).expect(rt, "memory");
-    let want = Sight::Ended(datum(rt, alloc, case.value), Vec::new(alloc));
+    let want = sight(rt, alloc, case.seen);
     assert_eq!(rt; seen, want, "{name}", name = case.name);
 }
 
@@ -66,12 +103,12 @@ fn case_of<'t>(rt: &impl Abort, line: &'t str) -> Case<'t> {
     let (name, row) = line.split_once(" -- ").expect(rt, "a name");
     let (given, after) = row.split_once(" => ").expect(rt, "a case");
     let (input, rest) = given.split_once(" | ").expect(rt, "an input");
-    let (before, value) = rest.split_once(" | ").expect(rt, "a value");
+    let (before, seen) = rest.split_once(" | ").expect(rt, "what is seen");
     Case {
         name,
         input,
         before,
-        value,
+        seen,
         after,
     }
 }

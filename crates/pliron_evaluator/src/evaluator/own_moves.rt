@@ -6,7 +6,7 @@ ghost use Rattle.pliron_laws.specs.Datum.{Give, Leave};
 ghost use Rattle.pliron_dialects.specs.Numbers.{whole_number_of, is_zero};
 ghost use Rattle.pliron_dialects.specs.Forms.{edge_by_condition};
 ghost use Rattle.pliron_dialects.specs.Roles.{condition_of};
-ghost use Rattle.pliron_dialects.specs.Visits.{once, fit_data, visit_of, chain_of as chain_in, data_of_chain as data_in, kept_operands, stage_of, last_answer, turn_move, turns_left as left_of, again_if, counted_loop as counted_by};
+ghost use Rattle.pliron_dialects.specs.Visits.{once, fit_data, visit_of, visit_keeping as visit_with, ask_world as ask_by, chain_of as chain_in, data_of_chain as data_in, kept_operands, stage_of, last_answer, turn_move, turns_left as left_of, again_if, counted_loop as counted_by};
 ghost use Rattle.pliron_evaluator.specs.Evaluator.{datum_of_value, move_of};
 ghost use Rattle.pliron_evaluator.specs.OwnMoves.{MovesBy, own_act, turn_of, first_or_zero};
 
@@ -53,8 +53,8 @@ pub trait OwnMoves: Kinds {
             (datum_of_value memo.now) (map datum_of_value input.now))) };
 }
 
-// The datum as a number of 64 signed bits, by default 0.
-pub(super) fn number_of(datum: &Datum) -> i64
+/// The datum as a number of 64 signed bits, by default 0. Cost: constant.
+pub fn number_of(datum: &Datum) -> i64
     ensures { result ≡ whole_number_of (datum_of_value datum.now) }
 {
     match datum {
@@ -63,8 +63,8 @@ pub(super) fn number_of(datum: &Datum) -> i64
     }
 }
 
-// The first of the data as a number, by default 0.
-fn condition(input: &[Datum]) -> i64
+/// The first of the data as a number, by default 0. Cost: constant.
+pub fn condition(input: &[Datum]) -> i64
     ensures { result ≡ condition_of (map datum_of_value input.now) }
 {
     if input.is_empty() {
@@ -95,8 +95,8 @@ pub fn behind_first(input: &[Datum]) -> &[Datum]
     if input.is_empty() { input } else { &input[1..] }
 }
 
-// The datum at this index, where a missing one is 0.
-fn datum_or_zero(alloc: Global, input: &[Datum], i: usize) -> Result<Datum, AllocError>
+/// The datum at this index, where a missing one is 0. Errors: allocation failure. Cost: that of a copy.
+pub fn datum_or_zero(alloc: Global, input: &[Datum], i: usize) -> Result<Datum, AllocError>
     ensures { IfOk result (λ datum. datum_of_value datum ≡ first_or_zero (map datum_of_value (drop i input.now))) }
 {
     if i < input.len() {
@@ -125,8 +125,24 @@ pub fn give(alloc: Global, counts: &ShapeCounts, values: &[Datum]) -> Result<Mov
     Ok(Move::Give(fitted_to(alloc, counts.results, values)?))
 }
 
-/// A visit of the region with this index. It passes these values as far as the region's entry block has arguments.
-/// Errors: allocation failure. Cost: that of copies.
+/// A visit of the region with this index. It passes these values as far as the region's entry block has arguments,
+/// and keeps this memo. Errors: allocation failure. Cost: that of copies.
+pub fn visit_keeping(
+    alloc: Global,
+    counts: &ShapeCounts,
+    region: usize,
+    values: &[Datum],
+    memo: Datum,
+) -> Result<Move, AllocError>
+    ensures { IfOk result (λ next. MovesBy counts.now (move_of next)
+        (λ s. visit_with region s (map datum_of_value values.now) (datum_of_value memo))) }
+{
+    let passed = fitted_to(alloc, counts.entry_argument(region), values)?;
+    Ok(Move::Visit(region, passed, memo))
+}
+
+/// A visit of the region with this index. It passes these values as far as the region's entry block has arguments; the
+/// memo is 1 afterwards. Errors: allocation failure. Cost: that of copies.
 pub fn visit(
     alloc: Global,
     counts: &ShapeCounts,
@@ -136,8 +152,7 @@ pub fn visit(
     ensures { IfOk result (λ next. MovesBy counts.now (move_of next)
         (λ s. visit_of region s (map datum_of_value values.now))) }
 {
-    let passed = fitted_to(alloc, counts.entry_argument(region), values)?;
-    Ok(Move::Visit(region, passed, Datum::Number(1)))
+    visit_keeping(alloc, counts, region, values, Datum::Number(1))
 }
 
 /// A visit, and then a leave with what it gave. The region has this index, and the input is passed. Errors: allocation failure. Cost: that of copies.
@@ -157,15 +172,6 @@ pub fn visit_and_leave(
     }
 }
 
-/// A turn of a loop. Each visit passes the same operands, and then other data.
-#[derive(Debug, Drop)]
-pub enum Turn {
-    /// The region with this index is visited, with these data behind the operands; then comes this stage.
-    Again(usize, Vec<Datum>, Datum),
-    /// The results are given.
-    Over(Vec<Datum>),
-}
-
 // The data of a chain, behind those that are there.
 fn push_chain(alloc: Global, chain: &Datum, values: &mut Vec<Datum>) -> Result<(), AllocError>
     ensures { IfOk result (λ u. map datum_of_value values.new.items ≡ map datum_of_value values.old.items
@@ -180,8 +186,8 @@ fn push_chain(alloc: Global, chain: &Datum, values: &mut Vec<Datum>) -> Result<(
     }
 }
 
-// The data of a chain.
-fn data_of_chain(alloc: Global, chain: &Datum) -> Result<Vec<Datum>, AllocError>
+/// The data of a chain. Errors: allocation failure. Cost: that of copies.
+pub fn data_of_chain(alloc: Global, chain: &Datum) -> Result<Vec<Datum>, AllocError>
     ensures { IfOk result (λ values. map datum_of_value values.items ≡ data_in (datum_of_value chain.now)) }
 {
     let mut values = Vec::new(alloc);
@@ -189,8 +195,8 @@ fn data_of_chain(alloc: Global, chain: &Datum) -> Result<Vec<Datum>, AllocError>
     Ok(values)
 }
 
-// The data as a chain.
-fn chain_of(alloc: Global, values: &[Datum]) -> Result<Datum, AllocError>
+/// The data as a chain, by which one datum keeps them. Errors: allocation failure. Cost: that of copies.
+pub fn chain_of(alloc: Global, values: &[Datum]) -> Result<Datum, AllocError>
     ensures { IfOk result (λ chain. datum_of_value chain ≡ chain_in (map datum_of_value values.now)) }
 {
     let mut chain = Datum::Empty;
@@ -199,6 +205,37 @@ fn chain_of(alloc: Global, values: &[Datum]) -> Result<Datum, AllocError>
         chain = Datum::join(alloc, first, chain)?;
     }
     Ok(chain)
+}
+
+/// An effect and its answer: the world is asked by an effect that has this name and the operands, and what it answers
+/// is the first result, where others are 0. Errors: allocation failure. Cost: that of copies.
+pub fn ask_world(
+    alloc: Global,
+    counts: &ShapeCounts,
+    name: i64,
+    memo: &Datum,
+    input: &[Datum],
+) -> Result<Move, AllocError>
+    ensures { IfOk result (λ next. MovesBy counts.now (move_of next) (λ s. ask_by name s (datum_of_value memo.now)
+        (map datum_of_value input.now))) }
+{
+    match memo {
+        Datum::Empty => {
+            let operands = chain_of(alloc, input)?;
+            let effect = Datum::join(alloc, Datum::Number(name as i128), operands)?;
+            Ok(Move::Emit(effect, Datum::Number(1)))
+        }
+        _ => give(alloc, counts, input),
+    }
+}
+
+/// A turn of a loop. Each visit passes the same operands, and then other data.
+#[derive(Debug, Drop)]
+pub enum Turn {
+    /// The region with this index is visited, with these data behind the operands; then comes this stage.
+    Again(usize, Vec<Datum>, Datum),
+    /// The results are given.
+    Over(Vec<Datum>),
 }
 
 // The data from this place on.
@@ -269,10 +306,9 @@ impl Turn {
         match self {
             Turn::Again(region, others, stage) => {
                 let values = passed_from(alloc, place, operands, &others)?;
-                let passed = fitted_to(alloc, counts.entry_argument(region), &values)?;
                 let kept = chain_of(alloc, operands)?;
                 let memo = Datum::join(alloc, stage, kept)?;
-                Ok(Move::Visit(region, passed, memo))
+                visit_keeping(alloc, counts, region, &values, memo)
             }
             Turn::Over(results) => give(alloc, counts, &results),
         }
