@@ -7,7 +7,7 @@ use Rattle.pliron_laws.specs.Laws.{CountsFit}
 use Rattle.pliron_laws.specs.Acting.{Comes}
 use Rattle.pliron_laws.specs.Acting.Comes.{Begins, Answered, Told}
 use Rattle.pliron_dialects.specs.Numbers.{whole_number_of, wrapped_sum}
-use Rattle.pliron_dialects.specs.Roles.{MovesFit, NamesFit, condition_of}
+use Rattle.pliron_dialects.specs.Roles.{NamesFit, condition_of}
 use Rattle.pliron_dialects.specs.RoleParts.{below}
 
 -- the memo after a first transition
@@ -74,8 +74,8 @@ data_of_chain (Text s) = []
 abbrev pub ask_world : ℤ → Shape → Datum → List Datum → Move
 ask_world name s memo input = once memo (Emit (Join (Number name) (chain_of input)) memo_when_done) (Give (fit_data s.results input))
 
-pub asks_fit : {takes : ℕ → ℕ → ℕ → Bool} (name : ℤ) → MovesFit takes (ask_world name)
-asks_fit name = λ s h memo input. once_fits false s memo (Emit (Join (Number name) (chain_of input)) memo_when_done) (Give (fit_data s.results input)) tt (length-fitted s.results input)
+pub asks_fit : (name : ℤ) (s : Shape) (memo : Datum) (input : List Datum) → CountsFit false s (ask_world name s memo input)
+asks_fit name s memo input = once_fits false s memo (Emit (Join (Number name) (chain_of input)) memo_when_done) (Give (fit_data s.results input)) tt (length-fitted s.results input)
 
 -- ---- operations that pass the same operands at each visit
 

@@ -76,7 +76,7 @@ next_fits false s visits input = length-fitted s.results input
 acts : (k : LoopedKind) → ActsFit (looped_role_of k)
 acts Function = λ s h memo input. once_fits false s memo (visit_of 0 s input) (Leave input) (visit_fits false 0 s input) tt
 acts Repeat = counted_fits
-acts Ask = asks_fit (pos 6)
+acts Ask = λ s h. asks_fit (pos 6) s
 acts Twice = λ s h memo input. next_fits (int_lt (whole_number_of memo) (pos 2)) s (whole_number_of memo) input
 acts _ = tt
 
