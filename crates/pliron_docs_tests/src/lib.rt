@@ -3,6 +3,8 @@
 #![tactic(auto)]
 
 #[cfg(test)]
+mod erasing;
+#[cfg(test)]
 mod graphs;
 #[cfg(test)]
 mod inner;

@@ -1,7 +1,7 @@
 use Rattle.std.proofs.Common.{◌≡◌, sym, ◌∙◌}
 use Rattle.pliron_bench.specs.BenchMoves.{bench}
 use Rattle.pliron_theory.proofs.ChangeLemmas.{change_trans}
-use Rattle.pliron_docs_tests.proofs.WalkingLemmas.{both_unchanged}
+use Rattle.pliron_pass_rewrites.proofs.StatusLemmas.{unchanged_by_both}
 use Rattle.pliron_docs_tests.proofs.walking.sweep_each.Goals as goal
 
 pub returns-in_err-sweep_held-clause-change : goal.returns-in_err-sweep_held-clause-change
@@ -12,6 +12,6 @@ pub loop-inner-preserved : goal.loop-inner-preserved
 loop-inner-preserved c = record {
   change = change_trans bench c.args.ctx.now.tree c.loop-inner.ctx.tree c.sweep_held.new.ctx.tree c.args.op c.loop-inner.invariant.change c.in_ok-sweep_held.ensures.change;
   same = λ e.
-      let both = both_unchanged c.loop-inner.changed c.in_ok-sweep_held.field-0 (sym c.bitor_assign.ensures.after ∙ e) in
+      let both = unchanged_by_both c.loop-inner.changed c.in_ok-sweep_held.field-0 (sym c.bitor_assign.ensures.after ∙ e) in
       c.in_ok-sweep_held.ensures.same both.1 ∙ c.loop-inner.invariant.same both.0;
 }

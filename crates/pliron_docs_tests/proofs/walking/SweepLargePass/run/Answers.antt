@@ -1,8 +1,8 @@
 use Rattle.pliron_pass.specs.BenchFacts.{fact_kind, HoldsFact}
 use Rattle.pliron_pass.specs.contracts.bench_facts.BenchFactKindPartialEq.TheImpl.{ghosts as equality}
-use Rattle.pliron_docs_tests.proofs.WalkingLemmas.{swept}
+use Rattle.pliron_pass_rewrites.proofs.StatusLemmas.{fresh_unless_changed}
 use Rattle.pliron_docs_tests.proofs.walking.SweepLargePass.run.Goals as goal
 
 pub returns-clause-fresh : goal.returns-clause-fresh
 returns-clause-fresh c =
-    swept equality.eq fact_kind HoldsFact c.args.ctx.now.tree c.sweep_each.new.ctx.tree c.args._analyses.now.cache.entries c.new-answer.result.preserved.keys c.in_ok-changed.changed c.new-answer.ensures.1 c.in_ok-changed.ensures.same
+    fresh_unless_changed equality.eq fact_kind HoldsFact c.args.ctx.now.tree c.sweep_each.new.ctx.tree c.args._analyses.now.cache.entries c.new-answer.result.preserved.keys c.in_ok-changed.changed c.new-answer.ensures.1 c.in_ok-changed.ensures.same
