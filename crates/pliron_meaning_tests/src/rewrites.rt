@@ -8,11 +8,13 @@ ghost use Rattle.pliron_laws.specs.Datum.{Head};
 
 use crate::tiny::{number_asked, number_of};
 use pliron_core::{AttrObj, BasicBlock, Context, IRStatus, Operation, Ptr};
+use pliron_laws::is_well_linked;
 use pliron_meaning::evaluator::{Datum, Sight, evaluate};
 use pliron_meaning::rewrites::{
     erase_unused, replace_argument_by_constant, replace_result_by_constant,
 };
 use pliron_meaning::{Dialect, Tiny, TinyKind};
+use pliron_pass_rewrites::{is_defined_inside, replace_by_constant_inside};
 use pliron_test_cases::listener::Counting;
 use pliron_test_cases::trees::{Made, make};
 use std::alloc::Global;
@@ -109,6 +111,38 @@ fn replace_argument<D: Dialect>(
     status
 }
 
+// Replaces the argument of a block inside the holder, which has no uses, by a constant.
+fn replace_inside<D: Dialect>(
+    rt: &impl Abort,
+    alloc: Global,
+    ctx: &mut Context,
+    holder: Ptr<Operation>,
+    body: Ptr<BasicBlock>,
+    number: i128,
+) -> IRStatus {
+    assert!(rt; holder.is_live(ctx));
+    assert!(rt; is_well_linked::<D>(holder, ctx));
+    assert!(rt; body.is_live(ctx));
+    assert_eq!(rt; body.num_argument(ctx), 1);
+    let argument = body.get_argument(ctx, 0);
+    assert!(rt; argument.is_live(ctx));
+    assert!(rt; is_defined_inside(argument, holder, ctx));
+    assert_eq!(rt; argument.num_use(ctx), 0);
+    ctx.well_formed();
+    let attr = AttrObj::Int(number);
+    let mut rewriter = Counting::new();
+    let status = replace_by_constant_inside::<D, Counting>(
+        alloc,
+        holder,
+        argument,
+        &attr,
+        ctx,
+        &mut rewriter,
+    ).expect(rt, "memory");
+    assert!(rt; rewriter.had_room());
+    status
+}
+
 // A constant without uses goes, and a question stays; the question asks the new constant; and the
 // constant for the argument stands first in the block, though the argument has no uses.
 fn rewrites_in(rt: &impl Abort, alloc: Global, ctx: &mut Context) {
@@ -145,6 +179,15 @@ fn rewrites_in(rt: &impl Abort, alloc: Global, ctx: &mut Context) {
     assert!(rt; body.is_live(ctx));
     let first = body.get_head(ctx).expect(rt, "a constant");
     assert_eq!(rt; number_of(rt, ctx, first), Some(3));
+    assert_eq!(rt; sight_of_root(rt, alloc, ctx, root), before);
+
+    assert_eq!(rt;
+        replace_inside::<Tiny>(rt, alloc, ctx, root, body, 5),
+        IRStatus::Changed
+    );
+    assert!(rt; body.is_live(ctx));
+    let first = body.get_head(ctx).expect(rt, "a constant");
+    assert_eq!(rt; number_of(rt, ctx, first), Some(5));
     assert_eq!(rt; sight_of_root(rt, alloc, ctx, root), before);
 }
 

@@ -6,4 +6,4 @@
 
 mod rewrites;
 
-pub use rewrites::{erase_unused_inside, replace_by_constant_inside};
+pub use rewrites::{erase_unused_inside, is_defined_inside, replace_by_constant_inside};

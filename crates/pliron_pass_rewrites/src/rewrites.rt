@@ -1,7 +1,7 @@
 //! Rewrites inside an operation on which a pass runs.
-ghost use Rattle.std.specs.Prelude.{◌≡◌, IfOk, OnErr, IsOkUnless};
+ghost use Rattle.std.specs.Prelude.{◌≡◌, ◌↔◌, IfOk, IsTrue, OnErr, IsOkUnless};
 ghost use Rattle.pliron_core.specs.declared.attrs.IRStatus.TheVariants.{Unchanged};
-ghost use Rattle.pliron_core.specs.Tree.{IsDefined, IsInside, definition_of};
+ghost use Rattle.pliron_core.specs.Tree.{IsDefined, IsInside, IsLive, definition_of};
 ghost use Rattle.pliron_core.specs.Changes.{IsDefinedInside, IsSameTree};
 ghost use Rattle.pliron_core.specs.Erased.{IsSelfContained};
 ghost use Rattle.pliron_laws.specs.Linked.{IsWellLinked};
@@ -46,12 +46,25 @@ pub fn erase_unused_inside<D: Dialect, R: Rewriter + Room>(
     erased
 }
 
+/// Whether the value is defined inside the operation. Asks that both are live (`is_live` tests it). Cost: the depth of
+/// what defines it.
+pub fn is_defined_inside(value: Value, holder: Ptr<Operation>, ctx: &Context) -> bool
+    requires live { IsLive ctx.now.tree holder }
+    requires defined { IsDefined ctx.now.tree value }
+    ensures { IsTrue result ↔ IsDefinedInside ctx.now.tree holder value }
+{
+    match value.def(ctx) {
+        Def::Result(op, _) => op.is_inside(holder, ctx),
+        Def::Argument(block, _) => holder.holds_block(block, ctx),
+    }
+}
+
 /// Puts a new operation that makes this constant where the value is defined, and gives it all uses of the value:
 /// directly before the operation of a result, or first in the block of an argument. Answers `Unchanged` where
 /// the dialect has no operation for the attribute. The rewriter inserts there from now on.
 ///
-/// Asks that the value is live (`is_live` tests it) and defined inside `holder`, that `holder` is well linked, and
-/// that every run of a root that is fit to run reads the value as this constant wherever it reads it.
+/// Asks that the value is live (`is_live` tests it) and defined inside `holder` (`is_defined_inside`), that `holder` is
+/// well linked, and that every run of a root that is fit to run reads the value as this constant wherever it reads it.
 /// Errors: allocation failure, which leaves the tree as it was but for erased handles. Cost: that of
 /// `materialize`, and one step for each use of the value.
 pub fn replace_by_constant_inside<D: Dialect, R: Rewriter + Room>(
