@@ -7,11 +7,16 @@ use Rattle.pliron_core.specs.Invariant.{IsTree}
 use Rattle.pliron_core.specs.Erased.{IsSelfContained}
 use Rattle.pliron_core.proofs.HoldingLemmas.{maker_is, some_is, in_slice}
 use Rattle.pliron_laws.proofs.ConstantLemmas.{insideless, blockless}
-use Rattle.pliron_dce.specs.Readiness.{HaveNoUse}
+use Rattle.pliron_dce.specs.Readiness.{HaveNoUse, AreOperandsWithin, AddsOperands}
 
 none_there : (xs : List ℕ) → length xs ≡ 0 → xs ≡ []
 none_there [] e = refl
 none_there (x ∷ xs) e = absurd (omega (arith, e))
+
+-- the operands of what has no regions are all those within it
+pub leaf_operands : (t : Tree) → IsTree t → (k : ℕ) → length (regions_of t k) ≡ 0 → (old new : List ℕ) → AddsOperands t k old new → AreOperandsWithin t k new
+leaf_operands t w k few old new adds user v (inl e) i = adds.added v (subst (λ c. In v (operands_of t c)) e i)
+leaf_operands t w k few old new adds user v (inr inside) i = absurd (insideless t w k user (none_there (regions_of t k) few) inside)
 
 pub leaf_contained : (t : Tree) → IsTree t → (k : ℕ) → length (regions_of t k) ≡ 0 → HaveNoUse t k → IsSelfContained t k
 leaf_contained t w k few unused = record {

@@ -14,7 +14,22 @@ use pliron_core::{BasicBlock, Context, IRRewriter, Operation, Ptr, Rewriter, Val
 use pliron_laws::{Dialect, OptError};
 use std::alloc::{AllocError, Global};
 
-// The operands of this operation are appended to the list.
+// The value is appended to the list, unless it is the last one there.
+#[inline(always)]
+fn push_unless_last(values: &mut Vec<Value>, value: Value) -> Result<(), AllocError>
+    ensures kept { OnOk result ((v : ℕ) → In v values.old.items → In v values.new.items) }
+    ensures there { OnOk result (In value values.new.items) }
+{
+    if let Some(last) = values.last() {
+        if *last == value {
+            return Ok(());
+        }
+    }
+    values.push(value)?;
+    Ok(())
+}
+
+// The operands of this operation are appended to the list, equal ones side by side once.
 #[inline(always)]
 fn push_operands(
     values: &mut Vec<Value>,
@@ -25,7 +40,25 @@ fn push_operands(
     ensures { OnOk result (AddsOperands ctx.now.tree op values.old.items values.new.items) }
 {
     for i in 0..op.num_operand(ctx) {
-        values.push(op.get_operand(ctx, i))?;
+        push_unless_last(values, op.get_operand(ctx, i))?;
+    }
+    Ok(())
+}
+
+// The operands of the operation and of all operations inside it are appended to the list.
+fn push_operands_within(
+    values: &mut Vec<Value>,
+    op: Ptr<Operation>,
+    ctx: &Context,
+) -> Result<(), AllocError>
+    requires { IsLive ctx.now.tree op }
+    ensures { OnOk result (AreOperandsWithin ctx.now.tree op values.new.items) }
+{
+    ctx.well_formed();
+    let mut at = Some(op);
+    while let Some(inner) = at {
+        push_operands(values, inner, ctx)?;
+        at = inner.next_in_preorder(op, ctx);
     }
     Ok(())
 }
@@ -42,12 +75,11 @@ fn list_operands_within(
 {
     ctx.well_formed();
     values.clear();
-    let mut at = Some(op);
-    while let Some(inner) = at {
-        push_operands(values, inner, ctx)?;
-        at = inner.next_in_preorder(op, ctx);
+    if op.num_region(ctx) == 0 {
+        push_operands(values, op, ctx)
+    } else {
+        push_operands_within(values, op, ctx)
     }
-    Ok(())
 }
 
 // A ready operation is erased with its contents. Lists the values that it and its contents used.

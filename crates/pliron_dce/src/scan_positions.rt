@@ -59,26 +59,47 @@ pub(crate) struct ScanPositions {
 const FEW_AROUND: usize = 8;
 
 // Whether a scan of the operation may be long.
+#[inline(always)]
 fn is_long(op: Ptr<Operation>, ctx: &Context) -> bool
     requires { IsLive ctx.now.tree op }
 {
     op.num_region(ctx) != 0 || op.num_result(ctx) > 1
 }
 
+// Whether a scan of one of the candidates may be long.
+fn are_some_long(candidates: &[DeadCandidate], ctx: &Context) -> bool {
+    for candidate in candidates {
+        if let DeadCandidate::Operation(op) = candidate {
+            if op.is_live(ctx) && is_long(*op, ctx) {
+                return true;
+            }
+        }
+    }
+    false
+}
+
 impl ScanPositions {
+    // Nothing is scanned.
+    fn empty(alloc: Global) -> ScanPositions {
+        ScanPositions {
+            values: Vec::new(alloc),
+            rests: IndexMap::new(alloc),
+            positions: IndexMap::new(alloc),
+            depth: 0,
+        }
+    }
+
     // Nothing has been scanned of these candidates, which are in the order of a text, each operation behind the
-    // arguments of the blocks directly in it.
+    // arguments of the blocks directly in it. Where no scan may be long, none is listed.
     pub(crate) fn new(
         alloc: Global,
         candidates: &[DeadCandidate],
         ctx: &Context,
     ) -> Result<ScanPositions, AllocError> {
-        let mut scans = ScanPositions {
-            values: Vec::new(alloc),
-            rests: IndexMap::new(alloc),
-            positions: IndexMap::new(alloc),
-            depth: 0,
-        };
+        let mut scans = ScanPositions::empty(alloc);
+        if !are_some_long(candidates, ctx) {
+            return Ok(scans);
+        }
         let mut open = Vec::new(alloc);
         scans.add_all(&mut open, candidates, ctx)?;
         let end = scans.values.len();
@@ -174,10 +195,14 @@ impl ScanPositions {
     }
 
     // Whether a use is found that keeps the operation alive, from where the last scan of it ended.
+    #[inline(always)]
     pub(crate) fn is_kept_alive(&mut self, op: Ptr<Operation>, ctx: &Context) -> bool
         requires { IsLive ctx.now.tree op }
         ensures { IsTrue result → IsKeptAlive ctx.now.tree op }
     {
+        if !is_long(op, ctx) {
+            return false;
+        }
         match self.rests.get_mut(&op) {
             Some(rest) => resume_scan(&self.values, &self.positions, rest, op, ctx),
             None => false,

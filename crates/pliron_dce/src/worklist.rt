@@ -7,10 +7,11 @@
 //!
 //! The operations around what lost a use are visited once nothing else is ready, each once for all the uses
 //! that what is inside it lost until then. For a visit of one scans what is inside it.
-ghost use Rattle.std.specs.Prelude.{◌≡◌, ◌↔◌, ◌++◌, ◌∷◌, [], true, false, map, IfOk, OnOk, IfErr, IfSome, IfNone, IsTrue, IsPermutation};
-ghost use Rattle.pliron_core.specs.Tree.{In, IsLive, IsDefined};
+ghost use Rattle.std.specs.Prelude.{◌≡◌, ◌↔◌, ◌++◌, ◌∷◌, [], true, false, map, IfOk, OnOk, IfErr, IfSome, IfNone, IsTrue, IsPermutation, ℕ, Some};
+ghost use Rattle.pliron_core.specs.declared.context.Def.TheVariants.{Result as AResult, Argument as AnArgument};
+ghost use Rattle.pliron_core.specs.Tree.{In, IsLive, IsDefined, definition_of};
 ghost use Rattle.pliron_laws.specs.Linked.{IsWellLinked};
-ghost use Rattle.pliron_dce.specs.Dead.{Item};
+ghost use Rattle.pliron_dce.specs.Dead.{Item, Op, Arg};
 ghost use Rattle.pliron_dce.specs.Readiness.{IsReady, Among, AreRevisited};
 ghost use Rattle.pliron_dce.specs.Predecessors.{mark_of, AreMarked};
 ghost use Rattle.pliron_dce.specs.declared.worklist.DeadCandidate.TheVariants.{Operation as AnOperation};
@@ -265,17 +266,34 @@ pub(crate) fn next_ready<D: Dialect>(
     Ok(next_of::<D>(worklist, predecessors, root, ctx))
 }
 
-// The parent operation of what defines the value.
+// What defines the value is visited in the next round. Answers the operation around it.
 #[inline(always)]
-fn parent_operation_of_definition(value: Value, ctx: &Context) -> Option<Ptr<Operation>>
+fn revisit_definer(
+    worklist: &mut Worklist,
+    value: Value,
+    ctx: &Context,
+) -> Result<Option<Ptr<Operation>>, AllocError>
     requires { IsDefined ctx.now.tree value }
-    ensures around { IsAroundMaker ctx.now.tree value result }
-    ensures live { IfSome result (λ op. IsLive ctx.now.tree op) }
+    ensures kept { OnOk result ((x : Item) → Among x (items_of (pending_candidates worklist.old)) → Among x
+        (items_of (pending_candidates worklist.new))) }
+    ensures makers { OnOk result ((k i : ℕ) → definition_of ctx.now.tree value ≡ Some (AResult k i) → Among (Op k)
+        (items_of (pending_candidates worklist.new))) }
+    ensures arguments { OnOk result ((b i : ℕ) → definition_of ctx.now.tree value ≡ Some (AnArgument b i) → Among
+        (Arg value) (items_of (pending_candidates worklist.new))) }
+    ensures keys { OnOk result (worklist.new.around.keys ≡ worklist.old.around.keys) }
+    ensures around { IfOk result (λ holder. IsAroundMaker ctx.now.tree value holder) }
+    ensures live { IfOk result (λ holder. IfSome holder (λ op. IsLive ctx.now.tree op)) }
 {
     ctx.well_formed();
     match value.def(ctx) {
-        Def::Result(op, _) => op.get_parent_op(ctx),
-        Def::Argument(block, _) => Some(parent_operation_of(block, ctx)),
+        Def::Result(op, _) => {
+            worklist.add(DeadCandidate::Operation(op))?;
+            Ok(op.get_parent_op(ctx))
+        }
+        Def::Argument(block, _) => {
+            worklist.add(DeadCandidate::Argument(value))?;
+            Ok(Some(parent_operation_of(block, ctx)))
+        }
     }
 }
 
@@ -294,20 +312,22 @@ fn add_around(around: &mut IndexSet<Ptr<Operation>>, op: Ptr<Operation>) -> Resu
     Ok(around.insert(op)?)
 }
 
-// The operations around what defines the value, and those around them, are visited once nothing else is ready.
+// The operations around what defines the value, this one first, are visited once nothing else is ready.
 #[inline(always)]
 fn push_around(
     around: &mut IndexSet<Ptr<Operation>>,
     value: Value,
+    first: Option<Ptr<Operation>>,
     ctx: &Context,
 ) -> Result<(), AllocError>
-    requires value { IsDefined ctx.now.tree value }
+    requires around { IsAroundMaker ctx.now.tree value first }
+    requires live { IfSome first (λ op. IsLive ctx.now.tree op) }
     requires closed { AreClosed ctx.now.tree around.old.keys }
     ensures scans { OnOk result (AddsParents ctx.now.tree value around.old.keys around.new.keys) }
     ensures closed { OnOk result (AreClosed ctx.now.tree around.new.keys) }
 {
     ctx.well_formed();
-    let mut holder = parent_operation_of_definition(value, ctx);
+    let mut holder = first;
     while let Some(op) = holder {
         if !add_around(around, op)? {
             return Ok(());
@@ -331,11 +351,8 @@ pub(crate) fn note(worklist: &mut Worklist, used: &[Value], ctx: &Context) -> Re
         if !value.is_live(ctx) {
             continue;
         }
-        match value.def(ctx) {
-            Def::Result(op, _) => worklist.add(DeadCandidate::Operation(op))?,
-            Def::Argument(_, _) => worklist.add(DeadCandidate::Argument(*value))?,
-        }
-        push_around(&mut worklist.around, *value, ctx)?;
+        let holder = revisit_definer(worklist, *value, ctx)?;
+        push_around(&mut worklist.around, *value, holder, ctx)?;
     }
     Ok(())
 }

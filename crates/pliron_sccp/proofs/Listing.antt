@@ -13,6 +13,14 @@ use Rattle.pliron_sccp.specs.Chain.{blocks_inside}
 use Rattle.pliron_sccp.specs.Inside.{blocks_directly_in}
 use Rattle.pliron_sccp.proofs.DistinctLists.{inside_nested, inside_block}
 
+-- the blocks of no regions are none
+pub none_listed : (t : Tree) (op : ℕ) → length (regions_of t op) ≡ 0 → blocks_directly_in t op ≡ []
+none_listed t op few = ap (λ rs. flat_map (λ r. layout_of t r) rs) (none (regions_of t op) few)
+  where
+    none : (xs : List ℕ) → length xs ≡ 0 → xs ≡ []
+    none [] e = refl
+    none (x ∷ xs) e = absurd (omega (arith, e))
+
 pub flat_alone : (xs : List ℕ) → flat_map (λ x. x ∷ []) xs ≡ xs
 flat_alone [] = refl
 flat_alone (x ∷ xs) = ap (λ ys. x ∷ ys) (flat_alone xs)

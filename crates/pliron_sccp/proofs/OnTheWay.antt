@@ -4,7 +4,7 @@ use Rattle.std.specs.List.{flat_map}
 use Rattle.std.proofs.lemmas.Bool.{eq-eqb}
 use Rattle.std.proofs.lemmas.Option.{slice_get_within}
 use Rattle.pliron_core.specs.Lists.{In}
-use Rattle.pliron_core.specs.Tree.{Tree, IsLive, IsBlock, HoldsBlock, IsInside, results_of, arguments_of, parent_of, body_of, layout_of, definition_of, successors_of, block_parent_of, block_parent_operation_of, region_parent_of, up_from}
+use Rattle.pliron_core.specs.Tree.{Tree, IsDefined, IsMadeBy, IsLive, IsBlock, HoldsBlock, IsInside, results_of, arguments_of, parent_of, body_of, layout_of, definition_of, successors_of, block_parent_of, block_parent_operation_of, region_parent_of, up_from}
 use Rattle.pliron_core.specs.Invariant.{IsTree, HaveFewKeys}
 use Rattle.pliron_core.specs.Changes.{IsDefinedInside, IsDefiningOperationInside}
 use Rattle.pliron_core.proofs.FlatLemmas.{In-flat_map, flat_map-In, slice_get-In}
@@ -63,6 +63,15 @@ listed_inside t w root v i =
         let k = flat_map-In (λ k. results_of t k) (body_of t b) v j in
         let s = slice_get-In v (results_of t k.0) k.2 in
         subst (IsDefiningOperationInside t root) (sym (w.joined.results k.0 s.0 v s.1)) (inside_block b (w.bodies.owned k.0 b k.1) h)
+
+-- and it is live
+pub listed_defined : (t : Tree) (w : IsTree t) (root v : ℕ) → In v (values_inside t root) → IsDefined t v
+listed_defined t w root v i =
+    let b = flat_map-In (λ b. block_values t b) (blocks_inside t root) v i in
+    ⊎_elim
+    (λ j. let s = slice_get-In v (arguments_of t b.0) j in subst (IsMadeBy t v) (sym (w.joined.arguments b.0 s.0 v s.1)) s.1)
+    (λ j. let k = flat_map-In (λ k. results_of t k) (body_of t b.0) v j in let s = slice_get-In v (results_of t k.0) k.2 in subst (IsMadeBy t v) (sym (w.joined.results k.0 s.0 v s.1)) s.1)
+    (In-cases v (arguments_of t b.0) (flat_map (λ k. results_of t k) (body_of t b.0)) b.2)
 
 -- what was taken counts more than what is deferred
 pub fewer : (all pops taken old new : ℕ) → pops + taken ≤ all → 0 < taken → new < old + 2 ^ 64 → (all - (pops + taken)) * 2 ^ 64 + new < (all - pops) * 2 ^ 64 + old

@@ -59,28 +59,27 @@ impl DirectMappedIndex {
         Ok(guesses)
     }
 
-    // The index of the guess for a key, if there is room for one.
-    fn place(&self, key: u64) -> Option<usize> {
-        if key < self.first {
-            return None;
-        }
-        Some((key - self.first) as usize)
+    // The index of the guess for a key; one behind the last where there is no room for it.
+    #[inline(always)]
+    fn place(&self, key: u64) -> usize {
+        key.wrapping_sub(self.first) as usize
     }
 
     fn put(&mut self, key: u64, number: usize) {
-        let Some(place) = self.place(key) else {
-            return;
-        };
+        let place = self.place(key);
         if place < self.numbers.len() {
             self.numbers[place] = number;
         }
     }
 
     /// A number that the key may have. Takes no memory. Cost: constant.
+    #[inline(always)]
     pub fn get(&self, key: u64) -> usize {
-        match self.place(key) {
-            Some(place) if place < self.numbers.len() => self.numbers[place],
-            _ => 0,
+        let place = self.place(key);
+        if place < self.numbers.len() {
+            self.numbers[place]
+        } else {
+            0
         }
     }
 }

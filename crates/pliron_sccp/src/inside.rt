@@ -1,5 +1,5 @@
 //! Listing what is inside an operation.
-ghost use Rattle.std.specs.Prelude.{◌≡◌, ◌++◌, ◌∷◌, [], ℕ, OnOk, IfOk, map, reverse, IsOkUnless};
+ghost use Rattle.std.specs.Prelude.{◌≡◌, ◌++◌, ◌∷◌, [], ℕ, OnOk, IfOk, IsTrue, map, reverse, IsOkUnless};
 ghost use Rattle.std.specs.List.{flat_map};
 ghost use Rattle.pliron_core.specs.Tree.{IsLive, IsBlock, IsRegion, In, arguments_of, body_of, layout_of, regions_of, results_of};
 ghost use Rattle.pliron_sccp.specs.Chain.{blocks_inside};
@@ -31,9 +31,26 @@ fn list_region(
     Ok(())
 }
 
-// Adds the blocks of the operation's regions, in order.
+// Adds the blocks of the operation's regions, in order. Mostly it has none.
 #[inline(always)]
 fn list_regions(
+    op: Ptr<Operation>,
+    ctx: &Context,
+    blocks: &mut Vec<Ptr<BasicBlock>>,
+) -> Result<(), OptError>
+    requires { IsLive ctx.now.tree op }
+    ensures ok { OnOk result (blocks.new.items ≡ blocks.old.items ++ blocks_directly_in ctx.now.tree op) }
+    ensures memory { IsOkUnless result OptError.Memory }
+{
+    if op.num_region(ctx) == 0 {
+        return Ok(());
+    }
+    list_each_region(op, ctx, blocks)
+}
+
+// Adds the blocks of each of the operation's regions, in order.
+#[inline(never)]
+fn list_each_region(
     op: Ptr<Operation>,
     ctx: &Context,
     blocks: &mut Vec<Ptr<BasicBlock>>,
@@ -268,7 +285,8 @@ fn list_blocks(
 }
 
 // Puts what stands directly inside the block or operation on the stack, so that the first comes off first.
-fn stack_inner(
+#[inline(never)]
+fn stack_contents(
     alloc: Global,
     part: &Part,
     ctx: &Context,
@@ -284,6 +302,36 @@ fn stack_inner(
         Part::Operation(op) => list_blocks(alloc, *op, ctx, &mut parts)?,
     }
     stack_up(parts, stack)
+}
+
+// Whether the block or operation is an operation without regions, in which nothing stands.
+#[inline(always)]
+fn is_leaf(part: &Part, ctx: &Context) -> bool
+    requires { IsStanding ctx.now.tree part.now }
+    ensures { IsTrue result → directly_in ctx.now.tree part.now ≡ [] }
+{
+    match part {
+        Part::Block(_) => false,
+        Part::Operation(op) => op.num_region(ctx) == 0,
+    }
+}
+
+// Puts what stands directly inside the block or operation on the stack, so that the first comes off first.
+#[inline(always)]
+fn stack_inner(
+    alloc: Global,
+    part: &Part,
+    ctx: &Context,
+    stack: &mut Vec<Part>,
+) -> Result<(), OptError>
+    requires { IsStanding ctx.now.tree part.now }
+    ensures ok { OnOk result (stack.new.items ≡ stack.old.items ++ reverse (directly_in ctx.now.tree part.now)) }
+    ensures memory { IsOkUnless result OptError.Memory }
+{
+    if is_leaf(part, ctx) {
+        return Ok(());
+    }
+    stack_contents(alloc, part, ctx, stack)
 }
 
 // How many values the block lists, to make room for them.

@@ -7,7 +7,7 @@
 //! regions' entries that it names this operand for. Then its visit may wait until the end. The order decides no
 //! lattice value.
 ghost use Rattle.std.specs.Prelude.{◌≡◌, ◌<◌, ◌↔◌, ℕ, true, OnOk, IfSome, IsTrue, IsOkUnless, Some, None, length, slice_get};
-ghost use Rattle.pliron_core.specs.Tree.{IsLive, arguments_of, successors_of};
+ghost use Rattle.pliron_core.specs.Tree.{IsDefined, IsLive, arguments_of, successors_of};
 ghost use Rattle.pliron_laws.specs.Answers.{ReadsHead};
 ghost use Rattle.pliron_laws.specs.Tree.{Operation as OperationOf, op_at};
 ghost use Rattle.pliron_laws.specs.declared.dialect.Interface.TheVariants.{RegionBranch};
@@ -15,7 +15,7 @@ ghost use Rattle.pliron_theory.specs.LatticeValues.{AtMost};
 ghost use Rattle.pliron_sccp.specs.Constraints.{Adds};
 ghost use Rattle.pliron_sccp.specs.Feasible.{leads};
 ghost use Rattle.pliron_sccp.specs.OperationVisits.{either, ConstrainsEagerly, IsBehind, IsReactionTo, WasVisited, IsNamed, IsUseOf, SchedulesUses};
-ghost use Rattle.pliron_sccp.specs.LatticeTables.{lattice_value_in, known_constants, is_executable};
+ghost use Rattle.pliron_sccp.specs.LatticeTables.{lattice_value_in, known_constants, is_executable, lowered_stamp};
 
 use crate::constraints::Constraint;
 use crate::entry_operands::EntryCandidate;
@@ -39,12 +39,13 @@ pub(crate) fn is_visited(op: Ptr<Operation>, ctx: &Context, tables: &Tables) -> 
     }
 }
 
-/// A use of a lowered value: the operand of the operation at this place.
+/// A use of a lowered value, with the stamp of its last lowering: the operand of the operation at this place.
 #[derive(Drop)]
 pub(crate) struct LoweredUse {
     pub(crate) op: Ptr<Operation>,
     pub(crate) place: usize,
     pub(crate) value: Value,
+    pub(crate) stamp: u64,
 }
 
 /// What lowered values call for.
@@ -258,17 +259,12 @@ fn propagate_eagerly<D: Dialect>(
 
 // Whether the stamps say that the operation was visited since the value was last lowered.
 #[inline(always)]
-fn was_visited_since_lowered(
-    op: Ptr<Operation>,
-    value: Value,
-    ctx: &Context,
-    tables: &Tables,
-) -> bool
+fn was_visited_since_lowered(op: Ptr<Operation>, stamp: u64, ctx: &Context, tables: &Tables) -> bool
     requires { IsLive ctx.now.tree op }
-    ensures { IsTrue result → IsBehind ctx.now.tree tables.now op value → ⊥ }
+    ensures { IsTrue result → (value : ℕ) → stamp ≡ lowered_stamp tables.now value
+        → IsBehind ctx.now.tree tables.now op value → ⊥ }
 {
-    op.num_result(ctx) > 0
-        && tables.lowered_stamp(value) < tables.visit_stamp(op.get_result(ctx, 0))
+    op.num_result(ctx) > 0 && stamp < tables.visit_stamp(op.get_result(ctx, 0))
 }
 
 // Whether all that the operation does with the operand at this place was propagated eagerly, so far as is known:
@@ -313,13 +309,14 @@ fn add_use<D: Dialect>(
     edges: &FeasibleEdges,
     scheduled: &mut Scheduled,
 ) -> Result<(), OptError>
-    requires { IsLive ctx.now.tree from.now.op }
+    requires live { IsLive ctx.now.tree from.now.op }
+    requires stamp { from.now.stamp ≡ lowered_stamp tables.now from.now.value }
     ensures ok { OnOk result (SchedulesUses ⟦<D as HasFolding>⟧.folding ctx.now.tree tables.now edges.now
         from.now.value (λ k p. (k ≡ from.now.op) × (p ≡ from.now.place)) scheduled.old.users.keys
         scheduled.old.constraints.items scheduled.new.users.keys scheduled.new.constraints.items) }
     ensures memory { IsOkUnless result OptError.Memory }
 {
-    if was_visited_since_lowered(from.op, from.value, ctx, tables) {
+    if was_visited_since_lowered(from.op, from.stamp, ctx, tables) {
         return Ok(());
     }
     if !is_visited(from.op, ctx, tables) {
@@ -338,7 +335,7 @@ fn add_use<D: Dialect>(
     }
 }
 
-/// Schedules the uses of the value by operations in blocks that were visited.
+/// Schedules the uses of the value by operations in blocks that were visited. Asks that the value is live.
 pub(crate) fn add_uses<D: Dialect>(
     value: Value,
     ctx: &Context,
@@ -346,18 +343,22 @@ pub(crate) fn add_uses<D: Dialect>(
     edges: &FeasibleEdges,
     scheduled: &mut Scheduled,
 ) -> Result<(), OptError>
+    requires { IsDefined ctx.now.tree value }
     ensures ok { OnOk result (SchedulesUses ⟦<D as HasFolding>⟧.folding ctx.now.tree tables.now edges.now value
         (IsUseOf ctx.now.tree value) scheduled.old.users.keys scheduled.old.constraints.items scheduled.new.users.keys
         scheduled.new.constraints.items) }
     ensures memory { IsOkUnless result OptError.Memory }
 {
     ctx.well_formed();
-    if !value.is_live(ctx) {
-        return Ok(());
-    }
+    let stamp = tables.lowered_stamp(value);
     for i in 0..value.num_use(ctx) {
         let (op, place) = value.get_use(ctx, i);
-        let from = LoweredUse { op, place, value };
+        let from = LoweredUse {
+            op,
+            place,
+            value,
+            stamp,
+        };
         add_use::<D>(&from, ctx, tables, edges, scheduled)?;
     }
     Ok(())

@@ -24,7 +24,7 @@
 //! the one argument that it is forwarded to along an edge that the last visit found feasible, and the arguments of
 //! its regions' entries that it names this operand for. The order decides no lattice value.
 ghost use Rattle.std.specs.Prelude.{◌≡◌, ◌<◌, ℕ, true, OnOk, IfOk, IsOkUnless, Some, None};
-ghost use Rattle.pliron_core.specs.Tree.{IsLive, IsBlock, In, body_of};
+ghost use Rattle.pliron_core.specs.Tree.{IsDefined, IsLive, IsBlock, In, body_of};
 ghost use Rattle.pliron_laws.specs.Linked.{IsWellLinked};
 ghost use Rattle.pliron_sccp.specs.WorklistCounts.{IsUnsearched};
 ghost use Rattle.pliron_sccp.specs.Deferring.{deferred_operations};
@@ -35,7 +35,7 @@ ghost use Rattle.pliron_sccp.specs.Searched.{IsSearched};
 ghost use Rattle.pliron_sccp.specs.Searching.{IsVisitedOrDeferred, VisitsDeferred, VisitsOrDefersAll, TakesTurn, VisitsValues};
 ghost use Rattle.pliron_sccp.specs.Starting.{IsStarted};
 ghost use Rattle.pliron_sccp.specs.Found.{HasFound};
-ghost use Rattle.pliron_sccp.specs.LatticeTables.{lattice_values_of, is_block_on_worklist};
+ghost use Rattle.pliron_sccp.specs.LatticeTables.{lattice_values_of, is_block_on_worklist, is_value_on_worklist};
 
 use crate::constraints::{Scratch, constrain_entries, constraints_of, satisfy_all};
 use crate::deferred::DeferredOperations;
@@ -84,13 +84,14 @@ pub fn start(alloc: Global, root: Ptr<Operation>, ctx: &Context) -> Result<Table
 // constraints of others on one argument each, and how many values were popped. Users in other blocks put no
 // constraint: a block on the worklist is still to be visited, and one that is not executable puts none. The most
 // precise lattice values need this rule: an operation that is visited before its block was could read a value of
-// which nothing is known yet. Errors: allocation failure. Cost: one step for each value and for each use of it.
+// which nothing is known yet. Asks that the values on the worklist are live. Errors: allocation failure. Cost: one step for each value and for each use of it.
 fn take_values<D: Dialect>(
     alloc: Global,
     ctx: &Context,
     tables: &mut Tables,
     edges: &FeasibleEdges,
 ) -> Result<(Scheduled, u128), OptError>
+    requires { (v : ℕ) → is_value_on_worklist tables.old v ≡ true → IsDefined ctx.now.tree v }
     ensures ok { IfOk result (λ r. PopsUsers ⟦<D as HasFolding>⟧.folding ctx.now.tree edges.now r.0.users.keys
         r.0.constraints.items tables.old tables.new r.1) }
     ensures memory { IsOkUnless result OptError.Memory }
@@ -214,10 +215,10 @@ fn keep_candidates<D: Dialect>(
     }
 }
 
-// Visits the operation, and if it has many operands keeps the blocks that it may go to, where it folds as a branch,
-// and lists the arguments that it names operands for. Asks what `visit_with_scratch` asks. Errors: allocation
+// Visits the operation as one with many operands: keeps the blocks that it may go to, where it folds as a branch, and
+// lists the arguments that it names operands for. Asks what `visit_with_scratch` asks. Errors: allocation
 // failure. Cost: that of its constraints.
-fn visit_and_keep<D: Dialect>(
+fn visit_wide<D: Dialect>(
     op: Ptr<Operation>,
     ctx: &Context,
     tables: &mut Tables,
@@ -239,6 +240,35 @@ fn visit_and_keep<D: Dialect>(
     visit_operation::<D>(op, ctx, tables, scratch, &mut feasible)?;
     keep_candidates::<D>(scratch.alloc, op, ctx, edges)?;
     keep_feasible(op, feasible, ctx, edges)
+}
+
+// Visits the operation, and if it has many operands keeps the blocks that it may go to, where it folds as a branch,
+// and lists the arguments that it names operands for. Asks what `visit_with_scratch` asks. Errors: allocation
+// failure. Cost: that of its constraints.
+#[inline(always)]
+fn visit_and_keep<D: Dialect>(
+    op: Ptr<Operation>,
+    ctx: &Context,
+    tables: &mut Tables,
+    edges: &mut FeasibleEdges,
+    scratch: &mut Scratch,
+) -> Result<(), OptError>
+    requires live { IsLive ctx.now.tree op }
+    requires targets { HasNumberedTargets ctx.now.tree tables.old op }
+    requires entered { AreEntriesExecutable ctx.now.tree (lattice_values_of tables.old) scratch.old.entered }
+    ensures visit_stamps { OnOk result (VisitsOperation ⟦<D as HasFolding>⟧.folding ctx.now.tree op tables.old
+        tables.new) }
+    ensures keeps { OnOk result (KeepsFeasible ⟦<D as HasFolding>⟧.folding ctx.now.tree (lattice_values_of tables.old)
+        op edges.old edges.new) }
+    ensures entered { OnOk result (AreEntriesExecutable ctx.now.tree (lattice_values_of tables.new)
+        scratch.new.entered) }
+    ensures memory { IsOkUnless result OptError.Memory }
+{
+    if op.num_operand(ctx) > FEW_OPERANDS {
+        visit_wide::<D>(op, ctx, tables, edges, scratch)
+    } else {
+        visit_with_scratch::<D>(op, ctx, tables, scratch)
+    }
 }
 
 // Visits the operation, or defers it where it has more than a few operands. Asks what `visit_with_scratch` asks.
@@ -330,6 +360,7 @@ fn visit_values<D: Dialect>(
     edges: &FeasibleEdges,
     scratch: &mut Scratch,
 ) -> Result<u128, OptError>
+    requires values { (v : ℕ) → is_value_on_worklist tables.old v ≡ true → IsDefined ctx.now.tree v }
     requires targets { AreTargetsNumbered ctx.now.tree tables.old }
     requires entered { AreEntriesExecutable ctx.now.tree (lattice_values_of tables.old) scratch.old.entered }
     ensures ok { IfOk result (λ taken. VisitsValues ⟦<D as HasFolding>⟧.folding ctx.now.tree edges.now tables.old
@@ -362,6 +393,7 @@ fn step<D: Dialect>(
     scratch: &mut Scratch,
 ) -> Result<u128, OptError>
     requires blocks { (b : ℕ) → is_block_on_worklist tables.old b ≡ true → IsBlock ctx.now.tree b }
+    requires values { (v : ℕ) → is_value_on_worklist tables.old v ≡ true → IsDefined ctx.now.tree v }
     requires targets { AreTargetsNumbered ctx.now.tree tables.old }
     requires entered { AreEntriesExecutable ctx.now.tree (lattice_values_of tables.old) scratch.old.entered }
     ensures ok { IfOk result (λ taken. TakesTurn ⟦<D as HasFolding>⟧.folding ctx.now.tree tables.old tables.new

@@ -2,16 +2,15 @@ use Rattle.std.proofs.Common.{slice_get, sym, ap, subst, ◌∙◌, arith}
 use Rattle.std.proofs.lemmas.Option.{slice_get_within}
 use Rattle.pliron_core.specs.Tree.{In, operands_of}
 use Rattle.pliron_core.proofs.HoldingLemmas.{some_is, slice_in}
-use Rattle.pliron_dce.proofs.TakeLemmas.{in_more, in_last}
 use Rattle.pliron_dce.proofs.ReadyTests.{less_or_same}
 use Rattle.pliron_dce.proofs.erase.push_operands.Goals as goal
 
 pub loop-i-preserved : goal.loop-i-preserved
 loop-i-preserved c =
-    let same = c.in_ok-push.ensures.items in
+    let more = c.in_ok-push_unless_last.ensures in
     record {
-      kept = λ v i. subst (In v) (sym same) (in_more v _ _ (c.loop-i.invariant.kept v i));
-      added = λ j v l e. less_or_same c.loop-i.i j l (λ lt. subst (In v) (sym same) (in_more v _ _ (c.loop-i.invariant.added j v lt e))) (λ s. subst (λ z. In z c.push.new.self.items) (some_is (sym c.get_operand.ensures.operand ∙ ap (slice_get (operands_of c.args.ctx.now.tree c.args.op)) (sym s) ∙ e)) (subst (In c.get_operand.result) (sym same) (in_last c.get_operand.result _)));
+      kept = λ v i. more.kept v (c.loop-i.invariant.kept v i);
+      added = λ j v l e. less_or_same c.loop-i.i j l (λ lt. more.kept v (c.loop-i.invariant.added j v lt e)) (λ s. subst (λ z. In z c.push_unless_last.new.values.items) (some_is (sym c.get_operand.ensures.operand ∙ ap (slice_get (operands_of c.args.ctx.now.tree c.args.op)) (sym s) ∙ e)) more.there);
     }
 
 pub returns : goal.returns

@@ -10,8 +10,8 @@ use Rattle.pliron_dce.proofs.worklist.push_around.Goals as goal
 
 pub loop-holder-init : goal.loop-holder-init
 loop-holder-init c = record {
-  live = λ k e. some_told (λ z. IsLive c.args.ctx.now.tree z) c.parent_operation_of_definition-holder.ensures.live e;
-  rising = rising_starts c.args.ctx.now.tree c.args.value c.args.around.now.keys c.parent_operation_of_definition-holder.result c.requires.closed c.parent_operation_of_definition-holder.ensures.around;
+  live = λ k e. some_told (λ z. IsLive c.args.ctx.now.tree z) c.requires.live e;
+  rising = rising_starts c.args.ctx.now.tree c.args.value c.args.around.now.keys c.args.first c.requires.closed c.requires.around;
 }
 
 stops : (c : goal.Then-not-branch) → AddsParents c.args.ctx.now.tree c.args.value c.args.around.now.keys c.add_around.new.around.keys × AreClosed c.args.ctx.now.tree c.add_around.new.around.keys

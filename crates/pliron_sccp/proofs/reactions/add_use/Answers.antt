@@ -17,7 +17,7 @@ returns-in-Ask-clause-ok g c =
     let x : Says = record { meaning = g.D.HasMeaning.meaning; can_fold = g.D.ConstFoldInterface.can_fold; can_fold_branch = g.D.BranchOpFoldInterface.can_fold_branch; constants = g.D.ConstFoldInterface.constants; feasible = g.D.BranchOpFoldInterface.feasible; entry_operands = g.D.RegionBranchOpInterface.entry_operands } in
     let call = subst (IsReactionTo x c.args.ctx.now.tree c.args.from.now.op c.args.from.now.place) c.in-Ask.is c.reaction_to.ensures in
     on_ok_then c.constrain_argument.result
-    (λ adds. use_asked x c.args.ctx.now.tree c.args.edges.now c.args.tables.now c.args.from.now.value c.args.from.now.op c.args.from.now.place c.args.scheduled.now.users.keys c.args.scheduled.now.constraints.items c.constrain_argument.new.constraints.items c.in-Ask.edge c.in-Ask.index c.requires (c.is_visited.ensures.0 c.if-not-is_visited.false) call.0 call.1 adds)
+    (λ adds. use_asked x c.args.ctx.now.tree c.args.edges.now c.args.tables.now c.args.from.now.value c.args.from.now.op c.args.from.now.place c.args.scheduled.now.users.keys c.args.scheduled.now.constraints.items c.constrain_argument.new.constraints.items c.in-Ask.edge c.in-Ask.index c.requires.live (c.is_visited.ensures.0 c.if-not-is_visited.false) call.0 call.1 adds)
     c.constrain_argument.ensures.ok
 
 pub returns-in-Pass-clause-ok : goal.returns-in-Pass-clause-ok
@@ -28,7 +28,7 @@ returns-in-Pass-clause-ok g c =
 pub returns-then-was_visited_since_lowered-clause-ok : goal.returns-then-was_visited_since_lowered-clause-ok
 returns-then-was_visited_since_lowered-clause-ok g c =
     let x : Says = record { meaning = g.D.HasMeaning.meaning; can_fold = g.D.ConstFoldInterface.can_fold; can_fold_branch = g.D.BranchOpFoldInterface.can_fold_branch; constants = g.D.ConstFoldInterface.constants; feasible = g.D.BranchOpFoldInterface.feasible; entry_operands = g.D.RegionBranchOpInterface.entry_operands } in
-    use_ahead_of x c.args.ctx.now.tree c.args.edges.now c.args.tables.now c.args.from.now.value c.args.from.now.op c.args.from.now.place c.args.scheduled.now.users.keys c.args.scheduled.now.constraints.items (c.was_visited_since_lowered.ensures c.if-was_visited_since_lowered.true)
+    use_ahead_of x c.args.ctx.now.tree c.args.edges.now c.args.tables.now c.args.from.now.value c.args.from.now.op c.args.from.now.place c.args.scheduled.now.users.keys c.args.scheduled.now.constraints.items (c.was_visited_since_lowered.ensures c.if-was_visited_since_lowered.true c.args.from.now.value c.requires.stamp)
 
 pub returns-then-not-is_visited-clause-ok : goal.returns-then-not-is_visited-clause-ok
 returns-then-not-is_visited-clause-ok g c =

@@ -1,7 +1,7 @@
-use Rattle.std.proofs.Common.{true≢false, sym, ◌∙◌, arith}
+use Rattle.std.proofs.Common.{arith}
 use Rattle.pliron_core.specs.Tree.{uses_of}
 use Rattle.pliron_theory.specs.LatticeValues.{Says}
-use Rattle.pliron_sccp.proofs.ReactionLemmas.{uses_start, uses_next, uses_end, none_reads}
+use Rattle.pliron_sccp.proofs.ReactionLemmas.{uses_start, uses_next, uses_end}
 use Rattle.pliron_sccp.proofs.reactions.add_uses.Goals as goal
 
 pub loop-i-init : goal.loop-i-init
@@ -18,8 +18,3 @@ pub returns-clause-ok : goal.returns-clause-ok
 returns-clause-ok g c =
     let x : Says = record { meaning = g.D.HasMeaning.meaning; can_fold = g.D.ConstFoldInterface.can_fold; can_fold_branch = g.D.BranchOpFoldInterface.can_fold_branch; constants = g.D.ConstFoldInterface.constants; feasible = g.D.BranchOpFoldInterface.feasible; entry_operands = g.D.RegionBranchOpInterface.entry_operands } in
     uses_end x c.args.ctx.now c.args.edges.now c.args.tables.now c.args.value c.loop-i.i c.args.scheduled.now.users.keys c.args.scheduled.now.constraints.items c.loop-i.scheduled.users.keys c.loop-i.scheduled.constraints.items c.well_formed-2.ensures.uses (omega arith) c.loop-i.invariant
-
-pub returns-then-not-is_live-clause-ok : goal.returns-then-not-is_live-clause-ok
-returns-then-not-is_live-clause-ok g c =
-    let x : Says = record { meaning = g.D.HasMeaning.meaning; can_fold = g.D.ConstFoldInterface.can_fold; can_fold_branch = g.D.BranchOpFoldInterface.can_fold_branch; constants = g.D.ConstFoldInterface.constants; feasible = g.D.BranchOpFoldInterface.feasible; entry_operands = g.D.RegionBranchOpInterface.entry_operands } in
-    none_reads x c.args.ctx.now.tree c.args.edges.now c.args.tables.now c.well_formed-2.ensures.tree c.args.value c.args.scheduled.now.users.keys c.args.scheduled.now.constraints.items (λ d. true≢false (sym (c.is_live.ensures.1 d) ∙ c.if-not-is_live.true))

@@ -7,7 +7,7 @@ use Rattle.pliron_sccp.specs.Deferring.{deferred_operations}
 use Rattle.pliron_sccp.specs.Inside.{values_inside}
 use Rattle.pliron_sccp.specs.Searching.{VisitsDeferred, TakesTurn}
 use Rattle.pliron_sccp.proofs.DistinctLists.{inside_block}
-use Rattle.pliron_sccp.proofs.OnTheWay.{targets_numbered, few_to_take, started_search, next_search, search_bound, aside_search, end_search, fewer_left, fewer_aside, more_by}
+use Rattle.pliron_sccp.proofs.OnTheWay.{listed_defined, targets_numbered, few_to_take, started_search, next_search, search_bound, aside_search, end_search, fewer_left, fewer_aside, more_by}
 use Rattle.pliron_sccp.proofs.search.search.Goals as goal
 
 pub loop-scratch-init : goal.loop-scratch-init
@@ -23,6 +23,9 @@ step-requires-clause-targets g c =
 
 pub step-requires-clause-blocks : goal.step-requires-clause-blocks
 step-requires-clause-blocks g c = λ b waits. inside_block c.args.ctx.now.tree c.well_formed-2.ensures.tree c.args.root b (c.loop-scratch.invariant.0.way.waits.blocks b waits).0
+
+pub step-requires-clause-values : goal.step-requires-clause-values
+step-requires-clause-values g c = λ v waits. listed_defined c.args.ctx.now.tree c.well_formed-2.ensures.tree c.args.root v (c.loop-scratch.invariant.0.way.waits.values v waits).0
 
 pub step-requires-clause-entered : goal.step-requires-clause-entered
 step-requires-clause-entered g c = c.loop-scratch.invariant.1

@@ -1,4 +1,4 @@
-use Rattle.std.proofs.Common.{Result, Ok, Err, refl}
+use Rattle.std.proofs.Common.{Result, Ok, Err, refl, sym, ◌∙◌}
 use Rattle.std.specs.Result.{IfOk}
 use Rattle.pliron_theory.specs.LatticeValues.{Says}
 use Rattle.pliron_sccp.specs.Searching.TakesTurn.{Block, Values}
@@ -24,6 +24,11 @@ pub visit_values-requires-clause-targets : goal.visit_values-requires-clause-tar
 visit_values-requires-clause-targets g c =
     let n = none_of c.pop_block.result c.in-None.is c.pop_block.ensures.none in
     targets_kept c.args.ctx.now.tree c.args.tables.now c.pop_block.new.self n.0.numbers n.0.reached c.requires.targets
+
+pub visit_values-requires-clause-values : goal.visit_values-requires-clause-values
+visit_values-requires-clause-values g c =
+    let n = none_of c.pop_block.result c.in-None.is c.pop_block.ensures.none in
+    λ v e. c.requires.values v (sym (n.0.values v) ∙ e)
 
 pub visit_block-requires-clause-entered : goal.visit_block-requires-clause-entered
 visit_block-requires-clause-entered g c =

@@ -1,3 +1,4 @@
+use Rattle.std.proofs.Common.{inr}
 use Rattle.pliron_theory.specs.LatticeValues.{Says}
 use Rattle.pliron_sccp.proofs.ReactionLemmas.{taking_start, taking_next, taking_end}
 use Rattle.pliron_sccp.proofs.UserLists.{no_keys}
@@ -18,3 +19,6 @@ pub returns-clause-ok : goal.returns-clause-ok
 returns-clause-ok g c =
     let x : Says = record { meaning = g.D.HasMeaning.meaning; can_fold = g.D.ConstFoldInterface.can_fold; can_fold_branch = g.D.BranchOpFoldInterface.can_fold_branch; constants = g.D.ConstFoldInterface.constants; feasible = g.D.BranchOpFoldInterface.feasible; entry_operands = g.D.RegionBranchOpInterface.entry_operands } in
     taking_end x c.args.ctx.now.tree c.args.edges.now c.args.tables.now c.loop-value.tables c.pop_value.new.self c.loop-value.scheduled.users.keys c.loop-value.scheduled.constraints.items c.loop-value.taken c.loop-value.invariant (none_of c.pop_value.result c.in_default.is c.pop_value.ensures.none)
+
+pub add_uses-requires : goal.add_uses-requires
+add_uses-requires g c = c.requires c.in-Some.value ((c.loop-value.invariant.waited c.in-Some.value).1 (inr c.in-Some.ensures.taken.waited))

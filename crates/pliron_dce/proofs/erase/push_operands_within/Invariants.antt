@@ -5,7 +5,7 @@ use Rattle.pliron_core.specs.Walks.{preorder}
 use Rattle.pliron_core.specs.WalkSteps.{rest_from}
 use Rattle.pliron_laws.proofs.PassedLemmas.{ArePassed}
 use Rattle.pliron_dce.proofs.TakeLemmas.{HasOperands}
-use Rattle.pliron_dce.proofs.erase.list_operands_within.Given as goal
+use Rattle.pliron_dce.proofs.erase.push_operands_within.Given as goal
 
 abbrev pub invariant-loop-at : goal.invariant-loop-at
 invariant-loop-at l = record {

@@ -1,0 +1,16 @@
+use Rattle.std.proofs.Common.{◌≡◌, ◌-◌, length, eqb-true, sym, subst}
+use Rattle.pliron_core.specs.Tree.{In}
+use Rattle.pliron_core.proofs.HoldingLemmas.{in_slice}
+use Rattle.pliron_dce.proofs.TakeLemmas.{in_more, in_last}
+use Rattle.pliron_dce.proofs.erase.push_unless_last.Goals as goal
+
+pub returns-then-eq-clause-there : goal.returns-then-eq-clause-there
+returns-then-eq-clause-there c =
+    let same : c.in-Some.last.now ≡ c.args.value = eqb-true c.in-Some.last.now c.args.value (sym c.if-eq.ensures) in
+    subst (λ v. In v c.args.values.now.items) same (subst (In c.in-Some.last.now) c.deref.ensures.value (in_slice c.deref.result.now (length c.deref.result.now - 1) c.in-Some.last.now (sym c.in-Some.ensures.value)))
+
+pub returns-clause-kept : goal.returns-clause-kept
+returns-clause-kept c = λ v i. subst (In v) (sym c.in_ok-push.ensures.items) (in_more v _ _ i)
+
+pub returns-clause-there : goal.returns-clause-there
+returns-clause-there c = subst (In c.args.value) (sym c.in_ok-push.ensures.items) (in_last c.args.value _)
