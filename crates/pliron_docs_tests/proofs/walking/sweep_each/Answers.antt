@@ -1,4 +1,4 @@
-use Rattle.std.proofs.Common.{◌≡◌, sym, ◌∙◌}
+use Rattle.std.proofs.Common.{sym, ◌∙◌}
 use Rattle.pliron_bench.specs.BenchMoves.{bench}
 use Rattle.pliron_theory.proofs.ChangeLemmas.{change_trans}
 use Rattle.pliron_pass_rewrites.proofs.StatusLemmas.{unchanged_by_both}
