@@ -9,7 +9,7 @@ use Rattle.pliron_core.proofs.HoldingLemmas.{maker_is, some_is, in_slice}
 use Rattle.pliron_laws.proofs.ConstantLemmas.{insideless, blockless}
 use Rattle.pliron_dce.specs.Readiness.{HaveNoUse, AreOperandsWithin, AddsOperands}
 
-none_there : (xs : List ℕ) → length xs ≡ 0 → xs ≡ []
+pub none_there : (xs : List ℕ) → length xs ≡ 0 → xs ≡ []
 none_there [] e = refl
 none_there (x ∷ xs) e = absurd (omega (arith, e))
 

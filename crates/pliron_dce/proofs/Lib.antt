@@ -20,3 +20,4 @@ pub mod IncomingLists
 pub mod MarkLemmas
 pub mod IncomingLemmas
 mod LeafLemmas
+mod LiveOperands

@@ -1,6 +1,6 @@
 //! Whole rewrites: one dead operation or argument is erased.
-ghost use Rattle.std.specs.Prelude.{◌≡◌, ◌↔◌, ◌<◌, ◌≤◌, length, ℕ, Some, IfOk, OnOk, OnErr, IsTrue, slice_get, IsOkUnless};
-ghost use Rattle.pliron_core.specs.Tree.{In, IsLive, IsBlock, operands_of, arguments_of};
+ghost use Rattle.std.specs.Prelude.{◌≡◌, ◌⊎◌, ◌↔◌, ◌<◌, ◌≤◌, length, ℕ, Some, IfOk, OnOk, OnErr, IsTrue, slice_get, IsOkUnless};
+ghost use Rattle.pliron_core.specs.Tree.{In, IsDefined, IsLive, IsBlock, operands_of, arguments_of, regions_of};
 ghost use Rattle.pliron_core.specs.Erased.{after_erasing};
 ghost use Rattle.pliron_laws.specs.Linked.{IsWellLinked};
 ghost use Rattle.pliron_theory.specs.Dropping.{AreEdgesTo, AreOfBranches, EdgesLose};
@@ -19,6 +19,7 @@ use std::alloc::{AllocError, Global};
 fn push_unless_last(values: &mut Vec<Value>, value: Value) -> Result<(), AllocError>
     ensures kept { OnOk result ((v : ℕ) → In v values.old.items → In v values.new.items) }
     ensures there { OnOk result (In value values.new.items) }
+    ensures only { OnOk result ((v : ℕ) → In v values.new.items → In v values.old.items ⊎ (v ≡ value)) }
 {
     if let Some(last) = values.last() {
         if *last == value {
@@ -37,7 +38,9 @@ fn push_operands(
     ctx: &Context,
 ) -> Result<(), AllocError>
     requires { IsLive ctx.now.tree op }
-    ensures { OnOk result (AddsOperands ctx.now.tree op values.old.items values.new.items) }
+    ensures adds { OnOk result (AddsOperands ctx.now.tree op values.old.items values.new.items) }
+    ensures only { OnOk result ((v : ℕ) → In v values.new.items → In v values.old.items ⊎ In v
+        (operands_of ctx.now.tree op)) }
 {
     for i in 0..op.num_operand(ctx) {
         push_unless_last(values, op.get_operand(ctx, i))?;
@@ -71,7 +74,9 @@ fn list_operands_within(
     ctx: &Context,
 ) -> Result<(), AllocError>
     requires { IsLive ctx.now.tree op }
-    ensures { OnOk result (AreOperandsWithin ctx.now.tree op values.new.items) }
+    ensures all { OnOk result (AreOperandsWithin ctx.now.tree op values.new.items) }
+    ensures leaf { OnOk result (length (regions_of ctx.now.tree op) ≡ 0 → (v : ℕ) → In v values.new.items → In v
+        (operands_of ctx.now.tree op)) }
 {
     ctx.well_formed();
     values.clear();
@@ -82,7 +87,8 @@ fn list_operands_within(
     }
 }
 
-// A ready operation is erased with its contents. Lists the values that it and its contents used.
+// A ready operation is erased with its contents. Lists the values that it and its contents used: of one without
+// regions all are live.
 #[inline(always)]
 pub(crate) fn erase_dead_operation<D: Dialect>(
     used: &mut Vec<Value>,
@@ -94,12 +100,15 @@ pub(crate) fn erase_dead_operation<D: Dialect>(
     requires ready { IsReadyOperation D.meaning D.side_effects ctx.old.tree root op }
     ensures gone { OnOk result (ctx.new.tree ≡ after_erasing ctx.old.tree op) }
     ensures noted { OnOk result (AreRecorded ctx.old.tree ctx.new.tree used.new.items) }
+    ensures live { OnOk result (length (regions_of ctx.old.tree op) ≡ 0 → (v : ℕ) → In v used.new.items → IsDefined
+        ctx.new.tree v) }
     ensures refused { OnErr result (ctx.new ≡ ctx.old) }
     ensures memory { IsOkUnless result OptError.Memory }
 {
     ctx.well_formed();
     list_operands_within(used, op, ctx)?;
     IRRewriter::new().erase_operation(ctx, op);
+    ctx.well_formed();
     Ok(())
 }
 

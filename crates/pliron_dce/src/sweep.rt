@@ -74,7 +74,7 @@ fn erase_one<D: Dialect>(
             let had = has_regions(op, ctx);
             erase_dead_operation::<D>(&mut state.used, op, root, ctx)?;
             ctx.well_formed();
-            note(&mut state.worklist, &state.used, ctx)?;
+            note(&mut state.worklist, &state.used, !had, ctx)?;
             Ok(had)
         }
         DeadCandidate::Argument(value) => match value.def(ctx) {
@@ -83,7 +83,7 @@ fn erase_one<D: Dialect>(
                 let edges = state.incoming.edges_to(block);
                 let lost = erase_dead_argument::<D>(alloc, block, index, edges, root, ctx)?;
                 ctx.well_formed();
-                note(&mut state.worklist, &lost, ctx)?;
+                note(&mut state.worklist, &lost, false, ctx)?;
                 Ok(false)
             }
             Def::Result(_, _) => unreachable!(),

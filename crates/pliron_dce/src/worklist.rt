@@ -337,10 +337,25 @@ fn push_around(
     Ok(())
 }
 
-// What may have become ready when these values lost uses: what defines each of them, and the operations around
-// it.
+// Whether the value is live; one that is known to be isn't tested.
 #[inline(always)]
-pub(crate) fn note(worklist: &mut Worklist, used: &[Value], ctx: &Context) -> Result<(), AllocError>
+fn is_noted(value: Value, is_known: bool, ctx: &Context) -> bool
+    requires { IsTrue is_known → IsDefined ctx.now.tree value }
+    ensures { IsTrue result ↔ IsDefined ctx.now.tree value }
+{
+    is_known || value.is_live(ctx)
+}
+
+// What may have become ready when these values lost uses: what defines each of them, and the operations around
+// it. They may be known to be live.
+#[inline(always)]
+pub(crate) fn note(
+    worklist: &mut Worklist,
+    used: &[Value],
+    are_live: bool,
+    ctx: &Context,
+) -> Result<(), AllocError>
+    requires live { IsTrue are_live → (v : ℕ) → In v used.now → IsDefined ctx.now.tree v }
     requires closed { AreClosed ctx.now.tree worklist.old.around.keys }
     ensures kept { OnOk result ((x : Item) → Among x (items_of (pending_candidates worklist.old)) → Among x
         (items_of (pending_candidates worklist.new))) }
@@ -348,7 +363,7 @@ pub(crate) fn note(worklist: &mut Worklist, used: &[Value], ctx: &Context) -> Re
     ensures closed { OnOk result (AreClosed ctx.now.tree worklist.new.around.keys) }
 {
     for value in used {
-        if !value.is_live(ctx) {
+        if !is_noted(*value, are_live, ctx) {
             continue;
         }
         let holder = revisit_definer(worklist, *value, ctx)?;

@@ -1,7 +1,7 @@
-use Rattle.std.proofs.Common.{slice_get, sym, ap, subst, ◌∙◌, arith}
+use Rattle.std.proofs.Common.{inr, ⊎_elim, slice_get, sym, ap, subst, ◌∙◌, arith}
 use Rattle.std.proofs.lemmas.Option.{slice_get_within}
 use Rattle.pliron_core.specs.Tree.{In, operands_of}
-use Rattle.pliron_core.proofs.HoldingLemmas.{some_is, slice_in}
+use Rattle.pliron_core.proofs.HoldingLemmas.{some_is, slice_in, in_slice}
 use Rattle.pliron_dce.proofs.ReadyTests.{less_or_same}
 use Rattle.pliron_dce.proofs.erase.push_operands.Goals as goal
 
@@ -11,10 +11,14 @@ loop-i-preserved c =
     record {
       kept = λ v i. more.kept v (c.loop-i.invariant.kept v i);
       added = λ j v l e. less_or_same c.loop-i.i j l (λ lt. more.kept v (c.loop-i.invariant.added j v lt e)) (λ s. subst (λ z. In z c.push_unless_last.new.values.items) (some_is (sym c.get_operand.ensures.operand ∙ ap (slice_get (operands_of c.args.ctx.now.tree c.args.op)) (sym s) ∙ e)) more.there);
+      only = λ v i. ⊎_elim (λ j. c.loop-i.invariant.only v j) (λ e. inr (subst (λ z. In z (operands_of c.args.ctx.now.tree c.args.op)) (sym e) (in_slice (operands_of c.args.ctx.now.tree c.args.op) c.loop-i.i c.get_operand.result c.get_operand.ensures.operand))) (more.only v i);
     }
 
-pub returns : goal.returns
-returns c = record {
+pub returns-clause-only : goal.returns-clause-only
+returns-clause-only c = λ v i. c.loop-i.invariant.only v i
+
+pub returns-clause-adds : goal.returns-clause-adds
+returns-clause-adds c = record {
   kept = λ v i. c.loop-i.invariant.kept v i;
   added = λ v i.
       let p = slice_in (operands_of c.args.ctx.now.tree c.args.op) v i in

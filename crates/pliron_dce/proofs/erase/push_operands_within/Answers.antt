@@ -23,7 +23,7 @@ loop-at-preserved c =
     let t = c.args.ctx.now.tree in
     let w = c.well_formed-2.ensures.tree in
     let within = c.loop-at.invariant.within c.in-Some.inner c.in-Some.is in
-    let adds = c.in_ok-push_operands.ensures in
+    let adds = c.in_ok-push_operands.ensures.adds in
     let before = subst (ArePassed (λ k. HasOperands t c.loop-at.values.items k) (preorder t c.args.op)) c.in-Some.is c.loop-at.invariant.passed in
     let more = passed_more t (preorder t c.args.op) (Some c.in-Some.inner) c.loop-at.values.items c.push_operands.new.values.items adds.kept before in
     record {

@@ -1,5 +1,6 @@
 use Rattle.std.proofs.Common.{◌++◌, ℕ, Some, map, sym, ap, ◌∙◌, subst}
 use Rattle.std.proofs.lemmas.Option.{slice_get-get_or}
+use Rattle.pliron_core.proofs.HoldingLemmas.{in_slice}
 use Rattle.pliron_laws.proofs.AnswerLemmas.{refuted}
 use Rattle.pliron_dce.specs.Dead.{Item, Op}
 use Rattle.pliron_dce.specs.Readiness.{Among}
@@ -9,10 +10,10 @@ use Rattle.pliron_dce.specs.declared.worklist.DeadCandidate.TheVariants.{Operati
 use Rattle.pliron_dce.proofs.WorkLemmas.{among_left, among_set, among_more, looked_more, looked_past}
 use Rattle.pliron_dce.proofs.worklist.note.Goals as goal
 
-pub loop-value-preserved-then-not-is_live : goal.loop-value-preserved-then-not-is_live
-loop-value-preserved-then-not-is_live c = record {
+pub loop-value-preserved-then-not-is_noted : goal.loop-value-preserved-then-not-is_noted
+loop-value-preserved-then-not-is_noted c = record {
   kept = c.loop-value.invariant.kept;
-  looked = looked_past c.args.ctx.now.tree c.value-item.result c.args.used.now c.loop-value.value-index _ c.loop-value.invariant.looked (slice_get-get_or c.args.used.now c.loop-value.value-index _ c.loop-value-test.true ∙ ap Some (sym c.value-item.is)) (λ d. refuted c.is_live.result c.if-not-is_live.true (c.is_live.ensures.1 d));
+  looked = looked_past c.args.ctx.now.tree c.value-item.result c.args.used.now c.loop-value.value-index _ c.loop-value.invariant.looked (slice_get-get_or c.args.used.now c.loop-value.value-index _ c.loop-value-test.true ∙ ap Some (sym c.value-item.is)) (λ d. refuted c.is_noted.result c.if-not-is_noted.true (c.is_noted.ensures.1 d));
   closed = c.loop-value.invariant.closed;
 }
 
@@ -32,7 +33,12 @@ loop-value-preserved c =
     }
 
 pub revisit_definer-requires : goal.revisit_definer-requires
-revisit_definer-requires c = c.is_live.ensures.0 c.if-not-is_live.false
+revisit_definer-requires c = c.is_noted.ensures.0 c.if-not-is_noted.false
 
 pub push_around-requires-clause-closed : goal.push_around-requires-clause-closed
 push_around-requires-clause-closed c = subst (λ z. AreClosed c.args.ctx.now.tree z) (sym c.in_ok-holder.ensures.keys) c.loop-value.invariant.closed
+
+pub is_noted-requires : goal.is_noted-requires
+is_noted-requires c =
+    let at = slice_get-get_or c.args.used.now c.loop-value.value-index _ c.loop-value-test.true ∙ ap Some (sym c.value-item.is) in
+    λ e. c.requires.live e c.value-item.result (in_slice c.args.used.now c.loop-value.value-index c.value-item.result at)
