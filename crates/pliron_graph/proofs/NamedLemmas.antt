@@ -4,7 +4,6 @@ use Rattle.std.specs.Cmp.{IsEquivalence}
 use Rattle.std.specs.List.{All}
 use Rattle.std.specs.Option.{option_to_list}
 use Rattle.std.proofs.lemmas.List.{length-map, length_push}
-use Rattle.std.proofs.lemmas.List.Elements.{Contains-get_or}
 use Rattle.std.proofs.lemmas.Option.{slice_get_within}
 use Rattle.pliron_traversal.specs.Digraph.{Digraph, IsLawful, Reaches}
 use Rattle.pliron_traversal.specs.Adjacency.{Adjacency, graph_of}

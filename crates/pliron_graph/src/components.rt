@@ -315,6 +315,10 @@ fn by_falling_number<N: Eq + Copy, S: ListedSet<N>>(
     ensures memory { IsOkUnless result OptError.Memory }
 {
     sorted.clear();
+    if nodes.len() == 1 {
+        sorted.push(nodes[0])?;
+        return Ok(());
+    }
     sorted.extend_from_slice(nodes)?;
     sorted.sort_unstable_by_key(|node| order.place_of(node));
     sorted.reverse();

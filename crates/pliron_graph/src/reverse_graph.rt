@@ -179,9 +179,8 @@ fn predecessor_list<C, G: ControlFlowGraph<C>>(
         (ReverseNode.Real node.now)) }
     ensures memory { IsOkUnless result OptError.Memory }
 {
-    let count = graph.num_successors(ctx, node);
-    let mut list = Vec::with_capacity(alloc, count.saturating_add(1))?;
-    for i in 0..count {
+    let mut list = Vec::new(alloc);
+    for i in 0..graph.num_successors(ctx, node) {
         list.push(ReverseNode::Real(graph.get_successor(ctx, node, i)))?;
     }
     if !pre_sentinels.contains(node) {

@@ -1,4 +1,4 @@
-use Rattle.std.proofs.Common.{◌≡◌, sym, ◌∙◌, refl, Contains, true≢false}
+use Rattle.std.proofs.Common.{sym, ◌∙◌, refl, Contains, true≢false}
 use Rattle.std.specs.List.{All}
 use Rattle.pliron_graph.specs.Internal.Picking.{StandsFrom}
 use Rattle.pliron_graph.proofs.PreSentinelLemmas.{all_more, all_at, all_end}

@@ -1,4 +1,4 @@
-use Rattle.std.proofs.Common.{◌≡◌, sym, refl, arith, ◌∙◌, true≢false}
+use Rattle.std.proofs.Common.{sym, refl, arith, ◌∙◌, true≢false}
 use Rattle.std.proofs.lemmas.Option.{slice_get_within, get_or_from_slice_get}
 use Rattle.pliron_graph.specs.Internal.Picking.{StandsFrom}
 use Rattle.pliron_graph.proofs.PreSentinelLemmas.{all_more, all_at, all_end}
