@@ -10,13 +10,14 @@ pub mod ComponentLawLemmas
 pub mod CollectLemmas
 pub mod SearchAllLemmas
 pub mod OrderLemmas
+pub mod PickLemmas
 pub mod ByNumberLemmas
 pub mod NamedLemmas
 pub mod TakingLemmas
 pub mod PartLemmas
 pub mod ReverseLemmas
 pub mod PreSentinelLemmas
-pub mod OwnerLemmas
+pub mod StayLemmas
 pub mod SinkLemmas
 pub mod ReverseLawLemmas
 pub mod AncestorLemmas

@@ -1,16 +1,15 @@
 -- The components of a graph, by those of the same graph by numbers.
-use Rattle.std.proofs.Common.{◌≡◌, ℕ, zero, suc, ◌<◌, Bool, List, [], ◌∷◌, ◌++◌, length, map, get_or, slice_get, Some, refl, sym, ◌∙◌, ap, subst, arith, inl, inr, ◌↔◌, IsTrue, Contains, nat_eq}
+use Rattle.std.proofs.Common.{◌≡◌, ℕ, zero, suc, ◌+◌, ◌<◌, ◌⊎◌, Bool, true, false, List, [], ◌∷◌, ◌++◌, length, map, get_or, slice_get, Some, refl, sym, ◌∙◌, ap, subst, arith, inl, inr, ◌↔◌, IsTrue, Contains, nat_eq}
 use Rattle.std.specs.Cmp.{IsEquivalence}
 use Rattle.std.specs.List.{All}
 use Rattle.std.specs.Option.{option_to_list}
-use Rattle.std.proofs.lemmas.List.{length-map}
-use Rattle.std.proofs.lemmas.List.Elements.{Contains-get_or}
+use Rattle.std.proofs.lemmas.List.{length-map, length_push}
 use Rattle.std.proofs.lemmas.Option.{slice_get_within}
 use Rattle.pliron_traversal.specs.Digraph.{Digraph, IsLawful, Reaches}
 use Rattle.pliron_traversal.specs.Adjacency.{Adjacency, graph_of}
 use Rattle.pliron_traversal.specs.ByNumber.{IsByNumber}
 use Rattle.pliron_traversal.specs.Search.{number_in}
-use Rattle.pliron_traversal.specs.Internal.AdjacencyLawful.{node_below, below_node}
+use Rattle.pliron_traversal.specs.Internal.AdjacencyLawful.{same, reflexive, node_below, below_node}
 use Rattle.pliron_traversal.specs.Internal.Forest.{leaf, Grows, done}
 use Rattle.pliron_traversal.specs.Internal.Membership.{HasMember, in_from, contains_from}
 use Rattle.pliron_traversal.proofs.NumberingLemmas.{search_from_growth}
@@ -32,27 +31,33 @@ item_of_map f [] i y e = absurd (cc e)
 item_of_map f (x ∷ xs) zero y e = let here : f x ≡ y = cc e in (x, refl, here)
 item_of_map f (x ∷ xs) (suc i) y e = item_of_map f xs i y e
 
--- while the components get their nodes
-pub named_more : {N : Type 0} (nodes : List N) (cs : List (Scc ℕ)) (ds : List (Scc N)) (i : ℕ) (c : Scc ℕ) (d : Scc N) → length ds ≡ i → slice_get cs i ≡ Some c → IsNamed nodes c d
-    → ((k : ℕ) (a : Scc ℕ) (b : Scc N) → slice_get cs k ≡ Some a → slice_get ds k ≡ Some b → IsNamed nodes a b)
-    → (k : ℕ) (a : Scc ℕ) (b : Scc N) → slice_get cs k ≡ Some a → slice_get (ds ++ d ∷ []) k ≡ Some b → IsNamed nodes a b
-named_more {N} nodes cs ds i c d count at is all k a b at_a at_b = elim (item_of_push ds d k b at_b) [
-  | inl old ↦ all k a b at_a old.1
-  | inr new ↦
-      let place : k ≡ i = new.0 ∙ count in
-      let here : Some a ≡ Some c = sym at_a ∙ ap (slice_get cs) place ∙ at in
-      let one : a ≡ c = cc here in
-      subst (λ (x : Scc ℕ). IsNamed nodes x b) (sym one) (subst (λ (x : Scc N). IsNamed nodes c x) new.1 is)
-]
+pub nat_laws : IsEquivalence nat_eq
+nat_laws = record { refl = reflexive; symm = λ x y. symm x y (nat_eq x y) (nat_eq y x) refl refl; congr = λ x y z h. let e : x ≡ y = same x y h in ap (λ w. nat_eq w z) e }
+  where
+    symm : (x y : ℕ) (b c : Bool) → nat_eq x y ≡ b → nat_eq y x ≡ c → nat_eq x y ≡ nat_eq y x
+    symm x y true c p q = let e : x ≡ y = same x y p in ap (λ w. nat_eq w y) e ∙ ap (nat_eq y) (sym e)
+    symm x y false true p q = let e : y ≡ x = same y x q in ap (λ w. nat_eq w y) (sym e) ∙ ap (nat_eq y) e
+    symm x y false false p q = p ∙ sym q
 
--- the numbers of components are below the number of nodes
-pub numbers_below : (n : ℕ) (g : Adjacency) (cs : List (Scc ℕ)) → n ≡ length g.succ → AreNumberedComponents nat_eq (graph_of g) cs → All (λ c. All (λ k. k < n) c.nodes.items) cs
-numbers_below n g cs same found i c l j k m =
-    let component : Scc ℕ = get_or cs i c in
-    let number : ℕ = get_or (get_or cs i c).nodes.items j k in
-    let low : get_or (get_or cs i c).nodes.items j k < length g.succ =
-    node_below (length g.succ) number ((found.are.covers number).1 (component, Contains-get_or cs i c l, Contains-get_or component.nodes.items j k m)) in
-    omega (arith, low, same)
+pub named_none : {N : Type 0} (nodes : List N) → AreNamed nodes [] []
+named_none nodes = record { same_count = refl; each = λ i c d a b. absurd (cc a) }
+
+-- while the components get their nodes
+pub named_push : {N : Type 0} (nodes : List N) (cs : List (Scc ℕ)) (ds : List (Scc N)) (c : Scc ℕ) (d : Scc N) → IsNamed nodes c d → AreNamed nodes cs ds → AreNamed nodes (cs ++ c ∷ []) (ds ++ d ∷ [])
+named_push {N} nodes cs ds c d is all = record {
+  same_count = length_push ds d ∙ ap (λ n. n + 1) all.same_count ∙ sym (length_push cs c);
+  each = λ k a b at_a at_b. by k a b (item_of_push cs c k a at_a) (item_of_push ds d k b at_b);
+}
+  where
+    by : (k : ℕ) (a : Scc ℕ) (b : Scc N) → ((k < length cs) × (slice_get cs k ≡ Some a)) ⊎ ((k ≡ length cs) × (c ≡ a)) → ((k < length ds) × (slice_get ds k ≡ Some b)) ⊎ ((k ≡ length ds) × (d ≡ b)) → IsNamed nodes a b
+    by k a b (inl x) (inl y) = all.each k a b x.1 y.1
+    by k a b (inl x) (inr y) = absurd (omega (arith, x.0, y.0, all.same_count))
+    by k a b (inr x) (inl y) = absurd (omega (arith, x.0, y.0, all.same_count))
+    by k a b (inr x) (inr y) = subst (λ (z : Scc ℕ). IsNamed nodes z b) x.1 (subst (λ (z : Scc N). IsNamed nodes c z) y.1 is)
+
+-- the numbers of a component are below the number of nodes
+pub numbers_below : (n : ℕ) (g : Adjacency) (numbers : List ℕ) → n ≡ length g.succ → All (λ v. Contains (graph_of g).nodes v) numbers → All (λ k. k < n) numbers
+numbers_below n g numbers count inside i d l = omega (arith, count, node_below (length g.succ) (get_or numbers i d) (inside i d l))
 
 module _ {N : Type 0} (eq : N → N → Bool) (laws : IsEquivalence eq) (g : Digraph N) (lists : Adjacency) (lawful : IsLawful eq g) (by : IsByNumber g lists)
     (cs : List (Scc ℕ)) (ds : List (Scc N)) (found : AreNumberedComponents nat_eq (graph_of lists) cs) (named : AreNamed g.nodes cs ds) where

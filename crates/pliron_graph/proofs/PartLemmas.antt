@@ -1,8 +1,7 @@
 -- The part of the held nodes that was collected last is a component.
-use Rattle.std.proofs.Common.{◌≡◌, ℕ, ◌-◌, ◌≤◌, Bool, true, List, [], ◌∷◌, ◌++◌, length, get_or, take, drop, refl, sym, ◌∙◌, ap, subst, arith, Contains, ◌↔◌, IsTrue, length-append}
+use Rattle.std.proofs.Common.{◌≡◌, ℕ, ◌<◌, ◌≤◌, Bool, true, List, [], ◌∷◌, ◌++◌, length, get_or, drop, refl, sym, ap, subst, arith, Contains, ◌↔◌, IsTrue, length-append}
 use Rattle.std.specs.Cmp.{IsEquivalence}
-use Rattle.std.specs.List.{IsDistinct, All}
-use Rattle.std.proofs.lemmas.List.{take_all}
+use Rattle.std.specs.List.{All}
 use Rattle.std.proofs.lemmas.List.Elements.{All-contains, Contains-get_or}
 use Rattle.pliron_traversal.specs.Digraph.{Digraph}
 use Rattle.pliron_traversal.specs.Search.{number_in}
@@ -10,7 +9,9 @@ use Rattle.pliron_graph.specs.Components.{Falls, IsCyclic}
 use Rattle.pliron_graph.specs.declared.components.Scc.{Scc}
 use Rattle.pliron_traversal.specs.Internal.Membership.{in_from, contains_from}
 use Rattle.pliron_graph.specs.Internal.Collecting.{Collects, IsTaken}
-use Rattle.pliron_graph.proofs.CollectLemmas.{right_distinct}
+use Rattle.pliron_traversal.specs.Internal.Membership.{HasMember}
+use Rattle.pliron_graph.specs.Internal.Picking.{StandsFrom}
+use Rattle.pliron_graph.proofs.PickLemmas.{dropped_stand}
 
 -- what stands past the first part
 drop_first : {N : Type 0} (xs ys : List N) → drop (length xs) (xs ++ ys) ≡ ys
@@ -18,30 +19,23 @@ drop_first [] ys = refl
 drop_first (x ∷ xs) ys = drop_first xs ys
 
 module _ {N : Type 0} (eq : N → N → Bool) (laws : IsEquivalence eq) (same : (x y : N) → eq x y ≡ true → x ≡ y) (g : Digraph N) (root : N) (old new : List N) (collects : Collects g eq root old new)
-    (now : List N) (keys : now ≡ new) (first : ℕ) (at : first ≡ length old) where
-  abbrev part : List N
-  part = take (length now - first) (drop first now)
+    (first : ℕ) (at : first ≡ length old) where
+  part_added : drop first new ≡ collects.added
+  part_added = subst (λ n. drop n new ≡ collects.added) (sym at) (subst (λ xs. drop (length old) xs ≡ collects.added) (sym collects.is) (drop_first old collects.added))
 
-  part_added : take (length now - first) (drop first now) ≡ collects.added
-  part_added =
-      let is : now ≡ old ++ collects.added = keys ∙ collects.is in
-      let rest : drop first now ≡ collects.added = subst (λ n. drop n now ≡ collects.added) (sym at) (subst (λ xs. drop (length old) xs ≡ collects.added) (sym is) (drop_first old collects.added)) in
-      let all : length (drop first now) ≤ length now - first = omega (arith, ap length rest, ap length is, length-append old collects.added, at) in
-      take_all (length now - first) (drop first now) all ∙ rest
+  pub part_within : first ≤ length new
+  part_within = omega (arith, at, ap length collects.is, length-append old collects.added)
 
-  pub part_distinct : IsDistinct eq (take (length now - first) (drop first now))
-  part_distinct = subst (IsDistinct eq) (sym part_added) (right_distinct eq laws same old collects.added (subst (IsDistinct eq) collects.is collects.distinct))
-
-  part_inside : (v : N) → Contains (take (length now - first) (drop first now)) v → Contains g.nodes v
+  part_inside : (v : N) → Contains (drop first new) v → Contains g.nodes v
   part_inside v h = collects.inside v (in_from collects.added v (subst (λ xs. Contains xs v) part_added h))
 
-  pub part_all : (P : N → Type 0) → All P g.nodes → All P (take (length now - first) (drop first now))
-  part_all P all k d l = All-contains P g.nodes (get_or (take (length now - first) (drop first now)) k d) all (part_inside (get_or (take (length now - first) (drop first now)) k d) (Contains-get_or (take (length now - first) (drop first now)) k d l))
+  pub part_all : (P : N → Type 0) → All P g.nodes → All P (drop first new)
+  part_all P all k d l = All-contains P g.nodes (get_or (drop first new) k d) all (part_inside (get_or (drop first new) k d) (Contains-get_or (drop first new) k d l))
 
-  pub members : (xs ys : List N) → xs ≡ ys → ((v : N) → (Contains ys v ↔ Contains (take (length now - first) (drop first now)) v)) → All (λ v. Contains g.nodes v) xs
+  pub members : (xs ys : List N) → xs ≡ ys → ((v : N) → (Contains ys v ↔ Contains (drop first new) v)) → All (λ v. Contains g.nodes v) xs
   members xs ys e h k d l = part_inside (get_or xs k d) ((h (get_or xs k d)).0 (subst (λ zs. Contains zs (get_or xs k d)) e (Contains-get_or xs k d l)))
 
-  pub taken : (pre : List N) (c : Scc N) (xs : List N) → xs ≡ c.nodes.items → ((v : N) → (Contains c.nodes.items v ↔ Contains (take (length now - first) (drop first now)) v)) → Falls (number_in eq pre) c.nodes.items → (IsTrue c.is_cyclic ↔ IsCyclic g xs) → IsTaken g eq pre root old new c
+  pub taken : (pre : List N) (c : Scc N) (xs : List N) → xs ≡ c.nodes.items → ((v : N) → (Contains c.nodes.items v ↔ Contains (drop first new) v)) → Falls (number_in eq pre) c.nodes.items → (IsTrue c.is_cyclic ↔ IsCyclic g xs) → IsTaken g eq pre root old new c
   taken pre c xs e h falls cyclic = record {
     collects = collects;
     same = λ x. (
@@ -51,3 +45,21 @@ module _ {N : Type 0} (eq : N → N → Bool) (laws : IsEquivalence eq) (same : 
     falls = falls;
     cyclic = subst (λ zs. IsTrue c.is_cyclic ↔ IsCyclic g zs) e cyclic;
   }
+
+module _ {N : Type 0} (eq : N → N → Bool) (laws : IsEquivalence eq) (same : (x y : N) → eq x y ≡ true → x ≡ y) (g : Digraph N) (pre : List N) (root : N) (old new : List N) (c : Scc N) (taken : IsTaken g eq pre root old new c) where
+  -- the nodes of the component are those that are held since
+  pub taken_stand : (first : ℕ) → first ≡ length old → (v : N) → (StandsFrom eq new first v ↔ Contains c.nodes.items v)
+  taken_stand first at v =
+      let part : drop first new ≡ taken.collects.added = part_added eq laws same g root old new taken.collects first at in
+      let stand = dropped_stand eq laws same new first v taken.collects.distinct in (
+        λ h. (taken.same v).1 (in_from taken.collects.added v (subst (λ xs. Contains xs v) part (stand.1 h))),
+        λ h. stand.0 (subst (λ xs. Contains xs v) (sym part) (contains_from taken.collects.added v ((taken.same v).0 h))),
+      )
+
+  pub taken_nodes : All (λ v. Contains g.nodes v) c.nodes.items
+  taken_nodes k d l = taken.collects.inside (get_or c.nodes.items k d) ((taken.same (get_or c.nodes.items k d)).0 (Contains-get_or c.nodes.items k d l))
+
+  pub taken_filled : Contains g.nodes root → (HasMember old root → ⊥) → 0 < length c.nodes.items
+  taken_filled node fresh =
+      let h = (taken.same root).1 ((taken.collects.leads root node).1 ([], (fresh, refl))) in
+      omega (arith, h.1)

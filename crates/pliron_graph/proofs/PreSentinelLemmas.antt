@@ -32,7 +32,7 @@ module _ {X : Type 0} where
   pub contains_item : (xs : List X) (x : X) → Contains xs x → (k : ℕ) × (slice_get xs k ≡ Some x)
   contains_item xs x h = (h.0, slice_get-get_or xs h.0 x h.1 ∙ ap Some h.2)
 
-  item_of_take : (xs : List X) (i k : ℕ) (x : X) → slice_get (take i xs) k ≡ Some x → (k < i) × (slice_get xs k ≡ Some x)
+  pub item_of_take : (xs : List X) (i k : ℕ) (x : X) → slice_get (take i xs) k ≡ Some x → (k < i) × (slice_get xs k ≡ Some x)
   item_of_take [] zero k x e = absurd (cc e)
   item_of_take [] (suc i) k x e = absurd (cc e)
   item_of_take (y ∷ ys) zero k x e = absurd (cc e)

@@ -1,11 +1,13 @@
 //! Strongly connected components.
-ghost use Rattle.std.specs.Prelude.{◌≡◌, ◌↔◌, ◌++◌, ◌<◌, [], false, Contains, IsTrue, IfOk, OnOk, IsOkUnless, Some, length, reverse, map, slice_get};
+ghost use Rattle.std.specs.Prelude.{◌≡◌, ◌↔◌, ◌++◌, ◌<◌, ◌≤◌, [], false, Contains, IsTrue, IfOk, OnOk, IsOkUnless, Some, length, drop, nat_eq};
 ghost use Rattle.std.specs.List.{All, IsDistinct, list_any};
 ghost use Rattle.pliron_graph.specs.Components.{AreComponents, IsCyclic, Falls, entry_then_nodes};
 ghost use Rattle.pliron_traversal.specs.Search.{IsListed, number_in};
 ghost use Rattle.pliron_traversal.specs.Internal.Forest.{Grew};
 ghost use Rattle.pliron_graph.specs.Internal.Collecting.{TakesIn, Collects, IsTaken, AreNumberedComponents};
-ghost use Rattle.pliron_graph.specs.Internal.Named.{AreNamed};
+ghost use Rattle.pliron_graph.specs.Internal.Named.{AreNamedComponents};
+ghost use Rattle.pliron_traversal.specs.Adjacency.{AreInverse, graph_of};
+ghost use Rattle.pliron_graph.specs.Internal.Picking.{StandsFrom};
 
 use indexmap::IndexSet;
 use pliron_laws::OptError;
@@ -45,15 +47,15 @@ pub fn sccs_in_topological_order<C, G: ControlFlowGraph<C>>(
     ensures memory { IsOkUnless result OptError.Memory }
 {
     let Some(lists) = graph.by_number(ctx) else {
-        return find_components::<C, G, IndexSet<G::Node>>(alloc, ctx, graph);
+        return find_components(alloc, ctx, graph);
     };
     let nodes = graph.nodes(alloc, ctx)?;
-    let found = find_components::<(), AdjacencyList, NumberSet>(alloc, &(), lists)?;
-    components_by_number(alloc, &nodes, found)
+    let (pre, post) = search_all::<(), AdjacencyList, NumberSet>(alloc, &(), lists)?;
+    take_named_components(alloc, lists, &nodes, &pre, post)
 }
 
-/// The components, by sets of this kind. Errors and cost: as [`sccs_in_topological_order`].
-pub(crate) fn find_components<C, G: ControlFlowGraph<C>, S: ListedSet<G::Node>>(
+// The components, by a hashed table.
+fn find_components<C, G: ControlFlowGraph<C>>(
     alloc: Global,
     ctx: &C,
     graph: &G,
@@ -62,27 +64,37 @@ pub(crate) fn find_components<C, G: ControlFlowGraph<C>, S: ListedSet<G::Node>>(
     ensures found { IfOk result (λ r. AreNumberedComponents G.Node.eq (G.graph graph.now ctx.now) r.items) }
     ensures memory { IsOkUnless result OptError.Memory }
 {
-    let (pre, post) = search_all::<C, G, S>(alloc, ctx, graph)?;
+    let (pre, post) = search_all::<C, G, IndexSet<G::Node>>(alloc, ctx, graph)?;
     take_components(alloc, ctx, graph, &pre, post)
 }
 
-// The components of nodes, by those of their numbers. Each list of numbers is dropped as its nodes are listed,
-// so that the next takes its memory.
-fn components_by_number<N: Copy>(
+// The components of nodes, by the orders of the search by numbers. Each is listed as it is taken, and
+// one list of numbers serves for all.
+fn take_named_components<N: Copy>(
     alloc: Global,
+    graph: &AdjacencyList,
     nodes: &[N],
-    components: Vec<Scc<u32>>,
+    pre: &NumberSet,
+    mut post: Vec<u32>,
 ) -> Result<Vec<Scc<N>>, OptError>
-    requires { All (λ c. All (λ k. k < length nodes.now) c.nodes.items) components.items }
-    ensures named { IfOk result (λ r. AreNamed nodes.now components.items r.items) }
+    requires lawful { AreInverse graph.now }
+    requires counted { length nodes.now ≡ length graph.now.succ }
+    requires grew { Grew nat_eq (graph_of graph.now) (entry_then_nodes (graph_of graph.now)) [] [] pre.now post.items }
+    ensures named { IfOk result (λ r. AreNamedComponents graph.now nodes.now r.items) }
     ensures memory { IsOkUnless result OptError.Memory }
 {
-    let mut all = Vec::with_capacity(alloc, components.len())?;
-    for component in components {
-        let members = traversal::nodes_by_number(alloc, nodes, &component.nodes)?;
+    let mut held = NumberSet::empty(alloc);
+    let mut members = Vec::new(alloc);
+    let mut all = Vec::new(alloc);
+    while let Some(root) = post.pop() {
+        if held.contains(&root) {
+            continue;
+        }
+        let is_cyclic = take_component(&(), graph, root, pre, &mut held, &mut members)?;
+        let named = traversal::nodes_by_number(alloc, nodes, &members)?;
         all.push(Scc {
-            nodes: members,
-            is_cyclic: component.is_cyclic,
+            nodes: named,
+            is_cyclic,
         })?;
     }
     Ok(all)
@@ -106,9 +118,9 @@ fn roots<C, G: ControlFlowGraph<C>>(
     Ok(roots)
 }
 
-// The nodes in the order in which a search from the entry and then all nodes comes to them, and in the order in
-// which it leaves them.
-fn search_all<C, G: ControlFlowGraph<C>, S: ListedSet<G::Node>>(
+/// The nodes in the order in which a search from the entry and then all nodes comes to them, and in the order in
+/// which it leaves them. Errors: allocation failure. Cost: a few reads for each node and each edge, or look-ups.
+pub(crate) fn search_all<C, G: ControlFlowGraph<C>, S: ListedSet<G::Node>>(
     alloc: Global,
     ctx: &C,
     graph: &G,
@@ -151,33 +163,39 @@ fn take_components<C, G: ControlFlowGraph<C>, S: ListedSet<G::Node>>(
         if held.contains(&root) {
             continue;
         }
-        components.push(take_component(alloc, ctx, graph, root, pre, &mut held)?)?;
+        let mut nodes = Vec::new(alloc);
+        let is_cyclic = take_component(ctx, graph, root, pre, &mut held, &mut nodes)?;
+        components.push(Scc { nodes, is_cyclic })?;
     }
     Ok(components)
 }
 
-// The nodes that lead to `root` over nodes that are not held, as a component. They are held then.
-fn take_component<C, G: ControlFlowGraph<C>, S: ListedSet<G::Node>>(
-    alloc: Global,
+/// The nodes that lead to `root` over nodes that are not held, as a component, and whether it is cyclic. They are held
+/// then. What the list had is lost.
+///
+/// Asks that the root is a node that is not held, and that `pre` lists all nodes once. Errors: allocation failure.
+/// Cost: that of the edges to the nodes, and of a sort of them.
+pub(crate) fn take_component<C, G: ControlFlowGraph<C>, S: ListedSet<G::Node>>(
     ctx: &C,
     graph: &G,
     root: G::Node,
     pre: &S,
     held: &mut S,
-) -> Result<Scc<G::Node>, OptError>
+    nodes: &mut Vec<G::Node>,
+) -> Result<bool, OptError>
     requires lawful { G.is_lawful graph.now ctx.now }
     requires member { Contains (G.graph graph.now ctx.now).nodes root }
     requires unheld { list_any (G.Node.eq root) (S.listed held.old) ≡ false }
     requires listed { All (IsListed G.Node.eq (S.listed pre.now)) (G.graph graph.now ctx.now).nodes }
-    ensures taken { IfOk result (λ c. IsTaken (G.graph graph.now ctx.now) G.Node.eq (S.listed pre.now) root
-        (S.listed held.old) (S.listed held.new) c) }
+    requires once { IsDistinct G.Node.eq (S.listed pre.now) }
+    ensures taken { IfOk result (λ r. IsTaken (G.graph graph.now ctx.now) G.Node.eq (S.listed pre.now) root
+        (S.listed held.old) (S.listed held.new) (record { nodes = nodes.new; is_cyclic = r })) }
     ensures memory { IsOkUnless result OptError.Memory }
 {
     let first = held.len();
     collect(ctx, graph, root, held)?;
-    let nodes = by_falling_number(alloc, pre, &held.as_slice()[first..])?;
-    let is_cyclic = is_cyclic(ctx, graph, &nodes);
-    Ok(Scc { nodes, is_cyclic })
+    last_by_falling_number(pre, held, first, nodes)?;
+    Ok(is_cyclic(ctx, graph, nodes))
 }
 
 // Holds the nodes that lead to `root` over nodes that are not held. The set is its own queue.
@@ -223,24 +241,88 @@ fn hold_predecessors<C, G: ControlFlowGraph<C>, S: ListedSet<G::Node>>(
     Ok(())
 }
 
-// The nodes by falling place in `order`.
+// Lists the nodes that stand in `held` from `first` on, by falling place in `order`. Where they are many of all, they
+// are picked from these, and need no sort.
+fn last_by_falling_number<N: Eq + Copy, S: ListedSet<N>>(
+    order: &S,
+    held: &S,
+    first: usize,
+    nodes: &mut Vec<N>,
+) -> Result<(), OptError>
+    requires same { (x y : N) → IsTrue (N.eq x y) → x ≡ y }
+    requires distinct { IsDistinct N.eq (S.listed held.now) }
+    requires once { IsDistinct N.eq (S.listed order.now) }
+    requires listed { All (IsListed N.eq (S.listed order.now)) (drop first (S.listed held.now)) }
+    requires within { first ≤ length (S.listed held.now) }
+    ensures same_nodes { OnOk result ((v : N) → (Contains nodes.new.items v
+        ↔ Contains (drop first (S.listed held.now)) v)) }
+    ensures falls { OnOk result (Falls (number_in N.eq (S.listed order.now)) nodes.new.items) }
+    ensures memory { IsOkUnless result OptError.Memory }
+{
+    if held.len() - first < order.len() / 8 {
+        return by_falling_number(order, &held.as_slice()[first..], nodes);
+    }
+    pick_by_falling_number(order, held, first, nodes)
+}
+
+// The same, by going through all of `order`.
+fn pick_by_falling_number<N: Eq + Copy, S: ListedSet<N>>(
+    order: &S,
+    held: &S,
+    first: usize,
+    nodes: &mut Vec<N>,
+) -> Result<(), OptError>
+    requires same { (x y : N) → IsTrue (N.eq x y) → x ≡ y }
+    requires distinct { IsDistinct N.eq (S.listed held.now) }
+    requires once { IsDistinct N.eq (S.listed order.now) }
+    requires listed { All (IsListed N.eq (S.listed order.now)) (drop first (S.listed held.now)) }
+    requires within { first ≤ length (S.listed held.now) }
+    ensures same_nodes { OnOk result ((v : N) → (Contains nodes.new.items v
+        ↔ Contains (drop first (S.listed held.now)) v)) }
+    ensures falls { OnOk result (Falls (number_in N.eq (S.listed order.now)) nodes.new.items) }
+    ensures memory { IsOkUnless result OptError.Memory }
+{
+    nodes.clear();
+    for node in order.as_slice() {
+        if !stands_from(held, first, node) {
+            continue;
+        }
+        nodes.push(*node)?;
+    }
+    nodes.reverse();
+    Ok(())
+}
+
+/// Whether the node stands in the set at this place or behind it. Takes no memory. Cost: a look-up of the place.
+pub(crate) fn stands_from<N: Eq, S: ListedSet<N>>(set: &S, first: usize, node: &N) -> bool
+    ensures { IsTrue result ↔ StandsFrom N.eq (S.listed set.now) first node.now }
+{
+    let place = set.place_of(node);
+    first <= place && place < set.len()
+}
+
+// Lists these nodes by falling place in `order`.
 fn by_falling_number<N: Eq + Copy, S: ListedSet<N>>(
-    alloc: Global,
     order: &S,
     nodes: &[N],
-) -> Result<Vec<N>, OptError>
+    sorted: &mut Vec<N>,
+) -> Result<(), OptError>
     requires same { (x y : N) → IsTrue (N.eq x y) → x ≡ y }
     requires distinct { IsDistinct N.eq nodes.now }
     requires listed { All (IsListed N.eq (S.listed order.now)) nodes.now }
-    ensures same_nodes { IfOk result (λ r. (v : N) → (Contains r.items v ↔ Contains nodes.now v)) }
-    ensures falls { IfOk result (λ r. Falls (number_in N.eq (S.listed order.now)) r.items) }
+    ensures same_nodes { OnOk result ((v : N) → (Contains sorted.new.items v ↔ Contains nodes.now v)) }
+    ensures falls { OnOk result (Falls (number_in N.eq (S.listed order.now)) sorted.new.items) }
     ensures memory { IsOkUnless result OptError.Memory }
 {
-    let mut sorted = Vec::with_capacity(alloc, nodes.len())?;
+    sorted.clear();
+    if nodes.len() == 1 {
+        sorted.push(nodes[0])?;
+        return Ok(());
+    }
     sorted.extend_from_slice(nodes)?;
     sorted.sort_unstable_by_key(|node| order.place_of(node));
     sorted.reverse();
-    Ok(sorted)
+    Ok(())
 }
 
 // Whether these nodes of a component lie on a cycle.

@@ -26,7 +26,6 @@ mod ancestors;
 mod components;
 pub mod laws;
 mod numbered_graph;
-mod owners;
 mod pre_sentinels;
 mod reverse_graph;
 mod reverse_node;

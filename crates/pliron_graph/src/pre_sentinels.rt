@@ -1,15 +1,14 @@
 //! Pre-sentinels: the nodes that the sentinel of a reverse graph leads to.
-ghost use Rattle.std.specs.Prelude.{◌≡◌, ◌↔◌, ◌<◌, ◌≤◌, IsTrue, Some, Contains, IfOk, IsOkUnless, length};
+ghost use Rattle.std.specs.Prelude.{◌≡◌, ◌↔◌, ◌<◌, ◌≤◌, [], IsTrue, Some, Contains, IfOk, IsOkUnless, length};
 ghost use Rattle.std.specs.List.{All, IsDistinct};
 ghost use Rattle.pliron_traversal.specs.Search.{number_in};
-ghost use Rattle.pliron_graph.specs.Components.{AreComponents};
-ghost use Rattle.pliron_graph.specs.Reverse.{ArePreSentinels, AreLastOfSinks, IsLastListed, IsSink};
-ghost use Rattle.pliron_graph.specs.Internal.Owners.{owner_in, AreOwners};
+ghost use Rattle.pliron_traversal.specs.Internal.Forest.{Grew};
+ghost use Rattle.pliron_graph.specs.Components.{entry_then_nodes};
+ghost use Rattle.pliron_graph.specs.Reverse.{ArePreSentinels, IsLastListed, IsSink};
+ghost use Rattle.pliron_graph.specs.Internal.Picking.{StandsFrom};
 ghost use Rattle.pliron_graph.specs.Internal.Sinks.{AreFoundSinks};
 
-use crate::Scc;
-use crate::components::find_components;
-use crate::owners::{find_owners, owner_of};
+use crate::components::{search_all, stands_from, take_component};
 use indexmap::IndexSet;
 use pliron_laws::OptError;
 use pliron_traversal::traversal::{index_nodes, nodes_by_number};
@@ -49,32 +48,38 @@ fn last_of_sinks<C, G: ControlFlowGraph<C>, S: ListedSet<G::Node>>(
     ensures found { IfOk result (λ r. AreFoundSinks G.Node.eq (G.graph graph.now ctx.now) r.items) }
     ensures memory { IsOkUnless result OptError.Memory }
 {
-    let components = find_components::<C, G, S>(alloc, ctx, graph)?;
+    let (pre, post) = search_all::<C, G, S>(alloc, ctx, graph)?;
     let nodes = graph.nodes(alloc, ctx)?;
     let places = listed_set::<G::Node, S>(alloc, &nodes)?;
-    let owners = find_owners(alloc, &places, &components)?;
-    last_of_each(alloc, ctx, graph, &places, &owners, &components)
+    take_sinks(alloc, ctx, graph, &places, &pre, post)
 }
 
-// The last listed node of each of the components that is a sink.
-fn last_of_each<C, G: ControlFlowGraph<C>, S: ListedSet<G::Node>>(
+// The last listed node of each component that is a sink, by the orders of the search. Each is tested as it is taken.
+fn take_sinks<C, G: ControlFlowGraph<C>, S: ListedSet<G::Node>>(
     alloc: Global,
     ctx: &C,
     graph: &G,
     places: &S,
-    owners: &[usize],
-    components: &[Scc<G::Node>],
+    pre: &S,
+    mut post: Vec<G::Node>,
 ) -> Result<Vec<G::Node>, OptError>
     requires lawful { G.is_lawful graph.now ctx.now }
     requires places { S.listed places.now ≡ (G.graph graph.now ctx.now).nodes }
-    requires owners { AreOwners G.Node.eq (S.listed places.now) components.now owners.now }
-    requires components { AreComponents G.Node.eq (G.graph graph.now ctx.now) components.now }
-    ensures last { IfOk result (λ r. AreLastOfSinks G.Node.eq (G.graph graph.now ctx.now) components.now r.items) }
+    requires grew { Grew G.Node.eq (G.graph graph.now ctx.now) (entry_then_nodes (G.graph graph.now ctx.now)) [] []
+        (S.listed pre.now) post.items }
+    ensures found { IfOk result (λ r. AreFoundSinks G.Node.eq (G.graph graph.now ctx.now) r.items) }
     ensures memory { IsOkUnless result OptError.Memory }
 {
+    let mut held = S::empty(alloc);
+    let mut members = Vec::new(alloc);
     let mut found = Vec::new(alloc);
-    for i in 0..components.len() {
-        let Some(node) = last_of_sink(ctx, graph, places, owners, i, &components[i].nodes) else {
+    while let Some(root) = post.pop() {
+        if held.contains(&root) {
+            continue;
+        }
+        let first = held.len();
+        take_component(ctx, graph, root, pre, &mut held, &mut members)?;
+        let Some(node) = last_of_sink(ctx, graph, places, &held, first, &members) else {
             continue;
         };
         found.push(node)?;
@@ -82,25 +87,25 @@ fn last_of_each<C, G: ControlFlowGraph<C>, S: ListedSet<G::Node>>(
     Ok(found)
 }
 
-// The last listed of the nodes of a component, which have this owner, if it has no edge to another one.
+// The last listed of the nodes of a component, which are held from `first` on, if it has no edge to another one.
 fn last_of_sink<C, G: ControlFlowGraph<C>, S: ListedSet<G::Node>>(
     ctx: &C,
     graph: &G,
     places: &S,
-    owners: &[usize],
-    owner: usize,
+    held: &S,
+    first: usize,
     members: &[G::Node],
 ) -> Option<G::Node>
     requires lawful { G.is_lawful graph.now ctx.now }
     requires places { S.listed places.now ≡ (G.graph graph.now ctx.now).nodes }
-    requires owned { (v : G.Node) → Contains (G.graph graph.now ctx.now).nodes v
-        → ((owner_in G.Node.eq (S.listed places.now) owners.now v ≡ owner) ↔ Contains members.now v) }
+    requires stand { (v : G.Node) → Contains (G.graph graph.now ctx.now).nodes v
+        → (StandsFrom G.Node.eq (S.listed held.now) first v ↔ Contains members.now v) }
     requires not_empty { 0 < length members.now }
     requires nodes { All (λ v. Contains (G.graph graph.now ctx.now).nodes v) members.now }
     ensures { (v : G.Node) → ((result ≡ Some v) ↔ (IsSink (G.graph graph.now ctx.now) members.now ×
         IsLastListed G.Node.eq (G.graph graph.now ctx.now) members.now v)) }
 {
-    if !is_sink(ctx, graph, places, owners, owner, members) {
+    if !is_sink(ctx, graph, held, first, members) {
         return None;
     }
     Some(last_listed(places, members))
@@ -119,44 +124,42 @@ fn listed_set<N: Eq + Copy, S: ListedSet<N>>(alloc: Global, nodes: &[N]) -> Resu
     Ok(set)
 }
 
-// Whether each successor of these nodes has this owner.
+// Whether each successor of these nodes is held from `first` on.
 fn is_sink<C, G: ControlFlowGraph<C>, S: ListedSet<G::Node>>(
     ctx: &C,
     graph: &G,
-    places: &S,
-    owners: &[usize],
-    owner: usize,
+    held: &S,
+    first: usize,
     members: &[G::Node],
 ) -> bool
     requires lawful { G.is_lawful graph.now ctx.now }
     requires nodes { All (λ v. Contains (G.graph graph.now ctx.now).nodes v) members.now }
-    ensures { IsTrue result ↔ All (λ u. All (λ v. owner_in G.Node.eq (S.listed places.now) owners.now v ≡ owner)
+    ensures { IsTrue result ↔ All (λ u. All (StandsFrom G.Node.eq (S.listed held.now) first)
         ((G.graph graph.now ctx.now).succ u)) members.now }
 {
     for node in members {
-        if !stays_inside(ctx, graph, places, owners, owner, node) {
+        if !stays_inside(ctx, graph, held, first, node) {
             return false;
         }
     }
     true
 }
 
-// Whether each successor of a node has this owner.
+// Whether each successor of a node is held from `first` on.
 fn stays_inside<C, G: ControlFlowGraph<C>, S: ListedSet<G::Node>>(
     ctx: &C,
     graph: &G,
-    places: &S,
-    owners: &[usize],
-    owner: usize,
+    held: &S,
+    first: usize,
     node: &G::Node,
 ) -> bool
     requires lawful { G.is_lawful graph.now ctx.now }
     requires member { Contains (G.graph graph.now ctx.now).nodes node.now }
-    ensures { IsTrue result ↔ All (λ v. owner_in G.Node.eq (S.listed places.now) owners.now v ≡ owner)
+    ensures { IsTrue result ↔ All (StandsFrom G.Node.eq (S.listed held.now) first)
         ((G.graph graph.now ctx.now).succ node.now) }
 {
     for i in 0..graph.num_successors(ctx, node) {
-        if owner_of(places, owners, &graph.get_successor(ctx, node, i)) != owner {
+        if !stands_from(held, first, &graph.get_successor(ctx, node, i)) {
             return false;
         }
     }

@@ -1,5 +1,8 @@
 -- Components of nodes and those of their numbers, which contracts inside the crate cite.
 use Rattle.std.specs.Prelude.{◌≡◌, ℕ, List, Some, length, map, slice_get}
+use Rattle.std.specs.Prelude.{nat_eq}
+use Rattle.pliron_traversal.specs.Adjacency.{Adjacency, graph_of}
+use Rattle.pliron_graph.specs.Internal.Collecting.{AreNumberedComponents}
 use Rattle.pliron_graph.specs.declared.components.Scc.{Scc}
 
 -- d has the nodes whose numbers c has
@@ -11,3 +14,9 @@ pub record IsNamed {N : Type 0} (nodes : List N) (c : Scc ℕ) (d : Scc N) : Typ
 pub record AreNamed {N : Type 0} (nodes : List N) (cs : List (Scc ℕ)) (ds : List (Scc N)) : Type 0 where
   pub same_count : length ds ≡ length cs
   pub each : (i : ℕ) (c : Scc ℕ) (d : Scc N) → slice_get cs i ≡ Some c → slice_get ds i ≡ Some d → IsNamed nodes c d
+
+-- the components of a graph by adjacency lists, by nodes that have its numbers
+pub record AreNamedComponents {N : Type 0} (lists : Adjacency) (nodes : List N) (ds : List (Scc N)) : Type 0 where
+  pub numbered : List (Scc ℕ)
+  pub found : AreNumberedComponents nat_eq (graph_of lists) numbered
+  pub named : AreNamed nodes numbered ds

@@ -2,7 +2,7 @@ use Rattle.std.proofs.Common.{rules, ◌≡◌, [], ◌∷◌, ◌++◌, sym, �
 use Rattle.std.specs.List.{list_any}
 use Rattle.pliron_graph.specs.Components.{entry_then_nodes}
 use Rattle.pliron_traversal.specs.Search.{number_in}
-use Rattle.pliron_traversal.proofs.NumberingLemmas.{search_from_growth}
+use Rattle.pliron_traversal.proofs.NumberingLemmas.{search_from_growth, found_once}
 use Rattle.pliron_graph.proofs.ComponentLemmas.{AreTaken}
 use Rattle.pliron_graph.proofs.TakingLemmas.{all_listed, start, root_member, over, more, finish}
 use Rattle.pliron_graph.proofs.components.take_components.Goals as goal
@@ -43,6 +43,12 @@ take_component-requires-clause-listed g c =
     let lawful = g.met.G.ControlFlowGraph.laws c.args.graph.now c.args.ctx.now c.requires.lawful in
     all_listed g.G.Node.PartialEq.eq graph lawful g.met.G.Node.Eq.laws (g.S.ListedSet.listed c.args.pre.now) c.args.post.items (search_from_growth g.G.Node.PartialEq.eq lawful.same g.met.G.Node.Eq.laws.refl graph (entry_then_nodes graph) (g.S.ListedSet.listed c.args.pre.now) c.args.post.items c.requires.grew)
 
+pub take_component-requires-clause-once : goal.take_component-requires-clause-once
+take_component-requires-clause-once g c =
+    let graph = g.G.ControlFlowGraph.graph c.args.graph.now c.args.ctx.now in
+    let lawful = g.met.G.ControlFlowGraph.laws c.args.graph.now c.args.ctx.now c.requires.lawful in
+    found_once g.G.Node.PartialEq.eq lawful.same g.met.G.Node.Eq.laws.refl graph (entry_then_nodes graph) (g.S.ListedSet.listed c.args.pre.now) c.args.post.items c.requires.grew
+
 pub loop-root-preserved : goal.loop-root-preserved
 loop-root-preserved g c =
     let eq = g.G.Node.PartialEq.eq in
@@ -52,7 +58,7 @@ loop-root-preserved g c =
     record {
       gone = c.in-Some.root ∷ c.loop-root.invariant.gone;
       left = c.loop-root.invariant.left ∙ ap (λ xs. xs ++ c.loop-root.invariant.gone) c.in-Some.ensures.items ∙ append_assoc c.pop.new.self.items (c.in-Some.root ∷ []) c.loop-root.invariant.gone;
-      taken = rw c.in_ok-push.ensures.items (more eq graph lawful g.met.G.Node.Eq.laws (g.S.ListedSet.listed c.args.pre.now) c.args.post.items (search_from_growth g.G.Node.PartialEq.eq lawful.same g.met.G.Node.Eq.laws.refl graph (entry_then_nodes graph) (g.S.ListedSet.listed c.args.pre.now) c.args.post.items c.requires.grew) c.pop.new.self.items c.loop-root.invariant.gone c.loop-root.post.items c.in-Some.root c.in-Some.ensures.items c.loop-root.invariant.left (g.S.ListedSet.listed c.loop-root.held) (g.S.ListedSet.listed c.take_component.new.held) c.loop-root.components.items _ unheld c.in_ok-take_component.ensures.taken c.loop-root.invariant.taken);
+      taken = rw c.in_ok-push.ensures.items (more eq graph lawful g.met.G.Node.Eq.laws (g.S.ListedSet.listed c.args.pre.now) c.args.post.items (search_from_growth g.G.Node.PartialEq.eq lawful.same g.met.G.Node.Eq.laws.refl graph (entry_then_nodes graph) (g.S.ListedSet.listed c.args.pre.now) c.args.post.items c.requires.grew) c.pop.new.self.items c.loop-root.invariant.gone c.loop-root.post.items c.in-Some.root c.in-Some.ensures.items c.loop-root.invariant.left (g.S.ListedSet.listed c.loop-root.held) (g.S.ListedSet.listed c.take_component.new.held) c.loop-root.components.items _ unheld c.in_ok-is_cyclic.ensures.taken c.loop-root.invariant.taken);
     }
 
 pub returns-clause-found : goal.returns-clause-found

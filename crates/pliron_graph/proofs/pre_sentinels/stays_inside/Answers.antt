@@ -1,22 +1,28 @@
-use Rattle.std.proofs.Common.{◌≡◌, sym, refl, arith}
+use Rattle.std.proofs.Common.{sym, refl, arith, ◌∙◌, true≢false}
 use Rattle.std.proofs.lemmas.Option.{slice_get_within, get_or_from_slice_get}
-use Rattle.pliron_graph.specs.Internal.Owners.{owner_in}
-use Rattle.pliron_graph.proofs.PreSentinelLemmas.{all_more, all_end}
+use Rattle.pliron_graph.specs.Internal.Picking.{StandsFrom}
+use Rattle.pliron_graph.proofs.PreSentinelLemmas.{all_more, all_at, all_end}
 use Rattle.pliron_graph.proofs.pre_sentinels.stays_inside.Goals as goal
+
+pub returns-then-not-stands_from : goal.returns-then-not-stands_from
+returns-then-not-stands_from g c =
+    let succ = (g.G.ControlFlowGraph.graph c.args.graph.now c.args.ctx.now).succ c.args.node.now in
+    let within = slice_get_within succ c.loop-i.i c.get_successor.result c.get_successor.ensures in
+    let item = sym (get_or_from_slice_get succ c.loop-i.i c.get_successor.result c.get_successor.result c.get_successor.ensures) in (
+      λ e. absurd (true≢false (sym e)),
+      λ h. absurd (true≢false (sym (c.stands_from.ensures.1 (all_at (StandsFrom g.G.Node.PartialEq.eq (g.S.ListedSet.listed c.args.held.now) c.args.first) succ c.loop-i.i c.get_successor.result within item h)) ∙ c.if-not-stands_from.true)),
+    )
 
 pub loop-i-preserved : goal.loop-i-preserved
 loop-i-preserved g c =
     let succ = (g.G.ControlFlowGraph.graph c.args.graph.now c.args.ctx.now).succ c.args.node.now in
-    let nodes = g.S.ListedSet.listed c.args.places.now in
     let within = slice_get_within succ c.loop-i.i c.get_successor.result c.get_successor.ensures in
     let item = sym (get_or_from_slice_get succ c.loop-i.i c.get_successor.result c.get_successor.result c.get_successor.ensures) in
-    let owner : owner_in g.G.Node.PartialEq.eq (g.S.ListedSet.listed c.args.places.now) c.args.owners.now c.get_successor.result ≡ c.args.owner = omega (arith, c.owner_of.ensures, c.if-owner_of-owner.false) in
-    all_more (λ v. owner_in g.G.Node.PartialEq.eq nodes c.args.owners.now v ≡ c.args.owner) succ c.loop-i.i c.get_successor.result within item c.loop-i.invariant owner
+    all_more (StandsFrom g.G.Node.PartialEq.eq (g.S.ListedSet.listed c.args.held.now) c.args.first) succ c.loop-i.i c.get_successor.result within item c.loop-i.invariant (c.stands_from.ensures.0 c.if-not-stands_from.false)
 
 pub returns : goal.returns
 returns g c =
-    let succ = (g.G.ControlFlowGraph.graph c.args.graph.now c.args.ctx.now).succ c.args.node.now in
-    let nodes = g.S.ListedSet.listed c.args.places.now in (
-      λ _. all_end (λ v. owner_in g.G.Node.PartialEq.eq nodes c.args.owners.now v ≡ c.args.owner) succ c.loop-i.i (omega (arith, c.loop-i-test.false, c.num_successors-i-end.ensures)) c.loop-i.invariant,
+    let succ = (g.G.ControlFlowGraph.graph c.args.graph.now c.args.ctx.now).succ c.args.node.now in (
+      λ _. all_end (StandsFrom g.G.Node.PartialEq.eq (g.S.ListedSet.listed c.args.held.now) c.args.first) succ c.loop-i.i (omega (arith, c.loop-i-test.false, c.num_successors-i-end.ensures)) c.loop-i.invariant,
       λ _. refl,
     )
