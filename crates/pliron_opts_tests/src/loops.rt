@@ -32,14 +32,18 @@ a region two times -- 3 | function { b0(n): r = twice n { t(x): y = add x x; ret
 // What `ask` is named in its effects.
 const ASK: i128 = 6;
 
+// The number that the word is.
+fn number(rt: &impl Abort, word: &str) -> Datum {
+    let number = word.parse::<i64>().ok().expect(rt, "a number");
+    Datum::Number(number as i128)
+}
+
 // The numbers that the words are.
 fn numbers(rt: &impl Abort, alloc: Global, words: &str) -> Vec<Datum> {
     let mut data = Vec::new(alloc);
     for word in words.split(' ') {
         if !word.is_empty() {
-            let number = word.parse::<i64>().ok().expect(rt, "a number");
-            data.push(Datum::Number(number as i128))
-                .expect(rt, "memory");
+            data.push(number(rt, word)).expect(rt, "memory");
         }
     }
     data
@@ -48,9 +52,10 @@ fn numbers(rt: &impl Abort, alloc: Global, words: &str) -> Vec<Datum> {
 // The effect of an `ask` with these operands.
 fn effect(rt: &impl Abort, alloc: Global, words: &str) -> Datum {
     let mut chain = Datum::Empty;
-    let mut operands = numbers(rt, alloc, words);
-    while let Some(last) = operands.pop() {
-        chain = Datum::join(alloc, last, chain).expect(rt, "memory");
+    for word in words.rsplit(' ') {
+        if !word.is_empty() {
+            chain = Datum::join(alloc, number(rt, word), chain).expect(rt, "memory");
+        }
     }
     Datum::join(alloc, Datum::Number(ASK), chain).expect(rt, "memory")
 }
