@@ -176,13 +176,14 @@ get_or-pad (x ∷ xs) d zero = refl
 get_or-pad (x ∷ xs) d (suc y) = get_or-pad xs d y
 
 -- the tables after a node was added
-pub node_added : (nodes : List Node) (ends : List Ends) → AreSoundLists nodes ends (lists_of nodes ends) → StandsFor (nodes ++ no_node ∷ []) ends (lists_of nodes ends) (owners_of nodes ++ None ∷ [])
-node_added nodes ends is =
+pub node_added : (nodes : List Node) (ends : List Ends) → length nodes < key_limit → AreSoundLists nodes ends (lists_of nodes ends) → StandsFor (nodes ++ no_node ∷ []) ends (lists_of nodes ends) (owners_of nodes ++ None ∷ [])
+node_added nodes ends room is =
     stands _ _ _ _ (record {
       count = is.count;
       each = λ l h. let was = is.each l h in record { head = was.head; tail = was.tail; row = row-same nodes _ l None _ None (omega (arith, length-append nodes (no_node ∷ []))) (λ y i. get_or-pad nodes no_node y) was.row; distinct = was.distinct };
       owned = λ x l own. is.owned x l (sym (ap (λ n. n.owner) (get_or-pad nodes no_node x)) ∙ own);
       few = is.few;
+      few_nodes = omega (arith, room, length-append nodes (no_node ∷ []));
     }) (map-append (λ n. n.owner) nodes (no_node ∷ []))
 
 -- the tables after a list was added
@@ -194,6 +195,7 @@ list_added nodes ends room is =
       each = λ l h. rw (get_or-pad ends no_ends l, get_or-pad (lists_of nodes ends) [] l) (elim (cases_lt l) [ inl lt ↦ is.each l lt | inr le ↦ rw (get_or_past ends l no_ends le, get_or_past (lists_of nodes ends) l [] (omega (arith, is.count, le))) (record { head = refl; tail = refl; row = tt; distinct = tt }) ]);
       owned = λ x l own. let o = is.owned x l own in (omega (arith, o.0, longer), rw (get_or-pad (lists_of nodes ends) [] l) o.1);
       few = omega (arith, longer, room);
+      few_nodes = is.few_nodes;
     }) refl
   where
     cases_lt : (l : ℕ) → (l < length ends) ⊎ (length ends ≤ l)

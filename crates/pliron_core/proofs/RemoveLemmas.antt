@@ -109,4 +109,5 @@ module _ (nodes : List Node) (ends : List Ends) (lists : List (List ℕ)) (l x :
           ];
           owned = owned;
           few = omega (arith, is.few, length-set ends l ends2);
+          few_nodes = omega (arith, is.few_nodes, long);
         }

@@ -1,4 +1,5 @@
 pub mod Keys
+pub mod OptionalKeys
 pub mod Lists
 pub mod Nodes
 pub mod SlotRows

@@ -66,12 +66,13 @@ pub record IsList (nodes : List Node) (l : ℕ) (ends : Ends) (xs : List ℕ) : 
   pub row : IsRow nodes l None xs None
   pub distinct : IsDistinct xs
 
--- nodes and ends represent these lists, only nodes in a list are owned, and each list has a key
+-- nodes and ends represent these lists, only nodes in a list are owned, and each list and each node has a key
 pub record AreSoundLists (nodes : List Node) (ends : List Ends) (lists : List (List ℕ)) : Type 0 where
   pub count : length ends ≡ length lists
   pub each : (l : ℕ) → l < length ends → IsList nodes l (ends_at ends l) (slice_index_or lists l [])
   pub owned : (x l : ℕ) → (node_at nodes x).owner ≡ Some l → (l < length ends) × In x (slice_index_or lists l [])
   pub few : length ends ≤ key_limit
+  pub few_nodes : length nodes ≤ key_limit
 
 -- the list's first node, where nothing is before it
 abbrev pub with_first : Ends → Option ℕ → Option ℕ → Ends

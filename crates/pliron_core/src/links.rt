@@ -1,7 +1,7 @@
 //! Nodes in doubly linked lists, both named by keys that count up. Each call but `reserve` takes
 //! constant time and no memory.
 
-ghost use Rattle.std.specs.Prelude.{◌≡◌, ◌+◌, ◌-◌, ◌<◌, ◌≤◌, [], ◌∷◌, ◌++◌, length, slice_set, slice_index_or, IsOk, OnOk, IfSome, Some, vec_len, vec_capacity};
+ghost use Rattle.std.specs.Prelude.{◌≡◌, ◌+◌, ◌-◌, ◌<◌, ◌≤◌, [], ◌∷◌, ◌++◌, length, slice_set, slice_index_or, IsOk, OnOk, IfSome, Some, None, vec_len, vec_capacity};
 ghost use Rattle.pliron_core.specs.Keys.{key_limit};
 ghost use Rattle.pliron_core.specs.Lists.{Lists, owner_of, list_of, first_of, last_of, without, put_before, next_in_lists, prev_in_lists, AreOwned};
 ghost use Rattle.pliron_core.specs.Nodes.{with_next, with_prev, with_first, with_tail, InRange};
@@ -18,6 +18,8 @@ use std::marker::Model;
 /// nodes[0]   owner 0, prev 2, no next
 /// nodes[1]   no owner, no prev, no next
 /// ```
+///
+/// A node takes 12 bytes and the ends of a list 8: no key is the number `u32::MAX`, which stands for none.
 #[derive(Drop)]
 pub struct Links {
     nodes: Vec<Node>,
@@ -26,15 +28,62 @@ pub struct Links {
 
 #[derive(Clone, Copy)]
 struct Node {
-    owner: Option<u32>,
-    prev: Option<u32>,
-    next: Option<u32>,
+    owner: OptionalKey,
+    prev: OptionalKey,
+    next: OptionalKey,
 }
 
 #[derive(Clone, Copy)]
 struct Ends {
-    head: Option<u32>,
-    tail: Option<u32>,
+    head: OptionalKey,
+    tail: OptionalKey,
+}
+
+// A key or none, in 32 bits: `u32::MAX` is none.
+#[derive(Clone, Copy)]
+struct OptionalKey {
+    written: u32,
+}
+
+impl Model for OptionalKey {
+    ghost use Rattle.std.specs.Prelude.{ℕ, Option};
+    ghost use Rattle.pliron_core.specs.OptionalKeys.{key_read, key_written, written_as_read};
+
+    ghost Value = { Option ℕ };
+
+    ghost view = { λ k. key_read k.written };
+
+    ghost inverse = { λ k. record { written = key_written k } };
+
+    ghost inverse_ok = { λ k h i. record { written = written_as_read k.written i } };
+}
+
+impl OptionalKey {
+    #[inline(always)]
+    fn none() -> Self
+        ensures { result ≡ None }
+    {
+        OptionalKey { written: u32::MAX }
+    }
+
+    #[inline(always)]
+    fn some(key: u32) -> Self
+        requires { key < key_limit }
+        ensures { result ≡ Some key }
+    {
+        OptionalKey { written: key }
+    }
+
+    #[inline(always)]
+    fn get(self) -> Option<u32>
+        ensures { result ≡ self }
+    {
+        if self.written == u32::MAX {
+            None
+        } else {
+            Some(self.written)
+        }
+    }
 }
 
 impl Model for Links {
@@ -56,14 +105,14 @@ impl Model for Links {
 }
 
 // Makes `next` follow the node `before`, or at the head where there is none.
-fn link_next(nodes: &mut Vec<Node>, ends: &mut Ends, before: Option<u32>, next: Option<u32>)
+fn link_next(nodes: &mut Vec<Node>, ends: &mut Ends, before: OptionalKey, next: OptionalKey)
     requires { InRange nodes.old.items before }
     ensures nodes { nodes.new.items ≡ with_next nodes.old.items before next }
     ensures len { vec_len nodes.new ≡ vec_len nodes.old }
     ensures capacity { vec_capacity nodes.new ≡ vec_capacity nodes.old }
     ensures ends { ends.new ≡ with_first ends.old before next }
 {
-    match before {
+    match before.get() {
         Some(key) => {
             let node = &mut nodes[key as usize];
             node.next = next;
@@ -73,14 +122,14 @@ fn link_next(nodes: &mut Vec<Node>, ends: &mut Ends, before: Option<u32>, next: 
 }
 
 // Makes `prev` precede the node `after`, or at the tail where there is none.
-fn link_prev(nodes: &mut Vec<Node>, ends: &mut Ends, after: Option<u32>, prev: Option<u32>)
+fn link_prev(nodes: &mut Vec<Node>, ends: &mut Ends, after: OptionalKey, prev: OptionalKey)
     requires { InRange nodes.old.items after }
     ensures nodes { nodes.new.items ≡ with_prev nodes.old.items after prev }
     ensures len { vec_len nodes.new ≡ vec_len nodes.old }
     ensures capacity { vec_capacity nodes.new ≡ vec_capacity nodes.old }
     ensures ends { ends.new ≡ with_tail ends.old after prev }
 {
-    match after {
+    match after.get() {
         Some(key) => {
             let node = &mut nodes[key as usize];
             node.prev = prev;
@@ -121,7 +170,7 @@ impl Links {
         ensures owner { result ≡ owner_of self.now node }
         ensures within { IfSome result (λ list. list < length self.now.lists) }
     {
-        self.nodes[node as usize].owner
+        self.nodes[node as usize].owner.get()
     }
 
     /// Makes room for so many more nodes and so many more lists, which then take no memory.
@@ -161,9 +210,9 @@ impl Links {
     {
         let key = self.nodes.len() as u32;
         self.nodes.push_reserved(Node {
-            owner: None,
-            prev: None,
-            next: None,
+            owner: OptionalKey::none(),
+            prev: OptionalKey::none(),
+            next: OptionalKey::none(),
         });
         key
     }
@@ -182,8 +231,8 @@ impl Links {
     {
         let key = self.ends.len() as u32;
         self.ends.push_reserved(Ends {
-            head: None,
-            tail: None,
+            head: OptionalKey::none(),
+            tail: OptionalKey::none(),
         });
         key
     }
@@ -202,12 +251,13 @@ impl Links {
         let mut ends = self.ends[list as usize];
         let after = ends.head;
         self.nodes[node as usize] = Node {
-            owner: Some(list),
-            prev: None,
+            owner: OptionalKey::some(list),
+            prev: OptionalKey::none(),
             next: after,
         };
-        link_next(&mut self.nodes, &mut ends, None, Some(node));
-        link_prev(&mut self.nodes, &mut ends, after, Some(node));
+        let added = OptionalKey::some(node);
+        link_next(&mut self.nodes, &mut ends, OptionalKey::none(), added);
+        link_prev(&mut self.nodes, &mut ends, after, added);
         self.ends[list as usize] = ends;
     }
 
@@ -226,12 +276,13 @@ impl Links {
         let mut ends = self.ends[list as usize];
         let before = ends.tail;
         self.nodes[node as usize] = Node {
-            owner: Some(list),
+            owner: OptionalKey::some(list),
             prev: before,
-            next: None,
+            next: OptionalKey::none(),
         };
-        link_next(&mut self.nodes, &mut ends, before, Some(node));
-        link_prev(&mut self.nodes, &mut ends, None, Some(node));
+        let added = OptionalKey::some(node);
+        link_next(&mut self.nodes, &mut ends, before, added);
+        link_prev(&mut self.nodes, &mut ends, OptionalKey::none(), added);
         self.ends[list as usize] = ends;
     }
 
@@ -250,12 +301,13 @@ impl Links {
         let before = self.nodes[at as usize].prev;
         let mut ends = self.ends[list as usize];
         self.nodes[node as usize] = Node {
-            owner: Some(list),
+            owner: OptionalKey::some(list),
             prev: before,
-            next: Some(at),
+            next: OptionalKey::some(at),
         };
-        link_next(&mut self.nodes, &mut ends, before, Some(node));
-        link_prev(&mut self.nodes, &mut ends, Some(at), Some(node));
+        let added = OptionalKey::some(node);
+        link_next(&mut self.nodes, &mut ends, before, added);
+        link_prev(&mut self.nodes, &mut ends, OptionalKey::some(at), added);
         self.ends[list as usize] = ends;
     }
 
@@ -275,9 +327,9 @@ impl Links {
         link_prev(&mut self.nodes, &mut ends, next, prev);
         self.ends[list as usize] = ends;
         self.nodes[node as usize] = Node {
-            owner: None,
-            prev: None,
-            next: None,
+            owner: OptionalKey::none(),
+            prev: OptionalKey::none(),
+            next: OptionalKey::none(),
         };
     }
 
@@ -289,8 +341,8 @@ impl Links {
         ensures same_owner { IfSome result (λ other. owner_of self.now other ≡ owner_of self.now node) }
     {
         let Node { owner, next, .. } = self.nodes[node as usize];
-        match owner {
-            Some(_) => next,
+        match owner.get() {
+            Some(_) => next.get(),
             None => None,
         }
     }
@@ -303,8 +355,8 @@ impl Links {
         ensures same_owner { IfSome result (λ other. owner_of self.now other ≡ owner_of self.now node) }
     {
         let Node { owner, prev, .. } = self.nodes[node as usize];
-        match owner {
-            Some(_) => prev,
+        match owner.get() {
+            Some(_) => prev.get(),
             None => None,
         }
     }
@@ -316,7 +368,7 @@ impl Links {
         ensures first { result ≡ first_of (list_of self.now list) None }
         ensures owned { IfSome result (λ node. owner_of self.now node ≡ Some list) }
     {
-        self.ends[list as usize].head
+        self.ends[list as usize].head.get()
     }
 
     /// The last node of the list; none if the list is empty. Asks that the list is one that was added. Cost:
@@ -326,6 +378,6 @@ impl Links {
         ensures last { result ≡ last_of None (list_of self.now list) }
         ensures owned { IfSome result (λ node. owner_of self.now node ≡ Some list) }
     {
-        self.ends[list as usize].tail
+        self.ends[list as usize].tail.get()
     }
 }

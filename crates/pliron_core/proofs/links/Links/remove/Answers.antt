@@ -20,10 +20,10 @@ index_mut-requires c = let r = rw (← c.self.view_is) at c.requires.held in let
 pub invariant_of-self : goal.invariant_of-self
 invariant_of-self c =
     let r = rw (← c.self.view_is) at c.requires.held in
-    (removed _ _ c.self.invariant _ _ _ _ _ _ _ _ r c.index.ensures c.index-2.ensures c.link_next.ensures.nodes c.link_next.ensures.ends c.link_prev.ensures.nodes c.link_prev.ensures.ends).sound
+    rw (c.none.ensures, c.none-2.ensures, c.none-3.ensures) (removed _ _ c.self.invariant _ _ _ _ _ _ _ _ r c.index.ensures c.index-2.ensures c.link_next.ensures.nodes c.link_next.ensures.ends c.link_prev.ensures.nodes c.link_prev.ensures.ends).sound
 
 pub returns : goal.returns
 returns c =
     let r = rw (← c.self.view_is) at c.requires.held in
     let done = removed _ _ c.self.invariant _ _ _ _ _ _ _ _ r c.index.ensures c.index-2.ensures c.link_next.ensures.nodes c.link_next.ensures.ends c.link_prev.ensures.nodes c.link_prev.ensures.ends in
-    rw (← c.self.view_is) (view_of done.lists_is done.owners_is (omega (arith, c.link_next.ensures.len, c.link_next.ensures.capacity, c.link_prev.ensures.len, c.link_prev.ensures.capacity)) refl)
+    rw (c.none.ensures, c.none-2.ensures, c.none-3.ensures, ← c.self.view_is) (view_of done.lists_is done.owners_is (omega (arith, c.link_next.ensures.len, c.link_next.ensures.capacity, c.link_prev.ensures.len, c.link_prev.ensures.capacity)) refl)

@@ -4,4 +4,4 @@ use Rattle.pliron_core.proofs.links.Links.tail.Goals as goal
 pub returns-clause-owned : goal.returns-clause-owned
 returns-clause-owned c =
     let r = rw (← c.self.view_is) at c.requires in
-    rw (← c.self.view_is) (last_owned _ _ c.self.invariant _ _ r c.index.ensures)
+    rw (← c.self.view_is, c.get.ensures) (last_owned _ _ c.self.invariant _ _ r c.index.ensures)
