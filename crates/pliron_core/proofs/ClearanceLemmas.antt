@@ -1,5 +1,5 @@
 -- Lemmas on a user whose slots are freed one after another.
-use Rattle.std.proofs.Common.{◌≡◌, ℕ, ◌+◌, ◌<◌, ◌≤◌, List, [], length, get_or, set, Some, refl, sym, ap, ◌∙◌, inl, inr, arith}
+use Rattle.std.proofs.Common.{◌≡◌, ℕ, ◌+◌, ◌<◌, ◌≤◌, List, [], ◌∷◌, length, get_or, set, Some, refl, sym, ap, ◌∙◌, inl, inr, arith}
 use Rattle.std.specs.List.{slice_get}
 use Rattle.std.specs.Option.{option_map}
 use Rattle.std.proofs.lemmas.Bool.{cases_eq}
@@ -19,6 +19,15 @@ use Rattle.pliron_core.proofs.MarkLemmas.{free-zero}
 use Rattle.pliron_core.proofs.PlaceLemmas.{row-targets}
 use Rattle.pliron_core.proofs.SettleLemmas.{Settled}
 use Rattle.pliron_core.proofs.TableLemmas.{at-within, set-same, set-other}
+
+empty-row : (row : List UseSlot) → length row ≡ 0 → row ≡ []
+empty-row [] e = refl
+empty-row (p ∷ ps) e = absurd (omega (arith, e))
+
+-- a user without slots has no targets to lose
+pub cleared-already : (rows : List (List UseSlot)) (user : ℕ) → length (get_or rows user []) ≡ 0 → targets_in rows ≡ set (targets_in rows) user []
+cleared-already rows user none =
+    sym (set-get_or (targets_in rows) user []) ∙ ap (set (targets_in rows) user) (row-targets rows user ∙ ap targets_held (empty-row (get_or rows user []) none))
 
 -- so many slots of the user were reached, and these are free
 pub record IsCleared (rows rows' : List (List UseSlot)) (lists lists' : List (List Use)) (user n : ℕ) : Type 0 where

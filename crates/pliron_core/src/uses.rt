@@ -381,7 +381,9 @@ impl Uses {
         ensures count { length self.new.uses ≡ length self.old.uses }
         ensures rooms { (self.new.user_room ≡ self.old.user_room) × (self.new.target_room ≡ self.old.target_room) }
     {
-        empty_places(&mut self.places, &mut self.holes, &mut self.uses, user);
+        if !self.places[user as usize].is_empty() {
+            empty_places(&mut self.places, &mut self.holes, &mut self.uses, user);
+        }
     }
 }
 
