@@ -3,6 +3,8 @@
 #![tactic(auto)]
 
 #[cfg(test)]
+mod argument_values;
+#[cfg(test)]
 mod bench;
 #[cfg(test)]
 mod branches;

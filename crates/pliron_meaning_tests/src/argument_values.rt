@@ -1,6 +1,4 @@
 //! Tests of arguments that are one value, on texts. It has no function of its own.
-#![tactic(auto)]
-
 #[cfg(test)]
 mod cases;
 #[cfg(test)]
