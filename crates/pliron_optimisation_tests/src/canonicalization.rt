@@ -1,6 +1,4 @@
-//! Tests of common subexpression elimination on texts. It has no function of its own.
-#![tactic(auto)]
-
+//! Tests of canonicalization on texts.
 #[cfg(test)]
 mod cases;
 #[cfg(test)]

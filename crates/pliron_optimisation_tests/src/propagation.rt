@@ -1,6 +1,4 @@
-//! Tests of constant propagation on texts. It has no function of its own.
-#![tactic(auto)]
-
+//! Tests of constant propagation on texts.
 #[cfg(test)]
 mod cases;
 #[cfg(test)]

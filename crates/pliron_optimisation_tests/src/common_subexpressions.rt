@@ -1,6 +1,4 @@
-//! Tests of canonicalization on texts. It has no function of its own.
-#![tactic(auto)]
-
+//! Tests of common subexpression elimination on texts.
 #[cfg(test)]
 mod cases;
 #[cfg(test)]

@@ -1,6 +1,4 @@
-//! Tests of dead code elimination on texts. It has no function of its own.
-#![tactic(auto)]
-
+//! Tests of dead code elimination on texts.
 #[cfg(test)]
 mod boxes;
 #[cfg(test)]

@@ -7,7 +7,7 @@ ghost use Rattle.pliron_laws.specs.Answers.{ReadsHead};
 ghost use Rattle.pliron_evaluator.specs.Tiny.{tiny, tiny_side_effects, tiny_removable, tiny_constants, tiny_accepts, tiny_constant, tiny_folds_branch, tiny_feasible, tiny_outcome, has_tiny_kind, has_tiny_interface, tiny_shortened, tiny_entry_operands};
 ghost use Rattle.pliron_evaluator.specs.TinyLaws.{tiny_counts, tiny_effects, tiny_arguments, tiny_jumps, tiny_in_place, tiny_makes};
 ghost use Rattle.pliron_evaluator.specs.TinyEntries.{tiny_names, tiny_roots};
-ghost use Rattle.pliron_sccp_tests.specs.Marked.{marked_folds, marked_answers, marked_forwards};
+ghost use Rattle.pliron_optimisation_tests.specs.Marked.{marked_folds, marked_answers, marked_forwards};
 
 use super::tiny::{block, leads_to, made_with, make_operation, put, reads_argument, reads_result};
 use pliron_core::{AttrObj, BasicBlock, Context, IRStatus, Operation, Ptr, Rewriter, Value};
