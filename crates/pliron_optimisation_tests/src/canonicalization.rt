@@ -6,6 +6,4 @@ mod passes;
 #[cfg(test)]
 mod random;
 #[cfg(test)]
-mod runs;
-#[cfg(test)]
 mod texts;

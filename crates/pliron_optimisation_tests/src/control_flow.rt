@@ -1,9 +1,7 @@
 //! Tests of the simplification of control flow, on texts.
 #[cfg(test)]
-mod calls;
+pub mod calls;
 #[cfg(test)]
 mod cases;
-#[cfg(test)]
-mod runs;
 #[cfg(test)]
 mod texts;

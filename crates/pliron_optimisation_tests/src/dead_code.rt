@@ -8,8 +8,6 @@ mod hostile;
 #[cfg(test)]
 mod rounds;
 #[cfg(test)]
-mod runs;
-#[cfg(test)]
 mod short;
 #[cfg(test)]
 mod texts;

@@ -1,4 +1,4 @@
-//! Tests of the optimisations on texts, a module for each. It has no function of its own.
+//! Tests of the optimisations on texts: a module for each, and what these share. It has no function of its own.
 #![tactic(auto)]
 
 #[cfg(test)]
@@ -10,4 +10,10 @@ mod control_flow;
 #[cfg(test)]
 mod dead_code;
 #[cfg(test)]
+mod optimisation;
+#[cfg(test)]
 mod propagation;
+#[cfg(test)]
+mod runs;
+#[cfg(test)]
+mod texts;

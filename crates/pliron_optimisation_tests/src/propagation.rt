@@ -10,10 +10,6 @@ mod marked;
 #[cfg(test)]
 mod random_cases;
 #[cfg(test)]
-mod room;
-#[cfg(test)]
-mod runs;
-#[cfg(test)]
 mod texts;
 #[cfg(test)]
 mod tiny;

@@ -7,10 +7,9 @@ use pliron_bench::Bench;
 use pliron_canonicalize_pass::{CanonicalizePass, canonicalization_reports_accurately};
 use pliron_core::{Context, IRStatus, Operation, Ptr};
 use pliron_laws::OptError;
-use pliron_notation::print_text;
 use pliron_pass::{AnalysisManager, BenchFacts, Either, Pass, Passes};
 use pliron_pipeline::{DCEPass, PassStep, run_pipeline};
-use pliron_test_cases::cases::read;
+use pliron_test_cases::cases::{line, read};
 use std::alloc::Global;
 use std::process::Abort;
 
@@ -20,12 +19,8 @@ type Canonicalize = CanonicalizePass<Bench, BenchFacts>;
 
 type Step = Either<Canonicalize, PassStep<Bench, BenchFacts>>;
 
-// What is left by the list of both passes, and its answer.
-fn run(
-    alloc: Global,
-    root: Ptr<Operation>,
-    ctx: &mut Context,
-) -> Result<(IRStatus, String), OptError>
+// What the list of both passes answers.
+fn run(alloc: Global, root: Ptr<Operation>, ctx: &mut Context) -> Result<IRStatus, OptError>
     requires live { IsLive ctx.old.tree root }
     requires linked { IsWellLinked bench ctx.old.tree root }
 {
@@ -33,14 +28,14 @@ fn run(
     passes.add_pass(Either::Left(CanonicalizePass::new()))?;
     passes.add_pass(Either::Right(PassStep::Dce(DCEPass::new())))?;
     let mut analyses = AnalysisManager::new(alloc);
-    let status = run_pipeline(&mut passes, alloc, root, ctx, &mut analyses)?;
-    Ok((status, print_text(alloc, root, ctx)?))
+    run_pipeline(&mut passes, alloc, root, ctx, &mut analyses)
 }
 
 fn run_in(rt: &impl Abort, alloc: Global, ctx: &mut Context) {
     let root = read(alloc, ctx, TEXT).expect(rt, "a text");
-    let (status, text) = run(alloc, root, ctx).expect(rt, "memory");
-    assert!(rt; status == IRStatus::Changed);
+    let status = run(alloc, root, ctx).expect(rt, "memory");
+    assert_eq!(rt; status, IRStatus::Changed);
+    let text = line(alloc, ctx, root).expect(rt, "the root");
     assert_eq!(rt; text.as_str(), "func { b0(v0): v1 = const 0; ret v1 }");
 }
 

@@ -4,32 +4,32 @@ ghost use Rattle.pliron_core.specs.Tree.{IsLive};
 ghost use Rattle.pliron_laws.specs.Linked.{IsWellLinked};
 
 use pliron_bench::Bench;
-use pliron_core::{Context, Operation, Ptr};
+use pliron_core::{Context, IRStatus, Operation, Ptr};
 use pliron_laws::OptError;
-use pliron_notation::print_text;
 use pliron_pass::{AnalysisManager, BenchFacts, Pass, Passes};
 use pliron_pipeline::{CSEPass, run_pipeline};
-use pliron_test_cases::cases::read;
+use pliron_test_cases::cases::{line, read};
 use std::alloc::Global;
 use std::process::Abort;
 
 static TEXT: &str = "func { b0(x): a = add x x; b = add x x; ret a b }";
 
-// What the list of the pass alone leaves.
-fn run(alloc: Global, root: Ptr<Operation>, ctx: &mut Context) -> Result<String, OptError>
+// What the list of the pass alone answers.
+fn run(alloc: Global, root: Ptr<Operation>, ctx: &mut Context) -> Result<IRStatus, OptError>
     requires live { IsLive ctx.old.tree root }
     requires linked { IsWellLinked bench ctx.old.tree root }
 {
     let mut passes = Passes::<CSEPass<Bench, BenchFacts>>::new(alloc);
     passes.add_pass(CSEPass::new())?;
     let mut analyses = AnalysisManager::new(alloc);
-    run_pipeline(&mut passes, alloc, root, ctx, &mut analyses)?;
-    Ok(print_text(alloc, root, ctx)?)
+    run_pipeline(&mut passes, alloc, root, ctx, &mut analyses)
 }
 
 fn run_in(rt: &impl Abort, alloc: Global, ctx: &mut Context) {
     let root = read(alloc, ctx, TEXT).expect(rt, "a text");
-    let text = run(alloc, root, ctx).expect(rt, "memory");
+    let status = run(alloc, root, ctx).expect(rt, "memory");
+    assert_eq!(rt; status, IRStatus::Changed);
+    let text = line(alloc, ctx, root).expect(rt, "the root");
     assert_eq!(rt; text.as_str(), "func { b0(v0): v1 = add v0 v0; ret v1 v1 }");
 }
 

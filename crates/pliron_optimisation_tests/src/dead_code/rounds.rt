@@ -14,8 +14,7 @@ use pliron_bench::Bench;
 use pliron_core::{BasicBlock, Context, Def, Operation, Ptr, Value};
 use pliron_dce::dce;
 use pliron_laws::{BlockArgRemoval, Dialect, SideEffects};
-use pliron_notation::read_text;
-use pliron_test_cases::cases::{Case, case_of};
+use pliron_test_cases::cases::{Case, case_of, read};
 use std::alloc::{AllocError, Global};
 use std::process::Abort;
 use std::test::Fail;
@@ -349,9 +348,7 @@ fn compare(
     left: &mut Vec<bool>,
 ) -> Result<(), Fail> {
     let name = case.name;
-    let Some(root) = read_text(alloc, case.text.as_bytes(), ctx)? else {
-        return Err(Fail::from("unreadable"));
-    };
+    let root = read(alloc, ctx, case.text).expect(rt, "a readable text");
     list_things(things, root, ctx)?;
     list_left(alloc, things, left, root, ctx)?;
     dce::<Bench>(alloc, root, ctx)?;
@@ -387,9 +384,7 @@ fn compare_case(rt: &impl Abort, alloc: Global, case: &Case) -> Result<(), Fail>
 
 fn compare_all(rt: &impl Abort, alloc: Global, cases: &str) -> Result<(), Fail> {
     for line in cases.lines() {
-        let Some(case) = case_of(line) else {
-            return Err(Fail::from("no case"));
-        };
+        let case = case_of(line).expect(rt, "a case");
         compare_case(rt, alloc, &case)?;
     }
     Ok(())

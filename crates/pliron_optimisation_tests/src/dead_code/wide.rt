@@ -3,11 +3,11 @@
 //! of arguments.
 ghost use Rattle.std.specs.Prelude.{◌<◌};
 
-use super::texts::check;
+use super::texts::DEAD_CODE;
+use crate::texts::check;
 use pliron_test_cases::cases::{Case, Row, row_of};
 use std::alloc::Global;
 use std::process::Abort;
-use std::test::Fail;
 
 // `%front%` and `%back%` are the two halves of the arguments, `%to_front%` and `%to_back%` what is forwarded to them,
 // and `%ones%` is `o` for each of a half. `%others%` and `%more%` are arguments that nothing uses.
@@ -102,12 +102,10 @@ fn fill_case(rt: &impl Abort, alloc: Global, case: &str, half: usize) -> String
     text
 }
 
-fn check_filled(rt: &impl Abort, alloc: Global, case: &str, half: usize) -> Result<(), Fail>
+fn check_filled(rt: &impl Abort, alloc: Global, case: &str, half: usize)
     requires { half < 256 }
 {
-    let Some(Row { name, asked, want }) = row_of(case) else {
-        return Err(Fail::from("no case"));
-    };
+    let Row { name, asked, want } = row_of(case).expect(rt, "a case");
     let text = fill_case(rt, alloc, asked, half);
     let case = Case {
         name,
@@ -115,20 +113,18 @@ fn check_filled(rt: &impl Abort, alloc: Global, case: &str, half: usize) -> Resu
         text: text.as_str(),
         after: want,
     };
-    check(rt, alloc, &case)
+    check(rt, alloc, DEAD_CODE, &case)
 }
 
-fn check_half(rt: &impl Abort, alloc: Global, half: u8) -> Result<(), Fail> {
+fn check_half(rt: &impl Abort, alloc: Global, half: u8) {
     for case in WIDE.lines() {
-        check_filled(rt, alloc, case, usize::from(half))?;
+        check_filled(rt, alloc, case, usize::from(half));
     }
-    Ok(())
 }
 
 #[test]
-fn many_arguments(rt: HostRuntime) -> Result<(), Fail> {
+fn many_arguments(rt: HostRuntime) {
     for half in HALVES {
-        check_half(&rt, rt.alloc(), half)?;
+        check_half(&rt, rt.alloc(), half);
     }
-    Ok(())
 }

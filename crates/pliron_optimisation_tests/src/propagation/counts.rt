@@ -6,14 +6,14 @@
 //! counts 39 on the third text of `DEFERRED`.
 use super::cases::{DEFERRED, ENTERED};
 use super::random_cases::MADE;
+use crate::optimisation::letter;
+use crate::texts::text_behind;
 use pliron_bench::Bench;
 use pliron_core::Context;
-use pliron_notation::read_text;
 use pliron_sccp::sccp_counted;
-use pliron_test_cases::cases::case_of;
+use pliron_test_cases::cases::{case_of, line, read};
 use std::alloc::Global;
 use std::process::Abort;
-use std::test::Fail;
 
 static COUNTS: &str = "\
 1 11 7 15 9 9 7 18 10 8 1 6 10 11 9 8 10 8 11 9 \
@@ -29,63 +29,58 @@ static DEFERRED_COUNTS: &str = "42 17 31 33 21 38 22 18 42";
 
 static ENTERED_COUNTS: &str = "27 19 18 16 27";
 
-// The text of a line: behind the name, the answer and three numbers, before the arrow.
-fn text_of(line: &str) -> Option<&str> {
-    let mut text = case_of(line)?.text;
-    for _ in 0..3 {
-        let (_, rest) = text.split_once(" ")?;
-        text = rest;
+/// So many counts stand before a text.
+pub const COUNTS_BEFORE: usize = 3;
+
+/// What propagation that counts answers for a text, leaves of it, and how often it pops.
+#[derive(Drop)]
+pub struct Counted {
+    pub answer: &'static str,
+    pub left: String,
+    pub pops: u128,
+}
+
+fn count_in(rt: &impl Abort, alloc: Global, ctx: &mut Context, text: &str) -> Counted {
+    let root = read(alloc, ctx, text).expect(rt, "a readable text");
+    let (status, pops) = sccp_counted::<Bench>(alloc, root, ctx).expect(rt, "memory");
+    Counted {
+        answer: letter(Ok(status)),
+        left: line(alloc, ctx, root).expect(rt, "the root"),
+        pops,
     }
-    Some(text)
 }
 
-fn count_in(
-    rt: &impl Abort,
-    alloc: Global,
-    ctx: &mut Context,
-    text: &str,
-    count: u64,
-) -> Result<(), Fail> {
-    let Some(root) = read_text(alloc, text.as_bytes(), ctx)? else {
-        return Err(Fail::from("unreadable"));
-    };
-    let (_, pops) = sccp_counted::<Bench>(alloc, root, ctx)?;
-    assert_eq!(rt; pops, count as u128, "{text}");
-    Ok(())
-}
-
-fn count(rt: &impl Abort, alloc: Global, text: &str, count: u64) -> Result<(), Fail> {
+// Propagates in the text, and counts.
+pub fn count(rt: &impl Abort, alloc: Global, text: &str) -> Counted {
     let mut ctx = Context::new(alloc);
-    count_in(rt, alloc, &mut ctx, text, count)
+    count_in(rt, alloc, &mut ctx, text)
 }
 
 // Each of these texts is counted as often as the number in its place says.
-fn count_each(rt: &impl Abort, alloc: Global, texts: &str, wanted: &str) -> Result<(), Fail> {
-    let mut counts = wanted.split(" ");
-    for line in texts.lines() {
-        let (Some(text), Some(word)) = (text_of(line), counts.next()) else {
-            return Err(Fail::from("no text or no count"));
-        };
-        match word.parse::<u64>() {
-            Ok(number) => count(rt, alloc, text, number)?,
-            Err(_) => return Err(Fail::from("no number")),
-        }
+fn count_each(rt: &impl Abort, alloc: Global, cases: &str, wanted: &str) {
+    let mut counts = wanted.split(' ');
+    for row in cases.lines() {
+        let case = case_of(row).expect(rt, "a case");
+        let case = text_behind(case, COUNTS_BEFORE).expect(rt, "a text");
+        let word = counts.next().expect(rt, "a count");
+        let wanted = word.parse::<u64>().ok().expect(rt, "a number");
+        let pops = count(rt, alloc, case.text).pops;
+        assert_eq!(rt; pops, u128::from(wanted), "{}", case.name);
     }
     assert!(rt; counts.next().is_none());
-    Ok(())
 }
 
 #[test]
-fn made_texts_are_counted(rt: HostRuntime) -> Result<(), Fail> {
+fn made_texts_are_counted(rt: HostRuntime) {
     count_each(&rt, rt.alloc(), MADE, COUNTS)
 }
 
 #[test]
-fn what_is_put_aside_is_counted(rt: HostRuntime) -> Result<(), Fail> {
+fn what_is_put_aside_is_counted(rt: HostRuntime) {
     count_each(&rt, rt.alloc(), DEFERRED, DEFERRED_COUNTS)
 }
 
 #[test]
-fn what_is_entered_whole_is_counted(rt: HostRuntime) -> Result<(), Fail> {
+fn what_is_entered_whole_is_counted(rt: HostRuntime) {
     count_each(&rt, rt.alloc(), ENTERED, ENTERED_COUNTS)
 }

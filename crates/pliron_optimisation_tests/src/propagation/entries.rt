@@ -152,7 +152,7 @@ fn case_in(rt: &impl Abort, alloc: Global, ctx: &mut Context, case: &str) {
     let root = made.operation("0").expect(rt, "a root");
     let called = made.operation(index).expect(rt, "an operation");
     let before = sight_of_root(rt, alloc, ctx, root);
-    propagate_operation(rt, alloc, ctx, called);
+    propagate_operation::<Tiny>(rt, alloc, ctx, called);
     let asked = entry_answers(rt, alloc, ctx, &made.operations);
     let after = sight_of_root(rt, alloc, ctx, root);
     let told = sight_text(rt, alloc, &before);

@@ -9,17 +9,18 @@ ghost use Rattle.pliron_evaluator.specs.TinyLaws.{tiny_counts, tiny_effects, tin
 ghost use Rattle.pliron_evaluator.specs.TinyEntries.{tiny_names, tiny_roots};
 ghost use Rattle.pliron_optimisation_tests.specs.Marked.{marked_folds, marked_answers, marked_forwards};
 
-use super::tiny::{block, leads_to, made_with, make_operation, put, reads_argument, reads_result};
+use super::tiny::{
+    block, leads_to, made_with, make_operation, propagate_operation, put, reads_argument,
+    reads_result,
+};
 use pliron_core::{AttrObj, BasicBlock, Context, IRStatus, Operation, Ptr, Rewriter, Value};
 use pliron_evaluator::{Tiny, TinyKind};
 use pliron_laws::{
     BlockArgRemoval, BranchOpFoldInterface, ConstFoldInterface, Dialect, HasMeaning, Interface,
-    OptError, RegionBranchOpInterface, Room, SideEffects, is_well_linked,
+    OptError, RegionBranchOpInterface, Room, SideEffects,
 };
-use pliron_sccp::sccp_counted;
 use std::alloc::Global;
 use std::process::Abort;
-use std::test::Fail;
 
 pub struct Marked;
 
@@ -282,48 +283,32 @@ fn tree(
     (root, second, third)
 }
 
-// What propagation answers for the root.
-fn propagate_root(
-    alloc: Global,
-    ctx: &mut Context,
-    root: Ptr<Operation>,
-) -> Result<(IRStatus, u128), Fail> {
-    if !root.is_live(ctx) {
-        return Err(Fail::from("no root"));
-    }
-    if !is_well_linked::<Marked>(root, ctx) {
-        return Err(Fail::from("not well linked"));
-    }
-    Ok(sccp_counted::<Marked>(alloc, root, ctx)?)
-}
-
 fn head_of(rt: &impl Abort, ctx: &Context, block: Ptr<BasicBlock>) -> Option<Ptr<Operation>> {
     assert!(rt; block.is_live(ctx));
     block.get_head(ctx)
 }
 
-fn propagates_in(rt: &impl Abort, alloc: Global, ctx: &mut Context) -> Result<(), Fail> {
+fn propagates_in(rt: &impl Abort, alloc: Global, ctx: &mut Context) {
     let (root, second, third) = tree(rt, alloc, ctx);
-    let (status, pops) = propagate_root(alloc, ctx, root)?;
+    let (status, pops) = propagate_operation::<Marked>(rt, alloc, ctx, root);
     assert!(rt; status == IRStatus::Changed);
     // three blocks, three constants, an answer
     assert!(rt; 7 <= pops && pops <= 8);
     let made_second = head_of(rt, ctx, second);
     let made_third = head_of(rt, ctx, third);
-    let (status, pops) = propagate_root(alloc, ctx, root)?;
+    let (status, pops) = propagate_operation::<Marked>(rt, alloc, ctx, root);
     assert!(rt; status == IRStatus::Changed);
     // three blocks, the constant with the mark and the argument that gets it; two made constants, the
     // other argument and an answer
     assert!(rt; 9 <= pops && pops <= 13);
     assert!(rt; head_of(rt, ctx, second) != made_second);
     assert!(rt; head_of(rt, ctx, third) == made_third);
-    Ok(())
 }
 
 // Twice: each argument is a constant at first, and once constants are put for them only the one that gets the
 // constant with the mark.
 #[test]
-fn made_constants_do_not_fold(rt: HostRuntime) -> Result<(), Fail> {
+fn made_constants_do_not_fold(rt: HostRuntime) {
     let alloc = rt.alloc();
     let mut ctx = Context::new(alloc);
     propagates_in(&rt, alloc, &mut ctx)

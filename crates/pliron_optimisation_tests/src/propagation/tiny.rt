@@ -3,7 +3,7 @@ use pliron_core::{
     AttrObj, Attrs, BasicBlock, Context, Head, IRRewriter, IRStatus, Operation, Ptr, Rewriter,
 };
 use pliron_evaluator::{Tiny, TinyKind};
-use pliron_laws::is_well_linked;
+use pliron_laws::{Dialect, is_well_linked};
 use pliron_sccp::sccp_counted;
 use std::alloc::Global;
 use std::process::Abort;
@@ -120,20 +120,20 @@ fn tree(
 }
 
 // What propagation answers for the operation.
-pub(crate) fn propagate_operation(
+pub(crate) fn propagate_operation<D: Dialect>(
     rt: &impl Abort,
     alloc: Global,
     ctx: &mut Context,
     root: Ptr<Operation>,
 ) -> (IRStatus, u128) {
     assert!(rt; root.is_live(ctx));
-    assert!(rt; is_well_linked::<Tiny>(root, ctx), "not well linked");
-    sccp_counted::<Tiny>(alloc, root, ctx).expect(rt, "memory")
+    assert!(rt; is_well_linked::<D>(root, ctx), "not well linked");
+    sccp_counted::<D>(alloc, root, ctx).expect(rt, "memory")
 }
 
 fn propagates_in(rt: &impl Abort, alloc: Global, ctx: &mut Context) {
     let (root, second, question) = tree(rt, alloc, ctx);
-    let (status, pops) = propagate_operation(rt, alloc, ctx, root);
+    let (status, pops) = propagate_operation::<Tiny>(rt, alloc, ctx, root);
     assert_eq!(rt; status, IRStatus::Changed);
     // two blocks, two constants, an answer
     assert!(rt; 5 <= pops && pops <= 6);
