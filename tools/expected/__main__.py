@@ -4,8 +4,8 @@
   python3 tools/expected               says of each table how many of its lines the models make alike; the status is 0 if all are
   python3 tools/expected TABLE         prints the lines of a table as the models make them of its texts, one unbroken line a case
 
-A table is named by its file and its name, as `pliron_dce_tests/src/cases.rt:DEFINED`. Its names, and its texts to the left of ` => `, are kept as they
-are: texts made at random, or written by hand.
+A table is named by its file and its name, as `pliron_optimisation_tests/src/dead_code/cases.rt:DEFINED`. Its names, and its texts to the left of
+` => `, are kept as they are: texts made at random, or written by hand.
 """
 import re
 import sys
@@ -74,7 +74,10 @@ def propagated_uncounted(root):
     return models.sccp(root)[0]
 
 
-SCCP, DCE, CFG = "pliron_sccp_tests/src/", "pliron_dce_tests/src/", "pliron_cfg_tests/src/"
+SCCP, DCE, CFG, CSE, CANONICALIZE = (
+    f"pliron_optimisation_tests/src/{module}/"
+    for module in ("propagation", "dead_code", "control_flow", "common_subexpressions", "canonicalization")
+)
 BY_LINE = {
     SCCP + "cases.rt:ROWS": propagated,
     SCCP + "cases.rt:DEFERRED": propagated,
@@ -90,10 +93,10 @@ BY_LINE = {
     CFG + "cases.rt:ORDERS": called,
     CFG + "cases.rt:DEFINED": named(models.simplify_cfg),
     CFG + "cases.rt:HOSTILE": named(models.simplify_cfg),
-    "pliron_cse_tests/src/cases.rt:ROWS": named(models.cse),
-    "pliron_cse_tests/src/random.rt:RANDOM": named(models.cse),
-    "pliron_canonicalize_tests/src/cases.rt:ROWS": named(models.canonicalize),
-    "pliron_canonicalize_tests/src/random.rt:RANDOM": named(models.canonicalize),
+    CSE + "cases.rt:ROWS": named(models.cse),
+    CSE + "random.rt:RANDOM": named(models.cse),
+    CANONICALIZE + "cases.rt:ROWS": named(models.canonicalize),
+    CANONICALIZE + "random.rt:RANDOM": named(models.canonicalize),
     "pliron_core_tests/src/removals.rt:REMOVALS": graphs.removals,
     "pliron_core_tests/src/arguments.rt:REMOVALS": graphs.removals,
 }
