@@ -27,11 +27,9 @@ pub fn attribute_head(
 ) -> Result<Head, AllocFailed<AttrObj>>
     ensures { IfOk result (λ head. head ≡ head_with_attribute kind attr) }
 {
-    let mut attrs = Vec::new(alloc);
-    attrs.push(attr)?;
     Ok(Head {
         kind: kind.number(),
         ssa: kind.is_ssa(),
-        attrs: Attrs::new(attrs),
+        attrs: Attrs::one(alloc, attr)?,
     })
 }

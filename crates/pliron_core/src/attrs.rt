@@ -1,8 +1,8 @@
 //! Heads of operations: names with attributes.
-ghost use Rattle.std.specs.Prelude.{◌≡◌, ◌<◌, [], IfOk, string_bytes, IsTrue, ◌↔◌, length, slice_get, slice_set, Some};
+ghost use Rattle.std.specs.Prelude.{◌≡◌, ◌<◌, [], ◌∷◌, IfOk, IfErr, string_bytes, IsTrue, ◌↔◌, length, slice_get, slice_set, Some};
 
 use crate::context::NoMemory;
-use std::alloc::Global;
+use std::alloc::{AllocFailed, Global};
 use std::marker::Model;
 use std::ops::BitOrAssign;
 
@@ -107,6 +107,21 @@ impl Attrs {
         ensures { result ≡ attrs.items }
     {
         Attrs { attrs }
+    }
+
+    /// One attribute, in memory for no more. Errors: allocation failure, which hands it back. Cost: constant.
+    #[inline(always)]
+    pub fn one(alloc: Global, attr: AttrObj) -> Result<Self, AllocFailed<AttrObj>>
+        ensures ok { IfOk result (λ attrs. attrs ≡ attr ∷ []) }
+        ensures err { IfErr result (λ refused. refused.value ≡ attr) }
+    {
+        match Vec::with_capacity(alloc, 1) {
+            Ok(mut attrs) => {
+                attrs.push_reserved(attr);
+                Ok(Attrs { attrs })
+            }
+            Err(_) => Err(AllocFailed { value: attr }),
+        }
     }
 
     /// How many there are. Cost: constant.

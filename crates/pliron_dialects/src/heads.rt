@@ -25,11 +25,9 @@ pub fn attribute_head(
 ) -> Result<Head, AllocFailed<AttrObj>>
     ensures { IfOk result (λ head. head ≡ head_with_attribute number attr) }
 {
-    let mut attrs = Vec::new(alloc);
-    attrs.push(attr)?;
     Ok(Head {
         kind: number,
         ssa: true,
-        attrs: Attrs::new(attrs),
+        attrs: Attrs::one(alloc, attr)?,
     })
 }
