@@ -14,7 +14,7 @@ PLIR_OPT is the program, or `"PLIR opt"`, since `plir_opt` has no `cse`. LIST is
   times.py ../../crates/plir_opt/out/plir_opt dce count > dce.counts
   times.py table dce.times dce.counts
 
-LLVM's programs are OPT and MLIR_OPT, and one that hasn't ended after LIMIT seconds has no count.
+LLVM's programs are OPT and MLIR_OPT, and one that hasn't ended after LIMIT seconds has no count and no time.
 
 Times are user and system time, the least of several runs (RUNS), with the output to /dev/null, at each of
 the numbers of operations in SIZES, and of `opt` at the last. Instructions are those of the whole process
@@ -25,6 +25,8 @@ exponent is the greater one of the two steps, by the lengths of the texts.
 import math
 import os
 import re
+import resource
+import signal
 import subprocess
 import sys
 import tempfile
@@ -36,17 +38,26 @@ RUNS = int(os.environ.get("RUNS", "5"))
 LIMIT = int(os.environ.get("LIMIT", "600"))
 
 
+def limited():
+    resource.setrlimit(resource.RLIMIT_CPU, (LIMIT, LIMIT))
+
+
 def once(command, path):
+    """The processor time of a run, or None if it hadn't ended after LIMIT seconds."""
     with open(path, "rb") as text, open(os.devnull, "wb") as nothing:
-        child = subprocess.Popen(command, stdin=text, stdout=nothing, stderr=nothing)
+        child = subprocess.Popen(command, stdin=text, stdout=nothing, stderr=nothing, preexec_fn=limited)
         _, status, usage = os.wait4(child.pid, 0)
+    if os.WIFSIGNALED(status) and os.WTERMSIG(status) in (signal.SIGXCPU, signal.SIGKILL):
+        return None
     if status != 0:
         raise SystemExit(f"{command} failed on {path}")
     return usage.ru_utime + usage.ru_stime
 
 
 def least(command, path):
-    return 1000 * min(once(command, path) for _ in range(RUNS))
+    """The least of several runs in milliseconds, or None if the first one hadn't ended."""
+    first = once(command, path)
+    return first and 1000 * min([first, *(once(command, path) or first for _ in range(1, RUNS))])
 
 
 def counted(program, path):
@@ -129,7 +140,7 @@ def timed(shape, program, passes, folder):
     for name in passes:
         command, notation = theirs(name)
         others.append((name, least(command, write(shape, SIZES[-1], notation, folder))))
-    return [f"{name}={time:.1f}" for name, time in ours + others]
+    return [f"{name}={time:.1f}" for name, time in ours + others if time is not None]
 
 
 def counts(shape, program, folder):
@@ -196,7 +207,7 @@ def table(times, counts):
         ours = float(cells[sizes[-1]])
         shares = shares_of(cells, ours)
         _, growth = grown(counts[shape])
-        row = [shape, *(cells[n] for n in sizes), *(f"{float(cells[p]):.0f}" for p in passes),
+        row = [shape, *(cells[n] for n in sizes), *(f"{float(cells[p]):.0f}" if p in cells else "–" for p in passes),
                ", ".join(f"{share:.2f}" for share in shares), f"{growth:.2f}", goals(growth, shares)]
         print("| " + " | ".join(row) + " |")
 
