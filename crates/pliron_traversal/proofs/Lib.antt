@@ -7,6 +7,7 @@ pub mod NumberingLemmas
 pub mod WalkLemmas
 pub mod PlaceLemmas
 pub mod PlacesLeftLemmas
+pub mod NodeSetLemmas
 pub mod ItemLemmas
 pub mod NumberedLemmas
 pub mod MarkLemmas

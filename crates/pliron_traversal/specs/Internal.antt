@@ -7,4 +7,5 @@ pub mod AdjacencyLawful
 pub mod RegionLawful
 pub mod Sources
 pub mod Marks
+pub mod Numbers
 pub mod Walked

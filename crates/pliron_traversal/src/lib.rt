@@ -9,6 +9,7 @@ mod edge_kind;
 mod graph;
 mod iterators;
 mod listed_set;
+mod node_set;
 mod orders;
 mod region;
 pub mod search;
@@ -19,6 +20,7 @@ pub use edge_kind::DFSEdgeKind;
 pub use graph::{ControlFlowGraph, HasLabel};
 pub use iterators::{OrderIter, ReverseOrderIter};
 pub use listed_set::{ListedSet, NumberSet};
+pub use node_set::NodeSet;
 pub use orders::{
     post_order, post_order_by_component, topological_order, topological_order_by_component,
 };
