@@ -1,37 +1,11 @@
 -- The set of operations that are visited once nothing else is ready.
-use Rattle.std.proofs.Common.{◌≡◌, ◌⊎◌, inl, inr, ⊎_elim, ℕ, Bool, true, false, not, true≢false, nat_eq, ◌&&◌, if◌then◌else◌, List, [], ◌∷◌, ◌++◌, Option, Some, None, refl, sym, ap, ◌∙◌, subst, arith}
-use Rattle.std.specs.List.{list_any}
-use Rattle.std.proofs.lemmas.Bool.{false≢true, or_cases}
+use Rattle.std.proofs.Common.{◌≡◌, ◌⊎◌, inl, inr, ⊎_elim, ℕ, List, [], ◌∷◌, ◌++◌, Option, Some, None, refl, sym, ◌∙◌, subst}
 use Rattle.pliron_core.specs.Changes.{IsDefinedInside}
 use Rattle.pliron_core.specs.Tree.{Tree, In, IsLive, IsInside, Directly, IsWithin, parent_operation_of}
 use Rattle.pliron_core.specs.Invariant.{IsTree}
 use Rattle.pliron_core.proofs.ListLemmas.{In-left, In-right, In-cases}
 use Rattle.pliron_core.proofs.HoldingLemmas.{some_is, inside_up, within_inside, not_itself}
-use Rattle.indexmap.specs.IndexSet.{insert_key}
 use Rattle.pliron_dce.specs.Worklist.{AreClosed, AddsParents}
-
-tested_in : (xs : List ℕ) (k : ℕ) → list_any (λ y. nat_eq k y && true) xs ≡ true → In k xs
-tested_in [] k e = absurd (false≢true e)
-tested_in (x ∷ xs) k e = elim (or_cases (nat_eq k x && true) (list_any (λ y. nat_eq k y && true) xs) e) [ inl h ↦ inl (same k x h) | inr h ↦ inr (tested_in xs k h) ]
-  where
-    same : (x y : ℕ) → nat_eq x y && true ≡ true → x ≡ y
-    same x y e = grind arith
-
--- what `insert` did, by its answer
-module _ (ks ks' : List ℕ) (k : ℕ) (r : Bool) (says : r ≡ not (list_any (λ y. nat_eq k y && true) ks)) (keys : ks' ≡ insert_key (λ x y. nat_eq x y && true) ks k) where
-  pub put_last : r ≡ true → ks' ≡ ks ++ k ∷ []
-  put_last e = by (list_any (λ y. nat_eq k y && true) ks) refl
-    where
-      by : (b : Bool) → list_any (λ y. nat_eq k y && true) ks ≡ b → ks' ≡ ks ++ k ∷ []
-      by true h = absurd (true≢false (sym e ∙ says ∙ ap not h))
-      by false h = keys ∙ ap (λ b. if b then ks else ks ++ k ∷ []) h
-
-  pub was_in : r ≡ false → In k ks × (ks' ≡ ks)
-  was_in e = by (list_any (λ y. nat_eq k y && true) ks) refl
-    where
-      by : (b : Bool) → list_any (λ y. nat_eq k y && true) ks ≡ b → In k ks × (ks' ≡ ks)
-      by true h = (tested_in ks k h, keys ∙ ap (λ b. if b then ks else ks ++ k ∷ []) h)
-      by false h = absurd (true≢false (sym (ap not h) ∙ sym says ∙ e))
 
 -- the operation is there, or at the parent operation or around it
 abbrev pub IsThereOrUp : Tree → List ℕ → Option ℕ → ℕ → Type 0

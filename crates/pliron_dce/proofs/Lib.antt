@@ -1,4 +1,5 @@
 pub mod ReadyLemmas
+pub mod Reaches
 pub mod Thinned
 pub mod PlaceLists
 pub mod Places

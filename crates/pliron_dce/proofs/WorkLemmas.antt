@@ -97,9 +97,9 @@ module _ (m : Meaning) (side_effects : Head → Option Bool) (removable : Head �
   pub later_kept : (new none : List DeadCandidate) → Kept (ls ++ rs) new → Kept (around ++ (ls ++ rs)) (around ++ (none ++ new))
   later_kept new none h x r i = ⊎_elim (λ j. among_left x around (none ++ new) j) (λ j. among_right x around (none ++ new) (among_right x none new (h x r j))) (among_cases x around (ls ++ rs) i)
 
--- those around come into the round
-pub around_kept : (around ls rs none : List DeadCandidate) (x : Item) → Among x (items_of (around ++ (ls ++ rs))) → Among x (items_of (none ++ (ls ++ (rs ++ around))))
-around_kept around ls rs none x i = among_right x none (ls ++ (rs ++ around)) (⊎_elim (λ j. among_right x ls (rs ++ around) (among_right x rs around j)) (λ j. ⊎_elim (λ k. among_left x ls (rs ++ around) k) (λ k. among_right x ls (rs ++ around) (among_left x rs around k)) (among_cases x ls rs j)) (among_cases x around (ls ++ rs) i))
+-- those around that are ready come into the round
+pub around_ready : (m : Meaning) (side_effects : Head → Option Bool) (removable : Head → ℕ → Bool → Option Bool) (t : Tree) (root : ℕ) (around ls rs new none : List DeadCandidate) → KeepsReady m side_effects removable t root (around ++ rs) new → KeepsReady m side_effects removable t root (around ++ (ls ++ rs)) (none ++ (ls ++ new))
+around_ready m side_effects removable t root around ls rs new none h x r i = among_right x none (ls ++ new) (⊎_elim (λ j. among_right x ls new (h x r (among_left x around rs j))) (λ j. ⊎_elim (λ k. among_left x ls new k) (λ k. among_right x ls new (h x r (among_right x around rs k))) (among_cases x ls rs j)) (among_cases x around (ls ++ rs) i))
 
 -- what is found of all that is ready
 module _ (m : Meaning) (side_effects : Head → Option Bool) (removable : Head → ℕ → Bool → Option Bool) (t : Tree) (root : ℕ) (old new : List DeadCandidate) (all : HasReady m side_effects removable t root old) where
@@ -112,12 +112,12 @@ module _ (m : Meaning) (side_effects : Head → Option Bool) (removable : Head �
   none_of_all None h e = λ x r. subst (λ z. Among x (items_of z)) e (h x r (all x r))
 
 -- where no part has any, nothing waits
-pub none_waits : (found : Option DeadCandidate) (worklist : Worklist) → worklist.around.keys ≡ [] → worklist.later.items ≡ [] → IfNone found (worklist.round.items ≡ []) → IfNone found (pending_candidates worklist ≡ [])
+pub none_waits : (found : Option DeadCandidate) (worklist : Worklist) → worklist.around.ops.items ≡ [] → worklist.later.items ≡ [] → IfNone found (worklist.round.items ≡ []) → IfNone found (pending_candidates worklist ≡ [])
 none_waits (Some next) worklist a l r = tt
 none_waits None worklist a l r = ap (λ z. map (λ k. Operation k) z ++ (worklist.later.items ++ worklist.round.items)) a ∙ ap (λ z. z ++ worklist.round.items) l ∙ r
 
 -- at the start all waits in the round
-pub all_wait : (worklist : Worklist) (items : List DeadCandidate) → worklist.round.items ≡ items → worklist.later.items ≡ [] → worklist.around.keys ≡ [] → pending_candidates worklist ≡ items
+pub all_wait : (worklist : Worklist) (items : List DeadCandidate) → worklist.round.items ≡ items → worklist.later.items ≡ [] → worklist.around.ops.items ≡ [] → pending_candidates worklist ≡ items
 all_wait worklist items e l a = ap (λ z. map (λ k. Operation k) z ++ (worklist.later.items ++ worklist.round.items)) a ∙ ap (λ z. z ++ worklist.round.items) l ∙ e
 
 -- an operation of the set, as an item

@@ -2,7 +2,7 @@
 use Rattle.std.specs.Prelude.{◌≡◌, ◌⊎◌, ℕ, Bool, List, [], ◌∷◌, Option, Some}
 use Rattle.pliron_core.specs.declared.context.Def.TheVariants.{Result, Argument}
 use Rattle.pliron_core.specs.Changes.{IsDefinedInside}
-use Rattle.pliron_core.specs.Tree.{Tree, In, IsDefined, IsWithin, operands_of, results_of, definition_of}
+use Rattle.pliron_core.specs.Tree.{Tree, In, IsLive, IsDefined, IsWithin, operands_of, results_of, definition_of}
 use Rattle.pliron_laws.specs.Datum.{Head, Meaning}
 use Rattle.pliron_dce.specs.Dead.{Item, Op, Arg, Use, MayBeErased, MayBeRemoved, KeepsAlive}
 
@@ -56,3 +56,9 @@ IsKeptAlive t k = (user : ℕ) × (place : ℕ) × KeepsAlive t k user place
 -- an operation that is not within this one uses the value
 abbrev pub IsUsedOutside : Tree → ℕ → ℕ → Type 0
 IsUsedOutside t k v = (user : ℕ) × In v (operands_of t user) × (IsWithin t k user → ⊥)
+
+-- each operation from this one up to the top is kept alive
+pub record IsHeldUpTo (t : Tree) (at top : ℕ) : Type 0 where
+  pub live : IsLive t at
+  pub within : IsWithin t top at
+  pub held : (k : ℕ) → IsWithin t top k → IsWithin t k at → IsKeptAlive t k

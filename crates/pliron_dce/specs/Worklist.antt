@@ -18,7 +18,7 @@ items_of cs = map item_of cs
 
 -- what is on the worklist: for once nothing else is ready, for the next round, and in this one
 abbrev pub pending_candidates : Worklist → List DeadCandidate
-pending_candidates w = map (λ k. Operation k) w.around.keys ++ (w.later.items ++ w.round.items)
+pending_candidates w = map (λ k. Operation k) w.around.ops.items ++ (w.later.items ++ w.round.items)
 
 -- with each of these operations that is live, those around it are among them
 abbrev pub AreClosed : Tree → List ℕ → Type 0

@@ -17,7 +17,7 @@ use pliron_laws::Dialect;
 
 // Whether the operation is no terminator and answers that it has no side effects.
 #[inline(always)]
-fn is_harmless<D: Dialect>(op: Ptr<Operation>, ctx: &Context) -> bool
+pub(crate) fn is_harmless<D: Dialect>(op: Ptr<Operation>, ctx: &Context) -> bool
     requires { IsLive ctx.now.tree op }
     ensures { IsTrue result ↔ IsHarmless D.meaning D.side_effects ctx.now.tree op }
 {

@@ -14,15 +14,17 @@
 //!
 //! Places and positions are hints. A use that keeps the operation alive is tested where it is found; where none
 //! is found, the operation is tested as a whole.
-ghost use Rattle.std.specs.Prelude.{◌↔◌, ◌≤◌, length, IfSome, IsTrue};
-ghost use Rattle.pliron_core.specs.Tree.{In, IsLive, IsDefined, results_of, uses_of};
+ghost use Rattle.std.specs.Prelude.{◌≡◌, ◌↔◌, ◌≤◌, length, IfSome, IsTrue};
+ghost use Rattle.pliron_core.specs.Tree.{In, IsLive, IsDefined, operands_of, results_of, uses_of};
 ghost use Rattle.pliron_core.specs.Changes.{IsDefinedInside};
-ghost use Rattle.pliron_dce.specs.Readiness.{IsKeptAlive, IsUsedOutside};
+ghost use Rattle.pliron_dce.specs.Readiness.{IsKeptAlive, IsUsedOutside, IsHeldUpTo};
 
-use crate::ready::{is_within, parent_operation_of};
+use crate::around::{Reach, find_top, is_held_up_to};
+use crate::ready::{is_harmless, is_within, parent_operation_of};
 use crate::worklist::DeadCandidate;
 use indexmap::IndexMap;
 use pliron_core::{Context, Def, Operation, Ptr, Value};
+use pliron_laws::Dialect;
 use std::alloc::{AllocError, Global};
 
 // The positions of the operations inside one: from the first one up to the last one, which is outside.
@@ -41,6 +43,8 @@ struct RestOfScan {
     uses: usize,
     end: usize,
     span: SlotSpan,
+    // the outermost operation that a use that was found kept alive
+    top: Option<Ptr<Operation>>,
 }
 
 // What is still to be scanned of each operation that has regions or several results.
@@ -166,6 +170,7 @@ impl ScanPositions {
                     first: position,
                     last: position,
                 },
+                top: None,
             };
             self.rests.insert(op, rest)?;
             open.push(op)?;
@@ -208,6 +213,92 @@ impl ScanPositions {
             None => false,
         }
     }
+
+    // The operation and those around it that one use is found to keep alive: the one before does so mostly.
+    #[inline(always)]
+    pub(crate) fn reach_from<D: Dialect>(
+        &mut self,
+        before: Option<Reach>,
+        op: Ptr<Operation>,
+        ctx: &Context,
+    ) -> Option<Reach>
+        requires { IfSome before (λ reach. IsHeldUpTo ctx.now.tree reach.at reach.top) }
+        ensures { IfSome result (λ reach. (reach.at ≡ op) × IsHeldUpTo ctx.now.tree reach.at reach.top) }
+    {
+        if let Some(reach) = before {
+            let next = reach.step_to(op, ctx);
+            if next.is_some() {
+                return next;
+            }
+        }
+        self.find_reach::<D>(op, ctx)
+    }
+
+    // The same, where none is known.
+    fn find_reach<D: Dialect>(&mut self, op: Ptr<Operation>, ctx: &Context) -> Option<Reach>
+        ensures { IfSome result (λ reach. (reach.at ≡ op) × IsHeldUpTo ctx.now.tree reach.at reach.top) }
+    {
+        if !op.is_live(ctx) {
+            return None;
+        }
+        let rest = self.rests.get_mut(&op)?;
+        let known = known_reach(&self.values, rest, op, ctx);
+        if known.is_some() {
+            return known;
+        }
+        if !is_harmless::<D>(op, ctx) {
+            return None;
+        }
+        if !resume_scan(&self.values, &self.positions, rest, op, ctx) {
+            return None;
+        }
+        let known = known_reach(&self.values, rest, op, ctx);
+        if known.is_some() {
+            return known;
+        }
+        let (_, user) = last_found(&self.values, rest, ctx)?;
+        rest.top = Some(find_top(user, op, ctx));
+        known_reach(&self.values, rest, op, ctx)
+    }
+}
+
+// The use that the last scan found: the value and the user.
+#[inline(always)]
+fn last_found(values: &[Value], rest: &RestOfScan, ctx: &Context) -> Option<(Value, Ptr<Operation>)>
+    ensures value { IfSome result (λ found. IsDefined ctx.now.tree found.0) }
+    ensures user { IfSome result (λ found. IsLive ctx.now.tree found.1) }
+    ensures used { IfSome result (λ found. In found.0 (operands_of ctx.now.tree found.1)) }
+{
+    ctx.well_formed();
+    let value = *values.get(rest.start)?;
+    if !value.is_live(ctx) {
+        return None;
+    }
+    let count = rest.uses.min(value.num_use(ctx));
+    if count == 0 {
+        return None;
+    }
+    let (user, _) = value.get_use(ctx, count - 1);
+    Some((value, user))
+}
+
+// The operation and those around it, up to the one that is known, if that use still keeps them alive.
+#[inline(always)]
+fn known_reach(
+    values: &[Value],
+    rest: &RestOfScan,
+    op: Ptr<Operation>,
+    ctx: &Context,
+) -> Option<Reach>
+    requires { IsLive ctx.now.tree op }
+    ensures { IfSome result (λ reach. (reach.at ≡ op) × IsHeldUpTo ctx.now.tree reach.at reach.top) }
+{
+    let top = rest.top?;
+    let (value, user) = last_found(values, rest, ctx)?;
+    if !is_held_up_to(op, top, value, user, ctx) {
+        return None;
+    }
+    Some(Reach { at: op, top })
 }
 
 // Whether one of these values that no scan has passed keeps the operation alive; those before it are passed.
@@ -293,7 +384,7 @@ fn is_result_of(value: Value, op: Ptr<Operation>, ctx: &Context) -> bool
 }
 
 // Whether the value is defined inside the operation.
-fn is_defined_inside(value: Value, op: Ptr<Operation>, ctx: &Context) -> bool
+pub(crate) fn is_defined_inside(value: Value, op: Ptr<Operation>, ctx: &Context) -> bool
     requires { IsDefined ctx.now.tree value }
     ensures { IsTrue result ↔ IsDefinedInside ctx.now.tree op value }
 {

@@ -56,12 +56,12 @@ fn erase_one<D: Dialect>(
     requires ready { IsReady D.meaning D.side_effects D.removable ctx.old.tree root (item_of next) }
     requires all { HasReady D.meaning D.side_effects D.removable ctx.old.tree root
         (pending_candidates state.old.worklist ++ next ∷ []) }
-    requires closed { AreClosed ctx.old.tree state.old.worklist.around.keys }
+    requires closed { AreClosed ctx.old.tree state.old.worklist.around.ops.items }
     requires known { AreKnown D.meaning ctx.old.tree root (λ b. list_of state.old.incoming b) }
     ensures goes { OnOk result (ErasesItem D.meaning D.shortened ctx.old.tree ctx.new.tree (item_of next)) }
     ensures all { OnOk result (HasReady D.meaning D.side_effects D.removable ctx.new.tree root
         (pending_candidates state.new.worklist)) }
-    ensures closed { OnOk result (AreClosed ctx.new.tree state.new.worklist.around.keys) }
+    ensures closed { OnOk result (AreClosed ctx.new.tree state.new.worklist.around.ops.items) }
     ensures known { OnOk result (AreKnown D.meaning ctx.new.tree root (λ b. list_of state.new.incoming b)) }
     ensures regions { IfOk result (λ had. IsTrue had ↔ HasRegions ctx.old.tree (item_of next)) }
     ensures refused { OnErr result ((ctx.new.tree ≡ ctx.old.tree) ⊎ ErasesItem D.meaning D.shortened ctx.old.tree
@@ -103,7 +103,7 @@ fn erase_all_dead<D: Dialect>(
     requires linked { IsWellLinked D.meaning ctx.old.tree root }
     requires all { HasReady D.meaning D.side_effects D.removable ctx.old.tree root
         (pending_candidates state.old.worklist) }
-    requires closed { AreClosed ctx.old.tree state.old.worklist.around.keys }
+    requires closed { AreClosed ctx.old.tree state.old.worklist.around.ops.items }
     requires known { AreKnown D.meaning ctx.old.tree root (λ b. list_of state.old.incoming b) }
     requires marked { AreMarked D.meaning ctx.old.tree root (λ b. mark_of predecessors.now b) }
     ensures gone { (gone : List Item) × IsSweptSoFar D.meaning D.shortened D.side_effects D.removable ctx.old.tree
@@ -114,7 +114,7 @@ fn erase_all_dead<D: Dialect>(
 {
     let mut status = IRStatus::Unchanged;
     let mut regions = false;
-    while let Some(next) = next_ready::<D>(alloc, &mut state.worklist, predecessors, root, ctx)? {
+    while let Some(next) = next_ready::<D>(&mut state.worklist, predecessors, root, ctx)? {
         ctx.well_formed();
         let taken = erase_one::<D>(alloc, next, root, state, ctx);
         ctx.well_formed();

@@ -6,7 +6,9 @@
 //! and get an index (`operand_indexing`).
 //!
 //! The operations around what lost a use are visited once nothing else is ready, each once for all the uses
-//! that what is inside it lost until then. For a visit of one scans what is inside it.
+//! that what is inside it lost until then. For a visit of one scans what is inside it. A use that is found to
+//! keep one alive is tested for those around that one too, by one climb (`around`); only what no such use holds is
+//! visited.
 ghost use Rattle.std.specs.Prelude.{◌≡◌, ◌↔◌, ◌++◌, ◌∷◌, [], true, false, map, IfOk, OnOk, IfErr, IfSome, IfNone, IsTrue, IsPermutation, ℕ, Some};
 ghost use Rattle.pliron_core.specs.declared.context.Def.TheVariants.{Result as AResult, Argument as AnArgument};
 ghost use Rattle.pliron_core.specs.Tree.{In, IsLive, IsDefined, definition_of};
@@ -17,10 +19,10 @@ ghost use Rattle.pliron_dce.specs.Predecessors.{mark_of, AreMarked};
 ghost use Rattle.pliron_dce.specs.declared.worklist.DeadCandidate.TheVariants.{Operation as AnOperation};
 ghost use Rattle.pliron_dce.specs.Worklist.{item_of, items_of, pending_candidates, HasReady, KeepsReady, AreClosed, AddsParents, IsAroundMaker};
 
+use crate::around::AroundSet;
 use crate::predecessors::Predecessors;
 use crate::ready::{is_ready_argument, is_ready_operation, parent_operation_of};
 use crate::scan_positions::ScanPositions;
-use indexmap::IndexSet;
 use pliron_core::{Context, Def, Operation, Ptr, Value};
 use pliron_laws::Dialect;
 use std::alloc::{AllocError, Global};
@@ -40,7 +42,7 @@ pub(crate) struct Worklist {
     // in the next one
     pub(crate) later: Vec<DeadCandidate>,
     // once nothing else is ready: operations around what lost a use, and all that are around them
-    pub(crate) around: IndexSet<Ptr<Operation>>,
+    pub(crate) around: AroundSet,
     // where scans of operations resume
     pub(crate) scans: ScanPositions,
 }
@@ -54,12 +56,12 @@ impl Worklist {
     ) -> Worklist
         ensures round { result.round.items ≡ candidates.items }
         ensures later { result.later.items ≡ [] }
-        ensures around { result.around.keys ≡ [] }
+        ensures around { result.around.ops.items ≡ [] }
     {
         Worklist {
             round: candidates,
             later: Vec::new(alloc),
-            around: IndexSet::new(alloc),
+            around: AroundSet::new(alloc),
             scans,
         }
     }
@@ -70,7 +72,7 @@ impl Worklist {
         ensures kept { OnOk result ((x : Item) → Among x (items_of (pending_candidates self.old)) → Among x
             (items_of (pending_candidates self.new))) }
         ensures added { OnOk result (Among (item_of candidate) (items_of (pending_candidates self.new))) }
-        ensures around { OnOk result (self.new.around.keys ≡ self.old.around.keys) }
+        ensures around { OnOk result (self.new.around.ops.items ≡ self.old.around.ops.items) }
     {
         self.later.push(candidate)?;
         Ok(())
@@ -167,7 +169,7 @@ fn begin_round<D: Dialect>(
     ensures kept { OnOk result (KeepsReady D.meaning D.side_effects D.removable ctx.now.tree root
         (pending_candidates worklist.old) (pending_candidates worklist.new)) }
     ensures later { OnOk result (worklist.new.later.items ≡ []) }
-    ensures around { OnOk result (worklist.new.around.keys ≡ worklist.old.around.keys) }
+    ensures around { OnOk result (worklist.new.around.ops.items ≡ worklist.old.around.ops.items) }
 {
     push_ready::<D>(
         &mut worklist.round,
@@ -211,33 +213,47 @@ fn next_of<D: Dialect>(
     )
 }
 
-// These operations come into the round.
-fn push_operations(round: &mut Vec<DeadCandidate>, ops: &[Ptr<Operation>]) -> Result<(), AllocError>
-    ensures { OnOk result (round.new.items ≡ round.old.items ++ map (λ k. AnOperation k) ops.now) }
+// Those of these operations come into the round that no use is found to keep alive. Each stands behind what is in
+// it, so one use that is found answers mostly for the next ones too.
+fn push_unheld<D: Dialect>(
+    round: &mut Vec<DeadCandidate>,
+    ops: &[Ptr<Operation>],
+    scans: &mut ScanPositions,
+    ctx: &Context,
+) -> Result<(), AllocError>
+    ensures { OnOk result ((root : ℕ) → KeepsReady D.meaning D.side_effects D.removable ctx.now.tree root
+        (map (λ k. AnOperation k) ops.now ++ round.old.items) round.new.items) }
 {
+    let mut held = None;
     for op in ops {
-        round.push(DeadCandidate::Operation(*op))?;
+        held = scans.reach_from::<D>(held, *op, ctx);
+        if held.is_none() {
+            round.push(DeadCandidate::Operation(*op))?;
+        }
     }
     Ok(())
 }
 
-// The operations around what lost uses come into the round. Their set begins anew, since emptying one costs as
-// much as it ever held.
-fn begin_around(alloc: Global, worklist: &mut Worklist) -> Result<(), AllocError>
-    ensures kept { OnOk result ((x : Item) → Among x (items_of (pending_candidates worklist.old)) → Among x
-        (items_of (pending_candidates worklist.new))) }
+// The operations around what lost uses come into the round, but for those that are found to be kept alive.
+fn begin_around<D: Dialect>(worklist: &mut Worklist, ctx: &Context) -> Result<(), AllocError>
+    ensures kept { OnOk result ((root : ℕ) → KeepsReady D.meaning D.side_effects D.removable ctx.now.tree root
+        (pending_candidates worklist.old) (pending_candidates worklist.new)) }
     ensures later { worklist.new.later ≡ worklist.old.later }
-    ensures around { OnOk result (worklist.new.around.keys ≡ []) }
+    ensures around { OnOk result (worklist.new.around.ops.items ≡ []) }
 {
-    push_operations(&mut worklist.round, worklist.around.as_slice())?;
-    worklist.around = IndexSet::new(alloc);
+    push_unheld::<D>(
+        &mut worklist.round,
+        &worklist.around.ops,
+        &mut worklist.scans,
+        ctx,
+    )?;
+    worklist.around.clear();
     Ok(())
 }
 
 // The next one that is ready: of this round, of the next one, or around what lost uses. What is visited and not
 // ready is dropped.
 pub(crate) fn next_ready<D: Dialect>(
-    alloc: Global,
     worklist: &mut Worklist,
     predecessors: &Predecessors,
     root: Ptr<Operation>,
@@ -246,14 +262,14 @@ pub(crate) fn next_ready<D: Dialect>(
     requires linked { IsWellLinked D.meaning ctx.now.tree root }
     requires marked { AreMarked D.meaning ctx.now.tree root (λ b. mark_of predecessors.now b) }
     requires all { HasReady D.meaning D.side_effects D.removable ctx.now.tree root (pending_candidates worklist.old) }
-    requires closed { AreClosed ctx.now.tree worklist.old.around.keys }
+    requires closed { AreClosed ctx.now.tree worklist.old.around.ops.items }
     ensures some { IfOk result (λ found. IfSome found (λ next. IsReady D.meaning D.side_effects D.removable ctx.now.tree
         root (item_of next))) }
     ensures all { IfOk result (λ found. IfSome found (λ next. HasReady D.meaning D.side_effects D.removable ctx.now.tree
         root (pending_candidates worklist.new ++ next ∷ []))) }
     ensures none { IfOk result (λ found. IfNone found ((x : Item) → IsReady D.meaning D.side_effects D.removable
         ctx.now.tree root x → ⊥)) }
-    ensures closed { OnOk result (AreClosed ctx.now.tree worklist.new.around.keys) }
+    ensures closed { OnOk result (AreClosed ctx.now.tree worklist.new.around.ops.items) }
 {
     if let Some(next) = next_of::<D>(worklist, predecessors, root, ctx) {
         return Ok(Some(next));
@@ -262,7 +278,7 @@ pub(crate) fn next_ready<D: Dialect>(
     if let Some(next) = next_of::<D>(worklist, predecessors, root, ctx) {
         return Ok(Some(next));
     }
-    begin_around(alloc, worklist)?;
+    begin_around::<D>(worklist, ctx)?;
     Ok(next_of::<D>(worklist, predecessors, root, ctx))
 }
 
@@ -280,7 +296,7 @@ fn revisit_definer(
         (items_of (pending_candidates worklist.new))) }
     ensures arguments { OnOk result ((b i : ℕ) → definition_of ctx.now.tree value ≡ Some (AnArgument b i) → Among
         (Arg value) (items_of (pending_candidates worklist.new))) }
-    ensures keys { OnOk result (worklist.new.around.keys ≡ worklist.old.around.keys) }
+    ensures keys { OnOk result (worklist.new.around.ops.items ≡ worklist.old.around.ops.items) }
     ensures around { IfOk result (λ holder. IsAroundMaker ctx.now.tree value holder) }
     ensures live { IfOk result (λ holder. IfSome holder (λ op. IsLive ctx.now.tree op)) }
 {
@@ -297,39 +313,24 @@ fn revisit_definer(
     }
 }
 
-// The operation is put last, unless it is there. Answers whether it was put. Mostly it is the one that was put
-// last, which takes no look-up.
-#[inline(always)]
-fn add_around(around: &mut IndexSet<Ptr<Operation>>, op: Ptr<Operation>) -> Result<bool, AllocError>
-    ensures came { IfOk result (λ came. came ≡ true → around.new.keys ≡ around.old.keys ++ op ∷ []) }
-    ensures there { IfOk result (λ came. came ≡ false → In op around.old.keys × (around.new.keys ≡ around.old.keys)) }
-{
-    if let Some(last) = around.get_index(around.len().wrapping_sub(1)) {
-        if *last == op {
-            return Ok(false);
-        }
-    }
-    Ok(around.insert(op)?)
-}
-
 // The operations around what defines the value, this one first, are visited once nothing else is ready.
 #[inline(always)]
 fn push_around(
-    around: &mut IndexSet<Ptr<Operation>>,
+    around: &mut AroundSet,
     value: Value,
     first: Option<Ptr<Operation>>,
     ctx: &Context,
 ) -> Result<(), AllocError>
     requires around { IsAroundMaker ctx.now.tree value first }
     requires live { IfSome first (λ op. IsLive ctx.now.tree op) }
-    requires closed { AreClosed ctx.now.tree around.old.keys }
-    ensures scans { OnOk result (AddsParents ctx.now.tree value around.old.keys around.new.keys) }
-    ensures closed { OnOk result (AreClosed ctx.now.tree around.new.keys) }
+    requires closed { AreClosed ctx.now.tree around.old.ops.items }
+    ensures scans { OnOk result (AddsParents ctx.now.tree value around.old.ops.items around.new.ops.items) }
+    ensures closed { OnOk result (AreClosed ctx.now.tree around.new.ops.items) }
 {
     ctx.well_formed();
     let mut holder = first;
     while let Some(op) = holder {
-        if !add_around(around, op)? {
+        if !around.add(op)? {
             return Ok(());
         }
         holder = op.get_parent_op(ctx);
@@ -356,11 +357,11 @@ pub(crate) fn note(
     ctx: &Context,
 ) -> Result<(), AllocError>
     requires live { IsTrue are_live → (v : ℕ) → In v used.now → IsDefined ctx.now.tree v }
-    requires closed { AreClosed ctx.now.tree worklist.old.around.keys }
+    requires closed { AreClosed ctx.now.tree worklist.old.around.ops.items }
     ensures kept { OnOk result ((x : Item) → Among x (items_of (pending_candidates worklist.old)) → Among x
         (items_of (pending_candidates worklist.new))) }
     ensures looked { OnOk result (AreRevisited ctx.now.tree used.now (items_of (pending_candidates worklist.new))) }
-    ensures closed { OnOk result (AreClosed ctx.now.tree worklist.new.around.keys) }
+    ensures closed { OnOk result (AreClosed ctx.now.tree worklist.new.around.ops.items) }
 {
     for value in used {
         if !is_noted(*value, are_live, ctx) {

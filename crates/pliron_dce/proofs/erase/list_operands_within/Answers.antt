@@ -1,4 +1,4 @@
-use Rattle.std.proofs.Common.{⊎_elim, subst, sym, arith}
+use Rattle.std.proofs.Common.{⊎_elim, subst, arith}
 use Rattle.std.proofs.lemmas.Result.{on_ok_weaker}
 use Rattle.pliron_core.specs.Tree.{In}
 use Rattle.pliron_dce.proofs.LeafLemmas.{leaf_operands}

@@ -13,7 +13,7 @@ invariant-loop-next g l = record {
   way : (gone : List Item) × IsSweptSoFar g.D.HasMeaning.meaning g.D.Dialect.shortened g.D.SideEffects.side_effects g.D.BlockArgRemoval.removable l.fn.ctx.tree l.ctx.tree l.root gone × ReportsErased gone l.status × (IsTrue l.regions ↔ SomeHasRegions l.fn.ctx.tree gone);
   edges : (IsTrue l.regions → ⊥) → KeepsEdges l.fn.ctx.tree l.ctx.tree;
   all : HasReady g.D.HasMeaning.meaning g.D.SideEffects.side_effects g.D.BlockArgRemoval.removable l.ctx.tree l.root (pending_candidates l.state.worklist);
-  closed : AreClosed l.ctx.tree l.state.worklist.around.keys;
+  closed : AreClosed l.ctx.tree l.state.worklist.around.ops.items;
   known : AreKnown g.D.HasMeaning.meaning l.ctx.tree l.root (λ b. list_of l.state.incoming b);
   marked : AreMarked g.D.HasMeaning.meaning l.ctx.tree l.root (λ b. mark_of l.predecessors b);
 }

@@ -22,7 +22,7 @@ has_regions-had-requires g c =
 pub note-requires : goal.note-requires
 note-requires g c =
     let r = subst (λ z. IsReady g.D.HasMeaning.meaning g.D.SideEffects.side_effects g.D.BlockArgRemoval.removable c.args.ctx.now.tree c.args.root (item_of z)) c.in-Operation.is c.requires.ready in
-    record { live = λ leaf v i. c.in_ok-erase_dead_operation-in-Operation.ensures.live (regionless c.args.ctx.now.tree c.in-Operation.op c.has_regions-had.result c.has_regions-had.ensures leaf) v (subst (λ z. In v z) c.deref.ensures.value i); closed = closed_after _ _ _ _ g.met.D.Dialect.forwards_operands (λ h h' s. s.branch) g.met.D.Dialect.keeps_counts g.D.SideEffects.side_effects g.met.D.Dialect.gives_at_once g.D.BlockArgRemoval.removable g.met.D.Dialect.acts_without_argument c.args.ctx.now.tree c.erase_dead_operation.new.ctx.tree c.args.root (Op c.in-Operation.op) c.args.state.now.worklist.around.keys c.well_formed-2.ensures.tree c.well_formed-in-Operation.ensures.tree c.requires.linked r (op_live g.D.HasMeaning.meaning g.D.SideEffects.side_effects c.args.ctx.now.tree c.args.root c.in-Operation.op c.well_formed-2.ensures.tree c.requires.linked g.met.D.Dialect.keeps_counts g.D.BlockArgRemoval.removable g.met.D.Dialect.gives_at_once r, c.in_ok-erase_dead_operation-in-Operation.ensures.gone) c.requires.closed }
+    record { live = λ leaf v i. c.in_ok-erase_dead_operation-in-Operation.ensures.live (regionless c.args.ctx.now.tree c.in-Operation.op c.has_regions-had.result c.has_regions-had.ensures leaf) v (subst (λ z. In v z) c.deref.ensures.value i); closed = closed_after _ _ _ _ g.met.D.Dialect.forwards_operands (λ h h' s. s.branch) g.met.D.Dialect.keeps_counts g.D.SideEffects.side_effects g.met.D.Dialect.gives_at_once g.D.BlockArgRemoval.removable g.met.D.Dialect.acts_without_argument c.args.ctx.now.tree c.erase_dead_operation.new.ctx.tree c.args.root (Op c.in-Operation.op) c.args.state.now.worklist.around.ops.items c.well_formed-2.ensures.tree c.well_formed-in-Operation.ensures.tree c.requires.linked r (op_live g.D.HasMeaning.meaning g.D.SideEffects.side_effects c.args.ctx.now.tree c.args.root c.in-Operation.op c.well_formed-2.ensures.tree c.requires.linked g.met.D.Dialect.keeps_counts g.D.BlockArgRemoval.removable g.met.D.Dialect.gives_at_once r, c.in_ok-erase_dead_operation-in-Operation.ensures.gone) c.requires.closed }
 
 pub returns-in_ok-note-in-Operation-clause-goes : goal.returns-in_ok-note-in-Operation-clause-goes
 returns-in_ok-note-in-Operation-clause-goes g c =
@@ -48,7 +48,7 @@ note-requires-in-Argument-def g c =
     let r = subst (λ z. IsReady g.D.HasMeaning.meaning g.D.SideEffects.side_effects g.D.BlockArgRemoval.removable c.args.ctx.now.tree c.args.root (item_of z)) c.in-Argument.is c.requires.ready in
     let at = argument_listed g.D.HasMeaning.meaning g.D.BlockArgRemoval.removable c.args.ctx.now.tree c.args.root c.in-Argument.value c.in-Argument-def.block c.in-Argument-def.index c.well_formed-2.ensures.tree r c.in-Argument-def.ensures.definition in
     let gone = subst (λ z. Removes g.D.HasMeaning.meaning g.D.Dialect.shortened z.tree c.erase_dead_argument.new.ctx.tree c.in-Argument.value) c.add.ensures.same (c.in_ok-lost-in-Argument-def.ensures.gone c.in-Argument.value (subst (λ z. slice_get (arguments_of z.tree c.in-Argument-def.block) c.in-Argument-def.index ≡ Some c.in-Argument.value) (sym c.add.ensures.same) at)) in
-    record { live = λ leaf v i. absurd (true≢false (sym leaf)); closed = closed_after _ _ _ _ g.met.D.Dialect.forwards_operands (λ h h' s. s.branch) g.met.D.Dialect.keeps_counts g.D.SideEffects.side_effects g.met.D.Dialect.gives_at_once g.D.BlockArgRemoval.removable g.met.D.Dialect.acts_without_argument c.args.ctx.now.tree c.erase_dead_argument.new.ctx.tree c.args.root (Arg c.in-Argument.value) c.args.state.now.worklist.around.keys c.well_formed-2.ensures.tree c.well_formed-in-Argument-def.ensures.tree c.requires.linked r gone c.requires.closed }
+    record { live = λ leaf v i. absurd (true≢false (sym leaf)); closed = closed_after _ _ _ _ g.met.D.Dialect.forwards_operands (λ h h' s. s.branch) g.met.D.Dialect.keeps_counts g.D.SideEffects.side_effects g.met.D.Dialect.gives_at_once g.D.BlockArgRemoval.removable g.met.D.Dialect.acts_without_argument c.args.ctx.now.tree c.erase_dead_argument.new.ctx.tree c.args.root (Arg c.in-Argument.value) c.args.state.now.worklist.around.ops.items c.well_formed-2.ensures.tree c.well_formed-in-Argument-def.ensures.tree c.requires.linked r gone c.requires.closed }
 
 pub returns-in_ok-note-in-Argument-def-clause-all : goal.returns-in_ok-note-in-Argument-def-clause-all
 returns-in_ok-note-in-Argument-def-clause-all g c =

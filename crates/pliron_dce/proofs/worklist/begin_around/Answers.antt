@@ -1,13 +1,8 @@
-use Rattle.std.proofs.Common.{◌≡◌, ◌++◌, sym, subst, map, ap, ◌∙◌}
+use Rattle.std.proofs.Common.{◌++◌, map, subst}
 use Rattle.pliron_dce.specs.declared.worklist.DeadCandidate.TheVariants.{Operation}
-use Rattle.pliron_dce.specs.Readiness.{Among}
-use Rattle.pliron_dce.specs.Worklist.{items_of}
-use Rattle.pliron_dce.proofs.WorkLemmas.{around_kept}
+use Rattle.pliron_dce.specs.Worklist.{KeepsReady}
+use Rattle.pliron_dce.proofs.WorkLemmas.{around_ready}
 use Rattle.pliron_dce.proofs.worklist.begin_around.Goals as goal
 
 pub returns-clause-kept : goal.returns-clause-kept
-returns-clause-kept c x i =
-    let ops = map (λ k. Operation k) c.args.worklist.now.around.keys in
-    let round : c.push_operations.new.round.items ≡ c.args.worklist.now.round.items ++ ops = c.in_ok-push_operations.ensures ∙ ap (λ z. c.args.worklist.now.round.items ++ map (λ k. Operation k) z) c.as_slice.ensures.keys in
-    let none = map (λ k. Operation k) c.new.result.keys in
-    subst (λ z. Among x (items_of (none ++ (c.args.worklist.now.later.items ++ z)))) (sym round) (around_kept ops c.args.worklist.now.later.items c.args.worklist.now.round.items none x i)
+returns-clause-kept g c root = around_ready g.D.HasMeaning.meaning g.D.SideEffects.side_effects g.D.BlockArgRemoval.removable c.args.ctx.now.tree root (map (λ k. Operation k) c.args.worklist.now.around.ops.items) c.args.worklist.now.later.items c.args.worklist.now.round.items c.push_unheld.new.round.items (map (λ k. Operation k) c.clear.new.self.ops.items) (subst (λ z. KeepsReady g.D.HasMeaning.meaning g.D.SideEffects.side_effects g.D.BlockArgRemoval.removable c.args.ctx.now.tree root (map (λ k. Operation k) z ++ c.args.worklist.now.round.items) c.push_unheld.new.round.items) c.deref.ensures.value (c.in_ok-push_unheld.ensures root))

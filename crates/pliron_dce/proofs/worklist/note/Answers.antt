@@ -24,11 +24,11 @@ loop-value-preserved c =
     let mid = c.revisit_definer.new.worklist in
     let adds = c.in_ok-holder.ensures in
     let rest = mid.later.items ++ mid.round.items in
-    let kept : (x : Item) → Among x (items_of (pending_candidates mid)) → Among x (items_of (map (λ k. Operation k) c.push_around.new.around.keys ++ rest)) = among_more mid.around.keys c.push_around.new.around.keys rest scans.kept in
-    let round : (k : ℕ) → IsDefinedInside c.args.ctx.now.tree k c.value-item.result → Among (Op k) (items_of (map (λ k. Operation k) c.push_around.new.around.keys ++ rest)) = λ k m. among_left (Op k) (map (λ k. Operation k) c.push_around.new.around.keys) rest (among_set c.push_around.new.around.keys k (scans.around k m)) in
+    let kept : (x : Item) → Among x (items_of (pending_candidates mid)) → Among x (items_of (map (λ k. Operation k) c.push_around.new.around.ops.items ++ rest)) = among_more mid.around.ops.items c.push_around.new.around.ops.items rest scans.kept in
+    let round : (k : ℕ) → IsDefinedInside c.args.ctx.now.tree k c.value-item.result → Among (Op k) (items_of (map (λ k. Operation k) c.push_around.new.around.ops.items ++ rest)) = λ k m. among_left (Op k) (map (λ k. Operation k) c.push_around.new.around.ops.items) rest (among_set c.push_around.new.around.ops.items k (scans.around k m)) in
     record {
       kept = λ x i. kept x (adds.kept x (c.loop-value.invariant.kept x i));
-      looked = looked_more c.args.ctx.now.tree c.value-item.result c.args.used.now c.loop-value.value-index (pending_candidates c.loop-value.worklist) (pending_candidates mid) (map (λ k. Operation k) c.push_around.new.around.keys ++ rest) c.loop-value.invariant.looked at adds.kept kept round adds.makers adds.arguments;
+      looked = looked_more c.args.ctx.now.tree c.value-item.result c.args.used.now c.loop-value.value-index (pending_candidates c.loop-value.worklist) (pending_candidates mid) (map (λ k. Operation k) c.push_around.new.around.ops.items ++ rest) c.loop-value.invariant.looked at adds.kept kept round adds.makers adds.arguments;
       closed = c.in_ok-push_around.ensures.closed;
     }
 

@@ -8,5 +8,5 @@ abbrev pub invariant-loop-value : goal.invariant-loop-value
 invariant-loop-value l = record {
   kept : (x : Item) → Among x (items_of (pending_candidates l.initial.worklist)) → Among x (items_of (pending_candidates l.worklist));
   looked : AreRevisited l.ctx.tree (take l.value-index l.used) (items_of (pending_candidates l.worklist));
-  closed : AreClosed l.ctx.tree l.worklist.around.keys;
+  closed : AreClosed l.ctx.tree l.worklist.around.ops.items;
 }

@@ -11,15 +11,15 @@ use Rattle.pliron_dce.proofs.worklist.push_around.Goals as goal
 pub loop-holder-init : goal.loop-holder-init
 loop-holder-init c = record {
   live = λ k e. some_told (λ z. IsLive c.args.ctx.now.tree z) c.requires.live e;
-  rising = rising_starts c.args.ctx.now.tree c.args.value c.args.around.now.keys c.args.first c.requires.closed c.requires.around;
+  rising = rising_starts c.args.ctx.now.tree c.args.value c.args.around.now.ops.items c.args.first c.requires.closed c.requires.around;
 }
 
-stops : (c : goal.Then-not-branch) → AddsParents c.args.ctx.now.tree c.args.value c.args.around.now.keys c.add_around.new.around.keys × AreClosed c.args.ctx.now.tree c.add_around.new.around.keys
+stops : (c : goal.Then-not-branch) → AddsParents c.args.ctx.now.tree c.args.value c.args.around.now.ops.items c.add.new.self.ops.items × AreClosed c.args.ctx.now.tree c.add.new.self.ops.items
 stops c =
-    let there = c.in_ok-add_around.ensures.there c.if-not-branch.true in
+    let there = c.in_ok-add.ensures.there c.if-not-branch.true in
     let t = c.args.ctx.now.tree in
-    let r : IsRising t c.args.value c.args.around.now.keys c.add_around.new.around.keys (Some c.in-Some.op) = subst (λ z. IsRising t c.args.value c.args.around.now.keys z (Some c.in-Some.op)) (sym there.1) (subst (λ z. IsRising t c.args.value c.args.around.now.keys c.loop-holder.around.keys z) c.in-Some.is c.loop-holder.invariant.rising) in
-    rising_stops t c.well_formed-2.ensures.tree c.args.value c.args.around.now.keys c.requires.closed c.add_around.new.around.keys c.in-Some.op (c.loop-holder.invariant.live c.in-Some.op c.in-Some.is) (subst (In c.in-Some.op) (sym there.1) there.0) r
+    let r : IsRising t c.args.value c.args.around.now.ops.items c.add.new.self.ops.items (Some c.in-Some.op) = subst (λ z. IsRising t c.args.value c.args.around.now.ops.items z (Some c.in-Some.op)) (sym there.1) (subst (λ z. IsRising t c.args.value c.args.around.now.ops.items c.loop-holder.around.ops.items z) c.in-Some.is c.loop-holder.invariant.rising) in
+    rising_stops t c.well_formed-2.ensures.tree c.args.value c.args.around.now.ops.items c.requires.closed c.add.new.self.ops.items c.in-Some.op (c.loop-holder.invariant.live c.in-Some.op c.in-Some.is) (subst (In c.in-Some.op) (sym there.1) there.0) r
 
 pub returns-then-not-branch-clause-scans : goal.returns-then-not-branch-clause-scans
 returns-then-not-branch-clause-scans c = (stops c).0
@@ -38,14 +38,14 @@ loop-holder-smaller c =
 pub loop-holder-preserved : goal.loop-holder-preserved
 loop-holder-preserved c =
     let t = c.args.ctx.now.tree in
-    let more = c.in_ok-add_around.ensures.came c.if-not-branch.false in
+    let more = c.in_ok-add.ensures.came c.if-not-branch.false in
     record {
       live = λ k e. some_told (λ z. IsLive t z) c.get_parent_op-holder.ensures.live e;
-      rising = rising_more t c.well_formed-2.ensures.tree c.args.value c.args.around.now.keys c.loop-holder.around.keys c.add_around.new.around.keys c.in-Some.op c.get_parent_op-holder.result more c.get_parent_op-holder.ensures.holder (subst (λ z. IsRising t c.args.value c.args.around.now.keys c.loop-holder.around.keys z) c.in-Some.is c.loop-holder.invariant.rising);
+      rising = rising_more t c.well_formed-2.ensures.tree c.args.value c.args.around.now.ops.items c.loop-holder.around.ops.items c.add.new.self.ops.items c.in-Some.op c.get_parent_op-holder.result more c.get_parent_op-holder.ensures.holder (subst (λ z. IsRising t c.args.value c.args.around.now.ops.items c.loop-holder.around.ops.items z) c.in-Some.is c.loop-holder.invariant.rising);
     }
 
 pub returns-clause-scans : goal.returns-clause-scans
-returns-clause-scans c = (rising_ends c.args.ctx.now.tree c.well_formed-2.ensures.tree c.args.value c.args.around.now.keys c.loop-holder.around.keys c.loop-holder.holder c.in_default.is c.loop-holder.invariant.rising).0
+returns-clause-scans c = (rising_ends c.args.ctx.now.tree c.well_formed-2.ensures.tree c.args.value c.args.around.now.ops.items c.loop-holder.around.ops.items c.loop-holder.holder c.in_default.is c.loop-holder.invariant.rising).0
 
 pub returns-clause-closed : goal.returns-clause-closed
-returns-clause-closed c = (rising_ends c.args.ctx.now.tree c.well_formed-2.ensures.tree c.args.value c.args.around.now.keys c.loop-holder.around.keys c.loop-holder.holder c.in_default.is c.loop-holder.invariant.rising).1
+returns-clause-closed c = (rising_ends c.args.ctx.now.tree c.well_formed-2.ensures.tree c.args.value c.args.around.now.ops.items c.loop-holder.around.ops.items c.loop-holder.holder c.in_default.is c.loop-holder.invariant.rising).1

@@ -8,7 +8,7 @@ use Rattle.pliron_dce.proofs.worklist.push_around.Given as goal
 abbrev pub invariant-loop-holder : goal.invariant-loop-holder
 invariant-loop-holder l = record {
   live : ForSome l.holder (λ k. IsLive l.ctx.tree k);
-  rising : IsRising l.ctx.tree l.fn.value l.fn.around.keys l.around.keys l.holder;
+  rising : IsRising l.ctx.tree l.fn.value l.fn.around.ops.items l.around.ops.items l.holder;
 }
 
 abbrev pub decreases-loop-holder : goal.decreases-loop-holder

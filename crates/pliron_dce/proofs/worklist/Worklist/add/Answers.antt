@@ -7,7 +7,7 @@ use Rattle.pliron_dce.proofs.worklist.Worklist.add.Goals as goal
 
 pub returns-clause-kept : goal.returns-clause-kept
 returns-clause-kept c = λ x i.
-    let around = map (λ k. Operation k) c.args.self.now.around.keys in
+    let around = map (λ k. Operation k) c.args.self.now.around.ops.items in
     let old = c.args.self.now.later.items in
     let round = c.args.self.now.round.items in
     let last = old ++ c.args.candidate ∷ [] in
@@ -19,7 +19,7 @@ returns-clause-kept c = λ x i.
 
 pub returns-clause-added : goal.returns-clause-added
 returns-clause-added c =
-    let around = map (λ k. Operation k) c.args.self.now.around.keys in
+    let around = map (λ k. Operation k) c.args.self.now.around.ops.items in
     let old = c.args.self.now.later.items in
     let round = c.args.self.now.round.items in
     let last = old ++ c.args.candidate ∷ [] in
