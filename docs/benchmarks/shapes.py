@@ -8,7 +8,8 @@
                                      boxed, fiftyboxes, boxes, deepboxes, boxargs,
                                      boxconsts, boxuses, boxuseslast, shortedges, scopeargs,
                                      twoedges, forks, longbranches, lastuses, deeplastuses,
-                                     manyaround, deepuses, deepvalues, deepchain;
+                                     manyaround, deepuses, deepvalues, deepchain,
+                                     nestedvalues;
                                      and of those for `cse`: repeats, beneath, sides, shared, moveduses,
                                      and in bench alone scopes, deepscopes, pairs, longrepeats;
                                      and of those for `canonicalize`: sameargs, ownargs, absorbed
@@ -761,6 +762,16 @@ def deepchain(n):
     return held_boxes(links, names, 60).replace("func{z():", f"func{{z():{inside};", 1)
 
 
+def nestedvalues(n):
+    """50 values, each inside 60 boxes, all used outside, inside 60 others that are held, by each of n/54 boxes that go one by one."""
+    names = short_names()
+    values = [next(names) for _ in range(50)]
+    chain = [next(names) for _ in range(max(2, n // 54))]
+    inside = ";".join("box{z():" * 60 + f"{x}=read" + "}" * 60 for x in values)
+    links = ";".join(f"box{{z():{x}=read;ret {' '.join(values)} {y}}}" for x, y in zip(chain, [*chain[1:], chain[-1]]))
+    return held_boxes(links, names, 60).replace("func{z():", f"func{{z():{inside};", 1)
+
+
 def longbranches(n):
     """k branches that each make one of k values fall, and about k others that forward all of these, with k^2 near n/4."""
     values, blocks = short_names(), short_names()
@@ -817,7 +828,8 @@ BENCH_ONLY = {"boxed": lambda n: boxed_sums(n, 1), "fiftyboxes": lambda n: boxed
          "boxconsts": boxconsts, "boxuses": lambda n: boxuses(n, False), "boxuseslast": lambda n: boxuses(n, True),
          "shortedges": shortedges, "scopeargs": scopeargs, "twoedges": twoedges, "forks": forks,
          "longbranches": longbranches, "lastuses": lambda n: lastuses(n, 1), "deeplastuses": lambda n: lastuses(n, 60),
-         "manyaround": manyaround, "deepuses": deepuses, "deepvalues": deepvalues, "deepchain": deepchain}
+         "manyaround": manyaround, "deepuses": deepuses, "deepvalues": deepvalues, "deepchain": deepchain,
+         "nestedvalues": nestedvalues}
 
 # of these, the ones for `cse`
 REDUNDANT_BENCH_ONLY = {"scopes": lambda n: scopes(n, 1), "deepscopes": lambda n: scopes(n, 50), "pairs": pairs, "longrepeats": longrepeats}
