@@ -10,7 +10,7 @@ use std::process::Abort;
 const BEFORE: usize = 100;
 
 /// What makes constants takes more of them, so that a run that ended before ends within these.
-const AFTER: usize = 1000;
+const AFTER: usize = 500;
 
 fn compare_in(rt: &impl Abort, alloc: Global, ctx: &mut Context, asked: Asked, case: &Case) {
     let name = case.name;

@@ -1,9 +1,4 @@
 //! Runs of operations of the dialect `Bench` on numbers, and what is seen of them before and after a rewrite.
-ghost use Rattle.pliron_core.specs.Tree.{IsLive};
-ghost use Rattle.pliron_laws.specs.Linked.{IsWellLinked};
-ghost use Rattle.pliron_bench.specs.BenchMoves.{bench};
-
-use crate::cases::read;
 use pliron_core::{Context, Operation, Ptr};
 use pliron_meaning::bench::Bench;
 use pliron_meaning::evaluator::{Datum, Sight, evaluate};
@@ -34,7 +29,7 @@ pub fn sight_of_run(
 }
 
 /// What is seen of three runs of the operation, up to so many transitions each. Errors: allocation failure.
-/// Cost: that of three runs by `seen`.
+/// Cost: that of three runs by `sight_of_run`.
 pub fn sights(
     alloc: Global,
     ctx: &Context,
@@ -64,36 +59,4 @@ pub fn are_kept(before: &[Sight], after: &[Sight]) -> bool {
         }
     }
     true
-}
-
-/// A rewrite of what is inside an operation.
-pub trait Rewrite {
-    /// Rewrites, and answers whether that ended without an error. Asks that the operation is live and well linked. Cost:
-    /// that of the rewrite.
-    fn rewrite(alloc: Global, root: Ptr<Operation>, ctx: &mut Context) -> bool
-        requires live { IsLive ctx.old.tree root }
-        requires linked { IsWellLinked bench ctx.old.tree root };
-}
-
-/// Whether the same is seen of three runs of the text before the rewrite and after it, up to so many transitions each;
-/// none where the text is unreadable, the rewrite ends with an error, or an allocation fails. Cost: that of six runs and
-/// of the rewrite.
-pub fn keeps_runs<R: Rewrite>(alloc: Global, text: &str, most: usize) -> Option<bool> {
-    let mut ctx = Context::new(alloc);
-    keeps_runs_in::<R>(alloc, &mut ctx, text, most)
-}
-
-fn keeps_runs_in<R: Rewrite>(
-    alloc: Global,
-    ctx: &mut Context,
-    text: &str,
-    most: usize,
-) -> Option<bool> {
-    let root = read(alloc, ctx, text)?;
-    let before = sights(alloc, ctx, root, most).ok()?;
-    if !R::rewrite(alloc, root, ctx) {
-        return None;
-    }
-    let after = sights(alloc, ctx, root, most).ok()?;
-    Some(are_kept(&before, &after))
 }
