@@ -1,7 +1,8 @@
 //! What leaves an operand of integers as it is, or gives one number.
 ghost use Rattle.std.specs.Prelude.{◌≡◌, ◌≤◌, option_map};
 ghost use Rattle.pliron_mlir.specs.Data.{bit};
-ghost use Rattle.pliron_mlir.specs.IntegerIdentities.{number_at as number_at_of, zero_at as zero_at_of, one_at as one_at_of, all_ones_at as all_ones_at_of, least_at as least_at_of, greatest_at as greatest_at_of, as_second as as_second_of, as_either as as_either_of, with_equal as with_equal_of, with_absorbing as with_absorbing_of, rest_by as rest_by_of, of_cast, holds_of_equal as holds_of_equal_by, of_compare, or_identity as or_identity_of, identity_at as identity_at_of};
+ghost use Rattle.pliron_mlir.specs.IntegerIdentities.{number_at as number_at_of, zero_at as zero_at_of, one_at as one_at_of, all_ones_at as all_ones_at_of, least_at as least_at_of, greatest_at as greatest_at_of, as_second as as_second_of, as_either as as_either_of};
+ghost use Rattle.pliron_mlir.specs.IntegerIdentities.{with_equal as with_equal_of, with_absorbing as with_absorbing_of, rest_by as rest_by_of, of_cast, holds_of_equal as holds_of_equal_by, of_compare, or_identity as or_identity_of, identity_at as identity_at_of};
 
 use crate::data::{counted_bits, is_width, number};
 use pliron_bits::{BinaryOperator, Flags, Predicate, size};

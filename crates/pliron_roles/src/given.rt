@@ -2,7 +2,8 @@
 ghost use Rattle.std.specs.Prelude.{◌≡◌, ◌&&◌};
 ghost use Rattle.pliron_core.specs.Tree.{IsLive, operands_of};
 ghost use Rattle.pliron_laws.specs.Datum.{datum_of};
-ghost use Rattle.pliron_roles.specs.Identities.{agrees_with as agrees_with_of, absorption_if as absorption_if_of, absorption_of, absorber_of, absorbed_of, equal_if as equal_if_of, equal_of, is_known_as as is_known_as_of, given_by as given_by_of, given_between as given_between_of, given_of_two as given_of_two_of, given_known, given_told};
+ghost use Rattle.pliron_roles.specs.Identities.{agrees_with as agrees_with_of, absorption_if as absorption_if_of, absorption_of, absorber_of, absorbed_of, equal_if as equal_if_of, equal_of};
+ghost use Rattle.pliron_roles.specs.Identities.{is_known_as as is_known_as_of, given_by as given_by_of, given_between as given_between_of, given_of_two as given_of_two_of, given_known, given_told};
 
 use crate::identity::{
     Absorption, Identity, has_same_datum, has_same_operands, is_known_as, is_this,
