@@ -5,7 +5,8 @@
 mod arithmetic;
 #[cfg(test)]
 mod graphs;
-pub mod looped;
+#[cfg(test)]
+mod looped;
 #[cfg(test)]
 mod loops;
 #[cfg(test)]
