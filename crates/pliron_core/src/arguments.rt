@@ -132,7 +132,7 @@ impl Arguments {
         self.lists.reserve(blocks, values)
     }
 
-    /// So many new values, results of the operation, by rising key.
+    /// So many new values, results of the operation, by rising handle.
     ///
     /// Errors: allocation failure, which changes nothing. Cost: one step for each, amortised.
     #[inline(always)]
@@ -160,7 +160,7 @@ impl Arguments {
         Ok(keys)
     }
 
-    /// A new block, with so many new values as its arguments, by rising key.
+    /// A new block, with so many new values as its arguments, by rising handle.
     ///
     /// Errors: allocation failure, which changes nothing. Cost: one step for each, amortised.
     pub fn add_block(&mut self, alloc: Global, count: usize) -> Result<(), AllocError>
@@ -286,7 +286,7 @@ impl Maker {
     }
 }
 
-// So many values, by rising key.
+// So many values, by rising handle.
 #[tactic(auto, using(crate::proofs::GrownLemmas::range_more))]
 #[inline(always)]
 fn value_keys(alloc: Global, first: usize, count: usize) -> Result<InlineList<Value>, AllocError>

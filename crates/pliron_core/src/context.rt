@@ -58,9 +58,9 @@ pub struct OperationEntry {
     pub regions: InlineList<Ptr<Region>>,
 }
 
-/// Operations, blocks, regions and values, each named by its key.
+/// Operations, blocks, regions and values, each named by its handle.
 ///
-/// A key is an index into each table of its kind, and keys are never given twice:
+/// A handle is an index into each table of its kind, and no handle is given out twice:
 ///
 /// ```text
 /// operation o   operations[o] = head, results, regions      operands:   o -> values, and back
@@ -132,7 +132,7 @@ impl Context {
     }
 
     /// The law of every context: its tables are those of a tree, its lists of uses have each use once, and
-    /// there are fewer than 2^64 keys of each kind. It changes nothing. Cost: constant.
+    /// there are fewer than 2^64 handles of each kind. It changes nothing. Cost: constant.
     pub fn well_formed(&self)
         ensures tree { IsTree self.now.tree }
         ensures uses { HaveUses self.now }
@@ -148,7 +148,7 @@ impl Context {
         self.successors.agree();
     }
 
-    // The law of keys: each block has one. It changes nothing.
+    // The law of handles: each block has one. It changes nothing.
     fn few_blocks(&self)
         ensures { length self.now.tree.bodies ≤ key_limit }
     {
