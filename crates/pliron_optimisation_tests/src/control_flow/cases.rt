@@ -8,7 +8,7 @@
 //! not reach, and merges pairs of blocks until there is none, the last successor first. Each line of `ROWS` and `ORDERS` was worked through by hand too.
 //!
 //! In `ORDERS` the order shows: of two pairs that exclude each other one is merged, and of the regions before
-//! the one that refuses the unreachable blocks are erased. In `HOSTILE` uses may stand anywhere, and edges may
+//! the one that refuses the unreachable blocks are erased. In `HOSTILE` uses may be anywhere, and edges may
 //! forward too few values or too many; the texts of `DEFINED` are well defined.
 
 pub static ROWS: &str = "\
