@@ -40,7 +40,7 @@ pub enum LatticeCell {
 ///
 /// ```text
 /// blocks, values            each once; its place is its number
-/// block_index, value_index  the number that a key most likely has
+/// block_index, value_index  the number that a handle most likely has
 /// marks                     of each block   NotExecutable, Waiting, Visited       moves from left to right
 /// cells                     of each value   Undetermined, Constant, NotAConstant  is lowered from left to right
 /// values_on_worklist        of each value   whether it was lowered since it was popped
