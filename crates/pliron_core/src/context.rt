@@ -36,7 +36,7 @@ impl From<AllocError> for NoMemory {
     }
 }
 
-/// What makes a value: the result of an operation at this index, or the argument of a block.
+/// What defines a value: it is the result of an operation at this index, or the argument of a block.
 #[derive(Clone, Copy, Debug, PartialEq, Eq)]
 pub enum Def {
     Result(Ptr<Operation>, usize),
@@ -67,7 +67,7 @@ pub struct OperationEntry {
 ///               order: the list (a block) that has o        successors: o -> blocks, and back
 /// block b       arguments: b -> values, and back            layout: the list (a region) that has b
 /// region r      slots[r] = its operation, its index there   layout: list r, its blocks
-/// value v       arguments: what makes v                     operands: the uses of v
+/// value v       arguments: what defines v                   operands: the uses of v
 /// ```
 #[derive(Drop)]
 pub struct Context {
