@@ -43,7 +43,7 @@ module _ {N : Type 0} (eq : N → N → Bool) where
   WalkFromFirstNode = (g : Digraph N) (walks : List (List N)) → IsLawful eq g → AreWalks eq g walks
       → (i : ℕ) (walk : List N) → slice_get walks i ≡ Some walk → (v : N) × IsWalkFrom g (concatenation (take i walks)) walk v
 
-  -- an edge of what the roots reach is a back edge exactly if that part has a cycle
+  -- some edge of what the roots reach is a back edge exactly if that part has a cycle
   abbrev pub BackEdgeOnCycle : Type 0
   BackEdgeOnCycle = (g : Digraph N) (roots : List N) (o : Orders N) → IsLawful eq g → IsSearch eq g roots o
       → (HasBackEdge eq g roots o ↔ HasCycle g roots)
