@@ -1,4 +1,4 @@
-//! Uses that were moved to another value: the operations that have them may fold now.
+//! Uses that were moved to another value: their operations, and the arguments they are forwarded to, may fold now.
 ghost use Rattle.std.specs.Prelude.{◌≡◌, [], Ok, IsOkUnless};
 ghost use Rattle.pliron_core.specs.declared.attrs.IRStatus.TheVariants.{Changed as IsChanged};
 ghost use Rattle.pliron_core.specs.Tree.{IsDefined};
