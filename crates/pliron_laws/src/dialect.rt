@@ -1,8 +1,8 @@
 //! Dialects: what a pass may ask of an operation, and the laws that the answers keep.
 //!
-//! All functions go without `self`: a dialect is a type, and its values are never needed. A `ghost`
-//! member above a trait's last function is a table that the contracts speak of; those below it are the
-//! laws, which each `impl` proves.
+//! No function takes `self`: a dialect is a type, and its values are never needed. A `ghost` member above a
+//! trait's last function is a table that the contracts speak of; those below it are the laws, which each
+//! `impl` proves.
 //!
 //! Some laws hold by type. What the answer on side effects reads is an argument of `side_effects`, the
 //! head; what the answer on removal reads are those of `removable`, the head, the region's index and
