@@ -35,7 +35,7 @@ pub record HasNoUses (operands successors : List ℕ) : Type 0 where
   pub no_operands : operands ≡ []
   pub no_successors : successors ≡ []
 
--- of the first operations of the text, so many, none stands in this one's block and after it
+-- of the first operations of the text, so many, none is in this one's block and after it
 abbrev pub IsLastOf : Syntax → (count n : ℕ) → OperationText → Type 0
 IsLastOf s count n o = (m : ℕ) (p : OperationText) → n < m → m < count → slice_get s.operations.items m ≡ Some p → p.block ≢ o.block
 
