@@ -29,8 +29,8 @@ use pliron_laws::{
 };
 use std::alloc::Global;
 
-/// A dialect of sixteen kinds. An operation that needs a number of a datum takes what is left of a whole number in 64
-/// signed bits, and 0 for any other datum or a missing one.
+/// A dialect of sixteen kinds. An operation that needs a number from a datum takes a whole number wrapped to 64 signed
+/// bits, and 0 for any other datum or a missing one.
 ///
 /// | Kind | What it does | Side effects | Folds |
 /// |---|---|---|---|
@@ -38,7 +38,7 @@ use std::alloc::Global;
 /// | `func` | invokes its region once with its inputs, and ends with the invocation's values | no answer | no |
 /// | `const` | gives its number | no | to it; stays in place |
 /// | `add`, `mul` | give the wrapped sum, product | no | where both are known; a product also where one is 0 |
-/// | `div` | gives the quotient cut toward zero; traps by 0, or where it doesn't fit | yes | where both are known and it doesn't trap |
+/// | `div` | gives the quotient truncated toward zero; traps where the divisor is 0, or the quotient doesn't fit | yes | where both are known and it doesn't trap |
 /// | `read` | asks the environment, and gives the answer | yes | no |
 /// | `print` | emits its operand, and gives nothing | yes | no |
 /// | `pair` | gives 1 and 2 | no | no |
