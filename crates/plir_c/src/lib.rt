@@ -75,7 +75,7 @@ pub extern "C" fn plir_graph(
     describe_graph_into(alloc, text, output, needed).number()
 }
 
-/// Reports where a text of the bench notation leaves it, or is too long, and puts what was expected there into the
+/// Finds where a text of the bench notation leaves it, or is too long, and puts what was expected there into the
 /// buffer; of a text that is read the place is all zeros, and nothing is put. Its status and length are as those of
 /// `plir_optimise`.
 ///
@@ -119,7 +119,7 @@ pub extern "C" fn plir_optimise_mlir(
     status.number()
 }
 
-/// Reports where a module of MLIR leaves the generic form, or is too long, as `plir_find_fault` does for the bench
+/// Finds where a module of MLIR leaves the generic form, or is too long, as `plir_find_fault` does for the bench
 /// notation. Of such a place the part is empty, unless the module is too long.
 ///
 /// Nothing is written to the buffer unless all fits. It fails on allocation failure alone. Cost: that of reading.

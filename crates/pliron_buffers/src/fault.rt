@@ -109,7 +109,7 @@ fn tell_fault(
     }
 }
 
-/// Reports where a text of the bench notation leaves it, or is too long, and puts what was expected there into the
+/// Finds where a text of the bench notation leaves it, or is too long, and puts what was expected there into the
 /// buffer; of a text that is read the place is no part, and nothing is put.
 ///
 /// Nothing is written to the buffer unless all fits. It fails on allocation failure alone. Cost: that of reading.
@@ -166,7 +166,7 @@ fn fault_of_module_in<D: Dialect>(
     }
 }
 
-/// Reports where a module of MLIR leaves the generic form, or is too long, as `find_fault_into` does for the bench
+/// Finds where a module of MLIR leaves the generic form, or is too long, as `find_fault_into` does for the bench
 /// notation. Of such a place the part is empty, unless the module is too long.
 ///
 /// Nothing is written to the buffer unless all fits. It fails on allocation failure alone. Cost: that of reading.

@@ -24,11 +24,11 @@ pub struct Optimised {
     pub status: IRStatus,
     /// Whether what was printed says the same tree when it is read again, where that was asked for.
     pub agrees: Option<bool>,
-    /// What was live before and is live after, where that is asked for.
+    /// What was live before and after, where that is asked for.
     pub counts: Option<Counts>,
 }
 
-/// How many operations of each class were live before and are live after, and which functions are fit to run.
+/// How many operations of each class were live before and after, and which functions are fit to run.
 #[derive(Drop)]
 pub struct Counts {
     pub before: Tally,

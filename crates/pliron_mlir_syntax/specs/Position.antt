@@ -1,4 +1,4 @@
--- The line and the column of a byte of a text.
+-- The line and column of a byte of a text.
 use Rattle.std.specs.Prelude.{◌==◌, ◌+◌, ℕ, Bool, List, length, reverse, take_while, count_by, not}
 
 abbrev pub is_line_end : ℕ → Bool

@@ -2,7 +2,7 @@
 ghost use Rattle.std.specs.Prelude.{◌≡◌, length, take, take_while, reverse, not};
 ghost use Rattle.pliron_mlir_syntax.specs.Position.{is_line_end, line_behind, column_behind};
 
-/// The line and the column of a byte of a text, counted from 1, columns by bytes.
+/// The line and column of a byte, counted from 1, columns by bytes.
 #[derive(Clone, Copy, Debug, PartialEq, Eq)]
 pub struct Position {
     pub line: usize,
