@@ -59,7 +59,7 @@ pub extern "C" fn plir_optimise(
 }
 
 /// Puts what `plir_opt graph` writes for a graph into the buffer: its orders, its search numbers, the kinds of its
-/// edges and its components. Its status and length are as those of `plir_optimise`.
+/// edges and its components. Answers a status and reports a length as `plir_optimise` does.
 ///
 /// Nothing is written to the buffer unless the whole answer fits. Cost: linear in the text, but for an ordered map of
 /// the numbers of its nodes and for sorting each component.
@@ -76,8 +76,8 @@ pub extern "C" fn plir_graph(
 }
 
 /// Finds where a text of the bench notation leaves it, or is too long, and puts what was expected there into the
-/// buffer; of a text that is read the place is all zeros, and nothing is put. Its status and length are as those of
-/// `plir_optimise`.
+/// buffer; of a text that is read the place is all zeros, and nothing is put. Answers a status and reports a length as
+/// `plir_optimise` does.
 ///
 /// Nothing is written to the buffer unless all fits. It fails on allocation failure alone. Cost: that of reading.
 #[unsafe(no_mangle)]
@@ -96,8 +96,8 @@ pub extern "C" fn plir_find_fault(
 }
 
 /// Runs the passes of a list on a module in MLIR's generic form, and puts the module that they leave into the buffer,
-/// and nothing else: what `plir_mlir` writes for the word and the input. Its status and length are as those of
-/// `plir_optimise`, and `changed` becomes 1 where the passes changed the module, and else 0.
+/// and nothing else: what `plir_mlir` writes for the word and the input. Answers a status and reports a length as
+/// `plir_optimise` does, and reports in `changed` 1 where the passes changed the module, and else 0.
 ///
 /// Nothing is written to the buffer unless the whole answer fits. Cost: linear in the texts, and that of the passes.
 #[unsafe(no_mangle)]

@@ -22,7 +22,7 @@ use pliron_core::{Context, Operation, Ptr};
 use std::alloc::{AllocError, Global};
 pub use values::{Datum, Evaluate, Move, RunInputs, Sight};
 
-/// What is seen of a run of the root, which gets these inputs and, in order, these answers of the world, and makes at
+/// What is seen of a run of the root. The run gets these inputs and, in order, these answers of the world, and makes at
 /// most `fuel` steps. A root that isn't live traps.
 ///
 /// Errors: allocation failure. Cost: a step copies what the operation reads and the operations of the block that it

@@ -28,7 +28,7 @@ pub struct Optimised {
     pub counts: Option<Counts>,
 }
 
-/// How many operations of each class were live before and after, and which functions are fit to run.
+/// Counts of live operations by class, before and after, and which functions are fit to run.
 #[derive(Drop)]
 pub struct Counts {
     pub before: Tally,
