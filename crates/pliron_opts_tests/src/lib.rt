@@ -1,4 +1,4 @@
-//! Tests of the program: texts, graphs, arguments and streams that fail; and of a dialect by tables, which stands here.
+//! Tests of the program: texts, graphs, arguments and streams that fail; and of a dialect by tables, which is here.
 #![tactic(auto)]
 
 #[cfg(test)]
