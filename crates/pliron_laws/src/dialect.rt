@@ -144,7 +144,7 @@ pub trait ConstFoldInterface: HasMeaning {
     /// one entry for each operand, and for an insertion point just before it.
     ///
     /// Errors: allocation failure, after which the tree is one that the law on folding in place allows: as before,
-    /// but for erased handles, or after one whole fold.
+    /// but for erased handles, or with constants for some of the answered results.
     fn fold_in_place<R: Rewriter + Room>(
         alloc: Global,
         op: Ptr<Operation>,
@@ -304,7 +304,7 @@ pub trait BranchOpFoldInterface: HasMeaning {
     /// branch, for one entry for each operand, and for an insertion point just before it.
     ///
     /// Errors: allocation failure, after which the tree is one that the law on folding in place allows: as before,
-    /// but for erased handles, or after one whole fold.
+    /// but for erased handles, or with the branch replaced.
     fn fold_in_place<R: Rewriter + Room>(
         alloc: Global,
         op: Ptr<Operation>,
