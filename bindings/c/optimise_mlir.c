@@ -1,6 +1,6 @@
 /* Optimises a module of MLIR: mlir-opt-22 --mlir-print-op-generic x.mlir | out/optimise_mlir sccp,dce | mlir-opt-22
  *
- * Whether it changed stands on standard error. */
+ * Whether it changed is printed on standard error. */
 #include "rachonpas.h"
 #include <stdio.h>
 #include <stdlib.h>

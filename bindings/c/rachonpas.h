@@ -34,7 +34,7 @@ extern "C" {
  * with 2 for the others. */
 typedef uint32_t plir_status;
 enum {
-    PLIR_ANSWERED = 0,  /* The whole answer stands at the start of `output`; `*needed` is its length. */
+    PLIR_ANSWERED = 0,  /* The whole answer is at the start of `output`; `*needed` is its length. */
     PLIR_REFUSED = 1,   /* The passes gave up: a value of an unreachable block is used. */
     PLIR_TEXT = 2,      /* The text is outside the notation, or longer than PLIR_MAX_TEXT or PLIR_MAX_MODULE. */
     PLIR_ARGUMENTS = 3, /* The pipeline isn't a list of passes. */
@@ -44,7 +44,7 @@ enum {
 /* With each status but PLIR_ANSWERED nothing is written to `output`; with each but that and PLIR_TOO_SMALL `*needed`
  * is 0. Behind an answer, `output` keeps what it held: no zero byte is put there. */
 
-/* A part of a text: it begins after `start` bytes and has `length`; its first byte stands in this line and column,
+/* A part of a text: it begins after `start` bytes and has `length`; its first byte is in this line and column,
  * counted from 1, columns by bytes. All are 0 where no part is meant. */
 typedef struct {
     size_t start;
@@ -77,7 +77,7 @@ plir_status plir_find_fault(const char *text, size_t text_length, char *output, 
 /* Runs the passes of `pipeline` on `text`, a module of MLIR in the generic form (mlir-opt --mlir-print-op-generic). The
  * answer is the module that they leave, and nothing else: what `plir_mlir PIPELINE` writes to standard output for the
  * text, byte for byte. `*changed` is 1 where the passes changed the module, also with PLIR_TOO_SMALL, and 0 where they
- * didn't and with every status that tells of no answer.
+ * didn't and with every status without an answer.
  * `pipeline` is a list of sccp, dce, simplify-cfg, cse and canonicalize, joined by commas; `nested:LIST` or
  * `nested(LIST)` runs it on each operation directly inside the module, and `repeat:N:..` or `repeat<N>(..)` until nothing
  * changes, at most N times, 1 to 64. An empty one runs no pass: the module is read and printed. Faults are found in this

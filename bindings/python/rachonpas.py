@@ -145,7 +145,7 @@ def find_fault(text: Text) -> Optional[Fault]:
 
 
 def _found(call: Callable[..., int], text: Text) -> Optional[Fault]:
-    """The fault that the call tells of the text."""
+    """The fault that the call reports in the text."""
     read, place = _bytes(text), _Place()
     expected = _filled(128, lambda *buffer: call(read, len(read), *buffer, byref(place)))
     return Fault(place.start, place.length, place.line, place.column, expected) if place.line else None

@@ -70,7 +70,7 @@ static void free_rows(void) {
     free(rows);
 }
 
-/* What a call tells beside its answer. */
+/* What a call reports beside its answer. */
 typedef struct {
     size_t needed;
     plir_place place;

@@ -52,7 +52,7 @@ def with_lines(text):
 
 
 def without_name(row):
-    """A row without the name that stands before ` -- `."""
+    """A row without the name before ` -- `."""
     return row.split(" -- ", 1)[1]
 
 
@@ -92,7 +92,7 @@ def faults():
 
 
 def stored(name):
-    """What stands in this file of crates/plir_mlir."""
+    """What is in this file of crates/plir_mlir."""
     with open(f"{ROOT}/crates/plir_mlir/{name}", "rb") as it:
         return it.read()
 
