@@ -42,7 +42,7 @@ fn steps<'a>(alloc: Global) -> Arg<'a> {
         .help("The most moves that the run makes")
 }
 
-/// The forms of what is told.
+/// The forms of reports.
 static FORMS: [&str; 3] = ["full", "short", "json"];
 
 fn format<'a>(alloc: Global) -> Arg<'a> {
@@ -146,7 +146,7 @@ fn print_pass<'a>(alloc: Global, name: &'a str, help: &'a str) -> Arg<'a> {
         .help(help)
 }
 
-/// What `--stats` tells.
+/// What `--stats` reports.
 static STATS: &str =
     "Tell, on standard error, how many operations, blocks, arguments and edges stand before and after each \
      pass, and what it rewrote. This is found by comparing the two: operations that only stand after it were \
@@ -154,7 +154,7 @@ static STATS: &str =
      operands that are another value or were taken out count as changed; blocks and arguments that only stood \
      before it were erased";
 
-// The flags of what `opt` tells of trees on standard error.
+// The flags for what `opt` reports of trees on standard error.
 fn with_prints<'a>(command: Command<'a>, alloc: Global) -> Result<Command<'a>, AllocError> {
     command
         .arg(flag(
@@ -192,7 +192,7 @@ fn with_prints<'a>(command: Command<'a>, alloc: Global) -> Result<Command<'a>, A
         .conflicts_with("keep-names")?)
 }
 
-// The flags of what `opt` looks at, and of where it stops.
+// The flags for what `opt` verifies and reports, and for where it stops.
 fn with_reports<'a>(command: Command<'a>, alloc: Global) -> Result<Command<'a>, AllocError> {
     command
         .arg(flag(
@@ -355,7 +355,7 @@ fn with<'a>(
     }
 }
 
-/// What stands beside the program.
+/// What there is beside the program.
 static BESIDE: &str =
     "The script ./plir has more commands, each with --help: reduce (a failing text made small), bisect (the \
      first run of a pass that does it), test (RUN and CHECK lines) and report (a page).";

@@ -6,7 +6,7 @@ const WIDTH: usize = 80;
 
 const LEAST_WIDTH: usize = 30;
 
-/// The width of the terminal, as the variable `COLUMNS` tells it. Cost: constant.
+/// The width of the terminal, as the variable `COLUMNS` gives it. Cost: constant.
 pub fn width_of(columns: Option<&str>) -> usize {
     match columns {
         Some(columns) => columns
@@ -24,8 +24,8 @@ fn leading_blanks(line: &str) -> usize {
         .saturating_sub(line.trim_start_matches(' ').len())
 }
 
-// At which column the lines go on that a long line is broken into: that of what is said of an option, behind at least
-// two blanks, or that of the line itself.
+// The column at which the further lines begin that a long line is broken into: that of what is said of an option,
+// behind at least two blanks, or that of the line itself.
 fn indent_of(line: &str) -> usize {
     let start = leading_blanks(line);
     let words = line.trim_start_matches(' ');

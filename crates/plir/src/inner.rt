@@ -5,7 +5,7 @@ use pliron_cli::{
 };
 use std::alloc::{AllocError, Global};
 
-// Whether the byte may stand in a name.
+// Whether the byte may be in a name.
 fn is_name_byte(byte: u8) -> bool {
     byte.is_ascii_alphanumeric() || byte == b'_'
 }
@@ -57,8 +57,8 @@ pub fn function_around<'p>(text: &[u8], path: &'p str) -> Option<(TextRange, &'p
     None
 }
 
-/// The outcome of a command that takes no operation inside a function: it is told where that stands, and which path
-/// leads to the function. Errors: allocation failure. Cost: linear in the text.
+/// The outcome of a command that takes no operation inside a function: it reports where that operation is, and which
+/// path leads to the function. Errors: allocation failure. Cost: linear in the text.
 pub fn inner_failure(
     alloc: Global,
     source: &Source,
@@ -101,7 +101,7 @@ fn is_before(place: Position, other: Position) -> bool {
     place.line < other.line || (place.line == other.line && place.column < other.column)
 }
 
-/// The lines of an explanation whose places are in this part of the text, and those that tell no place. Errors:
+/// The lines of an explanation whose places are in this part of the text, and those that give no place. Errors:
 /// allocation failure. Cost: linear in both.
 pub fn lines_inside(
     alloc: Global,

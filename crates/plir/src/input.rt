@@ -12,9 +12,9 @@ pub struct Input {
     whole: Vec<u8>,
     /// The text with blanks for comments, and for all but one `func` or `mod` where one is asked for.
     pub text: Vec<u8>,
-    /// Where that one stands.
+    /// Where that one is.
     part: Option<TextRange>,
-    /// Where the operation stands that is asked for, if it is one inside a function: the text is all of it then.
+    /// Where the operation that is asked for is, if it is one inside a function: `text` is then the whole text.
     pub inner: Option<TextRange>,
 }
 
@@ -33,7 +33,7 @@ pub fn input_name(name: &str) -> &str {
     if name == "-" { "standard input" } else { name }
 }
 
-/// The graph that stands in the file. Errors: those of the file; allocation failure. Cost: linear in it.
+/// The graph in the file. Errors: those of the file; allocation failure. Cost: linear in it.
 pub fn read_graph_input(rt: &HostRuntime, name: &str) -> io::Result<Input> {
     let bytes = bytes_of(rt, name)?;
     let whole = without_mark(&bytes);
@@ -45,8 +45,8 @@ pub fn read_graph_input(rt: &HostRuntime, name: &str) -> io::Result<Input> {
     })
 }
 
-// The bytes without the one that some editors put before each end of a line. Errors: allocation failure. Cost: linear
-// in them.
+// The bytes without the carriage return that some editors put before each end of a line. Errors: allocation failure.
+// Cost: linear in them.
 fn without_returns(alloc: Global, bytes: &[u8]) -> Result<Vec<u8>, AllocError> {
     let mut text = Vec::with_capacity(alloc, bytes.len())?;
     for at in 0..bytes.len() {
@@ -58,8 +58,8 @@ fn without_returns(alloc: Global, bytes: &[u8]) -> Result<Vec<u8>, AllocError> {
     Ok(text)
 }
 
-/// The text that stands in the file, or the `func` or `mod` in it that the path leads to, where one is given; where that
-/// leads to an operation inside a function the whole text, and where it stands. `None` where the path leads nowhere.
+/// The text in the file, or the `func` or `mod` in it that the path leads to, where a path is given; where that leads
+/// to an operation inside a function, the whole text, and where the operation is. `None` where the path leads nowhere.
 /// Errors: those of the file; allocation failure. Cost: linear in it.
 pub fn read_input(rt: &HostRuntime, name: &str, path: Option<&str>) -> io::Result<Option<Input>> {
     let alloc = rt.alloc();

@@ -1,6 +1,6 @@
 //! `plir`: texts of operations: runs, passes, marks under what is wrong, pictures, and why passes changed what.
 //!
-//! It knows words, files, streams and an exit status. What each command does stands in `pliron_cli`.
+//! It knows words, files, streams and an exit status. What each command does is in `pliron_cli`.
 #![tactic(auto)]
 
 mod command;
@@ -40,7 +40,7 @@ fn numbers(alloc: Global, matches: &ArgMatches, id: &str) -> io::Result<Vec<i64>
     Ok(numbers)
 }
 
-// Runs the text so, before and after these passes.
+// Runs the text with these options, before and after these passes.
 fn compare_as_asked<'w>(
     alloc: Global,
     source: &Source,
@@ -55,7 +55,7 @@ fn compare_as_asked<'w>(
     Ok(compare::<BenchNotation>(alloc, source, &options)?)
 }
 
-/// Standard output, which is told of effects as they come.
+/// Standard output, which is given effects as they come.
 #[derive(Drop)]
 struct Effects<'r> {
     rt: &'r HostRuntime,
@@ -85,7 +85,7 @@ fn run_as_asked(rt: &HostRuntime, source: &Source, matches: &ArgMatches) -> io::
     }
 }
 
-// The file that the answer goes to, where it isn't standard output.
+// The file that the answer is written to, where that isn't standard output.
 fn output_file<'a>(matches: &ArgMatches<'a>) -> Option<&'a str> {
     match matches.get_str("output") {
         Some("-") => None,
@@ -115,7 +115,7 @@ fn draw_as_asked(
     Ok(draw_flow(alloc, source, &options)?)
 }
 
-// Tells what the passes did.
+// Explains what the passes did.
 fn explain_as_asked(
     alloc: Global,
     source: &Source,
@@ -130,7 +130,7 @@ fn explain_as_asked(
     Ok(explain(alloc, source, &options)?)
 }
 
-// Tells what the passes did to an operation inside a function.
+// Explains what the passes did to an operation inside a function.
 fn explain_inner(
     alloc: Global,
     matches: &ArgMatches,
@@ -175,7 +175,7 @@ fn outcome_of_inner(
     }
 }
 
-// The outcome of a command that can't read its input: what went wrong is told.
+// The outcome of a command that can't read its input: what went wrong is reported.
 fn input_failure(alloc: Global, report: String) -> Outcome {
     Outcome {
         output: Vec::new(alloc),
@@ -271,7 +271,7 @@ fn write_outcome(rt: &HostRuntime, outcome: &Outcome, file: Option<&str>) -> io:
     }
 }
 
-// The form of what is told that the words ask for.
+// The form of reports that the words ask for.
 fn form_of(matches: &ArgMatches) -> MessageForm {
     match matches.get_str("format") {
         Some("short") => MessageForm::Short,

@@ -50,16 +50,16 @@ impl Progress for Terminal<'_> {
 /// What the words ask for beside the answer of the passes.
 #[derive(Clone, Copy)]
 struct AnswerOptions {
-    /// Whether each operation of the answer stands on a line of its own.
+    /// Whether each operation of the answer is on a line of its own.
     is_pretty: bool,
-    /// Whether the answer keeps the names of the text, and whether what is told between passes does.
+    /// Whether the answer keeps the names of the text, and whether what is reported between passes does.
     names_in_answer: bool,
     names_in_trees: bool,
-    /// Whether something is told between passes.
+    /// Whether something is reported between passes.
     tells_trees: bool,
 }
 
-// Whether standard output is a terminal, and the answer goes there.
+// Whether standard output is a terminal, and the answer is written there.
 fn is_on_terminal(rt: &HostRuntime, matches: &ArgMatches) -> bool {
     let to_output = matches!(matches.get_str("output"), None | Some("-"));
     to_output && rt.stdout().is_terminal()
@@ -126,8 +126,8 @@ fn opt_instrumented<'w>(
     Ok(opt_with_check::<BenchNotation, _>(rt.alloc(), source, &options, is_strict, terminal)?)
 }
 
-// Runs these passes one by one, and tells what the words ask for between them; `None` of words or a text that can't be
-// used.
+// Runs these passes one by one, and reports what the words ask for between them; `None` for words or a text that can't
+// be used.
 fn stages(
     rt: &HostRuntime,
     text: &[u8],
@@ -158,7 +158,7 @@ fn stages(
     }
 }
 
-// The outcome with what is told of the passes one by one before the rest, and an answer that keeps the names of the
+// The outcome with what is reported of the passes one by one before the rest, and an answer that keeps the names of the
 // text where that is asked for.
 fn join_stages(
     alloc: Global,
@@ -205,10 +205,10 @@ fn pipeline_of(alloc: Global, matches: &ArgMatches, word: &str) -> io::Result<St
     }
 }
 
-/// Runs the passes that the words ask for on the input, and answers the text that they leave; of one operation inside a
-/// text, that text with what they leave in its place.
+/// Runs the passes that the words ask for on the input, and answers the text that they leave; for one operation inside
+/// a text, that text with what they leave in its place.
 ///
-/// Errors: allocation failure. Cost: that of `opt_with_check`, and where names are kept or trees told that of
+/// Errors: allocation failure. Cost: that of `opt_with_check`, and where names are kept or trees reported that of
 /// `run_stages`.
 pub fn opt_as_asked(
     rt: &HostRuntime,

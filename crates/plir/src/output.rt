@@ -1,4 +1,4 @@
-//! What the program writes. A file is replaced only once the whole answer stands beside it.
+//! What the program writes. A file is replaced only once the whole answer is written beside it.
 use std::fs::{self, File, Permissions};
 use std::io::{self, ErrorKind, Write};
 
@@ -39,8 +39,8 @@ fn write_new_file(
     file.sync_all()
 }
 
-// Puts the answer in the place of the file: it is written beside it, and then gets its name. After an error the file
-// stands as before.
+// Puts the answer in the place of the file: it is written beside it, and then gets its name. After an error the file is
+// as before.
 fn replace_file(
     rt: &HostRuntime,
     path: &str,
@@ -59,8 +59,8 @@ fn replace_file(
     result
 }
 
-/// Writes the answer to the file of this name. A file is replaced as a whole, also where a link leads to it; what is no
-/// file, as a pipe, takes the answer. Errors: those of the file, after which it stands as before; a folder. Cost:
+/// Writes the answer to the file of this name. A file is replaced as a whole, also where a link leads to it; what isn't
+/// a file, as a pipe, is written to as it is. Errors: those of the file, after which it is as before; a folder. Cost:
 /// linear in the answer.
 pub fn write_file(rt: &HostRuntime, name: &str, answer: &[u8]) -> io::Result<()> {
     match fs::metadata(rt, name) {

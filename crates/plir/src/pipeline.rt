@@ -39,8 +39,8 @@ fn is_pipeline(alloc: Global, argument: &str) -> Result<bool, AllocError> {
     }
 }
 
-/// The pipeline and the file that the arguments name; the file is `-` where none is named. The pipeline stands first,
-/// but where the second argument is one and the first isn't. Errors: allocation failure. Cost: linear in them.
+/// The pipeline and the file that the arguments name; the file is `-` where none is named. The pipeline comes first,
+/// except where the second argument is one and the first isn't. Errors: allocation failure. Cost: linear in them.
 pub fn pipeline_and_file<'a>(
     alloc: Global,
     matches: &ArgMatches<'a>,

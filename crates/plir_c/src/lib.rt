@@ -1,6 +1,6 @@
 //! `plir_opt` and `plir_mlir` as functions for C, and for all that calls C.
 //!
-//! It knows the types that cross to C, and nothing else: what each function does stands in `pliron_buffers`.
+//! It knows the types that cross to C, and nothing else: what each function does is in `pliron_buffers`.
 #![tactic(auto)]
 
 ghost use Rattle.std.specs.Prelude.{◌≡◌, ◌≢◌, ⊤, []};
@@ -24,7 +24,7 @@ use pliron_opts::Schedule;
 use pliron_pass::{BenchFactKind, BenchFacts, Pass};
 use std::alloc::Global;
 
-/// The number of this interface. It goes up with each change of a signature, a status or what a call asks for.
+/// The number of this interface. It is incremented with each change of a signature, a status or what a call asks for.
 const VERSION: u32 = 2;
 
 /// The notation of modules.
@@ -40,7 +40,7 @@ pub extern "C" fn plir_version() -> u32
 
 /// Runs the passes of a list on a text of the bench notation, and puts the text that they leave, and a line that says
 /// whether they changed it, into the buffer: what `plir_opt` writes for the word and the input. Answers the number of a
-/// status, and tells the length of the answer, or 0 where none is known.
+/// status, and reports the length of the answer, or 0 where none is known.
 ///
 /// Nothing is written to the buffer unless the whole answer fits. Cost: linear in the texts, and that of the passes.
 #[unsafe(no_mangle)]
@@ -59,7 +59,7 @@ pub extern "C" fn plir_optimise(
 }
 
 /// Puts what `plir_opt graph` writes for a graph into the buffer: its orders, its search numbers, the kinds of its
-/// edges and its components. Answers and tells as `plir_optimise` does.
+/// edges and its components. Answers a status and reports a length as `plir_optimise` does.
 ///
 /// Nothing is written to the buffer unless the whole answer fits. Cost: linear in the text, but for an ordered map of
 /// the numbers of its nodes and for sorting each component.
@@ -75,9 +75,9 @@ pub extern "C" fn plir_graph(
     describe_graph_into(alloc, text, output, needed).number()
 }
 
-/// Tells where a text of the bench notation leaves it, or is too long, and puts what was to stand there into the
-/// buffer; of a text that is read the place is all zeros, and nothing is put. Answers and tells as `plir_optimise`
-/// does.
+/// Finds where a text of the bench notation leaves it, or is too long, and puts what was expected there into the
+/// buffer; of a text that is read the place is all zeros, and nothing is put. Answers a status and reports a length as
+/// `plir_optimise` does.
 ///
 /// Nothing is written to the buffer unless all fits. It fails on allocation failure alone. Cost: that of reading.
 #[unsafe(no_mangle)]
@@ -96,8 +96,8 @@ pub extern "C" fn plir_find_fault(
 }
 
 /// Runs the passes of a list on a module in MLIR's generic form, and puts the module that they leave into the buffer,
-/// and nothing else: what `plir_mlir` writes for the word and the input. Answers and tells as `plir_optimise` does, and
-/// tells in `changed` 1 where the passes changed the module, and else 0.
+/// and nothing else: what `plir_mlir` writes for the word and the input. Answers a status and reports a length as
+/// `plir_optimise` does, and reports in `changed` 1 where the passes changed the module, and else 0.
 ///
 /// Nothing is written to the buffer unless the whole answer fits. Cost: linear in the texts, and that of the passes.
 #[unsafe(no_mangle)]
@@ -119,7 +119,7 @@ pub extern "C" fn plir_optimise_mlir(
     status.number()
 }
 
-/// Tells where a module of MLIR leaves the generic form, or is too long, as `plir_find_fault` does of the bench
+/// Finds where a module of MLIR leaves the generic form, or is too long, as `plir_find_fault` does for the bench
 /// notation. Of such a place the part is empty, unless the module is too long.
 ///
 /// Nothing is written to the buffer unless all fits. It fails on allocation failure alone. Cost: that of reading.

@@ -29,7 +29,7 @@ nothing changes, at most N times, from 1 to 64, `nested:LIST` on each
 operation directly inside: `repeat:8:sccp,cse,simplify-cfg,dce`. An
 empty word, `''`, runs none";
 
-/// What `--stats` tells.
+/// What `--stats` does.
 static STATS: &str = "\
 Tell, on standard error, how many operations,
 blocks, arguments and edges stand before and after

@@ -1,6 +1,6 @@
 //! `plir_mlir`: optimises a module of MLIR in the generic form.
 //!
-//! It knows words, files, streams and an exit status. What the program does with texts stands in `pliron_mlir_opt`.
+//! It knows words, files, streams and an exit status. What the program does with texts is in `pliron_mlir_opt`.
 #![tactic(auto)]
 
 ghost use Rattle.std.specs.Prelude.{◌≤◌, map, IfOk};
@@ -66,7 +66,7 @@ impl Progress for Terminal<'_> {
     fn pass_ended(&self, _: usize, _: &str) {}
 }
 
-// Runs the passes of the plan on the text, once it is told how the module stands after each, where that is asked for.
+// Runs the passes of the plan on the text, after writing the module as it is after each pass, where that is asked for.
 fn run_plan<'r, N: ModuleNotation>(
     rt: &'r HostRuntime,
     matches: &ArgMatches,
@@ -159,7 +159,7 @@ fn act(rt: &HostRuntime, matches: &ArgMatches) -> io::Result<u8> {
     Ok(outcome.status)
 }
 
-// Tells why there is no answer, and answers the status: 1 for want of memory.
+// Writes why there is no answer, and answers the status: 1 on allocation failure.
 fn failure_status(rt: &HostRuntime, error: &io::Error) -> u8
     ensures { 1 ≤ result }
 {

@@ -15,7 +15,7 @@ use Rattle.pliron_argument_laws.specs.OneValue.{IsOneValue}
 abbrev pub OneValueLaw : Meaning → Type 0
 OneValueLaw m = (t : Tree) (block index v : ℕ) → IsTree t → (h : IsOneValue m t block index v) → KeepsAllRuns m t (after_replacing t h.argument v)
 
--- inside an operation that stands, is well linked and holds the block, this is what a pass may do; links and edges
+-- inside an operation that is live, is well linked and holds the block, this is what a pass may do; links and edges
 -- stay, and nothing uses the argument any more
 pub record OneValueChanges (m : Meaning) : Type 0 where
   pub change : (t : Tree) (op block index v : ℕ) → IsTree t → IsLive t op → IsWellLinked m t op → HoldsBlock t op block → (h : IsOneValue m t block index v) → IsWholeChange m t (after_replacing t h.argument v) op

@@ -60,7 +60,7 @@ fn is_found_alone(found: Option<Value>, value: Value) -> bool
 /// is no such value.
 ///
 /// Asks that the block is live and has the argument (`is_live` and `num_argument` test it). Errors: allocation
-/// failure. Cost: one `successor_operand` for each edge to the block, up to one that tells.
+/// failure. Cost: one `successor_operand` for each edge to the block, up to one that decides.
 pub fn find_one_value<D: Dialect>(
     alloc: Global,
     block: Ptr<BasicBlock>,

@@ -20,8 +20,8 @@ use pliron_dialects::ByKinds;
 /// | `add`, `mul` | give the wrapped sum, product |
 /// | `neg` | gives its operand subtracted from 0, wrapped |
 /// | `less` | gives 1 if its first operand is below the second one, else 0 |
-/// | `jump` | goes to its block with its operands |
-/// | `branch` | goes to its first block unless its first operand is 0, else to its second |
+/// | `jump` | jumps to its block with its operands |
+/// | `branch` | jumps to its first block unless its first operand is 0, else to its second |
 /// | `return` | leaves the region with its operands |
 /// | `if` | invokes its first region unless its first operand is 0, else its second, with the other operands,
 /// and gives what the invocation gives |

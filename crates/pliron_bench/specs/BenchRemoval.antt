@@ -77,7 +77,7 @@ condition_kept first zero lt = absurd (omega (arith, lt))
 condition_kept [] (suc p) lt = refl
 condition_kept (d ∷ ds) (suc p) lt = refl
 
--- what acts alike at its first transition acts alike, where a branch goes on at once
+-- what acts alike at its first transition acts alike, where a branch proceeds at once
 alike_at_once : (s s' : Shape) (first first' : List Datum) (i j : ℕ) → IsTrue (bench.is_branch s.head) → MovesAlike PassesSame (JumpsLess i j) (bench.act s Empty first) (bench.act s' Empty first') → ActAlike bench.act PassesSame (JumpsLess i j) s s' first first'
 unfolding bench
 alike_at_once s s' first first' i j br begin = record {

@@ -40,7 +40,7 @@ comparison UnsignedLessEqual width a b = nat_le a b
 comparison UnsignedGreater width a b = nat_lt b a
 comparison UnsignedGreaterEqual width a b = nat_le b a
 
--- an extension goes to no narrower type, a truncation to no wider one
+-- an extension is to no narrower type, a truncation to no wider one
 abbrev pub cast_to : Cast → Flags → (width to a : ℕ) → Option ℕ
 cast_to ZeroExtend f width to a = if nat_le width to then zero_extended f width a else None
 cast_to SignExtend f width to a = if nat_le width to then sign_extended width to a else None

@@ -6,7 +6,8 @@ use crate::flags::Flags;
 use crate::integers::{over, rest};
 use crate::readings::{bits, is_signed, signed_value};
 
-/// The quotient, which rounds down. None by 0, and with a remainder where it has to be exact. Cost: constant.
+/// The quotient, which rounds down. None where the divisor is 0, and where there is a remainder and it has to be exact.
+/// Cost: constant.
 pub fn unsigned_quotient(flags: Flags, a: u64, b: u64) -> Option<u64>
     ensures { result ≡ unsigned_quotient_of flags a b }
 {
@@ -17,7 +18,7 @@ pub fn unsigned_quotient(flags: Flags, a: u64, b: u64) -> Option<u64>
     }
 }
 
-/// The remainder. None by 0. Cost: constant.
+/// The remainder. None where the divisor is 0. Cost: constant.
 pub fn unsigned_remainder(a: u64, b: u64) -> Option<u64>
     ensures { result ≡ unsigned_remainder_of a b }
 {
@@ -39,8 +40,9 @@ fn divides(width: u32, a: u64, b: u64) -> bool
     }
 }
 
-/// The quotient of the numbers read as signed, which rounds to 0. None by 0, where it is past the signed numbers, and
-/// with a remainder where it has to be exact. Asks for a width from 1 to 64, and numbers of it. Cost: constant.
+/// The quotient of the numbers read as signed, which rounds to 0. None where the divisor is 0, where the quotient is
+/// past the signed numbers, and where there is a remainder and it has to be exact. Asks for a width from 1 to 64, and
+/// numbers of it. Cost: constant.
 pub fn signed_quotient(flags: Flags, width: u32, a: u64, b: u64) -> Option<u64>
     requires at_least { 1 ≤ width }
     requires at_most { width ≤ 64 }
@@ -60,8 +62,8 @@ pub fn signed_quotient(flags: Flags, width: u32, a: u64, b: u64) -> Option<u64>
     }
 }
 
-/// The remainder of the numbers read as signed, which has the sign of the first one. None by 0, and where the
-/// quotient is past the signed numbers. Asks for a width from 1 to 64, and numbers of it. Cost: constant.
+/// The remainder of the numbers read as signed, which has the sign of the first one. None where the divisor is 0, and
+/// where the quotient is past the signed numbers. Asks for a width from 1 to 64, and numbers of it. Cost: constant.
 pub fn signed_remainder(width: u32, a: u64, b: u64) -> Option<u64>
     requires at_least { 1 ≤ width }
     requires at_most { width ≤ 64 }

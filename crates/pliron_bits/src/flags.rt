@@ -2,8 +2,8 @@
 ghost use Rattle.std.specs.Prelude.{◌≡◌, ◌≤◌, ◌<◌};
 ghost use Rattle.pliron_bits.specs.Flags.{weight as weight_of, number_of_flags, flags_of_number};
 
-/// What an operation promises: where it doesn't hold, the answer has no meaning. An operation looks only at those
-/// that it has in LLVM.
+/// What an operation promises: where it doesn't hold, the answer has no meaning. An operation heeds only the flags that
+/// it has in LLVM.
 #[derive(Clone, Copy, Debug, PartialEq, Eq)]
 pub struct Flags {
     /// The exact result, read as signed, is a number of the width (`nsw`).

@@ -7,8 +7,8 @@ use crate::integers::{floor, times};
 use crate::readings::{bits, signed_value, size};
 use crate::wrapping::wrap;
 
-/// The number shifted to the left: its product with two to the second one. None by the width or more, and where it
-/// must not wrap and does. Asks for a width from 1 to 64, and numbers of it. Cost: constant.
+/// The number shifted to the left: its product with two to the second one. None where the second one is the width or
+/// more, and where it must not wrap and does. Asks for a width from 1 to 64, and numbers of it. Cost: constant.
 pub fn shift_left(flags: Flags, width: u32, a: u64, b: u64) -> Option<u64>
     requires at_least { 1 ≤ width }
     requires at_most { width ≤ 64 }
@@ -35,9 +35,9 @@ fn shift_fails(flags: Flags, width: u32, a: u64, b: u64) -> bool
     b >= width as u64 || (flags.exact && a as u128 % size(b as u32) != 0)
 }
 
-/// The number shifted to the right: its quotient by two to the second one, which rounds down. None by the width or
-/// more, and with a remainder where it has to be exact. Asks for a width from 1 to 64, and numbers of it. Cost:
-/// constant.
+/// The number shifted to the right: its quotient by two to the second one, which rounds down. None where the second one
+/// is the width or more, and where there is a remainder and the quotient has to be exact. Asks for a width from 1 to
+/// 64, and numbers of it. Cost: constant.
 pub fn logical_shift_right(flags: Flags, width: u32, a: u64, b: u64) -> Option<u64>
     requires at_least { 1 ≤ width }
     requires at_most { width ≤ 64 }
@@ -54,8 +54,8 @@ pub fn logical_shift_right(flags: Flags, width: u32, a: u64, b: u64) -> Option<u
 }
 
 /// The number, read as signed, shifted to the right: its quotient by two to the second one, which rounds down. None
-/// by the width or more, and with a remainder where it has to be exact. Asks for a width from 1 to 64, and numbers of
-/// it. Cost: constant.
+/// where the second one is the width or more, and where there is a remainder and the quotient has to be exact. Asks for
+/// a width from 1 to 64, and numbers of it. Cost: constant.
 pub fn arithmetic_shift_right(flags: Flags, width: u32, a: u64, b: u64) -> Option<u64>
     requires at_least { 1 ≤ width }
     requires at_most { width ≤ 64 }

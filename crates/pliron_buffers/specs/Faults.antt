@@ -1,4 +1,4 @@
--- What is told of a text outside the notation.
+-- What is said of a text outside the notation.
 use Rattle.std.specs.Prelude.{◌≡◌, ◌+◌, ◌≤◌, ◌⊎◌, ℕ, List, length, take}
 use Rattle.pliron_diagnostics.specs.Position.{line_behind, column_behind}
 use Rattle.pliron_buffers.specs.declared.fault.Place.{Place}

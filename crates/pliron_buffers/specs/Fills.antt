@@ -1,13 +1,14 @@
--- What a call leaves in its caller's buffer, and what it tells.
+-- What a call leaves in its caller's buffer, and what it reports.
 use Rattle.std.specs.Prelude.{◌≡◌, ◌<◌, ◌≤◌, ℕ, List, ◌++◌, length, drop}
 use Rattle.pliron_buffers.specs.declared.status.Failure.{Failure}
 use Rattle.pliron_buffers.specs.declared.status.Status.{Status}
 use Rattle.pliron_buffers.specs.declared.status.Status.TheVariants.{Answered, TooSmall}
 use Rattle.pliron_buffers.specs.Statuses.{status_of, number_of}
 
--- the buffer before and after, the length that is told, and the status, of a call that knows such an answer or failed so
+-- the buffer before and after, the length that is reported, and the status, of a call that knows such an answer or
+-- failed so
 pub data Fills (answers : List ℕ → Type 0) (fails : Failure → Type 0) (before after : List ℕ) (needed : ℕ) (status : Status) : Type 0 where
-  -- the whole answer stands at the buffer's start; what stood behind it stands there still
+  -- the whole answer is at the buffer's start; what was behind that is unchanged
   Whole : (answer : List ℕ) → answers answer → status ≡ Answered → needed ≡ length answer → length answer ≤ length before → after ≡ answer ++ drop (length answer) before → Fills answers fails before after needed status
   -- the answer is longer than the buffer, in which nothing changed
   Short : (answer : List ℕ) → answers answer → status ≡ TooSmall → needed ≡ length answer → length before < length answer → after ≡ before → Fills answers fails before after needed status

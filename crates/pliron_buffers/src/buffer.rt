@@ -5,8 +5,8 @@ ghost use Rattle.pliron_buffers.specs.Statuses.{status_of};
 
 use crate::status::{Failure, Status};
 
-/// Writes the answer to the start of the buffer, if it fits, and tells its length; of a failure it tells 0, and
-/// writes nothing. Cost: linear in the answer.
+/// Writes the answer to the start of the buffer, if it fits, and its length to `needed`; for a failure it writes 0 to
+/// `needed`, and nothing to the buffer. Cost: linear in the answer.
 pub fn fill(answer: Result<String, Failure>, output: &mut [u8], needed: &mut usize) -> Status
     ensures { Fills (λ bytes. IsOkAnd answer (λ text. bytes ≡ string_bytes text)) (λ failure. IsErrOf answer failure)
         output.old output.new needed.new result }
@@ -17,7 +17,7 @@ pub fn fill(answer: Result<String, Failure>, output: &mut [u8], needed: &mut usi
     }
 }
 
-/// Tells that there is no answer. Cost: constant.
+/// Reports that there is no answer. Cost: constant.
 pub fn put_nothing(failure: Failure, needed: &mut usize) -> Status
     ensures length { needed.new ≡ 0 }
     ensures status { result ≡ status_of failure }
@@ -26,7 +26,7 @@ pub fn put_nothing(failure: Failure, needed: &mut usize) -> Status
     failure.status()
 }
 
-/// Writes the answer to the start of the buffer, if it fits, and tells its length. Cost: linear in the answer.
+/// Writes the answer to the start of the buffer, if it fits, and its length to `needed`. Cost: linear in the answer.
 pub fn put(answer: &[u8], output: &mut [u8], needed: &mut usize) -> Status
     ensures { Fills (λ bytes. bytes ≡ answer.now) (λ failure. ⊥) output.old output.new needed.new result }
 {

@@ -34,7 +34,7 @@ const NOWHERE: Place = Place {
     column: 0,
 };
 
-/// What is wrong with a text: after how many bytes, in how many, and what was to stand there.
+/// What is wrong with a text: after how many bytes, in how many, and what was expected there.
 #[derive(Drop)]
 struct Fault {
     start: usize,
@@ -79,7 +79,7 @@ fn place_in(text: &[u8], start: usize, len: usize) -> Place
     }
 }
 
-// Tells the place of what was found in the text, and puts what was to stand there into the buffer.
+// Reports the place of what was found in the text, and puts what was expected there into the buffer.
 fn tell_fault(
     found: Result<Option<Fault>, Failure>,
     text: &[u8],
@@ -109,7 +109,7 @@ fn tell_fault(
     }
 }
 
-/// Tells where a text of the bench notation leaves it, or is too long, and puts what was to stand there into the
+/// Finds where a text of the bench notation leaves it, or is too long, and puts what was expected there into the
 /// buffer; of a text that is read the place is no part, and nothing is put.
 ///
 /// Nothing is written to the buffer unless all fits. It fails on allocation failure alone. Cost: that of reading.
@@ -166,7 +166,7 @@ fn fault_of_module_in<D: Dialect>(
     }
 }
 
-/// Tells where a module of MLIR leaves the generic form, or is too long, as `find_fault_into` does of the bench
+/// Finds where a module of MLIR leaves the generic form, or is too long, as `find_fault_into` does for the bench
 /// notation. Of such a place the part is empty, unless the module is too long.
 ///
 /// Nothing is written to the buffer unless all fits. It fails on allocation failure alone. Cost: that of reading.

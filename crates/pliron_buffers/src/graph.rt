@@ -21,8 +21,8 @@ fn answer_of_graph(alloc: Global, text: &[u8]) -> Result<String, Failure>
     }
 }
 
-/// Puts a graph's orders, search numbers, kinds of edges and components into the buffer, and tells their length,
-/// or 0 where the text is no graph.
+/// Puts a graph's orders, search numbers, kinds of edges and components into the buffer, and reports their length, or 0
+/// where the text is no graph.
 ///
 /// Nothing is written to the buffer unless the whole answer fits. Cost: linear in the text, but for an ordered map of
 /// the numbers of its nodes and for sorting each component.

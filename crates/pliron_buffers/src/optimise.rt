@@ -69,7 +69,7 @@ pub fn optimise_by_list<N: Notation>(
     answer_of::<N>(alloc, schedule, text)
 }
 
-/// Puts what `optimise_by_list` answers into the buffer, and tells its length, or 0 where no answer is known.
+/// Puts what `optimise_by_list` answers into the buffer, and reports its length, or 0 where no answer is known.
 ///
 /// Nothing is written to the buffer unless the whole answer fits. Cost: that of `optimise_by_list`.
 pub fn optimise_into<N: Notation>(

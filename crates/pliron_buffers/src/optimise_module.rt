@@ -128,8 +128,8 @@ fn change_number(status: IRStatus) -> u32
 }
 
 /// Runs the passes that a word asks for on a module in MLIR's generic form, puts the module that they leave into the
-/// buffer, and nothing else: what `plir_mlir` writes for the word and the input. Tells its length, or 0 where no
-/// answer is known, and in `changed` 1 where the passes changed the module, and else 0.
+/// buffer, and nothing else: what `plir_mlir` writes for the word and the input. Reports the answer's length, or 0
+/// where no answer is known, and in `changed` 1 where the passes changed the module, and else 0.
 ///
 /// The word is that of `PipelineText::read`; an empty one asks for no pass. There is no answer to another word, to a
 /// text that `read_module` refuses or of more than 268,435,456 bytes, where the passes gave up, and on allocation

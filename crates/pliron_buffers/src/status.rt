@@ -34,7 +34,7 @@ impl From<AllocError> for Failure {
 /// What a call answers.
 #[derive(Clone, Copy, Debug, PartialEq, Eq)]
 pub enum Status {
-    /// The answer stands in the buffer.
+    /// The answer is in the buffer.
     Answered,
     /// The passes gave up.
     Refused,
@@ -65,7 +65,7 @@ impl Failure {
         }
     }
 
-    /// The status that tells it. Cost: constant.
+    /// The status that reports it. Cost: constant.
     pub fn status(self) -> Status
         ensures { result ≡ status_of self }
     {

@@ -20,7 +20,7 @@ pub fn dots(rt: &impl Abort, alloc: Global, capacity: &str) -> Vec<u8> {
     Vec::from_elem(alloc, b'.', capacity).expect(rt, "memory")
 }
 
-/// The status that the call answered, the length that it told, and what it left in the buffer.
+/// The status that the call answered, the length that it reported, and what it left in the buffer.
 pub fn left_of(
     rt: &impl Abort,
     alloc: Global,

@@ -7,7 +7,8 @@ use pliron_buffers::{
 use std::alloc::Global;
 use std::process::Abort;
 
-/// Names, lists of passes, texts and lengths of buffers; then statuses, lengths that are told, and what the buffers hold.
+/// Names, lists of passes, texts and lengths of buffers; then statuses, lengths that are reported, and what the buffers
+/// hold.
 static OPTIMISED: &str = "\
 as long as the answer -- sccp,dce :: func { b0(): a = const 1; b = const 2; c = add a b; ret c } :: 44 => 0 44 \
     func { b0(): v0 = const 3; ret v0 }|changed|
@@ -93,7 +94,7 @@ fn graphs(rt: HostRuntime) {
     }
 }
 
-// What is told of a text, in a buffer that has room for it, with the place.
+// What is reported about a text, in a buffer that has room for it, with the place.
 fn fault_of(rt: &impl Abort, alloc: Global, text: &[u8]) -> String {
     let mut buffer = dots(rt, alloc, "100");
     let mut needed = 7;
@@ -116,7 +117,7 @@ fn fault_of(rt: &impl Abort, alloc: Global, text: &[u8]) -> String {
     told.expect(rt, "memory")
 }
 
-/// Names and broken texts, and what is told of them: the status, the length of the words, these, and the place.
+/// Names and broken texts, and what is reported about them: the status, the length of the words, these, and the place.
 static BROKEN: &str = "\
 nothing broken -- mod { } => 0 0  0+0 0:0
 an empty text --  => 0 15 `mod` or `func` 0+0 1:1

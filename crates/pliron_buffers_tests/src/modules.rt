@@ -16,8 +16,8 @@ static SUM: &str = "\
 static LEFT: &str = "\
 \"builtin.module\"() ({|  \"func.func\"() <{function_type = () -> i32, sym_name = \"f\"}> ({|    %3 = \"arith.constant\"() <{value = 3 : i32}> : () -> i32|    \"func.return\"(%3) : (i32) -> ()|  }) : () -> ()|}) : () -> ()|";
 
-/// Names, lists of passes, texts and lengths of buffers; then whether something changed, statuses, lengths that are told, and
-/// what the buffers hold.
+/// Names, lists of passes, texts and lengths of buffers; then whether something changed, statuses, lengths that are
+/// reported, and what the buffers hold.
 static OPTIMISED: &str = "\
 as long as the answer -- dce :: \"m\"() : () -> () :: 17 => 0 0 17 \"m\"() : () -> ()|
 longer than the answer -- dce :: \"m\"() : () -> () :: 19 => 0 0 17 \"m\"() : () -> ()|..
@@ -96,7 +96,7 @@ fn lists_that_are_no_text(rt: HostRuntime) {
     assert!(&rt; (status.number(), needed, changed) == (3, 0, 0));
 }
 
-// What is told of a module, in a buffer that has room for it, with the place.
+// What is reported about a module, in a buffer that has room for it, with the place.
 fn fault_of(rt: &impl Abort, alloc: Global, text: &[u8]) -> String {
     let mut buffer = dots(rt, alloc, "100");
     let mut needed = 7;
@@ -125,7 +125,8 @@ fn fault_of(rt: &impl Abort, alloc: Global, text: &[u8]) -> String {
     told.expect(rt, "memory")
 }
 
-/// Names and broken modules, and what is told of them: the status, the length of the words, these, and the place.
+/// Names and broken modules, and what is reported about them: the status, the length of the words, these, and the
+/// place.
 static BROKEN: &str = "\
 nothing broken -- \"m\"() : () -> () => 0 0  0+0 0:0
 a second operation -- \"m\"() : () -> ()|\"n\"() : () -> () => 0 19 the end of the text 17+0 2:1

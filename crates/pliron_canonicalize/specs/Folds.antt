@@ -15,7 +15,7 @@ use Rattle.pliron_order.specs.Seen.{IsSeen}
 abbrev pub IsUsed : Tree → ℕ → Type 0
 IsUsed t v = (user : ℕ) × In v (operands_of t user)
 
--- an operation that is seen stands in the block
+-- an operation that is seen is in the block
 abbrev pub IsSeenBlock : Tree → (root block : ℕ) → Type 0
 IsSeenBlock t root block = (k : ℕ) × IsSeen t root k × (parent_of t k ≡ Some block)
 
@@ -35,7 +35,7 @@ pub data Fold : Type 0 where
   OfResult : (op index : ℕ) (answer : OpFoldResult) → Fold
   OfArgument : (block index value : ℕ) → Fold
 
--- what folds is seen, and its uses go there
+-- what folds is seen, and its uses become uses of what it folds to
 abbrev pub FoldsTo : Folding → ℕ → Fold → (t t' : Tree) → Type 0
 FoldsTo x root (OfResult k i answer) t t' = IsSeen t root k × ((is : IsFold x t k i answer) × (t' ≡ after_folding x t k is.has.value answer))
 FoldsTo x root (OfArgument block i v) t t' = IsSeenBlock t root block × ((is : IsArgumentFold x.meaning t block i v) × (t' ≡ after_replacing t is.one.argument v))

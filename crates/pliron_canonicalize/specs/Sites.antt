@@ -18,7 +18,7 @@ abbrev pub IsSeenAt : Tree → ℕ → Site → Type 0
 IsSeenAt t root (Arguments block) = IsSeenBlock t root block
 IsSeenAt t root (Results k) = IsSeen t root k
 
--- where what folds stands, and which value it is there
+-- where what folds is defined, and which value it is there
 abbrev pub site_of : Fold → Site
 site_of (OfResult k i answer) = Results k
 site_of (OfArgument block i v) = Arguments block

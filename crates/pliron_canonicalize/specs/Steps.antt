@@ -60,7 +60,7 @@ pub record IsSeenStill (t0 t : Tree) (root : ℕ) : Type 0 where
   pub results : (k : ℕ) → IsLive t0 k → results_of t k ≡ results_of t0 k
   pub arguments : (block : ℕ) → arguments_of t block ≡ arguments_of t0 block
 
--- `Changed` tells that something folded, and that the count is less
+-- `Changed` reports that something folded, and that the count is less
 abbrev pub TellsFolds : Folding → (t0 t : Tree) → ℕ → IRStatus → Type 0
 TellsFolds x t0 t root Changed = (foldable_count t < foldable_count t0) × HasFolds x t0 root
 TellsFolds x t0 t root Unchanged = t ≡ t0

@@ -9,10 +9,10 @@ use pliron_argument_laws::rewrites::replace_argument_by_value;
 use pliron_core::{BasicBlock, Context, IRStatus, Ptr, Rewriter};
 use pliron_laws::{Dialect, OptError, Room};
 
-/// The uses of the argument of the block with this index go to its one value, if it is used and is one.
+/// The uses of the argument of the block with this index become uses of its one value, if it is used and is one.
 ///
 /// Asks that the block is live and has the argument. Errors: allocation failure, which changes nothing. Cost: one
-/// `successor_operand` for each edge to the block, up to one that tells, and a step for each use of the argument.
+/// `successor_operand` for each edge to the block, up to one that decides, and a step for each use of the argument.
 pub fn fold_argument<D: Dialect, R: Rewriter + Room>(
     moved: &mut MovedUses,
     block: Ptr<BasicBlock>,

@@ -1,8 +1,8 @@
-//! Canonicalization: uses of results that are operands of their operations, or constants, and of arguments of blocks that
-//! are one value, go to those.
+//! Canonicalization: uses of results that are operands of their operations, or constants, and of arguments of blocks
+//! that are one value, become uses of those.
 //!
-//! It stands on the theory of runs, the laws of dialects and dominance order. Of the other optimisations, of passes
-//! and of the program it knows nothing.
+//! It builds on the theory of runs, the laws of dialects and dominance order. It knows nothing of the other
+//! optimisations, of passes or of the program.
 #![tactic(auto)]
 
 ghost use Rattle.std.specs.Prelude.{◌≡◌, ◌↔◌, ◌≤◌, ℕ, List, IfOk, OnOk, IsOkUnless};
@@ -29,29 +29,29 @@ use pliron_operand_laws::HasOperandFolding;
 use std::alloc::Global;
 
 /// Folds what is inside the operation: where the dialect answers that a result is an operand of its operation, or a
-/// constant, the uses of the result go there, to a new operation just before that makes the constant; where an argument
-/// of a block is one value, which each edge forwards that doesn't forward the argument itself, its uses go to that. A
-/// constant is known of an operand where an operation of no operands, regions and side effects makes it. Operations, and
-/// blocks that have some, are visited where the entries of their regions reach them, in regions with SSA dominance,
-/// however deep, but for operations that have successors, no operands, or a result of their own as an operand, and for
-/// entries.
+/// constant, the uses of the result become uses of that operand, or of a new operation just before that makes the
+/// constant; where an argument of a block is one value, which each edge forwards that doesn't forward the argument
+/// itself, its uses become uses of that value. A constant is known of an operand where an operation of no operands,
+/// regions and side effects makes it. Operations, and blocks that have some, are visited where the entries of their
+/// regions reach them, in regions with SSA dominance, however deep, but for operations that have successors, no
+/// operands, or a result of their own as an operand, and for entries.
 ///
-/// Nothing is erased, and a value without uses is left alone. Values and operations keep their keys; blocks and edges
-/// stay.
+/// Nothing is erased, and a value without uses is left alone. Values and operations keep their handles; blocks and
+/// edges stay.
 ///
 /// Runs are kept of every root that is otherwise fit to run, also of one whose head may not be a root's.
 ///
-/// Asks that the operation stands and is well linked. Answers `Changed` exactly if something folded, and the tree
+/// Asks that the operation is live and is well linked. Answers `Changed` exactly if something folded, and the tree
 /// changed; then nothing folds any more.
 ///
 /// Errors: allocation failure. The tree is then one after some folds, each of them whole.
 ///
 /// Cost: that of a dominator tree for each region; twice, once where nothing folds, what the dialect answers for each
 /// result with uses and one `successor_operand` for each argument with uses and each edge to its block; for each use
-/// that moves a step, and as much as that for the results, or the argument, to which it goes on. What a fold changes is
-/// visited again, and nothing else, where the dialect's `forwarded_from` tells it: else all is, as often as that lessens
-/// the count of used values that may fold. A use moves once for each value that it comes to, so arguments of n loops in
-/// one another, of which the inner ones fold first, take n squared moves.
+/// that is moved a step, and as much as that for the results of its operation, or for the argument that it is forwarded
+/// to. What a fold changes is visited again, and nothing else, where the dialect's `forwarded_from` reports it: else
+/// all is, as often as that lessens the count of used values that may fold. A use is moved once for each value that it
+/// becomes a use of, so arguments of n nested loops, of which the inner ones fold first, take n squared moves.
 pub fn canonicalize<D: OperandFoldInterface>(
     alloc: Global,
     op: Ptr<Operation>,
@@ -75,10 +75,10 @@ pub fn canonicalize<D: OperandFoldInterface>(
     canonicalize_through::<D, IRRewriter>(alloc, op, ctx, &mut rewriter)
 }
 
-/// Folds what is inside the operation, as `canonicalize` does, and makes each change through this rewriter, whose
-/// listener hears of it: the room for a whole rewrite is asked of it before the first change of that.
+/// Folds what is inside the operation, as `canonicalize` does, and makes each change through this rewriter, which
+/// reports it to its listener. The rewriter is asked for room for a whole rewrite before the first change of it.
 ///
-/// Asks that the operation stands and is well linked. Errors: as `canonicalize`, and where the rewriter has no room.
+/// Asks that the operation is live and is well linked. Errors: as `canonicalize`, and where the rewriter has no room.
 /// Cost: as `canonicalize`, and what the rewriter does at each change.
 pub fn canonicalize_through<D: OperandFoldInterface, R: Rewriter + Room>(
     alloc: Global,

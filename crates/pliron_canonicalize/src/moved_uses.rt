@@ -1,4 +1,4 @@
-//! Uses that went to another value: what they stand at may fold now.
+//! Uses that were moved to another value: their operations, and the arguments they are forwarded to, may fold now.
 ghost use Rattle.std.specs.Prelude.{◌≡◌, [], Ok, IsOkUnless};
 ghost use Rattle.pliron_core.specs.declared.attrs.IRStatus.TheVariants.{Changed as IsChanged};
 ghost use Rattle.pliron_core.specs.Tree.{IsDefined};
@@ -38,7 +38,7 @@ impl MovedUses {
         Ok(())
     }
 
-    /// Where the outcome tells of no change, the first uses alone are left, so many. Cost: constant.
+    /// Where the outcome reports no change, only the first `count` uses are left. Cost: constant.
     pub fn confirm(&mut self, count: usize, outcome: &Result<IRStatus, OptError>)
         ensures { outcome.now ≡ Ok IsChanged → self.new.uses.items ≡ self.old.uses.items }
     {

@@ -47,7 +47,7 @@ fn add_value(
     Ok(())
 }
 
-// The argument is visited to which the operation forwards the operand at this place, if it is a branch.
+// The argument to which the operation forwards the operand at this place is visited, if the operation is a branch.
 fn add_argument<D: Dialect>(
     user: Ptr<Operation>,
     operand: usize,
@@ -71,8 +71,8 @@ fn add_argument<D: Dialect>(
     add_value(&site, index, places, round)
 }
 
-// What may fold where the operand of the operation at this place is another one is visited: its results, and the
-// argument to which it is forwarded.
+// Where the operand of the operation at this place was replaced, what may fold is visited: the operation's results,
+// and the argument to which the operand is forwarded.
 fn add_user<D: Dialect>(
     user: Ptr<Operation>,
     operand: usize,
@@ -197,9 +197,9 @@ fn fold_rounds<D: OperandFoldInterface, R: Rewriter + Room>(
 
 /// One sweep over these sites, and if something folded, what that may make fold, until none of it does.
 ///
-/// Asks that the root stands and is well linked, and that the sites are seen in it. Errors: allocation failure, after
-/// some whole folds. Cost: that of the sweep, and for each use that moves that of visiting the results of the operation
-/// that uses, or the argument to which it forwards.
+/// Asks that the root is live and is well linked, and that the sites are seen in it. Errors: allocation failure, after
+/// some whole folds. Cost: that of the sweep, and for each use that is moved that of visiting the results of its
+/// operation, or the argument to which that forwards it.
 pub fn sweep_in_rounds<D: OperandFoldInterface, R: Rewriter + Room>(
     moved: &mut MovedUses,
     root: Ptr<Operation>,
@@ -224,12 +224,12 @@ pub fn sweep_in_rounds<D: OperandFoldInterface, R: Rewriter + Room>(
     Ok(IRStatus::Changed)
 }
 
-/// Folds what stands at these sites until nothing there folds.
+/// Folds what is at these sites until nothing there folds.
 ///
-/// Asks that the root stands and is well linked, and that each block that is seen in it is one of these, and each
+/// Asks that the root is live and is well linked, and that each block that is seen in it is one of these, and each
 /// operation that has operands. Errors: allocation failure, after some whole folds. Cost: that of as many sweeps in
-/// rounds as lessen the count of values that may fold, and one more: of two, where the dialect tells of each operand of
-/// a branch where it goes.
+/// rounds as lessen the count of values that may fold, and one more: of two, where the dialect reports for each operand
+/// of a branch where it is forwarded to.
 pub fn fold_all<D: OperandFoldInterface, R: Rewriter + Room>(
     alloc: Global,
     root: Ptr<Operation>,

@@ -9,7 +9,7 @@ use pliron_laws::OptError;
 use pliron_order::dominance_order;
 use std::alloc::Global;
 
-/// Where values stand.
+/// Where values are defined.
 #[derive(Clone, Copy, PartialEq, Eq, Hash)]
 pub enum Site {
     Arguments(Ptr<BasicBlock>),
@@ -62,7 +62,7 @@ fn list_sites(alloc: Global, ops: &[Ptr<Operation>], ctx: &Context) -> Result<Ve
 
 /// The results and arguments that are visited inside the root, in dominance order.
 ///
-/// Asks that the root stands and that edges stand last in it. Errors: allocation failure. Cost: that of the order.
+/// Asks that the root is live and that edges are last in it. Errors: allocation failure. Cost: that of the order.
 pub fn visited_sites(
     alloc: Global,
     root: Ptr<Operation>,

@@ -59,7 +59,7 @@ fn may_fold(op: Ptr<Operation>, ctx: &Context) -> bool
     !uses_itself(op, ctx)
 }
 
-/// Whether the status tells of a change. Cost: constant.
+/// Whether the status reports a change. Cost: constant.
 pub fn is_change(status: IRStatus) -> bool
     ensures { IsTrue result ↔ (status ≡ IsChanged) }
 {
@@ -69,7 +69,7 @@ pub fn is_change(status: IRStatus) -> bool
     }
 }
 
-// The uses of the result with this index go to the operand at this place, and are noted.
+// The uses of the result with this index become uses of the operand at this place, and are noted.
 fn move_to_operand<D: OperandFoldInterface, R: Rewriter + Room>(
     moved: &mut MovedUses,
     op: Ptr<Operation>,
@@ -93,8 +93,8 @@ fn move_to_operand<D: OperandFoldInterface, R: Rewriter + Room>(
     replace_result_by_operand::<D, R>(moved.alloc, op, index, operand, ctx, rewriter)
 }
 
-// The uses of the result with this index go to a new operation that makes the constant, where the dialect makes it,
-// and are noted.
+// The uses of the result with this index become uses of a new operation that makes the constant, where the dialect
+// makes it, and are noted.
 fn move_to_constant<D: OperandFoldInterface, R: Rewriter + Room>(
     moved: &mut MovedUses,
     op: Ptr<Operation>,
@@ -122,7 +122,7 @@ fn move_to_constant<D: OperandFoldInterface, R: Rewriter + Room>(
     outcome
 }
 
-// The uses of the result with this index go to what the answer for it says, where the dialect makes that.
+// The uses of the result with this index become uses of what the answer for it says, where the dialect makes that.
 fn put_answer<D: OperandFoldInterface, R: Rewriter + Room>(
     moved: &mut MovedUses,
     op: Ptr<Operation>,
@@ -189,7 +189,7 @@ fn fold_result<D: OperandFoldInterface, R: Rewriter + Room>(
     put_answer::<D, R>(moved, op, index, &constants, ctx, rewriter)
 }
 
-/// How many values stand at the site. Asks that its operation or block is live. Cost: constant.
+/// How many values are at the site. Asks that its operation or block is live. Cost: constant.
 pub fn value_count(site: &Site, ctx: &Context) -> usize
     requires { IsLiveSite ctx.now.tree site.now }
     ensures { result ≡ length (values_at ctx.now.tree site.now) }
@@ -202,9 +202,9 @@ pub fn value_count(site: &Site, ctx: &Context) -> usize
 
 /// The value at the site with this index folds, if it is used.
 ///
-/// Asks that the root stands and is well linked, that the site is seen in it and has the value. Errors: allocation failure,
-/// after which some whole folds are made. Cost: that of the dialect's answers, or of what the edges forward, and a step for
-/// each use that moves.
+/// Asks that the root is live and is well linked, that the site is seen in it and has the value. Errors: allocation
+/// failure, after which some whole folds are made. Cost: that of the dialect's answers, or of what the edges forward,
+/// and a step for each use that is moved.
 pub fn fold_value<D: OperandFoldInterface, R: Rewriter + Room>(
     moved: &mut MovedUses,
     root: Ptr<Operation>,
@@ -264,10 +264,10 @@ fn fold_site<D: OperandFoldInterface, R: Rewriter + Room>(
     Ok(status)
 }
 
-/// One sweep over these sites: what stands there folds, one after the other.
+/// One sweep over these sites: what is there folds, one after the other.
 ///
-/// Asks that the root stands and is well linked, and that the sites are seen in it. Errors: allocation failure, after some
-/// whole folds. Cost: that of each of their values.
+/// Asks that the root is live and is well linked, and that the sites are seen in it. Errors: allocation failure, after
+/// some whole folds. Cost: that of each of their values.
 pub fn sweep<D: OperandFoldInterface, R: Rewriter + Room>(
     moved: &mut MovedUses,
     root: Ptr<Operation>,

@@ -7,8 +7,8 @@ use Rattle.pliron_operand_laws.specs.Answers.{Folding}
 use Rattle.pliron_canonicalize.specs.Folds.{Fold, FoldInTurn, AreFolded, HasFolds, ReportsFolds}
 use Rattle.pliron_pipeline.specs.declared.optimisation.Effect.{Effect}
 
--- results and arguments were folded in turn and none folds any more; the status tells whether one folded, and all edges stay; or memory
--- was refused, and some were folded
+-- results and arguments were folded in turn and none folds any more; the status reports whether one folded, and all
+-- edges stay; or allocation failed, and some were folded
 abbrev pub Canonicalizes : Folding → (t t' : Tree) → ℕ → Result Effect OptError → Type 0
 Canonicalizes x t t' root (Ok effect) = ((fs : List Fold) × FoldInTurn x root fs t t') × (HasFolds x t' root → ⊥) × ReportsFolds x t root effect.status × (effect.keeps_edges ≡ true)
 Canonicalizes x t t' root (Err e) = (e ≡ Memory) × ((fs : List Fold) × AreFolded x root fs t t')

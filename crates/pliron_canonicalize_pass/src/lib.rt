@@ -1,7 +1,7 @@
 //! Canonicalization as a pass.
 //!
 //! It knows canonicalization and the pass of an optimisation, and no dialect and no text. Folding to operands is one more
-//! interface than `Dialect` has, so the pass stands beside the list of those that every dialect can run.
+//! interface than `Dialect` has, so the pass is kept beside the list of those that every dialect can run.
 #![tactic(auto)]
 
 ghost use Rattle.pliron_canonicalize_pass.specs.Canonicalized.{Canonicalizes};

@@ -53,7 +53,7 @@ pub data FoldsAll (m : Meaning) (can_fold : Head → Bool) (constants : Constant
   Next : {t u t' : Tree} {ops : List ℕ} {rest : IRStatus} (op : ℕ) (first : IRStatus) → outcome t u op (known_operands m can_fold constants t op) (Some first) → FoldsAll m can_fold constants outcome ops u t' rest → FoldsAll m can_fold constants outcome (op ∷ ops) t t' (changed_by_either first rest)
 
 -- a first part of them was folded, each wholly, until allocation failed; where that was in a fold, it left what
--- the dialect says that it may leave: one whole rewrite, or none
+-- the dialect says that it may leave: another branch in its place, or the tree as before
 pub data FoldsSome (m : Meaning) (can_fold : Head → Bool) (constants : Constants) (outcome : Outcome) : List ℕ → (t t' : Tree) → Type 0 where
   Stopped : {t : Tree} {ops : List ℕ} → FoldsSome m can_fold constants outcome ops t t
   Refused : {t t' : Tree} {ops : List ℕ} (op : ℕ) → outcome t t' op (known_operands m can_fold constants t op) None → FoldsSome m can_fold constants outcome (op ∷ ops) t t'

@@ -1,7 +1,7 @@
 //! Branches are folded by what is known of their operands.
 //!
-//! It knows what every run reads of constants, and no dialect. Of the regions that are visited, of blocks that
-//! are erased or merged and of passes it knows nothing.
+//! It knows what every run reads of constants, and no dialect. It knows nothing of the regions that are visited,
+//! of blocks that are erased or merged, or of passes.
 ghost use Rattle.std.specs.Prelude.{◌≡◌, ◌⊎◌, ◌++◌, ℕ, Some, None, OnOk, OnErr, IfOk, IsOkUnless};
 ghost use Rattle.pliron_core.specs.Tree.{IsLive, block_parent_of};
 ghost use Rattle.pliron_laws.specs.InPlace.{ReportsChange};

@@ -4,8 +4,8 @@
 //! `folding`, `removal` and `merging` are one each, and know nothing of one another; `visits` says which
 //! regions and blocks removal and merging visit. The crate puts the three together.
 //!
-//! It knows regions as graphs, the rewrites of blocks and what runs read of constants. Of the other
-//! optimisations, of passes, of any dialect and of the program it knows nothing.
+//! It knows regions as graphs, the rewrites of blocks and what runs read of constants. It knows nothing of the
+//! other optimisations, of passes, of any dialect or of the program.
 #![tactic(auto)]
 
 ghost use Rattle.std.specs.Prelude.{◌≡◌, ℕ, IfOk, IfErr};

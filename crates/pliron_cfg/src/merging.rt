@@ -4,8 +4,8 @@
 //! that the branch forwards replace the arguments of the second block, the branch is erased, and the operations
 //! of the second block become the last of the first one.
 //!
-//! It knows the regions that are visited, and the rewrites of blocks. Of branches that fold, of unreachable
-//! blocks, of passes and of any dialect it knows nothing.
+//! It knows the regions that are visited, and the rewrites of blocks. It knows nothing of branches that fold, of
+//! unreachable blocks, of passes or of any dialect.
 //!
 //! Not merged: a block with itself; the entry; a block with another predecessor; what ends in no branch; a pair
 //! whose branch forwards another number of values than there are arguments, or an argument of the second block.

@@ -1,7 +1,7 @@
 //! Unreachable blocks are erased: those of a region in one rewrite, nested regions first.
 //!
-//! It knows which blocks the entry of a region leads to, and the rewrites of blocks. Of branches that fold, of
-//! blocks that are merged, of passes and of any dialect it knows nothing.
+//! It knows which blocks the entry of a region leads to, and the rewrites of blocks. It knows nothing of branches
+//! that fold, of blocks that are merged, of passes or of any dialect.
 ghost use Rattle.std.specs.Prelude.{◌≡◌, ◌↔◌, ◌⊎◌, ℕ, Some, IfOk, IfErr};
 ghost use Rattle.pliron_core.specs.declared.attrs.IRStatus.TheVariants.{Unchanged};
 ghost use Rattle.pliron_core.specs.Tree.{IsLive, IsBlock, IsRegion, block_parent_operation_of, region_parent_of};

@@ -5,7 +5,7 @@ use Rattle.pliron_diagnostics.specs.Layout.{without_blanks}
 use Rattle.pliron_opts.specs.Answered.{Reads, Prints}
 
 module _ (reads : Reads) (prints : Prints) where
-  -- the text says a tree whose operation is printed as this answer: so it is the answer with other names
+  -- the text reads as a tree whose operation is printed as this answer: so it is the answer with other names
   pub record ReadsAs (answer text : List ℕ) : Type 0 where
     pub tree : Tree
     pub root : ℕ

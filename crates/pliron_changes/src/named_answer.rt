@@ -50,8 +50,8 @@ fn lay_out(alloc: Global, text: &str, is_pretty: bool) -> Result<Vec<u8>, AllocE
     }
 }
 
-/// Writes an answer with these names where that text says the same: it is read again, and is to be printed as the
-/// answer. Else the answer is written as it is. Either goes over several lines where that is asked for.
+/// Writes an answer as the named text where that says the same: it is read again, and has to be printed as the answer.
+/// Otherwise the answer is written as it is. Either is laid out over several lines where that is asked for.
 ///
 /// Errors: allocation failure. Cost: reading and printing.
 #[tactic(auto, using(crate::proofs::AnswerLemmas::as_it_is, crate::proofs::AnswerLemmas::by_names))]

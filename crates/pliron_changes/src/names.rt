@@ -15,8 +15,8 @@ pub struct OperandsBefore {
     operands: Vec<Value>,
 }
 
-/// The operands of all operations inside the root; of one that doesn't stand none. Errors: allocation failure. Cost:
-/// linear in what stands there.
+/// The operands of all operations inside the root; none for a root that isn't live. Errors: allocation failure. Cost:
+/// linear in what is live there.
 pub fn operands_before(
     alloc: Global,
     root: Ptr<Operation>,
@@ -89,7 +89,7 @@ impl<'t> Names<'t> {
         })
     }
 
-    // A name that nothing has, after this one: it and a number behind it.
+    // A name that nothing has yet, made from this one: it and a number behind it.
     fn fresh(&mut self, base: &str) -> Result<String, AllocError> {
         let key = String::from_str(self.alloc, base)?;
         let mut number = self.last_numbers.get(&key).copied().unwrap_or(0);
@@ -132,7 +132,7 @@ impl<'t> Names<'t> {
         self.parts.value(value.key()).is_some() || self.values.contains_key(&value)
     }
 
-    // Names a value that stands where another one stood.
+    // Names a value that is used where another one was.
     fn name_after(&mut self, old: Value, new: Value) -> Result<(), AllocError> {
         if self.has_name(new) {
             return Ok(());
@@ -144,7 +144,7 @@ impl<'t> Names<'t> {
         Ok(())
     }
 
-    // Names the values that the operation takes now for others.
+    // Names the values that the operation now takes in place of others.
     fn name_operands(&mut self, ctx: &Context, before: &OperandsBefore) -> Result<(), AllocError> {
         if !before.op.is_live(ctx) {
             return Ok(());
@@ -185,8 +185,8 @@ impl<'t> Names<'t> {
         Ok(())
     }
 
-    /// Gives names to what a pass made: a value that operations take for another one is called after that. Errors:
-    /// allocation failure. Cost: linear in what stood before and what is written.
+    /// Gives names to what a pass made: a value that operations take in place of another one is called after that.
+    /// Errors: allocation failure. Cost: linear in what was live before and what is written.
     pub fn extend(
         &mut self,
         ctx: &Context,

@@ -1,4 +1,4 @@
-//! Passes that are run one by one, and what is told between them.
+//! Passes that are run one by one, and what is reported between them.
 ghost use Rattle.std.specs.Prelude.{◌≡◌};
 ghost use Rattle.pliron_core.specs.Tree.{IsLive};
 ghost use Rattle.pliron_core.specs.Writes.{no_tree};
@@ -19,23 +19,23 @@ use pliron_pass::{AnalysisManager, BenchFacts};
 use pliron_pipeline::run_pipeline;
 use std::alloc::{AllocError, Global};
 
-/// What is told of passes that are run one by one.
+/// What is reported of passes that are run one by one.
 #[derive(Clone, Copy)]
 pub struct StageOptions<'w> {
-    /// Whether each operation of a tree that is told stands on a line of its own.
+    /// Whether each operation of a tree that is reported is on a line of its own.
     pub is_pretty: bool,
     /// Whether values and blocks keep the names of the text.
     pub keeps_names: bool,
-    /// The names of passes before and after which the operation is told, and whether it is told after each.
+    /// The names of passes before and after which the operation is printed, and whether it is printed after each.
     pub prints_before: &'w [&'w str],
     pub prints_after: &'w [&'w str],
     pub prints_all: bool,
-    /// Whether it is told which lines each run changed, and whether in colours.
+    /// Whether the lines that each run changed are reported, and whether in colours.
     pub tells_changes: bool,
     pub is_coloured: bool,
 }
 
-/// What is told of the passes, and the operation after them.
+/// What is reported of the passes, and the operation after them.
 #[derive(Drop)]
 pub struct Staged {
     pub report: String,
@@ -60,7 +60,7 @@ struct Stages<'s> {
 #[derive(Drop)]
 struct StateBefore {
     operands: Vec<OperandsBefore>,
-    /// Its lines, where changes are told.
+    /// Its lines, where changes are reported.
     lines: Option<String>,
 }
 
@@ -78,7 +78,7 @@ fn status_word(status: IRStatus) -> &'static str {
 }
 
 impl Stages<'_> {
-    // The operation as it is written on one line. Asks that it stands.
+    // The operation as it is written on one line. Asks that it is live.
     fn print(&self, op: Ptr<Operation>, ctx: &Context) -> Result<String, OptError>
         requires { IsLive ctx.now.tree op }
     {
@@ -128,7 +128,7 @@ impl Stages<'_> {
         write!(self.report, "{status}\n")
     }
 
-    // Tells the operation before a run, where the options ask for it.
+    // Prints the operation before a run, where the options ask for it.
     fn tell_before(&mut self, name: &str, subject: &Subject, ctx: &Context) -> Result<(), OptError>
         requires { IsLive ctx.now.tree subject.now.op }
     {
@@ -140,7 +140,7 @@ impl Stages<'_> {
         self.push_tree(op, ctx)
     }
 
-    // Tells the operation after a run, where the options ask for it.
+    // Prints the operation after a run, where the options ask for it.
     fn tell_after(
         &mut self,
         name: &str,
@@ -158,7 +158,7 @@ impl Stages<'_> {
         self.push_tree(op, ctx)
     }
 
-    // Tells which lines a run changed that wrote them so before, where it changed something.
+    // Reports which lines a run changed, where it changed something: `before` has the lines before it.
     fn tell_changes(
         &mut self,
         name: &str,
@@ -181,7 +181,7 @@ impl Stages<'_> {
         Ok(write_changes(&mut self.report, &changes, self.options.is_coloured)?)
     }
 
-    // What has to be known before a run: the operands, where names are kept, and the lines, where changes are told.
+    // What has to be known before a run: the operands, where names are kept, and the lines, where changes are reported.
     fn state_before(&self, op: Ptr<Operation>, ctx: &Context) -> Result<StateBefore, OptError>
         requires { IsLive ctx.now.tree op }
     {
@@ -212,7 +212,7 @@ impl Stages<'_> {
         Ok(self.names.extend(ctx, &before.operands, &order)?)
     }
 
-    // Runs one pass on an operation, where that stands and is well linked.
+    // Runs one pass on an operation, where that is live and well linked.
     fn stage(
         &mut self,
         name: &str,
@@ -312,7 +312,7 @@ fn stage_operation(
     })
 }
 
-// The same of a text, in this empty context.
+// The same for a text, in this empty context.
 fn run_stages_in(
     alloc: Global,
     text: &[u8],
@@ -328,11 +328,12 @@ fn run_stages_in(
     }
 }
 
-/// Runs the passes of the plan one by one on the operation of the text, and tells the trees before and after runs and
-/// the lines that each run changed; `None` of an unreadable text. Where a pass is refused, what was told before stays.
+/// Runs the passes of the plan one by one on the operation of the text, and reports the trees before and after runs and
+/// the lines that each run changed; `None` for an unreadable text. Where a pass is refused, what was reported before
+/// stays.
 ///
-/// Errors: allocation failure. Cost: reading, the passes, for each run that is told or named a step for all that
-/// stands, and what `changed_lines` costs.
+/// Errors: allocation failure. Cost: reading, the passes, for each run that is reported or named a step for all that is
+/// live, and what `changed_lines` costs.
 pub fn run_stages(
     alloc: Global,
     text: &[u8],

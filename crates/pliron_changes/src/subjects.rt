@@ -13,7 +13,7 @@ pub struct Subject {
     pub number: Option<usize>,
 }
 
-/// The operation itself, or those directly inside it. Asks that it stands (`is_live` tests it). Errors: allocation
+/// The operation itself, or those directly inside it. Asks that it is live (`is_live` tests it). Errors: allocation
 /// failure. Cost: linear in them.
 pub fn subjects_of(
     alloc: Global,

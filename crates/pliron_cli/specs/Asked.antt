@@ -1,4 +1,4 @@
--- How commands end that run the passes which a word asks for.
+-- How commands end that run the passes a word asks for.
 use Rattle.std.specs.Prelude.{ℕ, Bool, true, List, Option}
 use Rattle.pliron_opts.specs.PipelineTexts.{Plans}
 use Rattle.pliron_instrument.specs.Schedules.{ScheduleOf, IsPlanned}
@@ -6,7 +6,7 @@ use Rattle.pliron_cli.specs.Outcomes.{EndsBadly}
 use Rattle.pliron_cli.specs.declared.outcome.Outcome.{Outcome}
 
 module _ {P D E B K : Type 0} (name : P → List ℕ) (EndsSo : ScheduleOf P D E B K → Outcome → Type 0) where
-  -- it ends so by passes that have these names and are run so, or without an answer
+  -- it ends so by a schedule of passes with these names that are run in this way, or without an answer
   pub data EndsByPlan (runs : Option ℕ) (nested : Bool) (names : List (List ℕ)) (o : Outcome) : Type 0 where
     ByPasses : (schedule : ScheduleOf P D E B K) → IsPlanned name runs nested names schedule → EndsSo schedule o → EndsByPlan runs nested names o
     WithoutPasses : EndsBadly o → EndsByPlan runs nested names o

@@ -19,21 +19,21 @@ abbrev pub parts_line : List ℕ
 parts_line = codes "fit to run, each part by itself" ++ 10 ∷ []
 
 module _ (reads : Reads) (m : Meaning) (text : List ℕ) where
-  -- an operation was read of the text, and is fit to run
+  -- an operation was read from the text, and is fit to run
   pub record IsWholeText : Type 0 where
     pub tree : Tree
     pub root : ℕ
     pub read : reads text tree root
     pub fit : IsFit m tree root
 
-  -- one was read of it, and is fit by its parts
+  -- one was read from it, and is fit by its parts
   pub record IsFitText : Type 0 where
     pub tree : Tree
     pub root : ℕ
     pub read : reads text tree root
     pub fit : IsFitByParts m tree root
 
-  -- one was read of it that isn't, since something keeps it, or a part of it, from being fit to run
+  -- one was read from it that isn't, since something keeps it, or a part of it, from being fit to run
   pub record IsUnfitText : Type 0 where
     pub tree : Tree
     pub root : ℕ

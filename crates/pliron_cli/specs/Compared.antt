@@ -33,7 +33,7 @@ so_far_line = codes "the same as far as the runs went" ++ 10 ∷ []
 abbrev pub different_line : List ℕ
 different_line = codes "not the same" ++ 10 ∷ []
 
--- the text ends with this line; what stands before it is open
+-- the text ends with this line; what comes before it is open
 abbrev pub EndsWith : (line text : List ℕ) → Type 0
 EndsWith line text = (first : List ℕ) × (text ≡ first ++ line)
 

@@ -1,4 +1,4 @@
--- What is told of a text that was read, for proofs inside the crate.
+-- What is reported of a text that was read, for proofs inside the crate.
 use Rattle.std.specs.Prelude.{ℕ, List}
 use Rattle.pliron_laws.specs.Datum.{Meaning}
 use Rattle.pliron_opts.specs.Answered.{Reads}

@@ -1,4 +1,4 @@
--- What two runs have to do with one another, for proofs inside the crate.
+-- How two runs compare, for proofs inside the crate.
 use Rattle.std.specs.Prelude.{◌≡◌, ◌⊎◌, ℕ, Bool, true, false, List}
 use Rattle.pliron_evaluator.specs.declared.evaluator.values.Sight.{Sight}
 use Rattle.pliron_cli.specs.Compared.{are_same, EndsWith, same_line, so_far_line, different_line}
@@ -11,7 +11,7 @@ last_line Same = same_line
 last_line SoFar = so_far_line
 last_line Different = different_line
 
--- the status of a command that tells of it
+-- the exit status of a command that reports it
 abbrev pub status_for : Likeness → ℕ
 status_for Same = 0
 status_for SoFar = 3

@@ -1,4 +1,4 @@
--- What is fit to run by itself, or by what stands inside it.
+-- What is fit to run by itself, or by what is inside it.
 use Rattle.std.specs.Prelude.{◌≢◌, ℕ, [], IsSomeAnd, IsTrue}
 use Rattle.pliron_core.specs.Tree.{Tree, In, IsInside, regions_of, parent_operation_of}
 use Rattle.pliron_core.specs.Reads.{has_ssa}
@@ -9,11 +9,12 @@ use Rattle.pliron_theory.specs.Keeps.{IsFit}
 abbrev pub IsContainer : Tree → ℕ → Type 0
 IsContainer t k = (r : ℕ) × In r (regions_of t k) × (IsTrue (has_ssa t r) → ⊥)
 
--- it stands directly inside such an operation
+-- it is directly inside such an operation
 abbrev pub IsInContainer : Tree → ℕ → Type 0
 IsInContainer t k = IsSomeAnd (parent_operation_of t k) (λ holder. IsContainer t holder)
 
--- runs begin at it by itself: it stands directly inside a container and has regions, but is none, as a `func`
+-- runs begin at it by itself: it is directly inside a container and has regions, but isn't a container itself, as a
+-- `func`
 pub record IsPart (t : Tree) (k : ℕ) : Type 0 where
   pub held : IsInContainer t k
   pub regions : regions_of t k ≢ []

@@ -26,12 +26,13 @@ pub enum Checked {
     Fit,
     /// No run begins at its operation, as at a `mod`, and each part inside it, as a `func`, is fit to run.
     FitByParts,
-    /// This keeps this operation, the text's or, where no run begins at that, a part inside it, from being fit to run.
+    /// This violation keeps this operation from being fit to run: the text's or, where no run begins at that, a part
+    /// inside it.
     Unfit(Ptr<Operation>, Violation),
 }
 
-/// Reads a text of any notation into the context, and looks whether its operation is fit to run, or, where no run begins
-/// at it, each part inside it.
+/// Reads a text of any notation into the context, and checks whether its operation is fit to run, or, where no run
+/// begins at it, whether each part inside it is.
 ///
 /// Asks that the context is empty. Errors: allocation failure. Cost: reading, a walk over what is inside, and that of
 /// `find_violation` for the operation or for each part.
@@ -53,18 +54,18 @@ pub fn check_text<N: Notation>(
     }
 }
 
-/// What is told of a text's operation.
+/// What is reported of a text's operation.
 #[derive(Drop)]
 pub(crate) enum Finding {
     /// It is fit to run.
     Whole,
     /// No run begins at it, and each part inside it is fit to run.
     ByParts,
-    /// This is told of what keeps it, or a part inside it, from being fit to run.
+    /// Something keeps it, or a part inside it, from being fit to run: this message says what.
     Wrong(String),
 }
 
-// What is told of the operation of a text; `None` of an unreadable one. Errors: allocation failure. Cost: that of
+// What is reported of the operation of a text; `None` for an unreadable one. Errors: allocation failure. Cost: that of
 // `check_text`.
 pub(crate) fn find_message<N: Shown>(
     alloc: Global,
@@ -109,12 +110,12 @@ fn fit_outcome(alloc: Global, line: &[u8]) -> Result<Outcome, AllocError>
     })
 }
 
-/// Looks whether the operation of a text is well linked and fit to run, and tells one thing that keeps it from that,
-/// with its place. Where no run begins at it, as at a `mod`, this is asked of each part inside it, as a `func`.
+/// Checks whether the operation of a text is well linked and fit to run, and reports one thing that keeps it from that,
+/// with its place. Where no run begins at it, as at a `mod`, each part inside it, as a `func`, is checked instead.
 ///
 /// Statuses: 0 where nothing keeps it; 1 where memory was refused; 2 for an unreadable text; 3 where something does.
-/// With all but 0 nothing is to be written to the output. Errors: allocation failure for what is told. Cost: that of
-/// `check_text`.
+/// With all but 0 nothing is to be written to the output. Errors: allocation failure for what is reported. Cost: that
+/// of `check_text`.
 #[tactic(auto, using(crate::proofs::CommandLemmas::says_whole, crate::proofs::CommandLemmas::says_parts, crate::proofs::CommandLemmas::says_unfit))]
 pub fn check<N: Shown>(alloc: Global, source: &Source) -> Result<Outcome, AllocError>
     ensures { IfOk result (λ outcome. Ends (IsToldFit N.reads N.D.meaning source.now.text.now outcome.output.items)

@@ -40,7 +40,7 @@ pub struct Sights {
     pub after: Sight,
 }
 
-/// What two runs have to do with one another.
+/// How two runs compare.
 #[derive(Clone, Copy)]
 enum Likeness {
     /// The same is seen of both, up to their ends.
@@ -100,7 +100,7 @@ fn is_same_so_far(sights: &Sights) -> bool {
     }
 }
 
-// What the runs have to do with one another.
+// How the runs compare.
 fn likeness_of(sights: &Sights) -> Likeness
     ensures { IsLikeness ⟦<Sight as PartialEq>⟧.eq sights.now result }
 {
@@ -114,7 +114,7 @@ fn likeness_of(sights: &Sights) -> Likeness
 }
 
 /// Reads a text of any notation into the context, and answers what is seen of a run of its operation, and of one after
-/// the passes of the schedule; `None` of an unreadable text.
+/// the passes of the schedule; `None` for an unreadable text.
 ///
 /// Asks that the context is empty. Errors: those of the passes; allocation failure. Cost: reading, two runs, and the
 /// passes.
@@ -178,7 +178,7 @@ fn comparison_text(
     Ok(text.into_bytes())
 }
 
-// The status of a command that tells of it.
+// The exit status of a command that reports it.
 fn status_of(likeness: Likeness) -> u8
     ensures { result ≡ status_for likeness }
 {
@@ -277,8 +277,8 @@ fn compare_by<N: Shown>(
 ///
 /// Statuses: 0 where both runs ended or trapped, and the same is seen of them; 1 where memory or the passes were
 /// refused; 2 for a word that asks for no passes or an unreadable text; 3 where a run was cut off or something differs.
-/// With 1 and 2 nothing is to be written to the output. Errors: allocation failure for what is told. Cost: reading, two
-/// runs by `evaluate_noting`, and the passes.
+/// With 1 and 2 nothing is to be written to the output. Errors: allocation failure for what is reported. Cost: reading,
+/// two runs by `evaluate_noting`, and the passes.
 #[tactic(auto, using(crate::proofs::CommandLemmas::is_asked, crate::proofs::CommandLemmas::no_plan))]
 pub fn compare<N: Shown>(
     alloc: Global,

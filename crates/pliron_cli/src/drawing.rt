@@ -9,12 +9,12 @@ use pliron_graphviz::{Drawing, FlowOptions, text_flow, text_graph};
 use std::alloc::{AllocError, Global};
 
 /// Draws the control flow of a region of the text's operation in the dot language: its blocks with their operations,
-/// edges with the values that they forward, grey where the entry doesn't lead, and where asked for a dotted edge
-/// from the immediate dominator of each block.
+/// its edges with the values that they forward, what the entry doesn't reach in grey, and, where asked for, a dotted
+/// edge from the immediate dominator of each block.
 ///
-/// Statuses: 0; 1 on allocation failure; 2 for an unreadable text, and where no region has the path. With 1 and
-/// 2 nothing is to be written to the output. Errors: allocation failure for what is told. Cost: reading, and
-/// that of `graph_rows`.
+/// Statuses: 0; 1 on allocation failure; 2 for an unreadable text, and where no region has the path. With 1 and 2
+/// nothing is to be written to the output. Errors: allocation failure for what is reported. Cost: reading, and that of
+/// `graph_rows`.
 pub fn draw_flow(
     alloc: Global,
     source: &Source,
@@ -42,13 +42,13 @@ pub fn draw_flow(
     }
 }
 
-/// Draws a graph in the dot language: a line of the text for each node, with its number, a colon, and its successors,
-/// each after one blank. Each cyclic component stands in a frame, and the colour of an edge tells its kind in a
-/// depth-first search: black forward, red back, blue across, and grey where the search doesn't come.
+/// Draws a graph in the dot language. Its text has a line for each node, with its number, a colon, and its successors,
+/// each after one blank. Each cyclic component is drawn in a frame, and the colour of an edge shows its kind in a
+/// depth-first search: black for forward, red for back, blue for cross, and grey where the search doesn't reach.
 ///
-/// Statuses: 0; 1 on allocation failure; 2 for another text. With 1 and 2 nothing is to be written to the
-/// output.
-/// Errors: allocation failure for what is told. Cost: that of `read_graph`, and linear but for sorting each component.
+/// Statuses: 0; 1 on allocation failure; 2 for another text. With 1 and 2 nothing is to be written to the output.
+/// Errors: allocation failure for what is reported. Cost: that of `read_graph`, and linear but for sorting each
+/// component.
 pub fn draw_graph(alloc: Global, source: &Source) -> Result<Outcome, AllocError>
     ensures { IfOk result (Ends ⊤ ⊥) }
 {

@@ -11,7 +11,7 @@ use std::alloc::{AllocError, Global};
 pub enum DrawFailure<'w> {
     /// As any command may fail.
     Failed(CommandFailure),
-    /// The text of a graph is none.
+    /// The text isn't that of a graph.
     Graph,
     /// No region has this path.
     Region(&'w str),
@@ -28,7 +28,7 @@ impl DrawFailure<'_> {
         }
     }
 
-    // What is told of it.
+    // The message for it.
     fn message(self, alloc: Global, source: &Source) -> Result<String, AllocError> {
         match self {
             DrawFailure::Failed(failure) => failure.message(alloc, source),
@@ -40,7 +40,7 @@ impl DrawFailure<'_> {
     }
 }
 
-/// The outcome of a command without an answer: nothing is to be written, and what went wrong is told. Errors:
+/// The outcome of a command without an answer: nothing is to be written, and what went wrong is reported. Errors:
 /// allocation failure. Cost: that of reading the text.
 #[tactic(auto, using(crate::proofs::EndingLemmas::ends_badly_by))]
 pub fn draw_failure_outcome(

@@ -1,4 +1,4 @@
-//! The command that tells what passes did.
+//! The command that explains what passes did.
 ghost use Rattle.std.specs.Prelude.{◌≡◌, ⊤, length, IfOk, IfSome};
 ghost use Rattle.pliron_cli.specs.Outcomes.{Ends};
 
@@ -59,7 +59,7 @@ fn list_of(
     }
 }
 
-// Tells what the passes that the plan asks for did.
+// Explains what the passes that the plan asks for did.
 fn explain_by(
     alloc: Global,
     source: &Source,
@@ -83,16 +83,16 @@ fn explain_by(
 pub struct ExplainOptions<'w> {
     /// The passes, as a word.
     pub pipeline: &'w str,
-    /// Whether it is told, too, what they left as it is, and why.
+    /// Whether what they left unchanged is reported, too, and why.
     pub missed: bool,
 }
 
-/// Tells what changed in a text: for each operation and argument that changed or went when the passes were run that the
-/// word asks for, where it stands, and why; where the options ask for it, also for each operation that the passes left
-/// as it is though they change its like.
+/// Explains what changed in a text: for each operation and argument that changed or was erased when the passes that the
+/// word asks for were run, where it is, and why; where the options ask for it, also for each operation that the passes
+/// left as it is though they change operations of its kind.
 ///
 /// Statuses: 0; 1 where memory or the passes were refused; 2 for an unreadable text, or a word that asks for no passes.
-/// With 1 and 2 nothing is to be written to the output. Errors: allocation failure for what is told. Cost: that of
+/// With 1 and 2 nothing is to be written to the output. Errors: allocation failure for what is reported. Cost: that of
 /// `explain_changes`.
 pub fn explain(
     alloc: Global,

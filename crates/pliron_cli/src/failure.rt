@@ -1,4 +1,4 @@
-//! Why a command ends without an answer, and what is told of it.
+//! Why a command ends without an answer, and what is reported of it.
 ghost use Rattle.std.specs.Prelude.{◌≡◌};
 ghost use Rattle.pliron_cli.specs.Outcomes.{status_of};
 
@@ -29,13 +29,13 @@ impl CommandFailure {
         }
     }
 
-    /// What is told of it: of an unreadable text the first place where it leaves the notation of `Bench`, with its line
-    /// and a mark under it. Errors: allocation failure. Cost: that of reading the text.
+    /// The message for it: for an unreadable text, the first place where it leaves the notation of `Bench`, with its
+    /// line and a mark under it. Errors: allocation failure. Cost: that of reading the text.
     pub fn message(self, alloc: Global, source: &Source) -> Result<String, AllocError> {
         self.message_in::<BenchNotation>(alloc, source)
     }
 
-    /// The same of a text of this notation. Errors: allocation failure. Cost: that of reading the text.
+    /// The same for a text of this notation. Errors: allocation failure. Cost: that of reading the text.
     pub fn message_in<N: Shown>(
         self,
         alloc: Global,

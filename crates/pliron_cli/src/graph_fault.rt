@@ -1,9 +1,9 @@
-//! Where the text of a graph is none.
+//! Where a text isn't that of a graph.
 use pliron_diagnostics::{Source, SourceMark, mark_source};
 use std::alloc::{AllocError, Global};
 use std::collections::HashMap;
 
-/// A place at which the text of a graph is wrong, and what was to stand there.
+/// A place at which the text of a graph is wrong, and what was expected there.
 #[derive(Clone, Copy, Debug, Drop, PartialEq, Eq)]
 struct GraphFault {
     start: usize,
@@ -34,7 +34,7 @@ fn digits_at(text: &[u8], start: usize) -> usize {
         .unwrap_or(rest.len())
 }
 
-// The number that stands there, without a leading zero but in 0.
+// The number at this place, without a leading zero unless it is 0.
 fn numeral_at(text: &[u8], start: usize) -> Option<Numeral> {
     let len = digits_at(text, start);
     let digits = text.get(start..)?.get(..len)?;
@@ -49,7 +49,7 @@ fn numeral_at(text: &[u8], start: usize) -> Option<Numeral> {
     Some(Numeral { value, start, len })
 }
 
-// The fault that this was to stand there.
+// The fault that this was expected there.
 fn fault_at(text: &[u8], start: usize, expected: &'static str) -> GraphFault {
     let len = digits_at(text, start).max(1);
     GraphFault {
@@ -78,7 +78,7 @@ impl Numerals {
             return Ok(Err(fault_at(text, at, "`:`")));
         }
         at = at.saturating_add(1);
-        // Each turn goes on.
+        // Each turn takes a successor.
         for _ in 0..text.len() {
             if text.get(at) != Some(&b' ') {
                 break;
@@ -125,7 +125,7 @@ impl Numerals {
     }
 }
 
-// The first place at which the text is that of no graph.
+// The first place at which the text isn't that of a graph.
 fn find_fault(alloc: Global, text: &[u8]) -> Result<Option<GraphFault>, AllocError> {
     let mut numerals = Numerals {
         nodes: Vec::new(alloc),
@@ -145,8 +145,8 @@ fn find_fault(alloc: Global, text: &[u8]) -> Result<Option<GraphFault>, AllocErr
     numerals.first_misfit(alloc)
 }
 
-/// What is told of a text that is that of no graph: the first place at which it isn't, and what was to stand there.
-/// Errors: allocation failure. Cost: linear in the text.
+/// The message for a text that isn't that of a graph: the first place at which it is wrong, and what was expected
+/// there. Errors: allocation failure. Cost: linear in the text.
 pub fn graph_fault_message(alloc: Global, source: &Source) -> Result<String, AllocError> {
     let Some(fault) = find_fault(alloc, source.text)? else {
         return format!(in alloc; "error: unreadable graph\n");

@@ -19,7 +19,7 @@ pub(crate) struct LiveUse {
     pub index: usize,
 }
 
-/// What stands in some blocks, however deep, and the values that are defined there.
+/// The operations inside some blocks, however deep, and the values that are defined there.
 #[derive(Drop)]
 struct BlockContents {
     alloc: Global,
@@ -104,7 +104,7 @@ impl BlockContents {
     }
 }
 
-/// Operations that are yet to be looked into.
+/// Operations that are yet to be visited.
 #[derive(Drop)]
 struct LiveUseSearch {
     alloc: Global,
@@ -112,7 +112,7 @@ struct LiveUseSearch {
 }
 
 impl LiveUseSearch {
-    // The operations of the block are looked into, too.
+    // The operations of the block are to be visited, too.
     fn add_block(&mut self, block: Ptr<BasicBlock>, ctx: &Context) -> Result<(), AllocError> {
         if !block.is_live(ctx) {
             return Ok(());
@@ -124,7 +124,7 @@ impl LiveUseSearch {
         Ok(())
     }
 
-    // A use that keeps the unreachable blocks of this region, which has these.
+    // A use that keeps the unreachable blocks of this region from being removed. The region has these blocks.
     fn look_at_blocks(
         &mut self,
         region: Ptr<Region>,
@@ -155,7 +155,7 @@ impl LiveUseSearch {
         Ok(cut_off.other_use(ctx))
     }
 
-    // The same of this region; where definitions need not come before uses its first block alone is looked into.
+    // The same for this region; where definitions need not come before uses, its first block alone is visited.
     fn look_at_region(
         &mut self,
         region: Ptr<Region>,
@@ -176,7 +176,7 @@ impl LiveUseSearch {
         Ok(None)
     }
 
-    // The same of the regions of an operation.
+    // The same for the regions of an operation.
     fn look_at(&mut self, op: Ptr<Operation>, ctx: &Context) -> Result<Option<LiveUse>, OptError>
         requires { IsLive ctx.now.tree op }
         ensures { IfOk result (λ found. IfSome found
@@ -191,7 +191,7 @@ impl LiveUseSearch {
         Ok(None)
     }
 
-    // The first that is found in what waits.
+    // The first such use that is found in the operations that wait.
     fn run(&mut self, ctx: &Context) -> Result<Option<LiveUse>, OptError>
         ensures { IfOk result (λ found. IfSome found
             (λ it. slice_get (operands_of ctx.now.tree it.user) it.index ≡ Some it.value)) }

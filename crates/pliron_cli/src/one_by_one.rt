@@ -1,4 +1,4 @@
-//! What stands in operations at which no run begins, one by one.
+//! What is inside operations at which no run begins, one by one.
 ghost use Rattle.std.specs.Prelude.{◌≡◌, ◌↔◌, None, IfOk, IfSome, IsTrue};
 ghost use Rattle.pliron_core.specs.Tree.{IsLive};
 ghost use Rattle.pliron_theory.specs.Keeps.{IsFit};
@@ -11,8 +11,8 @@ use pliron_laws::{Dialect, OptError};
 use pliron_walks::Contents;
 use std::alloc::Global;
 
-/// Whether the operation has a region in which definitions need not come before uses, as a `mod` has, so that what
-/// stands directly inside runs by itself. Asks that it stands. Cost: linear in its regions.
+/// Whether the operation has a region in which definitions need not come before uses, as a `mod` has, so that what is
+/// directly inside runs by itself. Asks that it is live. Cost: linear in its regions.
 pub(crate) fn is_container(op: Ptr<Operation>, ctx: &Context) -> bool
     requires { IsLive ctx.now.tree op }
     ensures { IsTrue result ↔ IsContainer ctx.now.tree op }
@@ -25,7 +25,7 @@ pub(crate) fn is_container(op: Ptr<Operation>, ctx: &Context) -> bool
     false
 }
 
-// Whether the operation stands directly inside a container.
+// Whether the operation is directly inside a container.
 fn is_in_container(op: Ptr<Operation>, ctx: &Context) -> bool
     requires { IsLive ctx.now.tree op }
     ensures { IsTrue result ↔ IsInContainer ctx.now.tree op }
@@ -36,7 +36,7 @@ fn is_in_container(op: Ptr<Operation>, ctx: &Context) -> bool
     }
 }
 
-// Whether runs begin at the operation by itself, since it stands in a container.
+// Whether runs begin at the operation by itself, since it is in a container.
 fn is_part(op: Ptr<Operation>, ctx: &Context) -> bool
     requires { IsLive ctx.now.tree op }
     ensures { IsTrue result ↔ IsPart ctx.now.tree op }
@@ -82,9 +82,9 @@ fn first_unfit_part<D: Dialect>(
     Ok(None)
 }
 
-/// What keeps the operation from being fit to run, or, of a container, the first of the parts inside it, with the
-/// operation that it keeps from that; `None` exactly if it is fit by its parts. Asks that it stands. Errors: allocation
-/// failure. Cost: linear in what is inside, and that of `find_violation` for each part.
+/// What keeps the operation, or, for a container, the first unfit part inside it, from being fit to run, with the
+/// operation that it keeps from that; `None` exactly if it is fit by its parts. Asks that it is live. Errors:
+/// allocation failure. Cost: linear in what is inside, and that of `find_violation` for each part.
 #[tactic(auto, using(crate::proofs::PartLemmas::fit_whole, crate::proofs::PartLemmas::fit_parts))]
 pub(crate) fn first_unfit<D: Dialect>(
     alloc: Global,

@@ -24,15 +24,15 @@ use std::alloc::{AllocError, Global};
 pub struct OptOptions<'w> {
     /// The passes, as a word.
     pub pipeline: &'w str,
-    /// Whether each operation is to stand on a line of its own.
+    /// Whether each operation is to be on a line of its own.
     pub is_pretty: bool,
     /// What is recorded around each run of a pass.
     pub instrumentation: InstrumentationOptions<'w>,
-    /// Whether the time of each pass is told.
+    /// Whether the time of each pass is reported.
     pub times: bool,
 }
 
-// What is told of a word that plans no passes.
+// The message for a word that plans no passes.
 fn misspelling_message(alloc: Global, word: &str, fault: &WordFault) -> Result<String, AllocError> {
     let label = format!(in alloc; "expected {}", fault.expected)?;
     let mark = SourceMark {
@@ -45,8 +45,8 @@ fn misspelling_message(alloc: Global, word: &str, fault: &WordFault) -> Result<S
     mark_source(alloc, word.as_bytes(), &mark)
 }
 
-/// The outcome for a word that plans no passes: nothing is to be written, and the part that is wrong is told. Errors:
-/// allocation failure. Cost: linear in the word.
+/// The outcome for a word that plans no passes: nothing is to be written, and the part that is wrong is reported.
+/// Errors: allocation failure. Cost: linear in the word.
 pub fn misspelling_outcome(
     alloc: Global,
     word: &str,
@@ -73,7 +73,7 @@ fn break_lines(alloc: Global, printed: String, is_pretty: bool) -> Result<Vec<u8
     }
 }
 
-// The same and an end of a line.
+// The same, with the end of a line behind it.
 #[tactic(auto, using(crate::proofs::CommandLemmas::ended))]
 fn lay_out(alloc: Global, printed: String, is_pretty: bool) -> Result<Vec<u8>, AllocError>
     ensures { IfOk result (λ output. IsLaidOut (string_bytes printed) output.items) }
@@ -97,7 +97,7 @@ fn has_fault<N: FoldingNotation, C: Progress + Drop>(passes: &[Instrumented<N, C
         .any(|note| note.fault.is_some()))
 }
 
-// What is told beside the answer.
+// What is reported beside the answer.
 fn report_options(options: &OptOptions) -> ReportOptions {
     ReportOptions {
         is_pretty: options.is_pretty,
@@ -222,7 +222,7 @@ pub(crate) fn opt_after<N: Shown, C: Progress + Copy + Drop>(
 ///
 /// Statuses: 0; 1 where memory or the passes were refused; 2 for a word that asks for no passes or an unreadable text;
 /// 3 where verifying found something. With all but 0 nothing is to be written to the output. Errors: allocation failure
-/// for what is told. Cost: reading, the passes, what is recorded, and printing.
+/// for what is reported. Cost: reading, the passes, what is recorded, and printing.
 pub fn opt<N: Shown, C: Progress + Copy + Drop>(
     alloc: Global,
     source: &Source,

@@ -10,14 +10,14 @@ use std::alloc::{AllocError, Global};
 /// What a command leaves to be written, and its status.
 #[derive(Drop)]
 pub struct Outcome {
-    /// What goes to standard output, or to the file that is named. Where it is empty the file is left as it is.
+    /// What is written to standard output, or to the file that is named. Where it is empty the file is left as it is.
     pub output: Vec<u8>,
-    /// What goes to standard error.
+    /// What is written to standard error.
     pub report: String,
     pub status: u8,
 }
 
-/// The outcome of a command without an answer: nothing is to be written, and what went wrong is told.
+/// The outcome of a command without an answer: nothing is to be written, and what went wrong is reported.
 ///
 /// Errors: allocation failure. Cost: that of reading the text.
 pub fn failure_outcome<N: Shown>(

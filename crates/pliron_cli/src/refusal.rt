@@ -1,4 +1,4 @@
-//! What is told where passes are refused.
+//! What is reported where passes are refused.
 ghost use Rattle.std.specs.Prelude.{◌≡◌, IfOk};
 ghost use Rattle.pliron_core.specs.Writes.{no_tree};
 ghost use Rattle.pliron_cli.specs.Outcomes.{EndsBadly};
@@ -18,7 +18,7 @@ use pliron_instrument::{
 use pliron_laws::OptError;
 use std::alloc::{AllocError, Global};
 
-// What is told of the plan's passes on the text, in this empty context.
+// What is reported of the plan's passes on the text, in this empty context.
 fn refusal_message_in<N: Shown>(
     alloc: Global,
     source: &Source,
@@ -52,9 +52,9 @@ fn refusal_message_in<N: Shown>(
     Ok(Some(message))
 }
 
-// What is told where the plan's passes are refused on the text since a value of an unreachable block is used: the use
-// and the definition in the text, and the pass; `None` where they aren't refused so. The passes are run once more, so
-// that those that nothing refuses pay nothing.
+// What is reported where the plan's passes are refused on the text because a value of an unreachable block is used: the
+// use and the definition in the text, and the pass; `None` where they aren't refused for this reason. The passes are
+// run once more, so that passes that aren't refused pay nothing for it.
 //
 // Errors: those of the passes; allocation failure. Cost: reading, the passes, and that of `find_live_use`.
 fn refusal_message<N: Shown>(
@@ -66,8 +66,8 @@ fn refusal_message<N: Shown>(
     refusal_message_in::<N>(alloc, source, plan, &mut ctx)
 }
 
-/// The outcome where the plan's passes were refused: nothing is to be written, and it is told why; of a value of an
-/// unreachable block that is used the use, the definition and the pass.
+/// The outcome where the plan's passes were refused: nothing is to be written, and the reason is reported: where a
+/// value of an unreachable block is used, the use, the definition and the pass.
 ///
 /// Errors: allocation failure. Cost: that of reading the text, and of the passes where such a value is used.
 pub(crate) fn refused_outcome<N: Shown>(

@@ -1,18 +1,18 @@
-//! What is told of the runs of passes: trees and what verifying finds after each, counts, and times.
+//! What is reported of the runs of passes: trees and what verifying finds after each, counts, and times.
 use crate::statistics::write_statistics;
 use pliron_core::IRStatus;
 use pliron_diagnostics::pretty;
 use pliron_instrument::{FoldingNotation, Instrumented, Progress, RoundRecord, RunNote};
 use std::alloc::{AllocError, Global};
 
-/// What is told of the runs of passes.
+/// What is reported of the runs of passes.
 #[derive(Clone, Copy)]
 pub struct ReportOptions {
-    /// Whether trees go over several lines.
+    /// Whether trees are printed over several lines.
     pub is_pretty: bool,
-    /// Whether it is told what verifying found.
+    /// Whether what verifying found is reported.
     pub faults: bool,
-    /// Whether counts are told, and whether times are.
+    /// Whether counts are reported, and whether times are.
     pub counts: bool,
     pub times: bool,
 }
@@ -170,9 +170,9 @@ pub fn write_refused<N: FoldingNotation, C: Progress + Drop>(
     Ok(())
 }
 
-/// What is told of the runs of the passes: trees as they were printed, what verifying found, counts and times.
+/// What is reported of the runs of the passes: trees as they were printed, what verifying found, counts and times.
 ///
-/// Errors: allocation failure. Cost: n log n for n runs of which something is noted, and linear in what is told.
+/// Errors: allocation failure. Cost: n log n for n runs of which something is noted, and linear in what is reported.
 pub fn report_of<N: FoldingNotation, C: Progress + Drop>(
     alloc: Global,
     passes: &[Instrumented<N, C>],

@@ -21,7 +21,7 @@ fn status_of_end(end: End) -> u8
     }
 }
 
-// The outcome of a run of which this is told.
+// The outcome of a run of which this is reported.
 #[tactic(auto, using(crate::proofs::CommandLemmas::ends_by))]
 fn outcome_of_run(
     alloc: Global,
@@ -49,7 +49,7 @@ fn outcome_of_run(
 ///
 /// Statuses: 0 where it ends with values; 1 where memory was refused; 2 for an unreadable text; 3 where it traps, or
 /// the steps or the world's answers are used up. With 1 and 2 nothing is to be written to the output. Errors:
-/// allocation failure for what is told. Cost: reading, and that of `evaluate_noting`.
+/// allocation failure for what is reported. Cost: reading, and that of `evaluate_noting`.
 pub fn run(alloc: Global, source: &Source, options: &RunOptions) -> Result<Outcome, AllocError>
     ensures { IfOk result (Ends ⊤ ⊤) }
 {
@@ -57,10 +57,10 @@ pub fn run(alloc: Global, source: &Source, options: &RunOptions) -> Result<Outco
     outcome_of_run(alloc, source, told)
 }
 
-/// The same, but that the sink is told of the effects as they come, so that the output has the others alone.
+/// The same, but the sink is given the effects as they come, and the output has only what the sink wasn't given.
 ///
-/// Statuses: those of `run`. Errors: allocation failure for what is told. Cost: that of `run` for a third more moves
-/// than the run makes.
+/// Statuses: those of `run`. Errors: allocation failure for what is reported. Cost: that of `run` for a third more
+/// moves than the run makes.
 pub fn run_streamed<S: EffectSink>(
     alloc: Global,
     source: &Source,

@@ -12,12 +12,12 @@ use pliron_laws::OptError;
 use pliron_opts::BenchNotation;
 use std::alloc::{AllocError, Global};
 
-/// A notation of which people are shown where texts leave it, where operations stand in them, and how they run.
+/// A notation of which people are shown where texts leave it, where operations are in them, and how they run.
 pub trait Shown: FoldingNotation {
-    /// What is told of a text outside the notation; `None` of one inside it. Errors: allocation failure.
+    /// The message for a text outside the notation; `None` for one inside it. Errors: allocation failure.
     fn fault_message(alloc: Global, source: &Source) -> Result<Option<String>, OptError>;
 
-    /// Where the operations, the heads of blocks and the names of values stand in a text. Errors: allocation failure.
+    /// Where the operations, the heads of blocks and the names of values are in a text. Errors: allocation failure.
     fn parts(alloc: Global, text: &[u8]) -> Result<TextParts, AllocError>;
 
     /// What is seen of a run of the operation. Errors: allocation failure.

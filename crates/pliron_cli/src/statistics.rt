@@ -1,4 +1,4 @@
-//! What is told of the work of passes: how much stood before and after each, and what each rewrote.
+//! What is reported of the work of passes: how much there was before and after each, and what each rewrote.
 use crate::table::Table;
 use pliron_instrument::{FoldingNotation, Instrumented, Progress, RoundRecord};
 use std::alloc::{AllocError, Global};
@@ -11,7 +11,7 @@ struct PassWork<'w> {
     row: &'w RoundRecord,
 }
 
-/// The heads of what stood before and after.
+/// The column heads of the counts before and after.
 static COUNTED: [&str; 8] = [
     "round",
     "pass        ",
@@ -23,11 +23,11 @@ static COUNTED: [&str; 8] = [
     "edges",
 ];
 
-/// What the heads of what was rewritten say.
+/// What the column heads of the rewrites mean.
 static KINDS: &str =
     "operations made, erased and moved; operands changed; blocks, arguments erased\n";
 
-/// The heads of what was rewritten.
+/// The column heads of the rewrites.
 static REWRITTEN: [&str; 8] = [
     "round",
     "pass        ",
@@ -39,7 +39,7 @@ static REWRITTEN: [&str; 8] = [
     "arguments",
 ];
 
-// How often the passes went over their operations.
+// How many rounds the passes made over their operations.
 fn rounds<N: FoldingNotation, C: Progress + Drop>(passes: &[Instrumented<N, C>]) -> usize {
     match passes.first() {
         Some(pass) => pass.run_record().rows.len(),
@@ -67,7 +67,7 @@ fn work_in_order<'s, N: FoldingNotation, C: Progress + Drop>(
     Ok(works)
 }
 
-// A row of heads.
+// A row of column heads.
 fn heads(alloc: Global, words: &[&str]) -> Result<Vec<String>, AllocError> {
     let mut row = Vec::new(alloc);
     for word in words {
@@ -84,7 +84,7 @@ fn start_row(alloc: Global, work: &PassWork) -> Result<Vec<String>, AllocError> 
     Ok(row)
 }
 
-// A row of what stood before and after.
+// A row of the counts before and after.
 fn count_row(alloc: Global, work: &PassWork) -> Result<Vec<String>, AllocError> {
     let mut row = start_row(alloc, work)?;
     row.push(format!(in alloc; "{}", work.row.runs)?)?;
@@ -118,7 +118,7 @@ fn rewrite_row(alloc: Global, work: &PassWork) -> Result<Vec<String>, AllocError
     Ok(row)
 }
 
-/// Writes how much stood before and after each pass, and what each rewrote, round by round.
+/// Writes how much there was before and after each pass, and what each rewrote, round by round.
 ///
 /// Errors: allocation failure. Cost: linear in the rows.
 pub fn write_statistics<N: FoldingNotation, C: Progress + Drop>(

@@ -20,7 +20,7 @@ use pliron_laws::OptError;
 use pliron_pass::{BenchFactKind, Pass};
 use std::alloc::{AllocError, Global};
 
-// How bad it is that the text isn't fit to run; where each run is verified it is told that it was so before the first
+// The severity of a text that isn't fit to run; where each run is verified, it says that this was so before the first
 // one.
 fn severity_of(verifies: bool) -> &'static str {
     if verifies {
@@ -30,8 +30,8 @@ fn severity_of(verifies: bool) -> &'static str {
     }
 }
 
-// A warning of what keeps the text's operation from being fit to run, or, of a `mod`, one of its functions; empty
-// where nothing does, and of an unreadable text. Asks that the context is empty. Errors: allocation failure.
+// A warning of what keeps the text's operation from being fit to run, or, for a `mod`, one of its functions; empty
+// where nothing does, and for an unreadable text. Asks that the context is empty. Errors: allocation failure.
 fn warning_in<N: Shown>(
     alloc: Global,
     source: &Source,
@@ -84,12 +84,12 @@ fn opt_if_fit<N: Shown, C: Progress + Copy + Drop>(
     }
 }
 
-/// Runs passes as `opt` does, after a check: what keeps the text's operation from being fit to run, or, of a `mod`, one
-/// of its functions, is told as a warning before what `opt` tells. With `is_strict` no pass runs where the operation
-/// isn't fit to run, as `check` finds it, and that is told as an error.
+/// Runs passes as `opt` does, after a check: what keeps the text's operation from being fit to run, or, for a `mod`,
+/// one of its functions, is reported as a warning before what `opt` reports. With `is_strict` no pass runs where the
+/// operation isn't fit to run, as `check` finds it, and that is reported as an error.
 ///
 /// Statuses: those of `opt`; with `is_strict` 3 where the operation isn't fit to run. With all but 0 nothing is to be
-/// written to the output. Errors: allocation failure for what is told. Cost: that of `check` and that of `opt`.
+/// written to the output. Errors: allocation failure for what is reported. Cost: that of `check` and that of `opt`.
 pub fn opt_with_check<N: Shown, C: Progress + Copy + Drop>(
     alloc: Global,
     source: &Source,

@@ -1,4 +1,4 @@
-//! What is told of a violation: the operand by its number and its name, where it is defined, and of an edge both
+//! What is reported of a violation: the operand by its number and its name, where it is defined, and for an edge both
 //! counts.
 use crate::live_use::LiveUse;
 use crate::shown::Shown;
@@ -8,7 +8,7 @@ use pliron_fit::Violation;
 use pliron_laws::{Dialect, OptError};
 use std::alloc::{AllocError, Global};
 
-/// Another place of the text, and what is told of it.
+/// Another place in the text, and what is said of it.
 #[derive(Drop)]
 struct Note {
     part: TextPart,
@@ -24,7 +24,7 @@ struct ViolationWords {
     note: Option<Note>,
 }
 
-/// The words of which the label says nothing that the text names.
+/// Words whose label mentions nothing that the text names.
 #[derive(Clone, Copy)]
 struct PlainWords {
     message: &'static str,
@@ -93,7 +93,7 @@ fn plain_words(violation: &Violation) -> PlainWords {
     }
 }
 
-/// What is said of an operand that is defined in a region around which the operation doesn't stand.
+/// What is said of an operand that is defined in a region that the operation isn't inside.
 static INVISIBLE: PlainWords = PlainWords {
     message: "an operand isn't visible at this operation",
     label: "is defined inside another operation, and isn't visible here",
@@ -122,7 +122,7 @@ fn operation_of(violation: &Violation, root: Ptr<Operation>) -> Ptr<Operation> {
     }
 }
 
-// The region that the block stands in.
+// The region that the block is in.
 fn region_around(ctx: &Context, block: Option<Ptr<BasicBlock>>) -> Option<Ptr<Region>> {
     match block {
         Some(block) if block.is_live(ctx) => block.get_parent_region(ctx),
@@ -142,7 +142,7 @@ fn region_of_value(ctx: &Context, value: Value) -> Option<Ptr<Region>> {
     }
 }
 
-// Whether the operation stands, however deep, in the region that the value is defined in.
+// Whether the operation is, however deep, inside the region that the value is defined in.
 fn is_visible(ctx: &Context, op: Ptr<Operation>, value: Value) -> bool {
     let Some(region) = region_of_value(ctx, value) else {
         return false;
@@ -193,7 +193,7 @@ fn edge_of<D: Dialect>(
     Ok(Some((op.get_successor(ctx, index), values.len())))
 }
 
-/// A text of which something is told.
+/// A text of which something is reported.
 #[derive(Clone, Copy)]
 struct ViolationText<'t> {
     alloc: Global,
@@ -360,8 +360,8 @@ impl ViolationText<'_> {
     }
 }
 
-/// What is told of a violation of an operation that was read from the text into an empty context: this word for how bad
-/// it is, the operation with a mark under it, what helps, and where the operand is defined or the block begins.
+/// The message for a violation of an operation that was read from the text into an empty context: this word for the
+/// severity, the operation with a mark under it, what helps, and where the operand is defined or the block begins.
 ///
 /// Errors: allocation failure. Cost: linear in the text, and the depth of the operation.
 pub fn violation_message<N: Shown>(
@@ -383,8 +383,8 @@ pub fn violation_message<N: Shown>(
     Ok(text.message(severity, part, &words)?)
 }
 
-/// What is told of a use for which passes are refused on an operation that was read from the text into an empty
-/// context: the user with a mark under it, and where the value is defined; where a pass made the user, which no text
+/// The message for a use for which passes are refused on an operation that was read from the text into an empty
+/// context: the user with a mark under it, and where the value is defined; for a user that a pass made, which no text
 /// has, the definition alone.
 ///
 /// Errors: allocation failure. Cost: linear in the text.

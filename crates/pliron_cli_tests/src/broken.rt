@@ -1,4 +1,4 @@
-//! Broken texts, with line, column and what was to stand there, through `plir check` and `plir opt`. `|` stands for the
+//! Broken texts, with line, column and what was expected there, through `plir check` and `plir opt`. `|` stands for the
 //! end of a line.
 use crate::lines::with_lines;
 use crate::optimised::plain;
@@ -7,7 +7,7 @@ use pliron_instrument::Timeless;
 use std::alloc::Global;
 use std::process::Abort;
 
-// The command ended with 2, wrote nothing, and told this place and label.
+// The command ended with 2, wrote nothing, and reported this place and label.
 fn expect_told(rt: &impl Abort, outcome: &Outcome, text: &str, place: &str, label: &str) {
     assert!(rt; outcome.status == 2, "{text}");
     assert!(rt; outcome.output.is_empty(), "{text}");
@@ -35,7 +35,7 @@ fn expect_broken(rt: &impl Abort, alloc: Global, text: &str, wanted: &str) {
     expect_told(rt, &optimised, text, place, label);
 }
 
-/// Broken texts, and line, column and what was to stand there.
+/// Broken texts, and line, column and what was expected there.
 static BROKEN: &str = "\
 |  fun {|b0():|  ret|} => 2:3 expected `mod` or `func`; is `func` meant?
 function {|b0():|  ret|} => 1:1 expected `mod` or `func`; is `func` meant?

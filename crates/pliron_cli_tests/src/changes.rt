@@ -45,7 +45,7 @@ fn colours_stand_around_lines(rt: HostRuntime) {
     assert!(rt; found.as_str() == "\u{1b}[31m-a\u{1b}[0m\n\u{1b}[32m+b\u{1b}[0m\n");
 }
 
-// Passes of which nothing is told, whose answer keeps names.
+// Passes of which nothing is reported, whose answer keeps names.
 fn names_alone<'w>() -> StageOptions<'w> {
     StageOptions {
         is_pretty: false,
@@ -118,7 +118,7 @@ fn names_stay(rt: HostRuntime) {
     }
 }
 
-// An answer is written as it is where other names say something else.
+// An answer is written as it is where the text with other names says something else.
 #[test]
 fn other_texts_are_no_names(rt: HostRuntime) {
     let answer = "func { b0(v0): ret v0 }";
@@ -138,7 +138,7 @@ fn other_texts_are_no_names(rt: HostRuntime) {
     assert!(rt; written.as_slice() == b"func {\ne(x):\n  ret x\n}".as_slice());
 }
 
-// What is told of the runs of a list on a text.
+// What is reported of the runs of a list on a text.
 fn expect_report(rt: &impl Abort, alloc: Global, case: &str, options: &StageOptions) {
     let (list, rest) = case.split_once(" => ").expect(rt, "a list");
     let (text, wanted) = rest.split_once(" => ").expect(rt, "a case");

@@ -31,7 +31,7 @@ fn expect_compared(rt: &impl Abort, alloc: Global, pipeline: &str, text: &str, w
 
 /// Passes, texts, statuses, and what is written of the runs of each on 3 in a world that answers 7 and 8, up to 20
 /// moves. The last text isn't fit to run: a branch gives its block no value, so the run traps there, and dead code
-/// elimination takes the argument away.
+/// elimination removes the argument.
 static COMPARED: &str = "\
 sccp | func { b0(x): c = const 2; d = mul c c; e = mul d x; ret e } => 0 ended with 12|the same before and after|
 nested(dce) | func { b0(x): print x; print x; ret } => 0 effect (print 3)|effect (print 3)|ended with nothing|the same before and after|

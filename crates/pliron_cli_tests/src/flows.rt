@@ -54,8 +54,8 @@ fn lines_of(rt: &impl Abort, alloc: Global, head: &str, lines: &str) -> String {
     text
 }
 
-/// Paths, behind `!` where dominators are drawn, behind `+` where the regions inside are, behind `-` where blocks stand
-/// alone under a title; texts; and their pictures.
+/// Paths, behind `!` where dominators are drawn, behind `+` where the regions inside are, behind `-` where blocks are
+/// drawn alone under a title; texts; and their pictures.
 static PICTURES: &str = "\
 0 => func { b0(): ret } => 0 [label='b0():/lret/l', peripheries='2']
 0 => func { a(x): br  b( x ) ; b(y): ret  y } => 0 [label='a(x):/lbr b( x )/l', peripheries='2']|1 [label='b(y):/lret y/l']|0 -> 1 [label=' x ']
@@ -96,7 +96,7 @@ fn flows_are_drawn(rt: HostRuntime) {
     }
 }
 
-/// Paths and texts of which there is no picture, and what is told.
+/// Paths and texts of which there is no picture, and what is reported.
 static FAULTS: &str = "\
 0 => func { b0(): ret => error: unreadable text
 1 => func { b0(): ret } => error: no region `1`

@@ -1,10 +1,10 @@
-//! Graphs as pictures, worked by hand: the search takes successors by index, and components stand in topological order.
+//! Graphs as pictures, worked by hand: the search takes successors by index, and components come in topological order.
 use pliron_cli::{Source, draw_graph};
 use std::alloc::Global;
 use std::process::Abort;
 
 /// Texts, where a bar stands for the end of a line, and the lines of their pictures but the first two and the last,
-/// where a bar parts lines and `'` stands for a quote.
+/// where a bar separates lines and `'` stands for a quote.
 static PICTURES: &str = "\
 3: => 3 [peripheries='2'];
 1: 2|2: 1 3|3: 1|4: 3 => 4 [color='grey', fontcolor='grey'];|subgraph cluster0 {|1 [peripheries='2'];|2;|3;|}|1 -> 2 [color='black'];|2 -> 1 [color='red'];|2 -> 3 [color='black'];|3 -> 1 [color='red'];|4 -> 3 [color='grey', fontcolor='grey'];
@@ -52,7 +52,7 @@ fn graphs_are_drawn(rt: HostRuntime) {
     }
 }
 
-/// Texts that are no graphs, with line, column and what was to stand there.
+/// Texts that are no graphs, with line, column and what was expected there.
 static FAULTS: &str = "\
 1: 2 => 1:4 a node that has a line
 1:|1: => 2:1 a node that has no line before

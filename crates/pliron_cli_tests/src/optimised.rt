@@ -30,7 +30,7 @@ pub fn plain(pipeline: &str) -> OptOptions<'_> {
     with_instrumentation(pipeline, instrumentation)
 }
 
-/// The same with all that can be told.
+/// The same with all that can be reported.
 pub fn all_options(pipeline: &str) -> OptOptions<'_> {
     let instrumentation = InstrumentationOptions {
         counts: true,

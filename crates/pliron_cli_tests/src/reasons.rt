@@ -3,7 +3,7 @@ use pliron_cli::{ExplainOptions, Outcome, Source, explain};
 use std::alloc::Global;
 use std::process::Abort;
 
-/// Lists of passes, texts, and what is told, where a bar stands for the end of a line.
+/// Lists of passes, texts, and what is reported, where a bar stands for the end of a line.
 static REASONS: &str = "\
 dce => func { b0(): ret } => nothing of the text changed or went
 dce => func { b0(): x = const 1; ret } => 1:14 x = const 1: unused (dce)
@@ -88,7 +88,7 @@ fn other_lists_are_refused(rt: HostRuntime) {
     }
 }
 
-/// Lists of passes, texts, and a line that is told with what they missed.
+/// Lists of passes, texts, and a line that is reported of what they missed.
 static MISSED: &str = "\
 dce => func { b0(x): y = div x x; ret } => 1:15 y = div x x: stays, though nothing uses it: a div has side effects (missed by dce)
 sccp => func { b0(x): y = div x x; ret } => 1:15 y = div x x: not folded: its operand 1, x, isn't known (missed by sccp)

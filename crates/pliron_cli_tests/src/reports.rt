@@ -1,4 +1,4 @@
-//! What `plir opt` tells beside its answer, worked by hand. `|` stands for the end of a line.
+//! What `plir opt` reports beside its answer, worked by hand. `|` stands for the end of a line.
 use crate::lines::in_one_line;
 use crate::optimised::{all_options, plain, with_instrumentation};
 use pliron_cli::{
@@ -27,7 +27,7 @@ impl Progress for Broken {
     fn pass_ended(&self, _: usize, _: &str) {}
 }
 
-// What is told of the passes on the text.
+// What is reported of the passes on the text.
 fn report_on(rt: &impl Abort, alloc: Global, text: &str, options: &OptOptions) -> Outcome {
     let source = Source {
         name: "in.plir",
@@ -115,11 +115,11 @@ fn rewritten_rows(rt: &impl Abort, alloc: Global, report: &str) -> String {
 }
 
 /// Passes, texts, and the operations that each pass made, erased and moved, the operands that it changed, and the
-/// blocks and arguments that it erased. In the first, propagation puts 5 for `p` and for `q`, each used once. Then `x`,
-/// `y` and the 5 in `b1` have no use, once the arguments went and the three branches pass nothing. At last the
-/// condition and the two branches left go, with three blocks, and a constant and `ret` move to the first. In the second
-/// a branch is defined in the place of a condition. In the third it goes again as its block is joined, `print` and
-/// `ret` take `x`, and the last branches go.
+/// blocks and arguments that it erased. In the first, propagation replaces `p` by a 5 and `q` by another, each used
+/// once. Then `x`, `y` and the 5 in `b1` have no use, once the arguments are erased and the three branches pass
+/// nothing. At last the condition and the two branches left are erased, with three blocks, and a constant and `ret`
+/// move to the first. In the second a branch is made in place of a conditional one. In the third it is erased again as
+/// its block is joined, `print` and `ret` take `x`, and the last branches are erased.
 static REWRITTEN: &str = "\
 sccp,dce,simplify-cfg | func { b0(): c = const 1; x = const 5; cbr c b1(x) b2(); b1(p): br b3(p); b2(): y = const 6; \
     br b3(y); b3(q): ret q } => sccp 2 0 0 2 0 0 dce 0 3 0 3 0 2 simplify-cfg 0 3 2 0 3 0
@@ -162,8 +162,8 @@ fn verifying_and_times(rt: HostRuntime) {
     expect_report(&rt, alloc, "func { b0(): ret }", &options, wanted);
 }
 
-/// Passes, texts, and what is told where one is refused. In the second text folding makes the branch that takes `v`, so
-/// it has no place. In the fourth the pass runs on each function, and the second one is refused.
+/// Passes, texts, and what is reported where one is refused. In the second text folding makes the branch that takes
+/// `v`, so it has no place. In the fourth the pass runs on each function, and the second one is refused.
 static REFUSED: &str = "\
 dce,simplify-cfg | func { b0(): c = const 0; cbr c b1() b2(); b1(): v = const 1; br b2(); b2(): print v; ret } => \
     error: refused: a value of an unreachable block is used| --> in.plir:1:78|  ||1 | \

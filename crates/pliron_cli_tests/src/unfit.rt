@@ -1,11 +1,12 @@
-//! Texts that are fit to run and texts that aren't: what `check` tells of each, and what `opt` warns of.
+//! Texts that are fit to run and texts that aren't: what `check` reports of each, and what `opt` warns of.
 use crate::optimised::plain;
 use pliron_cli::{BenchNotation, Source, check, opt_with_check};
 use pliron_instrument::Timeless;
 use std::alloc::Global;
 use std::process::Abort;
 
-/// Texts, and what is told of each: the message, the place and what stands under it, and the note with its place.
+/// Texts, and what is reported of each: the message, the place and what is written under it, and the note with its
+/// place.
 static UNFIT: &str = "\
 func { b0(): scope { c0(): v = const 5; ret v }; ret v } => an operand isn't visible at this operation|--> in.plir:1:50|^^^^^ operand 1, `v`, is defined inside another operation, and isn't visible here|note: `v` is defined here|--> in.plir:1:28
 func { b0(): x = add y y; y = const 4; ret x } => an operand isn't defined on each way to this operation|--> in.plir:1:14|^^^^^^^^^^^ operand 1, `y`, may not be defined yet when this runs|note: `y` is defined here|--> in.plir:1:27
@@ -15,7 +16,7 @@ func { b0(c): cbr c b1(c, c) b2(); b1(y): ret; b2(): ret } => an edge passes ano
 mod { m(): func { b0(): ret }; func { b0(): x = add y y; y = const 4; ret x } } => an operand isn't defined on each way to this operation|--> in.plir:1:45
 mod { m(): mod { n(): func { b0(x): br b1(); b1(y): ret } } } => an edge passes another number of values than its block takes|--> in.plir:1:37";
 
-// Each of the parts stands in what is told.
+// Each of the parts is in what is reported.
 fn expect_parts(rt: &impl Abort, text: &str, told: &str, wanted: &str) {
     for part in wanted.split('|') {
         assert!(rt; told.contains(part), "{text} => {told}");
@@ -108,7 +109,7 @@ fn fit_texts_are_called_so(rt: HostRuntime) {
     }
 }
 
-// With `is_strict` an unfit text is told of as an error, and nothing is written.
+// With `is_strict` an unfit text is reported as an error, and nothing is written.
 fn expect_strict(rt: &impl Abort, alloc: Global, text: &str, status: u8) {
     let source = Source {
         name: "in.plir",
@@ -143,7 +144,7 @@ fn strictly(rt: HostRuntime) {
     expect_strict(&rt, rt.alloc(), "func { b0(): rat }", 2);
 }
 
-// Where each run is verified, it is told that the text wasn't fit before.
+// Where each run is verified, it is reported that the text wasn't fit before.
 #[test]
 fn verifying_looks_at_the_input(rt: HostRuntime) {
     let source = Source {

@@ -23,7 +23,7 @@ fn expect_fault(rt: &impl Abort, alloc: Global, word: &str, column: &str, label:
     assert!(rt; told.trim_end().ends_with(label), "{word} => {told}");
 }
 
-/// Words that plan nothing, the column of what is wrong, and what was to stand there.
+/// Words that plan nothing, the column of what is wrong, and what was expected there.
 static FAULTS: &str = "\
 passes => 1 `sccp`, `dce`, `simplify-cfg`, `cse` or `canonicalize`
 sccp, dce => 6 `sccp`, `dce`, `simplify-cfg`, `cse` or `canonicalize`

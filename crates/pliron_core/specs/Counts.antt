@@ -27,7 +27,7 @@ pub record AreSums (levels : List (List ℕ)) : Type 0 where
 abbrev pub one_less : List ℕ → ℕ → List ℕ
 one_less xs i = slice_set xs i (slice_index_or xs i 0 - 1)
 
--- the entry at a level that the sum of a place goes into
+-- the entry at a level whose sum includes a place
 abbrev pub above : ℕ → ℕ → ℕ
 above place zero = place
 above place (suc k) = above place k / 2

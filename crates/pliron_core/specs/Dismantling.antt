@@ -41,7 +41,7 @@ pub record IsUnnamed (t : Tree) (op : ℕ) : Type 0 where
   pub operands : operands_of t op ≡ []
   pub successors : successors_of t op ≡ []
 
--- one step at op, which makes u of t: where it goes on
+-- one step at op, which makes u of t; the next step is at `to`
 pub data IsStep (t : Tree) (op : ℕ) (to : Option ℕ) (u : Tree) : Type 0 where
   -- down to an operation that is directly inside it
   Down : (c : ℕ) → to ≡ Some c → IsLive t c → parent_operation_of t c ≡ Some op → u ≡ t → IsStep t op to u

@@ -17,7 +17,7 @@ is_met h p (suc n) (Some x) = if p x then true else is_met h p n (h x)
 abbrev pub is_met_above : Tree → (ℕ → Bool) → Option ℕ → Bool
 is_met_above t p o = is_met (parent_operation_of t) p (length t.operations) o
 
--- the table with `none` at each erased key
+-- the table with `none` at each erased handle
 abbrev pub blank_at : {A : Type 0} → (ℕ → Bool) → A → List A → List A
 blank_at gone none [] = []
 blank_at gone none (x ∷ xs) = (if gone 0 then none else x) ∷ blank_at (λ k. gone (suc k)) none xs

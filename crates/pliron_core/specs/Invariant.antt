@@ -6,7 +6,7 @@ use Rattle.pliron_core.specs.Rising.{IsRising}
 use Rattle.pliron_core.specs.Uses.{AreAgreed}
 use Rattle.pliron_core.specs.Tree.{Tree, View, IsLive, IsBlock, IsRegion, IsDefined, IsRooted, no_entry, row_of, head_of, results_of, regions_of, operands_of, successors_of, parent_of, body_of, arguments_of, block_parent_of, layout_of, slot_of, definition_of, parent_operation_of}
 
--- the tables have an entry for each key
+-- the tables have an entry for each handle
 pub record HaveSameKeys (t : Tree) : Type 0 where
   pub operands : length t.operands ≡ length t.operations
   pub successors : length t.successors ≡ length t.operations
@@ -15,7 +15,7 @@ pub record HaveSameKeys (t : Tree) : Type 0 where
   pub block_parents : length t.block_parents ≡ length t.bodies
   pub slots : length t.slots ≡ length t.layouts
 
--- there are fewer than 2 ^ 64 keys of each kind
+-- there are fewer than 2 ^ 64 handles of each kind
 pub record HaveFewKeys (t : Tree) : Type 0 where
   pub operations : length t.operations < 2 ^ 64
   pub blocks : length t.bodies < 2 ^ 64

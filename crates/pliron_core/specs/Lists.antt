@@ -42,7 +42,7 @@ abbrev pub next_in : ℕ → List ℕ → Option ℕ
 next_in at [] = None
 next_in at (y ∷ ys) = if nat_eq at y then first_of ys None else next_in at ys
 
--- what is directly before `at`, where the list goes on from `before`
+-- what is directly before `at`, where the list follows `before`
 abbrev pub prev_in : Option ℕ → ℕ → List ℕ → Option ℕ
 prev_in before at [] = None
 prev_in before at (y ∷ ys) = if nat_eq at y then before else prev_in (Some y) at ys

@@ -9,7 +9,7 @@ use Rattle.pliron_core.specs.declared.context.RegionSlot.{RegionSlot}
 use Rattle.pliron_core.specs.declared.context.OperationEntry.{OperationEntry}
 use Rattle.pliron_core.specs.declared.uses.Use.{Use}
 
--- the tables of a tree: each is a list, and the key is the index
+-- the tables of a tree: each is a list, and the handle is the index
 pub record Tree : Type 0 where
   -- by operation: its own part, which has no head once it is erased; what it uses; the block that has it
   pub operations : List OperationEntry
@@ -32,11 +32,11 @@ pub record View : Type 0 where
   pub value_uses : List (List Use)
   pub block_uses : List (List Use)
 
--- what the table has at an erased operation's key
+-- what the table has at an erased operation's handle
 abbrev pub no_entry : OperationEntry
 no_entry = record { head = None; results = []; regions = [] }
 
--- reading a table: a key that was never given out reads as an erased one
+-- reading a table: a handle that was never given out reads as an erased one
 abbrev pub row_of : Tree → ℕ → OperationEntry
 row_of t op = slice_index_or t.operations op no_entry
 

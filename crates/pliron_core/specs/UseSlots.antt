@@ -53,7 +53,7 @@ no_gap = record { start = 0; len = 0 }
 abbrev pub free_place : UseSlot
 free_place = record { target = no_target; at = 0 }
 
--- the slots of so many targets by rising key, and the uses of so many targets by the user's slots, where each
+-- the slots of so many targets by ascending key, and the uses of so many targets by the user's slots, where each
 -- target has one use
 abbrev pub places_from : ℕ → ℕ → List UseSlot
 places_from first count = map (λ target. record { target = target; at = 0 }) (range_with_len first count)

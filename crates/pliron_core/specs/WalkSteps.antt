@@ -29,6 +29,6 @@ first_in_blocks t from = first_of (flat_map (λ b. body_of t b) (blocks_from t f
 abbrev pub first_in_regions : Tree → ℕ → ℕ → Option ℕ
 first_in_regions t op index = first_of (flat_map (λ r. children_of_region t r) (drop index (regions_of t op))) None
 
--- the list has the part, and goes on with `next`
+-- the list contains the part, directly followed by `next`
 abbrev pub IsFollowedBy : List ℕ → List ℕ → Option ℕ → Type 0
 IsFollowedBy whole part next = (front : List ℕ) × (back : List ℕ) × (whole ≡ front ++ (part ++ back)) × (first_of back None ≡ next)

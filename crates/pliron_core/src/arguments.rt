@@ -1,4 +1,4 @@
-//! The arguments of each block in order, and what makes each value.
+//! The arguments of each block in order, and what defines each value.
 ghost use Rattle.std.specs.Prelude.{◌≡◌, ℕ, ◌+◌, ◌<◌, ◌≤◌, ◌^◌, ◌++◌, ◌∷◌, [], length, drop, remove, slice_get, slice_set, Some, IsTrue, ◌↔◌, IfOk, OnOk, OnErr, vec_len, vec_capacity};
 ghost use Rattle.std.specs.List.{range_with_len};
 ghost use Rattle.pliron_core.specs.Keys.{key_limit};
@@ -14,10 +14,10 @@ use crate::uses::{Use, Uses};
 use std::alloc::{AllocError, Global};
 use std::marker::Model;
 
-/// The arguments of each block in order, and what makes each value.
+/// The arguments of each block in order, and what defines each value.
 ///
 /// A block is a user, and its arguments are its targets: the index of a value is read from its use. What is
-/// written of a value says what makes it where it is a result, and what made it where it is an argument that
+/// written of a value says what defines it where it is a result, and what defined it where it is an argument that
 /// was removed. Here block 0 has the values 1 and 3, value 0 is a result, and value 2 was removed:
 ///
 /// ```text
@@ -99,7 +99,7 @@ impl Arguments {
         }
     }
 
-    /// What makes a value, or made it, where it is a removed argument. Cost: constant, and a logarithm where it
+    /// What defines a value, or defined it, where it is a removed argument. Cost: constant, and a logarithm where it
     /// is an argument and those of its block are counted.
     #[inline(always)]
     pub fn definition(&self, value: Value) -> Option<Def>
@@ -132,7 +132,7 @@ impl Arguments {
         self.lists.reserve(blocks, values)
     }
 
-    /// So many new values, results of the operation, by rising key.
+    /// So many new values, results of the operation, by ascending handle.
     ///
     /// Errors: allocation failure, which changes nothing. Cost: one step for each, amortised.
     #[inline(always)]
@@ -160,7 +160,7 @@ impl Arguments {
         Ok(keys)
     }
 
-    /// A new block, with so many new values as its arguments, by rising key.
+    /// A new block, with so many new values as its arguments, by ascending handle.
     ///
     /// Errors: allocation failure, which changes nothing. Cost: one step for each, amortised.
     pub fn add_block(&mut self, alloc: Global, count: usize) -> Result<(), AllocError>
@@ -238,7 +238,7 @@ impl Arguments {
     }
 }
 
-// What makes new values.
+// What defines new values.
 #[derive(Clone, Copy, Drop)]
 enum Maker {
     Operation(Ptr<Operation>),
@@ -286,7 +286,7 @@ impl Maker {
     }
 }
 
-// So many values, by rising key.
+// So many values, by ascending handle.
 #[tactic(auto, using(crate::proofs::GrownLemmas::range_more))]
 #[inline(always)]
 fn value_keys(alloc: Global, first: usize, count: usize) -> Result<InlineList<Value>, AllocError>

@@ -36,7 +36,7 @@ impl From<AllocError> for NoMemory {
     }
 }
 
-/// What makes a value: the result of an operation at this index, or the argument of a block.
+/// What defines a value: it is the result of an operation at this index, or the argument of a block.
 #[derive(Clone, Copy, Debug, PartialEq, Eq)]
 pub enum Def {
     Result(Ptr<Operation>, usize),
@@ -58,16 +58,16 @@ pub struct OperationEntry {
     pub regions: InlineList<Ptr<Region>>,
 }
 
-/// Operations, blocks, regions and values, each named by its key.
+/// Operations, blocks, regions and values, each named by its handle.
 ///
-/// A key is an index into each table of its kind, and keys are never given twice:
+/// A handle is an index into each table of its kind, and no handle is given out twice:
 ///
 /// ```text
 /// operation o   operations[o] = head, results, regions      operands:   o -> values, and back
 ///               order: the list (a block) that has o        successors: o -> blocks, and back
 /// block b       arguments: b -> values, and back            layout: the list (a region) that has b
 /// region r      slots[r] = its operation, its index there   layout: list r, its blocks
-/// value v       arguments: what makes v                     operands: the uses of v
+/// value v       arguments: what defines v                   operands: the uses of v
 /// ```
 #[derive(Drop)]
 pub struct Context {
@@ -132,7 +132,7 @@ impl Context {
     }
 
     /// The law of every context: its tables are those of a tree, its lists of uses have each use once, and
-    /// there are fewer than 2^64 keys of each kind. It changes nothing. Cost: constant.
+    /// there are fewer than 2^64 handles of each kind. It changes nothing. Cost: constant.
     pub fn well_formed(&self)
         ensures tree { IsTree self.now.tree }
         ensures uses { HaveUses self.now }
@@ -148,7 +148,7 @@ impl Context {
         self.successors.agree();
     }
 
-    // The law of keys: each block has one. It changes nothing.
+    // The law of handles: each block has one. It changes nothing.
     fn few_blocks(&self)
         ensures { length self.now.tree.bodies ≤ key_limit }
     {

@@ -3,9 +3,9 @@
 //! Operand, result, argument, use and successor lists mostly have one or two items, and each allocation costs
 //! 190 instructions with its return. So up to two items are stored in place, and more in an allocation. What
 //! was allocated stays so, and a list that grows and shrinks about two items allocates nothing. `smallvec` asks
-//! for a blank item for each unused place (`T: MadeWith`), which keys don't have, and takes two words more.
+//! for a blank item for each unused place (`T: MadeWith`), which handles don't have, and takes two words more.
 //!
-//! A longer list is behind a pointer, so that a row of keys takes 16 bytes, and one of uses 24. A list has fewer
+//! A longer list is behind a pointer, so that a row of handles takes 16 bytes, and one of uses 24. A list has fewer
 //! than 2^32 items, so that an index into it fits 32 bits.
 ghost use Rattle.std.specs.Prelude.{remove, ◌≡◌, ◌+◌, ◌-◌, ◌<◌, ◌≤◌, ◌==◌, [], ◌∷◌, ◌++◌, length, slice_set, take, slice_get, Some, IfOk, OnOk, OnErr, IsSome, vec_len, vec_capacity};
 ghost use Rattle.pliron_core.specs.UseSlots.{at, put, cut};

@@ -1,4 +1,4 @@
-//! Keys of what a context holds.
+//! Handles of what a context holds.
 ghost use Rattle.std.specs.Prelude.{◌≡◌, ◌<◌, IfOk};
 ghost use Rattle.pliron_core.specs.Keys.{key_limit};
 
@@ -17,7 +17,7 @@ pub struct BasicBlock;
 #[derive(Clone, Copy, Debug, PartialEq, Eq, Hash)]
 pub struct Region;
 
-/// The key of one `T` of a context. Keys count up from 0 in the order in which things are made, and
+/// The handle of one `T` of a context. Handles count up from 0 in the order in which things are created, and
 /// are never used again.
 #[derive(Clone, Copy, Debug, PartialEq, Eq, Hash)]
 pub struct Ptr<T> {
@@ -52,7 +52,7 @@ impl<T> Ptr<T> {
         self.key
     }
 
-    /// The number of this key. Cost: constant.
+    /// The number of this handle. Cost: constant.
     pub fn key(self) -> u64
         ensures { result ≡ self }
     {
@@ -60,7 +60,7 @@ impl<T> Ptr<T> {
     }
 }
 
-/// The key of a value.
+/// The handle of a value.
 #[derive(Clone, Copy, Debug, PartialEq, Eq, Hash)]
 pub struct Value {
     key: u32,
@@ -90,7 +90,7 @@ impl Value {
         self.key
     }
 
-    /// The number of this key. Cost: constant.
+    /// The number of this handle. Cost: constant.
     pub fn key(self) -> u64
         ensures { result ≡ self }
     {
@@ -98,9 +98,9 @@ impl Value {
     }
 }
 
-// The key of the next of so many things.
+// The handle of the next of so many things.
 //
-// Errors: there are as many as keys of 32 bits, which counts as allocation failure.
+// Errors: there are as many as handles of 32 bits, which counts as allocation failure.
 #[inline(always)]
 pub(crate) fn next_key(count: usize) -> Result<u32, AllocError>
     ensures key { IfOk result (λ key. key ≡ count) }

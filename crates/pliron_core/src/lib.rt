@@ -1,7 +1,7 @@
-//! The IR: a tree of operations, regions and blocks, named by keys, with the use lists of values and blocks.
+//! The IR: a tree of operations, regions and blocks, named by handles, with the use lists of values and blocks.
 //!
-//! It knows keys, attributes, heads and a rewriter that reports what it does. Of what an operation means, of
-//! dialects and of optimisations it knows nothing.
+//! It knows handles, attributes, heads and a rewriter that reports what it does. It knows nothing of what an
+//! operation means, of dialects or of optimisations.
 #![tactic(auto)]
 
 mod arguments;

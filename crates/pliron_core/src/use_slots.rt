@@ -53,7 +53,7 @@ const FREE: UseSlot = UseSlot {
     at: 0,
 };
 
-// The slots of so many targets, by rising key, each with one use.
+// The slots of so many targets, by ascending key, each with one use.
 #[inline(always)]
 pub(super) fn new_places(
     alloc: Global,

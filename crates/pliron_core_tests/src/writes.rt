@@ -90,7 +90,7 @@ fn tells_where_it_inserts(rt: HostRuntime) -> Result<(), Fail> {
     in_new_context(&rt, rt.alloc(), set_points)
 }
 
-// What was erased again leaves its key behind.
+// What was erased again leaves its handle behind.
 fn make_and_erase(rt: &impl Abort, alloc: Global, ctx: &mut Context) -> Result<(), Fail> {
     assert!(rt; ctx.is_empty());
     let three = operation(rt, ctx, head(alloc, CONST, Some(3))?, 1, 0)?;

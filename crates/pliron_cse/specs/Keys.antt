@@ -33,7 +33,7 @@ abbrev pub head_words_of : Option Head → List ℕ
 head_words_of None = []
 head_words_of (Some head) = head_words head
 
--- the region in which the operation stands
+-- the region that the operation is in
 abbrev pub region_around : Tree → ℕ → Option ℕ
 region_around t k = up_from (parent_of t k) (λ b. block_parent_of t b)
 

@@ -17,13 +17,13 @@ use Rattle.pliron_cse.specs.Keys.{key_words, region_around}
 use Rattle.pliron_cse.specs.Left.{UsesAreBehind, HasRedundancy}
 use Rattle.pliron_cse.specs.Taking.{Pair, TakeInTurn}
 
--- the operation holds nothing, leads nowhere and has no side effects
+-- the operation has no regions, successors or side effects
 pub record MayRepeat (side_effects : Head → Option Bool) (t : Tree) (k : ℕ) : Type 0 where
   pub regions : regions_of t k ≡ []
   pub successors : successors_of t k ≡ []
   pub harmless : HasNoSideEffects side_effects t k
 
--- b does what a does; without operands they stand in one region
+-- b does what a does; without operands they are in one region
 pub record AreNearAlike (side_effects : Head → Option Bool) (t : Tree) (a b : ℕ) : Type 0 where
   pub alike : AreAlike side_effects t a b
   pub near : operands_of t b ≡ [] → region_around t a ≡ region_around t b
@@ -44,7 +44,7 @@ pub record StaysAlone (side_effects : Head → Option Bool) (t : Tree) (ops ends
   pub found : AreFound side_effects t ops ends place find → AreFound side_effects t ops ends (place + 1) find'
   pub none : AreFound side_effects t ops ends place find → (i : ℕ) → LeadsAt side_effects t ops ends i place → ⊥
 
--- where one goes, the leaders stay
+-- where one is erased, the leaders stay
 abbrev pub LeadsOn : (Head → Option Bool) → Tree → (ops ends : List ℕ) → ℕ → (find find' : List ℕ → Option ℕ) → Bool → Type 0
 LeadsOn side_effects t ops ends place find find' true = (key : List ℕ) → find' key ≡ find key
 LeadsOn side_effects t ops ends place find find' false = StaysAlone side_effects t ops ends place find find'
@@ -53,7 +53,7 @@ LeadsOn side_effects t ops ends place find find' false = StaysAlone side_effects
 abbrev pub AreNotRedundant : (Head → Option Bool) → Tree → (ops ends : List ℕ) → ℕ → Type 0
 AreNotRedundant side_effects t ops ends place = (i j : ℕ) → j < place → j < length ops → IsLive t (get_or ops j 0) → LeadsAt side_effects t ops ends i j → ⊥
 
--- of the operations in dominance order those that stand are seen, and all from this place on stand
+-- of the operations in dominance order those that are live are seen, and all from this place on are live
 pub record IsOrdered (t : Tree) (root : ℕ) (ops ends : List ℕ) (place : ℕ) : Type 0 where
   pub counted : length ends ≡ length ops
   pub distinct : IsDistinct ops
@@ -62,7 +62,7 @@ pub record IsOrdered (t : Tree) (root : ℕ) (ops ends : List ℕ) (place : ℕ)
   pub standing : (i j : ℕ) → i < length ops → j < length ops → IsLive t (get_or ops i 0) → IsLive t (get_or ops j 0) → ((i < j) × (j < get_or ends i 0)) ↔ StandsBefore t (get_or ops i 0) (get_or ops j 0)
   pub left : (j : ℕ) → place ≤ j → j < length ops → IsLive t (get_or ops j 0)
 
--- the operation at the place went as redundant, or nothing changed
+-- the operation at the place was erased as redundant, or nothing changed
 abbrev pub TakesOrStays : (Head → Option Bool) → (t t' : Tree) → (ops ends : List ℕ) → ℕ → Bool → Type 0
 TakesOrStays side_effects t t' ops ends place true = (i : ℕ) × LeadsAt side_effects t ops ends i place × (t' ≡ after_merging t (get_or ops i 0) (get_or ops place 0))
 TakesOrStays side_effects t t' ops ends place false = t' ≡ t
@@ -78,7 +78,7 @@ pub record IsOnWay (m : Meaning) (t0 t : Tree) (root : ℕ) : Type 0 where
   pub edges : KeepsEdges t0 t
   pub fewer : (k : ℕ) → IsLive t k → IsLive t0 k
 
--- `Changed` tells that something went
+-- `Changed` reports that something was erased
 abbrev pub ReportsErased : (t0 t : Tree) → IRStatus → Type 0
 ReportsErased t0 t Changed = (b : ℕ) × IsLive t0 b × (IsLive t b → ⊥)
 ReportsErased t0 t Unchanged = t ≡ t0
@@ -98,7 +98,7 @@ pub record IsTaking (m : Meaning) (side_effects : Head → Option Bool) (t0 t : 
   pub ordered : IsOrdered t root ops ends place
   pub exact : IsExact side_effects t0 t root ops ends place find status
 
--- `Changed` if one went, else as before
+-- `Changed` if one was erased, else as before
 abbrev pub status_after : IRStatus → Bool → IRStatus
 status_after status true = Changed
 status_after status false = status

@@ -115,7 +115,7 @@ fn push_head(words: &mut Vec<u64>, head: &Head) -> Result<(), OptError>
     Ok(())
 }
 
-/// The region in which the operation stands. Asks that it stands. Takes no memory. Cost: constant.
+/// The region that the operation is in. Asks that the operation is live. Takes no memory. Cost: constant.
 pub fn region_of_operation(op: Ptr<Operation>, ctx: &Context) -> Option<Ptr<Region>>
     requires { IsLive ctx.now.tree op }
     ensures { result ≡ region_around ctx.now.tree op }
@@ -124,7 +124,7 @@ pub fn region_of_operation(op: Ptr<Operation>, ctx: &Context) -> Option<Ptr<Regi
     Some(region_of(ctx, block))
 }
 
-// The number of the region in which the operation stands.
+// The number of the region that the operation is in.
 fn push_region(words: &mut Vec<u64>, op: Ptr<Operation>, ctx: &Context) -> Result<(), OptError>
     requires { IsLive ctx.now.tree op }
     ensures words { OnOk result (words.new.items ≡ words.old.items ++ option_to_list (region_around ctx.now.tree op)) }
@@ -168,10 +168,10 @@ fn push_operands(words: &mut Vec<u64>, op: Ptr<Operation>, ctx: &Context) -> Res
     Ok(())
 }
 
-/// The numbers that operations have in common which do the same: the head, how many results, and the operands, or
+/// The numbers that operations which do the same have in common: the head, how many results, and the operands, or
 /// the region where there are none.
 ///
-/// Asks that the operation stands. Errors: allocation failure. Cost: the length of its attributes and operands.
+/// Asks that the operation is live. Errors: allocation failure. Cost: the length of its attributes and operands.
 pub fn key_of(alloc: Global, op: Ptr<Operation>, ctx: &Context) -> Result<Vec<u64>, OptError>
     requires { IsLive ctx.now.tree op }
     ensures words { IfOk result (λ key. key.items ≡ key_words ctx.now.tree op) }

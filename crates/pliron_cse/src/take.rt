@@ -1,4 +1,4 @@
-//! Redundant operations go, one after the other.
+//! Redundant operations are erased, one after the other.
 ghost use Rattle.std.specs.Prelude.{◌≡◌, ◌⊎◌, ◌↔◌, ◌+◌, ◌<◌, ℕ, List, IfOk, OnOk, OnErr, IfSome, IfNone, Some, IsOkUnless, IsTrue, length, get_or};
 ghost use Rattle.pliron_core.specs.Tree.{IsLive};
 ghost use Rattle.pliron_laws.specs.Linked.{IsWellLinked};
@@ -16,7 +16,7 @@ use pliron_laws::{Dialect, OptError, Room};
 use pliron_order::DominanceOrder;
 use std::alloc::Global;
 
-// Whether the operation may go, or stand for another: it holds nothing, leads nowhere and has no side effects.
+// Whether the operation may be erased, or replace another: it has no regions, successors or side effects.
 fn may_repeat<D: Dialect>(op: Ptr<Operation>, ctx: &Context) -> bool
     requires { IsLive ctx.now.tree op }
     ensures { IsTrue result ↔ MayRepeat D.side_effects ctx.now.tree op }
@@ -37,7 +37,7 @@ fn is_same_region(first: Option<Ptr<Region>>, second: Option<Ptr<Region>>) -> bo
     first == second
 }
 
-// Whether the second does what the first does, and stands in its region if it has no operands.
+// Whether the second does what the first does, and is in its region if it has no operands.
 fn are_near_alike<D: Dialect>(first: Ptr<Operation>, second: Ptr<Operation>, ctx: &Context) -> bool
     requires first { IsLive ctx.now.tree first }
     requires second { IsLive ctx.now.tree second }
@@ -113,7 +113,8 @@ fn leader_of<D: Dialect>(
     }
 }
 
-// The operation at this place goes if it is redundant, and else it leads those behind it. Answers whether it went.
+// The operation at this place is erased if it is redundant, and else it may lead those behind it. Answers whether
+// it was erased.
 fn take_at<D: Dialect, R: Rewriter + Room>(
     alloc: Global,
     order: &DominanceOrder,
@@ -146,17 +147,17 @@ fn take_at<D: Dialect, R: Rewriter + Room>(
     Ok(false)
 }
 
-// `Changed` if one went, else as before.
+// `Changed` if one was erased, else as before.
 fn status_with(status: IRStatus, taken: bool) -> IRStatus
     ensures { result ≡ status_after status taken }
 {
     if taken { IRStatus::Changed } else { status }
 }
 
-/// The redundant ones among these operations go. Answers whether one went.
+/// The redundant ones among these operations are erased. Answers whether one was.
 ///
-/// Asks for the dominance order of what is inside the root, and that the root stands and is well linked. Errors:
-/// allocation failure. Cost: a look-up of the key of each operation, and a step for each use that moves.
+/// Asks for the dominance order of what is inside the root, and that the root is live and is well linked. Errors:
+/// allocation failure. Cost: a look-up of the key of each operation, and a step for each use that is moved.
 pub fn take_all<D: Dialect, R: Rewriter + Room>(
     alloc: Global,
     root: Ptr<Operation>,

@@ -36,7 +36,7 @@ pub record AreIncoming (m : Meaning) (t : Tree) (block : ℕ) (edges : List Edge
   pub branches : BranchesLead m t block
   pub falling : (i j : ℕ) (e f : Edge) → i < j → slice_get edges i ≡ Some e → slice_get edges j ≡ Some f → width m t f ≤ width m t e
 
--- two keys are equal
+-- two handles are equal
 abbrev pub is_one_key : ℕ → ℕ → Bool
 is_one_key x y = nat_eq x y && true
 

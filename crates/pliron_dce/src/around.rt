@@ -1,7 +1,7 @@
 //! The operations around what lost a use, and how far up one use holds those around a value.
 //!
-//! The set knows the place of each operation that it had last, by the number of its key. A place is a hint: the
-//! operation is there if it stands there. So the set is emptied at once, whatever it held.
+//! The set knows the place of each operation that it had last, by the number of its handle. A place is a hint: the
+//! operation is in the set if it is at that place. So the set is emptied at once, whatever it held.
 //!
 //! A use of a value inside several operations that hold one another keeps each of them alive that its user isn't
 //! within. So one climb from the user to the outermost of them answers for all, and where the use was found
@@ -19,12 +19,12 @@ use std::alloc::{AllocError, Global};
 #[derive(Drop)]
 pub(crate) struct AroundSet {
     pub(crate) ops: Vec<Ptr<Operation>>,
-    // where the operation with this key stands, if it is there
+    // where the operation with this handle is, if it is in the set
     places: Vec<usize>,
 }
 
 impl AroundSet {
-    // None is there.
+    // The set is empty.
     pub(crate) fn new(alloc: Global) -> AroundSet
         ensures { result.ops.items ≡ [] }
     {
@@ -34,7 +34,7 @@ impl AroundSet {
         }
     }
 
-    // Whether the operation is there.
+    // Whether the operation is in the set.
     #[inline(always)]
     fn has(&self, op: Ptr<Operation>) -> bool
         ensures { IsTrue result → In op self.now.ops.items }
@@ -45,7 +45,7 @@ impl AroundSet {
         }
     }
 
-    // The operation is put last, unless it is there. Answers whether it was put.
+    // The operation is put last, unless it is in the set. Answers whether it was put.
     #[inline(always)]
     pub(crate) fn add(&mut self, op: Ptr<Operation>) -> Result<bool, AllocError>
         ensures came { IfOk result (λ came. came ≡ true → self.new.ops.items ≡ self.old.ops.items ++ op ∷ []) }
@@ -60,7 +60,7 @@ impl AroundSet {
         Ok(true)
     }
 
-    // None is there any more.
+    // The set is emptied.
     pub(crate) fn clear(&mut self)
         ensures { self.new.ops.items ≡ [] }
     {
@@ -68,7 +68,7 @@ impl AroundSet {
     }
 }
 
-// Whether the operation stands at this place.
+// Whether the operation is at this place.
 #[inline(always)]
 fn stands_at(ops: &[Ptr<Operation>], place: usize, op: Ptr<Operation>) -> bool
     ensures { IsTrue result → In op ops.now }

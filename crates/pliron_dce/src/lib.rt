@@ -12,12 +12,12 @@
 //!
 //! So a ring of arguments that feed each other stays: no first one of them is dead.
 //!
-//! The work goes over a worklist. A candidate is ready if no use keeps it alive at all. What is ready is erased, one
+//! The work is driven by a worklist. A candidate is ready if no use keeps it alive at all. What is ready is erased, one
 //! candidate after the other, each as one whole rewrite; whatever lost a use by it is a candidate for the next round.
 //! Where nothing is ready any more nothing is dead.
 //!
-//! The crate rests on the theory of runs and the laws of dialects. Of the other optimisations, of graphs, of passes
-//! and of the program it knows nothing.
+//! The crate builds on the theory of runs and the laws of dialects. It knows nothing of the other optimisations, of
+//! graphs, of passes or of the program.
 #![tactic(auto)]
 
 ghost use Rattle.std.specs.Prelude.{◌≡◌, ◌↔◌, ℕ, List, IfOk, OnErr, IsTrue, IsOkUnless};
@@ -68,7 +68,7 @@ pub fn ready_items_are_candidates<D: Dialect>()
 /// Erases all that is dead inside the operation: operations without side effects that are no terminators, and
 /// arguments that the parent operation of their block allows to be removed and to whose block branches alone
 /// lead, where only what is dead too uses them. The operands that branches forwarded to such an argument are
-/// removed with it. Values and operations that stay keep their keys; the operation itself stays.
+/// removed with it. Values and operations that stay keep their handles; the operation itself stays.
 ///
 /// What is dead is a least set: a ring of arguments that feed each other stays.
 ///

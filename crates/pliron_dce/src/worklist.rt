@@ -213,8 +213,8 @@ fn next_of<D: Dialect>(
     )
 }
 
-// Those of these operations come into the round that no use is found to keep alive. Each stands behind what is in
-// it, so one use that is found answers mostly for the next ones too.
+// Those of these operations that no use is found to keep alive come into the round. Each comes after what is inside
+// it, so one use that is found mostly answers for the next ones too.
 fn push_unheld<D: Dialect>(
     round: &mut Vec<DeadCandidate>,
     ops: &[Ptr<Operation>],

@@ -1,4 +1,4 @@
--- Comments of texts, which stand from `//` to the end of the line.
+-- Comments of texts, which run from `//` to the end of the line.
 use Rattle.std.specs.Prelude.{◌≡◌, ◌==◌, ◌&&◌, ◌||◌, ℕ, Bool, true, false, List, [], ◌∷◌, not, if◌then◌else◌}
 
 -- what some editors put before a text, in UTF-8

@@ -34,14 +34,14 @@ fn is_comment(inside: bool, byte: u8, rest: &[u8]) -> bool
     }
 }
 
-// The byte as it stands without comments.
+// The byte as it is without comments: a blank inside one.
 fn shown_byte(inside: bool, byte: u8) -> u8
     ensures { result ≡ (if inside then 32 else byte) }
 {
     if inside { b' ' } else { byte }
 }
 
-/// The text with a blank for each byte of its comments, which stand from `//` to the end of the line: so all else keeps
+/// The text with a blank for each byte of its comments, which run from `//` to the end of the line: so all else keeps
 /// its line and column.
 ///
 /// Errors: allocation failure. Cost: linear in the text.

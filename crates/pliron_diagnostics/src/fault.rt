@@ -1,4 +1,4 @@
-//! What is told of texts outside the notation.
+//! What is reported of texts outside the notation.
 ghost use Rattle.std.specs.Prelude.{IsOkUnless};
 ghost use Rattle.pliron_laws.specs.declared.fault.OptError.TheVariants.{Memory};
 
@@ -8,8 +8,8 @@ use pliron_laws::OptError;
 use pliron_notation::find_text_fault;
 use std::alloc::Global;
 
-/// What is told of a text that the notation doesn't have: the first place where it leaves the notation, and
-/// what fits there or is meant; `None` of one that it has. `name` says where the text is from.
+/// The message for a text that the notation doesn't have: the first place where it leaves the notation, and what fits
+/// there or is meant; `None` for one that it has. `name` says where the text is from.
 ///
 /// Errors: allocation failure. Cost: that of reading.
 pub fn text_fault(alloc: Global, name: &str, text: &[u8]) -> Result<Option<String>, OptError>

@@ -1,4 +1,4 @@
-//! A part of a text by itself, where it stands.
+//! A part of a text by itself, at its own place.
 ghost use Rattle.std.specs.Prelude.{◌≡◌, ◌+◌, ◌++◌, ◌≤◌, length, map, take, drop, IfOk, IfSome, OnOk};
 ghost use Rattle.pliron_diagnostics.specs.Isolated.{blank_of as blank_for, part_alone};
 
@@ -44,7 +44,7 @@ pub fn isolate(alloc: Global, text: &[u8], part: TextRange) -> Result<Vec<u8>, A
     Ok(whole)
 }
 
-/// A scan for what stands directly in the braces of an operation.
+/// A scan for what is directly inside the braces of an operation.
 #[derive(Clone, Copy)]
 struct InnerScan {
     depth: usize,
@@ -115,9 +115,9 @@ fn inner_operation(text: &[u8], number: usize) -> Option<TextRange>
     None
 }
 
-/// The operation at the end of a path in a text that the notation has: numbers with dots between them, in turn of a
-/// region of an operation and of an operation that stands directly in it, counted over its blocks, each from 0. A path
-/// that ends with a region leads to the operation that holds it. `None` where the text has no such operation.
+/// The operation at the end of a path in a text that the notation has: numbers with dots between them, in turn that of
+/// a region of an operation and that of an operation directly in the region, counted over its blocks, each from 0. A
+/// path that ends with a region leads to the operation that holds it. `None` where the text has no such operation.
 ///
 /// Cost: linear in the path and in the operations on it.
 pub fn operation_range(text: &[u8], path: &str) -> Option<TextRange>

@@ -79,7 +79,7 @@ impl Layout {
         Ok(())
     }
 
-    // Writes what parts the rest of the text from what stands there.
+    // Writes what separates the rest of the text from what is laid out so far.
     #[tactic(auto, using(crate::proofs::LayoutLemmas::space_added))]
     fn part(&mut self, rest: &[u8]) -> Result<(), AllocError>
         ensures { OnOk result (without_blanks self.new.text.items ≡ without_blanks self.old.text.items) }

@@ -1,6 +1,6 @@
-//! What is told of texts, in the form that people read or in one that editors and programs do.
+//! Reports on texts, in the form that people read or in one that editors and programs read.
 //!
-//! A report tells each thing in the form of `mark_source`: a line with `error:`, `warning:` or `note:` and what is
+//! A report writes each message in the form of `mark_source`: a line with `error:`, `warning:` or `note:` and what is
 //! wrong, one with `-->` and its place, its line with a mark and a label under it, and lines with `help:`.
 ghost use Rattle.std.specs.Prelude.{◌≡◌, IfOk, string_bytes};
 ghost use Rattle.pliron_diagnostics.specs.declared.message_form.MessageForm.TheVariants.{Full};
@@ -12,16 +12,16 @@ use std::alloc::{AllocError, Global};
 pub enum MessageForm {
     /// For people: with the line and a mark under it.
     Full,
-    /// A line for each thing: `file:line:column: error: what is wrong: label`.
+    /// A line for each message: `file:line:column: error: what is wrong: label`.
     Short,
     /// The same as an object of JSON on a line.
     Json,
 }
 
-/// How bad a thing is, as reports write it.
+/// The severity of a message, as reports write it.
 static SEVERITIES: [&str; 3] = ["error", "warning", "note"];
 
-/// A thing that a report tells.
+/// A message of a report.
 #[derive(Clone, Copy)]
 struct Message<'r> {
     severity: &'r str,
@@ -42,7 +42,7 @@ fn beginning(line: &str) -> Option<(&str, &str)> {
     }
 }
 
-// The place that the line tells, if it does.
+// The place that the line gives, if it gives one.
 fn place_of_line(line: &str) -> Option<(&str, &str, &str)> {
     let place = line.trim_start_matches(' ').strip_prefix("--> ")?;
     let (rest, column) = place.rsplit_once(':')?;
@@ -50,7 +50,7 @@ fn place_of_line(line: &str) -> Option<(&str, &str, &str)> {
     Some((name, number, column))
 }
 
-// What stands in the frame of a text's line, behind the bar, if the line belongs to it.
+// What is in the frame of a text's line, behind the bar, if the line belongs to that frame.
 fn behind_frame(line: &str) -> Option<&str> {
     let (number, rest) = line.split_once('|')?;
     if number
@@ -74,7 +74,7 @@ fn label_of_line(line: &str) -> Option<&str> {
     }
 }
 
-// Adds the letters as they stand in a string of JSON.
+// Adds the letters as they are written in a string of JSON.
 fn push_json(text: &mut String, words: &str) -> Result<(), AllocError> {
     text.push('"')?;
     for letter in words.chars() {
@@ -93,7 +93,7 @@ fn push_json(text: &mut String, words: &str) -> Result<(), AllocError> {
 }
 
 impl<'r> Message<'r> {
-    // A thing of which only this is told so far.
+    // A message of which only this is known so far.
     fn new(severity: &'r str, message: &'r str) -> Self {
         Message {
             severity,
@@ -104,7 +104,7 @@ impl<'r> Message<'r> {
         }
     }
 
-    // Takes in a line, and answers whether it belongs to the thing.
+    // Takes in a line, and answers whether it belongs to the message.
     fn take(&mut self, line: &'r str) -> bool {
         if let Some(place) = place_of_line(line) {
             self.place = Some(place);
@@ -162,7 +162,7 @@ impl<'r> Message<'r> {
     }
 }
 
-// Writes the thing that is open in the form, if one is.
+// Writes the message that is open, if one is, in the form.
 fn write_open(
     open: Option<Message>,
     text: &mut String,
@@ -174,8 +174,8 @@ fn write_open(
     }
 }
 
-/// The things of the report in the form, each on a line, and its other lines as they are; in the form for people all as
-/// it is.
+/// The messages of the report in the form, each on a line, and its other lines as they are; in the form for people the
+/// whole report as it is.
 ///
 /// Errors: allocation failure. Cost: linear in the report.
 pub fn in_form(alloc: Global, report: &str, form: MessageForm) -> Result<String, AllocError>

@@ -31,8 +31,8 @@ pub fn operation_places(alloc: Global, text: &[u8]) -> Result<Vec<TextPart>, All
     Ok(places)
 }
 
-/// Where the operation stands in a text. These are the places of the text's operations, and this is the root; `None` of
-/// an operation that wasn't read from it. Cost: constant.
+/// Where the operation is in a text. `places` are those of the text's operations, and `root` is their root; `None` for
+/// an operation that wasn't read from the text. Cost: constant.
 pub fn place_of(places: &[TextPart], root: Ptr<Operation>, op: Ptr<Operation>) -> Option<TextPart> {
     let number = op.key().checked_sub(root.key())?;
     places.get(usize::try_from(number).ok()?).copied()

@@ -25,7 +25,7 @@ pub struct RunOptions<'w> {
     pub world: &'w [i64],
     /// The most moves that it makes.
     pub steps: usize,
-    /// Whether each move is told.
+    /// Whether each move is reported.
     pub trace: bool,
 }
 
@@ -127,7 +127,7 @@ pub enum End {
     Stopped,
 }
 
-/// What is told of a run.
+/// What is reported of a run.
 #[derive(Drop)]
 pub struct RunReport {
     /// Its effects as they came, and how it ended.
@@ -170,7 +170,7 @@ pub fn run_sight(
     evaluate_noting::<Bench>(alloc, ctx, root, given, notes)
 }
 
-// Writes each move: where its operation stands, how it is written, and the data that it takes.
+// Writes each move: where its operation is, how it is written, and the data that it takes.
 fn write_moves(
     report: &mut String,
     source: &Source,
@@ -208,7 +208,7 @@ pub(crate) struct FinishedRun<'r> {
     pub(crate) sight: &'r Sight,
 }
 
-/// What is told of the last move of a run that didn't end with values.
+/// What is reported of the last move of a run that didn't end with values.
 #[derive(Drop)]
 struct LastMove {
     severity: &'static str,
@@ -235,7 +235,7 @@ fn trap_reason(alloc: Global, ctx: &Context, run: &FinishedRun) -> Result<TrapRe
     }
 }
 
-// What is told of the run's last move, where the run didn't end with values.
+// What is reported of the run's last move, where the run didn't end with values.
 fn last_move(
     alloc: Global,
     ctx: &Context,
@@ -264,7 +264,7 @@ fn last_move(
     })
 }
 
-// What is told beside what is seen: the moves that are noted, and a mark under the operation that made the last one
+// What is reported beside what is seen: the moves that are noted, and a mark under the operation that made the last one
 // where the run didn't end with values. Errors: allocation failure. Cost: linear in the text and the moves, and where
 // the run trapped that of running it again.
 pub(crate) fn report_of(
@@ -295,7 +295,7 @@ pub(crate) fn report_of(
     Ok(report)
 }
 
-/// What is told of the run of a text's operation; `None` of an unreadable text.
+/// What is reported of the run of a text's operation; `None` for an unreadable text.
 ///
 /// Errors: allocation failure. Cost: reading, and that of `evaluate_noting`, twice where the run trapped.
 pub fn run_text(
@@ -329,7 +329,7 @@ pub(crate) fn notes_for(alloc: Global, options: &RunOptions) -> Notes {
     }
 }
 
-// What is told of the run of the operation, which was read from the text.
+// What is reported of the run of the operation, which was read from the text.
 fn report_of_run(
     alloc: Global,
     source: &Source,

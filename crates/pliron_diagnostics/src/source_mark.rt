@@ -4,17 +4,17 @@ ghost use Rattle.pliron_diagnostics.specs.Position.{is_line_end, line_behind, co
 
 use std::alloc::{AllocError, Global};
 
-/// How many bytes of a line stand before and behind what is marked at most.
+/// How many bytes of a line are shown at most before what is marked, and behind it.
 const AROUND: usize = 50;
 
-/// Where a byte of a text stands, counted from 1, columns by bytes.
+/// Where a byte of a text is, counted from 1, columns by bytes.
 #[derive(Clone, Copy)]
 pub struct Position {
     pub line: usize,
     pub column: usize,
 }
 
-// How many bytes stand behind the last end of a line.
+// How many bytes are behind the last end of a line.
 fn last_line_len(text: &[u8]) -> usize
     ensures { result ≡ length (take_while (λ byte. not (is_line_end byte)) (reverse text.now)) }
 {
@@ -25,7 +25,7 @@ fn last_line_len(text: &[u8]) -> usize
     len
 }
 
-/// Where the byte after so many stands. Cost: linear in these.
+/// Where the byte after so many is. Cost: linear in these.
 pub fn position_of(text: &[u8], start: usize) -> Position
     ensures line { result.line ≡ line_behind (take start text.now) }
     ensures column { result.column ≡ column_behind (take start text.now) }
@@ -45,12 +45,12 @@ pub struct Source<'t> {
     pub text: &'t [u8],
 }
 
-/// What is told of a part of a text.
+/// What is reported of a part of a text.
 #[derive(Clone, Copy)]
 pub struct SourceMark<'t> {
     /// What is wrong.
     pub message: &'t str,
-    /// What stands under the part.
+    /// What is written under the part.
     pub label: &'t str,
     /// Where the text is from.
     pub name: &'t str,
@@ -59,7 +59,7 @@ pub struct SourceMark<'t> {
     pub len: usize,
 }
 
-// A byte as it is shown: one that isn't printed is a question mark.
+// A byte as it is shown: one that can't be printed is a question mark.
 fn shown_char(byte: u8) -> char {
     match byte {
         b'\t' => ' ',
@@ -83,7 +83,7 @@ pub fn push_bytes(
     Ok(())
 }
 
-// The line that holds the byte after so many: how many bytes stand before and within it.
+// The line that holds the byte after so many: how many bytes are before and within it.
 fn line_around(text: &[u8], start: usize) -> (usize, usize)
     ensures { result.0 + result.1 ≤ length text.now }
 {
@@ -116,15 +116,15 @@ fn push_times(text: &mut String, mark: &str, times: usize) -> Result<(), AllocEr
     Ok(())
 }
 
-/// What is told of the part, as compilers do: what is wrong, where it is, its line and a mark under it. Of a
-/// long line only what stands around the part is shown.
+/// The message for the part, as compilers write it: what is wrong, where it is, its line and a mark under it. Of a long
+/// line only what is around the part is shown.
 ///
 /// Errors: allocation failure. Cost: linear in the text before the part, and in what is shown.
 pub fn mark_source(alloc: Global, text: &[u8], mark: &SourceMark) -> Result<String, AllocError> {
     mark_source_as(alloc, "error", text, mark)
 }
 
-/// The same of a severity: `error`, `warning` or `note`. Errors: allocation failure. Cost: that of `mark_source`.
+/// The same with a severity: `error`, `warning` or `note`. Errors: allocation failure. Cost: that of `mark_source`.
 pub fn mark_source_as(
     alloc: Global,
     severity: &str,

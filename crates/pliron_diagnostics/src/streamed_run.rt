@@ -1,4 +1,4 @@
-//! Runs whose effects are told while they go on.
+//! Runs whose effects are reported while they go on.
 use crate::run_report::{
     FinishedRun, RunOptions, RunReport, effects_text, end_of, notes_for, report_of, run_sight,
     sight_text,
@@ -10,9 +10,9 @@ use pliron_laws::OptError;
 use pliron_notation::read_text;
 use std::alloc::{AllocError, Global};
 
-/// Who is told of the effects of a run as they come.
+/// Receives the effects of a run as they come.
 pub trait EffectSink {
-    /// More effects came, each on a line; answers whether anybody hears of the next ones.
+    /// Takes more effects, each on a line; answers whether the next ones are wanted.
     fn tell(&mut self, lines: &[u8]) -> bool;
 }
 
@@ -24,7 +24,7 @@ const FIRST_MOVES: usize = 4096;
 struct RunPart {
     /// The most moves of this part.
     moves: usize,
-    /// How many bytes of the effects were told.
+    /// How many bytes of the effects the sink was given.
     told: usize,
 }
 
@@ -42,7 +42,7 @@ fn bytes_behind(text: &String, told: usize) -> &[u8] {
 }
 
 impl RunPart {
-    // Tells the effects that weren't told, and answers whether anybody hears of more.
+    // Gives the sink the effects that it wasn't given yet, and answers whether more are wanted.
     fn tell_effects<S: EffectSink>(
         &mut self,
         alloc: Global,
@@ -56,7 +56,7 @@ impl RunPart {
         Ok(is_heard)
     }
 
-    // What is told of the run that came to this end, but for the effects that were told.
+    // What is reported of the run that came to this end, but for the effects that the sink was given.
     fn report(
         self,
         alloc: Global,
@@ -73,7 +73,7 @@ impl RunPart {
     }
 }
 
-// What is told of the run of the operation, which was read from the text, once its effects were told to the sink.
+// What is reported of the run of the operation, which was read from the text, once its effects were given to the sink.
 fn report_of_parts<S: EffectSink>(
     alloc: Global,
     source: &Source,
@@ -111,8 +111,8 @@ fn report_of_parts<S: EffectSink>(
     Ok(None)
 }
 
-/// What is told of the run of a text's operation, but for its effects, of which the sink is told as they come: at the
-/// latest once the run made four times as many moves as before the effect. `None` of an unreadable text.
+/// What is reported of the run of a text's operation, but for its effects, which the sink is given as they come: at the
+/// latest once the run made four times as many moves as before the effect. `None` for an unreadable text.
 ///
 /// Errors: allocation failure. Cost: reading, and that of `evaluate_noting` for a third more moves than the run makes.
 pub fn run_text_streamed<S: EffectSink>(

@@ -1,10 +1,10 @@
-//! What a text of the notation writes: where its operations, the heads of its blocks and the names of its values stand.
+//! What a text of the notation writes: where its operations, the heads of its blocks and the names of its values are.
 use std::alloc::{AllocError, Global};
 
 /// A part of a text.
 #[derive(Clone, Copy, Debug, Drop, PartialEq, Eq)]
 pub struct TextPart {
-    /// How many bytes stand before it.
+    /// How many bytes are before it.
     pub start: usize,
     pub len: usize,
     /// Its line and column, counted from 1, columns by bytes.
@@ -29,9 +29,9 @@ pub struct ValueName {
     pub block: Option<usize>,
 }
 
-/// The parts of a text. It is one that the notation has, and each kind stands in the order in which it is written,
-/// which is the order in which `read_text` makes what they name: so the number of each is its key in the tree that was
-/// read.
+/// The parts of a text. It is one that the notation has, and each kind of part is in the order in which it is written,
+/// which is the order in which `read_text` makes what the parts name: so the number of each is the handle of what it
+/// names in the tree that was read.
 #[derive(Drop)]
 pub struct TextParts {
     /// The operations, up to their regions.
@@ -41,7 +41,7 @@ pub struct TextParts {
     pub values: Vec<ValueName>,
 }
 
-// Whether the byte may stand in a name.
+// Whether the byte may be in a name.
 fn is_name_byte(byte: u8) -> bool {
     byte.is_ascii_alphanumeric() || byte == b'_'
 }
@@ -50,7 +50,7 @@ fn is_name_byte(byte: u8) -> bool {
 #[derive(Clone, Copy)]
 struct TextScan {
     line: usize,
-    /// How many bytes stand before the line.
+    /// How many bytes are before the line.
     line_start: usize,
     /// The part that is open, and its last byte so far that is no blank.
     open: Option<TextPart>,
@@ -130,7 +130,7 @@ impl TextParts {
         self.add_names(&bytes[opening..], after, Some(number))
     }
 
-    // Takes in the names that stand in these bytes, which begin where the part does.
+    // Takes in the names in these bytes, which begin where the part does.
     fn add_names(
         &mut self,
         bytes: &[u8],
@@ -165,7 +165,7 @@ impl TextParts {
         }
     }
 
-    /// Where the operation with this number stands, if the text has it. Cost: constant.
+    /// Where the operation with this number is, if the text has it. Cost: constant.
     pub fn operation_part(&self, number: u64) -> Option<TextPart> {
         self.operations.get(usize::try_from(number).ok()?).copied()
     }
@@ -180,7 +180,7 @@ impl TextParts {
         self.values.get(usize::try_from(number).ok()?).copied()
     }
 
-    /// Where the head of the block with this number stands, if the text has it. Cost: constant.
+    /// Where the head of the block with this number is, if the text has it. Cost: constant.
     pub fn block_part(&self, number: u64) -> Option<TextPart> {
         self.blocks.get(usize::try_from(number).ok()?).copied()
     }

@@ -1,7 +1,7 @@
 //! The words and signs of a text, as far as labels ask for them: the text need not be one of the notation.
 use pliron_notation::Span;
 
-// Whether the byte may stand in a word.
+// Whether the byte may be in a word.
 fn is_word_byte(byte: u8) -> bool {
     byte.is_ascii_alphanumeric() || byte == b'_'
 }
@@ -12,7 +12,7 @@ pub(crate) fn bytes_of(text: &[u8], span: Span) -> &[u8] {
     rest.get(..span.len).unwrap_or(rest)
 }
 
-// The word or the other byte that stands first from here on, if one does. Cost: linear in the text up to its end.
+// The first word or other byte from here on, if there is one. Cost: linear in the text up to its end.
 pub(crate) fn token_from(text: &[u8], start: usize) -> Option<Span> {
     let rest = text.get(start..)?;
     let gap = rest.iter().position(|byte| !byte.is_ascii_whitespace())?;
@@ -27,7 +27,7 @@ pub(crate) fn token_from(text: &[u8], start: usize) -> Option<Span> {
     })
 }
 
-// The word or the other byte that stands last before here, if one does. Cost: linear in what stands between.
+// The last word or other byte before here, if there is one. Cost: linear in what is between.
 pub(crate) fn token_before(text: &[u8], end: usize) -> Option<Span> {
     let rest = text.get(..end)?;
     let last = rest.iter().rposition(|byte| !byte.is_ascii_whitespace())?;
@@ -61,8 +61,8 @@ fn is_parting(byte: u8) -> bool {
     matches!(byte, b';' | b'{' | b'}' | b':')
 }
 
-// The first token of what the byte after so many stands in: behind the last brace, semicolon or colon. Cost: linear in
-// the text before it.
+// The first token of what the byte after so many is in: behind the last brace, semicolon or colon. Cost: linear in the
+// text before it.
 pub(crate) fn first_token(text: &[u8], at: usize) -> Option<Span> {
     let before = text.get(..at)?;
     let start = match before.iter().rposition(|byte| is_parting(*byte)) {
@@ -72,7 +72,7 @@ pub(crate) fn first_token(text: &[u8], at: usize) -> Option<Span> {
     token_from(text, start)
 }
 
-// Whether the head of a block begins with this word: a colon stands behind its brackets. Cost: linear in the head.
+// Whether the head of a block begins with this word: a colon follows its brackets. Cost: linear in the head.
 pub(crate) fn is_head(text: &[u8], span: Span) -> bool {
     let rest = text
         .get(span.start.saturating_add(span.len)..)

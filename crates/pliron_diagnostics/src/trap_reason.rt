@@ -16,15 +16,15 @@ pub(crate) enum TrapReason {
     DivisionByZero,
     /// The quotient doesn't fit in 64 bits.
     QuotientTooLarge,
-    /// It divides, and either is so.
+    /// It divides, and one of these two holds.
     Division,
-    /// It goes to a block that takes another number of values than it passes.
+    /// It branches to a block that takes another number of values than it passes.
     Count { passed: usize, taken: usize },
     Unknown,
 }
 
 impl TrapReason {
-    // What stands under the operation. Errors: allocation failure.
+    // What is written under the operation. Errors: allocation failure.
     pub(crate) fn label(self, alloc: Global) -> Result<String, AllocError> {
         match self {
             TrapReason::Undefined(index) => {
@@ -59,8 +59,8 @@ fn earlier_moves(moves: &[Noted]) -> &[Noted] {
     moves.get(..moves.len().saturating_sub(1)).unwrap_or(moves)
 }
 
-// Whether one of the moves before the last one was made by the operation that defines the value, or one of all in the
-// block whose argument it is.
+// Whether one of the moves before the last one was made by the operation that defines the value, or, for an argument,
+// one of all moves by an operation of its block.
 fn is_defined_by(ctx: &Context, moves: &[Noted], value: Value) -> bool {
     if !value.is_live(ctx) {
         return false;
@@ -110,7 +110,7 @@ fn edge_counts(
     Ok(TrapReason::Count { passed, taken })
 }
 
-// Why the operation trapped that took this input. Errors: allocation failure.
+// Why the operation that took this input trapped. Errors: allocation failure.
 fn reason_by_input(
     alloc: Global,
     ctx: &Context,
@@ -134,7 +134,7 @@ fn reason_by_input(
     }
 }
 
-// Why the operation trapped that made the last of these moves, the first of which began the run. Errors: allocation
+// Why the operation that made the last of these moves, the first of which began the run, trapped. Errors: allocation
 // failure. Cost: linear in the moves for each operand.
 pub(crate) fn reason_of(
     alloc: Global,
@@ -153,7 +153,7 @@ pub(crate) fn reason_of(
     }
 }
 
-// Why the operation traps, as far as its kind tells it. Cost: constant.
+// Why the operation traps, as far as its kind shows it. Cost: constant.
 pub(crate) fn reason_by_kind(ctx: &Context, op: Ptr<Operation>) -> TrapReason {
     if !op.is_live(ctx) {
         return TrapReason::Unknown;

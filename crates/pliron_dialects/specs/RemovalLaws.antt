@@ -77,7 +77,7 @@ condition_kept [] (suc p) lt = refl
 condition_kept (d ∷ ds) (suc p) lt = refl
 
 module _ (roles : ℕ → Option Role) {K : Type 0} (number_of : K → ℕ) where
-  -- what acts alike at its first transition acts alike, where a branch goes on at once
+  -- what acts alike at its first transition acts alike, where a branch proceeds at once
   alike_at_once : (s s' : Shape) (first first' : List Datum) (i j : ℕ) → IsTrue ((meaning_by roles).is_branch s.head) → MovesAlike PassesSame (JumpsLess i j) ((meaning_by roles).act s Empty first) ((meaning_by roles).act s' Empty first') → ActAlike (meaning_by roles).act PassesSame (JumpsLess i j) s s' first first'
   unfolding meaning_by
   alike_at_once s s' first first' i j br begin = record {

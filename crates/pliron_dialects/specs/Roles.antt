@@ -13,10 +13,10 @@ pub data Role : Type 0 where
   Constant : Role
   -- it has so many operands, and gives a number that is computed of theirs
   Computes : (operands : ℕ) (value : List ℤ → ℤ) → Role
-  -- it goes to its one successor with its operands
+  -- it jumps to its one successor, with its operands
   Jumps : Role
-  -- it goes to its first successor unless its first operand is 0, else to its second one, with the operands of
-  -- that edge; its attribute counts those of the first edge
+  -- it jumps to its first successor unless its first operand is 0, else to its second one, with the operands of that
+  -- edge; its attribute counts those of the first edge
   Branches : Role
   -- it leaves the region with its operands
   Leaves : Role

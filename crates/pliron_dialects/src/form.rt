@@ -7,10 +7,10 @@ pub enum Form {
     Constant,
     /// It has so many operands, and gives a number that is computed of theirs.
     Computes(usize),
-    /// It goes to its one successor with its operands.
+    /// It jumps to its one successor, with its operands.
     Jumps,
-    /// It goes to its first successor unless its first operand is 0, else to its second one, with the operands
-    /// of that edge. Its attribute counts those of the first edge.
+    /// It jumps to its first successor unless its first operand is 0, else to its second one, with the operands of that
+    /// edge. Its attribute counts those of the first edge.
     Branches,
     /// It leaves the region with its operands.
     Leaves,

@@ -1,7 +1,6 @@
-//! Dialects by tables: an author says for each kind of operation what role it has, and the laws of all
-//! dialects follow.
+//! Dialects by tables: an author says for each kind of operation what role it has, and the laws of all dialects follow.
 //!
-//! It knows the laws of dialects, and no dialect. `docs/DIALECTS.md` goes through one step by step.
+//! It knows the laws of dialects, and no dialect. `docs/DIALECTS.md` explains one step by step.
 #![tactic(auto)]
 
 mod by_kinds;

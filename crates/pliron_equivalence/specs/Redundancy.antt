@@ -20,22 +20,22 @@ pub record AreAlike (side_effects : Head → Option Bool) (t : Tree) (a b : ℕ)
   pub no_region_of_first : regions_of t a ≡ []
   pub harmless : HasNoSideEffects side_effects t b
 
--- something inside the operation uses a value that is made outside it, so it is no isolated root
+-- something inside the operation uses a value that is defined outside it, so it is no isolated root
 abbrev pub IsOpen : Tree → ℕ → Type 0
 IsOpen t h = (user v : ℕ) × IsInside t h user × In v (operands_of t user) × (IsDefinedInside t h v → ⊥)
 
--- a stands before b and does the same; where it has no operands, each operation that has b alone inside is open
+-- a dominates b and does the same; where b has no operands, each operation that has b but not a inside is open
 pub record IsLeader (side_effects : Head → Option Bool) (t : Tree) (a b : ℕ) : Type 0 where
   pub apart : a ≢ b
   pub alike : AreAlike side_effects t a b
   pub before : StandsBefore t a b
   pub near : operands_of t b ≡ [] → (h : ℕ) → IsInside t h b → (IsInside t h a → ⊥) → IsOpen t h
 
--- the uses of a result may go to the same result of an operation that is alike, wherever the two stand, if each fit
--- root that has the one inside has the other inside, and this one stands before each of the uses
+-- the uses of a result may become uses of the same result of an operation that is alike, wherever the two are, if
+-- each fit root that has the one inside has the other inside, and the other dominates each of the uses
 abbrev pub AlikeLaw : Meaning → (Head → Option Bool) → Type 0
 AlikeLaw m side_effects = (t : Tree) (a b i old new : ℕ) → IsTree t → AreAlike side_effects t a b → slice_get (results_of t b) i ≡ Some old → slice_get (results_of t a) i ≡ Some new → ((root : ℕ) → IsFit m t root → IsInside t root b → IsInside t root a) → ((root : ℕ) → IsFit m t root → IsInside t root a → (user : ℕ) → In old (operands_of t user) → StandsBefore t a user) → KeepsRuns m t (after_replacing t old new)
 
--- the uses of a result of an operation may go to the same result of its leader
+-- the uses of a result of an operation may become uses of the same result of its leader
 abbrev pub LeaderLaw : Meaning → (Head → Option Bool) → Type 0
 LeaderLaw m side_effects = (t : Tree) (a b i old new : ℕ) → IsTree t → IsLeader side_effects t a b → slice_get (results_of t b) i ≡ Some old → slice_get (results_of t a) i ≡ Some new → KeepsAllRuns m t (after_replacing t old new)

@@ -44,7 +44,7 @@ there (Some Br) n b c d k h e = absurd (unsaid e)
 there (Some Both) n b c d k h e = let it = in_case (nat_lt 1 n) (Some 1) k e in subst (λ x. x < n) (same_Some 1 k it.1) (below 1 n it.0)
 there (Some Twice) n b c d k h e = subst (λ x. x < n) (same_Some 0 k e) ((twice_counts n b c d h).0)
 
--- it stands at its place for the kind
+-- it is at its place for the kind
 named : (o : Option TinyKind) (n k : ℕ) → first_entry_operand o n ≡ Some k → ((o ≡ Some Both) × (k ≡ 1)) ⊎ ((o ≡ Some Twice) × (k ≡ 0))
 named None n k e = absurd (unsaid e)
 named (Some Const) n k e = absurd (unsaid e)

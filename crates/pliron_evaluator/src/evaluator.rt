@@ -22,11 +22,11 @@ use pliron_core::{Context, Operation, Ptr};
 use std::alloc::{AllocError, Global};
 pub use values::{Datum, Evaluate, Move, RunInputs, Sight};
 
-/// What is seen of a run of the root. It is on these inputs, the world gives these answers in order, and it makes
-/// at most `fuel` steps. A root that doesn't stand traps.
+/// What is seen of a run of the root. The run gets these inputs and, in order, these answers of the world, and makes at
+/// most `fuel` steps. A root that isn't live traps.
 ///
-/// Errors: allocation failure. Cost: a step copies what the operation reads and the operations of the
-/// block that it enters, and looks up each value once.
+/// Errors: allocation failure. Cost: a step copies what the operation reads and the operations of the block that it
+/// enters, and looks up each value once.
 pub fn evaluate<D: Evaluate>(
     alloc: Global,
     ctx: &Context,

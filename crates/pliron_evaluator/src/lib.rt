@@ -1,5 +1,4 @@
-//! The evaluator, which is for tests: what is seen of a run, for `Bench` and for the tiny dialect,
-//! which stands here too.
+//! The evaluator, which is for tests: what is seen of a run, for `Bench` and for the tiny dialect, which is here too.
 //!
 //! It knows the laws of dialects and these two dialects; of texts and of rewrites it knows nothing.
 #![tactic(auto)]

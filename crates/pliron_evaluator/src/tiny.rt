@@ -2,10 +2,9 @@
 //! region is visited once, a branch that forwards its operands, and two kinds that visit their regions
 //! with operands that they name.
 //!
-//! A constant has one attribute and gives its datum. A question has one operand, tells it to the
-//! outside world and gives the answer. A scope visits its region once with its operands, cut or filled
-//! to the arguments of the entry block, and gives nothing. A branch goes to its one successor with all
-//! its operands.
+//! A constant has one attribute and gives its datum. A question has one operand, passes it to the outside world and
+//! gives the answer. A scope visits its region once with its operands, cut or filled to the arguments of the entry
+//! block, and gives nothing. A branch jumps to its one successor, with all its operands.
 //!
 //! A `Both` visits its first region with its operand 1 for the first argument of the entry block, then its
 //! second region with nothing of its operands, and gives nothing. A `Twice` visits its region with its

@@ -10,13 +10,13 @@ use Rattle.pliron_fit.specs.declared.run.RunError.TheVariants.{NotLinked, Fault}
 use Rattle.pliron_fit.specs.declared.run.CheckedRun.{CheckedRun}
 
 module _ {K E P : Type 0} (eq : K → K → Bool) (runs : OutcomeOf P K E) where
-  -- the pass ran once, as `run_pipeline` runs it, and its answer is handed on
+  -- the pass ran once, as `run_pipeline` runs it, and its answer is passed on
   abbrev pub RunsOnce : P → P → ℕ → Stage K E → Stage K E → Result IRStatus RunError → Type 0
   RunsOnce p p' op s s' (Ok status) = Steps eq runs p p' op s s' (Ok status)
   RunsOnce p p' op s s' (Err NotLinked) = ⊥
   RunsOnce p p' op s s' (Err (Fault e)) = Steps eq runs p p' op s s' (Err e)
 
-  -- so it is, or memory was refused while roots were tested, and then nothing was run
+  -- the same, or allocation failed while roots were tested, and then nothing was run
   abbrev pub RunsOnceFor : P → P → ℕ → Stage K E → Stage K E → Result CheckedRun RunError → Type 0
   RunsOnceFor p p' op s s' (Ok run) = Steps eq runs p p' op s s' (Ok run.status)
   RunsOnceFor p p' op s s' (Err NotLinked) = ⊥

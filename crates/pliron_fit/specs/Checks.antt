@@ -16,7 +16,7 @@ abbrev pub IsStop : Meaning → Tree → ℕ → Stop → Type 0
 IsStop m t root (Found violation) = IsViolation m t root violation
 IsStop m t root (Fault e) = e ≡ Memory
 
--- only what stands inside the root uses the value
+-- only what is inside the root uses the value
 abbrev pub IsUsedInside : Tree → (root v : ℕ) → Type 0
 IsUsedInside t root v = (user : ℕ) → In v (operands_of t user) → IsInside t root user
 
@@ -25,12 +25,12 @@ pub record IsFitBlock (t : Tree) (root block : ℕ) : Type 0 where
   pub users : HasOwnUsers t block
   pub arguments : (v : ℕ) → In v (arguments_of t block) → IsUsedInside t root v
 
--- the region has dominance, and so are its blocks
+-- the region has dominance, and its blocks are fit
 pub record IsFitRegion (t : Tree) (root region : ℕ) : Type 0 where
   pub dominance : IsTrue (has_ssa t region)
   pub blocks : (b : ℕ) → block_parent_of t b ≡ Some region → IsFitBlock t root b
 
--- the operation, which is the root or stands inside it, is admitted, and so are its regions
+-- the operation, which is the root or is inside it, is admitted, and its regions are fit
 pub record IsFitHolder (m : Meaning) (t : Tree) (root op : ℕ) : Type 0 where
   pub admitted : IsAdmitted m t op
   pub regions : (r : ℕ) → In r (regions_of t op) → IsFitRegion t root r

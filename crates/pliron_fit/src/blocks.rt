@@ -13,7 +13,7 @@ use pliron_core::{BasicBlock, Context, Operation, Ptr, Region, Value};
 use pliron_laws::edges::{is_directly_in, region_of};
 use pliron_laws::{Dialect, is_admitted};
 
-// Only what stands inside the root uses the value.
+// Only what is inside the root uses the value.
 pub(crate) fn check_uses<D: Dialect>(
     root: Ptr<Operation>,
     contents: &IndexSet<Ptr<Operation>>,
@@ -106,7 +106,7 @@ fn check_region<D: Dialect>(
     Ok(())
 }
 
-// The dialect admits the operation, which is the root or stands inside it, and its regions are fit.
+// The dialect admits the operation, which is the root or is inside it, and its regions are fit.
 pub(crate) fn check_holder<D: Dialect>(
     root: Ptr<Operation>,
     contents: &IndexSet<Ptr<Operation>>,

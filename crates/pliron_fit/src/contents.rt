@@ -10,7 +10,7 @@ use pliron_laws::OptError;
 use pliron_laws::edges::region_of;
 use std::alloc::Global;
 
-// The root and all that stands inside it, in pre-order.
+// The root and all that is inside it, in pre-order.
 pub(crate) fn contents_of(
     alloc: Global,
     root: Ptr<Operation>,
@@ -30,7 +30,7 @@ pub(crate) fn contents_of(
     Ok(contents)
 }
 
-// Whether the operation stands inside the root.
+// Whether the operation is inside the root.
 pub(crate) fn is_inside(
     root: Ptr<Operation>,
     contents: &IndexSet<Ptr<Operation>>,

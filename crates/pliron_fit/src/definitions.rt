@@ -1,4 +1,4 @@
-//! Where definitions stand.
+//! Where definitions are.
 ghost use Rattle.std.specs.Prelude.{◌≡◌, ◌↔◌, ℕ, Some, IfSome, IsTrue};
 ghost use Rattle.pliron_core.specs.Tree.{IsBlock, IsDefined, IsInside, definition_of, parent_of};
 ghost use Rattle.pliron_core.specs.Walks.{preorder};
@@ -9,7 +9,7 @@ use indexmap::IndexSet;
 use pliron_core::{BasicBlock, Context, Def, Operation, Ptr, Value};
 use pliron_traversal::ListedSet;
 
-// The block that the definition of the value stands in.
+// The block that the definition of the value is in.
 pub(crate) fn block_of_definition(value: Value, ctx: &Context) -> Option<Ptr<BasicBlock>>
     requires { IsDefined ctx.now.tree value }
     ensures block { result ≡ defining_block ctx.now.tree (definition_of ctx.now.tree value) }
@@ -21,7 +21,7 @@ pub(crate) fn block_of_definition(value: Value, ctx: &Context) -> Option<Ptr<Bas
     }
 }
 
-// Whether the value, which is defined in the block of this operation, is made before it.
+// Whether the value, which is defined in the block of this operation, is defined before it.
 pub(crate) fn is_defined_before(
     contents: &IndexSet<Ptr<Operation>>,
     value: Value,

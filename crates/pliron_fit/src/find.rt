@@ -20,7 +20,7 @@ use pliron_core::{Context, Operation, Ptr};
 use pliron_laws::{Dialect, OptError};
 use std::alloc::Global;
 
-// What is asked of the root and all that stands inside it, but for dominance of uses.
+// What is asked of the root and all that is inside it, but for dominance of uses.
 fn check_operations<D: Dialect>(
     alloc: Global,
     root: Ptr<Operation>,
@@ -84,15 +84,15 @@ fn check_fit<D: Dialect>(
 }
 
 /// One thing that keeps the operation from being fit to run, with its place; `None` exactly if it is fit: runs
-/// may begin there, it has no successors, what stands inside it uses nothing from outside, nothing outside uses
+/// may begin there, it has no successors, what is inside it uses nothing from outside, nothing outside uses
 /// what is defined inside it, the tree is well linked there, all regions have dominance, definitions dominate uses,
-/// edges forward what their targets take, terminators stand last, and results of what has successors have no
-/// use. Which of several things comes is open.
+/// edges forward what their targets take, terminators are last in their blocks, and results of what has successors
+/// have no use. Where several things are wrong, which one is reported is open.
 ///
-/// Asks that the operation stands (`is_live` tests it). Errors: allocation failure. Cost: one step for each
+/// Asks that the operation is live (`is_live` tests it). Errors: allocation failure. Cost: one step for each
 /// operation, block, region, operand, result, argument and edge inside it; a few table look-ups for each operand
-/// there and each use of what is made there, however deep they stand; and the dominator tree of each region in
-/// which a value is used in another block than its own, with a question to it for each such use.
+/// there and each use of what is defined there, however deep they are; and the dominator tree of each region in
+/// which a value is used in another block than its own, with a query of it for each such use.
 pub fn find_violation<D: Dialect>(
     alloc: Global,
     root: Ptr<Operation>,
@@ -112,9 +112,9 @@ pub fn find_violation<D: Dialect>(
     }
 }
 
-/// Whether the operation is fit to run: after each pass it does as it did before, where it still stands.
+/// Whether the operation is fit to run: after each pass it does as it did before, where it is still live.
 ///
-/// Asks that the operation stands (`is_live` tests it). Errors: allocation failure. Cost: that of `find_violation`.
+/// Asks that the operation is live (`is_live` tests it). Errors: allocation failure. Cost: that of `find_violation`.
 pub fn is_fit<D: Dialect>(
     alloc: Global,
     root: Ptr<Operation>,
@@ -150,7 +150,7 @@ fn add_if_fit<D: Dialect>(
     Ok(())
 }
 
-/// Those of the operations that stand and are fit to run, in their order.
+/// Those of the operations that are live and fit to run, in their order.
 ///
 /// Errors: allocation failure. Cost: that of `is_fit` for each.
 pub fn fit_roots<D: Dialect>(

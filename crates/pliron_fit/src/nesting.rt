@@ -12,7 +12,7 @@ use pliron_core::{BasicBlock, Context, Operation, Ptr, Region};
 use pliron_laws::OptError;
 use pliron_laws::edges::region_of;
 
-// Leads the way on to the operation, from what it led to, where the parent operation of the operation stands on it.
+// Makes the way lead to the operation, whatever it led to before. The operation's parent operation is on it.
 pub(crate) fn lead_to(
     way: &mut IndexSet<Ptr<Operation>>,
     op: Ptr<Operation>,
@@ -38,7 +38,7 @@ pub(crate) fn lead_to(
     Ok(())
 }
 
-// An operation, and the block that it stands in.
+// An operation, and the block that it is in.
 #[derive(Clone, Copy, Drop)]
 pub(crate) struct BlockPlace {
     pub op: Ptr<Operation>,

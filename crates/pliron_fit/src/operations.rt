@@ -98,7 +98,7 @@ fn check_unused<D: Dialect>(
     Ok(())
 }
 
-// Only what stands inside the root uses the results of the operation.
+// Only what is inside the root uses the results of the operation.
 fn check_results<D: Dialect>(
     root: Ptr<Operation>,
     contents: &IndexSet<Ptr<Operation>>,

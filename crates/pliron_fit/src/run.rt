@@ -54,11 +54,11 @@ fn check_linked<D: Dialect>(op: Ptr<Operation>, ctx: &Context) -> Result<(), Run
 
 /// Runs a pass on the operation, as `run_pipeline` does, where the tree is well linked there.
 ///
-/// Whatever this answers, each operation that was fit to run (`is_fit` tests it) and still stands does exactly
-/// what it did, the operation stands, and outside it only operands change that named a value defined inside it.
+/// Whatever this answers, each operation that was fit to run (`is_fit` tests it) and is still live does exactly
+/// what it did, the operation is live, and outside it only operands change that named a value defined inside it.
 /// What was done is the pass's own outcome. Without an error, a cache that was fresh is fresh.
 ///
-/// Asks that the operation stands. Errors: `NotLinked` exactly where the tree is not well linked at the
+/// Asks that the operation is live. Errors: `NotLinked` exactly where the tree is not well linked at the
 /// operation, and then nothing changed, neither the tree nor the pass nor the cache; else those of
 /// `run_pipeline`. Cost: that of `is_well_linked` and of the pass.
 pub fn run_checked<P: Pass>(
@@ -86,7 +86,7 @@ pub fn run_checked<P: Pass>(
     Ok(status)
 }
 
-/// What came of a checked run that was to tell which roots were fit.
+/// The outcome of a checked run that was to report which roots were fit.
 #[derive(Drop)]
 pub struct CheckedRun {
     /// Whether the tree changed.
@@ -95,10 +95,10 @@ pub struct CheckedRun {
     pub fit: Vec<Ptr<Operation>>,
 }
 
-/// Runs a pass on the operation, as `run_checked` does, and tells which of these roots were fit to run before, in
-/// their order: each of them that still stands does exactly what it did, and is fit to run.
+/// Runs a pass on the operation, as `run_checked` does, and reports which of these roots were fit to run before, in
+/// their order: each of them that is still live does exactly what it did, and is fit to run.
 ///
-/// Asks that the operation stands (`is_live` tests it). Errors: `NotLinked` exactly where the tree is not well
+/// Asks that the operation is live (`is_live` tests it). Errors: `NotLinked` exactly where the tree is not well
 /// linked at the operation, and then nothing changed, neither the tree nor the pass nor the cache; allocation failure,
 /// also before anything was run, and then nothing changed; else those of `run_pipeline`. Cost: that of
 /// `run_checked`, and of `is_fit` for each of the roots.

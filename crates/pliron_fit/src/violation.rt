@@ -22,7 +22,7 @@ pub enum Violation {
     /// leads to another region.
     #[error("an edge of operation {} does not end its block, or leads to another region", .0.key())]
     EdgeNotLast(Ptr<Operation>),
-    /// The operand at this index is made outside the root.
+    /// The operand at this index is defined outside the root.
     #[error("operand {} of operation {} is made outside the root", .1, .0.key())]
     ForeignValue(Ptr<Operation>, usize),
     /// A region in which definitions need not dominate uses.

@@ -117,7 +117,7 @@ pub traps_roots : RootsNameNone traps (λ h. nine_interface h RegionBranch)
 unfolding traps
 traps_roots = λ h. refl
 
--- what stands is no branch, and does not fold
+-- what is live is no branch, and does not fold
 pub no_branch : (t : Tree) (op : ℕ) → IsLive t op → HeadPasses never t op → ⊥
 no_branch t op live passes = by (head_of t op) live passes
   where

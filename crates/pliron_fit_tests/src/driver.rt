@@ -48,7 +48,7 @@ fn first_result(op: Ptr<Operation>, ctx: &Context) -> Option<Value> {
     Some(op.get_result(ctx, 0))
 }
 
-// A function that returns the square of six; its constant stands first or, by a slip, last.
+// A function that returns the square of six; its constant is first or, by a slip, last.
 fn square(alloc: Global, ctx: &mut Context, is_right: bool) -> Option<Ptr<Operation>> {
     let func = Operation::create(ctx, plain_head(alloc, BenchKind::Func), 0, 1).ok()?;
     if !func.is_live(ctx) || func.num_region(ctx) == 0 {

@@ -83,7 +83,7 @@ fn call_twice(alloc: Global, call: Call, text: &str) -> Result<Option<Left>, Opt
     call_twice_in(alloc, call, text, &mut ctx)
 }
 
-/// Whether the call leaves a text that is read again and printed the same, tells truly whether it changed the tree,
+/// Whether the call leaves a text that is read again and printed the same, says truly whether it changed the tree,
 /// leaves nothing for a second one, and of a well-defined text keeps the runs of its functions; of any other text
 /// common subexpression elimination may leave something. True of a text outside the notation.
 ///

@@ -10,12 +10,12 @@ use pliron_notation::read_text;
 use pliron_walks::Contents;
 use std::alloc::{AllocError, Global};
 
-/// The most moves of a run before, and after, where constants that were made may stand in the way.
+/// The most moves of a run before, and after, where constants that were made may add moves.
 const MOVES: usize = 60;
 
 const MOVES_AFTER: usize = 3_000;
 
-/// What goes into a run: inputs, and the answers of the world.
+/// What is given to a run: inputs, and the answers of the world.
 static RUNS: [(&[i128], &[i128]); 4] = [
     (&[2, 0], &[1, 0, 3, 0, 0, 5]),
     (&[0, -1], &[0, 0, 2, 1]),

@@ -17,7 +17,7 @@ ReachEachOther g u v = Reaches g u v × Reaches g v u
 abbrev pub IsCyclic : {N : Type 0} → Digraph N → List N → Type 0
 IsCyclic {N} g nodes = (1 < length nodes) ⊎ ((v : N) × Contains nodes v × Contains (g.succ v) v)
 
--- the numbers of the nodes fall
+-- the nodes are in descending order of their numbers
 abbrev pub Falls : {N : Type 0} → (N → ℕ) → List N → Type 0
 Falls {N} number nodes = (i j : ℕ) (u v : N) → i < j → slice_get nodes i ≡ Some u → slice_get nodes j ≡ Some v → number v < number u
 
@@ -26,8 +26,8 @@ abbrev pub HasGreatest : {N : Type 0} → (N → ℕ) → List N → List N → 
 HasGreatest {N} number nodes others = (u : N) × Contains nodes u × ((v : N) → Contains others v → number v < number u)
 
 -- The nodes in lists: two nodes share one exactly if each reaches the other. The numbers are those of the
--- search from the entry and then all nodes; the lists are by falling greatest post-order number, the nodes of
--- each by falling pre-order number.
+-- search from the entry and then all nodes; the lists are by descending greatest post-order number, the nodes of
+-- each by descending pre-order number.
 pub record AreComponents {N : Type 0} (eq : N → N → Bool) (g : Digraph N) (components : List (Scc N)) : Type 0 where
   pub orders : Orders N
   pub search : IsSearch eq g (entry_then_nodes g) orders

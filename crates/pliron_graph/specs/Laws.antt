@@ -38,12 +38,12 @@ module _ {N : Type 0} (eq : N → N → Bool) where
     pub listed : IsFirstOutside g.nodes earlier v
     pub holds : (w : N) → Contains walk w ↔ (Reaches g v w × (Contains earlier w → ⊥))
 
-  -- each walk goes from the first listed node that no earlier walk holds
+  -- each walk starts from the first listed node that no earlier walk holds
   abbrev pub WalkFromFirstNode : Type 0
   WalkFromFirstNode = (g : Digraph N) (walks : List (List N)) → IsLawful eq g → AreWalks eq g walks
       → (i : ℕ) (walk : List N) → slice_get walks i ≡ Some walk → (v : N) × IsWalkFrom g (concatenation (take i walks)) walk v
 
-  -- an edge of what the roots reach goes back exactly if that part has a cycle
+  -- some edge of what the roots reach is a back edge exactly if that part has a cycle
   abbrev pub BackEdgeOnCycle : Type 0
   BackEdgeOnCycle = (g : Digraph N) (roots : List N) (o : Orders N) → IsLawful eq g → IsSearch eq g roots o
       → (HasBackEdge eq g roots o ↔ HasCycle g roots)

@@ -1,5 +1,5 @@
-//! Searches for the ancestors of an operation or a block. They go up by links, take no memory and are never
-//! refused.
+//! Searches for the ancestors of an operation or a block. They follow links upwards, take no memory and never
+//! fail.
 ghost use Rattle.std.specs.Prelude.{◌≡◌, ◌↔◌, IsTrue, IfSome};
 ghost use Rattle.pliron_core.specs.Tree.{IsLive, IsBlock, IsInside, parent_of};
 ghost use Rattle.pliron_core.specs.Erased.{StandsIn, IsBlockWithin};

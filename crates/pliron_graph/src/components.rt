@@ -27,10 +27,10 @@ pub struct Scc<N> {
 /// The strongly connected components: two nodes share one exactly if each reaches the other.
 ///
 /// The numbers that follow are those of a depth-first search from the entry and then from each node in listed
-/// order. The components are listed by falling greatest post-order number, so an edge between two of them goes
-/// from the earlier to the later. The nodes of each are listed by falling pre-order number.
+/// order. The components are listed by descending greatest post-order number, so an edge between two of them goes
+/// from the earlier to the later. The nodes of each are listed by descending pre-order number.
 ///
-/// Two passes: a search gives the orders; then the nodes are taken by falling post-order number, and the
+/// Two passes: a search gives the orders; then the nodes are taken by descending post-order number, and the
 /// nodes that lead to one over nodes without a component are its component.
 ///
 /// Asks that the graph may be read in the context. Errors: allocation failure. Cost: a few reads for each node
@@ -241,8 +241,8 @@ fn hold_predecessors<C, G: ControlFlowGraph<C>, S: ListedSet<G::Node>>(
     Ok(())
 }
 
-// Lists the nodes that stand in `held` from `first` on, by falling place in `order`. Where they are many of all, they
-// are picked from these, and need no sort.
+// Lists the nodes that are in `held` from `first` on, by descending place in `order`. Where they are a large part of
+// `order`, they are picked from it in turn, and need no sort.
 fn last_by_falling_number<N: Eq + Copy, S: ListedSet<N>>(
     order: &S,
     held: &S,
@@ -265,7 +265,7 @@ fn last_by_falling_number<N: Eq + Copy, S: ListedSet<N>>(
     pick_by_falling_number(order, held, first, nodes)
 }
 
-// The same, by going through all of `order`.
+// The same, by a scan of all of `order`.
 fn pick_by_falling_number<N: Eq + Copy, S: ListedSet<N>>(
     order: &S,
     held: &S,
@@ -293,7 +293,7 @@ fn pick_by_falling_number<N: Eq + Copy, S: ListedSet<N>>(
     Ok(())
 }
 
-/// Whether the node stands in the set at this place or behind it. Takes no memory. Cost: a look-up of the place.
+/// Whether the node is in the set at this place or behind it. Takes no memory. Cost: a look-up of the place.
 pub(crate) fn stands_from<N: Eq, S: ListedSet<N>>(set: &S, first: usize, node: &N) -> bool
     ensures { IsTrue result ↔ StandsFrom N.eq (S.listed set.now) first node.now }
 {
@@ -301,7 +301,7 @@ pub(crate) fn stands_from<N: Eq, S: ListedSet<N>>(set: &S, first: usize, node: &
     first <= place && place < set.len()
 }
 
-// Lists these nodes by falling place in `order`.
+// Lists these nodes by descending place in `order`.
 fn by_falling_number<N: Eq + Copy, S: ListedSet<N>>(
     order: &S,
     nodes: &[N],

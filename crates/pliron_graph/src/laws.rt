@@ -40,7 +40,7 @@ pub fn walk_from_first_node<N: Eq>()
     ensures { WalkFromFirstNode N.eq }
 {}
 
-/// An edge of what the entry reaches goes back exactly if that part has a cycle.
+/// Some edge of what the entry reaches is a back edge exactly if that part has a cycle.
 pub fn back_edge_on_cycle<N: Eq>()
     ensures { BackEdgeOnCycle N.eq }
 {}

@@ -1,7 +1,7 @@
 //! Graphs that are read through a context: depth-first orders, search numbers and edge kinds.
 //!
 //! A graph implements [`ControlFlowGraph`]. [`post_order`], [`topological_order`] and their forms by component
-//! go through all of its nodes, a [`DFSTraversal`] through those that the entry reaches. What each answers is
+//! visit all of its nodes, a [`DFSTraversal`] those that the entry reaches. What each answers is
 //! fixed by the graph alone, and the contracts say it without the search: a node encloses another when it has
 //! the smaller pre-order number and the greater post-order number, and the clauses of a search numbering on
 //! this relation admit one numbering ([`laws::numbering_is_one`]). The functions of [`laws`] hold what users
@@ -18,8 +18,8 @@
 //!
 //! No recursion follows the graph: each search has a stack of its own.
 //!
-//! It knows graphs, and the regions of a tree as such. Of rewrites, of runs and of optimisations it knows
-//! nothing.
+//! It knows graphs, and the regions of a tree as such. It knows nothing of rewrites, of runs or of
+//! optimisations.
 #![tactic(auto)]
 
 mod ancestors;

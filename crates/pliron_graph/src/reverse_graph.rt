@@ -15,7 +15,7 @@ use std::alloc::Global;
 use std::marker::Model;
 
 /// The reverse of a graph: its entry is a sentinel, with an edge to each pre-sentinel, and each edge of the
-/// graph goes the other way.
+/// graph is reversed.
 ///
 /// A component without an edge to another one is a sink. Its last node in listed order is its pre-sentinel.
 ///

@@ -88,7 +88,7 @@ fn check_graph(rt: &impl Abort, alloc: Global, graph: &Graph) {
     check_list(rt, alloc, &list, graph);
 }
 
-// What stands in a line behind its name, which is this pair of lists.
+// What is in a line behind its name, which is this pair of lists.
 fn items_of<'t>(rt: &impl Abort, line: &'t str, pair: &str) -> &'t str {
     let (name, items) = line.split_once(" -- ").expect(rt, "a name");
     assert_eq!(rt; name, pair);

@@ -7,7 +7,7 @@ use Rattle.pliron_notation.specs.Building.{IsGrown}
 use Rattle.pliron_graphviz.specs.declared.flow_text.Drawing.{Drawing}
 use Rattle.pliron_graphviz.specs.declared.flow_text.Drawing.TheVariants.{Drawn, Unreadable, NoRegion}
 
--- a tree was read of it, and has a region whose graph may be read. Which tree a text says is open
+-- a tree was read from it, and has a region whose graph may be read. Which tree a text stands for is left open
 pub record IsFlowText : Type 0 where
   pub tree : Tree
   pub root : ℕ
@@ -15,7 +15,7 @@ pub record IsFlowText : Type 0 where
   pub read : IsGrown no_tree tree root
   pub lawful : IsLawfulRegion tree region
 
--- a picture comes of such a text alone
+-- only such a text is drawn
 abbrev pub IsDrawing : Drawing → Type 0
 IsDrawing (Drawn picture) = IsFlowText
 IsDrawing Unreadable = ⊤

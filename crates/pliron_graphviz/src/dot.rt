@@ -1,13 +1,13 @@
 //! The dot language of Graphviz.
 //!
 //! A node is named by its number, and a cluster by `cluster` and its number, so no name needs quotes. Each value of an
-//! attribute is quoted: behind a backslash stand each quote, each backslash, and the `l` that ends a line.
+//! attribute is quoted: each quote, each backslash, and the `l` that ends a line is written behind a backslash.
 ghost use Rattle.std.specs.Prelude.{◌≡◌, ◌++◌, OnOk};
 ghost use Rattle.pliron_graphviz.specs.Quoting.{quote, written_byte};
 
 use std::alloc::{AllocError, Global};
 
-/// What is said of a node, an edge or a cluster: a name of the language, and any text.
+/// An attribute of a node, an edge or a cluster: a name of the language, and any text.
 #[derive(Clone, Copy)]
 pub struct Attribute<'a> {
     pub name: &'a str,
@@ -21,7 +21,7 @@ pub struct Dot {
     text: Vec<u8>,
 }
 
-// Writes the byte as it stands in quotes. Errors: allocation failure. Cost: constant.
+// Writes the byte as it is written inside quotes. Errors: allocation failure. Cost: constant.
 fn push_byte(text: &mut Vec<u8>, byte: u8) -> Result<(), AllocError>
     ensures { OnOk result (text.new.items ≡ text.old.items ++ written_byte byte) }
 {
@@ -85,27 +85,28 @@ impl Dot {
         self.push(if attributes.is_empty() { ";\n" } else { "];\n" })
     }
 
-    /// Says this of all nodes (`node`) or edges (`edge`) that follow. Errors: allocation failure. Cost: linear in it.
+    /// Gives these attributes to all nodes (`node`) or edges (`edge`) that follow. Errors: allocation failure. Cost:
+    /// linear in their length.
     pub fn all(&mut self, word: &str, attributes: &[Attribute]) -> Result<(), AllocError> {
         self.push("  ")?;
         self.push(word)?;
         self.push_attributes(attributes)
     }
 
-    /// Writes a node. Errors: allocation failure. Cost: linear in what is said of it.
+    /// Writes a node. Errors: allocation failure. Cost: linear in the length of its attributes.
     pub fn node(&mut self, number: u64, attributes: &[Attribute]) -> Result<(), AllocError> {
         self.push_name("  ", number)?;
         self.push_attributes(attributes)
     }
 
-    /// Writes an edge from a node to another. Errors: allocation failure. Cost: linear in what is said of it.
+    /// Writes an edge from a node to another. Errors: allocation failure. Cost: linear in the length of its attributes.
     pub fn edge(&mut self, from: u64, to: u64, attributes: &[Attribute]) -> Result<(), AllocError> {
         self.push_name("  ", from)?;
         self.push_name(" -> ", to)?;
         self.push_attributes(attributes)
     }
 
-    /// Opens a cluster: the nodes up to its end stand in one frame. Errors: allocation failure. Cost: constant.
+    /// Opens a cluster: the nodes up to its end are drawn in one frame. Errors: allocation failure. Cost: constant.
     pub fn open_cluster(&mut self, number: u64) -> Result<(), AllocError> {
         self.push_name("  subgraph cluster", number)?;
         self.push(" {\n")

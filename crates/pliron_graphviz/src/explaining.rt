@@ -100,7 +100,7 @@ impl Explaining<'_> {
         Ok(())
     }
 
-    // Makes one rewrite of a pass, where the operation stands and is well linked, and tells what changed.
+    // Makes one rewrite of a pass, where the operation is live and well linked, and reports what changed.
     fn rewrite(
         &mut self,
         pass: PassName,
@@ -119,7 +119,7 @@ impl Explaining<'_> {
         Ok(status)
     }
 
-    // Tells what changed since this stood.
+    // Reports what changed since this state.
     fn tell(
         &mut self,
         pass: PassName,
@@ -132,7 +132,7 @@ impl Explaining<'_> {
         self.push_reasons(pass, &reasons)
     }
 
-    // Runs the passes on an operation, and tells what changed.
+    // Runs the passes on an operation, and reports what changed.
     fn pass_on(
         &mut self,
         passes: &[PassName],
@@ -148,7 +148,7 @@ impl Explaining<'_> {
         Ok(status)
     }
 
-    // Runs the list once on these operations, and tells what changed.
+    // Runs the list once on these operations, and reports what changed.
     fn pass_on_all(
         &mut self,
         passes: &[PassName],
@@ -162,7 +162,7 @@ impl Explaining<'_> {
         Ok(status)
     }
 
-    // Runs the list on these operations as often as it says, and tells what changed, and whether the last run that it
+    // Runs the list on these operations as often as it says, and reports what changed, and whether the last run that it
     // may make still changed something.
     fn list(
         &mut self,
@@ -208,7 +208,7 @@ fn subjects(
     Ok(operations)
 }
 
-// What the list did to the text, in this empty context; `None` of an unreadable text.
+// What the list did to the text, in this empty context; `None` for an unreadable text.
 fn explain_in(
     alloc: Global,
     text: &[u8],
@@ -248,13 +248,13 @@ fn explain_in(
     Ok(Some(lines))
 }
 
-/// What changed in a text: for each operation and argument that changed or went when these passes were run, a line with
-/// its place and the reason, and where the list asks for it the same for each that they left as it is though they
-/// change its like; `None` of an unreadable text.
+/// What changed in a text: for each operation and argument that changed or was erased when these passes were run, a
+/// line with its place and the reason, and where the list asks for it the same for each operation that they left as it
+/// is though they change operations of its kind; `None` for an unreadable text.
 ///
-/// Each pass is made of its own calls, what stood before each is compared with what stands after it, and the reason is
+/// Each pass is made of its own calls, the tree before each call is compared with the tree after it, and the reason is
 /// what that call does. Errors: allocation failure, and those of the passes. Cost: reading, and for each pass its own
-/// cost and a step for all that stands.
+/// cost and a step for all that is live.
 pub fn explain_changes(
     alloc: Global,
     text: &[u8],

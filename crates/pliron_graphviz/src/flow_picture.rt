@@ -22,7 +22,7 @@ pub struct FlowOptions<'w> {
     pub blocks_alone: bool,
     /// Whether the regions inside are drawn, too, each in a frame.
     pub nested: bool,
-    /// What stands above the picture, if it isn't empty.
+    /// What is written above the picture, if it isn't empty.
     pub title: &'w str,
 }
 
@@ -60,7 +60,8 @@ static DOTTED: [Attribute<'static>; 3] = [
     },
 ];
 
-/// How all nodes look that are blocks by their heads alone: small boxes, which stay legible where there are thousands.
+/// How all nodes look where blocks are drawn by their heads alone: small boxes, which stay legible where there are
+/// thousands.
 static SMALL_BOXES: [Attribute<'static>; 4] = [
     Attribute {
         name: "shape",
@@ -87,8 +88,8 @@ struct BlockLook {
     is_entry: bool,
 }
 
-// What is said of a node or an edge: its label, if it has one, grey where the entry doesn't lead, and two lines around
-// the entry. Errors: allocation failure.
+// The attributes of a node or an edge: its label, if it has one, grey where the entry doesn't reach it, and two lines
+// around the entry. Errors: allocation failure.
 fn looks<'l>(
     alloc: Global,
     label: &'l str,
@@ -182,7 +183,7 @@ impl FlowPicture<'_> {
         label.push_str("\n")
     }
 
-    // The label of a block, of whose region so many operations stand before: its head, and its operations.
+    // The label of a block before which its region has so many operations: its head, and its operations.
     fn push_block(
         &mut self,
         ctx: &Context,
@@ -240,7 +241,7 @@ impl FlowPicture<'_> {
         Ok(())
     }
 
-    // Says how all looks, and writes the title.
+    // Writes how all nodes and edges look, and the title.
     fn draw_heads(&mut self) -> Result<(), AllocError> {
         let boxes = if self.options.blocks_alone {
             SMALL_BOXES.as_slice()
@@ -373,7 +374,7 @@ impl FlowPicture<'_> {
     }
 }
 
-// What is said of a graph or a frame: what stands above it, in the letters of the rest.
+// The attributes of a graph or a frame: what is written above it, in the letters of the rest.
 fn title_of(title: &str) -> [Attribute<'_>; 3] {
     [
         Attribute {
@@ -391,8 +392,8 @@ fn title_of(title: &str) -> [Attribute<'_>; 3] {
     ]
 }
 
-/// The picture of a region of the text's operation. Asks that it stands, and that edges stand last in the operation
-/// that holds it (`edges_last` tests it). Errors: allocation failure. Cost: linear in the text, and that of
+/// The picture of a region of the text's operation. Asks that the region is live, and that edges are last in the
+/// operation that holds it (`edges_last` tests it). Errors: allocation failure. Cost: linear in the text, and that of
 /// `graph_rows` for each region that is drawn.
 pub fn flow_picture(
     alloc: Global,

@@ -12,7 +12,7 @@ use pliron_laws::{OptError, edges_last};
 use pliron_notation::read_text;
 use std::alloc::Global;
 
-/// What came of a text that was to be drawn.
+/// The result of drawing a text.
 #[derive(Drop)]
 pub enum Drawing {
     /// The picture, in the dot language.
@@ -23,7 +23,7 @@ pub enum Drawing {
     NoRegion,
 }
 
-// Whether the graph of the region may be read. Asks that it stands (`is_live` tests it). Cost: that of `edges_last`.
+// Whether the graph of the region may be read. Asks that it is live (`is_live` tests it). Cost: that of `edges_last`.
 pub(crate) fn may_be_read(ctx: &Context, region: Ptr<Region>) -> bool
     requires { IsRegion ctx.now.tree region }
     ensures { IsTrue result → IsLawfulRegion ctx.now.tree region }
@@ -55,10 +55,10 @@ fn flow_in(
     Ok(Drawing::Drawn(picture))
 }
 
-/// The picture of a region of a text's operation in the dot language: its blocks with their operations, edges with the
-/// values that they forward, and true and false on those of a two-way branch, two lines around the entry, grey where
-/// the entry doesn't lead. Where asked for, a dotted edge from the immediate dominator of each block, blocks by their
-/// heads alone, the regions inside in frames, and a title.
+/// The picture of a region of a text's operation in the dot language: its blocks with their operations, its edges with
+/// the values that they forward, and true and false on those of a two-way branch, two lines around the entry, and what
+/// the entry doesn't reach in grey. Where asked for, a dotted edge from the immediate dominator of each block, blocks
+/// by their heads alone, the regions inside in frames, and a title.
 ///
 /// Errors: allocation failure. Cost: reading, and that of `graph_rows`.
 pub fn text_flow(alloc: Global, text: &[u8], options: &FlowOptions) -> Result<Drawing, OptError>

@@ -62,8 +62,8 @@ fn look(
     }
 }
 
-// Draws the nodes of the components, those of a cyclic one in a frame, as the search from the entry comes to them,
-// which Graphviz takes for the order from top to bottom.
+// Draws the nodes of the components, those of a cyclic one in a frame, in the order in which the search from the entry
+// reaches them, which Graphviz takes for the order from top to bottom.
 fn draw_components(
     graph: &NumberedGraph,
     search: &DFSTraversal<u32>,
@@ -149,10 +149,10 @@ fn graph_picture(alloc: Global, graph: &NumberedGraph) -> Result<Vec<u8>, OptErr
     Ok(dot.end()?)
 }
 
-/// The picture of a text's graph in the dot language: a line for each node, with its number, a colon, and its
-/// successors, each after one blank. Each cyclic component stands in a frame, and the colour of an edge tells its kind
-/// in a depth-first search: black forward, red back, blue across, and grey where the search doesn't come. `None` of
-/// another text.
+/// The picture of a text's graph in the dot language. The text has a line for each node, with its number, a colon, and
+/// its successors, each after one blank. Each cyclic component is drawn in a frame, and the colour of an edge shows its
+/// kind in a depth-first search: black for forward, red for back, blue for cross, and grey where the search doesn't
+/// reach. `None` for another text.
 ///
 /// Errors: allocation failure. Cost: that of `read_graph`, and linear but for sorting each component.
 pub fn text_graph(alloc: Global, text: &[u8]) -> Result<Option<Vec<u8>>, OptError> {

@@ -1,4 +1,4 @@
-//! A graph as it is drawn: its nodes in order, and what stands beside each.
+//! A graph as it is drawn: its nodes in order, and what is drawn of each.
 ghost use Rattle.std.specs.Prelude.{◌≡◌, ◌↔◌, IfOk, IfSome, IsOkUnless, Contains, None, Some, map};
 ghost use Rattle.std.specs.List.{All};
 ghost use Rattle.pliron_traversal.specs.Digraph.{Digraph};
@@ -38,7 +38,7 @@ fn dominator_of<N: Eq + Hash + Copy>(tree: &DominatorTree<N>, node: N) -> Option
     }
 }
 
-// What stands beside a node.
+// What is drawn of a node.
 fn row_of<C, G: ControlFlowGraph<C>>(
     alloc: Global,
     ctx: &C,

@@ -10,7 +10,7 @@ use pliron_pipeline::PassName;
 use pliron_walks::Contents;
 use std::alloc::{AllocError, Global};
 
-/// A text of which it is told what stayed, with its parts and the passes that ran.
+/// A text whose missed rewrites are reported, with its parts and the passes that ran.
 #[derive(Clone, Copy)]
 pub struct MissedText<'m> {
     pub text: &'m [u8],
@@ -18,7 +18,7 @@ pub struct MissedText<'m> {
     pub list: &'m PassList,
 }
 
-/// What is told of what stayed.
+/// What is reported of what stayed.
 #[derive(Clone, Copy)]
 struct Missed<'m> {
     alloc: Global,
@@ -36,7 +36,7 @@ fn is_constant(ctx: &Context, value: Value) -> bool {
     }
 }
 
-// The first of the first so many operands that no `const` makes.
+// The first operand that no `const` makes, among the first so many.
 fn unknown_operand(ctx: &Context, op: Ptr<Operation>, most: usize) -> Option<usize>
     requires { IsLive ctx.now.tree op }
 {
@@ -89,7 +89,7 @@ impl Missed<'_> {
         why.push_str(" isn't known")
     }
 
-    // Why constants were put for no result of the operation, or its branch stayed; empty where nothing was missed.
+    // Why no result of the operation was replaced by a constant, or its branch stayed; empty where nothing was missed.
     fn why_not_folded(
         &self,
         ctx: &Context,
@@ -121,7 +121,7 @@ impl Missed<'_> {
         Ok(why)
     }
 
-    // Why the operation stays that nothing uses; empty where it is used, or has no result.
+    // Why the operation stays though nothing uses it; empty where it is used, or has no result.
     fn why_not_erased(
         &self,
         ctx: &Context,
@@ -146,7 +146,7 @@ impl Missed<'_> {
         Ok(why)
     }
 
-    // Adds a line for an operation of which something is told.
+    // Adds a line for an operation of which something is reported.
     fn push_line(
         &self,
         op: Ptr<Operation>,
@@ -185,8 +185,8 @@ impl Missed<'_> {
 }
 
 /// Adds a line for each operation of the text inside the root that passes of the list left as it is though they change
-/// its like, with its place, and why; nothing where the root doesn't stand. Errors: allocation failure. Cost: linear in
-/// what stands.
+/// operations of its kind, with its place, and why; nothing where the root isn't live. Errors: allocation failure.
+/// Cost: linear in what is live.
 pub fn push_missed(
     alloc: Global,
     told: &MissedText,

@@ -1,4 +1,4 @@
-//! The passes of which it is told what they did.
+//! The passes whose work is explained.
 
 use pliron_pipeline::PassName;
 
@@ -10,6 +10,6 @@ pub struct PassList {
     /// Whether they are run on each operation directly inside, and not on the operation itself.
     pub is_nested: bool,
     pub passes: Vec<PassName>,
-    /// Whether it is told, too, what they left as it is, and why.
+    /// Whether what they left unchanged is reported, too, and why.
     pub tells_missed: bool,
 }

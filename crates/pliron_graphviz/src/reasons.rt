@@ -1,4 +1,4 @@
-//! Why operations and arguments changed or went, by what a rewrite does and what stood before it.
+//! Why operations and arguments changed or were erased, by what a rewrite does and what was live before it.
 ghost use Rattle.pliron_core.specs.Tree.{IsBlock, IsDefined, IsLive};
 
 use crate::tree_state::{BlockState, OperationState, TreeState};
@@ -9,50 +9,50 @@ use pliron_notation::printed::number_of;
 use std::alloc::{AllocError, Global};
 use std::collections::HashMap;
 
-/// A rewrite of a tree, as a pass makes it: what it changes is told by what it does.
+/// A rewrite of a tree, as a pass makes it: what it changes is explained by what it does.
 #[derive(Clone, Copy, Debug, Drop, PartialEq, Eq)]
 pub enum Rewrite {
-    /// Constants are put for results and arguments.
+    /// Results and arguments are replaced by constants.
     Constants,
-    /// What nothing uses goes.
+    /// What nothing uses is erased.
     DeadCode,
     /// Branches whose condition is known become jumps.
     Branches,
-    /// Blocks that the entry doesn't lead to go.
+    /// Blocks that the entry doesn't reach are erased.
     Unreachable,
     /// Blocks are joined.
     Joining,
-    /// Operations go that did what one before them did.
+    /// Operations that did what one before them did are erased.
     Subexpressions,
-    /// Uses of results and arguments go to what these are.
+    /// Uses of results and arguments are replaced by uses of what these are.
     Canonicalization,
 }
 
-/// What is told of one operation or argument.
+/// What is reported of one operation or argument.
 #[derive(Drop)]
 pub struct Reason {
-    /// Where it stands in the text.
+    /// Where it is in the text.
     pub part: TextPart,
     pub told: String,
 }
 
-/// How many bytes of an operation are told.
+/// How many bytes of an operation are shown.
 const SHOWN: usize = 60;
 
-/// What is told of a rewrite, so far.
+/// What is reported of a rewrite, so far.
 #[derive(Drop)]
 pub struct Reasons<'t> {
     alloc: Global,
     text: &'t [u8],
     words: &'t TextParts,
     rewrite: Rewrite,
-    /// The constants that were put for values.
+    /// The constants that replaced values.
     constants: HashMap<Value, i128>,
     /// Those of them that nothing uses.
     unused: HashMap<Value, i128>,
-    /// The values that stand for others now.
+    /// The values that replaced others.
     replacements: HashMap<Value, Value>,
-    /// By the number of its state, the branch that led to a block and went.
+    /// For a block, the number of the state of the branch that led to it and was erased.
     branches: HashMap<Ptr<BasicBlock>, usize>,
     pub reasons: Vec<Reason>,
 }
@@ -68,7 +68,7 @@ fn number_made(ctx: &Context, value: Value) -> Option<i128>
     }
 }
 
-// The block that the last operation of a block goes to first.
+// The first successor of the last operation of a block.
 fn jump_target(ctx: &Context, block: Ptr<BasicBlock>) -> Option<Ptr<BasicBlock>>
     requires { IsBlock ctx.now.tree block }
 {
@@ -89,13 +89,13 @@ fn name_of_head(head: &[u8]) -> &[u8] {
     &head[..end]
 }
 
-// Parts a phrase from those before it.
+// Separates a phrase from those before it.
 fn part_phrases(why: &mut String) -> Result<(), AllocError> {
     why.push_str(if why.is_empty() { "" } else { ", " })
 }
 
 impl<'t> Reasons<'t> {
-    /// No reasons so far, of a text of which these are the words. Cost: constant.
+    /// No reasons so far, for a text with these words. Cost: constant.
     pub fn new(alloc: Global, text: &'t [u8], words: &'t TextParts, rewrite: Rewrite) -> Self {
         Reasons {
             alloc,
@@ -203,8 +203,8 @@ impl Reasons<'_> {
         Ok(())
     }
 
-    // Notes the constant that was put for the result of an operation, where nothing used that: it is new, and stands
-    // right before the operation.
+    // Notes the constant that was made for the result of an operation, where nothing used that result: the constant is
+    // new, and is right before the operation.
     fn note_unused(
         &mut self,
         ctx: &Context,
@@ -227,7 +227,7 @@ impl Reasons<'_> {
         Ok(())
     }
 
-    // Notes the constants that were put for results that nothing uses.
+    // Notes the constants that were made for results that nothing uses.
     fn note_all_unused(&mut self, ctx: &Context, before: &TreeState) -> Result<(), AllocError> {
         let mut first_new: u64 = 0;
         for state in &before.operations {
@@ -259,7 +259,7 @@ impl Reasons<'_> {
         Ok(())
     }
 
-    // Adds what computed before what an operation computed that went.
+    // Adds what had computed before what an erased operation computed.
     fn push_leader(
         &self,
         ctx: &Context,
@@ -277,7 +277,7 @@ impl Reasons<'_> {
         Ok(())
     }
 
-    // Why an operation went.
+    // Why an operation was erased.
     fn why_gone(&self, ctx: &Context, state: &OperationState) -> Result<String, AllocError> {
         let mut why = String::new(self.alloc);
         match (self.rewrite, state.holder, state.block, state.successor) {
@@ -302,7 +302,7 @@ impl Reasons<'_> {
         Ok(why)
     }
 
-    // Adds which values the operation takes for others, of as many operands.
+    // Adds which values the operation takes in place of others, where it has as many operands as before.
     fn push_taken(
         &self,
         ctx: &Context,
@@ -325,7 +325,7 @@ impl Reasons<'_> {
         Ok(())
     }
 
-    // Adds which values the operation lost, which kept the others in order.
+    // Adds which values the operation lost, where it kept the others in order.
     fn push_lost(
         &self,
         ctx: &Context,
@@ -363,7 +363,7 @@ impl Reasons<'_> {
         Ok(())
     }
 
-    // Adds which values the results of an operation are that stands, where their uses went there.
+    // Adds which values the results of a live operation are, where their uses were replaced by uses of those.
     fn push_folded(
         &self,
         ctx: &Context,
@@ -385,7 +385,7 @@ impl Reasons<'_> {
         Ok(())
     }
 
-    // How an operation changed that stands; empty where it didn't.
+    // How a live operation changed; empty where it didn't.
     fn why_changed(&self, ctx: &Context, state: &OperationState) -> Result<String, AllocError>
         requires { IsLive ctx.now.tree state.now.op }
     {
@@ -407,7 +407,7 @@ impl Reasons<'_> {
         Ok(why)
     }
 
-    // Adds the reason of an operation that changed or went.
+    // Adds the reason of an operation that changed or was erased.
     fn compare_operation(
         &mut self,
         ctx: &Context,
@@ -424,7 +424,7 @@ impl Reasons<'_> {
         self.add_operation(state.op, why)
     }
 
-    // What the argument at this index of a block is that was joined to another.
+    // What the argument at this index is, of a block that was joined to another.
     fn why_joined(
         &self,
         ctx: &Context,
@@ -448,7 +448,7 @@ impl Reasons<'_> {
         Ok(why)
     }
 
-    // Why the argument at this index changed or went; empty where it didn't.
+    // Why the argument at this index changed or was erased; empty where neither happened.
     fn why_argument(
         &self,
         ctx: &Context,
@@ -484,7 +484,7 @@ impl Reasons<'_> {
         Ok(why)
     }
 
-    // Adds the reasons of the arguments that changed or went.
+    // Adds the reasons of the arguments that changed or were erased.
     fn compare_arguments(
         &mut self,
         ctx: &Context,
@@ -501,8 +501,8 @@ impl Reasons<'_> {
         Ok(())
     }
 
-    /// Adds the reasons of all that changed or went since this stood, in the order of the text. Errors: allocation
-    /// failure. Cost: linear in all that stood, but for sorting what changed.
+    /// Adds the reasons of all that changed or was erased since this state, in the order of the text. Errors:
+    /// allocation failure. Cost: linear in all that was live in it, but for sorting what changed.
     pub fn compare(&mut self, ctx: &Context, before: &TreeState) -> Result<(), AllocError> {
         self.note(ctx, before)?;
         self.note_all_unused(ctx, before)?;

@@ -1,8 +1,8 @@
 //! Paths to regions.
 //!
 //! A path has numbers with dots between them: the first is a region of the text's operation, the second an operation
-//! that stands directly in it, counted over its blocks, the third a region of that one, and so on. So it has an odd
-//! count of numbers, each counted from 0.
+//! directly in it, counted over its blocks, the third a region of that one, and so on. So it has an odd count of
+//! numbers, each counted from 0.
 ghost use Rattle.std.specs.Prelude.{IfOk, IfSome};
 ghost use Rattle.pliron_core.specs.Tree.{IsRegion};
 
@@ -34,7 +34,7 @@ fn operation_in(
     Ok(None)
 }
 
-// The region of the operation at this index, if it stands and has so many.
+// The region of the operation at this index, if it is live and has so many.
 fn region_of(ctx: &Context, op: Ptr<Operation>, index: usize) -> Option<Ptr<Region>>
     ensures { IfSome result (λ region. IsRegion ctx.now.tree region) }
 {
@@ -52,7 +52,7 @@ enum PathStep {
     Region(Ptr<Region>),
 }
 
-// What stands one number further.
+// What is one number further.
 fn further(
     alloc: Global,
     ctx: &Context,

@@ -1,4 +1,4 @@
-//! What stands in a tree before a rewrite, to be compared with what stands after it.
+//! What is live in a tree before a rewrite, to be compared with what is live after it.
 ghost use Rattle.pliron_core.specs.Tree.{IsLive};
 
 use pliron_core::{BasicBlock, Context, Operation, Ptr, Value};
@@ -7,7 +7,7 @@ use pliron_laws::reads::{all_arguments, all_operands, all_results, push_layouts}
 use pliron_walks::Contents;
 use std::alloc::Global;
 
-/// An operation, as it stood.
+/// An operation, as it was.
 #[derive(Drop)]
 pub struct OperationState {
     pub op: Ptr<Operation>,
@@ -20,7 +20,7 @@ pub struct OperationState {
     pub successor: Option<Ptr<BasicBlock>>,
 }
 
-/// A block, as it stood.
+/// A block, as it was.
 #[derive(Drop)]
 pub struct BlockState {
     pub block: Ptr<BasicBlock>,
@@ -29,7 +29,7 @@ pub struct BlockState {
     pub arguments: Vec<Value>,
 }
 
-/// An operation and what it held, as these stood.
+/// An operation and what it held, as these were.
 #[derive(Drop)]
 pub struct TreeState {
     pub operations: Vec<OperationState>,
@@ -47,7 +47,7 @@ fn first_successor(ctx: &Context, op: Ptr<Operation>) -> Option<Ptr<BasicBlock>>
     }
 }
 
-// The operation as it stands.
+// The operation as it is now.
 fn operation_state(
     alloc: Global,
     op: Ptr<Operation>,
@@ -88,7 +88,7 @@ impl TreeState {
     }
 }
 
-/// The operation and what it holds, as these stand. Asks that it stands (`is_live` tests it). Errors: allocation
+/// The operation and what it holds, as these are now. Asks that it is live (`is_live` tests it). Errors: allocation
 /// failure. Cost: linear in all that.
 pub fn tree_state(alloc: Global, root: Ptr<Operation>, ctx: &Context) -> Result<TreeState, OptError>
     requires { IsLive ctx.now.tree root }

@@ -12,7 +12,7 @@ use pliron_walks::{Children, Contents};
 use std::alloc::Global;
 use std::process::Abort;
 
-// Whether it is fit to run is told alike by the violation, the answer and the list of roots.
+// The violation, the answer and the list of roots agree on whether it is fit to run.
 fn check_fit(rt: &impl Abort, alloc: Global, root: Ptr<Operation>, ctx: &Context) {
     assert!(rt; root.is_live(ctx));
     let violation = find_violation::<Bench>(alloc, root, ctx).expect(rt, "memory");

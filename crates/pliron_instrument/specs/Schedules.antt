@@ -34,7 +34,7 @@ runs_of (Right repeated) = Some repeated.max
 abbrev pub passes_of : {P D E B K : Type 0} → ScheduleOf P D E B K → List P
 passes_of schedule = listed_passes (pipeline_of schedule)
 
--- it runs passes of these names in turn, on each operation directly inside or not, and as often
+-- it runs passes of these names in turn, on each operation directly inside or not, and as often as `runs` says
 pub record IsPlanned {P D E B K : Type 0} (name : P → List ℕ) (runs : Option ℕ) (nested : Bool) (names : List (List ℕ)) (schedule : ScheduleOf P D E B K) : Type 0 where
   pub runs_so : runs_of schedule ≡ runs
   pub nested_so : is_for_each (pipeline_of schedule) ≡ nested

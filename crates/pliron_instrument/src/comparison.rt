@@ -1,4 +1,4 @@
-//! What stands inside an operation before and after a run of a pass, and what the run rewrote.
+//! What is inside an operation before and after a run of a pass, and what the run rewrote.
 ghost use Rattle.pliron_core.specs.Tree.{IsLive};
 
 use crate::contents_count::ContentsCount;
@@ -7,25 +7,25 @@ use pliron_laws::reads::push_layouts;
 use pliron_walks::Contents;
 use std::alloc::{AllocError, Global};
 
-/// What runs rewrote inside operations: as far as what stands there before and after tells it, so what a run made and
+/// What runs rewrote inside operations: as far as what is there before and after shows it, so what a run made and
 /// erased again isn't counted.
 #[derive(Clone, Copy, Debug, Drop, PartialEq, Eq)]
 pub struct RewriteCounts {
-    /// Operations that stand after a run, and didn't before it.
+    /// Operations that are live after a run, and weren't before it.
     pub made: usize,
-    /// Operations that stood before a run, and don't after it.
+    /// Operations that were live before a run, and aren't after it.
     pub erased: usize,
-    /// Operations that stand in another block after a run than before it.
+    /// Operations that are in another block after a run than before it.
     pub moved: usize,
-    /// Operands of operations that stand before and after a run: those that are another value, or were taken out.
+    /// Operands of operations that are live before and after a run: those that are another value, or were taken out.
     pub operands: usize,
-    /// Blocks that stood before a run, and don't after it.
+    /// Blocks that were live before a run, and aren't after it.
     pub blocks: usize,
-    /// Arguments of blocks that stood before a run, and don't after it.
+    /// Arguments of blocks that were live before a run, and aren't after it.
     pub arguments: usize,
 }
 
-/// What stood inside operations before runs and after them, and what the runs rewrote.
+/// What was inside operations before runs and after them, and what the runs rewrote.
 #[derive(Clone, Copy, Debug, Drop)]
 pub struct Comparison {
     pub before: ContentsCount,
@@ -33,7 +33,7 @@ pub struct Comparison {
     pub rewrites: RewriteCounts,
 }
 
-/// An operation that stood before a run.
+/// An operation that was live before a run.
 #[derive(Clone, Copy)]
 struct OperationBefore {
     op: Ptr<Operation>,
@@ -42,7 +42,7 @@ struct OperationBefore {
     operands: usize,
 }
 
-/// What stood inside an operation before a run, to be compared with what stands there after it.
+/// What was inside an operation before a run, to be compared with what is there after it.
 #[derive(Drop)]
 pub struct Snapshot {
     counts: ContentsCount,
@@ -108,7 +108,7 @@ fn changed_operands(op: Ptr<Operation>, before: &[Value], ctx: &Context) -> usiz
 }
 
 impl Comparison {
-    /// Nothing stood, and nothing was rewritten. Cost: constant.
+    /// Nothing was inside, and nothing was rewritten. Cost: constant.
     pub(crate) fn none() -> Self {
         Comparison {
             before: ContentsCount::none(),
@@ -154,7 +154,7 @@ impl Snapshot {
         Ok(())
     }
 
-    // Adds the operation and all that stands inside it.
+    // Adds the operation and all that is inside it.
     fn add_all(&mut self, op: Ptr<Operation>, ctx: &Context) -> Result<(), AllocError>
         requires { IsLive ctx.now.tree op }
     {
@@ -167,8 +167,8 @@ impl Snapshot {
         self.add_arguments(ctx)
     }
 
-    /// The operation and all that stands inside it. Asks that it stands (`is_live` tests it). Errors: allocation
-    /// failure. Cost: linear in all that.
+    /// The operation and all that is inside it. Asks that it is live (`is_live` tests it). Errors: allocation failure.
+    /// Cost: linear in all that.
     pub(crate) fn of(alloc: Global, op: Ptr<Operation>, ctx: &Context) -> Result<Self, AllocError>
         requires { IsLive ctx.now.tree op }
     {
@@ -183,7 +183,7 @@ impl Snapshot {
         Ok(snapshot)
     }
 
-    // What was rewritten since, where so much stands inside the operation.
+    // What was rewritten since, where so much is inside the operation now.
     fn rewrites(&self, after: &ContentsCount, ctx: &Context) -> RewriteCounts {
         let mut rewrites = RewriteCounts::none();
         let mut operands = self.operands.as_slice();
@@ -207,8 +207,8 @@ impl Snapshot {
         rewrites
     }
 
-    /// What stood inside the operation, what stands there, and what was rewritten. Asks that it stands (`is_live` tests
-    /// it). Cost: linear in what stood and what stands.
+    /// What was inside the operation, what is there now, and what was rewritten. Asks that it is live (`is_live` tests
+    /// it). Cost: linear in what was there and what is.
     pub(crate) fn compare(&self, op: Ptr<Operation>, ctx: &Context) -> Comparison
         requires { IsLive ctx.now.tree op }
     {

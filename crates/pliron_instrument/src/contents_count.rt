@@ -1,10 +1,10 @@
-//! How much stands inside an operation.
+//! How much is inside an operation.
 ghost use Rattle.pliron_core.specs.Tree.{IsLive, IsRegion};
 
 use pliron_core::{Context, Operation, Ptr, Region};
 use pliron_walks::Contents;
 
-/// How much stands inside operations: these themselves and the operations inside them, blocks, arguments of blocks, and
+/// How much is inside operations: these themselves and the operations inside them, blocks, arguments of blocks, and
 /// edges.
 #[derive(Clone, Copy, Debug, Drop, PartialEq, Eq)]
 pub struct ContentsCount {
@@ -59,8 +59,8 @@ impl ContentsCount {
         }
     }
 
-    /// What the operation and all that stands inside it come to. Asks that it stands (`is_live` tests it). Cost: one
-    /// step for each operation, region and block.
+    /// The counts of the operation and all that is inside it. Asks that it is live (`is_live` tests it). Cost: one step
+    /// for each operation, region and block.
     pub(crate) fn of(op: Ptr<Operation>, ctx: &Context) -> Self
         requires { IsLive ctx.now.tree op }
     {

@@ -15,7 +15,7 @@ use std::time::Clock;
 /// What is recorded around each run of a pass.
 #[derive(Clone, Copy, Debug, Drop)]
 pub struct Instrumentation {
-    /// Whether what stands inside the operation is compared before and after.
+    /// Whether what is inside the operation is compared before and after.
     pub counts: bool,
     /// Whether the operation is verified after.
     pub verifies: bool,
@@ -32,7 +32,7 @@ pub struct Instrumented<N: FoldingNotation, C: Progress + Drop> {
     records: InstrumentationRecord,
 }
 
-// What stood inside the operation, what stands there, and what was rewritten, where it is known what stood.
+// What was inside the operation, what is there now, and what was rewritten, where it is known what was there.
 fn compare_after(before: &Option<Snapshot>, op: Ptr<Operation>, ctx: &Context) -> Comparison
     requires { IsLive ctx.now.tree op }
 {
@@ -82,7 +82,7 @@ impl<N: FoldingNotation, C: Progress + Drop> Instrumented<N, C> {
         &self.records
     }
 
-    // What stands inside the operation, where the options ask for a comparison.
+    // What is inside the operation, where the options ask for a comparison.
     fn snapshot(&mut self, alloc: Global, op: Ptr<Operation>, ctx: &Context) -> Option<Snapshot>
         requires { IsLive ctx.now.tree op }
         ensures { self.new.step ≡ self.old.step }

@@ -28,7 +28,7 @@ pub struct Optimised {
 
 /// Runs the passes once on the operation, with nothing configured and nothing cached.
 ///
-/// Asks that the operation stands and is well linked. Errors: those of the passes; allocation failure, after some whole
+/// Asks that the operation is live and well linked. Errors: those of the passes; allocation failure, after some whole
 /// rewrites. Cost: that of the passes, and of what is recorded.
 pub fn run_instrumented<N: FoldingNotation, C: Progress + Drop>(
     alloc: Global,

@@ -10,13 +10,13 @@ pub struct RoundRecord {
     /// How many runs there were, and how many of these changed something.
     pub runs: usize,
     pub changed: usize,
-    /// What stood inside the operations before and after, and what was rewritten.
+    /// What was inside the operations before and after, and what was rewritten.
     pub compared: Comparison,
     /// How many nanoseconds they took.
     pub nanos: u128,
 }
 
-/// One run of a pass of which there is something to tell.
+/// One run of a pass of which there is something to report.
 #[derive(Drop)]
 pub struct RunNote {
     /// How many runs of passes came before it.
@@ -33,7 +33,7 @@ pub struct RunNote {
 pub struct InstrumentationRecord {
     /// The operation on which it ran first.
     first: Option<Ptr<Operation>>,
-    /// A row for each time that it went over its operations.
+    /// A row for each round over its operations.
     pub rows: Vec<RoundRecord>,
     /// Its runs in order.
     pub notes: Vec<RunNote>,
@@ -43,7 +43,7 @@ pub struct InstrumentationRecord {
     pub is_short: bool,
 }
 
-/// One run of a pass: the operation, what stood inside it before and after, what was rewritten, and how long it took.
+/// One run of a pass: the operation, what was inside it before and after, what was rewritten, and how long it took.
 #[derive(Clone, Copy)]
 pub struct RunMeasure {
     pub op: Ptr<Operation>,

@@ -24,7 +24,7 @@ pub type InstrumentedSchedule<N, C> = Either<
 /// What the options ask to be recorded around each run of a pass.
 #[derive(Clone, Copy)]
 pub struct InstrumentationOptions<'w> {
-    /// Whether what stands inside the operation is compared before and after.
+    /// Whether what is inside the operation is compared before and after.
     pub counts: bool,
     /// Whether the operation is verified after.
     pub verifies: bool,
@@ -45,7 +45,7 @@ impl<'w> InstrumentationOptions<'w> {
     }
 }
 
-// The instrumented pass comes last.
+// Adds the instrumented pass at the end.
 fn add<N: FoldingNotation, C: Progress + Copy + Drop>(
     passes: &mut Passes<Instrumented<N, C>>,
     instrumented: Instrumented<N, C>,

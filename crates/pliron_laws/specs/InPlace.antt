@@ -32,7 +32,7 @@ materialising_outcome m constants accepts head t t' op known (Some status) = ((o
 
 -- each outcome of a constant fold materialises some of the answered results, each outcome of a branch fold
 -- keeps the branch or replaces it, and the answer reports whether the tree changed; on allocation failure such
--- an outcome is left too: one whole rewrite, or none
+-- an outcome is left too: constants for some of them, another branch, or the tree as before
 pub record FoldsInPlace (m : Meaning) (constants : Constants) (accepts : AttrObj → Bool) (head : AttrObj → Head) (fold branch_fold : Outcome) : Type 0 where
   pub constant : (t t' : Tree) (op : ℕ) (known : List (Option AttrObj)) (answer : Option IRStatus) (o : Operation) → op_at t op ≡ Some o → fold t t' op known answer → MaterialisesSome accepts head op o.results (constants (shape_of m t o) known) t t' × ReportsChange answer t t'
   pub branch : (t t' : Tree) (op : ℕ) (known : List (Option AttrObj)) (answer : Option IRStatus) → branch_fold t t' op known answer → FoldsBranch m op known t t' × ReportsChange answer t t'

@@ -55,8 +55,8 @@ pub record LosesOperand (m : Meaning) (SameTests : Head → Head → Type 0) (s 
   pub same_edges : (k : ℕ) → m.forwarded (fewer_operands s head) k ≡ map (moved_up p) (if nat_eq k i then remove (m.forwarded s k) j else m.forwarded s k)
   pub alike : (first : List Datum) → length first ≡ s.operands → ActAlike m.act PassesSame (λ k ds l es. (l ≡ k) × DropsAt i j k ds es) s (fewer_operands s head) first (remove first p)
 
--- a branch only goes on, and passes along each edge the operands that it forwards there, each of them
--- on one edge alone; with one edge it goes there at once; it can lose a forwarded operand
+-- a branch only jumps, and passes along each edge the operands that it forwards there, each of them
+-- on one edge alone; with one edge it jumps along that at once; it can lose a forwarded operand
 pub record ForwardsOperands (m : Meaning) (can_fold : Head → Bool) (SameTests : Head → Head → Type 0) (shortened : Shape → ℕ → ℕ → Head) : Type 0 where
   pub alone : (s : Shape) → Admitted m s → IsTrue (m.is_branch s.head) → (s.results ≡ 0) × (s.entry_arguments ≡ []) × (can_fold s.head ≡ false)
   pub some_edge : (s : Shape) → Admitted m s → IsTrue (m.is_branch s.head) → 0 < s.successors

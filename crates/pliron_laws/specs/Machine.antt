@@ -43,7 +43,7 @@ abbrev pub emit : State → Datum → Datum → List Datum → Next
 emit s e memo [] = Over (Reached (e ∷ s.effects))
 emit s e memo (d ∷ world) = Goes (record s { memo = memo; answer = Some (d ∷ []); world = world; effects = e ∷ s.effects })
 
--- what a transition of the operation `o` does, where `self` is its key and `rest` are the ones after it
+-- what a transition of the operation `o` does, where `self` is its handle and `rest` are the ones after it
 abbrev pub perform : Tree → State → Operation → ℕ → List ℕ → Move → Next
 perform t s o self rest (Give ds) = after_giving s rest s.waiting ds (bind s.environment o.results ds)
 perform t s o self rest (Visit i ds memo) = enter s (entry_in t (slice_get o.regions i)) ds (record { rest = self ∷ rest; memo = memo } ∷ s.waiting)

@@ -9,7 +9,7 @@ use Rattle.pliron_core.specs.Writes.{after_creating, after_replacing, put_next_t
 use Rattle.pliron_core.specs.Changes.{IsSameTree}
 use Rattle.pliron_laws.specs.Datum.{Head}
 
--- the key of the next operation, and that of the next value
+-- the handle of the next operation, and that of the next value
 abbrev pub next_op : Tree → ℕ
 next_op t = length t.operations
 

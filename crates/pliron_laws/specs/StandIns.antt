@@ -44,7 +44,7 @@ pub record AreUnused (made : List StandIn) (t : Tree) : Type 0 where
   pub numbered : (i : ℕ) (s : StandIn) → slice_get made i ≡ Some s → s.new ≡ base + i
   pub defined : (i : ℕ) (s : StandIn) → slice_get made i ≡ Some s → IsDefined t s.old × IsDefined t s.new
 
--- the tree is as before, but for erased handles, and what was known of keys is known still
+-- the tree is as before, but for erased handles, and what was known of handles is known still
 pub record IsRestored (t u : Tree) : Type 0 where
   pub same : IsSameTree t u
   pub slots : (r : ℕ) (s : RegionSlot) → slot_of t r ≡ Some s → slot_of u r ≡ Some s

@@ -1,8 +1,8 @@
 //! Dialects: what a pass may ask of an operation, and the laws that the answers keep.
 //!
-//! All functions go without `self`: a dialect is a type, and its values are never needed. A `ghost`
-//! member above a trait's last function is a table that the contracts speak of; those below it are the
-//! laws, which each `impl` proves.
+//! No function takes `self`: a dialect is a type, and its values are never needed. A `ghost` member above a
+//! trait's last function is a table that the contracts speak of; those below it are the laws, which each
+//! `impl` proves.
 //!
 //! Some laws hold by type. What the answer on side effects reads is an argument of `side_effects`, the
 //! head; what the answer on removal reads are those of `removable`, the head, the region's index and
@@ -144,7 +144,7 @@ pub trait ConstFoldInterface: HasMeaning {
     /// one entry for each operand, and for an insertion point just before it.
     ///
     /// Errors: allocation failure, after which the tree is one that the law on folding in place allows: as before,
-    /// but for erased handles, or after one whole fold.
+    /// but for erased handles, or with constants for some of the answered results.
     fn fold_in_place<R: Rewriter + Room>(
         alloc: Global,
         op: Ptr<Operation>,
@@ -304,7 +304,7 @@ pub trait BranchOpFoldInterface: HasMeaning {
     /// branch, for one entry for each operand, and for an insertion point just before it.
     ///
     /// Errors: allocation failure, after which the tree is one that the law on folding in place allows: as before,
-    /// but for erased handles, or after one whole fold.
+    /// but for erased handles, or with the branch replaced.
     fn fold_in_place<R: Rewriter + Room>(
         alloc: Global,
         op: Ptr<Operation>,

@@ -6,7 +6,7 @@ use pliron_core::NoMemory;
 use std::alloc::{AllocError, AllocFailed};
 use thiserror::Error;
 
-/// Why a call gave up.
+/// Why a call failed.
 #[derive(Clone, Copy, Debug, Drop, PartialEq, Eq, Error)]
 pub enum OptError {
     /// Allocation failure.
@@ -26,7 +26,7 @@ pub enum OptError {
     Pass(u32),
 }
 
-/// A change of the tree that was refused memory is allocation failure.
+/// A change of the tree that failed for lack of memory is reported as `Memory`.
 impl From<NoMemory> for OptError {
     ghost from_gives = { λ _ e. e ≡ Memory };
 
@@ -35,7 +35,7 @@ impl From<NoMemory> for OptError {
     }
 }
 
-/// A refused allocation is allocation failure.
+/// A failed allocation is reported as `Memory`.
 impl From<AllocError> for OptError {
     ghost from_gives = { λ _ e. e ≡ Memory };
 
@@ -44,7 +44,7 @@ impl From<AllocError> for OptError {
     }
 }
 
-/// A refused growth of a collection is allocation failure, and the value that was not stored is dropped.
+/// A failed growth of a collection is reported as `Memory`, and the value that was not stored is dropped.
 impl<T: Drop> From<AllocFailed<T>> for OptError {
     ghost from_gives = { λ _ e. e ≡ Memory };
 

@@ -1,7 +1,7 @@
 //! What a program means, and what a dialect owes: the errors, the traits of a dialect with their laws as
 //! members, and the first calls that need no more than these.
 //!
-//! Of rewrites that keep every run, of any dialect but the one at hand, and of texts it knows nothing.
+//! It knows nothing of rewrites that keep every run, of any dialect but the one at hand, or of texts.
 //! `docs/DIALECTS.md` says how a dialect is written.
 #![tactic(auto)]
 

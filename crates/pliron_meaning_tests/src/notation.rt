@@ -12,7 +12,7 @@ use pliron_meaning::edges_last;
 use std::alloc::Global;
 use std::process::Abort;
 
-// The line of the text, where edges stand last, or `unreadable`. Ends of lines stand as `|` in the text.
+// The line of the text, where edges are last, or `unreadable`. Ends of lines are `|` in the text.
 fn printed_line(rt: &impl Abort, alloc: Global, text: &str) -> String {
     let mut bytes = Vec::new(alloc);
     for byte in text.as_bytes() {
@@ -23,7 +23,7 @@ fn printed_line(rt: &impl Abort, alloc: Global, text: &str) -> String {
     printed_bytes(rt, alloc, bytes.as_slice())
 }
 
-// The line of the bytes, where edges stand last, or `unreadable`.
+// The line of the bytes, where edges are last, or `unreadable`.
 fn printed_bytes(rt: &impl Abort, alloc: Global, text: &[u8]) -> String {
     let mut ctx = Context::new(alloc);
     printed_in(rt, alloc, text, &mut ctx)

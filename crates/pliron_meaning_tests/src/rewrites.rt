@@ -143,8 +143,8 @@ fn replace_inside<D: Dialect>(
     status
 }
 
-// A constant without uses goes, and a question stays; the question asks the new constant; and the
-// constant for the argument stands first in the block, though the argument has no uses.
+// A constant without uses is erased, and a question stays; the question asks the new constant; and the constant for the
+// argument is first in the block, though the argument has no uses.
 fn rewrites_in(rt: &impl Abort, alloc: Global, ctx: &mut Context) {
     let mut made = Made::new(alloc);
     make(alloc, ctx, &mut made, STEPS).expect(rt, "a tree");

@@ -136,7 +136,7 @@ fn data(rt: &impl Abort, alloc: Global, words: &str) -> Vec<Datum> {
     data
 }
 
-// The two last fields of a side, and what stands before them.
+// The two last fields of a side, and what is before them.
 fn last_fields<'t>(rt: &impl Abort, side: &'t str) -> (&'t str, &'t str, &'t str) {
     let (rest, last) = side.rsplit_once('/').expect(rt, "a last field");
     let (rest, middle) = rest.rsplit_once('/').expect(rt, "a field before the last");

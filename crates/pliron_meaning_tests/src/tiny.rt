@@ -86,7 +86,7 @@ fn named_in(rt: &impl Abort, alloc: Global, ctx: &mut Context) {
     }
 }
 
-/// Trees, and whether edges stand last in the first operation and in the second, which is in it.
+/// Trees, and whether edges are last in the first operation and in the second, which is in it.
 static EDGES: &str = "\
 no edges -- scope; block 0; block 0; scope @0; block 1 => true true
 edges at the ends of blocks -- scope; block 0; block 0; scope @0; block 1; br @0 b1; br @2 b2 => true true
@@ -161,7 +161,7 @@ fn fold<D: Dialect>(
     status
 }
 
-/// The number of the constant that the question asks, which stands just before `op`.
+/// The number of the constant that the question asks, which is just before `op`.
 pub(crate) fn number_asked(
     rt: &impl Abort,
     ctx: &Context,

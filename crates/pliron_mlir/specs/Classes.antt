@@ -82,7 +82,7 @@ abbrev pub edge_of_case : ℕ → List AttrObj → ℕ → ℕ
 edge_of_case i [] c = 0
 edge_of_case i (a ∷ rest) c = if has_some rest && nat_eq (counted_by a) c then i else edge_of_case (suc i) rest c
 
--- behind the counts of a switch stand the width, the cases and the form
+-- behind the counts of a switch are the width, the cases and the form
 abbrev pub switch_edge : ℕ → List AttrObj → ℤ → Option ℕ
 switch_edge kind [] c = None
 switch_edge kind (width ∷ cases) c = option_map (edge_of_case 1 cases) (bits_at (counted_by width) c)

@@ -22,7 +22,7 @@ pub fn class_named(name: &[u8]) -> Option<Class> {
     }
 }
 
-// Of the dialects `builtin`, `func`, `cf`, and of the terminators of some others that only hand on their operands.
+// Of the dialects `builtin`, `func`, `cf`, and of the terminators of some others that only pass on their operands.
 fn class_elsewhere(name: &[u8]) -> Option<Class> {
     match name {
         b"builtin.module" => Some(Class::Module),

@@ -1,4 +1,4 @@
-//! The module as it stands after each pass.
+//! The module as it is after each pass.
 ghost use Rattle.std.specs.Prelude.{◌≡◌};
 ghost use Rattle.pliron_core.specs.Tree.{IsLive};
 ghost use Rattle.pliron_core.specs.Writes.{no_tree};
@@ -123,7 +123,7 @@ fn write_rounds<N: ModuleNotation>(
     Ok(())
 }
 
-// Writes the module that the text says, read into this context, as it stands after each pass.
+// Writes the module that the text says, read into this context, as it is after each pass.
 fn write_in<N: ModuleNotation>(
     alloc: Global,
     trace: &mut Trace,
@@ -139,7 +139,7 @@ fn write_in<N: ModuleNotation>(
     }
 }
 
-// The module that the text says as it stands after each pass, by this context.
+// The module that the text says as it is after each pass, by this context.
 fn print_in<N: ModuleNotation>(
     alloc: Global,
     text: &[u8],
@@ -158,11 +158,12 @@ fn print_in<N: ModuleNotation>(
     }
 }
 
-/// The module that the text says as it stands after each pass of the plan, each behind a line that says which run it was.
+/// The module that the text says as it is after each pass of the plan, each behind a line that says which run it was.
 ///
-/// The passes are run on a module of their own, one by one, until a round of them changes nothing; on each operation
-/// directly inside it, where the plan says so, a pass comes to all of them before the next one does. What goes wrong ends
-/// it, but for want of memory, since `run_passes` tells the same.
+/// The passes are run on a module of their own, one by one, until a round of them changes nothing. Where the plan says
+/// that they run on each operation directly inside the module, a pass visits all of these before the next pass does. A
+/// failure ends the output there and is no error, unless it is an allocation failure: `run_passes` reports the same
+/// one.
 ///
 /// Errors: allocation failure. Cost: that of reading, the passes, and of printing after each.
 pub fn print_after_each<N: ModuleNotation>(

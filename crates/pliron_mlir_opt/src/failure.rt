@@ -8,7 +8,7 @@ use std::alloc::{AllocError, Global};
 /// Why a module isn't answered.
 #[derive(Clone, Copy, Debug, Drop, PartialEq, Eq)]
 pub enum ModuleFailure {
-    /// At this byte the text was to have something else.
+    /// Something else was expected at this byte of the text.
     Text(usize, Expected),
     /// Memory was refused, or the passes were.
     Refused(OptError),

@@ -9,7 +9,7 @@ use pliron_mlir_text::{Module, position_of};
 use pliron_walks::Contents;
 use std::alloc::{AllocError, Global};
 
-/// A function that isn't fit to run: where it stands in the text, and the reason.
+/// A function that isn't fit to run: where it is in the text, and the reason.
 #[derive(Clone, Copy, Debug, Drop)]
 pub struct Unfit {
     pub place: usize,
@@ -23,7 +23,7 @@ pub struct Fitness {
     pub unfit: Vec<Unfit>,
 }
 
-// The operation is counts, where it is a function.
+// Counts the operation, where it is a function.
 fn add<D: Dialect>(
     alloc: Global,
     op: Ptr<Operation>,
@@ -44,8 +44,9 @@ fn add<D: Dialect>(
     Ok(())
 }
 
-/// Which functions of the module are fit to run: after the passes they do as before. Asks that the module's operation
-/// stands (`is_live` tests it). Errors: allocation failure. Cost: that of `find_violation` for each function.
+/// Which functions of the module are fit to run: after the passes they behave as before. Asks that the module's
+/// operation is live (`is_live` tests it). Errors: allocation failure. Cost: that of `find_violation` for each
+/// function.
 pub fn fitness_of<D: Dialect>(
     alloc: Global,
     loaded: &Module,
@@ -63,7 +64,7 @@ pub fn fitness_of<D: Dialect>(
     }
 }
 
-// All functions are counts.
+// Counts all functions.
 fn add_all<D: Dialect>(
     alloc: Global,
     loaded: &Module,

@@ -1,6 +1,6 @@
 //! Modules of MLIR through passes: what the program `plir_mlir` does with texts.
 //!
-//! It knows texts, passes and what is told of them; of words, files and streams it knows nothing.
+//! It knows texts, passes and what is reported about them; of words, files and streams it knows nothing.
 #![tactic(auto)]
 
 mod each_pass;

@@ -14,10 +14,10 @@ use pliron_opts::Notation;
 use std::alloc::{AllocError, Global};
 use std::marker::PhantomData;
 
-/// A notation whose texts say more than the tree: what stands beside it is kept in a sheet.
+/// A notation whose texts say more than the tree: what they say beside it is kept in a sheet.
 ///
-/// What passes make of a module is proved for each of these. So an answer comes of the very text that was given, by
-/// the relation of that notation between texts and trees, whatever it is.
+/// What passes make of a module is proved for each of these notations. So an answer comes from the very text that was
+/// given, by the relation of that notation between texts and trees, whatever it is.
 pub trait ModuleNotation: FoldingNotation {
     /// Reads a text with its sheet. Its operation is live and well linked. Asks that the context is empty. Errors: the
     /// place where the text is outside the notation, and what was expected; allocation failure.

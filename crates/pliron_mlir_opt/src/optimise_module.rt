@@ -24,11 +24,11 @@ pub struct Optimised {
     pub status: IRStatus,
     /// Whether what was printed says the same tree when it is read again, where that was asked for.
     pub agrees: Option<bool>,
-    /// What stood and what stands, where that is asked for.
+    /// What was live before and after, where that is asked for.
     pub counts: Option<Counts>,
 }
 
-/// How much of each class stood before and stands after, and which functions are fit to run.
+/// Counts of live operations by class, before and after, and which functions are fit to run.
 #[derive(Drop)]
 pub struct Counts {
     pub before: Tally,
@@ -39,11 +39,11 @@ pub struct Counts {
 /// The options of passes on a module.
 #[derive(Clone, Copy, Debug)]
 pub struct ModuleOptions {
-    /// Whether it is told how much stood before and after each pass, and what it erased.
+    /// Whether to report how much is live before and after each pass, and what the pass made and erased.
     pub counts: bool,
     /// Whether the operation is verified after each pass.
     pub verifies: bool,
-    /// Whether the time of each pass is told.
+    /// Whether to report the time of each pass.
     pub times: bool,
     /// Whether what is printed is read again and compared.
     pub checks: bool,
@@ -52,9 +52,9 @@ pub struct ModuleOptions {
 /// What the passes make of the module that the text says, printed, and whether it changed.
 ///
 /// For every notation, and each dialect that keeps its laws: the tree that is printed is what these passes, run once as
-/// a whole, made of one that was read of this text, every operation that was fit to run and still stands does as
-/// before, and `status` says truly whether it changed. Errors: the place where the text can't be used, and what was expected; those of the passes;
-/// allocation failure. Cost: reading, the passes, what is counted, and printing.
+/// a whole, made of a tree that was read from this text; every operation that was fit to run and is still live behaves
+/// as before; and `status` says truly whether it changed. Errors: the place where the text can't be used, and what was
+/// expected; those of the passes; allocation failure. Cost: reading, the passes, what is counted, and printing.
 pub fn optimise<N: ModuleNotation, C: Progress + Drop>(
     alloc: Global,
     schedule: &mut InstrumentedSchedule<N, C>,
@@ -88,7 +88,7 @@ fn optimise_in<N: ModuleNotation, C: Progress + Drop>(
     }
 }
 
-// Whether this text says the module as it stands.
+// Whether this text says the module as it is now.
 fn reads_as<N: ModuleNotation>(
     alloc: Global,
     text: &[u8],
@@ -125,7 +125,7 @@ fn view_of<'m>(loaded: &'m Module, ctx: &'m Context) -> ModuleView<'m> {
     }
 }
 
-// Whether this text says the module as it stands, where that is asked for.
+// Whether this text says the module as it is now, where that is asked for.
 fn agreement<N: ModuleNotation>(
     alloc: Global,
     text: &[u8],
@@ -140,7 +140,7 @@ fn agreement<N: ModuleNotation>(
     }
 }
 
-// What stood before and what stands, where it is known what stood.
+// What was live before and is live now, where it is known what was.
 fn counts_after(before: Option<(Tally, Fitness)>, loaded: &Module, ctx: &Context) -> Option<Counts>
     requires { IsLive ctx.now.tree loaded.now.root }
 {
@@ -182,7 +182,7 @@ fn answer_of<N: ModuleNotation>(
     })
 }
 
-// How much of each class stands, and which functions are fit to run, where that is asked for.
+// How many operations of each class are live, and which functions are fit to run, where that is asked for.
 fn counts_before<N: ModuleNotation>(
     alloc: Global,
     loaded: &Module,

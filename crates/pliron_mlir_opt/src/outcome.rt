@@ -21,9 +21,9 @@ use std::alloc::{AllocError, Global};
 /// What a run of the program leaves to be written, and its status.
 #[derive(Drop)]
 pub struct Outcome {
-    /// What goes to standard output, or to the file that is named: a module, and nothing else.
+    /// What is written to standard output, or to the file that is named: a module, and nothing else.
     pub output: Vec<u8>,
-    /// What goes to standard error.
+    /// What is written to standard error.
     pub report: String,
     pub status: u8,
 }
@@ -64,7 +64,7 @@ fn failure_outcome(
     })
 }
 
-// Writes what is told of a module that passes made: counts, whether it changed, and whether what is printed says it.
+// Writes the report on a module that passes made: counts, whether it changed, and whether what is printed says it.
 fn write_made(report: &mut String, source: &Source, made: &Optimised) -> Result<(), AllocError> {
     if let Some(counts) = &made.counts {
         write_tallies(report, &counts.before, &counts.after)?;
@@ -140,7 +140,7 @@ fn run_schedule<N: ModuleNotation, C: Progress + Copy + Drop>(
 ///
 /// Statuses: 0; 1 where memory or the passes were refused; 2 for a text that can't be used; 3 where verifying or
 /// reading again found a fault. With all but 0 nothing is to be written to the output. Errors: allocation failure for
-/// what is told. Cost: reading, the passes, what is counted, and printing.
+/// the report. Cost: reading, the passes, what is counted, and printing.
 #[tactic(auto, using(crate::proofs::OutcomeLemmas::ends_planned, crate::proofs::OutcomeLemmas::ends_unplanned))]
 pub fn run_passes<N: ModuleNotation, C: Progress + Copy + Drop>(
     alloc: Global,
@@ -169,8 +169,8 @@ pub fn run_passes<N: ModuleNotation, C: Progress + Copy + Drop>(
     }
 }
 
-/// The outcome for a word that plans no passes: nothing is to be written, and the part that is wrong is told. Errors:
-/// allocation failure. Cost: linear in the word.
+/// The outcome for a word that plans no passes: nothing is to be written, and the report says which part is wrong.
+/// Errors: allocation failure. Cost: linear in the word.
 pub fn misspelling_outcome(
     alloc: Global,
     word: &str,

@@ -1,4 +1,4 @@
-//! What is told of the runs of passes: what verifying found after each, counts, and times.
+//! What is reported about the runs of passes: what verifying found after each, counts, and times.
 use crate::optimise_module::ModuleOptions;
 use pliron_instrument::{ContentsCount, FoldingNotation, Instrumented, Progress, RoundRecord};
 use std::alloc::{AllocError, Global};
@@ -56,7 +56,7 @@ fn write_faults<N: FoldingNotation, C: Progress + Drop>(
     )
 }
 
-// Writes how much stands.
+// Writes how much is live.
 fn write_contents(report: &mut String, contents: &ContentsCount) -> Result<(), AllocError> {
     let (operations, blocks) = (contents.operations, contents.blocks);
     let (arguments, edges) = (contents.arguments, contents.edges);
@@ -66,7 +66,7 @@ fn write_contents(report: &mut String, contents: &ContentsCount) -> Result<(), A
     )
 }
 
-// Writes what stood before and after a pass, and what it erased.
+// Writes what was live before and after a pass, and what it made and erased.
 fn write_round(
     report: &mut String,
     name: &str,
@@ -86,7 +86,7 @@ fn write_round(
     )
 }
 
-// Writes what stood before and after each pass, round by round, and what it erased.
+// Writes what was live before and after each pass, round by round, and what it made and erased.
 fn write_counts<N: FoldingNotation, C: Progress + Drop>(
     report: &mut String,
     passes: &[Instrumented<N, C>],
@@ -126,9 +126,9 @@ fn write_times<N: FoldingNotation, C: Progress + Drop>(
     Ok(())
 }
 
-/// What is told of the runs of the passes: what verifying found, counts and times.
+/// What is reported about the runs of the passes: what verifying found, counts and times.
 ///
-/// Errors: allocation failure. Cost: linear in what is told.
+/// Errors: allocation failure. Cost: linear in the report.
 pub fn report_of<N: FoldingNotation, C: Progress + Drop>(
     alloc: Global,
     passes: &[Instrumented<N, C>],

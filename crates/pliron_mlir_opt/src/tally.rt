@@ -1,4 +1,4 @@
-//! How much of each class stands in a module.
+//! How many operations of each class are in a module.
 ghost use Rattle.pliron_core.specs.Tree.{IsLive};
 
 use pliron_core::{Context, Operation, Ptr};
@@ -45,8 +45,8 @@ impl Tally {
         *count = count.saturating_add(1);
     }
 
-    /// What the operation and all that stands inside it come to. Asks that it stands (`is_live` tests it). Cost: one
-    /// step for each operation.
+    /// Counts the operation and all operations inside it. Asks that it is live (`is_live` tests it). Cost: one step for
+    /// each operation.
     pub fn of(root: Ptr<Operation>, ctx: &Context) -> Self
         requires { IsLive ctx.now.tree root }
     {
@@ -71,7 +71,7 @@ fn write_line(
     write!(report, "{name:<12} {before:>10} {after:>10}\n")
 }
 
-/// Writes how many operations of each class stood before and after. Errors: allocation failure. Cost: constant.
+/// Writes how many operations of each class were live before and after. Errors: allocation failure. Cost: constant.
 pub fn write_tallies(report: &mut String, before: &Tally, after: &Tally) -> Result<(), AllocError> {
     report.push_str("class            before      after\n")?;
     write_line(report, "constants", before.constants, after.constants)?;

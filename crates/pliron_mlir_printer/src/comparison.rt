@@ -1,4 +1,4 @@
-//! Whether two modules say the same tree, up to keys.
+//! Whether two modules say the same tree, up to handles.
 ghost use Rattle.std.specs.Prelude.{◌≡◌, true, IfOk};
 ghost use Rattle.pliron_core.specs.Tree.{IsLive};
 
@@ -18,7 +18,7 @@ pub struct ModuleView<'m> {
     pub ctx: &'m Context,
 }
 
-/// What of the second module stands for what of the first, by keys.
+/// For the handles of the first module, those of the second that correspond to them.
 #[derive(Drop)]
 struct Counterparts {
     values: HashMap<u64, u64>,
@@ -36,8 +36,9 @@ struct Pair<'m> {
     second_ctx: &'m Context,
 }
 
-/// Whether both modules say the same tree, up to keys: operations of the same classes with the same forms, in the same
-/// blocks, with the same values and successors. What has no form, since folding made it, may have any that says it.
+/// Whether both modules say the same tree, up to handles: operations of the same classes with the same forms, in the
+/// same blocks, with the same values and successors. An operation without a form, since folding made it, may correspond
+/// to one of any form that says the same.
 ///
 /// Errors: allocation failure. Cost: linear in both.
 pub fn is_same_module<'m>(
@@ -74,7 +75,7 @@ fn number_at(head: &Head, i: usize) -> Option<i128> {
     }
 }
 
-// How many attributes stand before the form.
+// How many attributes are before the form.
 fn num_number(head: &Head) -> usize {
     if form_of(head).is_some() {
         head.attrs.len().saturating_sub(1)
@@ -106,7 +107,7 @@ impl Pair<'_> {
         Ok(self.edges_agree(counterparts))
     }
 
-    // Goes over both in the order of the text: they have the same shapes. Asks that both stand.
+    // Visits both in the order of the text: they have the same shapes. Asks that both are live.
     fn shapes_agree(&self, counterparts: &mut Counterparts) -> Result<bool, AllocError>
         requires first { IsLive self.now.first_ctx.now.tree self.now.first_root }
         requires second { IsLive self.now.second_ctx.now.tree self.now.second_root }
@@ -159,7 +160,7 @@ impl Pair<'_> {
         Ok(true)
     }
 
-    // They stand in blocks that stand for one another, or in none.
+    // They are in blocks that correspond to one another, or in none.
     fn blocks_around_agree(
         &self,
         counterparts: &Counterparts,
@@ -234,7 +235,7 @@ impl Pair<'_> {
         Ok(true)
     }
 
-    // Goes over both once more: operands, successors and heads agree. Asks that both stand.
+    // Visits both once more: operands, successors and heads agree. Asks that both are live.
     fn edges_agree(&self, counterparts: &Counterparts) -> bool
         requires first { IsLive self.now.first_ctx.now.tree self.now.first_root }
         requires second { IsLive self.now.second_ctx.now.tree self.now.second_root }

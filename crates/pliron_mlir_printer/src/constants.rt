@@ -68,7 +68,7 @@ fn name_of<'s>(op: Ptr<Operation>, sheet: &'s Sheet, ctx: &Context) -> &'s [u8] 
 /// Cost: the depth of the operation.
 pub fn dialect_of(op: Ptr<Operation>, sheet: &Sheet, ctx: &Context) -> Dialect {
     let mut here = op;
-    // An operation stands in at most so many.
+    // An operation is inside at most so many.
     for _ in 0..MAX_DEPTH {
         if !here.is_live(ctx) {
             break;

@@ -29,7 +29,7 @@ struct Printer<'s> {
     items: Vec<Item>,
 }
 
-/// Prints a module as the sheet says: values and blocks are named by their keys, and what has no form, since folding
+/// Prints a module as the sheet says: values and blocks are named by their handles, and what has no form, since folding
 /// made it, is printed in the dialect of the function around.
 ///
 /// Errors: allocation failure. Cost: linear in what is printed.
@@ -232,7 +232,7 @@ impl Printer<'_> {
         self.text(b"}>")
     }
 
-    // The entries of a list with this text, and the counts of operands of edges, where they stand there.
+    // The entries of a list with this text, and the counts of operands of edges, where they are in that list.
     fn list(
         &mut self,
         op: Ptr<Operation>,
@@ -262,7 +262,7 @@ impl Printer<'_> {
             )
     }
 
-    // Whether the counts of operands stand in the attribute dictionary.
+    // Whether the counts of operands are in the attribute dictionary.
     fn has_counts_behind(&self, form: Form) -> bool {
         form.properties.is_none() && form.attributes.is_some()
     }
@@ -296,7 +296,7 @@ impl Printer<'_> {
         self.text(b">")
     }
 
-    // What stands behind the regions.
+    // What is printed behind the regions.
     fn tail(&mut self, op: Ptr<Operation>, form: Form, ctx: &Context) -> Result<(), AllocError> {
         if form.attributes.is_some() {
             let counts = self.has_counts(op, ctx) && self.has_counts_behind(form);

@@ -17,7 +17,7 @@ use pliron_mlir_syntax::{
 /// The most bytes of a constant that passes carry.
 const MAX_CONSTANT: usize = 256;
 
-/// The most edges of a switch that passes look into where its edges have operands: the place of an edge's operands is a
+/// The most edges of a switch that passes inspect where its edges have operands: the place of an edge's operands is a
 /// sum over the edges before it.
 const MAX_EDGES: usize = 1024;
 
@@ -262,7 +262,7 @@ impl Reader<'_> {
         Ok(self.sheet.number(&text)?)
     }
 
-    // The number of what stands in a property list or an attribute dictionary.
+    // The number of the text inside a property list or an attribute dictionary.
     fn list(
         &mut self,
         span: Option<Span>,
@@ -288,7 +288,7 @@ impl Reader<'_> {
         })
     }
 
-    // The head of a constant: of one that is long it isn't told that it is one.
+    // The head of a constant. The head of a long one doesn't say that it is a constant.
     fn constant(&mut self, form: Form, pending: &Pending) -> Result<Head, Fault> {
         let number_of_form = self.sheet.form_number(form)?;
         let width = self.result_width();

@@ -4,7 +4,7 @@ use crate::reader::{Entry, Pending, Reader};
 use pliron_mlir::{Class, plain_head};
 use pliron_mlir_syntax::{Expected, Fault, Form, MAX_DEPTH, OperationText, Span};
 
-/// So many brackets stand in one another where a function has too many regions in one another.
+/// How deeply brackets are nested where a function has too many regions in one another.
 const MAX_BRACKETS: usize = 2 * MAX_DEPTH - 8;
 
 impl Reader<'_> {
@@ -101,7 +101,7 @@ impl Reader<'_> {
         Ok(())
     }
 
-    // Goes over entries up to the closing brace, and answers what stands before that.
+    // Scans entries up to the closing brace, and answers the text before that.
     fn entries(&mut self, are_properties: bool) -> Result<Span, Fault> {
         let start = self.cursor.place();
         if self.cursor.accept(b'}') {
@@ -154,7 +154,7 @@ impl Reader<'_> {
         Ok(Some(span))
     }
 
-    /// Goes over an operation, up to its first region where it has one. Errors: as `read`. Cost: linear in its text.
+    /// Reads an operation, up to its first region where it has one. Errors: as `read`. Cost: linear in its text.
     pub fn operation(&mut self) -> Result<(), Fault> {
         self.cursor.skip();
         let place = self.cursor.place();
@@ -218,7 +218,7 @@ impl Reader<'_> {
         Ok(())
     }
 
-    // Notes where its operands and successors stand.
+    // Notes where its operands and successors are.
     fn set_edges(&mut self, pending: &Pending, successors: usize) {
         if let Some(text) = self.syntax.operations.get_mut(pending.number) {
             text.operands = pending.operands;
@@ -226,8 +226,8 @@ impl Reader<'_> {
         }
     }
 
-    // Whether the function that begins here can't be served: it has too many regions in one another, or block tags. The
-    // cursor stays.
+    // Whether the function that begins here can't be served: its regions are nested too deeply, or it has block tags.
+    // The cursor stays.
     fn is_kept(&mut self, start: usize) -> Result<bool, Fault> {
         let before = self.cursor;
         let depth = self.whole_operation()?;
@@ -239,7 +239,7 @@ impl Reader<'_> {
         Ok(depth > MAX_BRACKETS || has_tags)
     }
 
-    // Goes over what follows the name of an operation as raw text, and answers how many brackets stand in one another.
+    // Scans what follows the name of an operation as raw text, and answers how deeply brackets are nested there.
     fn whole_operation(&mut self) -> Result<usize, Fault> {
         let mut most = 0usize;
         for _ in 0..self.cursor.bytes_left() {
@@ -288,8 +288,8 @@ impl Reader<'_> {
         }
     }
 
-    /// Goes over what stands behind the regions of an operation, which is then known whole. Errors: as `read`. Cost:
-    /// linear in its text.
+    /// Reads what is behind the regions of an operation, after which all of the operation is known. Errors: as `read`.
+    /// Cost: linear in its text.
     pub fn tail(&mut self, pending: &Pending) -> Result<(), Fault> {
         let attributes = self.attribute_list()?;
         self.cursor.expect(b':', Expected::Colon)?;

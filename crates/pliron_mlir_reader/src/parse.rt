@@ -8,8 +8,7 @@ use std::alloc::Global;
 /// Functions that can't be served, since they have more than 64 regions in one another or tags of blocks, are kept as
 /// they are written: only where the first reading meets one, the text is read once more. Errors: the place where the
 /// text leaves the grammar or uses what isn't defined, and what was expected; allocation failure. Cost: linear in the
-/// text, but for uses that stand in regions inside the one that defines their value, which cost a step for each region
-/// between.
+/// text, but for uses in regions inside the one that defines their value, which cost a step for each region between.
 #[doc(hidden)]
 pub fn parse_text(alloc: Global, text: &[u8]) -> Result<(Syntax, Sheet), Fault> {
     match parse_so(alloc, text, false) {

@@ -29,7 +29,7 @@ pub struct Pending {
     pub named: usize,
     /// How many regions have begun.
     pub regions: usize,
-    /// What stands in its property list.
+    /// The text inside its property list.
     pub properties: Option<Span>,
     /// The block around it.
     pub block: Option<usize>,
@@ -81,8 +81,8 @@ impl<'t> Reader<'t> {
     }
 
     /// Reads all of the text. Errors: where it leaves the grammar, and what was expected; allocation failure. Cost:
-    /// linear in the text, but for uses that stand in regions inside the one that defines their value, which cost a
-    /// step for each region between.
+    /// linear in the text, but for uses in regions inside the one that defines their value, which cost a step for each
+    /// region between.
     pub fn read(&mut self) -> Result<(), Fault> {
         self.before()?;
         self.values.open()?;
@@ -150,7 +150,7 @@ impl<'t> Reader<'t> {
         Ok(())
     }
 
-    // What stands in a region: a block's name, an operation, or the end.
+    // What a region contains: a block's name, an operation, or the end.
     fn item(&mut self) -> Result<(), Fault> {
         self.cursor.skip();
         match self.cursor.peek() {
@@ -166,7 +166,8 @@ impl<'t> Reader<'t> {
         }
     }
 
-    /// A region of the operation begins. Errors: none does; it stands in too many; allocation failure. Cost: constant.
+    /// A region of the operation begins. Errors: none does; it is nested too deeply; allocation failure. Cost:
+    /// constant.
     pub fn region(&mut self, mut pending: Pending) -> Result<(), Fault> {
         self.cursor.expect(b'{', Expected::OpenBrace)?;
         if self.open.len() >= MAX_DEPTH {
@@ -259,8 +260,8 @@ impl<'t> Reader<'t> {
         Ok(())
     }
 
-    /// The name stands for the next values, so many. Errors: the region has defined it; allocation failure. Cost: the
-    /// length of the name.
+    /// From here on the name stands for the next values, so many. Errors: the region has already defined it; allocation
+    /// failure. Cost: the length of the name.
     pub fn define(&mut self, name: Span, count: usize) -> Result<(), Fault> {
         if !self
             .values
@@ -272,13 +273,13 @@ impl<'t> Reader<'t> {
         Ok(())
     }
 
-    /// Goes over the name of a value, and answers it without `%`. Errors: none is there. Cost: its length.
+    /// Scans the name of a value, and answers it without `%`. Errors: none is there. Cost: its length.
     pub fn value_name(&mut self) -> Result<Span, Fault> {
         self.cursor.expect(b'%', Expected::Value)?;
         self.cursor.word(Expected::Name)
     }
 
-    /// Goes over a location, if one is there, and answers the number of its text. Errors: as `raw`; allocation failure.
+    /// Scans a location, if one is there, and answers the number of its text. Errors: as `raw`; allocation failure.
     /// Cost: its length.
     pub fn location(&mut self) -> Result<Option<usize>, Fault> {
         self.cursor.skip();

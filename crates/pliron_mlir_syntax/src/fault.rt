@@ -3,7 +3,7 @@ use pliron_core::NoMemory;
 use std::alloc::{AllocError, AllocFailed};
 use thiserror::Error;
 
-/// What a text was to have where it leaves the grammar.
+/// What was expected where a text leaves the grammar.
 #[derive(Clone, Copy, Debug, Drop, PartialEq, Eq, Error)]
 pub enum Expected {
     #[error("`(`")]

@@ -6,7 +6,7 @@ use std::alloc::Global;
 /// What a name stands for: so many things from the first one on.
 #[derive(Clone, Copy, Debug)]
 struct Definition {
-    /// How many regions stood open when it was defined; none where it isn't defined.
+    /// How many regions were open when it was defined; none where it isn't defined.
     depth: usize,
     first: usize,
     count: usize,
@@ -18,7 +18,7 @@ struct Use {
     name: usize,
     /// Which of the things of that name.
     part: usize,
-    /// Where the answer goes.
+    /// The slot that gets the answer.
     slot: usize,
     place: usize,
 }
@@ -89,8 +89,8 @@ impl Names {
         }
     }
 
-    /// The name stands for so many things from the first one on, up to the end of the region. Answers whether the
-    /// region hasn't defined it before. Errors: allocation failure. Cost: the length of the name.
+    /// From here to the end of the region the name stands for so many things, from the first one on. Answers whether
+    /// the region hasn't defined it before. Errors: allocation failure. Cost: the length of the name.
     pub fn define(&mut self, name: &[u8], first: usize, count: usize) -> Result<bool, Fault> {
         let number = self.number(name)?;
         let depth = self.scopes.len();
@@ -120,8 +120,8 @@ impl Names {
         }
     }
 
-    /// The thing that the name stands for, where its region has defined it; else the slot gets the answer at the end of
-    /// a region. Errors: allocation failure. Cost: the length of the name.
+    /// The thing that the name stands for, where its region has already defined it; else the slot gets the answer at
+    /// the end of a region. Errors: allocation failure. Cost: the length of the name.
     pub fn find(
         &mut self,
         name: &[u8],
@@ -166,9 +166,9 @@ impl Names {
         self.pending.truncate(kept);
     }
 
-    /// The region ends: uses get their answers in the slots, and its names stand for what they stood for before.
-    /// Answers the place of a use that is unresolved, for the region around. Cost: the unresolved uses, and the names
-    /// that the region defined.
+    /// The region ends: uses get their answers in the slots, and its names again stand for what they stood for before.
+    /// Answers the place of a use that is still unresolved, for the enclosing region. Cost: the unresolved uses, and
+    /// the names that the region defined.
     pub fn close(&mut self, slots: &mut [usize]) -> Option<usize> {
         let scope = self.scopes.last().copied()?;
         self.settle(scope.pending, slots);

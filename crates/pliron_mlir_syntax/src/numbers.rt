@@ -136,7 +136,7 @@ pub fn bits_of(width: u32, number: Signed) -> Option<u64> {
     Some(0u64.wrapping_sub(number.magnitude) & most)
 }
 
-// What stands between the first bytes and the last one, where the text begins and ends so.
+// What is between these first bytes and these last ones, where the text begins and ends with them.
 fn text_between<'t>(text: &'t [u8], start: &[u8], end: &[u8]) -> Option<&'t [u8]> {
     trim_blanks(text).strip_prefix(start)?.strip_suffix(end)
 }

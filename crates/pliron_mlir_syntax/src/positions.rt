@@ -2,14 +2,14 @@
 ghost use Rattle.std.specs.Prelude.{◌≡◌, length, take, take_while, reverse, not};
 ghost use Rattle.pliron_mlir_syntax.specs.Position.{is_line_end, line_behind, column_behind};
 
-/// Where a byte of a text stands, counted from 1, columns by bytes.
+/// The line and column of a byte, counted from 1, columns by bytes.
 #[derive(Clone, Copy, Debug, PartialEq, Eq)]
 pub struct Position {
     pub line: usize,
     pub column: usize,
 }
 
-// How many bytes stand behind the last end of a line.
+// How many bytes are behind the last end of a line.
 fn last_line_len(text: &[u8]) -> usize
     ensures { result ≡ length (take_while (λ byte. not (is_line_end byte)) (reverse text.now)) }
 {

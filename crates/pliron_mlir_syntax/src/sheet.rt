@@ -6,7 +6,7 @@ use crate::texts::Texts;
 use indexmap::IndexSet;
 use std::alloc::{AllocError, Global};
 
-/// What stands in the text of an operation but for its operands, successors and regions. Numbers are those of texts.
+/// What the text of an operation has but for its operands, successors and regions. Numbers are those of texts.
 #[derive(Clone, Copy, Debug, PartialEq, Eq, Hash)]
 pub struct Form {
     pub name: usize,
@@ -73,17 +73,17 @@ fn may_be_same(first: &[u8], second: &[u8]) -> bool {
     has_alias(first) || has_alias(second) || is_same_but_for_blanks(first, second)
 }
 
-/// What a text says beside the tree: forms of operations, types of values, locations of arguments, and what stands
-/// before and behind the operation.
+/// What a text says beside the tree: forms of operations, types of values, locations of arguments, and what is before
+/// and behind the operation.
 #[derive(Drop)]
 pub struct Sheet {
     texts: Texts,
     forms: IndexSet<Form>,
-    /// By the keys of values: the numbers of their types.
+    /// By the handles of values: the numbers of their types.
     types: Vec<usize>,
-    /// By the keys of operations: their places.
+    /// By the handles of operations: their places.
     places: Vec<usize>,
-    /// Keys of arguments, rising, and the numbers of their locations.
+    /// Handles of arguments, ascending, and the numbers of their locations.
     locations: Vec<(usize, usize)>,
     before: Vec<u8>,
     behind: Vec<u8>,
@@ -131,7 +131,7 @@ impl Sheet {
         self.forms.len()
     }
 
-    /// The next value in the order of keys has this type. Errors: allocation failure. Cost: constant.
+    /// The next value in the order of handles has this type. Errors: allocation failure. Cost: constant.
     pub fn push_type(&mut self, number: usize) -> Result<(), AllocError>
         ensures { OnOk result (self.new.types.items ≡ self.old.types.items ++ number ∷ []) }
     {
@@ -139,13 +139,13 @@ impl Sheet {
         Ok(())
     }
 
-    /// The type of the value with this key, where the text said it. Cost: constant.
+    /// The type of the value with this handle, where the text said it. Cost: constant.
     pub fn type_of(&self, key: u64) -> Option<&[u8]> {
         let number = self.types.get(usize::try_from(key).ok()?).copied()?;
         Some(self.texts.get(number))
     }
 
-    /// Whether the value with this key may have the type of this number: their texts are the same but for blanks, or
+    /// Whether the value with this handle may have the type of this number: their texts are the same but for blanks, or
     /// one of them has an alias. Cost: constant where they are equal, else their length.
     pub fn has_type(&self, key: u64, number: usize) -> bool {
         match usize::try_from(key) {
@@ -157,7 +157,8 @@ impl Sheet {
         }
     }
 
-    /// The next operation in the order of keys stands there in the text. Errors: allocation failure. Cost: constant.
+    /// The next operation in the order of handles is at this place in the text. Errors: allocation failure. Cost:
+    /// constant.
     pub fn push_place(&mut self, place: usize) -> Result<(), AllocError>
         ensures { OnOk result (self.new.places.items ≡ self.old.places.items ++ place ∷ []) }
     {
@@ -165,12 +166,12 @@ impl Sheet {
         Ok(())
     }
 
-    /// Where the operation with this key stands in the text. Cost: constant.
+    /// Where the operation with this handle is in the text. Cost: constant.
     pub fn place_of(&self, key: u64) -> Option<usize> {
         self.places.get(usize::try_from(key).ok()?).copied()
     }
 
-    /// The next value in the order of keys is an argument with this location. Errors: allocation failure. Cost:
+    /// The next value in the order of handles is an argument with this location. Errors: allocation failure. Cost:
     /// constant.
     pub fn push_location(&mut self, number: usize) -> Result<(), AllocError>
         ensures { OnOk result (self.new.locations.items
@@ -181,7 +182,7 @@ impl Sheet {
         Ok(())
     }
 
-    /// The location of the argument with this key, where the text said it. Cost: a logarithm of their number.
+    /// The location of the argument with this handle, where the text said it. Cost: a logarithm of their number.
     pub fn location_of(&self, key: u64) -> Option<&[u8]> {
         let key = usize::try_from(key).ok()?;
         let at = self
@@ -192,7 +193,7 @@ impl Sheet {
         Some(self.texts.get(number))
     }
 
-    /// What stands before the operation, and behind it. Cost: constant.
+    /// The text before the operation, and the text behind it. Cost: constant.
     pub fn around(&self) -> (&[u8], &[u8])
         ensures before { result.0.now ≡ self.now.before.items }
         ensures behind { result.1.now ≡ self.now.behind.items }
@@ -200,14 +201,14 @@ impl Sheet {
         (&self.before, &self.behind)
     }
 
-    /// This stands before the operation. Errors: allocation failure. Cost: its length.
+    /// Appends this to the text before the operation. Errors: allocation failure. Cost: its length.
     pub fn set_before(&mut self, text: &[u8]) -> Result<(), AllocError>
         ensures { OnOk result (self.new.before.items ≡ self.old.before.items ++ text.now) }
     {
         self.before.extend_from_slice(text)
     }
 
-    /// This stands behind it. Errors: allocation failure. Cost: its length.
+    /// Appends this to the text behind it. Errors: allocation failure. Cost: its length.
     pub fn set_behind(&mut self, text: &[u8]) -> Result<(), AllocError>
         ensures { OnOk result (self.new.behind.items ≡ self.old.behind.items ++ text.now) }
     {

@@ -2,7 +2,7 @@
 use pliron_core::Head;
 use std::alloc::Global;
 
-/// The most regions that stand in one another.
+/// How deeply regions may be nested.
 #[doc(hidden)]
 pub const MAX_DEPTH: usize = 64;
 
@@ -11,7 +11,7 @@ pub const MAX_DEPTH: usize = 64;
 #[derive(Clone, Copy, Debug)]
 pub struct OperationText {
     pub place: usize,
-    /// The number of its block, where it stands in one.
+    /// The number of its block, where it is in one.
     pub block: Option<usize>,
     /// The first of its operands, and how many.
     pub operands: (usize, usize),

@@ -71,8 +71,8 @@ fn block(ctx: &mut Context, func: Ptr<Operation>, arguments: usize) -> Option<Pt
     BasicBlock::create(ctx, region, arguments).ok()
 }
 
-// `^0: k = 5; j = 7; s = k + j; opaque(s); switch s [9: ^2(k), 12: ^3(s)] default ^1(j)`, and each other block tells
-// the world its argument and returns it. The forms are 10 and on.
+// `^0: k = 5; j = 7; s = k + j; opaque(s); switch s [9: ^2(k), 12: ^3(s)] default ^1(j)`, and each other block passes
+// its argument to the world and returns it. The forms are 10 and on.
 fn function(alloc: Global, ctx: &mut Context) -> Option<Ptr<Operation>> {
     let func = Operation::create(ctx, plain_head(alloc, Class::Root, 10).ok()?, 0, 1).ok()?;
     let entry = block(ctx, func, 0)?;

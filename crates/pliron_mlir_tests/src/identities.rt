@@ -5,7 +5,7 @@ use pliron_mlir::{Class, binary_head, cast_head, class_named, compare_head};
 use pliron_roles::{Identity, Roles};
 use std::alloc::Global;
 
-/// What is told of an operation of an x: the place of x, a number, or none.
+/// What is found for an operation of an x: the place of x, a number, or none.
 #[derive(Clone, Copy, PartialEq, Eq)]
 enum Finding {
     Place(usize),
@@ -46,7 +46,7 @@ fn given(identity: Identity, a: Option<i128>, b: Option<i128>) -> Option<i128> {
     if a == b { identity.equal } else { None }
 }
 
-// What is told of an operation of these operands, of which an x is none.
+// What is found for an operation of these operands, of which an x is none.
 fn told(identity: Identity, a: Option<i128>, b: Option<i128>) -> Finding {
     match left(identity, a, b) {
         Some(place) => Finding::Place(place),
@@ -138,7 +138,7 @@ fn tells_as_llvm(rt: HostRuntime) {
     assert_eq!(rt; failing, None);
 }
 
-// Whether what is told of numbers is what the row says that they give, where both can be read.
+// Whether what is found for numbers is what the row says that they give, where both can be read.
 fn computes(alloc: Global, words: &[&str], answer: &str) -> Option<bool> {
     let [name, how, from, a, b] = words else {
         return None;
@@ -155,7 +155,7 @@ fn computes(alloc: Global, words: &[&str], answer: &str) -> Option<bool> {
     Some(number == datum(result_width(words)?, answer))
 }
 
-// Whether what is told of numbers is what the row says that they give.
+// Whether what is found for numbers is what the row says that they give.
 fn is_computed(alloc: Global, row: &str) -> bool {
     let Some((asked, answer)) = sides(row) else {
         return false;

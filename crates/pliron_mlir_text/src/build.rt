@@ -15,15 +15,15 @@ struct Built {
     values: Vec<Value>,
 }
 
-// The text says no tree. No text that is read says none.
+// The text says no tree. No text that was read comes to this.
 fn no_tree(place: usize) -> Fault {
     Fault::Expected(place, Expected::Admitted)
 }
 
 /// Builds the operation of a text, in no block, and notes the types of its values in the sheet.
 ///
-/// Errors: an operand's type isn't that of its definition; allocation failure. A part of the text may stand then. Cost:
-/// linear in the text, with a step for each region around an operation.
+/// Errors: an operand's type isn't that of its definition; allocation failure. A part of the text may be live then.
+/// Cost: linear in the text, with a step for each region around an operation.
 pub fn build(
     alloc: Global,
     syntax: &mut Syntax,

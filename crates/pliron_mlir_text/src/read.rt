@@ -18,13 +18,13 @@ pub struct Module {
     pub sheet: Sheet,
 }
 
-/// Reads a text in the generic form and builds its operation, which stands in no block and is well linked.
+/// Reads a text in the generic form and builds its operation, which is in no block and is well linked.
 ///
 /// Functions that can't be served, since they have more than 64 regions in one another or tags of blocks, are kept as
 /// they are written. Errors: the place where the text leaves the grammar, uses what isn't defined or has an operation
 /// with successors that isn't the last of its block, and what was expected; allocation failure. A part of the text may
-/// stand then. Cost: linear in the text, but for uses that stand in regions inside the one that defines their value,
-/// which cost a step for each region between.
+/// be live then. Cost: linear in the text, but for uses in regions inside the one that defines their value, which cost
+/// a step for each region between.
 pub fn read_module<D: Dialect>(
     alloc: Global,
     text: &[u8],

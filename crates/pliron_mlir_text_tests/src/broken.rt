@@ -1,4 +1,4 @@
-//! Broken modules, with line, column and what was to stand there. `|` stands for the end of a line.
+//! Broken modules, with line, column and what was expected there. `|` stands for the end of a line.
 use crate::lines::with_lines;
 use pliron_core::Context;
 use pliron_mlir::{AnyMeaning, Mlir};
@@ -27,7 +27,7 @@ fn expect_broken(rt: &impl Abort, alloc: Global, case: &str, ctx: &mut Context) 
     assert!(rt; found.as_str() == wanted, "{name}: {found}");
 }
 
-/// Names and broken modules, and line, column and what was to stand there.
+/// Names and broken modules, and line, column and what was expected there.
 static BROKEN: &str = "\
 a comment alone -- // words => 1:9 the name of an operation in quotes; print with --mlir-print-op-generic
 the pretty form of a module -- module {|} => 1:1 the name of an operation in quotes; print with \

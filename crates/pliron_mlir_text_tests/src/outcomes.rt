@@ -46,7 +46,7 @@ fn ending(
     format!(in alloc; "{} {output} => {report}", outcome.status).expect(rt, "memory")
 }
 
-/// Names, words and texts; then the status, what is written, and what is told.
+/// Names, words and texts; then the status, what is written, and what is reported.
 static OUTCOMES: &str = "\
 an unused constant -- dce :: \"m\"() ({|  %0 = \"arith.constant\"() <{value = 1 : i32}> : () -> i32|}) : () -> () \
     => 0 \"m\"() ({|^bb0:|}) : () -> ()| => changed|

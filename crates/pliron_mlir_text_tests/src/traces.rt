@@ -1,4 +1,4 @@
-//! Modules as they stand after each pass. `|` stands for the end of a line.
+//! Modules as they are after each pass. `|` stands for the end of a line.
 use crate::lines::{in_one_line, with_lines};
 use pliron_mlir::{AnyMeaning, Mlir};
 use pliron_mlir_opt::{GenericForm, print_after_each, read_plan};

@@ -29,8 +29,8 @@ pub record IsKept (t u : Tree) : Type 0 where
   pub bodies : KeepsEntries t.bodies u.bodies
   pub layouts : KeepsEntries t.layouts u.layouts
 
--- u is t and a new operation in no block, with what stands inside it: each of these operations has a parent
--- operation that is new and older
+-- u is t and a new operation in no block, with what is inside it: each of these operations has a parent operation that
+-- is new and older
 pub record IsGrown (t u : Tree) (root : ℕ) : Type 0 where
   pub before : IsTree t
   pub kept : IsKept t u
@@ -56,7 +56,7 @@ pub record IsBuilt (t u : Tree) (root : ℕ) (built : Built) : Type 0 where
   pub blocks : All (IsNewBlock t u root) built.blocks.items
   pub regions : All (IsNewRegion t u root) built.regions.items
 
--- the building goes on from u to v
+-- the building continues from u to v
 abbrev pub BuildingGoesOn : (u : Tree) (built : Built) (v : Tree) (more : Built) → Type 0
 BuildingGoesOn u built v more = (t : Tree) (root : ℕ) → IsBuilt t u root built → IsBuilt t v root more
 

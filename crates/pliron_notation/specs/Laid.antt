@@ -17,8 +17,8 @@ pub record IsWhole (row : OperationEntry) (kind : BenchKind) : Type 0 where
   pub results : length row.results ≡ 0
   pub regions : length row.regions ≡ 1
 
--- an operation inside it has the head, the counts and the block that its text asks for, where the
--- blocks of the text have the keys from `base` on
+-- an operation inside it has the head, the counts and the block that its text asks for, where the blocks of the text
+-- have the handles from `base` on
 pub record IsMadeAs (row : OperationEntry) (place : Option ℕ) (base : ℕ) (o : OperationText) : Type 0 where
   pub head : row.head ≡ Some (head_with o.kind o.number (pos o.first_edge))
   pub results : length row.results ≡ result_count o.kind
@@ -35,12 +35,12 @@ pub record HasNoUses (operands successors : List ℕ) : Type 0 where
   pub no_operands : operands ≡ []
   pub no_successors : successors ≡ []
 
--- of the first operations of the text, so many, none stands in this one's block and after it
+-- of the first operations of the text, so many, none is in this one's block and after it
 abbrev pub IsLastOf : Syntax → (count n : ℕ) → OperationText → Type 0
 IsLastOf s count n o = (m : ℕ) (p : OperationText) → n < m → m < count → slice_get s.operations.items m ≡ Some p → p.block ≢ o.block
 
--- what is built of the text is in the tree, the operations from the key after the root's on and the
--- blocks from `base` on; the first operations, so many as `wired`, have their operands and successors
+-- what is built of the text is in the tree, the operations from the handle after the root's on and the blocks from
+-- `base` on; the first operations, so many as `wired`, have their operands and successors
 pub record IsLaid (s : Syntax) (root base wired : ℕ) (u : Tree) (built : Built) : Type 0 where
   pub whole : IsWhole (row_of u root) s.root
   pub operations : built.operations.items ≡ range_with_len (root + 1) (length built.operations.items)

@@ -41,7 +41,7 @@ AllBelow count xs = (x : ℕ) → In x xs → x < count
 abbrev pub IsAdmittedText : OperationText → Type 0
 IsAdmittedText o = IsTrue (takes (head_with o.kind o.number (pos o.first_edge)) (length o.operands.items) (result_count o.kind) (length o.successors.items) (region_count o.kind) o.kind)
 
--- it does not stand after the last of its block, and with successors it is that last
+-- it is not after the last of its block, and with successors it is that last
 abbrev pub IsUpToLast : Option ℕ → ℕ → OperationText → Type 0
 IsUpToLast None n o = ⊥
 IsUpToLast (Some last) n o = (n ≤ last) × (0 < length o.successors.items → n ≡ last)
@@ -50,8 +50,8 @@ IsUpToLast (Some last) n o = (n ≤ last) × (0 < length o.successors.items → 
 abbrev pub AreInRegion : Syntax → ℕ → List ℕ → Type 0
 AreInRegion s region xs = (x : ℕ) → In x xs → (b : BlockText) × (slice_get s.blocks.items x ≡ Some b) × (b.region ≡ region)
 
--- the operation with this number is one that the dialect has, uses values of the text, and stands in a
--- block of it; with successors it is the last there, and they are blocks of the same region
+-- the operation with this number is one that the dialect has, uses values of the text, and is in a block of it; with
+-- successors it is the last there, and they are blocks of the same region
 pub record IsSoundOperation (s : Syntax) (n : ℕ) (o : OperationText) : Type 0 where
   pub admitted : IsAdmittedText o
   pub operands : AllBelow s.values o.operands.items

@@ -4,7 +4,7 @@ use Rattle.pliron_core.specs.Tree.{Tree, IsLive, IsBlock, IsRegion}
 use Rattle.pliron_notation.specs.declared.steps.OutlineStep.{OutlineStep}
 use Rattle.pliron_notation.specs.declared.steps.OutlineStep.TheVariants.{Operation, Region, Block, End}
 
--- what the step names stands
+-- what the step names is live
 abbrev pub IsStanding : Tree → OutlineStep → Type 0
 IsStanding t (Operation op) = IsLive t op
 IsStanding t (Region region) = IsRegion t region

@@ -23,12 +23,12 @@ impl<'t, K: Word> Cursor<'t, K> {
         self.tokens.len().saturating_sub(self.taken)
     }
 
-    /// The next token was to be something else. Cost: constant.
+    /// Something other than the next token was expected. Cost: constant.
     pub fn stop(&self, expected: Expected) -> Stop {
         Stop::at(self.taken, expected)
     }
 
-    /// The token that was taken last was to be something else. Cost: constant.
+    /// Something other than the token that was taken last was expected. Cost: constant.
     pub fn stop_before(&self, expected: Expected) -> Stop {
         Stop::at(self.last(), expected)
     }
@@ -43,7 +43,7 @@ impl<'t, K: Word> Cursor<'t, K> {
         self.tokens.get(self.taken).copied()
     }
 
-    // Goes to the token after the next one. Cost: constant.
+    // Skips the next token. Cost: constant.
     fn skip(&mut self) {
         self.taken = self.taken.wrapping_add(1);
     }

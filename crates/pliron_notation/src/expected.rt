@@ -1,7 +1,7 @@
-//! What a text was to have where it leaves the notation.
+//! What was expected where a text leaves the notation.
 use thiserror::Error;
 
-/// What a text was to have where it leaves the notation.
+/// What was expected where a text leaves the notation.
 #[derive(Clone, Copy, Debug, Drop, PartialEq, Eq, Error)]
 pub enum Expected {
     #[error("a word, a number or one of `{{ }} ( ) , : ; =`")]
@@ -70,7 +70,7 @@ pub enum Expected {
     Tree,
 }
 
-/// Where a text leaves the notation, by the number of the token, and what was to stand there.
+/// Where a text leaves the notation, by the number of the token, and what was expected there.
 #[derive(Clone, Copy, Debug, Drop, PartialEq, Eq)]
 pub struct Misread {
     pub token: usize,

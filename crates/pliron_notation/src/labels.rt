@@ -85,7 +85,7 @@ impl Labels {
     // and its scope.
     fn last_up_to(&self, label: Label) -> Option<(usize, usize)> {
         let mut place = self.latest.get(label.name.number)?.checked_sub(1);
-        // Each turn goes to a scope that opened before.
+        // Each turn moves to a scope that opened before.
         for _ in 0..self.entries.len() {
             let entry = self.entries.get(place?)?;
             if entry.scope <= label.scope {

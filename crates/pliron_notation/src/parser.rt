@@ -9,7 +9,7 @@ use pliron_bench::BenchKind;
 use smallvec::SmallVec;
 use std::alloc::Global;
 
-/// The most regions that stand in one another.
+/// How deeply regions may be nested.
 const MAX_DEPTH: usize = 64;
 
 /// A region that is open.
@@ -48,7 +48,7 @@ enum LastRead {
     RegionStart,
     /// The colon of a block.
     BlockStart,
-    /// An operation that may stand before others.
+    /// An operation that others may follow.
     Operation,
     /// An operation with successors.
     Branch,
@@ -62,7 +62,7 @@ struct Parser<'t> {
     syntax: Syntax,
     values: Labels,
     blocks: Labels,
-    /// The open region that no other open one stands in, or what nothing reads.
+    /// The innermost open region, or what nothing reads.
     region: OpenRegion,
     /// What nothing reads, and the open regions around that one.
     outer: Vec<OpenRegion>,
@@ -103,7 +103,7 @@ impl Parser<'_> {
         Ok(())
     }
 
-    // Reads what stands in the open region and all that it holds, up to the end of the text.
+    // Reads what is in the open region, with all that is inside that, up to the end of the text.
     fn contents(&mut self, count: usize) -> Result<(), Stop> {
         let mut place = LastRead::RegionStart;
         // Each turn takes a token.
@@ -135,7 +135,7 @@ impl Parser<'_> {
         }
     }
 
-    // What was to stand next in the region, after this and with a semicolon or without one.
+    // What was expected next in the region, after this and with a semicolon or without one.
     fn expectation(&self, place: LastRead, is_parted: bool) -> Expected {
         match (place, is_parted) {
             (LastRead::RegionStart, _) if self.region.needs_block() => Expected::BlockOfRegion,
@@ -316,7 +316,7 @@ impl Parser<'_> {
         Ok(2)
     }
 
-    // Reads what stands behind a kind, up to a region.
+    // Reads what is behind a kind, up to a region.
     fn tail(&mut self, text: &mut OperationText) -> Result<(), Stop> {
         match text.kind {
             BenchKind::Const => {

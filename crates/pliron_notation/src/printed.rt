@@ -8,7 +8,7 @@ use pliron_core::{AttrObj, Context, Operation, Ptr};
 use pliron_laws::OptError;
 use std::alloc::Global;
 
-/// What stands behind the word of an operation, up to its regions.
+/// What is behind the word of an operation, up to its regions.
 #[derive(Clone, Copy, Debug, PartialEq, Eq)]
 pub enum Tail {
     /// A number.
@@ -32,7 +32,7 @@ pub trait Printed {
     fn word(op: Ptr<Operation>, ctx: &Context) -> Option<&'static str>
         requires { IsLive ctx.now.tree op };
 
-    /// What stands behind that word. Asks that the operation is live (`is_live` tests it).
+    /// What is behind that word. Asks that the operation is live (`is_live` tests it).
     fn tail(op: Ptr<Operation>, ctx: &Context) -> Tail
         requires { IsLive ctx.now.tree op };
 }

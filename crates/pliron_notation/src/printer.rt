@@ -1,7 +1,7 @@
 //! From a tree to text.
 //!
-//! A printed value has its number in a table by key from the least printed one on, and in a map where its key
-//! lies further away. Digits come from `itoa`.
+//! The number of a printed value is in a table indexed by its handle, from the least printed one on, or in a map where
+//! its handle is further away. Digits come from `itoa`.
 ghost use Rattle.std.specs.Prelude.{◌≡◌, IsOkUnless};
 ghost use Rattle.pliron_core.specs.Tree.{IsLive, IsBlock, IsRegion};
 ghost use Rattle.pliron_notation.specs.Printing.{AllStand, IsStanding};
@@ -53,8 +53,8 @@ pub fn print_as<P: Printed>(
 }
 
 impl Printer {
-    // A printer with room for a text of the usual length, and for twice as many keys as there are values and
-    // blocks, since some of those between may be erased. Errors: allocation failure.
+    // A printer with room for a text of the usual length, and for twice as many handles as there are values and blocks,
+    // since some of those between may be erased. Errors: allocation failure.
     fn new(alloc: Global, outline: &Outline) -> Result<Printer, AllocError> {
         let extent = outline.extent;
         let letters = outline.steps.len().saturating_mul(24);
@@ -209,7 +209,7 @@ impl Printer {
         }
     }
 
-    // A value's name. A value that stands outside what is printed is written `_`.
+    // A value's name. A value outside what is printed is written `_`.
     #[inline(always)]
     fn value(&mut self, value: Value) -> Result<(), AllocError> {
         match self.values.get(value.key()) {
@@ -218,7 +218,7 @@ impl Printer {
         }
     }
 
-    // A block's name. A block that stands outside what is printed is written `_`.
+    // A block's name. A block outside what is printed is written `_`.
     fn block_name(&mut self, block: Ptr<BasicBlock>) -> Result<(), AllocError> {
         match self.blocks.get(block.key()) {
             Some(number) => self.name('b', number),

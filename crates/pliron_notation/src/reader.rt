@@ -18,8 +18,8 @@ use pliron_core::{Context, Operation, Ptr};
 use pliron_laws::OptError;
 use std::alloc::Global;
 
-/// The first place at which a text leaves the notation, and what was to stand there. A name that is never
-/// defined is found at the text's end, and its place is where it stands first.
+/// The first place at which a text leaves the notation, and what was expected there. A name that is never defined is
+/// found at the text's end, and its place is where it is first used.
 #[derive(Clone, Copy, Debug, Drop, PartialEq, Eq)]
 pub struct TextFault {
     pub span: Span,

@@ -22,9 +22,9 @@ pub enum OutlineStep {
 pub struct Extent {
     pub values: usize,
     pub blocks: usize,
-    /// No more than the key of the first result of an operation or the first argument of a block.
+    /// No greater than the handle of the first result of an operation or the first argument of a block.
     pub first_value: u64,
-    /// No more than the key of a block.
+    /// No greater than the handle of a block.
     pub first_block: u64,
 }
 

@@ -7,7 +7,7 @@ use pliron_bench::BenchKind;
 use smallvec::SmallVec;
 use std::alloc::{AllocError, Global};
 
-/// What a text writes of an operation inside another one. Values, blocks and regions go by the numbers
+/// What a text writes of an operation inside another one. Values, blocks and regions are named by numbers, in the order
 /// in which the text makes them.
 #[derive(Drop)]
 pub struct OperationText {
@@ -172,7 +172,7 @@ impl OperationText {
     }
 }
 
-// Whether the operation doesn't stand after the last of its block, and with successors is that last.
+// Whether the operation isn't after the last of its block, and is that last if it has successors.
 fn is_placed(last: Option<usize>, number: usize, operation: &OperationText) -> bool
     ensures { IsTrue result → IsUpToLast last number operation.now }
 {

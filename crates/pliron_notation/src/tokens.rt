@@ -32,12 +32,12 @@ pub enum Token<K> {
 enum Lexeme<K> {
     Blank,
     Token(Token<K>),
-    /// No token, where this one was to stand.
+    /// No token, where this was expected.
     Strange(Expected),
 }
 
 impl<K> Lexeme<K> {
-    // The token, if it is one, and else what was to stand there.
+    // The token, if it is one, and else what was expected there.
     fn of(token: Option<Token<K>>, expected: Expected) -> Self {
         match token {
             Some(token) => Lexeme::Token(token),
@@ -116,7 +116,7 @@ fn negative_of(digits: &[u8]) -> Option<i64> {
     Some(number)
 }
 
-// What a text begins with, and what stands behind it. Errors: allocation failure.
+// What a text begins with, and the rest behind it. Errors: allocation failure.
 fn first_lexeme<'t, K: Word>(
     text: &'t [u8],
     words: &mut WordTable<'t, K>,
@@ -152,7 +152,7 @@ fn first_lexeme<'t, K: Word>(
 pub struct Tokens<K> {
     pub tokens: Vec<Token<K>>,
     pub names: usize,
-    /// What stands behind them, where the text goes on.
+    /// What is behind them, where the text continues.
     pub misread: Option<Misread>,
 }
 
@@ -187,7 +187,7 @@ pub fn tokenise<K: Word>(alloc: Global, text: &[u8]) -> Result<Tokens<K>, AllocE
 /// The bytes of a token.
 #[derive(Clone, Copy, Debug, Drop, PartialEq, Eq)]
 pub struct Span {
-    /// How many bytes of the text stand before it.
+    /// How many bytes of the text are before it.
     pub start: usize,
     /// How many bytes it has; none where it is the end of the text.
     pub len: usize,

@@ -1,7 +1,7 @@
 //! The words of a text and their tokens.
 //!
-//! A word's key is seven bits of each byte. One multiplication gives the first of eight slots, and where these
-//! are taken an ordered map decides, so no words that a stranger chose are quadratic.
+//! A word's key is seven bits of each byte. One multiplication gives the first of eight slots, and where these are
+//! taken an ordered map decides, so no words that an adversary chose take quadratic time.
 ghost use Rattle.std.specs.Prelude.{◌<◌, ◌≤◌, length};
 
 use crate::tokens::{Name, Token};
@@ -34,7 +34,7 @@ const MAX_NAME: usize = 64;
 /// How many slots are tried for a word.
 const TRIES: usize = 8;
 
-/// The most bytes of a word whose key tells it from all others: seven bits of each stand in the key.
+/// The most bytes of a word whose key distinguishes it from all others: the key has seven bits of each.
 const KEYED: usize = 9;
 
 /// A word of a text, with a key that is the same for the same words.
@@ -90,7 +90,7 @@ pub fn is_letter(byte: u8) -> bool {
     (byte | 0x20).wrapping_sub(b'a') < 26
 }
 
-/// Where a word stands.
+/// The place of a word in the table.
 #[derive(Clone, Copy)]
 enum WordPlace<K> {
     /// It was met and is this token.
@@ -110,9 +110,8 @@ struct WordEntry<'t, K> {
 
 /// The words of a text that were met so far. Names are numbered in the order of their first mention.
 ///
-/// A word is found by a few slots from that of its key on. Where these are taken, as by words that a
-/// stranger chose for their keys, it stands in an ordered map: no look-up costs more than the
-/// logarithm of the number of words.
+/// A word is found by a few slots from that of its key on. Where these are taken, as by words that an adversary chose
+/// for their keys, it is in an ordered map: no look-up costs more than the logarithm of the number of words.
 #[derive(Drop)]
 pub struct WordTable<'t, K> {
     /// For each slot the number of an entry and 1 more, or 0.
@@ -161,7 +160,7 @@ impl<'t, K: Word> WordTable<'t, K> {
         hash.wrapping_shr(self.spare_bits)
     }
 
-    // The entry that stands in the slot, if one does.
+    // The entry in the slot, if there is one.
     fn entry_of(&self, slot: usize) -> Option<WordEntry<'t, K>> {
         let number = self.slots.get(slot)?.checked_sub(1)?;
         self.entries.get(number).copied()
@@ -181,7 +180,7 @@ impl<'t, K: Word> WordTable<'t, K> {
         }
     }
 
-    // Where a word stands, or may, in its slots from the first on.
+    // Where a word is, or may be put, in its slots from the first on.
     fn place(&self, first: usize, written: Written<'t>) -> WordPlace<K> {
         for slot in first..first.saturating_add(TRIES) {
             match self.slots.get(slot) {

@@ -11,6 +11,6 @@ use Rattle.pliron_operand_laws.specs.Answered.{HasAnswer, IsMade, NamesOperand, 
 pub record AnswerLaws (x : Folding) : Type 0 where
   -- an operation that the dialect admits has the operand that is answered
   pub within : (t : Tree) (k i : ℕ) (answer : OpFoldResult) → IsTree t → IsAdmitted x.meaning t k → HasAnswer x t k i answer → NamesOperand t k answer
-  -- inside an operation that stands and is well linked, putting an answer in the place of a result is what a pass
+  -- inside an operation that is live and well linked, putting an answer in the place of a result is what a pass
   -- may do, whatever heads may be those of roots
   pub change : (t : Tree) (root k i : ℕ) (answer : OpFoldResult) → IsTree t → IsLive t root → IsWellLinked x.meaning t root → IsInside t root k → (has : HasAnswer x t k i answer) → IsMade x answer → IsWholeChange x.meaning t (after_folding x t k has.value answer) root

@@ -1,4 +1,4 @@
--- Results that are answered, and trees in which their uses went to the answers.
+-- Results that are answered, and trees in which their uses became uses of the answers.
 use Rattle.std.specs.Prelude.{◌≡◌, ◌≢◌, ◌<◌, ℕ, List, [], Option, Some, IsTrue, get_or, length, slice_get}
 use Rattle.pliron_core.specs.Tree.{Tree, In, operands_of, successors_of, results_of}
 use Rattle.pliron_core.specs.Writes.{after_replacing}
@@ -32,7 +32,7 @@ abbrev pub IsMade : Folding → OpFoldResult → Type 0
 IsMade x (Operand p) = Unit {0}
 IsMade x (Constant c) = IsTrue (x.accepts c)
 
--- the uses of the result v of k go to the operand, or to a constant that is put before k
+-- the uses of the result v of k become uses of the operand, or of a constant that is put before k
 abbrev pub after_folding : Folding → Tree → (k v : ℕ) → OpFoldResult → Tree
 after_folding x t k v (Operand p) = after_replacing t v (get_or (operands_of t k) p 0)
 after_folding x t k v (Constant c) = after_materialising t k v (x.constant_head c)

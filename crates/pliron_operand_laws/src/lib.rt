@@ -1,5 +1,5 @@
 //! What the dialect answers of results that are operands of their operations, or constants; that the uses of a result
-//! may go to what is answered of it; and the whole rewrite that gives them to an operand.
+//! may become uses of what is answered of it; and the whole rewrite that makes them uses of an operand.
 //!
 //! It knows the theory of runs, the laws of dialects and equivalence of operations, and no graph, no dialect and no
 //! optimisation.
@@ -14,8 +14,8 @@ pub mod rewrites;
 pub use folding::HasOperandFolding;
 use pliron_operand_folding::OperandFoldInterface;
 
-/// The uses of a result may go to the operand, or to a new operation that makes the constant, that the dialect answers
-/// it to be by what is known of the operands.
+/// The uses of a result may become uses of the operand, or of a new operation that makes the constant, that the
+/// dialect answers the result to be by what is known of the operands.
 pub fn answers_stand_for_results<D: OperandFoldInterface>()
     ensures { AnswerLaws ⟦<D as HasOperandFolding>⟧.operand_folding }
 {}

@@ -46,7 +46,7 @@ impl Optimisation {
         }
     }
 
-    // The same, where each change goes through the rewriter. Dead code goes without one.
+    // The same, where each change is made through the rewriter. Dead code elimination runs without one.
     pub fn run_through(
         self,
         rt: &impl Abort,

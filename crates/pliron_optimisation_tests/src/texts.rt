@@ -13,7 +13,7 @@ pub struct Asked {
     pub optimisation: Optimisation,
     /// The operation of the text that it is called on, as `operation_at` names it.
     pub place: &'static str,
-    /// So many words stand between the answer and the text.
+    /// How many words are between the answer and the text.
     pub words: usize,
     /// Called again, it finds nothing to change.
     pub is_settled: bool,
@@ -37,8 +37,8 @@ fn place_in(rt: &impl Abort, ctx: &Context, whole: Ptr<Operation>, place: &str) 
     root
 }
 
-// What is answered where each change goes through a rewriter, which has room for it. One comes exactly if the answer
-// says so, but where the call refuses, and of dead code none comes.
+// What is answered where each change is made through a rewriter, which has room for it. It gets a change exactly if
+// the answer is that the text changed, but where the call refuses; dead code elimination makes none through it.
 fn answer_through(
     rt: &impl Abort,
     alloc: Global,

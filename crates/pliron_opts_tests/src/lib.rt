@@ -1,11 +1,12 @@
-//! Tests of the program: texts, graphs, arguments and streams that fail; and of a dialect by tables, which stands here.
+//! Tests of the program: texts, graphs, arguments and streams that fail; and of a dialect by tables, which is here.
 #![tactic(auto)]
 
 #[cfg(test)]
 mod arithmetic;
 #[cfg(test)]
 mod graphs;
-pub mod looped;
+#[cfg(test)]
+mod looped;
 #[cfg(test)]
 mod loops;
 #[cfg(test)]

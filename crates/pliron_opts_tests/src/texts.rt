@@ -147,8 +147,8 @@ fn rows(rt: HostRuntime) {
     }
 }
 
-/// Names, lists of passes and texts, and what is written of them. After `dce` of `dce,sccp` the keys of values lie too
-/// far apart to be guessed.
+/// Names, lists of passes and texts, and what is written of them. After `dce` of `dce,sccp` the handles of values lie
+/// too far apart to be guessed.
 static LISTS: &str = "\
 a sum is folded and erased -- sccp,dce :: func { b0(): a = const 1; b = const 2; c = add a b; ret c } => func { \
     b0(): v0 = const 3; ret v0 }|changed|

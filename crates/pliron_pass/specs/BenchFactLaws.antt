@@ -35,7 +35,7 @@ fact_stays (Size count) o t u wt wu s live h = h ∙ ap length (sym (same_conten
 fact_stays (Total count) o t u wt wu s live h =
     h ∙ ap (λ es. length (flat_map pairs_of es) + length (contents t o)) (sym (edges_same t u o wt wu s)) ∙ ap (λ cs. length (edge_pairs u o) + length cs) (sym (same_contents t u wt wu s o))
 
--- edges go on holding while they stay
+-- facts of edges still hold while the edges stay
 pub fact_keeps : (e : BenchFacts) (o : ℕ) (t u : Tree) → IsTree t → IsTree u → fact_reads_edges_alone (fact_kind e) ≡ true → IsLive t o → IsLive u o → edges_inside u o ≡ edges_inside t o → HoldsFact e o t → HoldsFact e o u
 fact_keeps (Edges pairs) o t u wt wu reads before live s h = h ∙ ap (flat_map pairs_of) (sym s)
 fact_keeps (Size count) o t u wt wu reads before live s h = absurd (false≢true reads)

@@ -78,7 +78,7 @@ module _ {K E P : Type 0} (eq : K → K → Bool) (inner : OutcomeOf P K E) wher
 pub data Closes {K E : Type 0} (eq : K → K → Bool) (R : Stage K E → Result IRStatus OptError → Type 0) (s' : Stage K E) (r : Result (PassResult K) OptError) : Type 0 where
   Done : (a : PassResult K) → r ≡ Ok a → R s' (Ok (has_changed a)) → kept_kinds a ≡ cached_kinds eq s'.cache → Closes eq R s' r
   Failed : (e : OptError) (u : Stage K E) → r ≡ Err e → R u (Err e) → s' ≡ empty_stage u → Closes eq R s' r
-  -- all inner runs went well, and there was no room for the answer
+  -- all inner runs succeeded, and there was no room for the answer
   Short : (c : IRStatus) (u : Stage K E) → r ≡ Err Memory → R u (Ok c) → s' ≡ empty_stage u → Closes eq R s' r
 
 -- the same of the call that ends a combinator

@@ -21,6 +21,6 @@ abbrev pub with_edge_kind : {K : Type 0} → (K → K → Bool) → (K → Bool)
 with_edge_kind eq edges ks None = ks
 with_edge_kind eq edges ks (Some k) = with_kind_if eq edges ks k
 
--- the cached kinds that read edges alone, each where it stands first
+-- the cached kinds that read edges alone, each once, in the order in which they first occur
 abbrev pub edge_kinds : {K E : Type 0} → (K → K → Bool) → (K → Bool) → List ((K × ℕ) × E) → List K
 edge_kinds eq edges es = fold (λ ks p. with_kind_if eq edges ks p.0.0) [] es

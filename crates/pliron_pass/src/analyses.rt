@@ -52,7 +52,7 @@ pub trait Analyses: AnalysisKind {
         requires { i < needs kind }
         ensures { result ≡ need kind i };
 
-    /// Computes an analysis from its needs. Asks that the operation stands and that the needs are cached.
+    /// Computes an analysis from its needs. Asks that the operation is live and that the needs are cached.
     /// Errors: those of the analysis.
     fn compute(
         alloc: Global,
@@ -70,11 +70,11 @@ pub trait Analyses: AnalysisKind {
     // Kinds that are equal are one.
     ghost same: { (a b : Self.Kind) → Self.Kind.eq a b ≡ true → a ≡ b };
 
-    // Spent keys are nothing to an analysis.
+    // An analysis doesn't depend on erased handles.
     ghost stays: { (e : Self) (o : ℕ) (t u : Tree) → IsTree t → IsTree u → IsSameTree t u → IsLive u o → holds e o t
         → holds e o u };
 
-    // What reads edges alone goes on holding while the blocks and edges inside the operation stay.
+    // What reads edges alone still holds while the blocks and edges inside the operation stay.
     ghost keeps: { (e : Self) (o : ℕ) (t u : Tree) → IsTree t → IsTree u → reads_edges_alone (Self.kind e) ≡ true
         → IsLive t o → IsLive u o → edges_inside u o ≡ edges_inside t o → holds e o t → holds e o u };
 
@@ -85,7 +85,7 @@ pub trait Analyses: AnalysisKind {
 impl<E: Analyses + Drop> AnalysisManager<E> {
     /// Computes an analysis and its needs, in order, where they are not cached, and puts it last.
     ///
-    /// Asks that the operation stands (`is_live` tests it). Errors: allocation failure, and those of the
+    /// Asks that the operation is live (`is_live` tests it). Errors: allocation failure, and those of the
     /// analyses, which leave only entries of lower ranks added. Cost: a look-up for each need, and computing
     /// what is not cached.
     pub fn compute_analysis(
@@ -155,7 +155,7 @@ impl<E: Analyses + Drop> AnalysisManager<E> {
 
     /// The entry, which can be written, computed where it is not cached.
     ///
-    /// Asks that the operation stands (`is_live` tests it). Errors: as `compute_analysis`. Cost: as
+    /// Asks that the operation is live (`is_live` tests it). Errors: as `compute_analysis`. Cost: as
     /// `compute_analysis`.
     pub fn get_analysis_mut(
         &mut self,
@@ -178,7 +178,7 @@ impl<E: Analyses + Drop> AnalysisManager<E> {
 
     /// The entry, computed where it is not cached.
     ///
-    /// Asks that the operation stands (`is_live` tests it). Errors: as `compute_analysis`. Cost: as
+    /// Asks that the operation is live (`is_live` tests it). Errors: as `compute_analysis`. Cost: as
     /// `compute_analysis`.
     pub fn get_analysis(
         &mut self,

@@ -28,7 +28,7 @@ pub enum BenchFactKind {
 pub enum BenchFacts {
     /// Each block inside the operation with each of its successors, in pre-order and index order.
     Edges(Vec<(Ptr<BasicBlock>, Ptr<BasicBlock>)>),
-    /// How many operations stand inside the operation.
+    /// How many operations are inside the operation.
     Size(usize),
     /// How many pairs the edges have, and the size added to it.
     Total(u128),
@@ -86,7 +86,7 @@ fn pairs_inside(
     Ok(pairs)
 }
 
-// How many operations stand inside the operation.
+// How many operations are inside the operation.
 fn count_inside(op: Ptr<Operation>, ctx: &Context) -> usize
     requires { IsLive ctx.now.tree op }
     ensures { result ≡ length (contents ctx.now.tree op) }
@@ -190,8 +190,7 @@ impl Analyses for BenchFacts {
         }
     }
 
-    /// Goes through what stands inside the operation, for the edges and the size; adds up the two for the
-    /// total.
+    /// Visits what is inside the operation, for the edges and the size; adds up the two for the total.
     ///
     /// Errors: allocation failure, for the edges. Cost: one step for each operation and edge inside; constant
     /// for the total.

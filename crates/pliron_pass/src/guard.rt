@@ -18,7 +18,7 @@ use std::ops::{Deref, DerefMut};
 pub trait Guard {
     ghost allows: { Self → ℕ → Tree → Bool };
 
-    /// Whether a pass may run on the operation. Asks that the operation stands (`is_live` tests it).
+    /// Whether a pass may run on the operation. Asks that the operation is live (`is_live` tests it).
     fn is_allowed(&self, op: Ptr<Operation>, ctx: &Context) -> bool
         requires { IsLive ctx.now.tree op }
         ensures { result ≡ allows self.now op ctx.now.tree };

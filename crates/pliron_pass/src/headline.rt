@@ -21,12 +21,12 @@ use std::alloc::Global;
 /// preserves.
 ///
 /// For every dialect that keeps its laws, every pass, and every analysis that keeps its law: whatever this
-/// answers, each operation that was fit to run and still stands does exactly what it did, and is fit to run;
-/// the operation stands and is well linked; outside it only operands change that named a value defined inside
+/// answers, each operation that was fit to run and is still live does exactly what it did, and is fit to run;
+/// the operation is live and well linked; outside it only operands change that named a value defined inside
 /// it (all this is what each pass owes, `change`). Without an error, a cache that was fresh is fresh. What it did
 /// is the pass's own outcome.
 ///
-/// Asks that the operation stands and is well linked. Errors: those of the pass; `VerifyBefore` and
+/// Asks that the operation is live and is well linked. Errors: those of the pass; `VerifyBefore` and
 /// `VerifyAfter` where the configuration asks for verifying and a fault is found; allocation failure. Cost: that
 /// of the pass.
 pub fn run_pipeline<P: Pass>(

@@ -1,6 +1,6 @@
 //! Passes over operations, guards, verification, and a cache of analyses.
 //!
-//! It stands on the theory of runs and the laws of dialects, and knows no optimisation, no dialect and
+//! It builds on the theory of runs and the laws of dialects, and knows no optimisation, no dialect and
 //! no graph.
 #![tactic(auto)]
 

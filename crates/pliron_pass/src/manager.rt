@@ -18,7 +18,7 @@ use pliron_core::{IRStatus, Operation, Ptr};
 use pliron_laws::OptError;
 use std::alloc::Global;
 
-/// Keeps analyses by kind and operation, with what managers of passes share.
+/// Keeps analyses by kind and operation, with what pass managers share.
 #[derive(Drop)]
 pub struct AnalysisManager<E: AnalysisKind> {
     pub pm_data: PMData,
@@ -52,7 +52,7 @@ impl<E: AnalysisKind> AnalysisManager<E> {
         self.pm_data.set_config(config);
     }
 
-    /// What managers of passes share. Cost: constant.
+    /// What pass managers share. Cost: constant.
     pub fn pm_data(&self) -> &PMData
         ensures { result.now ≡ self.now.pm_data }
     {

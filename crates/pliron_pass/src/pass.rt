@@ -37,7 +37,7 @@ pub trait Pass {
 
     /// Runs the pass on the operation. The cache is to keep what the answer preserves.
     ///
-    /// Asks that the operation stands and is well linked. Errors: those of the pass.
+    /// Asks that the operation is live and is well linked. Errors: those of the pass.
     fn run(
         &mut self,
         alloc: Global,

@@ -85,7 +85,7 @@ impl PassManager {
     /// it; else the operation is verified before and after where the configuration says so, also where the
     /// run failed, and the run is counted.
     ///
-    /// Asks that the operation stands and is well linked. Errors: those of the pass; a fault of verifying but
+    /// Asks that the operation is live and is well linked. Errors: those of the pass; a fault of verifying but
     /// allocation failure as `VerifyBefore`, with nothing run, or as `VerifyAfter`, with nothing counted. Cost:
     /// that of the pass, one of `verify_operation` for each time that it verifies, and a few look-ups.
     pub fn run_pass<P: Pass>(

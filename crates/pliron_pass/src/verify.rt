@@ -83,7 +83,7 @@ fn verify_each<D: Dialect>(alloc: Global, op: Ptr<Operation>, ctx: &Context) -> 
 /// implements are called, side effects first, then removal of block arguments, folding by constants, folding
 /// of branches and regions that name operands. Only reads.
 ///
-/// Asks that the operation stands (`is_live` tests it). Errors: the first fault that a check finds, or allocation
+/// Asks that the operation is live (`is_live` tests it). Errors: the first fault that a check finds, or allocation
 /// failure. Cost: one step for each operation, block and region, and what the checks cost.
 pub fn verify_operation<D: Dialect>(
     alloc: Global,

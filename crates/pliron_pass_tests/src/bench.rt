@@ -11,8 +11,8 @@ use std::process::Abort;
 static LOOP: &str =
     "func { b0(): z = const 0; br b1(z); b1(i): r = read; cbr r b1(i) b2(); b2(): ret i }";
 
-// A name and a text, and its edges by the keys of blocks, which count up in the order of the text, its size and
-// its total.
+// A name and a text, and its edges by the handles of blocks, which count up in the order of the text, its size and its
+// total.
 static CASES: &str = "\
 a loop -- func { b0(): z = const 0; br b1(z); b1(i): r = read; cbr r b1(i) b2(); b2(): ret i } => edges 0-1 1-1 \
     1-2, size 5, total 8
@@ -106,7 +106,7 @@ fn edges_sizes_and_totals(rt: HostRuntime) {
     }
 }
 
-// What the caller writes over the total is what stands.
+// What the caller writes over the total is what remains.
 fn write_total(
     rt: &impl Abort,
     alloc: Global,

@@ -30,7 +30,7 @@ fn note(analyses: &AnalysisManager<Fact>, kind: u32, op: Ptr<Operation>) -> Opti
     }
 }
 
-// What is asked for is computed with what it needs, and what the caller writes stands.
+// What is asked for is computed with what it needs, and what the caller writes remains.
 fn compute(
     rt: &impl Abort,
     alloc: Global,

@@ -138,7 +138,7 @@ fn writers(rt: &impl Abort, alloc: Global) -> Passes<Annotate> {
     passes
 }
 
-// The last note stands, the cache is kept, and the run that is past the greatest count is not counted.
+// The last note remains, the cache is kept, and the run that is past the greatest count is not counted.
 fn annotated_in(
     rt: &impl Abort,
     alloc: Global,

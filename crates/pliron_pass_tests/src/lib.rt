@@ -19,7 +19,8 @@ mod guards;
 mod lines;
 #[cfg(test)]
 mod passes;
-pub mod pipeline;
+#[cfg(test)]
+mod pipeline;
 #[cfg(test)]
 mod refusals;
 #[cfg(test)]

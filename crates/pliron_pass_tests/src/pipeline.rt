@@ -12,6 +12,7 @@ mod kept;
 mod lines;
 #[cfg(test)]
 mod nest;
-pub mod promise;
+#[cfg(test)]
+mod promise;
 #[cfg(test)]
 mod texts;

@@ -8,8 +8,8 @@ use Rattle.pliron_cse.specs.Left.{LeavesNoRedundancy, ReportsEquivalent}
 use Rattle.pliron_cse.specs.Taking.{Pair, TakeInTurn, IsTakenSoFar}
 use Rattle.pliron_pipeline.specs.declared.optimisation.Effect.{Effect}
 
--- operations that do what one before them did went in turn, and where uses are behind definitions none is left; the status
--- tells whether there was one, and all edges stay; or memory was refused, and some are gone
+-- operations that do what one before them did were erased in turn, and where uses are behind definitions none is
+-- left; the status reports whether there was one, and all edges stay; or allocation failed, and some are erased
 abbrev pub EliminatesRedundancy : (Head → Option Bool) → (t t' : Tree) → ℕ → Result Effect OptError → Type 0
 EliminatesRedundancy side_effects t t' root (Ok effect) = ((xs : List Pair) × TakeInTurn side_effects root xs t t') × LeavesNoRedundancy side_effects t t' root × ReportsEquivalent side_effects t root effect.status × (effect.keeps_edges ≡ true)
 EliminatesRedundancy side_effects t t' root (Err e) = (e ≡ Memory) × ((xs : List Pair) × IsTakenSoFar side_effects root xs t t')

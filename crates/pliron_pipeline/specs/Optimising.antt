@@ -26,5 +26,5 @@ module _ {K E : Type 0} (eq : K → K → Bool) (edges : K → Bool) (outcome : 
   pub data RunsOptimisation (op : ℕ) (s s' : Stage K E) (r : Result (PassResult K) OptError) : Type 0 where
     Optimised : (effect : Effect) (a : PassResult K) → r ≡ Ok a → outcome s.tree s'.tree op (Ok effect) → IsAccurateAnswer s.tree s'.tree effect → has_changed a ≡ effect.status → kept_kinds a ≡ preserved_kinds eq edges effect.keeps_edges s.cache → s'.cache ≡ s.cache → s'.common ≡ s.common → RunsOptimisation op s s' r
     Refused : (e : OptError) → r ≡ Err e → outcome s.tree s'.tree op (Err e) → s'.cache ≡ s.cache → s'.common ≡ s.common → RunsOptimisation op s s' r
-    -- the optimisation went well, and there was no room for the answer
+    -- the optimisation succeeded, and there was no room for the answer
     Short : (effect : Effect) → r ≡ Err Memory → outcome s.tree s'.tree op (Ok effect) → s'.cache ≡ s.cache → s'.common ≡ s.common → RunsOptimisation op s s' r

@@ -11,7 +11,7 @@ use crate::names::Name;
 use crate::region_plan::{Exit, PlannedOperation, RegionPlan};
 use std::alloc::{AllocError, Global};
 
-/// The most regions of a function, and the most that stand one in another.
+/// The most regions of a function, and how deeply they may be nested.
 const REGIONS: usize = 6;
 
 const DEEP: usize = 4;
@@ -19,7 +19,7 @@ const DEEP: usize = 4;
 /// More parts than any text has.
 const PARTS: usize = 100_000;
 
-/// Constants that are told apart by folding.
+/// Constants that folding distinguishes.
 static NUMBERS: [i64; 9] = [
     0,
     0,
@@ -218,7 +218,7 @@ impl Writer {
         }
     }
 
-    // Writes what stands before an operation: the mark after the one before, and its results.
+    // Writes what is before an operation: the mark after the one before, and its results.
     fn write_results(&mut self, step: PlannedOperation) -> Result<(), AllocError> {
         let Some(frame) = self.frames.last() else {
             return Ok(());
@@ -261,7 +261,7 @@ impl Writer {
         self.write_operands(word, count)
     }
 
-    // Writes the end of a block, and goes on to the next one.
+    // Writes the end of a block, and continues with the next one.
     fn write_exit(&mut self, exit: Exit) -> Result<(), AllocError> {
         match exit {
             Exit::Open => {}

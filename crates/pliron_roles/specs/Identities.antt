@@ -50,7 +50,8 @@ place_known i (a ∷ []) = place_of_one i.only
 place_known i (a ∷ b ∷ []) = place_of_two i a b
 place_known i _ = None
 
--- the place that one operand tells, or that both are the same value, or that there is one operand
+-- the place of the operand that is left, by what one operand is known to be, by both being the same value, or by there
+-- being only one operand
 abbrev pub is_known_as : Option ℤ → Option AttrObj → Bool
 is_known_as n None = false
 is_known_as n (Some a) = is_this n (datum_of a)
@@ -113,7 +114,7 @@ abbrev pub given_known : Identity → List (Option AttrObj) → Option ℤ
 given_known i (a ∷ b ∷ []) = given_of_two i a b
 given_known i _ = None
 
--- the number that one operand tells, or that both are the same value
+-- the number that is given by what one operand is known to be, or by both being the same value
 abbrev pub given_told : Identity → List (Option AttrObj) → List ℕ → Option ℤ
 given_told i (p ∷ q ∷ []) operands = given_by i (is_known_as (absorber_of i) q) (i.either_side && is_known_as (absorber_of i) p) (are_same operands)
 given_told i _ operands = None

@@ -60,7 +60,7 @@ known_this o (Some a) known d ds h e = ap (is_this o) (sym h.0) ∙ e
 abbrev GivesOperand : ℕ → List Datum → List Datum → Type 0
 GivesOperand p first ds = slice_get ds 0 ≡ slice_get first p
 
--- what tells a place, and what decides: each that tells also decides
+-- what determines a place, and what decides: whatever determines one also decides
 record Tells (x y z u v w : Bool) (d e : Datum) : Type 0 where
   second : x ≡ true → u ≡ true
   first : y ≡ true → v ≡ true

@@ -56,7 +56,7 @@ pub fn counts_all(attrs: &Attrs, edges: usize, operands: usize) -> bool
     all < operands && all + 1 == operands
 }
 
-/// How many edges are few: among them, the one that an operand goes along is found at once.
+/// How many edges are few: among them, the edge that forwards an operand is found at once.
 const FEW_EDGES: usize = 64;
 
 // The edge, of few, up to which the attributes count the operand at this place, behind what the branch decides by;
@@ -74,8 +74,8 @@ fn edge_up_to(attrs: &Attrs, operands: usize, edges: usize, place: usize) -> usi
     edges
 }
 
-/// The edge along which the operand at this place may go, where few edges have to be asked; else how many edges
-/// there are. Asks that the operation stands (`is_live` tests it). Cost: constant.
+/// The edge that may forward the operand at this place, where only a few edges have to be tried; else how many edges
+/// there are. Asks that the operation is live (`is_live` tests it). Cost: constant.
 pub fn edge_near<K: Roles>(op: Ptr<Operation>, ctx: &Context, place: usize) -> usize
     requires { IsLive ctx.now.tree op }
     ensures { result ≤ length (successors_of ctx.now.tree op) }
@@ -130,8 +130,8 @@ fn places_in_form(form: Form, attrs: &Attrs, operands: usize, edges: usize, i: u
     }
 }
 
-/// The places of the operands that an edge forwards. Asks that the operation stands (`is_live` tests it).
-/// Cost: the number of edges before it.
+/// The places of the operands that an edge forwards. Asks that the operation is live (`is_live` tests it). Cost: the
+/// number of edges before it.
 pub fn places_at<K: Roles>(op: Ptr<Operation>, ctx: &Context, i: usize) -> EdgeRange
     requires { IsLive ctx.now.tree op }
     ensures places { ReadsHead (λ h. by_form no_places places_by_form (form_by (role_at K.tables) h.kind) h.attrs
@@ -152,8 +152,8 @@ pub fn places_at<K: Roles>(op: Ptr<Operation>, ctx: &Context, i: usize) -> EdgeR
     }
 }
 
-/// A branch counts one operand fewer at this edge; another operation stays as it is. Asks that the operation
-/// stands (`is_live` tests it) and has such an edge. Cost: constant.
+/// A branch counts one operand fewer at this edge; another operation stays as it is. Asks that the operation is live
+/// (`is_live` tests it) and has such an edge. Cost: constant.
 pub fn shorten<K: Roles>(op: Ptr<Operation>, ctx: &mut Context, i: usize)
     requires live { IsLive ctx.old.tree op }
     requires edge { i < length (successors_of ctx.old.tree op) }

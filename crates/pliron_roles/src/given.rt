@@ -127,7 +127,8 @@ pub fn known_given(identity: Identity, operand_attrs: &[Option<AttrObj>]) -> Opt
     }
 }
 
-// The number that is given, where what is known of one of two operands, or that both are the same value, tells it.
+// The number that is given, where it follows from what is known of one of two operands, or from both being the same
+// value.
 fn told_by_two(
     identity: Identity,
     a: &Option<AttrObj>,
@@ -142,8 +143,8 @@ fn told_by_two(
     given_by(identity, second, first, same)
 }
 
-/// The number that is given, where there are two operands, and what is known of one of them, or that both are the same
-/// value, tells it. Asks that the operation stands (`is_live` tests it). Cost: constant.
+/// The number that is given, where there are two operands, and it follows from what is known of one of them or from
+/// both being the same value. Asks that the operation is live (`is_live` tests it). Cost: constant.
 pub fn told_given(
     identity: Identity,
     op: Ptr<Operation>,

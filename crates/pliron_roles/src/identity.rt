@@ -150,8 +150,8 @@ pub(crate) fn has_same_operands(op: Ptr<Operation>, ctx: &Context) -> bool
     op.num_operand(ctx) == 2 && op.get_operand(ctx, 0) == op.get_operand(ctx, 1)
 }
 
-// The place of the operand that is left of two, where what is known of one of them, or that both are the same value,
-// tells it.
+// The place of the operand that is left of two, where it follows from what is known of one of them, or from both being
+// the same value.
 fn told_of_two(
     identity: Identity,
     a: &Option<AttrObj>,
@@ -166,8 +166,9 @@ fn told_of_two(
     place_by(second_neutral, first_neutral, identity.idempotent && same)
 }
 
-/// The place of the operand that is left, where it is the only one, or one of two and what is known of one of them,
-/// or that both are the same value, tells it. Asks that the operation stands (`is_live` tests it). Cost: constant.
+/// The place of the operand that is left, where it is the only one, or one of two and the place follows from what is
+/// known of one of them or from both being the same value. Asks that the operation is live (`is_live` tests it). Cost:
+/// constant.
 pub fn told_place(
     identity: Identity,
     op: Ptr<Operation>,

@@ -35,8 +35,8 @@ pub data FoldsInTurn (outcome : Outcome) (t₀ : Tree) (f : LatticeValues) : Lis
   NoMore : {t : Tree} → FoldsInTurn outcome t₀ f [] t t
   Next : {t v : Tree} {ks : List ℕ} (k : ℕ) (u : Tree) (answer : IRStatus) → outcome t u k (operand_constants f (operands_of t₀ k)) (Some answer) → FoldsInTurn outcome t₀ f ks u v → FoldsInTurn outcome t₀ f (k ∷ ks) t v
 
--- a first part of these folds, each of them whole, and then one in which memory was refused, which left what
--- the dialect says that it may leave: one whole rewrite, or none
+-- a first part of these folds, each of them whole, and then one in which allocation failed, which left what
+-- the dialect says that it may leave: constants for some of the answered results, or the tree as before
 pub data FoldsPartly (outcome : Outcome) (t₀ : Tree) (f : LatticeValues) : List ℕ → Tree → Tree → Type 0 where
   Refused : {t u : Tree} {ks : List ℕ} (k : ℕ) → outcome t u k (operand_constants f (operands_of t₀ k)) None → FoldsPartly outcome t₀ f (k ∷ ks) t u
   After : {t v : Tree} {ks : List ℕ} (k : ℕ) (u : Tree) (answer : IRStatus) → outcome t u k (operand_constants f (operands_of t₀ k)) (Some answer) → FoldsPartly outcome t₀ f ks u v → FoldsPartly outcome t₀ f (k ∷ ks) t v

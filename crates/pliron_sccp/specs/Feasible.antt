@@ -11,7 +11,7 @@ abbrev pub holds : {S : Type 0} → Option (HashSet ℕ S) → ℕ → Bool
 holds None b = false
 holds (Some blocks) b = contains nat_eq blocks b
 
--- whether they are the same key
+-- whether they are the same handle
 abbrev pub is_one_key : ℕ → ℕ → Bool
 is_one_key x y = nat_eq x y && true
 

@@ -47,7 +47,7 @@ pops_of (Ok answer) = answer.1
 pops_of (Err e) = 0
 
 -- constant propagation at a root takes the tree before to the tree after, answers this, and pops so often: it is
--- whole, or partial where memory was refused, the only error; whatever the answer, it is what a pass may do, edges
+-- whole, or partial where allocation failed, the only error; whatever the answer, it is what a pass may do, edges
 -- inside operations stay, and what was well linked stays so; the status reports whether the tree changed
 pub record Propagates (x : Says) (accepts : AttrObj → Bool) (head : AttrObj → Head) (outcome : Outcome) (t : Tree) (root : ℕ) (t' : Tree) (answer : Result IRStatus OptError) (pops : ℕ) : Type 0 where
   pub propagated : OnOk answer (IsPropagated x accepts head outcome t root t' pops)

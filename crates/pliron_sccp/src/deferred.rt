@@ -11,9 +11,9 @@
 //! one by one, and counted, before an operation is visited for it or deferred. A visit pops nothing and is not counted,
 //! whether it was deferred or not.
 //!
-//! The sets are by key, and grow: operations have no numbers here, and a number for each would cost each text a table
-//! as long as itself, while few operations have so many operands. So deferring may fail to allocate. No rewrite was
-//! begun by then, so the tree is as before.
+//! The sets are by handle, and grow: operations have no numbers here, and a number for each would cost each text a
+//! table as long as itself, while few operations have so many operands. So deferring may fail to allocate. No rewrite
+//! was begun by then, so the tree is as before.
 ghost use Rattle.std.specs.Prelude.{◌≡◌, ◌<◌, ◌≤◌, ◌+◌, ℕ, [], IfNone, IfOk, IfSome, OnOk, IsOkUnless, IsTrue, Some, ◌↔◌, length, slice_get};
 ghost use Rattle.pliron_sccp.specs.Deferring.{HasFirst, Defers, PopsDeferred, deferred_operations};
 

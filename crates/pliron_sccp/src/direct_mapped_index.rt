@@ -1,18 +1,18 @@
-//! A direct-mapped index: guesses of numbers by keys, so that a look-up takes no hash where keys lie close
+//! A direct-mapped index: guesses of numbers by handles, so that a look-up takes no hash where handles lie close
 //! together.
 //!
-//! Keys inside an operation mostly lie close together, so a table by the distance from the least key has the
-//! number of each, and one comparison with the list of keys shows whether it is that one's. A wrong guess costs
-//! a look-up by hash, so no invariant is owed. The table has two entries for each key.
+//! Handles of what is inside an operation mostly lie close together, so a table by the distance from the least handle
+//! has the number of each, and one comparison with the list of handles shows whether it is that one's. A wrong guess
+//! costs a look-up by hash, so no invariant is owed. The table has two entries for each handle.
 ghost use Rattle.std.specs.Prelude.{IsOkUnless};
 
 use pliron_core::{BasicBlock, Ptr, Value};
 use pliron_laws::OptError;
 use std::alloc::Global;
 
-/// What has a key among those of its kind.
+/// What is a handle, with a number among those of its kind.
 pub trait HasKey {
-    /// The key. Cost: constant.
+    /// The number of the handle. Cost: constant.
     fn own_key(&self) -> u64;
 }
 
@@ -28,11 +28,11 @@ impl HasKey for Ptr<BasicBlock> {
     }
 }
 
-/// The number that each of some keys most likely has. Nothing is promised of it: a caller tests it.
+/// The number that each of some handles most likely has. Nothing is promised of it: a caller tests it.
 ///
 /// ```text
-/// first     the least of the keys
-/// numbers   by the distance from the first; the keys further away than there is room have none
+/// first     the least of the handles
+/// numbers   by the distance from the first; the handles further away than there is room have none
 /// ```
 #[derive(Drop)]
 pub struct DirectMappedIndex {
@@ -41,7 +41,7 @@ pub struct DirectMappedIndex {
 }
 
 impl DirectMappedIndex {
-    /// The places in the list are the numbers. There is room for twice as many keys as are listed.
+    /// The places in the list are the numbers. There is room for twice as many handles as are listed.
     ///
     /// Errors: allocation failure. Cost: one step for each.
     pub fn over<T: HasKey>(alloc: Global, listed: &[T]) -> Result<DirectMappedIndex, OptError>
@@ -59,7 +59,7 @@ impl DirectMappedIndex {
         Ok(guesses)
     }
 
-    // The index of the guess for a key; one behind the last where there is no room for it.
+    // The index of the guess for a handle; one behind the last where there is no room for it.
     #[inline(always)]
     fn place(&self, key: u64) -> usize {
         key.wrapping_sub(self.first) as usize
@@ -72,7 +72,7 @@ impl DirectMappedIndex {
         }
     }
 
-    /// A number that the key may have. Takes no memory. Cost: constant.
+    /// A number that the handle may have. Takes no memory. Cost: constant.
     #[inline(always)]
     pub fn get(&self, key: u64) -> usize {
         let place = self.place(key);

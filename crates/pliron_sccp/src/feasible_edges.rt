@@ -3,10 +3,10 @@
 //! An operation that was visited more than four times keeps its feasible edges, and the arguments for which it
 //! names operands. Where an operand is lowered, the one argument is then lowered at once. The visit still
 //! follows, so no invariant is owed: where folds are monotone a feasible edge stays feasible, and a candidate
-//! is tested before it is used. Four visits tell such a branch from one that one visit at the end serves.
+//! is tested before it is used. Four visits tell such a branch from one for which one visit at the end is enough.
 //!
-//! What is kept is derived from lattice values and is none; those stand in `Tables`, by number. The tables here are by
-//! key, and grow: a row for each operation, by number, would cost each text a table as long as itself.
+//! What is kept is derived from lattice values and is none; those are in `Tables`, by number. The tables here are by
+//! handle, and grow: a row for each operation, by number, would cost each text a table as long as itself.
 ghost use Rattle.std.specs.Prelude.{◌≡◌, ◌↔◌, false, ℕ, Some, OnOk, IsOkUnless, IsTrue};
 ghost use Rattle.indexmap.specs.IndexMap.{index_map_len};
 ghost use Rattle.pliron_core.specs.Tree.{IsLive};

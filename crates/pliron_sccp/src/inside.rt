@@ -85,7 +85,7 @@ fn list_body(
     Ok(())
 }
 
-// Puts these on the stack, so that the first comes off first.
+// Puts these on the stack, so that the first is popped first.
 fn stack_up<T: Copy + Drop>(items: Vec<T>, stack: &mut Vec<T>) -> Result<(), OptError>
     ensures ok { OnOk result (stack.new.items ≡ stack.old.items ++ reverse items.items) }
     ensures memory { IsOkUnless result OptError.Memory }
@@ -97,7 +97,7 @@ fn stack_up<T: Copy + Drop>(items: Vec<T>, stack: &mut Vec<T>) -> Result<(), Opt
     Ok(())
 }
 
-// Puts the blocks of the operation's regions on the stack, so that the first comes off first.
+// Puts the blocks of the operation's regions on the stack, so that the first is popped first.
 fn stack_regions(
     alloc: Global,
     op: Ptr<Operation>,
@@ -113,7 +113,7 @@ fn stack_regions(
     stack_up(blocks, stack)
 }
 
-// Puts the blocks of the regions of the block's operations on the stack, so that the first comes off
+// Puts the blocks of the regions of the block's operations on the stack, so that the first is popped
 // first.
 fn stack_body(
     alloc: Global,
@@ -284,7 +284,7 @@ fn list_blocks(
     Ok(())
 }
 
-// Puts what stands directly inside the block or operation on the stack, so that the first comes off first.
+// Puts what is directly inside the block or operation on the stack, so that the first is popped first.
 #[inline(never)]
 fn stack_contents(
     alloc: Global,
@@ -304,7 +304,7 @@ fn stack_contents(
     stack_up(parts, stack)
 }
 
-// Whether the block or operation is an operation without regions, in which nothing stands.
+// Whether the block or operation is an operation without regions, so that nothing is inside it.
 #[inline(always)]
 fn is_leaf(part: &Part, ctx: &Context) -> bool
     requires { IsStanding ctx.now.tree part.now }
@@ -316,7 +316,7 @@ fn is_leaf(part: &Part, ctx: &Context) -> bool
     }
 }
 
-// Puts what stands directly inside the block or operation on the stack, so that the first comes off first.
+// Puts what is directly inside the block or operation on the stack, so that the first is popped first.
 #[inline(always)]
 fn stack_inner(
     alloc: Global,
@@ -350,7 +350,7 @@ fn count_in_block(block: Ptr<BasicBlock>, ctx: &Context) -> usize
 
 /// How many values these blocks list, to make room for them.
 ///
-/// Asks that the blocks stand. Cost: one step for each operation.
+/// Asks that the blocks are live. Cost: one step for each operation.
 pub fn count_values(blocks: &[Ptr<BasicBlock>], ctx: &Context) -> usize
     requires { (b : ℕ) → In b blocks.now → IsBlock ctx.now.tree b }
 {
@@ -362,9 +362,9 @@ pub fn count_values(blocks: &[Ptr<BasicBlock>], ctx: &Context) -> usize
 }
 
 /// The values inside the root, each with a number, in pre-order: a block's arguments come before its operations, and an
-/// operation's results before what stands in its regions.
+/// operation's results before what is in its regions.
 ///
-/// Asks that the root stands; `count` says for how many values there is room at first. Errors: allocation failure.
+/// Asks that the root is live; `count` says for how many values there is room at first. Errors: allocation failure.
 /// Cost: one step for each operation, block and value inside it; the depth takes memory on a list alone.
 pub fn value_numbers(
     alloc: Global,

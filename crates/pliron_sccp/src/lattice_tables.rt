@@ -4,7 +4,7 @@
 //! Everything above speaks of the words of `specs/Tables` alone, so that other tables can be behind the same
 //! contracts.
 //!
-//! All room is taken when the tables are made, so marking, lowering and popping can't be refused. A clock rises
+//! All room is taken when the tables are made, so marking, lowering and popping can't fail. A clock advances
 //! with each visit: a value keeps the stamp of its last lowering, and an operation with results that of its
 //! last visit, by the number of its first result; a user visited since the value was last lowered is not
 //! revisited. The clock stops at its greatest number, where nothing counts as visited.
@@ -40,7 +40,7 @@ pub enum LatticeCell {
 ///
 /// ```text
 /// blocks, values            each once; its place is its number
-/// block_index, value_index  the number that a key most likely has
+/// block_index, value_index  the number that a handle most likely has
 /// marks                     of each block   NotExecutable, Waiting, Visited       moves from left to right
 /// cells                     of each value   Undetermined, Constant, NotAConstant  is lowered from left to right
 /// values_on_worklist        of each value   whether it was lowered since it was popped

@@ -30,7 +30,7 @@
 //! The tables of the lattice values, the executable blocks and the worklists are `lattice_tables`. "Facts" in names
 //! and contracts are the lattice values of all values, with the set of executable blocks.
 //!
-//! The crate rests on the theory of runs and knows nothing of the other optimisations, of passes and of the program.
+//! The crate builds on the theory of runs and knows nothing of the other optimisations, of passes or of the program.
 #![tactic(auto)]
 
 mod constraints;

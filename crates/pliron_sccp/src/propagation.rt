@@ -49,7 +49,7 @@ pub fn sccp_counted<D: Dialect>(
 }
 
 /// Propagates constants inside the operation, as `sccp` does, and makes each change through this rewriter,
-/// which reports it to a listener: the room for a whole rewrite is asked of it before the first change of that.
+/// which reports it to its listener. The rewriter is asked for room for a whole rewrite before the first change of it.
 ///
 /// Asks that the operation is live and is well linked. Errors: as `sccp`, and where the rewriter has no room.
 /// Cost: as `sccp`, and what the rewriter does at each change.

@@ -187,7 +187,7 @@ pub(crate) fn all_arguments(
 /// Asks that the tree came from the first one by such steps, so that the lattice values still hold of the
 /// operation.
 /// Errors: allocation failure, after which the tree is one that the dialect's `fold_in_place` leaves then: as it
-/// was, or after one whole fold. Cost: that of the dialect's `fold_in_place`.
+/// was, or with constants for some of the answered results. Cost: that of the dialect's `fold_in_place`.
 #[inline(always)]
 pub fn fold_one<D: Dialect, R: Rewriter + Room>(
     alloc: Global,

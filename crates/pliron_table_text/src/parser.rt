@@ -7,7 +7,7 @@ use pliron_notation::tokens::{Name, Token, Tokens};
 use pliron_notation::{Expected, Stop, Word};
 use std::alloc::Global;
 
-/// The most regions that stand in one another.
+/// How deeply regions may be nested.
 const MAX_DEPTH: usize = 64;
 
 /// A region that is open.
@@ -230,7 +230,7 @@ impl<K: Kinds + Word> TableParser<'_, K> {
         Err(self.cursor.stop(Expected::CommaOrEquals))
     }
 
-    // Reads what stands behind a kind, up to a region.
+    // Reads what is behind a kind, up to a region.
     fn tail(&mut self, text: &mut TableOperation<K>) -> Result<(), Stop> {
         match text.kind.form() {
             Form::Constant => text.attribute = Some(self.cursor.number()?),

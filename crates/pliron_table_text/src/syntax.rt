@@ -1,7 +1,8 @@
 //! Syntax in the order of the text.
 use std::alloc::Global;
 
-/// What a text writes of an operation. Values and blocks go by the numbers in which the text makes them.
+/// What a text writes of an operation. Values and blocks are named by numbers, in the order in which the text makes
+/// them.
 #[derive(Drop)]
 pub struct TableOperation<K> {
     pub kind: K,

@@ -1,5 +1,5 @@
-//! Trees of the tiny dialect, made by steps. A step is a word and what goes with it; operations, blocks and
-//! values are numbered in the order of making.
+//! Trees of the tiny dialect, made by steps. A step is a word and what belongs to it; operations, blocks and values are
+//! numbered in the order of making.
 //!
 //! | Step | What it does |
 //! |---|---|
@@ -8,7 +8,7 @@
 //! | `.. v0`, `.. b0` | value 0 is its next operand, block 0 its next successor |
 //! | `block 0 1` | makes a last block of operation 0, with one argument |
 //! | `block 0 1 1` | the same in its region 1, and not in region 0 |
-//! | `on 0 b0` | operation 0 gets what stands behind it |
+//! | `on 0 b0` | operation 0 gets what is behind it |
 use crate::cases::{fields, number};
 use pliron_core::{
     AttrObj, Attrs, BasicBlock, Context, Head, IRRewriter, Operation, Ptr, Rewriter, Value,

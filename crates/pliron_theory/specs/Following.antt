@@ -45,7 +45,7 @@ pub record Follows (x : Says) (t₀ : Tree) (root : ℕ) (f₀ : LatticeValues) 
   pub read_results : (k v : ℕ) → In v (results_of t₀ k) → read v ≡ read_of x t₀ f₀ v
   pub read_arguments : (b v : ℕ) → In v (arguments_of t₀ b) → read v ≡ f₀.lattice_value v
 
--- how the chain of rewrites goes on: it starts at the tree of the closed lattice values; folding an operation
+-- how the chain of rewrites is built: it starts at the tree of the closed lattice values; folding an operation
 -- by what these know of its operands continues it, and so does a constant put first in a block for an argument,
 -- and an allocation failure
 pub record FollowingLaws (x : Says) (accepts : AttrObj → Bool) (head : AttrObj → Head) : Type 0 where

@@ -20,6 +20,6 @@ module _ {N : Type 0} (eq : N → N → Bool) (o : Orders N) where
   abbrev pub IsCross : N → N → Type 0
   IsCross from to = IsWhollyLater (number_in eq o.pre) (number_in eq o.post) to from
 
--- an edge of what the roots reach goes back
+-- an edge of what the roots reach is a back edge
 abbrev pub HasBackEdge : {N : Type 0} → (N → N → Bool) → Digraph N → List N → Orders N → Type 0
 HasBackEdge {N} eq g roots o = (u v : N) × IsReached g roots u × Contains (g.succ u) v × IsBack eq o u v

@@ -17,7 +17,7 @@ pub record IsWalk {N : Type 0} (eq : N → N → Bool) (g : Digraph N) (roots : 
   pub is_top : IsTop g roots (number_in eq o.pre) (number_in eq o.post) top
   pub enclosed : (v : N) → Contains others v ↔ (IsReached g roots v × Encloses (number_in eq o.pre) (number_in eq o.post) top v)
 
--- the walks from the nodes in listed order, each by rising post-number, those with smaller numbers first
+-- the walks from the nodes in listed order, each by ascending post-number, those with smaller numbers first
 pub record AreWalks {N : Type 0} (eq : N → N → Bool) (g : Digraph N) (walks : List (List N)) : Type 0 where
   pub pre : List N
   pub search : IsSearch eq g g.nodes (record { pre = pre; post = concatenation walks })

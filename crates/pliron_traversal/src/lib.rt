@@ -1,7 +1,7 @@
 //! Graphs that are read through a context: depth-first orders, search numbers and edge kinds.
 //!
-//! A graph implements [`ControlFlowGraph`]; adjacency lists and the regions of a tree do. It knows no dialect
-//! and of components nothing.
+//! A graph implements [`ControlFlowGraph`]; adjacency lists and the regions of a tree do. The crate knows nothing
+//! of dialects or of components.
 #![tactic(auto)]
 
 mod adjacency;

@@ -13,7 +13,7 @@ use pliron_core::{BasicBlock, Context, Ptr, Region};
 use pliron_laws::OptError;
 use std::alloc::Global;
 
-/// The label of a block is `block`, followed directly by its key.
+/// The label of a block is `block`, followed directly by the number of its handle.
 impl HasLabel<Context> for Ptr<BasicBlock> {
     fn label(&self, alloc: Global, _ctx: &Context) -> Result<String, OptError> {
         Ok(format!(in alloc; "block{}", self.key())?)
@@ -76,7 +76,7 @@ impl ControlFlowGraph<Context> for Ptr<Region> {
     }
 
     /// The predecessors of the block, by index. They are read off the uses of the block and sorted by
-    /// key, which is the region's order.
+    /// handle, which is the region's order.
     ///
     /// Errors: allocation failure. Cost: n log n for n uses.
     fn predecessors(

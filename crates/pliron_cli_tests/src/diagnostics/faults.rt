@@ -16,7 +16,7 @@ fn expect_fault(rt: &impl Abort, alloc: Global, text: &str, wanted: &str) {
     assert!(rt; told.as_str() == wanted, "{text} => {told}");
 }
 
-/// Broken texts, and line, column and what was to stand there.
+/// Broken texts, and line, column and what was expected there.
 static BROKEN: &str = "\
 fun { b0(): ret } => 1:1 `mod` or `func`
  => 1:1 `mod` or `func`
@@ -66,7 +66,7 @@ fn broken_texts(rt: HostRuntime) {
     }
 }
 
-/// What is told of a broken text.
+/// What is reported of a broken text.
 static TOLD: &str = "error: unreadable text
  --> in.plir:2:19
   |

@@ -1,5 +1,5 @@
-//! Comments, parts of texts by paths, and what is told in the forms for editors, worked by hand. `|` stands for the end
-//! of a line.
+//! Comments, parts of texts by paths, and reports in the forms for editors, worked by hand. `|` stands for the end of a
+//! line.
 use crate::diagnostics::lines::with_lines;
 use crate::lines::in_one_line;
 use pliron_diagnostics::{
@@ -46,7 +46,7 @@ fn a_mark_is_no_text(rt: HostRuntime) {
 static TWO: &str =
     "mod { m(): func { f(a): s = const 1; scope a { t(): ret }; ret s }; func { g(x): br h(x); h(y): ret y } }";
 
-/// Paths, and what stands at their ends.
+/// Paths, and what is at their ends.
 static PARTS: &str = "\
 0 => mod { m(): func { f(a): s = const 1; scope a { t(): ret }; ret s }; func { g(x): br h(x); h(y): ret y } }
 0.0 => func { f(a): s = const 1; scope a { t(): ret }; ret s }
@@ -90,7 +90,7 @@ fn parts_stand_at_paths(rt: HostRuntime) {
     }
 }
 
-/// What is told, and the same in the short form and as JSON.
+/// Reports, and the same in the short form and as JSON.
 static FORMS: &str = "\
 error: refused: memory was refused| => error: refused: memory was refused| => {'severity':'error','message':'refused: memory was refused'}|
 error: unreadable text| --> in:2:19|  !|2 ! b0(): x|  !       ^^^ expected `;`| => in:2:19: error: unreadable text: expected `;`| => {'severity':'error','message':'unreadable text','file':'in','line':2,'column':19,'label':'expected `;`'}|

@@ -1,4 +1,4 @@
-//! Where operations stand in texts, in which `|` stands for the end of a line.
+//! Where operations are in texts, in which `|` stands for the end of a line.
 use crate::diagnostics::lines::with_lines;
 use pliron_diagnostics::operation_places;
 use std::alloc::Global;

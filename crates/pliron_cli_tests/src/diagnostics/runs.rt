@@ -44,7 +44,8 @@ fn runs_are_seen(rt: HostRuntime) {
     }
 }
 
-/// Texts, and what is told of the last moves of their runs on 3 and 4 in a world that answers 7 and 8, up to 20 moves.
+/// Texts, and what is reported of the last moves of their runs on 3 and 4 in a world that answers 7 and 8, up to 20
+/// moves.
 static LAST_MOVES: &str = "\
 func { b0(x, y): ret x } =>
 func { b0(x, y): z = const 0; w = div x z; ret w } => error: the run trapped|1:31|^^^^^^^^^^^ the divisor is 0
@@ -103,7 +104,7 @@ b1(n):
 }
 ";
 
-/// What is told of its run on 1.
+/// What is reported of its run on 1.
 static TURNS_TOLD: &str = "1:1 func <- 1
 3:3 one = const -1
 4:3 br b1(x) <- 1
@@ -137,7 +138,7 @@ fn moves_and_traps_are_told(rt: HostRuntime) {
     assert!(rt; told.end == End::Trapped);
 }
 
-/// What was told, and how often.
+/// What the sink was given, and how often.
 #[derive(Drop)]
 struct Told {
     text: Vec<u8>,
@@ -151,7 +152,7 @@ impl EffectSink for Told {
     }
 }
 
-// The effects that are told and what is seen behind them are what is seen of the whole run.
+// The effects that the sink is given and what is seen behind them are what is seen of the whole run.
 fn expect_streamed(rt: &impl Abort, alloc: Global, text: &str, options: &RunOptions) -> usize {
     let source = Source {
         name: "in.plir",

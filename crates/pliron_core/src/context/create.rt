@@ -88,7 +88,7 @@ impl BasicBlock {
     }
 }
 
-// So many regions, by rising key.
+// So many regions, by ascending handle.
 #[tactic(auto, using(crate::proofs::GrownLemmas::range_more))]
 #[inline(always)]
 fn region_keys(

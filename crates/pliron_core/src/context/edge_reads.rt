@@ -1,8 +1,8 @@
 //! What can be read of uses, and of the edges between blocks.
 //!
-//! A use counts as a predecessor if no earlier edge of the same operation leads to the block; that test goes
-//! over the shorter of two lists, the operation's earlier successors or the block's uses. `get_pred(i)`
-//! bisects, since blocks of a region are in the order of their keys.
+//! A use counts as a predecessor if no earlier edge of the same operation leads to the block; that test scans
+//! the shorter of two lists, the operation's earlier successors or the block's uses. `get_pred(i)` bisects,
+//! since the blocks of a region are in the order of their handles.
 ghost use Rattle.std.specs.Prelude.{◌≡◌, ℕ, ◌<◌, length, filter, slice_get, nat_lt, Some, IsTrue, ◌↔◌, MatchOption};
 ghost use Rattle.pliron_core.specs.Tree.{IsLive, IsBlock, IsDefined, successors_of, uses_of};
 ghost use Rattle.pliron_core.specs.Edges.{succs_of, preds_of};
@@ -90,8 +90,8 @@ impl Ptr<BasicBlock> {
     /// each once.
     ///
     /// Asks that the block is live (`is_live` tests it). Cost: one pass over the block's uses, where each use
-    /// looks back to the place before it of the same operation that names this block, and no further than the
-    /// block has uses.
+    /// scans back to the previous successor of the same operation that is this block, over no more successors
+    /// than the block has uses.
     pub fn num_pred(self, ctx: &Context) -> usize
         requires { IsBlock ctx.now.tree self }
         ensures { result ≡ length (preds_of ctx.now.tree self) }
@@ -103,7 +103,7 @@ impl Ptr<BasicBlock> {
     /// The predecessor at this index, in the region's order.
     ///
     /// Asks that the block is live and has as many (`is_live` and `num_pred` test it). Cost: as the blocks of a
-    /// region are in the order of their keys, this is a bisection on the key, at most 64 times the cost of
+    /// region are in the order of their handles, this is a bisection on the handle, at most 64 times the cost of
     /// `num_pred`.
     pub fn get_pred(self, ctx: &Context, i: usize) -> Ptr<BasicBlock>
         requires live { IsBlock ctx.now.tree self }
@@ -172,8 +172,8 @@ fn edge_source(
     }
 }
 
-// Whether no place of the user before this one names the block. Goes back over the user's places
-// and forth over the block's uses, both in step, up to the end of the shorter or the first hit.
+// Whether no place of the user before this one names the block. Scans the user's places backwards and the
+// block's uses forwards, both in step, up to the end of the shorter or the first hit.
 fn is_first_edge(ctx: &Context, block: Ptr<BasicBlock>, user: Ptr<Operation>, place: usize) -> bool
     requires block { IsBlock ctx.now.tree block }
     requires user { IsLive ctx.now.tree user }
@@ -211,7 +211,7 @@ fn first_edge_source(ctx: &Context, block: Ptr<BasicBlock>, i: usize) -> Option<
     }
 }
 
-// How many predecessors have a key below the bound.
+// How many predecessors have a handle below the bound.
 fn count_below(ctx: &Context, block: Ptr<BasicBlock>, bound: usize) -> usize
     requires { IsBlock ctx.now.tree block }
     ensures { result ≡ length (filter (λ a. nat_lt a bound) (preds_of ctx.now.tree block)) }

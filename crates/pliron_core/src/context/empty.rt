@@ -6,7 +6,7 @@ use crate::context::Context;
 
 impl Context {
     /// Whether nothing was created in the context: its tree is that of `Context::new`. What was created and
-    /// erased again leaves its key, so a context that had something is never empty. Takes no memory. Cost:
+    /// erased again leaves its handle, so a context that had something is never empty. Takes no memory. Cost:
     /// constant.
     pub fn is_empty(&self) -> bool
         ensures { IsTrue result ↔ (self.now.tree ≡ no_tree) }

@@ -19,7 +19,7 @@ fn is_value_at(values: &InlineList<Value>, i: usize, value: Value) -> bool
 }
 
 impl Value {
-    /// Whether the value is live: what made it in this context still lists it. Cost: constant, and a logarithm
+    /// Whether the value is live: what defined it in this context still lists it. Cost: constant, and a logarithm
     /// for an argument of a block with an index (`index_arguments`).
     #[inline(always)]
     pub fn is_live(self, ctx: &Context) -> bool
@@ -35,7 +35,7 @@ impl Value {
         }
     }
 
-    /// What makes the value. Asks that the value is live (`is_live` tests it). Cost: constant, and a logarithm
+    /// What defines the value. Asks that the value is live (`is_live` tests it). Cost: constant, and a logarithm
     /// for an argument of a block with an index (`index_arguments`).
     pub fn def(self, ctx: &Context) -> Def
         requires { IsDefined ctx.now.tree self }

@@ -171,7 +171,7 @@ impl Ptr<Operation> {
     /// comes before its contents, and these come before its next sibling.
     ///
     /// Asks that `root` is live, and that this one is `root` or is inside it (`is_live` and `is_inside` test
-    /// it). Cost: a call goes by links, down to the first child or up to the first parent operation with a
+    /// it). Cost: a call follows links, down to the first child or up to the first parent operation with a
     /// later child, so that the whole walk, from `root` until `None`, costs one step for each operation, block
     /// and region within `root`.
     #[inline(always)]

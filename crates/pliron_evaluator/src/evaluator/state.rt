@@ -180,7 +180,7 @@ fn visit(
     enter(alloc, ctx, state, entry, values)
 }
 
-// The operation goes to its successor with this index.
+// The operation jumps to its successor with this index.
 fn go_to(
     alloc: Global,
     ctx: &Context,

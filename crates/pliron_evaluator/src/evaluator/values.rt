@@ -74,7 +74,7 @@ pub enum Move {
     Give(Vec<Datum>),
     /// Visits the region with this index with these values, and leaves itself a memo.
     Visit(usize, Vec<Datum>, Datum),
-    /// Goes to the successor with this index with these values.
+    /// Jumps to the successor with this index with these values.
     Goto(usize, Vec<Datum>),
     /// Ends the visit that its block is in, with these values.
     Leave(Vec<Datum>),
@@ -107,7 +107,7 @@ pub enum Sight {
 pub trait Evaluate: HasMeaning {
     /// The move that the operation makes with this memo on this input.
     ///
-    /// Asks that the operation stands (`is_live` tests it). Errors: allocation failure.
+    /// Asks that the operation is live (`is_live` tests it). Errors: allocation failure.
     fn next_move(
         alloc: Global,
         ctx: &Context,

@@ -1,7 +1,7 @@
--- Where nodes stand that were listed last, which contracts inside the crate cite.
+-- The places of nodes that were listed last, which contracts inside the crate cite.
 use Rattle.std.specs.Prelude.{ℕ, ◌<◌, ◌≤◌, Bool, List, length}
 use Rattle.pliron_traversal.specs.Search.{number_in}
 
--- v stands at the place `first` or behind it
+-- v is at the place `first` or behind it
 abbrev pub StandsFrom : {N : Type 0} → (N → N → Bool) → List N → ℕ → N → Type 0
 StandsFrom eq xs first v = (first ≤ number_in eq xs v) × (number_in eq xs v < length xs)

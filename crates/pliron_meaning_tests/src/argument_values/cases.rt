@@ -1,5 +1,5 @@
-//! Texts, the index of a block and of an argument of it, and what is left after the uses of that argument went to its
-//! one value; `none` where there is none. They were worked out by hand.
+//! Texts, the index of a block and of an argument of it, and what is left after the uses of that argument were replaced
+//! by its one value; `none` where there is none. They were worked out by hand.
 
 pub static ROWS: &str = "\
 one edge -- 1 0 func { b0(x): br b1(x); b1(p): ret p } => func { b0(v0): br b1(v0); b1(v1): ret v0 }

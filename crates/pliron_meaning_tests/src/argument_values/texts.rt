@@ -1,4 +1,4 @@
-//! Texts, and what is left where the uses of an argument went to its one value.
+//! Texts, and what is left where the uses of an argument were replaced by its one value.
 use super::cases::ROWS;
 use pliron_argument_laws::finding::find_one_value;
 use pliron_argument_laws::rewrites::replace_argument_by_value;

@@ -155,7 +155,7 @@ twenty names with one hash -- func { b0(): ast = read; cjf = read; crr = read; f
     read; v17 = read; v18 = read; v19 = read; sink v19 v18 v17 v16 v15 v14 v13 v12 v11 v10 v9 v8 v7 v6 v5 v4 v3 v2 \
     v1 v0; sink v0 v1 v2 v3 v4 v5 v6 v7 v8 v9 v10 v11 v12 v13 v14 v15 v16 v17 v18 v19 }";
 
-/// Lines that are printed as they stand.
+/// Lines that are printed as they are.
 static PRINTED: &str = "\
 a return -- func { b0(): ret }
 a block that jumps to itself -- func { b0(): br b0() }

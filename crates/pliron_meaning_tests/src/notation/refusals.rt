@@ -26,8 +26,8 @@ fn check_line(rt: &impl Abort, alloc: Global, ctx: &Context, root: Ptr<Operation
     assert_eq!(rt; line.as_str(), want, "{want}");
 }
 
-// Reads a text beside an operation that stands, if one does. On allocation failure that one stays as it is,
-// and the text is read once more.
+// Reads a text beside an operation that is live, if there is one. On allocation failure that one stays as it is, and
+// the text is read once more.
 fn read_beside(
     rt: &impl Abort,
     alloc: Global,

@@ -1,4 +1,4 @@
-//! Numbers by keys, so that a look-up takes no hash where keys lie close together.
+//! Numbers by keys, so that a look-up takes no hash where keys are close together.
 use std::alloc::{AllocError, Global};
 use std::collections::HashMap;
 
@@ -28,7 +28,7 @@ impl Numbers {
         })
     }
 
-    // Where the key stands. A key below the first stands behind all places.
+    // The place of the key. That of a key below the first is behind all places.
     #[inline(always)]
     fn place(&self, key: u64) -> usize {
         key.wrapping_sub(self.first) as usize

@@ -1,4 +1,4 @@
-//! Texts, and what is left of them. `C` stands before one that changes, `U` before one that does not, and before that a
+//! Texts, and what is left of them. `C` is before one that changes, `U` before one that does not, and before that a
 //! name. They were worked out by hand; nine are what tests of MLIR's canonicalization and constant folding ask, in this
 //! dialect.
 

@@ -1,4 +1,4 @@
-//! Texts, and what is left of them. `C` stands before one that changes, `U` before one that does not, and before that a
+//! Texts, and what is left of them. `C` is before one that changes, `U` before one that does not, and before that a
 //! name. They were worked out by hand.
 
 pub static ROWS: &str = "\
@@ -52,7 +52,7 @@ two deep -- C func { b0(x): scope { b0(): a = add x x; scope { b0(): b = add x x
     = mul a x; e = add x x; print d; print e; ret }; ret } => func { b0(v0): scope { b0(): v1 = add v0 v0; scope \
     { b0(): v2 = mul v1 v0; print v2; ret }; v3 = mul v1 v0; print v3; print v1; ret }; ret }";
 
-/// Uses stand before definitions here, so a second call finds more.
+/// Uses are before definitions here, so a second call finds more.
 pub static BACKWARDS: &str = "\
 uses before definitions -- C func { b0(): c = add b b; d = add a a; a = const 1; b = const 1; ret c d } => func \
     { b0(): v0 = add v2 v2; v1 = add v2 v2; v2 = const 1; ret v0 v1 }";

@@ -13,7 +13,7 @@ const COMMON_SUBEXPRESSIONS: Asked = Asked {
     is_settled: true,
 };
 
-/// Only what is inside the first operation goes, and only operations inside it lead.
+/// Only what is inside the first operation is erased, and only operations inside it lead.
 static NESTED: &str = "\
 equal sums in a scope and behind it -- C func { b0(x): scope { b0(): a = add x x; b = add x x; print a; print b; ret }; \
     c = add x x; d = add x x; ret c d } => func { b0(v0): scope { b0(): v1 = add v0 v0; print v1; print v1; ret }; \

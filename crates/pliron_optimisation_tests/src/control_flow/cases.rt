@@ -4,11 +4,12 @@
 //! call refuses, since a value of an unreachable block is used outside the unreachable blocks; in `ROWS` and
 //! `ORDERS` the name of the call; then the text before and after. The others are
 //! texts made at random for `simplify_cfg`. `tools/expected` makes what is left of these and of the lines of
-//! `ROWS` and `ORDERS` with calls on an operation: it folds what a constant decides, takes out what the entry does
-//! not reach, and merges pairs of blocks until there is none, the last successor first. Each line of `ROWS` and `ORDERS` was worked through by hand too.
+//! `ROWS` and `ORDERS` with calls on an operation: it folds what a constant decides, removes what the entry does
+//! not reach, and merges pairs of blocks until there is none, the last successor first. Each line of `ROWS` and
+//! `ORDERS` was worked through by hand too.
 //!
 //! In `ORDERS` the order shows: of two pairs that exclude each other one is merged, and of the regions before
-//! the one that refuses the unreachable blocks are erased. In `HOSTILE` uses may stand anywhere, and edges may
+//! the one that refuses the unreachable blocks are erased. In `HOSTILE` uses may be anywhere, and edges may
 //! forward too few values or too many; the texts of `DEFINED` are well defined.
 
 pub static ROWS: &str = "\

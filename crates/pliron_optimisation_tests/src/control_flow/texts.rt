@@ -19,7 +19,7 @@ const SIMPLIFICATION: Asked = Asked {
     is_settled: false,
 };
 
-// The call whose name stands before the text of the case, and the case without it.
+// The call whose name is before the text of the case, and the case without it.
 fn called(row: &str) -> Option<(Call, Case<'_>)> {
     let case = case_of(row)?;
     let (word, text) = case.text.split_once(' ')?;

@@ -4,7 +4,7 @@
 //! `ROWS` were worked out by hand. The others are texts made at random, whose dead operations and
 //! arguments `tools/expected` finds by a plain fixpoint: nothing is dead at first, and in each round what only dead
 //! things use is, until a round finds nothing. The texts of `DEFINED` are well defined;
-//! those in which uses may stand anywhere stand in `hostile`.
+//! those in which uses may be anywhere are in `hostile`.
 
 pub static ROWS: &str = "\
 everything is used -- U func { b0(): a = const 1; b = const 2; c = add a b; ret c } => func { b0(): v0 = const 1; v1 = const 2; v2 = add v0 v1; ret v2 }

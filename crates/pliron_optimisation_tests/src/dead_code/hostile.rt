@@ -1,4 +1,4 @@
-//! Texts made at random in which uses may stand anywhere, and edges may forward too few values or too many,
+//! Texts made at random in which uses may be anywhere, and edges may forward too few values or too many,
 //! with what is left of each, as in `cases`. `C` is before one that changes, `U` before one that does not.
 
 pub static HOSTILE: &str = "\

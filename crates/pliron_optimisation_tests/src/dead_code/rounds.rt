@@ -1,8 +1,8 @@
 //! The dead of each text found by a plain fixpoint, and compared with what `dce` erases.
 //!
-//! Nothing is dead at first. Each round goes over everything in the text, and takes for dead what only dead
-//! operations and arguments use, until a round finds nothing. Uses are found by going over all operands of all
-//! operations; the lists of uses that the tree keeps are never asked.
+//! Nothing is dead at first. Each round visits everything in the text, and takes for dead what only dead
+//! operations and arguments use, until a round finds nothing. Uses are found by a scan of all operands of all
+//! operations; the lists of uses that the tree keeps are never read.
 ghost use Rattle.std.specs.Prelude.{◌≡◌, Some};
 ghost use Rattle.pliron_core.specs.Tree.{IsLive, IsBlock, IsDefined, block_parent_operation_of};
 

@@ -4,7 +4,7 @@
 //! executable, how many values defined in these are constants and how many others are not; then the text before and
 //! after.
 //!
-//! `ROWS` were worked out by hand. The lines of `HOSTILE` have no counts: uses stand before definitions or use
+//! `ROWS` were worked out by hand. The lines of `HOSTILE` have no counts: uses are before definitions or use
 //! themselves, edges forward too few values or too many, and blocks end without a terminator. They were worked
 //! out by hand, where the order of work decides nothing. In `DEFERRED`, worked out by hand too, an operation has
 //! more operands than what is visited at once: sums of a loop that are lowered one after the other and that a

@@ -29,7 +29,7 @@ static DEFERRED_COUNTS: &str = "42 17 31 33 21 38 22 18 42";
 
 static ENTERED_COUNTS: &str = "27 19 18 16 27";
 
-/// So many counts stand before a text.
+/// How many counts are before a text.
 pub const COUNTS_BEFORE: usize = 3;
 
 /// What propagation that counts answers for a text, leaves of it, and how often it pops.

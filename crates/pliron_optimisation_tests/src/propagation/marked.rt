@@ -260,8 +260,8 @@ fn branch(
     branch
 }
 
-// The root, its second and its third block. A constant with a mark goes on to the second block, and what
-// comes in there goes on to the third one, where a question reads it.
+// The root, its second and its third block. A constant with a mark is forwarded to the second block, and what
+// comes in there is forwarded to the third one, where a question reads it.
 fn tree(
     rt: &impl Abort,
     alloc: Global,

@@ -17,7 +17,7 @@ const PROPAGATION: Asked = Asked {
     is_settled: false,
 };
 
-// The number of the first word, behind this label and `=`, and what stands behind the word.
+// The number of the first word, behind this label and `=`, and what follows the word.
 fn number_before<'t>(text: &'t str, label: &str) -> Option<(u128, &'t str)> {
     let (word, rest) = text.split_once(' ')?;
     let (first, digits) = word.split_once('=')?;

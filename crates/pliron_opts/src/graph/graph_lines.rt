@@ -52,7 +52,7 @@ fn push_orders(alloc: Global, graph: &NumberedGraph, text: &mut String) -> Resul
     push_lists(alloc, graph, &reversed, text)
 }
 
-// The reached nodes by rising pre-order number, each with its numbers.
+// The reached nodes by ascending pre-order number, each with its numbers.
 fn push_numbers(
     alloc: Global,
     graph: &NumberedGraph,

@@ -23,7 +23,7 @@ pub struct PipelineText<'w> {
     pub names: Vec<&'w str>,
 }
 
-/// A part of a word that is wrong, and what was to stand there.
+/// A part of a word that is wrong, and what was expected there.
 #[derive(Clone, Copy, Debug, Drop, PartialEq, Eq)]
 pub struct WordFault {
     /// After how many bytes the part begins, and how many it has.
@@ -103,7 +103,7 @@ struct RestOfWord<'w> {
     start: usize,
 }
 
-// What stands behind the start of the text, if it begins so.
+// What follows this start in the text, if the text begins with it.
 fn text_behind<'w>(text: &'w str, start: &str) -> Option<&'w str>
     ensures some { IfSome result (λ rest. text.now ≡ start.now ++ rest.now) }
     ensures none { IfNone result (BeginsWith text.now start.now → ⊥) }
@@ -125,7 +125,7 @@ fn text_behind_bracket<'w>(text: &'w str, start: &str, words: Words) -> Option<&
     }
 }
 
-// What stands before the bracket that closes the text, if one does.
+// What is before the bracket that closes the text, if one does.
 fn text_before_bracket(text: &str) -> Option<&str>
     ensures { IfSome result (λ inner. text.now ≡ inner.now ++ codes ")") }
 {

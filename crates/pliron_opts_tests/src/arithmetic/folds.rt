@@ -1,4 +1,4 @@
-//! Functions before and after one of their operations was folded where it stands, worked by hand.
+//! Functions before and after one of their operations was folded in place, worked by hand.
 ghost use Rattle.pliron_core.specs.Tree.{IsLive};
 
 use super::texts::read;

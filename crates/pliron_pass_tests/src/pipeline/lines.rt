@@ -14,11 +14,11 @@ use pliron_test_cases::cases::{Row, read, row_of};
 use std::alloc::Global;
 use std::process::Abort;
 
-// A name, the words of a pass, words for the cache and the configuration, and a text; then the answer, what is
-// cached of the text's operation, how many runs are counted and how many the outermost `repeat` began, the
-// facts with a total that is asked for then, and the text after. In the words `[` and `]` enclose a list,
-// `nested`, `func`, `removing`, `repeat:N` and `fail:CODE` stand before what they run. Blocks have the keys
-// 0, 1, .. in the order of the text. All was worked out by hand.
+// A name, the words of a pass, words for the cache and the configuration, and a text; then the answer, what is cached
+// of the text's operation, how many runs are counted and how many the outermost `repeat` began, the facts with a total
+// that is asked for then, and the text after. In the words `[` and `]` enclose a list, `nested`, `func`, `removing`,
+// `repeat:N` and `fail:CODE` are before what they run. Blocks have the handles 0, 1, .. in the order of the text. All
+// was worked out by hand.
 static CASES: &str = "\
 propagation keeps edges -- [ sccp ] | total | func { b0(): z = const 0; br b1(z); b1(i): r = read; cbr r b1(i) \
     b2(); b2(): ret i } => changed, edges 0-1 1-1 1-2; 1 runs, 0 begun; edges 0-1 1-1 1-2 size 6 total 9; func { \

@@ -112,7 +112,7 @@ impl<P: Pass> Nest<P> {
 
 /// A pass that is made of words.
 pub trait Build: Pass + Drop {
-    /// The pass that begins with this word and goes on with these.
+    /// The pass that begins with this word and continues with these.
     fn build<A: Abort>(
         rt: &A,
         alloc: Global,

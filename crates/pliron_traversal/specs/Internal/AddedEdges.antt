@@ -4,7 +4,7 @@ use Rattle.std.specs.List.{All, list_any}
 use Rattle.std.specs.List.Sorted.{IsStrictlyIncreasing}
 use Rattle.pliron_traversal.specs.Adjacency.{row, AreBelow}
 
--- each list rises, and each number of it is below n
+-- each list is ascending, and each number of it is below n
 abbrev pub RiseBelow : ℕ → List (List ℕ) → Type 0
 RiseBelow n rows = All (λ r. IsStrictlyIncreasing r × All (λ x. x < n) r) rows
 

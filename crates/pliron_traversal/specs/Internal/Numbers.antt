@@ -1,4 +1,4 @@
--- Nodes by the numbers that they hash as, and a table that tells their places.
+-- Nodes by the numbers that they hash as, and a table of their places.
 use Rattle.std.specs.Prelude.{◌≡◌, ⊤, ℕ, ◌+◌, ◌<◌, List, [], ◌∷◌, fold, get_or, if◌then◌else◌, length, nat_lt, slice_index}
 use Rattle.std.specs.Int.{w32, from_le_bytes}
 use Rattle.pliron_traversal.specs.declared.node_set.LastNumber.{LastNumber}

@@ -13,7 +13,7 @@ use Rattle.pliron_core.proofs.FilterLemmas.{In-filter, In-filtered, any_at, at_a
 use Rattle.pliron_traversal.specs.Digraph.{IsLawful}
 use Rattle.pliron_traversal.specs.Regions.{graph_of_region, IsLawfulRegion}
 
--- members of a list of keys
+-- members of a list of handles
 pub in_keys : (xs : List ℕ) (v : ℕ) → Contains xs v → In v xs
 in_keys [] v (k, l, e) = absurd (omega (arith, l))
 in_keys (x ∷ xs) v (zero, l, e) = inl (sym e)
@@ -24,7 +24,7 @@ keys_have [] v i = absurd i
 keys_have (x ∷ xs) v (inl e) = (zero, omega arith, sym e)
 keys_have (x ∷ xs) v (inr i) = let r = keys_have xs v i in (suc r.0, omega (arith, r.1), r.2)
 
--- equal keys are one
+-- equal handles are one
 pub same_key : (x y : ℕ) → (nat_eq x y && true) ≡ true → x ≡ y
 same_key x y e = eqb-true x y (and_parts (nat_eq x y) true e).0
 
