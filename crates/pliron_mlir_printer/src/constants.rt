@@ -10,20 +10,20 @@ use std::alloc::AllocError;
 
 /// The dialect that an operation made by folding is written in.
 #[derive(Clone, Copy, Debug, PartialEq, Eq)]
-pub enum Dialect {
+pub enum TargetDialect {
     Llvm,
     /// `arith` and `cf`.
     Standard,
 }
 
-impl Dialect {
+impl TargetDialect {
     /// The name of a jump. Cost: constant.
     pub fn jump(self) -> &'static [u8]
         ensures { result.now ≡ jump_name self }
     {
         match self {
-            Dialect::Llvm => b"\"llvm.br\"",
-            Dialect::Standard => b"\"cf.br\"",
+            TargetDialect::Llvm => b"\"llvm.br\"",
+            TargetDialect::Standard => b"\"cf.br\"",
         }
     }
 
@@ -32,8 +32,8 @@ impl Dialect {
         ensures { result.now ≡ constant_name self }
     {
         match self {
-            Dialect::Llvm => b"\"llvm.mlir.constant\"",
-            Dialect::Standard => b"\"arith.constant\"",
+            TargetDialect::Llvm => b"\"llvm.mlir.constant\"",
+            TargetDialect::Standard => b"\"arith.constant\"",
         }
     }
 }
@@ -66,7 +66,7 @@ fn name_of<'s>(op: Ptr<Operation>, sheet: &'s Sheet, ctx: &Context) -> &'s [u8] 
 
 /// The dialect of the function around the operation, or of the next operation around it that is of the dialect `llvm`.
 /// Cost: the depth of the operation.
-pub fn dialect_of(op: Ptr<Operation>, sheet: &Sheet, ctx: &Context) -> Dialect {
+pub fn dialect_of(op: Ptr<Operation>, sheet: &Sheet, ctx: &Context) -> TargetDialect {
     let mut here = op;
     // An operation is inside at most so many.
     for _ in 0..MAX_DEPTH {
@@ -78,14 +78,14 @@ pub fn dialect_of(op: Ptr<Operation>, sheet: &Sheet, ctx: &Context) -> Dialect {
         };
         let name = name_of(around, sheet, ctx);
         if name.starts_with(b"\"llvm.") {
-            return Dialect::Llvm;
+            return TargetDialect::Llvm;
         }
         if name == b"\"func.func\"".as_slice() {
-            return Dialect::Standard;
+            return TargetDialect::Standard;
         }
         here = around;
     }
-    Dialect::Standard
+    TargetDialect::Standard
 }
 
 fn write_number(number: u64, out: &mut Vec<u8>) -> Result<(), AllocError> {
@@ -150,12 +150,16 @@ pub fn type_of_datum(
 }
 
 /// Writes a constant that folding made, behind the name of its result. Errors: allocation failure. Cost: constant.
-pub fn write_constant(datum: i128, dialect: Dialect, out: &mut Vec<u8>) -> Result<(), AllocError> {
+pub fn write_constant(
+    datum: i128,
+    dialect: TargetDialect,
+    out: &mut Vec<u8>,
+) -> Result<(), AllocError> {
     let Some((width, bits)) = integer_of(datum) else {
         return Ok(());
     };
     let dialect = if width == 65 {
-        Dialect::Standard
+        TargetDialect::Standard
     } else {
         dialect
     };
