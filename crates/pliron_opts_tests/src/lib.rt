@@ -5,8 +5,7 @@
 mod arithmetic;
 #[cfg(test)]
 mod graphs;
-#[cfg(test)]
-mod looped;
+pub mod looped;
 #[cfg(test)]
 mod loops;
 #[cfg(test)]
