@@ -1,10 +1,17 @@
-//! Tests of texts in MLIR's generic form, and of passes on them. It has no function of its own.
+//! Tests of texts in MLIR's generic form, of passes on them, and of the calls for other languages. It has no function of
+//! its own.
 #![tactic(auto)]
 
 #[cfg(test)]
 mod broken;
 #[cfg(test)]
+mod buffers;
+#[cfg(test)]
+mod calls;
+#[cfg(test)]
 mod lines;
+#[cfg(test)]
+mod modules;
 #[cfg(test)]
 mod outcomes;
 #[cfg(test)]

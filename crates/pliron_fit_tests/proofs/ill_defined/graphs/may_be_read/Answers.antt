@@ -1,4 +1,4 @@
-use Rattle.pliron_ill_defined_tests.proofs.graphs.may_be_read.Goals as goal
+use Rattle.pliron_fit_tests.proofs.ill_defined.graphs.may_be_read.Goals as goal
 
 pub returns : goal.returns
 returns c = λ e. record {

@@ -1,9 +1,7 @@
 //! Public calls that take a tree, on trees outside every premise but that they are well linked: uses before
 //! definitions, of itself and across regions, edges that forward too few values or too many, regions without
 //! blocks, roots inside roots. Each call answers, and what can be asked of its answer without knowing it is
-//! asked. It has no function of its own.
-#![tactic(auto)]
-
+//! asked.
 #[cfg(test)]
 mod around;
 #[cfg(test)]
