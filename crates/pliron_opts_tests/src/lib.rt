@@ -1,8 +1,11 @@
-//! Tests of the program: texts, graphs, arguments and streams that fail; and of a dialect by tables, which is here.
+//! Tests of the program: texts, graphs, arguments and streams that fail; of a dialect by tables, which is here; and the code
+//! of the pages.
 #![tactic(auto)]
 
 #[cfg(test)]
 mod arithmetic;
+#[cfg(test)]
+mod docs;
 #[cfg(test)]
 mod graphs;
 pub mod looped;

@@ -2,7 +2,7 @@ use Rattle.std.proofs.Common.{sym, ◌∙◌}
 use Rattle.pliron_bench.specs.BenchMoves.{bench}
 use Rattle.pliron_theory.proofs.ChangeLemmas.{change_trans}
 use Rattle.pliron_pass_rewrites.proofs.StatusLemmas.{unchanged_by_both}
-use Rattle.pliron_docs_tests.proofs.walking.sweep_each.Goals as goal
+use Rattle.pliron_opts_tests.proofs.docs.walking.sweep_each.Goals as goal
 
 pub returns-in_err-sweep_held-clause-change : goal.returns-in_err-sweep_held-clause-change
 returns-in_err-sweep_held-clause-change c =

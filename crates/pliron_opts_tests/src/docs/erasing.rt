@@ -4,7 +4,7 @@ ghost use Rattle.pliron_core.specs.Tree.{IsLive};
 ghost use Rattle.pliron_core.specs.declared.attrs.IRStatus.TheVariants.{Unchanged};
 ghost use Rattle.pliron_laws.specs.Linked.{IsWellLinked};
 ghost use Rattle.pliron_theory.specs.Change.{IsPassChange};
-ghost use Rattle.pliron_docs_tests.specs.declared.erasing.TheConstants.{ERASE_UNUSED};
+ghost use Rattle.pliron_opts_tests.specs.declared.docs.erasing.TheConstants.{ERASE_UNUSED};
 
 use pliron_arithmetic::{Arithmetic, ArithmeticKind};
 use pliron_core::{Context, IRRewriter, IRStatus, Operation, Ptr};

@@ -1,7 +1,7 @@
 use Rattle.std.proofs.Common.{◌≡◌, vec_len}
 use Rattle.pliron_core.specs.declared.attrs.IRStatus.TheVariants.{Unchanged}
 use Rattle.pliron_theory.specs.Change.{IsPassChange}
-use Rattle.pliron_docs_tests.proofs.erasing.erase_each.Given as goal
+use Rattle.pliron_opts_tests.proofs.docs.erasing.erase_each.Given as goal
 
 abbrev pub invariant-loop-last : goal.invariant-loop-last
 invariant-loop-last g l = record {

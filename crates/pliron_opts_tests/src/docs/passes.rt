@@ -1,6 +1,6 @@
 //! docs/PASSES.md: a pass, and a list of different passes.
 ghost use Rattle.std.specs.Prelude.{◌≡◌, ◌+◌, ◌-◌, ◌^◌, false, min};
-ghost use Rattle.pliron_docs_tests.specs.declared.passes.TheConstants.{TALLY};
+ghost use Rattle.pliron_opts_tests.specs.declared.docs.passes.TheConstants.{TALLY};
 
 use super::walking::SweepLarge;
 use pliron_bench::Bench;

@@ -2,7 +2,7 @@ use Rattle.std.proofs.Common.{◌≡◌}
 use Rattle.pliron_bench.specs.BenchMoves.{bench}
 use Rattle.pliron_core.specs.declared.attrs.IRStatus.TheVariants.{Unchanged}
 use Rattle.pliron_theory.specs.Change.{IsPassChange}
-use Rattle.pliron_docs_tests.proofs.walking.sweep_each.Given as goal
+use Rattle.pliron_opts_tests.proofs.docs.walking.sweep_each.Given as goal
 
 abbrev pub invariant-loop-inner : goal.invariant-loop-inner
 invariant-loop-inner l = record {

@@ -1,7 +1,7 @@
 use Rattle.std.proofs.Common.{sym, ◌∙◌}
 use Rattle.pliron_theory.proofs.ChangeLemmas.{change_trans}
 use Rattle.pliron_pass_rewrites.proofs.StatusLemmas.{unchanged_by_both}
-use Rattle.pliron_docs_tests.proofs.erasing.erase_each.Goals as goal
+use Rattle.pliron_opts_tests.proofs.docs.erasing.erase_each.Goals as goal
 
 pub returns-in_err-erase_if_unused-clause-change : goal.returns-in_err-erase_if_unused-clause-change
 returns-in_err-erase_if_unused-clause-change g c =

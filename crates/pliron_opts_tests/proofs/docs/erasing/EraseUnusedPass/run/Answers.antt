@@ -1,7 +1,7 @@
 use Rattle.pliron_pass.specs.BenchFacts.{fact_kind, HoldsFact}
 use Rattle.pliron_pass.specs.contracts.bench_facts.BenchFactKindPartialEq.TheImpl.{ghosts as equality}
 use Rattle.pliron_pass_rewrites.proofs.StatusLemmas.{fresh_unless_changed}
-use Rattle.pliron_docs_tests.proofs.erasing.EraseUnusedPass.run.Goals as goal
+use Rattle.pliron_opts_tests.proofs.docs.erasing.EraseUnusedPass.run.Goals as goal
 
 pub returns-clause-fresh : goal.returns-clause-fresh
 returns-clause-fresh c =

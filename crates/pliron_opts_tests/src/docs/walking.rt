@@ -5,7 +5,7 @@ ghost use Rattle.pliron_core.specs.declared.attrs.IRStatus.TheVariants.{Unchange
 ghost use Rattle.pliron_laws.specs.Linked.{IsWellLinked};
 ghost use Rattle.pliron_bench.specs.BenchMoves.{bench};
 ghost use Rattle.pliron_theory.specs.Change.{IsPassChange};
-ghost use Rattle.pliron_docs_tests.specs.declared.walking.TheConstants.{SWEEP_LARGE};
+ghost use Rattle.pliron_opts_tests.specs.declared.docs.walking.TheConstants.{SWEEP_LARGE};
 
 use pliron_bench::Bench;
 use pliron_core::{Context, IRStatus, Operation, Ptr};
