@@ -62,7 +62,7 @@ struct Effects<'r> {
 }
 
 impl EffectSink for Effects<'_> {
-    fn tell(&mut self, lines: &[u8]) -> bool {
+    fn accept(&mut self, lines: &[u8]) -> bool {
         write_lines(self.rt, lines).is_ok()
     }
 }
@@ -143,13 +143,13 @@ fn explain_inner(
         name: input_name(name),
         text: &function,
     };
-    let told = explain_as_asked(alloc, &source, matches, pipeline)?;
-    if told.status != 0 {
-        return Ok(told);
+    let reported = explain_as_asked(alloc, &source, matches, pipeline)?;
+    if reported.status != 0 {
+        return Ok(reported);
     }
     Ok(Outcome {
-        output: lines_inside(alloc, &input.text, part, &told.output)?,
-        report: told.report,
+        output: lines_inside(alloc, &input.text, part, &reported.output)?,
+        report: reported.report,
         status: 0,
     })
 }

@@ -20,7 +20,7 @@ struct Terminal<'r> {
     /// When the command began.
     start: Duration,
     /// How many seconds after that something was shown last.
-    told: &'r Cell<u64>,
+    reported: &'r Cell<u64>,
 }
 
 impl Clock for Terminal<'_> {
@@ -39,8 +39,8 @@ impl Progress for Terminal<'_> {
             return;
         };
         let seconds = now.saturating_sub(self.start).as_secs();
-        if seconds > self.told.get() {
-            self.told.set(seconds);
+        if seconds > self.reported.get() {
+            self.reported.set(seconds);
             let run = number.saturating_add(1);
             let _ = eprintln!(self.rt; "after {seconds} s: run {run}, {name}");
         }
@@ -56,7 +56,7 @@ struct AnswerOptions {
     names_in_answer: bool,
     names_in_trees: bool,
     /// Whether something is reported between passes.
-    tells_trees: bool,
+    prints_trees: bool,
 }
 
 // Whether standard output is a terminal, and the answer is written there.
@@ -73,7 +73,7 @@ fn answer_options(rt: &HostRuntime, matches: &ArgMatches) -> AnswerOptions {
         is_pretty: matches.get_flag("pretty") || (on_terminal && !matches.get_flag("one-line")),
         names_in_answer: matches.get_flag("keep-names") || (on_terminal && !numbers),
         names_in_trees: !numbers,
-        tells_trees: matches.get_flag("print-changed")
+        prints_trees: matches.get_flag("print-changed")
             || matches.get_flag("print-after-all")
             || matches.contains_id("print-after")
             || matches.contains_id("print-before"),
@@ -116,11 +116,11 @@ fn opt_instrumented<'w>(
         times: matches.get_flag("time"),
     };
     let start = rt.monotonic().unwrap_or(Duration::ZERO);
-    let told = Cell::new(0);
+    let reported = Cell::new(0);
     let terminal = Terminal {
         rt,
         start,
-        told: &told,
+        reported: &reported,
     };
     let is_strict = matches.get_flag("strict");
     Ok(opt_with_check::<BenchNotation, _>(rt.alloc(), source, &options, is_strict, terminal)?)
@@ -149,7 +149,7 @@ fn stages(
         prints_before: &before,
         prints_after: &after,
         prints_all: matches.get_flag("print-after-all"),
-        tells_changes: matches.get_flag("print-changed"),
+        reports_changes: matches.get_flag("print-changed"),
         is_coloured: is_coloured(rt, matches),
     };
     match run_stages(alloc, text, &plan, &options) {
@@ -168,11 +168,11 @@ fn join_stages(
 ) -> io::Result<Outcome> {
     let Outcome {
         output,
-        report: told,
+        report: reported,
         status,
     } = whole;
     let Staged { mut report, named } = staged;
-    report.push_str(told.as_str())?;
+    report.push_str(reported.as_str())?;
     if status != 0 {
         return Ok(Outcome {
             output,
@@ -220,7 +220,7 @@ pub fn opt_as_asked(
     let alloc = rt.alloc();
     let pipeline = pipeline_of(alloc, matches, word)?;
     let answer = answer_options(rt, matches);
-    let is_staged = answer.names_in_answer || answer.tells_trees;
+    let is_staged = answer.names_in_answer || answer.prints_trees;
     let staged = if is_staged {
         stages(rt, source.text, matches, pipeline.as_str(), answer)?
     } else {

@@ -1,6 +1,6 @@
 -- What stays where the uses of an argument go to its one value.
 use Rattle.std.proofs.Common.{◌≢◌, ℕ, Bool, map, if◌then◌else◌, ⊎_elim, refl, sym, ap, ◌∙◌, subst, arith}
-use Rattle.std.proofs.lemmas.Bool.Decides.{eqb_tells}
+use Rattle.std.proofs.lemmas.Bool.Decides.{eqb_decides}
 use Rattle.pliron_core.specs.Tree.{Tree, In, operands_of}
 use Rattle.pliron_core.specs.Uses.{replace_target}
 use Rattle.pliron_core.specs.Writes.{after_replacing}
@@ -19,12 +19,12 @@ old_unused t old new ne k i =
     ⊎_elim
     (λ y. ne (x.2 ∙ ap (λ b. if b then new else x.0) y.0))
     (λ y. y.1 (sym (x.2 ∙ ap (λ b. if b then new else x.0) y.0)))
-    (eqb_tells x.0 old)
+    (eqb_decides x.0 old)
 
 pub one_value_changes : (m : Meaning) (can_fold : Head → Bool) (SameTests : Head → Head → Type 0) (shortened : Shape → ℕ → ℕ → Head) → ForwardsOperands m can_fold SameTests shortened → OneValueChanges m
 one_value_changes m can_fold SameTests shortened law = record {
   change = λ t op block index v w live linked holds h. record {
-    stands = live;
+    liveness = live;
     linked = replaced_links m t h.argument v op linked;
     inside = replaced_argument t op block index h.argument v w holds h.there;
     runs = one_value m can_fold SameTests shortened law t block index v w h;

@@ -14,7 +14,7 @@ use Rattle.pliron_laws.specs.Machine.{start}
 use Rattle.pliron_laws.specs.Paths.{Path, Leads}
 use Rattle.pliron_laws.specs.Root.{defining_block, HasPassed, IsDominated}
 use Rattle.pliron_laws.specs.Linked.{EndsBlock}
-use Rattle.pliron_laws.specs.Acting.{Comes, Begins, Told, pick}
+use Rattle.pliron_laws.specs.Acting.{Comes, Begins, AnsweredByWorld, pick}
 use Rattle.pliron_laws.specs.Laws.{ForwardsOperands}
 use Rattle.pliron_laws.specs.Answers.{IsForwardedAt}
 use Rattle.pliron_laws.proofs.Records.{op_shows, block_shows, entry_shows, ShowsEntry}
@@ -163,7 +163,7 @@ module _ (m : Meaning) (can_fold : Head → Bool) (SameTests : Head → Head →
   -- an operation came from the data that its operands have to this memo and this answer
   pub record Begun (env : Environment) (k : ℕ) (memo : Datum) (answer : Option (List Datum)) : Type 0 where
     pub operation : Operation
-    pub stands : op_at t k ≡ Some operation
+    pub liveness : op_at t k ≡ Some operation
     pub first : List Datum
     pub has : data_of env operation.operands ≡ Some first
     pub input : List Datum
@@ -215,7 +215,7 @@ module _ (m : Meaning) (can_fold : Head → Bool) (SameTests : Head → Head →
     comes = subst (λ z. Comes m.act (shape_of m t x.operation) x.input false z x.input) (sym u.0) Begins;
   }
   came env k memo answer move (inr g) x =
-      let o : g.operation ≡ x.operation = some_is (sym g.stands ∙ x.stands) in
+      let o : g.operation ≡ x.operation = some_is (sym g.liveness ∙ x.liveness) in
       let y : g.input ≡ x.input = some_is (sym (ap (input_of env x.operation.operands) g.answered) ∙ x.reads) in
       record {
         first = g.first;
@@ -224,10 +224,10 @@ module _ (m : Meaning) (can_fold : Head → Bool) (SameTests : Head → Head →
         comes = subst (λ z. Comes m.act (shape_of m t x.operation) g.first true memo z) y (subst (λ z. Comes m.act (shape_of m t z) g.first true memo g.input) o g.comes);
       }
 
-  told_on : (env : Environment) (k : ℕ) (memo : Datum) (answer : Option (List Datum)) (told next d' : Datum) (x : Makes m t env k memo answer (Emit told next)) → ((memo ≡ Empty) × (answer ≡ None)) ⊎ Begun env k memo answer → Begun env k next (Some (d' ∷ []))
-  told_on env k memo answer told next d' x mind =
-      let c = came env k memo answer (Emit told next) mind x in
-      record { operation = x.operation; stands = x.stands; first = c.first; has = c.has; input = d' ∷ []; answered = refl; comes = Told told next d' c.comes x.acts }
+  told_on : (env : Environment) (k : ℕ) (memo : Datum) (answer : Option (List Datum)) (reported next d' : Datum) (x : Makes m t env k memo answer (Emit reported next)) → ((memo ≡ Empty) × (answer ≡ None)) ⊎ Begun env k memo answer → Begun env k next (Some (d' ∷ []))
+  told_on env k memo answer reported next d' x mind =
+      let c = came env k memo answer (Emit reported next) mind x in
+      record { operation = x.operation; liveness = x.liveness; first = c.first; has = c.has; input = d' ∷ []; answered = refl; comes = AnsweredByWorld reported next d' c.comes x.acts }
 
   -- binding other values changes nothing
   same_both : (env env1 : Environment) (vs : List ℕ) (ds : List Datum) → bind env vs ds ≡ Some env1 → (In p vs → ⊥) → (In v vs → ⊥) → env p ≡ env v → env1 p ≡ env1 v
@@ -297,14 +297,14 @@ module _ (m : Meaning) (can_fold : Head → Bool) (SameTests : Head → Head →
       start_of = came env k memo answer (Goto n ds) mind x
 
       passed : map Some ds ≡ pick (m.forwarded (shape_of m t x.operation) n) start_of.first
-      passed = jump_passes k j within x.operation x.stands start_of.first (data_long env x.operation.operands start_of.first start_of.has) start_of.later memo x.input n ds start_of.comes x.acts
+      passed = jump_passes k j within x.operation x.liveness start_of.first (data_long env x.operation.operands start_of.first start_of.has) start_of.later memo x.input n ds start_of.comes x.acts
 
       datum : (y : Datum) × (slice_get ds i ≡ Some y)
       datum = bind_has_datum (arguments_of t b) ds env env1 be i p h.there
 
       passes : (u : ℕ) → IsForwardedAt m t k n i (Some u) → env1 p ≡ env u
       passes u y =
-          let q = leading.place m t w b i v h k n u y x.operation x.stands in
+          let q = leading.place m t w b i v h k n u y x.operation x.liveness in
           bind_at (arguments_of t b) ds env env1 be i p datum.0 h.there once datum.1 ∙ sym datum.1 ∙ passed_datum ds (m.forwarded (shape_of m t x.operation) n) start_of.first i q.0 q.1 passed ∙ data_at env x.operation.operands start_of.first start_of.has q.0 u q.2
 
   -- a block that is entered by a jump
@@ -359,29 +359,29 @@ module _ (m : Meaning) (can_fold : Head → Bool) (SameTests : Head → Head →
     waits_deep = λ env g k rest memo q. (there.waits_deep env g k rest memo q.0, inside_by g (placed_holder t w root env g k rest q.0) (inl refl));
     gives = λ env env1 g k rest memo answer ds so q x e.
         let y = there.gives env env1 g k rest memo answer ds tt (q.0, q.1) x e in
-        let be : bind env (results_of t k) ds ≡ Some env1 = ap (λ vs. bind env vs ds) (op_shows t k x.operation x.stands).results ∙ e in
+        let be : bind env (results_of t k) ds ≡ Some env1 = ap (λ vs. bind env vs ds) (op_shows t k x.operation x.liveness).results ∙ e in
         (tt, (y.1.0, y.1.1, next_claim env env1 g k rest ds be q.0 q.2, at_rest env1 rest), λ o j r z dj wt. (y.2 o j r z dj.0 wt.0, kept_place env env1 (results_of t k) ds be o j r (λ hj i'. not_result k i') (λ hj i'. deep_result j k dj.1 hj i') wt.1, wt.2));
     goes = λ env env1 g k rest memo answer n ds c blk so q x ce be e.
         let y = there.goes env env1 g k rest memo answer n ds c blk tt (q.0, q.1) x ce be e in
         let s = block_shows t c blk be in
         let bound : bind env (arguments_of t c) ds ≡ Some env1 = ap (λ vs. bind env vs ds) s.arguments ∙ e in
-        let edge : slice_get (successors_of t k) n ≡ Some c = ap (λ l. slice_get l n) (op_shows t k x.operation x.stands).successors ∙ ce in
+        let edge : slice_get (successors_of t k) n ≡ Some c = ap (λ l. slice_get l n) (op_shows t k x.operation x.liveness).successors ∙ ce in
         let target : In c (successors_of t k) = in_slice (successors_of t k) n c edge in
         (tt, (y.1.0, y.1.1, subst (OfHead env1) s.operations (gone_claim env env1 g k rest memo answer n c ds q.0 q.2 q.3 x edge bound), at_rest env1 blk.operations), λ o j r z dj wt. (y.2 o j r z dj.0 wt.0, kept_place env env1 (arguments_of t c) ds bound o j r (λ hj i'. deep_edge j k c dj.1 hj target i') (λ hj i'. deep_target env g k rest j c q.0 dj.1 hj target i') wt.1, wt.2));
     visits = λ env env1 g k rest memo answer n ds next r blk so q x re be e.
         let y = there.visits env env1 g k rest memo answer n ds next r blk tt (q.0, q.1) x re be e in
         let a0 = entry_shows t r blk be in
-        let s = block_shows t a0.key blk a0.stands in
+        let s = block_shows t a0.key blk a0.liveness in
         let bound : bind env (arguments_of t a0.key) ds ≡ Some env1 = ap (λ vs. bind env vs ds) s.arguments ∙ e in
-        let held_r : region_parent_of t r ≡ Some k = ap op_of_slot (w.joined.regions k n r (ap (λ l. slice_get l n) (op_shows t k x.operation x.stands).regions ∙ re)) in
-        (tt, (y.1.0, y.1.1, subst (OfHead env1) s.operations (entered_claim env1 r blk a0), at_rest env1 blk.operations), (y.2, kept_place env env1 (arguments_of t a0.key) ds bound g k rest (λ hj i'. no_entry_p r blk a0 i') (λ hj i'. deep_entry k k r blk a0 held_r (inl refl) hj i') q.2, λ k' others ek j. visits_nothing k (subst (λ z. In b (successors_of t z)) (sym (head_is k k' rest others ek)) j) (at_within t w root env g k rest q.0) x.operation x.stands n r re), λ o j rs z dj wt. (y.3 o j rs z dj.0 wt.0, kept_place env env1 (arguments_of t a0.key) ds bound o j rs (λ hj i'. no_entry_p r blk a0 i') (λ hj i'. deep_entry j k r blk a0 held_r (inr dj.1) hj i') wt.1, wt.2));
-    tells = λ env g k rest memo answer told next d' so q x. (
+        let held_r : region_parent_of t r ≡ Some k = ap op_of_slot (w.joined.regions k n r (ap (λ l. slice_get l n) (op_shows t k x.operation x.liveness).regions ∙ re)) in
+        (tt, (y.1.0, y.1.1, subst (OfHead env1) s.operations (entered_claim env1 r blk a0), at_rest env1 blk.operations), (y.2, kept_place env env1 (arguments_of t a0.key) ds bound g k rest (λ hj i'. no_entry_p r blk a0 i') (λ hj i'. deep_entry k k r blk a0 held_r (inl refl) hj i') q.2, λ k' others ek j. visits_nothing k (subst (λ z. In b (successors_of t z)) (sym (head_is k k' rest others ek)) j) (at_within t w root env g k rest q.0) x.operation x.liveness n r re), λ o j rs z dj wt. (y.3 o j rs z dj.0 wt.0, kept_place env env1 (arguments_of t a0.key) ds bound o j rs (λ hj i'. no_entry_p r blk a0 i') (λ hj i'. deep_entry j k r blk a0 held_r (inr dj.1) hj i') wt.1, wt.2));
+    accurate = λ env g k rest memo answer reported next d' so q x. (
       q.0,
       has_some g (d' ∷ []),
       q.2,
       λ k' others ek j.
           let s = head_is k k' rest others ek in
-          inr (subst (λ z. Begun env z next (Some (d' ∷ []))) s (told_on env k memo answer told next d' x (q.3 k rest refl (subst (λ z. In b (successors_of t z)) (sym s) j)))),
+          inr (subst (λ z. Begun env z next (Some (d' ∷ []))) s (told_on env k memo answer reported next d' x (q.3 k rest refl (subst (λ z. In b (successors_of t z)) (sym s) j)))),
     );
     resumes = λ env g rest memo ds q. (q.0, has_some g ds, q.1, λ k others e j. absurd (q.2 k others e j));
   }

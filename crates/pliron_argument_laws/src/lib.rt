@@ -18,7 +18,7 @@ use pliron_laws::Dialect;
 /// the argument itself (a trivial φ function: Braun and others, Simple and Efficient Construction of Static Single
 /// Assignment Form, section 2.2). That the value dominates the block needn't be asked: in a root that is fit to run
 /// it follows.
-pub fn one_value_stands_for_argument<D: Dialect>()
+pub fn one_value_replaces_argument<D: Dialect>()
     ensures { OneValueLaw D.meaning }
 {}
 

@@ -62,7 +62,7 @@ abbrev pub FitBelow : Tree → ℕ → ℕ → Type 0
 FitBelow t op n = (k : ℕ) → k < n → Fits t op k
 
 pub one_more_fits : (t : Tree) (op i : ℕ) (fits : Bool) → FitBelow t op i → TellsFit t op i fits → fits ≡ true → FitBelow t op (i + 1)
-one_more_fits t op i fits below tells is k lt = elim (cases_eq k i) [ inl e ↦ subst (Fits t op) (sym e) (λ h b head to. (tells h b head to).0 is) | inr ne ↦ below k (omega (arith, lt, ne)) ]
+one_more_fits t op i fits below accurate is k lt = elim (cases_eq k i) [ inl e ↦ subst (Fits t op) (sym e) (λ h b head to. (accurate h b head to).0 is) | inr ne ↦ below k (omega (arith, lt, ne)) ]
 
 pub all_fit : (t : Tree) (op n : ℕ) → length (successors_of t op) ≤ n → FitBelow t op n → EdgesFit t op
 all_fit t op n le below = λ h i b head kind to. below i (omega (arith, le, slice_get_within (successors_of t op) i b to)) h b head to
@@ -73,10 +73,10 @@ some_head (Some h) is = (h, refl)
 
 -- an edge that does not fit is found
 pub unfit_found : (t : Tree) (op i : ℕ) (fits : Bool) → IsLive t op → ReadsHead (λ h. kind_of h.kind) t op (Some Cbr) → i < length (successors_of t op) → TellsFit t op i fits → fits ≡ false → EdgesFit t op → ⊥
-unfit_found t op i fits live kind lt tells is all =
+unfit_found t op i fits live kind lt accurate is all =
     let h = some_head (head_of t op) live in
     let to = slice_get-get_or (successors_of t op) i 0 lt in
-    true≢false (sym ((tells h.0 (get_or (successors_of t op) i 0) h.1 to).1 (all h.0 i (get_or (successors_of t op) i 0) h.1 (sym (kind h.0 h.1)) to)) ∙ is)
+    true≢false (sym ((accurate h.0 (get_or (successors_of t op) i 0) h.1 to).1 (all h.0 i (get_or (successors_of t op) i 0) h.1 (sym (kind h.0 h.1)) to)) ∙ is)
 
 -- ---- an edge without one of its operands
 

@@ -6,7 +6,7 @@ use Rattle.pliron_bench.specs.declared.kind.BenchKind.TheVariants.{Scope}
 use Rattle.pliron_laws.specs.declared.dialect.Interface.TheVariants.{RegionBranch}
 use Rattle.pliron_laws.specs.Datum.{Datum, Empty, Number, Text, Join, Shape, Move, Give, Visit, Emit}
 use Rattle.pliron_laws.specs.Acting.{Act, Comes}
-use Rattle.pliron_laws.specs.Acting.Comes.{Begins, Answered, Told}
+use Rattle.pliron_laws.specs.Acting.Comes.{Begins, Answered, AnsweredByWorld}
 use Rattle.pliron_laws.specs.Entries.{NamesOperands, RootsNameNone}
 use Rattle.pliron_bench.specs.Bench.{by_kind, kind_of}
 use Rattle.pliron_bench.specs.BenchMoves.{memo_when_done, once, fit_data, visit_once, act_of, no_act, passes_operands, bench}
@@ -55,7 +55,7 @@ not_done next e f = cc
 first_alone : (act : Act) (s : Shape) → ((memo : Datum) (input : List Datum) → act s memo input ≡ visit_once memo s.entry_arguments input (Give [])) → (first : List Datum) (later : Bool) (memo : Datum) (input : List Datum) → Comes act s first later memo input → memo ≡ Empty → input ≡ first
 first_alone act s acts first later memo input Begins e = refl
 first_alone act s acts first later memo input (Answered i ds next answer c move) e = absurd (not_done next (at_first _ _ i ds next (sym (acts _ _) ∙ move)).2 e)
-first_alone act s acts first later memo input (Told effect next answer c move) e = absurd (no_effect _ _ effect next (sym (acts _ _) ∙ move))
+first_alone act s acts first later memo input (AnsweredByWorld effect next answer c move) e = absurd (no_effect _ _ effect next (sym (acts _ _) ∙ move))
 
 fitted_at : (n : ℕ) (ds : List Datum) (j : ℕ) (d : Datum) → j < length ds → slice_get (fit_data n ds) j ≡ Some d → slice_get ds j ≡ Some d
 fitted_at zero ds j d lt e = grind arith

@@ -87,8 +87,8 @@ taken_rows t op None = refl
 taken_rows t op (Some b) = refl
 
 -- what is erased has no entry
-gone : (t : Tree) (op : ℕ) → op < length t.operations → row_of (after_erasing t op) op ≡ no_entry
-gone t op lt = blanked_gone (λ k. is_met_above (taken_out t op) (nat_eq op) (Some k)) no_entry (taken_out t op).operations op (met_itself (taken_out t op) op (subst (λ z. op < length z) (sym (taken_rows t op (parent_of t op))) lt))
+deleted : (t : Tree) (op : ℕ) → op < length t.operations → row_of (after_erasing t op) op ≡ no_entry
+deleted t op lt = blanked_gone (λ k. is_met_above (taken_out t op) (nat_eq op) (Some k)) no_entry (taken_out t op).operations op (met_itself (taken_out t op) op (subst (λ z. op < length z) (sym (taken_rows t op (parent_of t op))) lt))
 
 longer : {A : Type 0} (xs : List A) (y : A) (k : ℕ) → k < length xs → k < length (xs ++ y ∷ [])
 longer xs y k lt = omega (arith, length-append xs (y ∷ []), lt)
@@ -96,7 +96,7 @@ longer xs y k lt = omega (arith, length-append xs (y ∷ []), lt)
 -- the branch that was replaced is erased
 replaced_gone : (t : Tree) (op : ℕ) (head : Head) (operands successors : List ℕ) → op < length t.operations → row_of (branch_replaced t op head operands successors) op ≡ no_entry
 replaced_gone t op head operands successors lt =
-    gone (put_next_to (with_edges (after_creating t head 0 0) (next_op t) operands successors) (next_op t) op (parent_of t op)) op
+    deleted (put_next_to (with_edges (after_creating t head 0 0) (next_op t) operands successors) (next_op t) op (parent_of t op)) op
     (subst (λ z. op < length z) (sym (put_rows (with_edges (after_creating t head 0 0) (next_op t) operands successors) (next_op t) op (parent_of t op))) (longer t.operations _ op lt))
 
 head_with : (t : Tree) (k : ℕ) (o : Operation) (h : Option Head) → op_with t k h ≡ Some o → h ≡ Some o.head
@@ -107,8 +107,8 @@ head_at : (t : Tree) (k : ℕ) (o : Operation) → op_at t k ≡ Some o → head
 unfolding op_at
 head_at t k o e = head_with t k o (head_of t k) e
 
-stands : (t : Tree) (k : ℕ) (h : Head) → head_of t k ≡ Some h → k < length t.operations
-stands t k h e = past_live t k (subst IsSome (sym e) refl)
+liveness : (t : Tree) (k : ℕ) (h : Head) → head_of t k ≡ Some h → k < length t.operations
+liveness t k h e = past_live t k (subst IsSome (sym e) refl)
 
 differs : (t t' : Tree) (op : ℕ) (h : Head) → head_of t op ≡ Some h → row_of t' op ≡ no_entry → IsSameTree t t' → ⊥
 differs t t' op h e f s = let none : None ≡ Some h = ap (λ z. z.head) (sym f ∙ s.operations op) ∙ e in grind arith
@@ -117,7 +117,7 @@ jump_within : (t t' : Tree) (op : ℕ) (known : List (Option AttrObj)) (o : Oper
 jump_within t t' op known o s c at e f h k j =
     let new = replaces (shape_of bench t o) o.successors known c j.block (ap (λ z. kind_of z.head.kind) e ∙ f) (subst (λ z. Admits (kind_of z.head.kind) z) (sym e) h) k j.target in (
       subst (FoldsBranch bench op known t) (sym j.tree) (Replaced o (plain_head Br) j.values (j.block ∷ []) (bench.forwarded (shape_of bench t o) (edge_of c)) (edge_of c ∷ []) at j.forwarded new),
-      differs t t' op o.head (head_at t op o at) (ap (λ z. row_of z op) j.tree ∙ replaced_gone t op (plain_head Br) j.values (j.block ∷ []) (stands t op o.head (head_at t op o at))),
+      differs t t' op o.head (head_at t op o at) (ap (λ z. row_of z op) j.tree ∙ replaced_gone t op (plain_head Br) j.values (j.block ∷ []) (liveness t op o.head (head_at t op o at))),
     )
 
 kept_within : (t t' : Tree) (op : ℕ) (known : List (Option AttrObj)) (status : IRStatus) → t' ≡ t → status ≡ Unchanged → FoldsBranch bench op known t t' × ReportsChange (Some status) t t'

@@ -6,7 +6,7 @@ use Rattle.std.specs.Prelude.{pos, negsuc}
 use Rattle.pliron_bench.specs.declared.kind.BenchKind.{BenchKind}
 use Rattle.pliron_laws.specs.Datum.{Datum, Empty, Head, Shape, Move, Give, Visit, Goto, Leave, Emit, Trap}
 use Rattle.pliron_laws.specs.Acting.{Act, Comes}
-use Rattle.pliron_laws.specs.Acting.Comes.{Begins, Answered, Told}
+use Rattle.pliron_laws.specs.Acting.Comes.{Begins, Answered, AnsweredByWorld}
 use Rattle.pliron_bench.specs.Bench.{by_kind, result_count, successor_count, region_count, takes_operands, takes_attributes, has_count, is_ssa, same_bool, takes, first_edge_count}
 
 pub both_parts : (x y : Bool) → IsTrue (x && y) → IsTrue x × IsTrue y
@@ -74,7 +74,7 @@ pub record IsFirst (first : List Datum) (later : Bool) (memo : Datum) (input : L
 pub comes_first : (act : Act) (s : Shape) (first : List Datum) (later : Bool) (memo : Datum) (input : List Datum) → ((memo : Datum) (input : List Datum) → IsQuiet (act s memo input)) → Comes act s first later memo input → IsFirst first later memo input
 comes_first act s first _ _ _ quiet Begins = record { once = refl; no_memo = refl; same_input = refl }
 comes_first act s first _ _ _ quiet (Answered {memo = memo} {input = input} i ds next answer c e) = absurd (subst IsQuiet e (quiet memo input))
-comes_first act s first _ _ _ quiet (Told {memo = memo} {input = input} effect next answer c e) = absurd (subst IsQuiet e (quiet memo input))
+comes_first act s first _ _ _ quiet (AnsweredByWorld {memo = memo} {input = input} effect next answer c e) = absurd (subst IsQuiet e (quiet memo input))
 
 both_true : (x y : Bool) → IsTrue x → IsTrue y → IsTrue (x && y)
 both_true true y h k = k

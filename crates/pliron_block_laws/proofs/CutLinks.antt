@@ -12,7 +12,7 @@ use Rattle.pliron_core.proofs.WriteInsideLemmas.{same_block, same_operation}
 use Rattle.pliron_laws.specs.Datum.{Meaning}
 use Rattle.pliron_laws.specs.Linked.{EndsBlock, IsAdmitted}
 use Rattle.pliron_theory.proofs.SweptStays.{admitted_same}
-use Rattle.pliron_block_laws.specs.Cutting.{stands_in_one, cut_op, cut_block, AreCut}
+use Rattle.pliron_block_laws.specs.Cutting.{is_in_one_of, cut_op, cut_block, AreCut}
 use Rattle.pliron_block_laws.specs.Links.{CutLinksLaw}
 use Rattle.pliron_block_laws.specs.Inside.{CutInsideLaw}
 use Rattle.pliron_block_laws.proofs.CutBlocks.{one_stands, block_cases}
@@ -21,10 +21,10 @@ use Rattle.pliron_block_laws.proofs.StandingLemmas.{live_by, block_was, none_out
 module _ (t v : Tree) (region : ℕ) (bs : List ℕ) (w : IsTree t) (wv : IsTree v) (c : AreCut t v region bs) where
   -- what stands is not cut
   op_left : (k : ℕ) → IsLive v k → cut_op t bs k ≡ false
-  op_left k live = false_from_ne_true _ (λ e. true≢false (sym live ∙ ap is_some (c.gone k e)))
+  op_left k live = false_from_ne_true _ (λ e. true≢false (sym live ∙ ap is_some (c.deleted k e)))
 
   block_left : (b : ℕ) → IsBlock v b → cut_block t bs b ≡ false
-  block_left b is = false_from_ne_true _ (λ e. true≢false (sym is ∙ ap is_some (c.gone_blocks b e)))
+  block_left b is = false_from_ne_true _ (λ e. true≢false (sym is ∙ ap is_some (c.detached_blocks b e)))
 
   regions_left : (k : ℕ) → IsLive v k → regions_of v k ≡ regions_of t k
   regions_left k live = ap (λ z. z.regions) (c.rows k (op_left k live))
@@ -38,19 +38,19 @@ module _ (t v : Tree) (region : ℕ) (bs : List ℕ) (w : IsTree t) (wv : IsTree
   holder_was : (x y : ℕ) → parent_operation_of v x ≡ Some y → parent_operation_of t x ≡ Some y
   holder_was x y e =
       let s = holder_steps v x y e in
-      let live = (wv.joined.standing x s.0 s.1).0 in
+      let live = (wv.joined.all_in_place x s.0 s.1).0 in
       holder_by t x s.0 y (sym (c.parents x (op_left x live)) ∙ s.1) (blocks_were s.0 y s.2)
 
   ends : (k s : ℕ) → In s (successors_of v k) → EndsBlock t k → EndsBlock v k
   ends k s i was =
       let left = op_left k (live_by v wv k s i) in
       let at : parent_of v k ≡ Some was.block = c.parents k left ∙ was.in_block in
-      let stands = (wv.joined.standing k was.block at).1 in
+      let liveness = (wv.joined.all_in_place k was.block at).1 in
       record {
         block = was.block;
         in_block = at;
-        last = ap (last_of None) (c.bodies was.block (block_left was.block stands)) ∙ was.last;
-        own_region = λ x j. c.block_parents x (block_left x (wv.joined.successors k x j)) ∙ was.own_region x (subst (In x) (c.successors k left) j) ∙ sym (c.block_parents was.block (block_left was.block stands));
+        last = ap (last_of None) (c.bodies was.block (block_left was.block liveness)) ∙ was.last;
+        own_region = λ x j. c.block_parents x (block_left x (wv.joined.successors k x j)) ∙ was.own_region x (subst (In x) (c.successors k left) j) ∙ sym (c.block_parents was.block (block_left was.block liveness));
       }
 
   admits : (m : Meaning) (k : ℕ) → IsAdmitted m t k → IsAdmitted m v k
@@ -63,7 +63,7 @@ module _ (t v : Tree) (region : ℕ) (bs : List ℕ) (w : IsTree t) (wv : IsTree
   module _ (holder : ℕ) (held : region_parent_of t region ≡ Some holder) (own : (b : ℕ) → In b bs → block_parent_of t b ≡ Some region) where
     cut_within : (x : ℕ) → cut_op t bs x ≡ true → IsInside t holder x
     cut_within x e =
-        let y = met_within t (stands_in_one t bs) (length t.operations) x e in
+        let y = met_within t (is_in_one_of t bs) (length t.operations) x e in
         let b = one_stands t bs y.0 y.1 in
         within_inside (Directly (holder_by t y.0 b.0 holder b.2 (block_holder_from t b.0 region (own b.0 b.1) ∙ held))) y.2
 
@@ -81,7 +81,7 @@ module _ (t v : Tree) (region : ℕ) (bs : List ℕ) (w : IsTree t) (wv : IsTree
         let s = slot_is t r o.0 in
         let up = region_parent_is t r s.0 s.1 in
         let out = region_holder_outside t holder w.joined r s.0.op s.0.index o up s.2 in
-        c.layouts r (λ e. o.1 (holder, ap (region_parent_of t) e ∙ held, inl refl)) (ap (is_met_above t (stands_in_one t bs)) up ∙ out_left s.0.op out)
+        c.layouts r (λ e. o.1 (holder, ap (region_parent_of t) e ∙ held, inl refl)) (ap (is_met_above t (is_in_one_of t bs)) up ∙ out_left s.0.op out)
 
     kept : AreKeptOutside t v holder
     kept = record {

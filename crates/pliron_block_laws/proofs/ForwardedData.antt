@@ -205,7 +205,7 @@ module _ (m : Meaning) (t : Tree) (w : IsTree t) (a b jump : ℕ) (front : List 
   moves_on : (env : Environment) (k : ℕ) (memo : Datum) (answer : Option (List Datum)) (move : Move) → k ≡ jump → (memo ≡ Empty) × (answer ≡ None) → (x : Makes m t env k memo answer move) → (values : List Datum) × (move ≡ Goto 0 values) × (data_of env x.operation.operands ≡ Some x.input) × (m.act (shape_of m t x.operation) Empty x.input ≡ Goto 0 values)
   moves_on env k memo answer move s u x =
       let reads : data_of env x.operation.operands ≡ Some x.input = ap (input_of env x.operation.operands) (sym u.1) ∙ x.reads in
-      let n = now x.operation (ap (op_at t) (sym s) ∙ x.stands) x.input (data_long env x.operation.operands x.input reads) in
+      let n = now x.operation (ap (op_at t) (sym s) ∙ x.liveness) x.input (data_long env x.operation.operands x.input reads) in
       (n.0, sym x.acts ∙ ap (λ z. m.act (shape_of m t x.operation) z x.input) u.0 ∙ n.1, reads, n.1)
 
   -- binding other values changes nothing
@@ -272,7 +272,7 @@ module _ (m : Meaning) (t : Tree) (w : IsTree t) (a b jump : ℕ) (front : List 
           let kj : k ≡ jump = h.only k (subst (λ z. In z (successors_of t k)) s ce) in
           let mo = moves_on env k memo answer (Goto n ds) kj (unmoved rest (ap (λ z. z ∷ rest) kj)) x in
           let ix = go_index n 0 ds mo.0 mo.1 in
-          let passes : slice_get ds i ≡ env v = ap (λ z. slice_get z i) ix.1 ∙ hands x.operation env x.input mo.0 (ap (op_at t) (sym kj) ∙ x.stands) mo.2 mo.3 in
+          let passes : slice_get ds i ≡ env v = ap (λ z. slice_get z i) ix.1 ∙ hands x.operation env x.input mo.0 (ap (op_at t) (sym kj) ∙ x.liveness) mo.2 mo.3 in
           let bb : bind env (arguments_of t b) ds ≡ Some env1 = ap (λ z. bind env (arguments_of t z) ds) (sym s) ∙ be in
           let stays : env1 v ≡ env v = bind_other (arguments_of t b) ds env env1 bb v out in
           let datum = bind_has_datum (arguments_of t b) ds env env1 bb i p at in
@@ -318,29 +318,29 @@ module _ (m : Meaning) (t : Tree) (w : IsTree t) (a b jump : ℕ) (front : List 
     waits_deep = λ env g k rest memo q. (there.waits_deep env g k rest memo q.0, inside_by g (placed_holder t w root env g k rest q.0) (inl refl));
     gives = λ env env1 g k rest memo answer ds so q x e.
         let y = there.gives env env1 g k rest memo answer ds tt (q.0, q.1) x e in
-        let be : bind env (results_of t k) ds ≡ Some env1 = ap (λ vs. bind env vs ds) (op_shows t k x.operation x.stands).results ∙ e in
+        let be : bind env (results_of t k) ds ≡ Some env1 = ap (λ vs. bind env vs ds) (op_shows t k x.operation x.liveness).results ∙ e in
         (tt, (y.1.0, y.1.1, next_claim env env1 g k rest ds be q.0 q.2, at_rest rest), λ o j r z dj wt. (y.2 o j r z dj.0 wt.0, kept_place env env1 (results_of t k) ds be o j r (λ hj i'. not_result k i') (λ hj i'. deep_result j k dj.1 hj i') wt.1, wt.2));
     goes = λ env env1 g k rest memo answer n ds c blk so q x ce be e.
         let y = there.goes env env1 g k rest memo answer n ds c blk tt (q.0, q.1) x ce be e in
         let s = block_shows t c blk be in
         let bound : bind env (arguments_of t c) ds ≡ Some env1 = ap (λ vs. bind env vs ds) s.arguments ∙ e in
-        let edge : In c (successors_of t k) = subst (In c) (sym (op_shows t k x.operation x.stands).successors) (in_slice x.operation.successors n c ce) in
+        let edge : In c (successors_of t k) = subst (In c) (sym (op_shows t k x.operation x.liveness).successors) (in_slice x.operation.successors n c ce) in
         (tt, (y.1.0, y.1.1, subst (OfHead env1) s.operations (gone_claim env env1 g k rest memo answer n c ds q.0 q.2 q.3 x edge bound), at_rest blk.operations), λ o j r z dj wt. (y.2 o j r z dj.0 wt.0, kept_place env env1 (arguments_of t c) ds bound o j r (λ hj i'. deep_edge j k c dj.1 hj edge i') (λ hj i'. deep_target env g k rest j c q.0 dj.1 hj edge i') wt.1, wt.2));
     visits = λ env env1 g k rest memo answer n ds next r blk so q x re be e.
         let y = there.visits env env1 g k rest memo answer n ds next r blk tt (q.0, q.1) x re be e in
         let a0 = entry_shows t r blk be in
-        let s = block_shows t a0.key blk a0.stands in
+        let s = block_shows t a0.key blk a0.liveness in
         let bound : bind env (arguments_of t a0.key) ds ≡ Some env1 = ap (λ vs. bind env vs ds) s.arguments ∙ e in
-        let held_r : region_parent_of t r ≡ Some k = ap op_of_slot (w.joined.regions k n r (ap (λ l. slice_get l n) (op_shows t k x.operation x.stands).regions ∙ re)) in
+        let held_r : region_parent_of t r ≡ Some k = ap op_of_slot (w.joined.regions k n r (ap (λ l. slice_get l n) (op_shows t k x.operation x.liveness).regions ∙ re)) in
         (tt, (y.1.0, y.1.1, subst (OfHead env1) s.operations (entered_claim env1 r blk a0), at_rest blk.operations), (y.2, kept_place env env1 (arguments_of t a0.key) ds bound g k rest (λ hj i'. no_entry_p r blk a0 i') (λ hj i'. deep_entry k k r blk a0 held_r (inl refl) hj i') q.2, λ others ej. not_jump env k memo answer (Visit n ds next) rest q.3 x (λ values ev. absurd (visit_goes ev)) (head_is k jump rest others ej)), λ o j rs z dj wt. (y.3 o j rs z dj.0 wt.0, kept_place env env1 (arguments_of t a0.key) ds bound o j rs (λ hj i'. no_entry_p r blk a0 i') (λ hj i'. deep_entry j k r blk a0 held_r (inr dj.1) hj i') wt.1, wt.2));
-    tells = λ env g k rest memo answer told next d' so q x. (q.0, has_some g (d' ∷ []), q.2, λ others ej. absurd (not_jump env k memo answer (Emit told next) rest q.3 x (λ values ev. absurd (emit_goes ev)) (head_is k jump rest others ej)));
+    accurate = λ env g k rest memo answer reported next d' so q x. (q.0, has_some g (d' ∷ []), q.2, λ others ej. absurd (not_jump env k memo answer (Emit reported next) rest q.3 x (λ values ev. absurd (emit_goes ev)) (head_is k jump rest others ej)));
     resumes = λ env g rest memo ds q. (q.0, has_some g ds, q.1, λ others ej. absurd (q.2 others ej));
   }
     where
       visit_goes : {n : ℕ} {ds values : List Datum} {next : Datum} → Visit n ds next ≡ Goto 0 values → ⊥
       visit_goes e = cc
 
-      emit_goes : {told next : Datum} {values : List Datum} → Emit told next ≡ Goto 0 values → ⊥
+      emit_goes : {reported next : Datum} {values : List Datum} → Emit reported next ≡ Goto 0 values → ⊥
       emit_goes e = cc
 
       -- what is defined inside an operation of the blocks' region is neither value

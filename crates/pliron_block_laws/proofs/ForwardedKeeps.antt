@@ -34,7 +34,7 @@ module _ (m : Meaning) (can_fold : Head → Bool) (SameTests : Head → Head →
   place o e = picked_at (m.forwarded (shape_of m t o) 0) o.operands i (Some v) (ap (λ z. slice_get z i) (sym (forwarded o e)) ∙ mapped values values i v there)
 
   live : (x : Head) × (head_of t jump ≡ Some x)
-  live = some_of (head_of t jump) (w.joined.standing jump a (jump_in t w a b jump front h)).0
+  live = some_of (head_of t jump) (w.joined.all_in_place jump a (jump_in t w a b jump front h)).0
 
   used : In v (operands_of t jump)
   used =

@@ -23,7 +23,7 @@ module _ (t : Tree) (w : IsTree t) (a b jump : ℕ) (front : List ℕ) (h : Lead
   jump_in = w.bodies.owned jump a (subst (In jump) (sym h.split) (In-right jump front (jump ∷ []) (inl refl)))
 
   pub held : (r k : ℕ) × (block_parent_of t a ≡ Some r) × IsRegion t r × (region_parent_of t r ≡ Some k) × (block_parent_operation_of t a ≡ Some k) × IsLive t k
-  held = block_held t a w.joined (w.joined.standing jump a jump_in).1
+  held = block_held t a w.joined (w.joined.all_in_place jump a jump_in).1
 
   -- the region of the two blocks, and what holds it
   abbrev pub region : ℕ

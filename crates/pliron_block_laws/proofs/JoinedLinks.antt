@@ -22,10 +22,10 @@ use Rattle.pliron_block_laws.proofs.StandingLemmas.{live_by, block_was, none_out
 
 module _ (t v : Tree) (a b jump : ℕ) (front : List ℕ) (w : IsTree t) (wv : IsTree v) (h : IsSpliced t v a b jump front) where
   op_left : (k : ℕ) → IsLive v k → k ≢ jump
-  op_left k live e = let x = some_of (head_of v k) live in not_none (sym h.gone ∙ ap (head_of v) (sym e) ∙ x.1)
+  op_left k live e = let x = some_of (head_of v k) live in not_none (sym h.deleted ∙ ap (head_of v) (sym e) ∙ x.1)
 
   block_left : (c : ℕ) → IsBlock v c → c ≢ b
-  block_left c is e = let x = some_of (block_parent_of v c) is in not_none (sym h.gone_block ∙ ap (block_parent_of v) (sym e) ∙ x.1)
+  block_left c is e = let x = some_of (block_parent_of v c) is in not_none (sym h.detached_block ∙ ap (block_parent_of v) (sym e) ∙ x.1)
 
   regions_left : (k : ℕ) → IsLive v k → regions_of v k ≡ regions_of t k
   regions_left k live = ap (λ z. z.regions) (h.rows k (op_left k live))
@@ -53,7 +53,7 @@ module _ (t v : Tree) (a b jump : ℕ) (front : List ℕ) (w : IsTree t) (wv : I
   holder_was : (x y : ℕ) → parent_operation_of v x ≡ Some y → parent_operation_of t x ≡ Some y
   holder_was x y e =
       let s = holder_steps v x y e in
-      let ne = op_left x (wv.joined.standing x s.0 s.1).0 in
+      let ne = op_left x (wv.joined.all_in_place x s.0 s.1).0 in
       ⊎_elim
       (λ p. holder_by t x s.0 y p (blocks_were s.0 y s.2))
       (λ p. holder_by t x b y p.0 (beside ∙ ap (block_parent_operation_of t) (sym p.1) ∙ blocks_were s.0 y s.2))

@@ -30,7 +30,7 @@ use Rattle.pliron_theory.proofs.SplicedStays.{spliced_keeps}
 use Rattle.pliron_block_laws.specs.Forwarding.{LeadsAlone}
 use Rattle.pliron_block_laws.specs.Pairs.{IsMergeable, all_moved_last, after_joining}
 use Rattle.pliron_block_laws.proofs.PairEdges.{leads_alone}
-use Rattle.pliron_block_laws.specs.Cutting.{is_listed, stands_in_one, cut_op, cut_block, ErasesAll.Done, ErasesAll.Then, AreCut}
+use Rattle.pliron_block_laws.specs.Cutting.{is_listed, is_in_one_of, cut_op, cut_block, ErasesAll.Done, ErasesAll.Then, AreCut}
 use Rattle.pliron_block_laws.proofs.CutBlocks.{nothing_met, listed, is_listed_in, one_stands, cut_all}
 use Rattle.pliron_laws.proofs.RisingLemmas.{rising_same}
 use Rattle.pliron_block_laws.proofs.ListLemmas.{swept_end}
@@ -64,7 +64,7 @@ module _ (m : Meaning) (can_fold : Head → Bool) (SameTests : Head → Head →
   in_a = w.bodies.owned jump a (last_of-In jump (body_of t a) h.ends)
 
   live : IsLive t jump
-  live = (w.joined.standing jump a in_a).0
+  live = (w.joined.all_in_place jump a in_a).0
 
   apart : a ≢ b
   apart e = h.apart (sym e)
@@ -130,7 +130,7 @@ module _ (m : Meaning) (can_fold : Head → Bool) (SameTests : Head → Head →
   moving = all_moved t1 a b apart leads.0 (block_in t1 w1 a home.0 home1_a) (block_in t1 w1 b home.0 home1) t1 [] (body_of t b)
       (record { shape = refl; long = refl; parents_long = refl; at_a = body1_a ∙ sym (append-nil leads.0); at_b = body1 b (λ e. apart (sym e)); others = λ c na nb. refl; moved = λ k i. absurd i; stays = λ k f. refl })
       (w.bodies.distinct b)
-      (λ k i. (in_b1 k i, (let x = live-within t1 k (w1.joined.standing k b (in_b1 k i)).0 in let y = w1.keys.parents in omega (arith, x, y)), λ z. z))
+      (λ k i. (in_b1 k i, (let x = live-within t1 k (w1.joined.all_in_place k b (in_b1 k i)).0 in let y = w1.keys.parents in omega (arith, x, y)), λ z. z))
 
   home2 : block_parent_of t2 b ≡ Some home.0
   home2 = ap (λ (z : Tree). block_parent_of z b) moving.shape ∙ home1
@@ -144,7 +144,7 @@ module _ (m : Meaning) (can_fold : Head → Bool) (SameTests : Head → Head →
   -- nothing stands in b any more
   kept : (k : ℕ) → cut_op t2 (b ∷ []) k ≡ false
   kept k = false_from_ne_true _ (λ e.
-      let y = met_within t2 (stands_in_one t2 (b ∷ [])) (length t2.operations) k e in
+      let y = met_within t2 (is_in_one_of t2 (b ∷ [])) (length t2.operations) k e in
       let c = one_stands t2 (b ∷ []) y.0 y.1 in
       let same : c.0 ≡ b = ⊎_elim (λ s. s) (λ z. absurd z) c.1 in
       subst (In y.0) moving.at_b (w2.bodies.listed y.0 b (c.2 ∙ ap Some same)))
@@ -152,16 +152,16 @@ module _ (m : Meaning) (can_fold : Head → Bool) (SameTests : Head → Head →
   block_kept : (c : ℕ) → c ≢ b → cut_block t2 (b ∷ []) c ≡ false
   block_kept c ne = false_from_ne_true _ (λ e. go (is_listed (b ∷ []) c) refl (block_parent_operation_of t2 c) e)
     where
-      go : (z : Bool) → is_listed (b ∷ []) c ≡ z → (o : Option ℕ) → (if z then true else is_met_above t2 (stands_in_one t2 (b ∷ [])) o) ≡ true → ⊥
+      go : (z : Bool) → is_listed (b ∷ []) c ≡ z → (o : Option ℕ) → (if z then true else is_met_above t2 (is_in_one_of t2 (b ∷ [])) o) ≡ true → ⊥
       go true l o f = ⊎_elim (λ s. ne s) (λ z. z) (is_listed_in (b ∷ []) c l)
-      go false l None f = true≢false (sym f ∙ nothing_met t2 (stands_in_one t2 (b ∷ [])))
+      go false l None f = true≢false (sym f ∙ nothing_met t2 (is_in_one_of t2 (b ∷ [])))
       go false l (Some q) f = true≢false (sym f ∙ kept q)
 
   block_parents : (c : ℕ) → c ≢ b → block_parent_of t3 c ≡ block_parent_of t c
   block_parents c ne = cut.block_parents c (block_kept c ne) ∙ ap (λ (z : Tree). block_parent_of z c) moving.shape ∙ sw.block_parents c (block_alive c)
 
-  gone_block : block_parent_of t3 b ≡ None
-  gone_block = cut.gone_blocks b (ap (λ z. if z then true else is_met_above t2 (stands_in_one t2 (b ∷ [])) (block_parent_operation_of t2 b)) (listed (b ∷ []) b (inl refl)))
+  detached_block : block_parent_of t3 b ≡ None
+  detached_block = cut.detached_blocks b (ap (λ z. if z then true else is_met_above t2 (is_in_one_of t2 (b ∷ [])) (block_parent_operation_of t2 b)) (listed (b ∷ []) b (inl refl)))
 
   layouts : (r : ℕ) → layout_of t3 r ≡ without b (layout_of t r)
   layouts r = rising_same (layout_of t3 r) (without b (layout_of t r)) (w3.joined.ordered r) (without_rising b (layout_of t r) (w.joined.ordered r)) forth back
@@ -169,7 +169,7 @@ module _ (m : Meaning) (can_fold : Head → Bool) (SameTests : Head → Head →
       forth : (c : ℕ) → In c (layout_of t3 r) → In c (without b (layout_of t r))
       forth c i =
           let e = w3.layouts.owned c r i in
-          let ne : c ≢ b = λ s. not_none (sym gone_block ∙ ap (block_parent_of t3) (sym s) ∙ e) in
+          let ne : c ≢ b = λ s. not_none (sym detached_block ∙ ap (block_parent_of t3) (sym s) ∙ e) in
           In-without_other c b (layout_of t r) (w.layouts.listed c r (sym (block_parents c ne) ∙ e)) ne
 
       back : (c : ℕ) → In c (without b (layout_of t r)) → In c (layout_of t3 r)
@@ -201,8 +201,8 @@ module _ (m : Meaning) (can_fold : Head → Bool) (SameTests : Head → Head →
     moved = λ k e. cut.parents k (kept k) ∙ moving.moved k (w.bodies.listed k b e);
     parents = λ k ne nb. cut.parents k (kept k) ∙ moving.stays k (λ i. nb (w.bodies.owned k b i)) ∙ sw.parents k (alive k ne);
     layouts = layouts;
-    gone = ap (λ z. z.head) (cut.rows jump (kept jump)) ∙ ap (λ (z : Tree). head_of z jump) moving.shape ∙ (erased_gone t jump w live contained).operations jump jump_dead;
-    gone_block = gone_block;
+    deleted = ap (λ z. z.head) (cut.rows jump (kept jump)) ∙ ap (λ (z : Tree). head_of z jump) moving.shape ∙ (erased_gone t jump w live contained).operations jump jump_dead;
+    detached_block = detached_block;
   }
 
   same_length : length t3.operations ≡ length t.operations

@@ -90,7 +90,7 @@ module _ (t t' : Tree) (holder a b jump : ℕ) (front : List ℕ) (w : IsTree t)
 
   -- the block that went leads nowhere
   gone_leads : (v : ℕ) → In v (succs_of t' b) → ⊥
-  gone_leads v i = subst (λ l. In v (succs_from t' (last_of None l))) (w'.joined.unplaced b h.gone_block).1 i
+  gone_leads v i = subst (λ l. In v (succs_from t' (last_of None l))) (w'.joined.unplaced b h.detached_block).1 i
 
   forth : (u v : ℕ) (before : List ℕ) → u ≢ b → v ≢ b → Path t u v before → LeadsTo t' u v
   forth u v [] nu nv p = ([], p)

@@ -4,7 +4,7 @@ use Rattle.std.proofs.lemmas.Bool.{false_from_ne_true}
 use Rattle.pliron_core.specs.Tree.{Tree, In, first_of, IsInside.Directly, IsWithin, HoldsBlock, row_of, successors_of, regions_of, parent_of, body_of, arguments_of, block_parent_of, layout_of, region_parent_of, block_parent_operation_of, parent_operation_of, up_from, op_of_slot}
 use Rattle.pliron_core.specs.Invariant.{IsTree}
 use Rattle.pliron_core.specs.Edges.{succs_from}
-use Rattle.pliron_core.specs.Erased.{is_met_above, stands_in, uses_dropped}
+use Rattle.pliron_core.specs.Erased.{is_met_above, is_in_operation, uses_dropped}
 use Rattle.pliron_core.proofs.TreeLemmas.{live-within}
 use Rattle.pliron_core.proofs.DropLemmas.{IsNamesOnly, names_none, names_trans, names_of_dropped, NamesSame, dropped_kept}
 use Rattle.pliron_core.proofs.NeighbourLemmas.{first_of-In}
@@ -16,8 +16,8 @@ use Rattle.pliron_theory.specs.Keeps.{with_roots}
 use Rattle.pliron_theory.specs.Sweeping.{swept, IsSwept}
 use Rattle.pliron_theory.proofs.SweptLists.{swept_all, in_swept, from_swept}
 use Rattle.pliron_theory.proofs.SweptKeeps.{swept_keeps}
-use Rattle.pliron_block_laws.specs.Cutting.{is_listed, stands_in_one, cut_op, cut_block, ErasesAll, AreCut}
-use Rattle.pliron_block_laws.specs.Leaving.{DropsAll, DropsAll.Done, DropsAll.Then, BlocksMayGo, GoesWell, LeavingLaw}
+use Rattle.pliron_block_laws.specs.Cutting.{is_listed, is_in_one_of, cut_op, cut_block, ErasesAll, AreCut}
+use Rattle.pliron_block_laws.specs.Leaving.{DropsAll, DropsAll.Done, DropsAll.Then, BlocksMayGo, ErasesWell, LeavingLaw}
 use Rattle.pliron_laws.proofs.RisingLemmas.{rising_same}
 use Rattle.pliron_block_laws.proofs.ListLemmas.{rising_swept}
 use Rattle.pliron_block_laws.proofs.CutBlocks.{or_true, block_cases, listed, stands_one, one_stands, cut_all}
@@ -25,13 +25,13 @@ use Rattle.pliron_block_laws.proofs.CutBlocks.{or_true, block_cases, listed, sta
 -- dropping changes names alone, and none of what is left
 drops_names : (rest : List ℕ) (t u : Tree) → DropsAll rest t u → IsNamesOnly t u
 drops_names [] t u Done = names_none t
-drops_names (b ∷ rest) t u (Then _ _ more) = names_trans t (uses_dropped t b) u (names_of_dropped t (stands_in t b)) (drops_names rest (uses_dropped t b) u more)
+drops_names (b ∷ rest) t u (Then _ _ more) = names_trans t (uses_dropped t b) u (names_of_dropped t (is_in_operation t b)) (drops_names rest (uses_dropped t b) u more)
 
-drops_kept : (t : Tree) (k : ℕ) (rest : List ℕ) (z u : Tree) → IsNamesOnly t z → DropsAll rest z u → ((b : ℕ) → In b rest → is_met_above t (stands_in t b) (Some k) ≡ false) → NamesSame z u k
+drops_kept : (t : Tree) (k : ℕ) (rest : List ℕ) (z u : Tree) → IsNamesOnly t z → DropsAll rest z u → ((b : ℕ) → In b rest → is_met_above t (is_in_operation t b) (Some k) ≡ false) → NamesSame z u k
 drops_kept t k [] z u n Done f = (refl, refl)
 drops_kept t k (b ∷ rest) z u n (Then _ _ more) f =
-    let here = dropped_kept z (stands_in z b) k (ap (λ (y : Tree). is_met_above y (stands_in y b) (Some k)) n.shape ∙ f b (inl refl)) in
-    let next = drops_kept t k rest (uses_dropped z b) u (names_trans t z (uses_dropped z b) n (names_of_dropped z (stands_in z b))) more (λ c i. f c (inr i)) in
+    let here = dropped_kept z (is_in_operation z b) k (ap (λ (y : Tree). is_met_above y (is_in_operation y b) (Some k)) n.shape ∙ f b (inl refl)) in
+    let next = drops_kept t k rest (uses_dropped z b) u (names_trans t z (uses_dropped z b) n (names_of_dropped z (is_in_operation z b))) more (λ c i. f c (inr i)) in
     (next.0 ∙ here.0, next.1 ∙ here.1)
 
 module _ (m : Meaning) (t u v : Tree) (holder region : ℕ) (bs : List ℕ) (w : IsTree t) (wu : IsTree u) (wv : IsTree v) (edges : EdgesLast t holder) (held : region_parent_of t region ≡ Some holder) (may : BlocksMayGo t region bs) (drops : DropsAll bs t u) (erases : ErasesAll bs u v) where
@@ -46,7 +46,7 @@ module _ (m : Meaning) (t u v : Tree) (holder region : ℕ) (bs : List ℕ) (w :
 
   -- what stands in a listed block is dead
   within_dead : (b x k : ℕ) → In b bs → parent_of t x ≡ Some b → IsWithin t x k → dead k ≡ true
-  within_dead b x k i e j = within_met t (stands_in_one t bs) w.joined x k (live-within t x (w.joined.standing x b e).0) (stands_one t bs b x i e) j
+  within_dead b x k i e j = within_met t (is_in_one_of t bs) w.joined x k (live-within t x (w.joined.all_in_place x b e).0) (stands_one t bs b x i e) j
 
   direct : (b k : ℕ) → In b bs → parent_of t k ≡ Some b → dead k ≡ true
   direct b k i e = within_dead b k k i e (inl refl)
@@ -66,8 +66,8 @@ module _ (m : Meaning) (t u v : Tree) (holder region : ℕ) (bs : List ℕ) (w :
   pub cut : AreCut t v region bs
   cut = record {
     count = cut_u.count ∙ ap (λ (z : Tree). length z.operations) names.shape;
-    gone = λ k e. cut_u.gone k (same_op k ∙ e);
-    gone_blocks = λ c e. cut_u.gone_blocks c (same_block c ∙ e);
+    deleted = λ k e. cut_u.deleted k (same_op k ∙ e);
+    detached_blocks = λ c e. cut_u.detached_blocks c (same_block c ∙ e);
     rows = λ k e. cut_u.rows k (same_op k ∙ e) ∙ ap (λ (z : Tree). row_of z k) names.shape;
     operands = λ k e. cut_u.operands k (same_op k ∙ e) ∙ (kept_names k e).0;
     successors = λ k e. cut_u.successors k (same_op k ∙ e) ∙ (kept_names k e).1;
@@ -75,19 +75,19 @@ module _ (m : Meaning) (t u v : Tree) (holder region : ℕ) (bs : List ℕ) (w :
     bodies = λ c e. cut_u.bodies c (same_block c ∙ e) ∙ ap (λ (z : Tree). body_of z c) names.shape;
     arguments = λ c e. cut_u.arguments c (same_block c ∙ e) ∙ ap (λ (z : Tree). arguments_of z c) names.shape;
     block_parents = λ c e. cut_u.block_parents c (same_block c ∙ e) ∙ ap (λ (z : Tree). block_parent_of z c) names.shape;
-    layouts = λ r ne e. cut_u.layouts r ne (ap (λ (z : Tree). is_met_above z (stands_in_one z bs) (region_parent_of z r)) names.shape ∙ e) ∙ ap (λ (z : Tree). layout_of z r) names.shape;
+    layouts = λ r ne e. cut_u.layouts r ne (ap (λ (z : Tree). is_met_above z (is_in_one_of z bs) (region_parent_of z r)) names.shape ∙ e) ∙ ap (λ (z : Tree). layout_of z r) names.shape;
   }
 
   listed_dead : (c : ℕ) → In c bs → dead_block c ≡ true
-  listed_dead c i = ap (λ z. if z then true else is_met_above t (stands_in_one t bs) (block_parent_operation_of t c)) (listed bs c i)
+  listed_dead c i = ap (λ z. if z then true else is_met_above t (is_in_one_of t bs) (block_parent_operation_of t c)) (listed bs c i)
 
   held_dead : (c q : ℕ) → block_parent_operation_of t c ≡ Some q → dead q ≡ true → dead_block c ≡ true
-  held_dead c q e d = ap (λ o. if is_listed bs c then true else is_met_above t (stands_in_one t bs) o) e ∙ ap (λ z. if is_listed bs c then true else z) d ∙ or_true (is_listed bs c)
+  held_dead c q e d = ap (λ o. if is_listed bs c then true else is_met_above t (is_in_one_of t bs) o) e ∙ ap (λ z. if is_listed bs c then true else z) d ∙ or_true (is_listed bs c)
 
   -- what a dead operation stands in
   dead_in : (k : ℕ) → dead k ≡ true → (x b : ℕ) × In b bs × (parent_of t x ≡ Some b) × IsWithin t x k
   dead_in k e =
-      let y = met_within t (stands_in_one t bs) (length t.operations) k e in
+      let y = met_within t (is_in_one_of t bs) (length t.operations) k e in
       let b = one_stands t bs y.0 y.1 in
       (y.0, b.0, b.1, b.2, y.2)
 
@@ -100,7 +100,7 @@ module _ (m : Meaning) (t u v : Tree) (holder region : ℕ) (bs : List ℕ) (w :
       y.4
 
   below_dead : (k q : ℕ) → parent_operation_of t k ≡ Some q → dead q ≡ true → dead k ≡ true
-  below_dead k q e d = met_below t (stands_in_one t bs) w.joined k q e d
+  below_dead k q e d = met_below t (is_in_one_of t bs) w.joined k q e d
 
   held_by : (k r : ℕ) → In r (regions_of t k) → region_parent_of t r ≡ Some k
   held_by k r i = let x = slice_in (regions_of t k) r i in ap op_of_slot (w.joined.regions k x.0 r x.1)
@@ -139,7 +139,7 @@ module _ (m : Meaning) (t u v : Tree) (holder region : ℕ) (bs : List ℕ) (w :
   layout_left r = rising_same (layout_of v r) (swept dead_block (layout_of t r)) (wv.joined.ordered r) (rising_swept dead_block (layout_of t r) (w.joined.ordered r)) forth back
     where
       left : (c : ℕ) → block_parent_of v c ≡ Some r → dead_block c ≡ false
-      left c e = false_from_ne_true _ (λ d. not_none (sym (cut.gone_blocks c d) ∙ e))
+      left c e = false_from_ne_true _ (λ d. not_none (sym (cut.detached_blocks c d) ∙ e))
 
       forth : (c : ℕ) → In c (layout_of v r) → In c (swept dead_block (layout_of t r))
       forth c i =
@@ -168,10 +168,10 @@ module _ (m : Meaning) (t u v : Tree) (holder region : ℕ) (bs : List ℕ) (w :
     targets = target_left;
   }
 
-  pub goes_well : GoesWell m t v region bs
+  pub goes_well : ErasesWell m t v region bs
   goes_well = record {
     cut = cut;
-    runs = λ chosen. swept_keeps (with_roots m chosen) t v dead dead_block w wv is_swept (record { operations = cut.gone; blocks = cut.gone_blocks }) (let n = cut.count in omega (arith, n)) (λ root f k b inside d e l. absurd (true≢false (sym (parent_dead k b e d) ∙ l)));
+    runs = λ chosen. swept_keeps (with_roots m chosen) t v dead dead_block w wv is_swept (record { operations = cut.deleted; blocks = cut.detached_blocks }) (let n = cut.count in omega (arith, n)) (λ root f k b inside d e l. absurd (true≢false (sym (parent_dead k b e d) ∙ l)));
   }
 
 pub leaving : LeavingLaw

@@ -17,7 +17,7 @@ use Rattle.pliron_theory.proofs.SweptKeeps.{admitted_shape}
 use Rattle.pliron_theory.proofs.SweptStays.{admitted_same}
 use Rattle.pliron_theory.proofs.RemovedKeeps.{shape_admitted}
 use Rattle.pliron_theory.proofs.EdgesLost.{framed}
-use Rattle.pliron_theory.proofs.ShortenedBranches.{lost, SameFrame, same_frame, Steps, Stays, Goes, steps, frame_step, untouched, user_live, AreListed, loses_one, branch_less, shape_less, stands_less}
+use Rattle.pliron_theory.proofs.ShortenedBranches.{lost, SameFrame, same_frame, Steps, Stays, Continues, steps, frame_step, untouched, user_live, AreListed, loses_one, branch_less, shape_less, stands_less}
 use Rattle.pliron_block_laws.specs.Links.{KeepsLinks, LosingLinks}
 use Rattle.pliron_block_laws.proofs.StandingLemmas.{links_in_place}
 
@@ -31,13 +31,13 @@ module _ (m : Meaning) (can_fold : Head → Bool) (SameTests : Head → Head →
 
   own : (e : Use) (x x' : Tree) → IsLive t e.user → Frame x → slice_get (successors_of t e.user) e.place ≡ Some block → Steps m can_fold SameTests shortened law tests t w block index e x x' → IsFine x e.user → IsFine x' e.user
   own e x x' l f here (Stays none same) a = subst (λ z. IsFine z e.user) (sym same) a
-  own e x x' l f here (Goes o p oe at lt same) a = subst (λ z. IsFine z e.user) (sym same) (admitted, λ i h q. subst (λ z. IsTrue (m.is_branch z)) (some_is (sym (op_shows gone e.user now stands).head ∙ q)) still)
+  own e x x' l f here (Continues o p oe at lt same) a = subst (λ z. IsFine z e.user) (sym same) (admitted, λ i h q. subst (λ z. IsTrue (m.is_branch z)) (some_is (sym (op_shows deleted e.user now liveness).head ∙ q)) still)
     where
-      gone : Tree
-      gone = lost x e.user p (shortened (shape_of m x o) e.place index)
+      deleted : Tree
+      deleted = lost x e.user p (shortened (shape_of m x o) e.place index)
 
       now : Operation
-      now = operation_of gone e.user (shortened (shape_of m x o) e.place index)
+      now = operation_of deleted e.user (shortened (shape_of m x o) e.place index)
 
       ad : Admitted m (shape_of m x o)
       ad = admitted_shape m x e.user o oe a.0
@@ -45,11 +45,11 @@ module _ (m : Meaning) (can_fold : Head → Bool) (SameTests : Head → Head →
       branch : IsTrue (m.is_branch o.head)
       branch = a.1 (in_slice (successors_of t e.user) e.place block here) o.head (op_shows x e.user o oe).head
 
-      stands : op_at gone e.user ≡ Some now
-      stands = stands_less m can_fold SameTests shortened law tests t w block index e x l f here o p oe ad branch at lt
+      liveness : op_at deleted e.user ≡ Some now
+      liveness = stands_less m can_fold SameTests shortened law tests t w block index e x l f here o p oe ad branch at lt
 
-      admitted : IsAdmitted m gone e.user
-      admitted = shape_admitted m gone e.user now stands (subst (Admitted m) (sym (shape_less m can_fold SameTests shortened law tests t w block index e x l f here o p oe ad branch at lt)) (loses_one m can_fold SameTests shortened law tests t w block index e x l f here o p oe ad branch at lt).admitted)
+      admitted : IsAdmitted m deleted e.user
+      admitted = shape_admitted m deleted e.user now liveness (subst (Admitted m) (sym (shape_less m can_fold SameTests shortened law tests t w block index e x l f here o p oe ad branch at lt)) (loses_one m can_fold SameTests shortened law tests t w block index e x l f here o p oe ad branch at lt).admitted)
 
       still : IsTrue (m.is_branch (shortened (shape_of m x o) e.place index))
       still = branch_less m can_fold SameTests shortened law tests t w block index e x l f here o p oe ad branch at lt

@@ -1,7 +1,7 @@
 -- Merging makes no new pair.
 use Rattle.std.proofs.Common.{◌≡◌, ◌≢◌, ◌⊎◌, inl, inr, ⊎_elim, ℕ, zero, suc, List, [], ◌∷◌, length, map, Option, Some, None, slice_get, refl, sym, ap, ◌∙◌, subst, arith, if◌then◌else◌}
 use Rattle.std.proofs.lemmas.Bool.{cases_eq}
-use Rattle.std.proofs.lemmas.Bool.Decides.{eqb_tells}
+use Rattle.std.proofs.lemmas.Bool.Decides.{eqb_decides}
 use Rattle.pliron_core.specs.declared.context.Def.TheVariants.{Argument}
 use Rattle.pliron_core.specs.Uses.{replace_target}
 use Rattle.pliron_core.specs.Tree.{Tree, In, first_of, last_of, IsBlock, head_of, operands_of, successors_of, parent_of, body_of, arguments_of, block_parent_of, block_parent_operation_of, layout_of}
@@ -32,7 +32,7 @@ use Rattle.pliron_block_laws.proofs.PairEdges.{only}
 module _ (m : Meaning) (t t' : Tree) (a b jump c d j : ℕ) (front values : List ℕ) (w : IsTree t) (w' : IsTree t') (h : IsSpliced t t' a b jump front) (ne : c ≢ a) (besides : block_parent_of t' d ≡ block_parent_of t' c) (q : IsMergeable m t' c d j values) where
   not_b : c ≢ b
   not_b e =
-      let none : body_of t' c ≡ [] = ap (body_of t') e ∙ (w'.joined.unplaced b h.gone_block).1 in
+      let none : body_of t' c ≡ [] = ap (body_of t') e ∙ (w'.joined.unplaced b h.detached_block).1 in
       not_none (sym (ap (last_of None) none) ∙ q.ends)
 
   body : body_of t' c ≡ body_of t c
@@ -43,9 +43,9 @@ module _ (m : Meaning) (t t' : Tree) (a b jump c d j : ℕ) (front values : List
 
   not_jump : j ≢ jump
   not_jump e =
-      let live = (w'.joined.standing j c j_in).0 in
+      let live = (w'.joined.all_in_place j c j_in).0 in
       let x = some_of (head_of t' j) live in
-      not_none (sym h.gone ∙ ap (head_of t') (sym e) ∙ x.1)
+      not_none (sym h.deleted ∙ ap (head_of t') (sym e) ∙ x.1)
 
   ends : last_of None (body_of t c) ≡ Some j
   ends = ap (last_of None) (sym body) ∙ q.ends
@@ -106,7 +106,7 @@ module _ (m : Meaning) (t t' : Tree) (a b jump c d j : ℕ) (front values : List
   single = one_all (preds_of t d) c (preds-distinct t w d) c_before (λ x i. ⊎_elim (λ k. in_one (preds_of t' d) x c q.single k c_now) (λ k. absurd (ne (in_one (preds_of t' d) c a q.single c_now k))) (pred_now x i))
 
   live_j : (x : _) × (head_of t j ≡ Some x)
-  live_j = some_of (head_of t j) (w.joined.standing j c (w.bodies.owned j c (last_of-In j (body_of t c) ends))).0
+  live_j = some_of (head_of t j) (w.joined.all_in_place j c (w.bodies.owned j c (last_of-In j (body_of t c) ends))).0
 
   forwarded : AreForwarded m t j 0 values
   forwarded o e =
@@ -149,7 +149,7 @@ module _ (m : Meaning) (t : Tree) (holder a b jump i p v c d j : ℕ) (values ot
       other (cc)
 
   shown : (x : _) × (head_of t j ≡ Some x)
-  shown = some_of (head_of t j) (w.joined.standing j c j_there).0
+  shown = some_of (head_of t j) (w.joined.all_in_place j c j_there).0
 
   abbrev old : Operation
   old = operation_of t j shown.0
@@ -158,7 +158,7 @@ module _ (m : Meaning) (t : Tree) (holder a b jump i p v c d j : ℕ) (values ot
   old_at = make_op t j shown.0 shown.1
 
   target_other : (x : ℕ) → (x ≡ p → ⊥) → replace_target p v x ≡ x
-  target_other x nt = ⊎_elim (λ y. absurd (nt y.1)) (λ n. ap (λ z. if z then v else x) n.0) (eqb_tells x p)
+  target_other x nt = ⊎_elim (λ y. absurd (nt y.1)) (λ n. ap (λ z. if z then v else x) n.0) (eqb_decides x p)
 
   -- what was forwarded before
   unpicked : (places operands vs : List ℕ) → map Some vs ≡ pick places (map (replace_target p v) operands) → (us : List ℕ) × (map Some us ≡ pick places operands) × (map (replace_target p v) us ≡ vs)

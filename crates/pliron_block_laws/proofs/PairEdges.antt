@@ -1,6 +1,6 @@
 -- What a mergeable pair says of the edges, and how replacing an argument keeps it.
 use Rattle.std.proofs.Common.{◌≡◌, ◌≢◌, ◌⊎◌, inl, inr, ⊎_elim, ℕ, zero, suc, Bool, List, [], ◌∷◌, map, Some, None, slice_get, refl, sym, ap, ◌∙◌, subst, arith, if◌then◌else◌}
-use Rattle.std.proofs.lemmas.Bool.Decides.{eqb_tells}
+use Rattle.std.proofs.lemmas.Bool.Decides.{eqb_decides}
 use Rattle.pliron_core.specs.Uses.{replace_target}
 use Rattle.pliron_core.specs.Tree.{Tree, In, last_of, HoldsBlock, IsInside, IsInside.Directly, IsBlock, head_of, operands_of, successors_of, parent_of, body_of, arguments_of, block_parent_of, block_parent_operation_of, region_parent_of, up_from}
 use Rattle.pliron_core.specs.Invariant.{IsTree}
@@ -79,13 +79,13 @@ module _ (m : Meaning) (t : Tree) (holder a b jump : ℕ) (values : List ℕ) (w
     apart_pv e = h.no_argument v v_in (subst (λ z. In z (arguments_of t b)) (sym e) p_in)
 
     target_of : (x : ℕ) → (x ≡ p → ⊥) → replace_target p v x ≡ x
-    target_of x ne = ⊎_elim (λ y. absurd (ne y.1)) (λ n. ap (λ z. if z then v else x) n.0) (eqb_tells x p)
+    target_of x ne = ⊎_elim (λ y. absurd (ne y.1)) (λ n. ap (λ z. if z then v else x) n.0) (eqb_decides x p)
 
     target_p : (x : ℕ) → x ≡ p → replace_target p v x ≡ v
-    target_p x e = ⊎_elim (λ y. ap (λ z. if z then v else x) y.0) (λ n. absurd (n.1 e)) (eqb_tells x p)
+    target_p x e = ⊎_elim (λ y. ap (λ z. if z then v else x) y.0) (λ n. absurd (n.1 e)) (eqb_decides x p)
 
-    told : (x : ℕ) → (x ≡ p) ⊎ (x ≡ p → ⊥)
-    told x = ⊎_elim (λ y. inl y.1) (λ n. inr n.1) (eqb_tells x p)
+    reported : (x : ℕ) → (x ≡ p) ⊎ (x ≡ p → ⊥)
+    reported x = ⊎_elim (λ y. inl y.1) (λ n. inr n.1) (eqb_decides x p)
 
     -- the forwarded values stay
     all_kept : (xs : List ℕ) → ((x : ℕ) → In x xs → x ≡ p → ⊥) → map (replace_target p v) xs ≡ xs
@@ -111,7 +111,7 @@ module _ (m : Meaning) (t : Tree) (holder a b jump : ℕ) (values : List ℕ) (w
 
     forwarded_still : AreForwarded m (after_replacing t p v) jump 0 values
     forwarded_still o e =
-        let live = some_of (head_of t jump) (w.joined.standing jump a in_a).0 in
+        let live = some_of (head_of t jump) (w.joined.all_in_place jump a in_a).0 in
         let old = operation_of t jump live.0 in
         let there_old = make_op t jump live.0 live.1 in
         let same : record old { operands = map (replace_target p v) (operands_of t jump) } ≡ o = some_is (sym (op_renamed t (after_replacing t p v) (replace_target p v) (replaced_renamed t p v) jump old there_old) ∙ e) in
@@ -134,8 +134,8 @@ module _ (m : Meaning) (t : Tree) (holder a b jump : ℕ) (values : List ℕ) (w
     replaces_one = record {
       runs = let x = leads_alone in forwarding m can_fold SameTests shortened law t a b jump i p v x.0 values w x.1 h.branch h.forwarded at there (h.no_argument v v_in);
       pair = still;
-      unused = λ k j. let x = old_use k p j in ⊎_elim (λ e. apart_pv (sym (target_p x.0 e) ∙ x.2)) (λ ne. ne (sym (target_of x.0 ne) ∙ x.2)) (told x.0);
-      no_new = λ k q qi j. let x = old_use k q j in ⊎_elim (λ e. absurd (h.no_argument v v_in (subst (λ z. In z (arguments_of t b)) (sym (sym (target_p x.0 e) ∙ x.2)) qi))) (λ ne. subst (λ z. In z (operands_of t k)) (sym (target_of x.0 ne) ∙ x.2) x.1) (told x.0);
+      unused = λ k j. let x = old_use k p j in ⊎_elim (λ e. apart_pv (sym (target_p x.0 e) ∙ x.2)) (λ ne. ne (sym (target_of x.0 ne) ∙ x.2)) (reported x.0);
+      no_new = λ k q qi j. let x = old_use k q j in ⊎_elim (λ e. absurd (h.no_argument v v_in (subst (λ z. In z (arguments_of t b)) (sym (sym (target_p x.0 e) ∙ x.2)) qi))) (λ ne. subst (λ z. In z (operands_of t k)) (sym (target_of x.0 ne) ∙ x.2) x.1) (reported x.0);
     }
 
 pub pair_leads : PairLeads

@@ -25,7 +25,7 @@ module _ (t v : Tree) (a op new : ℕ) (front : List ℕ) (w : IsTree t) (wv : I
   not_new x l e = let y = some_of (head_of t x) l in not_none (sym h.fresh ∙ ap (head_of t) (sym e) ∙ y.1)
 
   not_op : (x : ℕ) → IsLive v x → x ≢ op
-  not_op x l e = let y = some_of (head_of v x) l in not_none (sym h.gone ∙ ap (head_of v) (sym e) ∙ y.1)
+  not_op x l e = let y = some_of (head_of v x) l in not_none (sym h.deleted ∙ ap (head_of v) (sym e) ∙ y.1)
 
   regions_left : (k : ℕ) → IsLive v k → regions_of v k ≡ regions_of t k
   regions_left k l = elim (cases_eq k new) [
@@ -36,13 +36,13 @@ module _ (t v : Tree) (a op new : ℕ) (front : List ℕ) (w : IsTree t) (wv : I
   block_stays : (b k : ℕ) → IsBlock v b → block_parent_operation_of t b ≡ Some k → block_parent_operation_of v b ≡ Some k
   block_stays = block_still t v w wv regions_left (λ b is. h.block_parents b)
 
-  stands : (x b : ℕ) → parent_of t x ≡ Some b → IsBlock v b
-  stands x b e = subst IsSome (sym (h.block_parents b)) (w.joined.standing x b e).1
+  liveness : (x b : ℕ) → parent_of t x ≡ Some b → IsBlock v b
+  liveness x b e = subst IsSome (sym (h.block_parents b)) (w.joined.all_in_place x b e).1
 
   holder_stays : (x p : ℕ) → x ≢ op → x ≢ new → parent_operation_of t x ≡ Some p → parent_operation_of v x ≡ Some p
   holder_stays x p other old e =
       let s = holder_steps t x p e in
-      holder_by v x s.0 p (h.parents x other old ∙ s.1) (block_stays s.0 p (stands x s.0 s.1) s.2)
+      holder_by v x s.0 p (h.parents x other old ∙ s.1) (block_stays s.0 p (liveness x s.0 s.1) s.2)
 
   -- what stands after and holds something stood before
   pub inside_stays : (k x : ℕ) → IsLive v x → x ≢ new → IsInside t k x → IsInside v k x
@@ -63,7 +63,7 @@ module _ (t v : Tree) (a op new : ℕ) (front : List ℕ) (w : IsTree t) (wv : I
     out_a c o e = o.1 (holder, ap (block_parent_operation_of t) e ∙ held, inl refl)
 
     out_new : (x : ℕ) → IsOutside v holder x → x ≢ new
-    out_new x o e = o.1 (Directly (ap (parent_operation_of v) e ∙ holder_by v new a holder new_in_a (block_stays a holder (stands op a in_a) held)))
+    out_new x o e = o.1 (Directly (ap (parent_operation_of v) e ∙ holder_by v new a holder new_in_a (block_stays a holder (liveness op a in_a) held)))
 
     rows_kept : (x : ℕ) → IsOutside t holder x → row_of v x ≡ row_of t x
     rows_kept x o = h.rows x (out_op x o) (not_new x o.0)

@@ -43,7 +43,7 @@ module _ (m : Meaning) (t v : Tree) (a op new : ℕ) (front : List ℕ) (w : IsT
   holder_was : (x y : ℕ) → x ≢ new → parent_operation_of v x ≡ Some y → parent_operation_of t x ≡ Some y
   holder_was x y ne e =
       let s = holder_steps v x y e in
-      let l = (wv.joined.standing x s.0 s.1).0 in
+      let l = (wv.joined.all_in_place x s.0 s.1).0 in
       holder_by t x s.0 y (sym (h.parents x (not_op x l) ne) ∙ s.1) (blocks_were s.0 y s.2)
 
   inside_was : (root x : ℕ) → x ≢ new → IsInside v root x → IsInside t root x

@@ -7,7 +7,7 @@ use Rattle.pliron_core.specs.Invariant.{IsTree}
 use Rattle.pliron_core.specs.Writes.{after_replacing}
 use Rattle.pliron_core.specs.Erased.{after_erasing}
 use Rattle.pliron_laws.specs.Datum.{Meaning}
-use Rattle.pliron_theory.specs.Sweeping.{IsSwept, AreGone, AreAway}
+use Rattle.pliron_theory.specs.Sweeping.{IsSwept, AreNotLive, AreAway}
 use Rattle.pliron_theory.proofs.SweptLists.{last_swept}
 use Rattle.pliron_theory.proofs.SweptParts.{block_place_back, place_back, jumper_lives, lives, gone_away}
 use Rattle.pliron_theory.proofs.SweptStays.{admitted_same}
@@ -24,7 +24,7 @@ renamed_links m t v rename h =
 pub replaced_links : ReplacedLinksLaw
 replaced_links m t old new = renamed_links m t (after_replacing t old new) (replace_target old new) (replaced_renamed t old new)
 
-module _ (m : Meaning) (t v : Tree) (dead dead_block : ℕ → Bool) (w : IsTree t) (wv : IsTree v) (h : IsSwept t v dead dead_block) (g : AreGone v dead dead_block) where
+module _ (m : Meaning) (t v : Tree) (dead dead_block : ℕ → Bool) (w : IsTree t) (wv : IsTree v) (h : IsSwept t v dead dead_block) (g : AreNotLive v dead dead_block) where
   away : AreAway v dead dead_block
   away = gone_away v dead dead_block wv g
 

@@ -25,9 +25,9 @@ pub record BlocksMayGo (t : Tree) (region : ℕ) (bs : List ℕ) : Type 0 where
 
 -- where edges are last in the blocks of the region's parent operation, they are erased with their contents, and
 -- runs are kept
-pub record GoesWell (m : Meaning) (t v : Tree) (region : ℕ) (bs : List ℕ) : Type 0 where
+pub record ErasesWell (m : Meaning) (t v : Tree) (region : ℕ) (bs : List ℕ) : Type 0 where
   pub cut : AreCut t v region bs
   pub runs : KeepsAllRuns m t v
 
 abbrev pub LeavingLaw : Type 0
-LeavingLaw = (m : Meaning) (t u v : Tree) (holder region : ℕ) (bs : List ℕ) → IsTree t → IsTree u → IsTree v → EdgesLast t holder → region_parent_of t region ≡ Some holder → BlocksMayGo t region bs → DropsAll bs t u → ErasesAll bs u v → GoesWell m t v region bs
+LeavingLaw = (m : Meaning) (t u v : Tree) (holder region : ℕ) (bs : List ℕ) → IsTree t → IsTree u → IsTree v → EdgesLast t holder → region_parent_of t region ≡ Some holder → BlocksMayGo t region bs → DropsAll bs t u → ErasesAll bs u v → ErasesWell m t v region bs

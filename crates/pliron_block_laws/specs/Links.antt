@@ -9,7 +9,7 @@ use Rattle.pliron_laws.specs.Datum.{Head, Shape, Meaning}
 use Rattle.pliron_laws.specs.Answers.{HeadPasses}
 use Rattle.pliron_laws.specs.Linked.{IsAdmitted, IsWellLinked}
 use Rattle.pliron_theory.specs.Renaming.{IsRenamed}
-use Rattle.pliron_theory.specs.Sweeping.{IsSwept, AreGone}
+use Rattle.pliron_theory.specs.Sweeping.{IsSwept, AreNotLive}
 use Rattle.pliron_theory.specs.Rebranching.{IsRebranched}
 use Rattle.pliron_theory.specs.Splicing.{IsSpliced}
 use Rattle.pliron_theory.specs.Dropping.{EdgesLose}
@@ -28,7 +28,7 @@ ReplacedLinksLaw = (m : Meaning) (t : Tree) (old new : ℕ) → KeepsLinks m t (
 
 -- operations and blocks that nothing which is left names were erased
 abbrev pub SweptLinksLaw : Type 0
-SweptLinksLaw = (m : Meaning) (t t' : Tree) (dead dead_block : ℕ → Bool) → IsTree t → IsTree t' → IsSwept t t' dead dead_block → AreGone t' dead dead_block → KeepsLinks m t t'
+SweptLinksLaw = (m : Meaning) (t t' : Tree) (dead dead_block : ℕ → Bool) → IsTree t → IsTree t' → IsSwept t t' dead dead_block → AreNotLive t' dead dead_block → KeepsLinks m t t'
 
 abbrev pub ErasedLinksLaw : Type 0
 ErasedLinksLaw = (m : Meaning) (t : Tree) (op : ℕ) → IsTree t → IsTree (after_erasing t op) → IsLive t op → IsSelfContained t op → KeepsLinks m t (after_erasing t op)

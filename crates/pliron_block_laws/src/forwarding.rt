@@ -5,6 +5,6 @@ use pliron_laws::Dialect;
 
 /// The uses of an argument of a block may become uses of the value that the only edge to the block
 /// forwards to it.
-pub fn forwarded_values_stand_for_arguments<D: Dialect>()
+pub fn forwarded_values_replace_arguments<D: Dialect>()
     ensures { ForwardingLaw D.meaning }
 {}

@@ -4,7 +4,7 @@ ghost use Rattle.pliron_block_laws.specs.Leaving.{LeavingLaw};
 
 /// Blocks of one region that are erased one after the other are erased with their contents, and nothing else
 /// changed but the region's layout.
-pub fn blocks_are_gone()
+pub fn blocks_are_erased()
     ensures { CuttingLaw }
 {}
 

@@ -22,7 +22,7 @@ word_of name word schedule asked = record { runs = asked.runs; nested = asked.ne
 
 -- what a schedule that the word asks for makes of a module is what the word asks for
 pub optimises_module : {P D E B K T X : Type 0} (name : P → List ℕ) (reads : Reads) (prints : Prints) (m : Meaning) (ran : ScheduleOf P D E B K → ℕ → Tree → Tree → IRStatus → Type 0) (bytes : T → List ℕ) (status : T → IRStatus) (word text : List ℕ) (schedule : ScheduleOf P D E B K) → IsAsked name word schedule → (r : Result T X) → IfOk r (λ made. IsOptimised reads prints m (ran schedule) text (bytes made ++ status_line (status made))) → IfOk r (λ made. OptimisesModule name reads prints m ran word text (number_of_change (status made)) (bytes made))
-optimises_module name reads prints m ran bytes status word text schedule asked (Ok made) optimised = record { schedule = schedule; asked = asked; status = status made; told = refl; optimised = optimised }
+optimises_module name reads prints m ran bytes status word text schedule asked (Ok made) optimised = record { schedule = schedule; asked = asked; status = status made; reported = refl; optimised = optimised }
 optimises_module name reads prints m ran bytes status word text schedule asked (Err e) optimised = tt
 
 -- the same with the number that is told, of an answer with these bytes

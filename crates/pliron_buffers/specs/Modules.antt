@@ -34,5 +34,5 @@ pub record OptimisesModule {P D E B K : Type 0} (name : P → List ℕ) (reads :
   pub schedule : ScheduleOf P D E B K
   pub asked : IsAsked name word schedule
   pub status : IRStatus
-  pub told : changed ≡ number_of_change status
+  pub reported : changed ≡ number_of_change status
   pub optimised : IsOptimised reads prints m (ran schedule) text (answer ++ status_line status)

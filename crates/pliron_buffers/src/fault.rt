@@ -80,7 +80,7 @@ fn place_in(text: &[u8], start: usize, len: usize) -> Place
 }
 
 // Reports the place of what was found in the text, and puts what was expected there into the buffer.
-fn tell_fault(
+fn report_fault(
     found: Result<Option<Fault>, Failure>,
     text: &[u8],
     output: &mut [u8],
@@ -124,7 +124,7 @@ pub fn find_fault_into(
         (λ failure. (failure ≡ Failure.Memory) × (place.new ≡ nowhere)) output.old output.new needed.new result }
     ensures place { IsFaultPlace text.now place.new }
 {
-    tell_fault(fault_of(alloc, text), text, output, needed, place)
+    report_fault(fault_of(alloc, text), text, output, needed, place)
 }
 
 // The first place at which the text leaves MLIR's generic form, or asks for what a dialect doesn't admit, or is too
@@ -181,7 +181,7 @@ pub fn find_module_fault_into<D: Dialect>(
         (λ failure. (failure ≡ Failure.Memory) × (place.new ≡ nowhere)) output.old output.new needed.new result }
     ensures place { IsFaultPlace text.now place.new }
 {
-    tell_fault(
+    report_fault(
         fault_of_module::<D>(alloc, text),
         text,
         output,

@@ -41,7 +41,7 @@ use Rattle.pliron_canonicalize.specs.Folds.{Fold, OfArgument, OfResult, FoldInTu
 use Rattle.pliron_canonicalize.specs.Sites.{AreListed, IsAmong, IsLiveSite, IsSeenAt, index_of, site_of, values_at}
 use Rattle.pliron_canonicalize.specs.declared.sites.Site.{Site}
 use Rattle.pliron_canonicalize.specs.declared.sites.Site.TheVariants.{Arguments, Results}
-use Rattle.pliron_canonicalize.specs.Steps.{AreDone, AreDonePartly, FoldsArgument, FoldsResult, IsFolding, IsOnWay, IsSeenStill, IsUndone, TellsFolds}
+use Rattle.pliron_canonicalize.specs.Steps.{AreDone, AreDonePartly, FoldsArgument, FoldsResult, IsFolding, IsOnWay, IsSeenStill, IsUndone, CountsFolds}
 use Rattle.pliron_canonicalize.proofs.Counting.{used_told}
 use Rattle.pliron_canonicalize.proofs.Moving.{Moves, blocks_seen, count_lessened, edges_kept, empty, live, moves_to_constant, moves_to_used, same_results, seen_back, seen_forth}
 
@@ -50,8 +50,8 @@ seen_still t t' root s (Arguments block) x = (s.blocks block).1 x
 seen_still t t' root s (Results k) x = s.seen k x
 
 pub live_site : (t : Tree) (root : ℕ) → IsTree t → (site : Site) → IsSeenAt t root site → IsLiveSite t site
-live_site t root w (Arguments block) x = (w.joined.standing x.0 block x.2).1
-live_site t root w (Results k) x = (w.joined.standing k x.block x.in_block).0
+live_site t root w (Arguments block) x = (w.joined.all_in_place x.0 block x.2).1
+live_site t root w (Results k) x = (w.joined.all_in_place k x.block x.in_block).0
 
 pub values_still : (t t' : Tree) (root : ℕ) → IsTree t → IsSeenStill t t' root → (site : Site) → IsSeenAt t root site → values_at t' site ≡ values_at t site
 values_still t t' root w s (Arguments block) x = s.arguments block
@@ -97,21 +97,21 @@ module _ (x : Folding) (root : ℕ) where
   turn_more [] gs t u t' e more = subst (λ z. FoldInTurn x root gs z t') e more
   turn_more (f ∷ fs) gs t u t' turn more = (turn.0, turn.1, turn_more fs gs turn.0 u t' turn.2 more)
 
-  tells_unchanged : (t0 t : Tree) (s : IRStatus) → TellsFolds x t0 t root s → s ≡ Unchanged → t ≡ t0
-  tells_unchanged t0 t Unchanged told e = told
-  tells_unchanged t0 t Changed told e = absurd (cc e)
+  tells_unchanged : (t0 t : Tree) (s : IRStatus) → CountsFolds x t0 t root s → s ≡ Unchanged → t ≡ t0
+  tells_unchanged t0 t Unchanged reported e = reported
+  tells_unchanged t0 t Changed reported e = absurd (cc e)
 
-  tells_trans : (t0 t t' : Tree) (s a : IRStatus) → TellsFolds x t0 t root s → TellsFolds x t t' root a → TellsFolds x t0 t' root (changed_by_either s a)
+  tells_trans : (t0 t t' : Tree) (s a : IRStatus) → CountsFolds x t0 t root s → CountsFolds x t t' root a → CountsFolds x t0 t' root (changed_by_either s a)
   tells_trans t0 t t' Unchanged Unchanged p q = q ∙ p
-  tells_trans t0 t t' Unchanged Changed p q = subst (λ z. TellsFolds x z t' root Changed) p q
-  tells_trans t0 t t' Changed Unchanged p q = subst (λ z. TellsFolds x t0 z root Changed) (sym q) p
+  tells_trans t0 t t' Unchanged Changed p q = subst (λ z. CountsFolds x z t' root Changed) p q
+  tells_trans t0 t t' Changed Unchanged p q = subst (λ z. CountsFolds x t0 z root Changed) (sym q) p
   tells_trans t0 t t' Changed Changed p q = let a = p.0 in let b = q.0 in (omega (arith, a, b), p.1)
 
-  pub tells_fewer : (t0 t : Tree) (s : IRStatus) → TellsFolds x t0 t root s → foldable_count t ≤ foldable_count t0
+  pub tells_fewer : (t0 t : Tree) (s : IRStatus) → CountsFolds x t0 t root s → foldable_count t ≤ foldable_count t0
   tells_fewer t0 t Unchanged e = subst (λ z. foldable_count z ≤ foldable_count t0) (sym e) (omega arith)
   tells_fewer t0 t Changed e = let lt = e.0 in omega (arith, lt)
 
-  pub tells_same : (t0 t : Tree) (s : IRStatus) → TellsFolds x t0 t root s → (s ≡ Unchanged) ↔ (t ≡ t0)
+  pub tells_same : (t0 t : Tree) (s : IRStatus) → CountsFolds x t0 t root s → (s ≡ Unchanged) ↔ (t ≡ t0)
   tells_same t0 t Unchanged e = (λ q. e, λ q. refl)
   tells_same t0 t Changed e = (λ q. absurd (cc q), λ q. let lt = subst (λ z. foldable_count z < foldable_count t0) q e.0 in absurd (omega (arith, lt)))
 
@@ -128,7 +128,7 @@ module _ (x : Folding) (root : ℕ) where
     way_refl = record { change = whole_refl x.meaning t root lives linked; links = λ r l. l; edges = λ op a b. refl; stays = λ k l. l }
 
     pub done_start : (Done : Fold → Type 0) → ((f : Fold) (u : Tree) → Done f → FoldsTo x root f t u → ⊥) → AreDone x t t root Done Unchanged
-    done_start Done none = record { way = way_refl; folded = ([], refl); still = still_refl t root; tells = refl; none = λ e. none }
+    done_start Done none = record { way = way_refl; folded = ([], refl); still = still_refl t root; accurate = refl; none = λ e. none }
 
     pub done_undone : (t' : Tree) → IsTree t → IsTree t' → IsUndone t t' → AreDonePartly x t t' root
     done_undone t' w w' u = record {
@@ -146,15 +146,15 @@ module _ (x : Folding) (root : ℕ) where
     way = way_trans t0 t t' p.way q.way;
     folded = (p.folded.0 ++ q.folded.0, turn_more p.folded.0 q.folded.0 t0 t t' p.folded.1 q.folded.1);
     still = still_trans t0 t t' root p.way.stays p.still q.still;
-    tells = tells_trans t0 t t' s a p.tells q.tells;
+    accurate = tells_trans t0 t t' s a p.accurate q.accurate;
     none = λ e f u done fold. let n = neither s a e in ⊎_elim
         (λ d. p.none n.0 f u d fold)
-        (λ d. q.none n.1 f u d (subst (λ z. FoldsTo x root f z u) (sym (tells_unchanged t0 t s p.tells n.0)) fold))
+        (λ d. q.none n.1 f u d (subst (λ z. FoldsTo x root f z u) (sym (tells_unchanged t0 t s p.accurate n.0)) fold))
         done;
   }
 
   pub done_as : (t0 t : Tree) (Done Also : Fold → Type 0) (s : IRStatus) → ((f : Fold) (u : Tree) → Also f → FoldsTo x root f t0 u → Done f) → AreDone x t0 t root Done s → AreDone x t0 t root Also s
-  done_as t0 t Done Also s h p = record { way = p.way; folded = p.folded; still = p.still; tells = p.tells; none = λ e f u d fold. p.none e f u (h f u d fold) fold }
+  done_as t0 t Done Also s h p = record { way = p.way; folded = p.folded; still = p.still; accurate = p.accurate; none = λ e f u d fold. p.none e f u (h f u d fold) fold }
 
   -- one after the other, where nothing is said to be done
   pub done_nothing : (t0 t t' : Tree) (s a : IRStatus) → AreDone x t0 t root (λ f. ⊥) s → AreDone x t t' root (λ f. ⊥) a → AreDone x t0 t' root (λ f. ⊥) (changed_by_either s a)
@@ -181,16 +181,16 @@ module _ (x : Folding) (root : ℕ) where
   -- a sweep that changes nothing leaves nothing that folds
   none_left : (t t' : Tree) (sites : List Site) → AreListed t root sites → AreDone x t t' root (λ f. IsAmong sites (length sites) (site_of f)) Unchanged → HasFolds x t' root → ⊥
   none_left t t' sites l p folds =
-      let before : HasFolds x t root = subst (λ z. HasFolds x z root) p.tells folds in
+      let before : HasFolds x t root = subst (λ z. HasFolds x z root) p.accurate folds in
       none before.0 before.1 before.2
     where
       none : (f : Fold) (u : Tree) → FoldsTo x root f t u → ⊥
       none (OfResult k i answer) u fold = ⊎_elim (λ among. p.none refl (OfResult k i answer) u among fold) (λ e. fold.1.0.has.may.operands e) (l.operations k fold.0)
       none (OfArgument block i v) u fold = p.none refl (OfArgument block i v) u (l.blocks block fold.0) fold
 
-  pub reports : (t0 t : Tree) (s : IRStatus) → TellsFolds x t0 t root s → (HasFolds x t root → ⊥) → ReportsFolds x t0 root s
-  reports t0 t Changed told none = (λ e. told.1, λ folds. refl)
-  reports t0 t Unchanged told none = (λ e. absurd (cc e), λ folds. absurd (none (subst (λ z. HasFolds x z root) (sym told) folds)))
+  pub reports : (t0 t : Tree) (s : IRStatus) → CountsFolds x t0 t root s → (HasFolds x t root → ⊥) → ReportsFolds x t0 root s
+  reports t0 t Changed reported none = (λ e. reported.1, λ folds. refl)
+  reports t0 t Unchanged reported none = (λ e. absurd (cc e), λ folds. absurd (none (subst (λ z. HasFolds x z root) (sym reported) folds)))
 
 module _ (x : Folding) (root : ℕ) (t : Tree) (w : IsTree t) (lives : IsLive t root) (linked : IsWellLinked x.meaning t root) where
   -- the uses of a value went where it folds to
@@ -206,7 +206,7 @@ module _ (x : Folding) (root : ℕ) (t : Tree) (w : IsTree t) (lives : IsLive t 
       results = same_results t u old new m;
       arguments = m.arguments;
     };
-    tells = (count_lessened t u old new m low counted, (f, u, fold));
+    accurate = (count_lessened t u old new m low counted, (f, u, fold));
     none = λ e. absurd (cc e);
   }
 
@@ -300,7 +300,7 @@ abbrev pub one_if : Bool → ℕ
 one_if b = if b then 1 else 0
 
 abbrev pub folds_left : Tree → Bool → ℕ
-folds_left t going = foldable_count t + one_if going
+folds_left t folds_again = foldable_count t + one_if folds_again
 
 -- what the tables of a dialect keep
 pub lawful_folding : (m : Meaning) (side_effects : Head → Option Bool) (can_fold : Head → Bool) (constants : Constants) (accepts : AttrObj → Bool) (constant_head : AttrObj → Head) (operand_folds : OperandFolds) (SameTests : Head → Head → Type 0) (shortened : Shape → ℕ → ℕ → Head) → GivesAtOnce m side_effects → AnswersTrue m can_fold constants → AnswersOperands m operand_folds → MakesConstants m accepts constant_head → ForwardsOperands m can_fold SameTests shortened → AreLawful (folding m side_effects can_fold constants accepts constant_head operand_folds)
@@ -332,11 +332,11 @@ module _ (x : Folding) (root : ℕ) (sites : List Site) where
   pub folding_start : (t : Tree) → IsLive t root → IsWellLinked x.meaning t root → AreListed t root sites → IsFolding x t t root sites Unchanged true
   folding_start t lives linked listed = record { done = done_start x root t lives linked (λ f. ⊥) (λ f u never fold. never); listed = listed; over = λ e. absurd (cc e) }
 
-  pub folding_next : (t0 t t' : Tree) (s a : IRStatus) (going : Bool) → IsFolding x t0 t root sites s true → AreDone x t t' root (λ f. IsAmong sites (length sites) (site_of f)) a → (IsTrue going ↔ (a ≡ Changed)) → IsFolding x t0 t' root sites (changed_by_either s a) going
-  folding_next t0 t t' s a going h p told = record {
+  pub folding_next : (t0 t t' : Tree) (s a : IRStatus) (folds_again : Bool) → IsFolding x t0 t root sites s true → AreDone x t t' root (λ f. IsAmong sites (length sites) (site_of f)) a → (IsTrue folds_again ↔ (a ≡ Changed)) → IsFolding x t0 t' root sites (changed_by_either s a) folds_again
+  folding_next t0 t t' s a folds_again h p reported = record {
     done = done_as x root t0 t' (λ f. ⊥ ⊎ IsAmong sites (length sites) (site_of f)) (λ f. ⊥) (changed_by_either s a) (λ f u never fold. absurd never) (done_more x root t0 t t' (λ f. ⊥) (λ f. IsAmong sites (length sites) (site_of f)) s a h.done p);
     listed = same_listed t t' root sites p.still h.listed;
-    over = λ e. none_left x root t t' sites h.listed (subst (λ z. AreDone x t t' root (λ f. IsAmong sites (length sites) (site_of f)) z) (left a (λ c. true≢false (sym (told.1 c) ∙ e))) p);
+    over = λ e. none_left x root t t' sites h.listed (subst (λ z. AreDone x t t' root (λ f. IsAmong sites (length sites) (site_of f)) z) (left a (λ c. true≢false (sym (reported.1 c) ∙ e))) p);
   }
     where
       left : (a : IRStatus) → (a ≡ Changed → ⊥) → a ≡ Unchanged
@@ -345,20 +345,20 @@ module _ (x : Folding) (root : ℕ) (sites : List Site) where
 
   -- a sweep that folds, and what folds behind it
   pub done_behind : (t0 t t' : Tree) (s a : IRStatus) (changed : Bool) → (IsTrue changed ↔ (s ≡ Changed)) → changed ≡ true → AreDone x t0 t root (λ f. IsAmong sites (length sites) (site_of f)) s → AreDone x t t' root (λ f. ⊥) a → AreDone x t0 t' root (λ f. IsAmong sites (length sites) (site_of f)) Changed
-  done_behind t0 t t' s a changed told e p q =
-      let is : changed_by_either s a ≡ Changed = ap (λ z. changed_by_either z a) (told.0 e) in
+  done_behind t0 t t' s a changed reported e p q =
+      let is : changed_by_either s a ≡ Changed = ap (λ z. changed_by_either z a) (reported.0 e) in
       subst (λ z. AreDone x t0 t' root (λ f. IsAmong sites (length sites) (site_of f)) z) is
       (done_as x root t0 t' (λ f. IsAmong sites (length sites) (site_of f) ⊎ ⊥) (λ f. IsAmong sites (length sites) (site_of f)) (changed_by_either s a) (λ f u among fold. inl among) (done_more x root t0 t t' (λ f. IsAmong sites (length sites) (site_of f)) (λ f. ⊥) s a p q))
 
   -- a sweep that folds lessens the count, and the other one is the last
-  pub folding_smaller : (t t' : Tree) (a : IRStatus) (going : Bool) → AreDone x t t' root (λ f. IsAmong sites (length sites) (site_of f)) a → (IsTrue going ↔ (a ≡ Changed)) → folds_left t' going < folds_left t true
-  folding_smaller t t' Changed going p told =
-      let lt = p.tells.0 in
-      let g : one_if going ≡ 1 = ap one_if (told.1 refl) in
+  pub folding_smaller : (t t' : Tree) (a : IRStatus) (folds_again : Bool) → AreDone x t t' root (λ f. IsAmong sites (length sites) (site_of f)) a → (IsTrue folds_again ↔ (a ≡ Changed)) → folds_left t' folds_again < folds_left t true
+  folding_smaller t t' Changed folds_again p reported =
+      let lt = p.accurate.0 in
+      let g : one_if folds_again ≡ 1 = ap one_if (reported.1 refl) in
       omega (arith, lt, g)
-  folding_smaller t t' Unchanged going p told =
-      let same : foldable_count t' ≡ foldable_count t = ap foldable_count p.tells in
-      let g : one_if going ≡ 0 = last going (λ e. absurd (cc (told.0 e))) in
+  folding_smaller t t' Unchanged folds_again p reported =
+      let same : foldable_count t' ≡ foldable_count t = ap foldable_count p.accurate in
+      let g : one_if folds_again ≡ 0 = last folds_again (λ e. absurd (cc (reported.0 e))) in
       omega (arith, same, g)
     where
       last : (b : Bool) → (IsTrue b → ⊥) → one_if b ≡ 0

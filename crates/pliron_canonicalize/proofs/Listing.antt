@@ -78,7 +78,7 @@ module _ (t : Tree) (ops : List ℕ) where
       kept s a = among new a.0 s (adds.kept a.0 s a.2)
 
   pub seen_live : (root : ℕ) (ends : List ℕ) → IsTree t → IsOrder t root ops ends → (k : ℕ) → In k ops → IsLive t k
-  seen_live root ends w order k i = let s = (order.each k).0 i in (w.joined.standing k s.block s.in_block).0
+  seen_live root ends w order k i = let s = (order.each k).0 i in (w.joined.all_in_place k s.block s.in_block).0
 
   pub sites_listed : (root : ℕ) (ends : List ℕ) (sites : List Site) → IsTree t → IsOrder t root ops ends → AreSitesOf t ops (length ops) sites → AreListed t root sites
   sites_listed root ends sites w order are = record {

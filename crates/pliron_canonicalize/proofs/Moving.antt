@@ -23,7 +23,7 @@ use Rattle.pliron_theory.specs.Edges.{EdgesAlike, KeepsEdges, has_entries}
 use Rattle.pliron_theory.proofs.EdgeLemmas.{edges_alike}
 use Rattle.pliron_theory.proofs.PutEdges.{put_alike}
 use Rattle.pliron_equivalence.proofs.Replaced.{operands_replaced, target_cases, tree_kept}
-use Rattle.pliron_order.specs.Seen.{IsReachedIn, IsLookedIntoIf, IsVisited, Starts, Nested, IsSeen}
+use Rattle.pliron_order.specs.Seen.{IsReachedIn, IsVisitedBlockIf, IsVisited, Starts, Nested, IsSeen}
 use Rattle.pliron_canonicalize.specs.Counts.{count_below, foldable_count, is_counted, is_foldable, is_used}
 use Rattle.pliron_canonicalize.specs.Folds.{IsSeenBlock, IsUsed}
 use Rattle.pliron_canonicalize.proofs.Counting.{count_less, told_used, used_told}
@@ -133,8 +133,8 @@ module _ (t t' : Tree) (old new : ℕ) (h : Moves t t' old new) where
           (λ q. absurd (omega (arith, lt, s, q.1)))
           h.new_is
 
-  gone : is_counted t' old ≡ false
-  gone = not_true (is_counted t' old) (λ e. unused (told_used t' old (and_left (is_used t' old) (is_foldable t' (definition_of t' old)) e)))
+  deleted : is_counted t' old ≡ false
+  deleted = not_true (is_counted t' old) (λ e. unused (told_used t' old (and_left (is_used t' old) (is_foldable t' (definition_of t' old)) e)))
 
   new_uncounted : definition_of t' (length t.definitions) ≡ Some (Result (length t.operations) 0) → is_counted t' (length t.definitions) ≡ false
   new_uncounted d = not_true (is_counted t' (length t.definitions)) (λ e. true≢false (sym (and_right (is_used t' (length t.definitions)) (is_foldable t' (definition_of t' (length t.definitions))) e) ∙ ap (is_foldable t') d ∙ ap has_entries new_empty))
@@ -142,7 +142,7 @@ module _ (t t' : Tree) (old new : ℕ) (h : Moves t t' old new) where
   pub count_lessened : old < length t.definitions → is_counted t old ≡ true → foldable_count t' < foldable_count t
   unfolding foldable_count
   count_lessened lt counted =
-      let less = count_less (λ v. is_counted t v) (λ v. is_counted t' v) (length t.definitions) old lt counted gone fewer in
+      let less = count_less (λ v. is_counted t v) (λ v. is_counted t' v) (length t.definitions) old lt counted deleted fewer in
       ⊎_elim
       (λ q. subst (λ z. count_below (λ v. is_counted t' v) z < count_below (λ v. is_counted t v) (length t.definitions)) (sym q.0) less)
       (λ q. subst (λ z. count_below (λ v. is_counted t' v) z < count_below (λ v. is_counted t v) (length t.definitions)) (sym q.0)
@@ -184,11 +184,11 @@ module _ (t t' : Tree) (old new : ℕ) (h : Moves t t' old new) where
   reached_back : (r c : ℕ) → IsReachedIn t' r c → IsReachedIn t r c
   reached_back r c x = (x.0, ap (λ l. first_of l None) (sym (h.alike.layouts r)) ∙ x.1, x.2, path_back x.0 c x.2 x.3)
 
-  looked_forth : (d : Bool) (r c : ℕ) → IsLookedIntoIf d t r c → IsLookedIntoIf d t' r c
+  looked_forth : (d : Bool) (r c : ℕ) → IsVisitedBlockIf d t r c → IsVisitedBlockIf d t' r c
   looked_forth true r c x = reached_forth r c x
   looked_forth false r c x = ap (λ l. first_of l None) (h.alike.layouts r) ∙ x
 
-  looked_back : (d : Bool) (r c : ℕ) → IsLookedIntoIf d t' r c → IsLookedIntoIf d t r c
+  looked_back : (d : Bool) (r c : ℕ) → IsVisitedBlockIf d t' r c → IsVisitedBlockIf d t r c
   looked_back true r c x = reached_back r c x
   looked_back false r c x = ap (λ l. first_of l None) (sym (h.alike.layouts r)) ∙ x
 
@@ -202,20 +202,20 @@ module _ (t t' : Tree) (old new : ℕ) (h : Moves t t' old new) where
 
     visited_forth : (r : ℕ) → IsVisited t root r → IsVisited t' root r
     visited_forth r (Starts i) = Starts (subst (In r) (sym (regions_same root)) i)
-    visited_forth r (Nested outer c k v l p i) = Nested outer c k (visited_forth outer v) (subst (λ d. IsLookedIntoIf d t' outer c) (sym (visited_ssa outer v)) (looked_forth (has_ssa t outer) outer c l)) (h.parents k (holder_old k r i) ∙ p) (subst (In r) (sym (regions_same k)) i)
+    visited_forth r (Nested outer c k v l p i) = Nested outer c k (visited_forth outer v) (subst (λ d. IsVisitedBlockIf d t' outer c) (sym (visited_ssa outer v)) (looked_forth (has_ssa t outer) outer c l)) (h.parents k (holder_old k r i) ∙ p) (subst (In r) (sym (regions_same k)) i)
 
     visited_back : (r : ℕ) → IsVisited t' root r → IsVisited t root r
     visited_back r (Starts i) = Starts (subst (In r) (regions_same root) i)
     visited_back r (Nested outer c k v l p i) =
         let before = visited_back outer v in
         let held = subst (In r) (regions_same k) i in
-        Nested outer c k before (looked_back (has_ssa t outer) outer c (subst (λ d. IsLookedIntoIf d t' outer c) (visited_ssa outer before) l)) (sym (h.parents k (holder_old k r held)) ∙ p) held
+        Nested outer c k before (looked_back (has_ssa t outer) outer c (subst (λ d. IsVisitedBlockIf d t' outer c) (visited_ssa outer before) l)) (sym (h.parents k (holder_old k r held)) ∙ p) held
 
     pub seen_forth : (k : ℕ) → IsSeen t root k → IsSeen t' root k
     seen_forth k x = record {
       block = x.block;
       region = x.region;
-      in_block = h.parents k (not_new k (h.tree.joined.standing k x.block x.in_block).0) ∙ x.in_block;
+      in_block = h.parents k (not_new k (h.tree.joined.all_in_place k x.block x.in_block).0) ∙ x.in_block;
       in_region = h.homes x.block ∙ x.in_region;
       visited = visited_forth x.region x.visited;
       dominance = subst IsTrue (sym (visited_ssa x.region x.visited)) x.dominance;
@@ -258,7 +258,7 @@ module _ (t t' : Tree) (old new : ℕ) (h : Moves t t' old new) where
             (j.0, seen_beside s.0 j.0 s.1 (j.1 ∙ ap Some (sym same)), j.1)
 
         forth : IsSeenBlock t root b → IsSeenBlock t' root b
-        forth s = (s.0, seen_forth s.0 s.1, h.parents s.0 (not_new s.0 (h.tree.joined.standing s.0 b s.2).0) ∙ s.2)
+        forth s = (s.0, seen_forth s.0 s.1, h.parents s.0 (not_new s.0 (h.tree.joined.all_in_place s.0 b s.2).0) ∙ s.2)
 
 -- to a value that is used
 pub moves_to_used : (t : Tree) (old new : ℕ) → IsTree t → IsDefined t new → old ≢ new → IsUsed t new → Moves t (after_replacing t old new) old new

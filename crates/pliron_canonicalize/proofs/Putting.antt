@@ -44,7 +44,7 @@ module _ (x : Folding) (laws : AreLawful x) (t : Tree) (w : IsTree t) (k i v : �
   shown = let h = some_of (head_of t k) live in (operation_of t k h.0, make_op t k h.0 h.1)
 
   has : (answer : OpFoldResult) → IsAnswered x t shown.0 i answer → HasAnswer x t k i answer
-  has answer answered = record { may = may; operation = shown.0; stands = shown.1; value = v; listed = listed; answered = answered }
+  has answer answered = record { may = may; operation = shown.0; liveness = shown.1; value = v; listed = listed; answered = answered }
 
   pub operands_are : (answers : List (Option OpFoldResult)) → ((o : Operation) → op_at t k ≡ Some o → answers ≡ operand_answers x t o) → AreAnswers x t k i answers
   operands_are answers is = record {
@@ -100,8 +100,8 @@ module _ (x : Folding) (t : Tree) (k i v : ℕ) (listed : slice_get (results_of 
     put_either t' answers constants is_answers is_constants are none Unchanged put = (
       put.0,
       λ answer is. ⊎_elim
-          (λ at. none answer (ap (λ z. slice_get z i) (is_answers is.has.operation is.has.stands) ∙ at) is.made)
-          (λ at. put.1 answer (ap (λ z. slice_get z i) (is_constants is.has.operation is.has.stands) ∙ at) is.made)
+          (λ at. none answer (ap (λ z. slice_get z i) (is_answers is.has.operation is.has.liveness) ∙ at) is.made)
+          (λ at. put.1 answer (ap (λ z. slice_get z i) (is_constants is.has.operation is.has.liveness) ∙ at) is.made)
           is.has.answered,
     )
 

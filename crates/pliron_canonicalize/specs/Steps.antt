@@ -61,16 +61,16 @@ pub record IsSeenStill (t0 t : Tree) (root : ℕ) : Type 0 where
   pub arguments : (block : ℕ) → arguments_of t block ≡ arguments_of t0 block
 
 -- `Changed` reports that something folded, and that the count is less
-abbrev pub TellsFolds : Folding → (t0 t : Tree) → ℕ → IRStatus → Type 0
-TellsFolds x t0 t root Changed = (foldable_count t < foldable_count t0) × HasFolds x t0 root
-TellsFolds x t0 t root Unchanged = t ≡ t0
+abbrev pub CountsFolds : Folding → (t0 t : Tree) → ℕ → IRStatus → Type 0
+CountsFolds x t0 t root Changed = (foldable_count t < foldable_count t0) × HasFolds x t0 root
+CountsFolds x t0 t root Unchanged = t ≡ t0
 
 -- the values that are done were folded, or none of them folds
 pub record AreDone (x : Folding) (t0 t : Tree) (root : ℕ) (Done : Fold → Type 0) (status : IRStatus) : Type 0 where
   pub way : IsOnWay x.meaning t0 t root
   pub folded : (fs : List Fold) × FoldInTurn x root fs t0 t
   pub still : IsSeenStill t0 t root
-  pub tells : TellsFolds x t0 t root status
+  pub accurate : CountsFolds x t0 t root status
   pub none : status ≡ Unchanged → (f : Fold) (u : Tree) → Done f → FoldsTo x root f t0 u → ⊥
 
 -- some were folded, until allocation failed
@@ -79,7 +79,7 @@ pub record AreDonePartly (x : Folding) (t0 t : Tree) (root : ℕ) : Type 0 where
   pub folded : (fs : List Fold) × AreFolded x root fs t0 t
 
 -- what holds before each sweep over these sites: the tree came from t0 by folds, and if none is to follow then nothing folds
-pub record IsFolding (x : Folding) (t0 t : Tree) (root : ℕ) (sites : List Site) (status : IRStatus) (going : Bool) : Type 0 where
+pub record IsFolding (x : Folding) (t0 t : Tree) (root : ℕ) (sites : List Site) (status : IRStatus) (folds_again : Bool) : Type 0 where
   pub done : AreDone x t0 t root (λ f. ⊥) status
   pub listed : AreListed t root sites
-  pub over : going ≡ false → HasFolds x t root → ⊥
+  pub over : folds_again ≡ false → HasFolds x t root → ⊥

@@ -246,17 +246,17 @@ pub fn fold_all<D: OperandFoldInterface, R: Rewriter + Room>(
         ctx.new.tree) }
     ensures none { IfOk result (λ a. HasFolds ⟦<D as HasOperandFolding>⟧.operand_folding ctx.new.tree root → ⊥) }
     ensures status { IfOk result (λ a. ReportsFolds ⟦<D as HasOperandFolding>⟧.operand_folding ctx.old.tree root a) }
-    ensures tells { IfOk result (λ a. (a ≡ IsUnchanged) ↔ (ctx.new.tree ≡ ctx.old.tree)) }
+    ensures accurate { IfOk result (λ a. (a ≡ IsUnchanged) ↔ (ctx.new.tree ≡ ctx.old.tree)) }
     ensures fewer { IfOk result (λ a. foldable_count ctx.new.tree ≤ foldable_count ctx.old.tree) }
     ensures memory { IsOkUnless result OptError.Memory }
 {
     ctx.well_formed();
     let mut status = IRStatus::Unchanged;
-    let mut going = true;
+    let mut folds_again = true;
     let mut moved = MovedUses::new(alloc);
-    while going {
+    while folds_again {
         let swept = sweep_in_rounds::<D, R>(&mut moved, root, sites, ctx, rewriter)?;
-        going = is_change(swept);
+        folds_again = is_change(swept);
         status |= swept;
     }
     ctx.well_formed();

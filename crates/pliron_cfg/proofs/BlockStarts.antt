@@ -16,7 +16,7 @@ pub block_starts : (t : Tree) → IsTree t → (block root : ℕ) → block_pare
 block_starts t w block root held r (k, at, i) =
     let x = slice_in (regions_of t k) r i in
     let slot = w.joined.regions k x.0 r x.1 in
-    record { holder = k; held = region_parent_is t r (record { op = k; index = x.0 }) slot; stands = region_by t r (record { op = k; index = x.0 }) slot x.1; within = inr (Directly (holder_by t k block root at held)) }
+    record { holder = k; held = region_parent_is t r (record { op = k; index = x.0 }) slot; liveness = region_by t r (record { op = k; index = x.0 }) slot x.1; within = inr (Directly (holder_by t k block root at held)) }
 
 -- what is visited is held by an operation of the block, or inside one
 record IsBelow (t : Tree) (block r : ℕ) : Type 0 where

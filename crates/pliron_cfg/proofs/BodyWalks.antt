@@ -36,7 +36,7 @@ live t is block ops [] op e f = absurd (cc)
 live t is block ops (x ∷ rest) op e f =
     let same : x ≡ op = cc in
     let at = is.bodies.owned op block (subst (In op) (sym e) (In-right op ops (x ∷ rest) (inl (sym same)))) in
-    (is.joined.standing op block at).0
+    (is.joined.all_in_place op block at).0
 
 pub walk-live : (t : Tree) → IsTree t → (block : ℕ) (ops : List ℕ) (at : Option ℕ) (op : ℕ) → IsWalked t block ops at → at ≡ Some op → IsLive t op
 walk-live t is block ops at op w e = live t is block ops w.rest op w.split (sym e ∙ w.next)
@@ -64,4 +64,4 @@ in_at (y ∷ ys) (suc i) x lt e = inr (in_at ys i x (let h : suc i < suc (length
 pub listed-live : (t : Tree) → IsTree t → (block : ℕ) (ops : List ℕ) (i x : ℕ) → ops ≡ body_of t block → i < length ops → x ≡ get_or ops i x → IsLive t x
 listed-live t is block ops i x e lt at =
     let owned = is.bodies.owned x block (subst (In x) e (in_at ops i x lt at)) in
-    (is.joined.standing x block owned).0
+    (is.joined.all_in_place x block owned).0

@@ -124,33 +124,33 @@ linked_one m t first linked c holder (inr i) h = absurd i
 -- one more merge at a block
 pub record IsStep (m : Meaning) (first : ℕ) (t u v : Tree) : Type 0 where
   pub way : MergesAmong m (first ∷ []) t v
-  pub tells : ReportsMerged m (first ∷ []) t v Changed
+  pub accurate : ReportsMerged m (first ∷ []) t v Changed
   pub block : IsBlock v first
   pub linked : (holder : ℕ) → block_parent_operation_of v first ≡ Some holder → IsWellLinked m v holder
   pub smaller : length (blocks_in v (block_parent_of v first)) < length (blocks_in u (block_parent_of u first))
 
 module _ (m : Meaning) (can_fold : Head → Bool) (SameTests : Head → Head → Type 0) (shortened : Shape → ℕ → ℕ → Head) (law : ForwardsOperands m can_fold SameTests shortened) (first : ℕ) where
   step_here : (t u : Tree) (s : IRStatus) (b jump : ℕ) (values : List ℕ) → IsTree t → AreLinked m (first ∷ []) t → MergesAmong m (first ∷ []) t u → ReportsMerged m (first ∷ []) t u s → IsMergeable m u first b jump values → IsTree (after_merging u first b jump values) → JoinsWell m (forwarded_uses u (arguments_of u b) values) first b jump → IsStep m first t u (after_merging u first b jump values)
-  step_here t u s b jump values w linked way tells pair tree well =
+  step_here t u s b jump values w linked way accurate pair tree well =
       let k = chain m can_fold SameTests shortened law (first ∷ []) t u w linked way in
       let o = one_merge m can_fold SameTests shortened law (first ∷ []) t u linked k first b jump values (inl refl) pair tree well in
       record {
         way = Then first b jump values way (inl refl) pair tree well;
-        tells = tells_pair m (first ∷ []) t u (after_merging u first b jump values) s first b jump values tells (inl refl) pair;
+        accurate = tells_pair m (first ∷ []) t u (after_merging u first b jump values) s first b jump values accurate (inl refl) pair;
         block = ap is_some (o.first ∙ o.in_region);
         linked = λ holder e. o.links holder (k.links holder (linked first holder (inl refl) (k.blocks first holder (o.blocks first holder e))));
         smaller = fewer_blocks m u (after_merging u first b jump values) first b o;
       }
 
   pub step_at : (t u v : Tree) (s : IRStatus) (a b jump : ℕ) (values : List ℕ) → IsTree t → AreLinked m (first ∷ []) t → MergesAmong m (first ∷ []) t u → ReportsMerged m (first ∷ []) t u s → IsMergeable m u first b jump values × (a ≡ first) → IsTree v → v ≡ after_merging u a b jump values → JoinsWell m (forwarded_uses u (arguments_of u b) values) a b jump → IsStep m first t u v
-  step_at t u v s a b jump values w linked way tells found wv e well =
+  step_at t u v s a b jump values w linked way accurate found wv e well =
       let whole : v ≡ after_merging u first b jump values = e ∙ ap (λ z. after_merging u z b jump values) found.1 in
-      subst (IsStep m first t u) (sym whole) (step_here t u s b jump values w linked way tells found.0 (subst IsTree whole wv) (subst (λ z. JoinsWell m (forwarded_uses u (arguments_of u b) values) z b jump) found.1 well))
+      subst (IsStep m first t u) (sym whole) (step_here t u s b jump values w linked way accurate found.0 (subst IsTree whole wv) (subst (λ z. JoinsWell m (forwarded_uses u (arguments_of u b) values) z b jump) found.1 well))
 
 -- one block more is done
 pub record IsDone (m : Meaning) (blocks : List ℕ) (n : ℕ) (t u : Tree) (s : IRStatus) : Type 0 where
   pub way : MergesAmong m blocks t u
-  pub tells : ReportsMerged m blocks t u s
+  pub accurate : ReportsMerged m blocks t u s
   pub none : HasNoPairAmong m (take (suc n) blocks) u
 
 pub moved_to : (m : Meaning) (blocks : List ℕ) (n : ℕ) (t u v : Tree) (s r : IRStatus) → IsDone m blocks n t u s → v ≡ u → r ≡ s → IsDone m blocks n t v r
@@ -158,21 +158,21 @@ moved_to m blocks n t u v s r d e f = subst (λ (z : Tree). IsDone m blocks n t 
 
 -- a block that stands no more is no first of a pair
 pub done_dead : (m : Meaning) (blocks : List ℕ) (n c : ℕ) (t u : Tree) (s : IRStatus) → IsTree u → slice_get blocks n ≡ Some c → (IsBlock u c → ⊥) → MergesAmong m blocks t u → ReportsMerged m blocks t u s → HasNoPairAmong m (take n blocks) u → IsDone m blocks n t u s
-done_dead m blocks n c t u s w at dead way tells none = record {
+done_dead m blocks n c t u s w at dead way accurate none = record {
   way = way;
-  tells = tells;
+  accurate = accurate;
   none = λ a b jump values i q. ⊎_elim (λ e. dead (subst (IsBlock u) e (ap is_some (first_held m u w a b jump values q).2))) (λ j. none a b jump values j q) (take_more blocks n a c at i);
 }
 
 module _ (m : Meaning) (can_fold : Head → Bool) (SameTests : Head → Head → Type 0) (shortened : Shape → ℕ → ℕ → Head) (law : ForwardsOperands m can_fold SameTests shortened) where
   pub done_more : (blocks : List ℕ) (n c : ℕ) (t u v : Tree) (s r : IRStatus) → IsTree t → AreLinked m blocks t → IsTree u → slice_get blocks n ≡ Some c → In c blocks → MergesAmong m blocks t u → ReportsMerged m blocks t u s → HasNoPairAmong m (take n blocks) u → MergesAmong m (c ∷ []) u v → HasNoPairAmong m (c ∷ []) v → ReportsMerged m (c ∷ []) u v r → IsDone m blocks n t v (changed_by_either s r)
-  done_more blocks n c t u v s r w linked wu at listed way tells none more here told =
+  done_more blocks n c t u v s r w linked wu at listed way accurate none more here reported =
       let k = chain m can_fold SameTests shortened law blocks t u w linked way in
       let all = linked_still m t u blocks k linked in
       let still = none_still m can_fold SameTests shortened law (c ∷ []) (take n blocks) u v wu (λ d holder i e. all d holder (one_in c blocks listed d i) e) (λ d holder i e. all d holder (in_take n blocks d i) e) more none in
       record {
         way = longer m blocks (c ∷ []) t u v (one_in c blocks listed) way more;
-        tells = tells_more m blocks (c ∷ []) t u v s r (one_in c blocks listed) tells told;
+        accurate = tells_more m blocks (c ∷ []) t u v s r (one_in c blocks listed) accurate reported;
         none = λ a b jump values i q. ⊎_elim (λ e. here a b jump values (inl e) q) (λ j. still a b jump values j q) (take_more blocks n a c at i);
       }
 

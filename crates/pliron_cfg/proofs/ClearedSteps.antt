@@ -4,7 +4,7 @@ use Rattle.pliron_core.specs.declared.attrs.IRStatus.{IRStatus}
 use Rattle.pliron_core.specs.declared.attrs.IRStatus.TheVariants.{Changed, Unchanged}
 use Rattle.pliron_core.specs.Tree.{Tree, In, IsLive, block_parent_of, region_parent_of}
 use Rattle.pliron_core.specs.Invariant.{IsTree}
-use Rattle.pliron_core.specs.Erased.{StandsIn}
+use Rattle.pliron_core.specs.Erased.{IsInOperation}
 use Rattle.pliron_core.specs.Changes.{IsInsideChange}
 use Rattle.pliron_core.specs.ChangeLaws.{InsideChangeLaws}
 use Rattle.pliron_core.proofs.ListLemmas.{In-cases, In-left, In-right, decide_in}
@@ -23,7 +23,7 @@ use Rattle.pliron_cfg.specs.Removed.{IsWithout, RemovesSome.Nothing, RemovesSome
 use Rattle.pliron_laws.specs.declared.fault.OptError.{OptError}
 use Rattle.pliron_laws.specs.declared.fault.OptError.TheVariants.{Memory, LiveUse}
 use Rattle.pliron_cfg.specs.declared.removal.scope.RemovalScope.{RemovalScope}
-use Rattle.pliron_cfg.specs.Internal.Scopes.{start_of, ScopeStands, IsHolder}
+use Rattle.pliron_cfg.specs.Internal.Scopes.{start_of, IsScopeLive, IsHolder}
 use Rattle.pliron_cfg.proofs.ScopeLemmas.{start_lawful, top_held, top_apart, within_root, root_row, start_to, start_from, stands_still, holder_still}
 use Rattle.pliron_cfg.specs.Internal.Clears.{LosesCutOff, ClearsRegion}
 use Rattle.pliron_cfg.specs.Internal.Cleared.{status_after, ReportsLoss, AreCleared, Went}
@@ -37,7 +37,7 @@ module _ (m : Meaning) (t u v : Tree) (scope : RemovalScope) (root r : ℕ) (rs 
 
   module _ (status : IRStatus) (h : AreCleared m t u scope root rs ks (rest ++ r ∷ []) status) where
     start_held : (q : ℕ) → start_of scope u q → IsLawfulRegion u q
-    start_held = start_lawful u w scope root h.stands h.holder h.change.linked.edges
+    start_held = start_lawful u w scope root h.liveness h.holder h.change.linked.edges
 
     searched : IsVisitedSsaRegion (start_of scope) u r
     searched = (h.visits.regions r).0 (h.among r (In-right r rest (r ∷ []) (inl refl)))
@@ -63,7 +63,7 @@ module _ (m : Meaning) (t u v : Tree) (scope : RemovalScope) (root r : ℕ) (rs 
 
     same_next : ((b : ℕ) → IsCutOff u r b → ⊥) → AreCleared m t u scope root rs ks rest status
     same_next none = record {
-      stands = h.stands;
+      liveness = h.liveness;
       holder = h.holder;
       first = h.first;
       some = h.some;
@@ -74,23 +74,23 @@ module _ (m : Meaning) (t u v : Tree) (scope : RemovalScope) (root r : ℕ) (rs 
       links = h.links;
       among = λ q i. h.among q (In-left q rest (r ∷ []) i);
       cleared = λ q i. ⊎_elim (λ a. ⊎_elim (λ j. inl j) (λ s. inr (subst (λ z. (b : ℕ) → IsCutOff u z b → ⊥) (sym s) none)) (left_cases q a)) (λ n. inr n) (h.cleared q i);
-      tells = h.tells;
+      accurate = h.accurate;
     }
 
     module _ (l : LosesCutOff m u v r) where
       own : (b : ℕ) → In b l.blocks → block_parent_of u b ≡ Some r
       own b i = ((l.exact b).0 i).0
 
-      start_apart : (q k b : ℕ) → start_of scope u q → region_parent_of u q ≡ Some k → In b l.blocks → StandsIn u b k → ⊥
+      start_apart : (q k b : ℕ) → start_of scope u q → region_parent_of u q ≡ Some k → In b l.blocks → IsInOperation u b k → ⊥
       start_apart q k b s e i y =
-          let top = top_held u w scope q h.stands s in
-          top_apart u w scope root h.stands h.holder h.change.linked.edges r b top.0 searched.0 (own b i) top.1 (subst (StandsIn u b) (some_is (sym e ∙ top.2)) y)
+          let top = top_held u w scope q h.liveness s in
+          top_apart u w scope root h.liveness h.holder h.change.linked.edges r b top.0 searched.0 (own b i) top.1 (subst (IsInOperation u b) (some_is (sym e ∙ top.2)) y)
 
       to : (q : ℕ) → start_of scope u q → start_of scope v q
-      to = start_to u v w wv root r l.blocks own l.cut scope h.stands h.holder h.change.linked.edges searched.0
+      to = start_to u v w wv root r l.blocks own l.cut scope h.liveness h.holder h.change.linked.edges searched.0
 
       from : (q : ℕ) → start_of scope v q → start_of scope u q
-      from = start_from u v w wv root r l.blocks own l.cut scope h.stands h.holder h.change.linked.edges searched.0
+      from = start_from u v w wv root r l.blocks own l.cut scope h.liveness h.holder h.change.linked.edges searched.0
 
       visits_next : AreVisits v (start_of scope v) rs ks
       visits_next = visits_still u v w wv r l.blocks l.exact l.cut searched.1 (start_of scope u) (start_of scope v) start_held start_apart to from rs ks h.visits
@@ -102,11 +102,11 @@ module _ (m : Meaning) (t u v : Tree) (scope : RemovalScope) (root r : ℕ) (rs 
       inside_next =
           let x = region_lawful in
           let held = cut_inside u v r x.holder l.blocks w wv x.held own l.cut in
-          ⊎_elim (λ s. subst (IsInsideChange u v) s held) (λ i. inside_laws.wider u v root x.holder w i held) (within_root u w scope root h.stands h.holder h.change.linked.edges r searched.0 x.holder x.held)
+          ⊎_elim (λ s. subst (IsInsideChange u v) s held) (λ i. inside_laws.wider u v root x.holder w i held) (within_root u w scope root h.liveness h.holder h.change.linked.edges r searched.0 x.holder x.held)
 
       change_next : IsWholeChange m u v root
       change_next = record {
-        stands = subst (λ z. is_some z.head ≡ true) (sym (root_row u v w wv root r l.blocks own l.cut scope h.stands h.holder h.change.linked.edges searched.0)) h.change.stands;
+        liveness = subst (λ z. is_some z.head ≡ true) (sym (root_row u v w wv root r l.blocks own l.cut scope h.liveness h.holder h.change.linked.edges searched.0)) h.change.liveness;
         linked = links_next root h.change.linked;
         inside = inside_next;
         runs = l.runs;
@@ -130,7 +130,7 @@ module _ (m : Meaning) (t u v : Tree) (scope : RemovalScope) (root r : ℕ) (rs 
 
       -- what went before and what goes now is what went after
       went_now : (b : ℕ) → IsCutOff u r b → Went (start_of scope) t v b
-      went_now b y = (h.were b (r, searched, y), λ x. not_none (sym (without_region.gone_blocks b (b, y, inl refl)) ∙ x.2.0))
+      went_now b y = (h.were b (r, searched, y), λ x. not_none (sym (without_region.detached_blocks b (b, y, inl refl)) ∙ x.2.0))
 
       went_either : (b : ℕ) → Went (start_of scope) t v b → Went (start_of scope) t u b ⊎ IsCutOff u r b
       went_either b y = ⊎_elim
@@ -150,8 +150,8 @@ module _ (m : Meaning) (t u v : Tree) (scope : RemovalScope) (root r : ℕ) (rs 
 
       less_next : AreCleared m t v scope root rs ks rest Changed
       less_next = record {
-        stands = stands_still u v w wv root r l.blocks own l.cut scope h.stands h.holder h.change.linked.edges searched.0;
-        holder = holder_still u v w wv root r l.blocks own l.cut scope h.stands h.holder h.change.linked.edges searched.0;
+        liveness = stands_still u v w wv root r l.blocks own l.cut scope h.liveness h.holder h.change.linked.edges searched.0;
+        holder = holder_still u v w wv root r l.blocks own l.cut scope h.liveness h.holder h.change.linked.edges searched.0;
         first = h.first;
         some = Then r l.one h.some searched ((l.exact l.one).0 l.listed) without_region;
         without = without_next;
@@ -161,22 +161,22 @@ module _ (m : Meaning) (t u v : Tree) (scope : RemovalScope) (root r : ℕ) (rs 
         links = λ k x. links_next k (h.links k x);
         among = λ q i. h.among q (In-left q rest (r ∷ []) i);
         cleared = λ q i. ⊎_elim
-            (λ a. ⊎_elim (λ j. inl j) (λ s. inr (subst (λ z. (b : ℕ) → IsCutOff v z b → ⊥) (sym s) gone)) (left_cases q a))
+            (λ a. ⊎_elim (λ j. inl j) (λ s. inr (subst (λ z. (b : ℕ) → IsCutOff v z b → ⊥) (sym s) deleted)) (left_cases q a))
             (λ n. inr (λ b y. n b (cut_off_was u v w wv r l.blocks l.exact l.cut searched.1 (start_of scope u) (start_of scope v) start_held start_apart to from q ((h.visits.regions q).0 i).0 b y)))
             (h.cleared q i);
-        tells = tells_next status h.tells;
+        accurate = tells_next status h.accurate;
       }
         where
-          gone : (b : ℕ) → IsCutOff v r b → ⊥
-          gone b y = none_left u v w wv r l.blocks l.exact l.cut searched.1 (start_of scope u) (start_of scope v) start_held start_apart to from searched.0 b y
+          deleted : (b : ℕ) → IsCutOff v r b → ⊥
+          deleted b y = none_left u v w wv r l.blocks l.exact l.cut searched.1 (start_of scope u) (start_of scope v) start_held start_apart to from searched.0 b y
 
     pub next : (more : IRStatus) → ClearsRegion m u v r more → AreCleared m t v scope root rs ks rest (status_after more status)
     next Changed l = less_next l
     next Unchanged e = subst (λ z. AreCleared m t z scope root rs ks rest status) (sym e.1) (same_next e.0)
 
-pub none_cleared : (m : Meaning) (t : Tree) (scope : RemovalScope) (root : ℕ) (rs ks : List ℕ) → WholeLaws → IsTree t → ScopeStands t scope → IsHolder t scope root → IsLive t root → IsWellLinked m t root → AreVisits t (start_of scope t) rs ks → AreCleared m t t scope root rs ks rs Unchanged
-none_cleared m t scope root rs ks laws w stands holder live linked visits = record {
-  stands = stands;
+pub none_cleared : (m : Meaning) (t : Tree) (scope : RemovalScope) (root : ℕ) (rs ks : List ℕ) → WholeLaws → IsTree t → IsScopeLive t scope → IsHolder t scope root → IsLive t root → IsWellLinked m t root → AreVisits t (start_of scope t) rs ks → AreCleared m t t scope root rs ks rs Unchanged
+none_cleared m t scope root rs ks laws w liveness holder live linked visits = record {
+  liveness = liveness;
   holder = holder;
   first = w;
   some = Nothing;
@@ -187,11 +187,11 @@ none_cleared m t scope root rs ks laws w stands holder live linked visits = reco
   links = λ k x. x;
   among = λ r i. i;
   cleared = λ r i. inl i;
-  tells = refl;
+  accurate = refl;
 }
 
 pub all_cleared : (m : Meaning) (t u : Tree) (scope : RemovalScope) (root : ℕ) (rs ks : List ℕ) (status : IRStatus) → AreCleared m t u scope root rs ks [] status → RemovesAll (start_of scope) t u status
-all_cleared m t u scope root rs ks status h = go status h.tells
+all_cleared m t u scope root rs ks status h = go status h.accurate
   where
     none : (b : ℕ) → IsUnreachable (start_of scope) u b → ⊥
     none b x = ⊎_elim (λ i. i) (λ n. n b x.2) (h.cleared x.0 ((h.visits.regions x.0).1 x.1))
@@ -208,6 +208,6 @@ visits_as t A rs bs ks same a = record {
 }
 
 -- the answer reports accurately
-pub honest : (start : Start) (t v : Tree) (status : IRStatus) → RemovesAll start t v status → (status ≡ Unchanged) ↔ (v ≡ t)
-honest start t v Changed x = ((λ e. absurd (cc)), (λ e. absurd (x.3 x.0.0 (subst (λ z. IsUnreachable start z x.0.0) (sym e) x.0.1))))
-honest start t v Unchanged x = ((λ e. x.1), (λ e. refl))
+pub reports_change : (start : Start) (t v : Tree) (status : IRStatus) → RemovesAll start t v status → (status ≡ Unchanged) ↔ (v ≡ t)
+reports_change start t v Changed x = ((λ e. absurd (cc)), (λ e. absurd (x.3 x.0.0 (subst (λ z. IsUnreachable start z x.0.0) (sym e) x.0.1))))
+reports_change start t v Unchanged x = ((λ e. x.1), (λ e. refl))

@@ -6,7 +6,7 @@ use Rattle.pliron_core.specs.declared.context.Def.TheVariants.{Result, Argument}
 use Rattle.pliron_core.specs.Tree.{Tree, In, IsLive, IsBlock, IsDefined, IsMadeBy, results_of, regions_of, body_of, arguments_of, layout_of, region_parent_of, block_parent_operation_of, definition_of, op_of_slot}
 use Rattle.pliron_core.specs.Invariant.{IsTree}
 use Rattle.pliron_core.specs.Walks.{preorder}
-use Rattle.pliron_core.specs.Erased.{StandsIn, IsBlockWithin, IsDefinedInBlock}
+use Rattle.pliron_core.specs.Erased.{IsInOperation, IsBlockWithin, IsDefinedInBlock}
 use Rattle.pliron_core.proofs.FlatLemmas.{In-flat_map, flat_map-In}
 use Rattle.pliron_core.proofs.ListLemmas.{In-left, In-right, In-cases}
 use Rattle.pliron_core.proofs.WalkLemmas.{In-preorder, within_live}
@@ -22,13 +22,13 @@ module _ (t : Tree) (w : IsTree t) (bs : List ℕ) where
   abbrev pub all : List ℕ
   all = bs ++ flat_map (λ k. blocks_directly_in t k) ops
 
-  pub op_stands : (k : ℕ) → In k ops → (b : ℕ) × In b bs × StandsIn t b k
+  pub op_stands : (k : ℕ) → In k ops → (b : ℕ) × In b bs × IsInOperation t b k
   op_stands k i =
       let b = flat_map-In (λ b. contents_of t b) bs k i in
       let j = flat_map-In (λ j. preorder t j) (body_of t b.0) k b.2 in
       (b.0, b.1, (j.0, w.bodies.owned j.0 b.0 j.1, (In-preorder t w j.0 k).0 j.2))
 
-  pub stands_op : (k b : ℕ) → In b bs → StandsIn t b k → In k ops
+  pub stands_op : (k b : ℕ) → In b bs → IsInOperation t b k → In k ops
   stands_op k b i s =
       In-flat_map (λ b. contents_of t b) bs b k i (In-flat_map (λ j. preorder t j) (body_of t b) s.0 k (w.bodies.listed s.0 b s.1) ((In-preorder t w s.0 k).1 s.2))
 
@@ -36,7 +36,7 @@ module _ (t : Tree) (w : IsTree t) (bs : List ℕ) where
   op_live k i =
       let b = flat_map-In (λ b. contents_of t b) bs k i in
       let j = flat_map-In (λ j. preorder t j) (body_of t b.0) k b.2 in
-      within_live t w j.0 k (w.joined.standing j.0 b.0 (w.bodies.owned j.0 b.0 j.1)).0 ((In-preorder t w j.0 k).0 j.2)
+      within_live t w j.0 k (w.joined.all_in_place j.0 b.0 (w.bodies.owned j.0 b.0 j.1)).0 ((In-preorder t w j.0 k).0 j.2)
 
   held_by : (k r : ℕ) → In r (regions_of t k) → region_parent_of t r ≡ Some k
   held_by k r i = let x = slice_in (regions_of t k) r i in ap op_of_slot (w.joined.regions k x.0 r x.1)

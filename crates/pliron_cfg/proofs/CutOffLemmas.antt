@@ -5,14 +5,14 @@ use Rattle.pliron_core.specs.declared.context.Def.TheVariants.{Result, Argument}
 use Rattle.pliron_core.specs.Tree.{Tree, In, operands_of, block_parent_of, layout_of, definition_of}
 use Rattle.pliron_core.specs.Invariant.{IsTree}
 use Rattle.pliron_core.specs.Edges.{succs_of}
-use Rattle.pliron_core.specs.Erased.{StandsIn, IsBlockWithin, IsDefinedInBlock}
+use Rattle.pliron_core.specs.Erased.{IsInOperation, IsBlockWithin, IsDefinedInBlock}
 use Rattle.pliron_core.proofs.TreeLemmas.{live-within}
 use Rattle.pliron_core.proofs.WithinLemmas.{within_met, met_within}
 use Rattle.pliron_theory.specs.Sweeping.{is_maker_dead}
 use Rattle.pliron_traversal.specs.Digraph.{IsPath, Digraph}
 use Rattle.pliron_traversal.specs.Regions.{graph_of_region}
 use Rattle.pliron_traversal.specs.Internal.RegionLawful.{keys_have}
-use Rattle.pliron_block_laws.specs.Cutting.{stands_in_one, cut_op, cut_block}
+use Rattle.pliron_block_laws.specs.Cutting.{is_in_one_of, cut_op, cut_block}
 use Rattle.pliron_block_laws.specs.Leaving.{BlocksMayGo}
 use Rattle.pliron_block_laws.proofs.CutBlocks.{block_cases, stands_one, one_stands}
 use Rattle.pliron_cfg.specs.Visited.{IsReachedIn, IsCutOff}
@@ -27,14 +27,14 @@ pub reached_on : (t : Tree) (r b d : ℕ) → IsReachedIn t r b → In d (succs_
 reached_on t r b d x s = (x.0, x.1, (x.2.0 ++ d ∷ [], path_more (graph_of_region t r) x.0 x.2.0 b d x.2.1 (keys_have (succs_of t b) d s)))
 
 module _ (t : Tree) (w : IsTree t) (bs : List ℕ) where
-  pub cut_in : (k : ℕ) → cut_op t bs k ≡ true → (b : ℕ) × In b bs × StandsIn t b k
+  pub cut_in : (k : ℕ) → cut_op t bs k ≡ true → (b : ℕ) × In b bs × IsInOperation t b k
   cut_in k e =
-      let y = met_within t (stands_in_one t bs) (length t.operations) k e in
+      let y = met_within t (is_in_one_of t bs) (length t.operations) k e in
       let b = one_stands t bs y.0 y.1 in
       (b.0, b.1, (y.0, b.2, y.2))
 
-  pub in_cut : (k b : ℕ) → In b bs → StandsIn t b k → cut_op t bs k ≡ true
-  in_cut k b i s = within_met t (stands_in_one t bs) w.joined s.0 k (live-within t s.0 (w.joined.standing s.0 b s.1).0) (stands_one t bs b s.0 i s.1) s.2
+  pub in_cut : (k b : ℕ) → In b bs → IsInOperation t b k → cut_op t bs k ≡ true
+  in_cut k b i s = within_met t (is_in_one_of t bs) w.joined s.0 k (live-within t s.0 (w.joined.all_in_place s.0 b s.1).0) (stands_one t bs b s.0 i s.1) s.2
 
   pub block_in : (c : ℕ) → cut_block t bs c ≡ true → (b : ℕ) × In b bs × IsBlockWithin t b c
   block_in c e = ⊎_elim (λ i. (c, i, inl refl)) (λ y. let b = cut_in y.0 y.2 in (b.0, b.1, inr (y.0, y.1, b.2))) (block_cases t bs c e)

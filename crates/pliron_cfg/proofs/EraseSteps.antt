@@ -7,26 +7,26 @@ use Rattle.pliron_core.specs.declared.context.Def.{Def}
 use Rattle.pliron_core.specs.declared.context.Def.TheVariants.{Result, Argument}
 use Rattle.pliron_core.specs.Tree.{Tree, In, IsDistinct, IsBlock, IsInside, IsInside.Directly, IsInside.Deeper, IsWithin, operands_of, successors_of, block_parent_of, region_parent_of, block_parent_operation_of, parent_operation_of, op_of_slot, definition_of}
 use Rattle.pliron_core.specs.Invariant.{IsTree}
-use Rattle.pliron_core.specs.Erased.{is_met_above, blank_at, stands_in, StandsIn, IsBlockWithin, IsDefinedInBlock, IsSelfContainedBlock, block_emptied, block_taken_from, block_erased}
+use Rattle.pliron_core.specs.Erased.{is_met_above, blank_at, is_in_operation, IsInOperation, IsBlockWithin, IsDefinedInBlock, IsSelfContainedBlock, block_emptied, block_taken_from, block_erased}
 use Rattle.pliron_core.proofs.BlankLemmas.{blanked_kept, get_blanked}
 use Rattle.pliron_core.proofs.ClearingLemmas.{IsClearing, clearing_none}
 use Rattle.pliron_core.proofs.ClearedLemmas.{met_block}
 use Rattle.pliron_core.proofs.WithinLemmas.{block_steps, block_holder_from, holder_steps, holder_from}
 use Rattle.pliron_core.proofs.HoldingLemmas.{inside_by, not_itself}
-use Rattle.pliron_block_laws.specs.Cutting.{stands_in_one, cut_op, cut_block, ErasesAll, ErasesAll.Done, ErasesAll.Then}
+use Rattle.pliron_block_laws.specs.Cutting.{is_in_one_of, cut_op, cut_block, ErasesAll, ErasesAll.Done, ErasesAll.Then}
 use Rattle.pliron_block_laws.proofs.CutBlocks.{erased_clearing}
 use Rattle.pliron_cfg.specs.Internal.Unnamed.{IsUnnamedBlock}
 
 pub erases_more : (bs : List ℕ) (t u : Tree) (b : ℕ) → ErasesAll bs t u → IsBlock u b → IsTree (block_erased u b) → ErasesAll (bs ++ b ∷ []) t (block_erased u b)
 erases_more [] t u b Done is w = Then b [] is w Done
-erases_more (x ∷ xs) t u b (Then _ _ stands next more) is w = Then x (xs ++ b ∷ []) stands next (erases_more xs (block_erased t x) u b more is w)
+erases_more (x ∷ xs) t u b (Then _ _ liveness next more) is w = Then x (xs ++ b ∷ []) liveness next (erases_more xs (block_erased t x) u b more is w)
 
 -- erasing a block leaves those beside it
 module _ (u : Tree) (w : IsTree u) (a b r : ℕ) (ea : block_parent_of u a ≡ Some r) (eb : block_parent_of u b ≡ Some r) where
-  abbrev gone : ℕ → Bool
-  gone c = is_met_above u (stands_in u a) (block_parent_operation_of u c)
+  abbrev deleted : ℕ → Bool
+  deleted c = is_met_above u (is_in_operation u a) (block_parent_operation_of u c)
 
-  not_met : (c : ℕ) → block_parent_of u c ≡ Some r → gone c ≡ false
+  not_met : (c : ℕ) → block_parent_of u c ≡ Some r → deleted c ≡ false
   not_met c ec = false_from_ne_true _ (λ e.
       let x = met_block u a (block_parent_operation_of u c) e in
       let up : parent_operation_of u x.2.0 ≡ Some x.0 = holder_from u x.2.0 a x.2.1 ∙ block_holder_from u a r ea ∙ sym (block_holder_from u c r ec) ∙ x.1 in
@@ -35,8 +35,8 @@ module _ (u : Tree) (w : IsTree u) (a b r : ℕ) (ea : block_parent_of u a ≡ S
   pub left_beside : b ≢ a → block_parent_of (block_erased u a) b ≡ Some r
   left_beside ne =
       let E = block_emptied u a in
-      let at_a : block_parent_of E a ≡ Some r = blanked_kept gone None u.block_parents a (not_met a ea) ∙ ea in
-      let at_b : block_parent_of E b ≡ Some r = blanked_kept gone None u.block_parents b (not_met b eb) ∙ eb in
+      let at_a : block_parent_of E a ≡ Some r = blanked_kept deleted None u.block_parents a (not_met a ea) ∙ ea in
+      let at_b : block_parent_of E b ≡ Some r = blanked_kept deleted None u.block_parents b (not_met b eb) ∙ eb in
       ap (λ o. block_parent_of (block_taken_from E a o) b) at_a ∙ get_or-set_other E.block_parents a b None None ne ∙ at_b
 
 taken_operands : (e : Tree) (b : ℕ) (o : Option ℕ) → (block_taken_from e b o).operands ≡ e.operands
@@ -47,8 +47,8 @@ taken_successors : (e : Tree) (b : ℕ) (o : Option ℕ) → (block_taken_from e
 taken_successors e b None = refl
 taken_successors e b (Some r) = refl
 
-in_blanked : (gone : ℕ → Bool) (xss : List (List ℕ)) (k v : ℕ) → In v (get_or (blank_at gone [] xss) k []) → In v (get_or xss k [])
-in_blanked gone xss k v i = go (gone k) (subst (In v) (get_blanked gone [] xss k) i)
+in_blanked : (deleted : ℕ → Bool) (xss : List (List ℕ)) (k v : ℕ) → In v (get_or (blank_at deleted [] xss) k []) → In v (get_or xss k [])
+in_blanked deleted xss k v i = go (deleted k) (subst (In v) (get_blanked deleted [] xss k) i)
   where
     go : (z : Bool) → In v (if z then [] else get_or xss k []) → In v (get_or xss k [])
     go true j = absurd j
@@ -65,7 +65,7 @@ fewer_successors u b k v i = in_blanked _ u.successors k v (subst (λ z. In v (g
 pub record AreErased (t u : Tree) (region : ℕ) (bs front rest : List ℕ) : Type 0 where
   pub tree : IsTree u
   pub erased : ErasesAll front t u
-  pub clearing : IsClearing (λ k. cut_op t bs k) (λ c. cut_block t bs c) (λ c. cut_block t bs c) (λ r. if nat_eq region r then true else is_met_above t (stands_in_one t bs) (region_parent_of t r)) t u
+  pub clearing : IsClearing (λ k. cut_op t bs k) (λ c. cut_block t bs c) (λ c. cut_block t bs c) (λ r. if nat_eq region r then true else is_met_above t (is_in_one_of t bs) (region_parent_of t r)) t u
   pub operands : (k v : ℕ) → In v (operands_of u k) → In v (operands_of t k)
   pub successors : (k c : ℕ) → In c (successors_of u k) → In c (successors_of t k)
   pub left : (b : ℕ) → In b rest → block_parent_of u b ≡ Some region
@@ -100,7 +100,7 @@ module _ (t u : Tree) (w : IsTree t) (region : ℕ) (bs front rest : List ℕ) (
   holder_was : (x y : ℕ) → parent_operation_of u x ≡ Some y → parent_operation_of t x ≡ Some y
   holder_was x y e =
       let s = holder_steps u x y e in
-      let k = h.clearing.stays x (h.tree.joined.standing x s.0 s.1).0 in
+      let k = h.clearing.stays x (h.tree.joined.all_in_place x s.0 s.1).0 in
       holder_from t x s.0 (sym k.1 ∙ s.1) ∙ block_holder_was s.0 y s.2
 
   inside_was : (x y : ℕ) → IsInside u x y → IsInside t x y
@@ -111,9 +111,9 @@ module _ (t u : Tree) (w : IsTree t) (region : ℕ) (bs front rest : List ℕ) (
   within_was x y (inl e) = inl e
   within_was x y (inr j) = inr (inside_was x y j)
 
-  stands_was : (k : ℕ) → StandsIn u b k → StandsIn t b k
+  stands_was : (k : ℕ) → IsInOperation u b k → IsInOperation t b k
   stands_was k y =
-      let z = h.clearing.stays y.0 (h.tree.joined.standing y.0 b y.1).0 in
+      let z = h.clearing.stays y.0 (h.tree.joined.all_in_place y.0 b y.1).0 in
       (y.0, sym z.1 ∙ y.1, within_was y.0 k y.2)
 
   block_was : (c : ℕ) → IsBlockWithin u b c → IsBlockWithin t b c

@@ -77,9 +77,9 @@ module _ (m : Meaning) (can_fold can_fold_branch : Head → Bool) (constants : C
     other_than_new : (a new : ℕ) (front : List ℕ) → IsRebranched t u a op new front → (k : ℕ) → IsLive t k → k ≢ new
     other_than_new a new front h k l e = let y = some_of (head_of t k) l in not_none (sym h.fresh ∙ ap (head_of t) (sym e) ∙ y.1)
 
-    stands : Shape → (k : ℕ) → k ≢ op → IsLive t k → IsLive u k
-    stands (inl s) k ne l = (same_live t u w.joined wu.joined s k).0 l
-    stands (inr (a, new, front, h)) k ne l = subst (λ z. IsSome z.head) (sym (h.rows k ne (other_than_new a new front h k l))) l
+    liveness : Shape → (k : ℕ) → k ≢ op → IsLive t k → IsLive u k
+    liveness (inl s) k ne l = (same_live t u w.joined wu.joined s k).0 l
+    liveness (inr (a, new, front, h)) k ne l = subst (λ z. IsSome z.head) (sym (h.rows k ne (other_than_new a new front h k l))) l
 
     others : Shape → (k : ℕ) → k ≢ op → IsBranchInside can_fold_branch t root k → IsBranchInside can_fold_branch u root k
     others (inl s) k ne (inside, folds) = (
@@ -89,17 +89,17 @@ module _ (m : Meaning) (can_fold can_fold_branch : Head → Bool) (constants : C
     others (inr (a, new, front, h)) k ne (inside, folds) =
         let l = inside_live t w root k inside in
         let nn = other_than_new a new front h k l in (
-          inside_stays t u a op new front w wu h root k (stands (inr (a, new, front, h)) k ne l) nn inside,
+          inside_stays t u a op new front w wu h root k (liveness (inr (a, new, front, h)) k ne l) nn inside,
           λ x e. folds x (ap (λ z. z.head) (sym (h.rows k ne nn)) ∙ e),
         )
 
     root_stands : Shape → IsLive u root
-    root_stands s = stands s root (λ e. not_inside-itself t w root (subst (IsInside t root) (sym e) branch.0)) root_live
+    root_stands s = liveness s root (λ e. not_inside-itself t w root (subst (IsInside t root) (sym e) branch.0)) root_live
 
-    pub told : Shape → (status : IRStatus) → ReportsChange (Some status) t u → ReportsAnyErased status t u
-    told s Unchanged is = is
-    told (inl s) Changed is = absurd (is s)
-    told (inr (a, new, front, h)) Changed is = (op, inside_live t w root op branch.0, h.gone)
+    pub reported : Shape → (status : IRStatus) → ReportsChange (Some status) t u → ReportsAnyErased status t u
+    reported s Unchanged is = is
+    reported (inl s) Changed is = absurd (is s)
+    reported (inr (a, new, front, h)) Changed is = (op, inside_live t w root op branch.0, h.deleted)
 
     pub step : ((chosen : Head → Bool) → BranchFoldsLaw (with_roots m chosen) can_fold_branch outcome) → BranchLinksLaw m can_fold_branch outcome → BranchOutcomesLaw m can_fold_branch outcome → ((chosen : Head → Bool) → AnsweredLaw (with_roots m chosen) can_fold constants) → length t.operations ≤ length u.operations → (answer : Option IRStatus) → outcome t u op (known_operands m can_fold constants t op) answer → IsBranchFoldStep m can_fold_branch t u root op
     step folds links outcomes answered longer answer is =
@@ -108,7 +108,7 @@ module _ (m : Meaning) (can_fold can_fold_branch : Head → Bool) (constants : C
         record {
           tree = wu;
           change = record {
-            stands = root_stands s;
+            liveness = root_stands s;
             linked = links t u root root op known answer w wu linked branch.0 branch.1 is linked root_live (root_stands s);
             inside = ⊎_elim (λ same. same_change t u root w.joined wu.joined same) (λ r. rebranched_inside t u root r.0 op r.1 r.2 w wu branch.0 r.3) s;
             runs = λ chosen. folds chosen t u root op known answer w wu longer (record { edges = linked.edges; admitted = linked.admitted }) branch.0 branch.1 (length_map (λ v. known_of m can_fold constants t (definition_of t v)) (operands_of t op)) (subst (AreReadAs (with_roots m chosen) t op) (known_same m can_fold constants chosen t (operands_of t op)) (known_read (with_roots m chosen) can_fold constants t (answered chosen) w op)) is;
@@ -122,12 +122,12 @@ module _ (m : Meaning) (can_fold can_fold_branch : Head → Bool) (constants : C
   no_step t root op w linked branch = record { tree = w; change = whole_refl m t root (inside_live-outer t w root op branch.0) linked; blocks = λ b. refl; others = λ k ne b. b }
 
 -- one answer after the other
-module _ (t u v : Tree) (w : IsTree t) (wu : IsTree u) (gone : (k : ℕ) → IsLive t k → head_of u k ≡ None → head_of v k ≡ None) where
+module _ (t u v : Tree) (w : IsTree t) (wu : IsTree u) (deleted : (k : ℕ) → IsLive t k → head_of u k ≡ None → head_of v k ≡ None) where
   pub told_then : (a b : IRStatus) → ReportsAnyErased a t u → ReportsAnyErased b u v → ReportsAnyErased (changed_by_either a b) t v
   told_then Unchanged Unchanged p q = same_trans t u v p q
   told_then Unchanged Changed p (k, live, none) = (k, (same_live t u w.joined wu.joined p k).1 live, none)
-  told_then Changed Unchanged (k, live, none) q = (k, live, gone k live none)
-  told_then Changed Changed (k, live, none) q = (k, live, gone k live none)
+  told_then Changed Unchanged (k, live, none) q = (k, live, deleted k live none)
+  told_then Changed Changed (k, live, none) q = (k, live, deleted k live none)
 
 -- what went does not come back
 gone_stays : (m : Meaning) (t u v : Tree) (root : ℕ) → IsTree t → IsWholeChange m t u root → IsWholeChange m u v root → (k : ℕ) → IsLive t k → head_of u k ≡ None → head_of v k ≡ None
@@ -169,7 +169,7 @@ module _ (m : Meaning) (can_fold can_fold_branch : Head → Bool) (constants : C
     distinct = distinct-filter (λ z. has_passing_head can_fold_branch (head_of start z)) (contents start root) (distinct-contents start w root);
     all = λ u rest done. done;
     some = λ u done. done;
-    told = same_refl start;
+    reported = same_refl start;
   }
 
   module _ (branches : List ℕ) (i : ℕ) (status : IRStatus) (now : Tree) (on : IsOn branches i status now) where
@@ -181,7 +181,7 @@ module _ (m : Meaning) (can_fold can_fold_branch : Head → Bool) (constants : C
       apart = subst IsDistinct (drop_at branches i op at) on.distinct
 
       pub folding_next : (next : Tree) (one : IRStatus) → outcome now next op (known_operands m can_fold constants now op) (Some one) → ReportsAnyErased one now next → IsBranchFoldStep m can_fold_branch now next root op → IsOn branches (i + 1) (changed_by_either status one) next
-      folding_next next one is told step = record {
+      folding_next next one is reported step = record {
         tree = step.tree;
         change = whole_trans m start now next root on.change step.change;
         blocks = λ b. step.blocks b ∙ on.blocks b;
@@ -189,7 +189,7 @@ module _ (m : Meaning) (can_fold can_fold_branch : Head → Bool) (constants : C
         distinct = apart.1;
         all = λ u rest done. subst (FoldsAll m can_fold constants outcome branches start u) (either_again status one rest) (on.all u (changed_by_either one rest) (subst (λ l. FoldsAll m can_fold constants outcome l now u (changed_by_either one rest)) (sym (drop_at branches i op at)) (Next op one is done)));
         some = λ u done. on.some u (subst (λ l. FoldsSome m can_fold constants outcome l now u) (sym (drop_at branches i op at)) (After op one is done));
-        told = told_then start now next w on.tree (gone_stays m start now next root w on.change step.change) status one on.told told;
+        reported = told_then start now next w on.tree (gone_stays m start now next root w on.change step.change) status one on.reported reported;
       }
 
       pub folding_change : (next : Tree) → IsBranchFoldStep m can_fold_branch now next root op → IsWholeChange m start next root
@@ -204,7 +204,7 @@ module _ (m : Meaning) (can_fold can_fold_branch : Head → Bool) (constants : C
 
 -- the answer reports accurately
 pub told_honestly : (t u : Tree) (status : IRStatus) → ReportsAnyErased status t u → ReportsChange (Some status) t u
-told_honestly t u Unchanged told = told
+told_honestly t u Unchanged reported = reported
 told_honestly t u Changed (k, live, none) = λ same. let y = some_of (head_of t k) live in not_none (sym none ∙ ap (λ z. z.head) (same.operations k) ∙ y.1)
 
 -- each operation that was well linked and still stands is so

@@ -59,9 +59,9 @@ module _ (m : Meaning) (can_fold : Head → Bool) (SameTests : Head → Head →
   forwarded t (p ∷ ps) (v ∷ vs) w linked held h le all =
       let n = all 0 p v refl refl in
       let one = replacing m can_fold SameTests shortened law t holder a b jump n.0 p v values w linked.edges held h n.1 n.2 in
-      let stands = values_defined m t w a b jump values (way_of_pair m t a b jump values h) h.forwarded v (in_slice values n.0 v n.2) in
+      let liveness = values_defined m t w a b jump values (way_of_pair m t a b jump values h) h.forwarded v (in_slice values n.0 v n.2) in
       let holds : HoldsBlock t holder b = (holder, ap (λ o. up_from o (λ r. region_parent_of t r)) (beside m t holder a b jump values w linked.edges held h) ∙ held, inl refl) in
-      let rest = forwarded (after_replacing t p v) ps vs (tree_replaced t p v w stands) (replaced_links m t p v holder linked) held one.pair (omega (arith, le)) (λ i x y e f. all (suc i) x y e f) in
+      let rest = forwarded (after_replacing t p v) ps vs (tree_replaced t p v w liveness) (replaced_links m t p v holder linked) held one.pair (omega (arith, le)) (λ i x y e f. all (suc i) x y e f) in
       record {
         tree = rest.tree;
         runs = all_trans m t (after_replacing t p v) (forwarded_uses (after_replacing t p v) ps vs) one.runs rest.runs;

@@ -23,7 +23,7 @@ use Rattle.pliron_block_laws.proofs.MovedBodies.{moved_on}
 
 -- a block has fewer operations than there are keys
 pub body_fits : (t : Tree) → IsTree t → (block : ℕ) → length (body_of t block) ≤ length t.operations
-body_fits t w block = distinct-length (length t.operations) (body_of t block) (w.bodies.distinct block) (λ x i. live-within t x (w.joined.standing x block (w.bodies.owned x block i)).0)
+body_fits t w block = distinct-length (length t.operations) (body_of t block) (w.bodies.distinct block) (λ x i. live-within t x (w.joined.all_in_place x block (w.bodies.owned x block i)).0)
 
 pub first_rest : (xs : List ℕ) (o : Option ℕ) → o ≡ first_of xs None → 0 + length (rest_from o xs) ≡ length xs
 first_rest [] o e = ap (λ z. 0 + length (rest_from z [])) e
@@ -53,7 +53,7 @@ pub record IsMovedOn (u v : Tree) (b : ℕ) (rest : List ℕ) : Type 0 where
 pub moves_on : (u : Tree) → IsTree u → (a b k : ℕ) (rest : List ℕ) → a ≢ b → IsBlock u a → IsBlock u b → body_of u b ≡ k ∷ rest → IsMovedOn u (moved_last u k a) b rest
 moves_on u w a b k rest ne in_a in_b e =
     let at = w.bodies.owned k b (subst (In k) (sym e) (inl refl)) in
-    let k_in = live-within u k (w.joined.standing k b at).0 in
+    let k_in = live-within u k (w.joined.all_in_place k b at).0 in
     let keys = w.keys.parents in
     let m = moved_on u a b ne (body_of u a) (block-within u a w.keys in_a) (block-within u b w.keys in_b) u [] rest k
     (record { shape = refl; long = refl; parents_long = refl; at_a = sym (append-nil (body_of u a)); at_b = e; others = λ c na nb. refl; moved = λ j i. absurd i; stays = λ j f. refl })
@@ -137,7 +137,7 @@ moves_fit m t w a b jump values h linked =
     in_a = w.bodies.owned jump a (last_of-In jump (body_of t a) h.ends)
 
     held : (r k : ℕ) × (block_parent_of t a ≡ Some r) × IsRegion t r × (region_parent_of t r ≡ Some k) × (block_parent_operation_of t a ≡ Some k) × IsLive t k
-    held = block_held t a w.joined (w.joined.standing jump a in_a).1
+    held = block_held t a w.joined (w.joined.all_in_place jump a in_a).1
 
     jump_held : parent_operation_of t jump ≡ Some held.1
     jump_held = holder_by t jump a held.1 in_a held.5
@@ -157,5 +157,5 @@ moves_fit m t w a b jump values h linked =
 
     below : (x : ℕ) → In x (held.1 ∷ jump ∷ body_of t b) → x < length t.operations
     below x (inl e) = let y = live-within t held.1 held.6 in omega (arith, y, e)
-    below x (inr (inl e)) = let y = live-within t jump (w.joined.standing jump a in_a).0 in omega (arith, y, e)
-    below x (inr (inr i)) = live-within t x (w.joined.standing x b (w.bodies.owned x b i)).0
+    below x (inr (inl e)) = let y = live-within t jump (w.joined.all_in_place jump a in_a).0 in omega (arith, y, e)
+    below x (inr (inr i)) = live-within t x (w.joined.all_in_place x b (w.bodies.owned x b i)).0

@@ -6,7 +6,7 @@ use Rattle.pliron_core.specs.declared.context.Def.{Def}
 use Rattle.pliron_core.specs.declared.context.Def.TheVariants.{Argument, Result}
 use Rattle.pliron_core.specs.Tree.{Tree, In, IsLive, IsBlock, IsRegion, IsMadeBy, IsDefinedWithin, IsInside.Directly, head_of, successors_of, operands_of, results_of, regions_of, parent_of, body_of, arguments_of, block_parent_of, block_parent_operation_of, region_parent_of, definition_of}
 use Rattle.pliron_core.specs.Invariant.{IsTree}
-use Rattle.pliron_core.specs.Erased.{after_erasing, IsSelfContained, IsSelfContainedBlock, StandsIn, IsBlockWithin, IsDefinedInBlock}
+use Rattle.pliron_core.specs.Erased.{after_erasing, IsSelfContained, IsSelfContainedBlock, IsInOperation, IsBlockWithin, IsDefinedInBlock}
 use Rattle.pliron_core.proofs.TreeLemmas.{live-within, block-within}
 use Rattle.pliron_core.proofs.NeighbourLemmas.{last_of-In}
 use Rattle.pliron_core.proofs.WithinLemmas.{within_is, is_within}
@@ -56,10 +56,10 @@ module _ (m : Meaning) (can_fold : Head → Bool) (SameTests : Head → Head →
   in_a = w.bodies.owned jump a (last_of-In jump (body_of t a) h.pair.ends)
 
   pub live : IsLive t jump
-  live = (w.joined.standing jump a in_a).0
+  live = (w.joined.all_in_place jump a in_a).0
 
   held : (r k : ℕ) × (block_parent_of t a ≡ Some r) × IsRegion t r × (region_parent_of t r ≡ Some k) × (block_parent_operation_of t a ≡ Some k) × IsLive t k
-  held = block_held t a w.joined (w.joined.standing jump a in_a).1
+  held = block_held t a w.joined (w.joined.all_in_place jump a in_a).1
 
   linked : IsWellLinked m t held.1
   linked = h.linked held.1 held.5
@@ -123,13 +123,13 @@ module _ (m : Meaning) (can_fold : Head → Bool) (SameTests : Head → Head →
         (w.bodies.distinct b)
         (λ k i.
         let at = w1.bodies.owned k b (subst (In k) (sym body1) i) in
-        (at, (let x = live-within t1 k (w1.joined.standing k b at).0 in let y = w1.keys.parents in omega (arith, x, y)), λ z. z))
+        (at, (let x = live-within t1 k (w1.joined.all_in_place k b at).0 in let y = w1.keys.parents in omega (arith, x, y)), λ z. z))
 
     pub second_left : IsBlock t2 b
     second_left = subst (λ (z : Tree). IsBlock z b) (sym moving.shape) second_stands
 
     -- nothing stands in the second block any more
-    empty : (x : ℕ) → StandsIn t2 b x → ⊥
+    empty : (x : ℕ) → IsInOperation t2 b x → ⊥
     empty x s = subst (In s.0) moving.at_b (w2.bodies.listed s.0 b s.1)
 
     operand : (x v : ℕ) → In v (operands_of t2 x) → In v (operands_of t x)

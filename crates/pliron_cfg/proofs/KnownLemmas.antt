@@ -51,7 +51,7 @@ module _ (m : Meaning) (can_fold : Head → Bool) (constants : Constants) (t : T
             maker = k;
             index = i;
             operation = operation_of t k h;
-            stands = oe;
+            liveness = oe;
             result = subst (λ z. slice_get z i ≡ Some v) s.results made;
             folds = subst (λ z. IsTrue (can_fold z)) (some_is (sym at ∙ s.head)) f;
             answers = one_is _ c (ap (λ z. answered_for m constants t z i) (sym oe) ∙ said);
@@ -83,16 +83,16 @@ module _ (m : Meaning) (constants : Constants) (t : Tree) (op i : ℕ) (answers 
   here : (h : Head) × (head_of t op ≡ Some h)
   here = some_of (head_of t op) live
 
-  stands : op_at t op ≡ Some (operation_of t op here.0)
-  stands = make_op t op here.0 here.1
+  liveness : op_at t op ≡ Some (operation_of t op here.0)
+  liveness = make_op t op here.0 here.1
 
   said : answers ≡ constants (shape_of m t (operation_of t op here.0)) (replicate (length (operation_of t op here.0).operands) None)
   said =
-      reads (operation_of t op here.0) stands
-      ∙ ap (λ z. constants (shape_of m t (operation_of t op here.0)) z) (none ∙ ap (λ l. replicate (length l) None) (op_shows t op (operation_of t op here.0) stands).operands)
+      reads (operation_of t op here.0) liveness
+      ∙ ap (λ z. constants (shape_of m t (operation_of t op here.0)) z) (none ∙ ap (λ l. replicate (length l) None) (op_shows t op (operation_of t op here.0) liveness).operands)
 
   all_said : answered_for m constants t (op_at t op) i ≡ one_answer (slice_get answers i)
-  all_said = ap (λ z. answered_for m constants t z i) stands ∙ ap (λ l. one_answer (slice_get l i)) (sym said)
+  all_said = ap (λ z. answered_for m constants t z i) liveness ∙ ap (λ l. one_answer (slice_get l i)) (sym said)
 
   pub answer_at : (a : Option AttrObj) → slice_get answers i ≡ Some a → a ≡ answered_for m constants t (op_at t op) i
   answer_at a e = sym (all_said ∙ ap one_answer e)

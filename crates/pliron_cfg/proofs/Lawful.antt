@@ -15,7 +15,7 @@ use Rattle.pliron_laws.specs.Linked.{EdgesLast}
 use Rattle.pliron_traversal.specs.Digraph.{IsPath}
 use Rattle.pliron_traversal.specs.Regions.{graph_of_region, IsLawfulRegion}
 use Rattle.pliron_traversal.specs.Internal.RegionLawful.{in_keys, keys_have, region_lawful, same_key}
-use Rattle.pliron_cfg.specs.Visited.{IsVisited, IsVisited.Starts, IsVisited.Nested, IsLookedInto, IsLookedIntoIf, IsReachedIn}
+use Rattle.pliron_cfg.specs.Visited.{IsVisited, IsVisited.Starts, IsVisited.Nested, IsVisitedBlock, IsVisitedBlockIf, IsReachedIn}
 
 module _ (t : Tree) (w : IsTree t) (r : ℕ) (l : IsLawfulRegion t r) where
   path_stays : (u : ℕ) (ws : List ℕ) (v : ℕ) → Contains (layout_of t r) u → IsPath (graph_of_region t r) u ws v → Contains (layout_of t r) v
@@ -25,14 +25,14 @@ module _ (t : Tree) (w : IsTree t) (r : ℕ) (l : IsLawfulRegion t r) where
   pub reached_in : (b : ℕ) → IsReachedIn t r b → block_parent_of t b ≡ Some r
   reached_in b x = w.layouts.owned b r (in_keys (layout_of t r) b (path_stays x.0 x.2.0 b (keys_have (layout_of t r) x.0 (first_of-In x.0 (layout_of t r) x.1)) x.2.1))
 
-  entered_if : (ssa : Bool) (b : ℕ) → IsLookedIntoIf ssa t r b → block_parent_of t b ≡ Some r
+  entered_if : (ssa : Bool) (b : ℕ) → IsVisitedBlockIf ssa t r b → block_parent_of t b ≡ Some r
   entered_if true b x = reached_in b x
   entered_if false b x = w.layouts.owned b r (first_of-In b (layout_of t r) x)
 
-  pub entered_in : (b : ℕ) → IsLookedInto t r b → block_parent_of t b ≡ Some r
+  pub entered_in : (b : ℕ) → IsVisitedBlock t r b → block_parent_of t b ≡ Some r
   entered_in b x = entered_if (has_ssa t r) b x
 
-  pub entered_stands : (b : ℕ) → IsLookedInto t r b → IsBlock t b
+  pub entered_stands : (b : ℕ) → IsVisitedBlock t r b → IsBlock t b
   entered_stands b x = subst IsSome (sym (entered_in b x)) refl
 
 -- edges stand last in what is held
@@ -45,7 +45,7 @@ pub region_of_op : (t : Tree) → IsTree t → (op r : ℕ) → In r (regions_of
 region_of_op t w op r i e =
     let x = slice_in (regions_of t op) r i in
     let slot = w.joined.regions op x.0 r x.1 in
-    record { tree = w; stands = region_by t r (record { op = op; index = x.0 }) slot x.1; holder = op; held = ap op_of_slot slot; edges = e }
+    record { tree = w; liveness = region_by t r (record { op = op; index = x.0 }) slot x.1; holder = op; held = ap op_of_slot slot; edges = e }
 
 pub visited_lawful : (t : Tree) → IsTree t → (Start : ℕ → Type 0) → ((r : ℕ) → Start r → IsLawfulRegion t r) → (r : ℕ) → IsVisited t Start r → IsLawfulRegion t r
 visited_lawful t w Start f r (Starts s) = f r s
@@ -59,21 +59,21 @@ region_below t r is = let s = slot_is t r is in slice_get_within t.slots r s.0 s
 
 -- visited regions are no more than regions
 pub seen_few : (t : Tree) → IsTree t → (Start : ℕ → Type 0) → ((r : ℕ) → Start r → IsLawfulRegion t r) → (seen : List ℕ) → IsDistinct seen → ((r : ℕ) → In r seen → IsVisited t Start r) → length seen ≤ length t.slots
-seen_few t w Start f seen d v = distinct-length (length t.slots) seen d (λ r i. region_below t r (visited_lawful t w Start f r (v r i)).stands)
+seen_few t w Start f seen d v = distinct-length (length t.slots) seen d (λ r i. region_below t r (visited_lawful t w Start f r (v r i)).liveness)
 
 pub fewer_left : (a x y rest s waiting : ℕ) → s ≤ a → y ≤ a → x + s ≡ rest + y → waiting ≡ rest + 1 → a + x - y < a + waiting - s
 fewer_left a x y rest s waiting h k e f = omega (arith, h, k, e, f)
 
 -- what a call on a block, on a region starts with may be read as a graph
 pub region_in_block : (t : Tree) → IsTree t → (block r : ℕ) → IsBlock t block → ((holder : ℕ) → block_parent_operation_of t block ≡ Some holder → EdgesLast t holder) → In r (flat_map (λ k. regions_of t k) (body_of t block)) → IsLawfulRegion t r
-region_in_block t w block r stands edges i =
-    let up = block_held t block w.joined stands in
+region_in_block t w block r liveness edges i =
+    let up = block_held t block w.joined liveness in
     let k = flat_map-In (λ k. regions_of t k) (body_of t block) r i in
     let inside : IsInside t up.1 k.0 = Directly (holder_by t k.0 block up.1 (w.bodies.owned k.0 block k.1) up.5) in
     region_of_op t w k.0 r k.2 (edges_held t up.1 k.0 inside (edges up.1 up.5))
 
 pub region_itself : (t : Tree) → IsTree t → (r : ℕ) → IsRegion t r → ((holder : ℕ) → region_parent_of t r ≡ Some holder → EdgesLast t holder) → IsLawfulRegion t r
-region_itself t w r stands edges =
-    let s = slot_is t r stands in
+region_itself t w r liveness edges =
+    let s = slot_is t r liveness in
     let up = region_parent_is t r s.0 s.1 in
-    record { tree = w; stands = stands; holder = s.0.op; held = up; edges = edges s.0.op up }
+    record { tree = w; liveness = liveness; holder = s.0.op; held = up; edges = edges s.0.op up }

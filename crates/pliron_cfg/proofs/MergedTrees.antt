@@ -24,7 +24,7 @@ use Rattle.pliron_cfg.proofs.JoinLemmas.{forwarded_arguments, forwarded_shape}
 
 -- the first block of a pair is held
 pub first_held : (m : Meaning) (t : Tree) → IsTree t → (a b jump : ℕ) (values : List ℕ) → IsMergeable m t a b jump values → (r k : ℕ) × (block_parent_of t a ≡ Some r) × IsRegion t r × (region_parent_of t r ≡ Some k) × (block_parent_operation_of t a ≡ Some k) × IsLive t k
-first_held m t w a b jump values h = block_held t a w.joined (w.joined.standing jump a (w.bodies.owned jump a (last_of-In jump (body_of t a) h.ends))).1
+first_held m t w a b jump values h = block_held t a w.joined (w.joined.all_in_place jump a (w.bodies.owned jump a (last_of-In jump (body_of t a) h.ends))).1
 
 -- what merging b into a leaves
 pub record IsMerge (m : Meaning) (t v : Tree) (a b : ℕ) : Type 0 where
@@ -69,10 +69,10 @@ module _ (m : Meaning) (can_fold : Head → Bool) (SameTests : Head → Head →
     shape = forwarded_shape t (arguments_of t b) values
 
     op_left : (k : ℕ) → IsLive v k → k ≢ jump
-    op_left k live e = let x = some_of (head_of v k) live in not_none (sym well.spliced.gone ∙ ap (head_of v) (sym e) ∙ x.1)
+    op_left k live e = let x = some_of (head_of v k) live in not_none (sym well.spliced.deleted ∙ ap (head_of v) (sym e) ∙ x.1)
 
     block_left : (c : ℕ) → IsBlock v c → c ≢ b
-    block_left c is e = let x = some_of (block_parent_of v c) is in not_none (sym well.spliced.gone_block ∙ ap (block_parent_of v) (sym e) ∙ x.1)
+    block_left c is e = let x = some_of (block_parent_of v c) is in not_none (sym well.spliced.detached_block ∙ ap (block_parent_of v) (sym e) ∙ x.1)
 
     block_was_there : (c k : ℕ) → block_parent_operation_of v c ≡ Some k → block_parent_operation_of t c ≡ Some k
     block_was_there c k e =

@@ -42,7 +42,7 @@ pub record IsLasting (start : Start) (root : ℕ) : Type 0 where
 
 -- a region that is held stays so where operands change
 held_same : (t : Tree) (xs : List (List ℕ)) (root r : ℕ) → ((k : ℕ) → IsInside t root k → IsInside (record t { operands = xs }) root k) → IsHeld t root r → IsHeld (record t { operands = xs }) root r
-held_same t xs root r more h = record { holder = h.holder; held = h.held; stands = h.stands; within = elim h.within [ inl e ↦ inl e | inr i ↦ inr (more h.holder i) ] }
+held_same t xs root r more h = record { holder = h.holder; held = h.held; liveness = h.liveness; within = elim h.within [ inl e ↦ inl e | inr i ↦ inr (more h.holder i) ] }
 
 inside_same : (t : Tree) (xs : List (List ℕ)) (root k : ℕ) → IsInside t root k → IsInside (record t { operands = xs }) root k
 inside_same t xs root k (Directly e) = Directly e
@@ -134,10 +134,10 @@ module _ (m : Meaning) (can_fold : Head → Bool) (SameTests : Head → Head →
 
     -- the jump goes
     pub jump_gone : head_of v jump ≡ None
-    jump_gone = s.gone
+    jump_gone = s.deleted
 
     pub jump_live : IsLive t jump
-    jump_live = (wu.joined.standing jump a (wu.bodies.owned jump a (subst (In jump) (sym s.split) (In-right jump well.front (jump ∷ []) (inl refl))))).0
+    jump_live = (wu.joined.all_in_place jump a (wu.bodies.owned jump a (subst (In jump) (sym s.split) (In-right jump well.front (jump ∷ []) (inl refl))))).0
 
     root_stands : IsLive v root
     root_stands = (o_inside.operations root (outside_itself w.joined.rooted live)).0.0
@@ -151,7 +151,7 @@ module _ (m : Meaning) (can_fold : Head → Bool) (SameTests : Head → Head →
       forth = λ c x is.
           let vis = visited_u x.region x.searched.0 in
           let hx = held_u x.region vis in
-          let ne : c ≢ b = λ e. let y = some_of (block_parent_of v c) is in not_none (sym s.gone_block ∙ ap (block_parent_of v) (sym e) ∙ y.1) in
+          let ne : c ≢ b = λ e. let y = some_of (block_parent_of v c) is in not_none (sym s.detached_block ∙ ap (block_parent_of v) (sym e) ∙ y.1) in
           record {
             region = x.region;
             searched = (visited_forth u v wu wv root holds.holder a b jump well.front s linked_u.edges linked_v.edges near_u.edges held inside (start u) (start v) starts_u more x.region vis, ssa_same u v wu wv root holds.holder a b jump well.front s linked_u.edges linked_v.edges near_u.edges held inside x.region hx ∙ x.searched.1);
@@ -161,22 +161,22 @@ module _ (m : Meaning) (can_fold : Head → Bool) (SameTests : Head → Head →
       back = λ c x.
           let vis = visited_back u v wu wv root holds.holder a b jump well.front s linked_u.edges linked_v.edges near_u.edges held inside opened.region opened.in_region opened.searched.1 (start u) (start v) starts_u fewer x.region x.searched.0 in
           let hx = held_u x.region vis in
-          let ne : c ≢ b = λ e. not_none (sym s.gone_block ∙ ap (block_parent_of v) (sym e) ∙ x.in_region) in
+          let ne : c ≢ b = λ e. not_none (sym s.detached_block ∙ ap (block_parent_of v) (sym e) ∙ x.in_region) in
           record {
             region = x.region;
             searched = (visited_t x.region vis, sym (ssa_same u v wu wv root holds.holder a b jump well.front s linked_u.edges linked_v.edges near_u.edges held inside x.region hx) ∙ x.searched.1);
             in_region = sym (s.block_parents c ne) ∙ x.in_region;
             reached = reached_back u v wu wv root holds.holder a b jump well.front s linked_u.edges linked_v.edges near_u.edges held inside x.region c hx x.reached;
           };
-      were = λ c is. let ne : c ≢ b = λ e. let y = some_of (block_parent_of v c) is in not_none (sym s.gone_block ∙ ap (block_parent_of v) (sym e) ∙ y.1) in subst (λ z. is_some z ≡ true) (s.block_parents c ne) is;
+      were = λ c is. let ne : c ≢ b = λ e. let y = some_of (block_parent_of v c) is in not_none (sym s.detached_block ∙ ap (block_parent_of v) (sym e) ∙ y.1) in subst (λ z. is_some z ≡ true) (s.block_parents c ne) is;
       cut = λ c x.
           let vis = visited_back u v wu wv root holds.holder a b jump well.front s linked_u.edges linked_v.edges near_u.edges held inside opened.region opened.in_region opened.searched.1 (start u) (start v) starts_u fewer x.0 x.1.0 in
           let hx = held_u x.0 vis in
-          let ne : c ≢ b = λ e. not_none (sym s.gone_block ∙ ap (block_parent_of v) (sym e) ∙ x.2.0) in (
+          let ne : c ≢ b = λ e. not_none (sym s.detached_block ∙ ap (block_parent_of v) (sym e) ∙ x.2.0) in (
             x.0,
             (visited_t x.0 vis, sym (ssa_same u v wu wv root holds.holder a b jump well.front s linked_u.edges linked_v.edges near_u.edges held inside x.0 hx) ∙ x.1.1),
             (sym (s.block_parents c ne) ∙ x.2.0, λ reached. x.2.1 (reached_forth u v wu wv root holds.holder a b jump well.front s linked_u.edges linked_v.edges near_u.edges held inside x.0 c hx ne reached)),
           );
-      lives = λ k is. let ne : k ≢ jump = λ e. let y = some_of (head_of v k) is in not_none (sym s.gone ∙ ap (head_of v) (sym e) ∙ y.1) in subst (λ z. is_some z.head ≡ true) (s.rows k ne) is;
-      change = record { stands = root_stands; linked = linked_v; inside = wide t v w holds.within (o.inside holds.holder held); runs = o.runs };
+      lives = λ k is. let ne : k ≢ jump = λ e. let y = some_of (head_of v k) is in not_none (sym s.deleted ∙ ap (head_of v) (sym e) ∙ y.1) in subst (λ z. is_some z.head ≡ true) (s.rows k ne) is;
+      change = record { liveness = root_stands; linked = linked_v; inside = wide t v w holds.within (o.inside holds.holder held); runs = o.runs };
     }

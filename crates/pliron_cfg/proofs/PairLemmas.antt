@@ -188,7 +188,7 @@ another_maker t w block v d e other k =
     other block x.0 (some_is (sym e ∙ x.1))
 
 pub way_live : (m : Meaning) (t : Tree) → IsTree t → (a b jump : ℕ) → IsOnlyWay m t a b jump → IsSome (head_of t jump)
-way_live m t w a b jump h = (w.joined.standing jump a (w.bodies.owned jump a (last_of-In jump (body_of t a) h.ends))).0
+way_live m t w a b jump h = (w.joined.all_in_place jump a (w.bodies.owned jump a (last_of-In jump (body_of t a) h.ends))).0
 
 pub values_defined : (m : Meaning) (t : Tree) → IsTree t → (a b jump : ℕ) (values : List ℕ) → IsOnlyWay m t a b jump → AreForwarded m t jump 0 values → (v : ℕ) → In v values → IsDefined t v
 values_defined m t w a b jump values h f v i = w.joined.operands jump v (forwarded_operand m t jump values (way_live m t w a b jump h) f v i)

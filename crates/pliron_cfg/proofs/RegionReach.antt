@@ -13,14 +13,14 @@ use Rattle.pliron_laws.specs.Paths.{Path, Leads}
 use Rattle.pliron_traversal.specs.Digraph.{Reaches, IsPath}
 use Rattle.pliron_traversal.specs.Regions.{graph_of_region}
 use Rattle.pliron_traversal.specs.Internal.RegionLawful.{in_keys, keys_have}
-use Rattle.pliron_cfg.specs.Visited.{IsReachedIn, IsLookedIntoIf, IsLookedInto, IsVisited, IsVisited.Starts, IsVisited.Nested}
+use Rattle.pliron_cfg.specs.Visited.{IsReachedIn, IsVisitedBlockIf, IsVisitedBlock, IsVisited, IsVisited.Starts, IsVisited.Nested}
 use Rattle.pliron_block_laws.specs.Reaching.{LeadsTo}
 
 -- the region stands, and what holds it is the root or inside it
 pub record IsHeld (t : Tree) (root r : ℕ) : Type 0 where
   pub holder : ℕ
   pub held : region_parent_of t r ≡ Some holder
-  pub stands : IsRegion t r
+  pub liveness : IsRegion t r
   pub within : IsWithin t root holder
 
 module _ (t : Tree) (w : IsTree t) (root : ℕ) (edges : EdgesLast t root) where
@@ -59,10 +59,10 @@ module _ (t : Tree) (w : IsTree t) (root : ℕ) (edges : EdgesLast t root) where
   pub reached_in : (r b : ℕ) → IsHeld t root r → IsReachedIn t r b → block_parent_of t b ≡ Some r
   reached_in r b h x = path_in r h x.0 b x.2.0 (entry_in r x.0 x.1) x.2.1
 
-  pub entered_in : (r b : ℕ) → IsHeld t root r → IsLookedInto t r b → block_parent_of t b ≡ Some r
+  pub entered_in : (r b : ℕ) → IsHeld t root r → IsVisitedBlock t r b → block_parent_of t b ≡ Some r
   entered_in r b h e = go (has_ssa t r) e
     where
-      go : (z : Bool) → IsLookedIntoIf z t r b → block_parent_of t b ≡ Some r
+      go : (z : Bool) → IsVisitedBlockIf z t r b → block_parent_of t b ≡ Some r
       go true x = reached_in r b h x
       go false x = entry_in r b x
 
@@ -74,7 +74,7 @@ module _ (t : Tree) (w : IsTree t) (root : ℕ) (edges : EdgesLast t root) where
       record {
         holder = k;
         held = region_parent_is t r (record { op = k; index = x.0 }) slot;
-        stands = region_by t r (record { op = k; index = x.0 }) slot x.1;
+        liveness = region_by t r (record { op = k; index = x.0 }) slot x.1;
         within = inr (inside_by h.holder (holder_by t k b h.holder at (block_holder_from t b outer is ∙ h.held)) h.within);
       }
 

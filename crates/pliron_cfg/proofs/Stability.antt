@@ -7,8 +7,8 @@ use Rattle.pliron_core.specs.Tree.{Tree, In, IsRising, IsLive, first_of, last_of
 use Rattle.pliron_core.specs.Invariant.{IsTree}
 use Rattle.pliron_core.specs.Reads.{has_ssa, has_ssa_at, ssa_in}
 use Rattle.pliron_core.specs.Edges.{succs_of, succs_from}
-use Rattle.pliron_core.specs.Erased.{StandsIn}
-use Rattle.pliron_core.proofs.ClearedLemmas.{told}
+use Rattle.pliron_core.specs.Erased.{IsInOperation}
+use Rattle.pliron_core.proofs.ClearedLemmas.{reported}
 use Rattle.pliron_core.proofs.ReadLemmas.{In-last}
 use Rattle.pliron_core.proofs.NeighbourLemmas.{first_of-In}
 use Rattle.pliron_core.proofs.WithinLemmas.{block_holder_from, holder_from}
@@ -18,9 +18,9 @@ use Rattle.pliron_traversal.specs.Regions.{graph_of_region, IsLawfulRegion}
 use Rattle.pliron_traversal.specs.Internal.RegionLawful.{in_keys}
 use Rattle.std.proofs.Common.{if◌then◌else◌}
 use Rattle.pliron_core.specs.Erased.{is_met_above}
-use Rattle.pliron_block_laws.specs.Cutting.{stands_in_one, cut_op, cut_block, AreCut}
+use Rattle.pliron_block_laws.specs.Cutting.{is_in_one_of, cut_op, cut_block, AreCut}
 use Rattle.pliron_block_laws.proofs.CutBlocks.{block_cases, listed}
-use Rattle.pliron_cfg.specs.Visited.{IsVisited, IsVisited.Starts, IsVisited.Nested, IsReachedIn, IsLookedInto, IsLookedIntoIf, IsCutOff}
+use Rattle.pliron_cfg.specs.Visited.{IsVisited, IsVisited.Starts, IsVisited.Nested, IsReachedIn, IsVisitedBlock, IsVisitedBlockIf, IsCutOff}
 use Rattle.pliron_cfg.specs.Visits.{AreVisits}
 use Rattle.pliron_cfg.proofs.Lawful.{reached_in, entered_in, visited_lawful}
 use Rattle.pliron_cfg.proofs.CutOffLemmas.{reached_on, cut_in}
@@ -40,18 +40,18 @@ first_same (a ∷ xs) (b ∷ ys) x rx ry e sub i =
     (sub b (inl refl)))
 
 in_cut_listed : (t : Tree) (bs : List ℕ) (b : ℕ) → In b bs → cut_block t bs b ≡ true
-in_cut_listed t bs b i = ap (λ z. if z then true else is_met_above t (stands_in_one t bs) (block_parent_operation_of t b)) (listed bs b i)
+in_cut_listed t bs b i = ap (λ z. if z then true else is_met_above t (is_in_one_of t bs) (block_parent_operation_of t b)) (listed bs b i)
 
 -- a region is one of its operation's
 region_listed : (t : Tree) (r : ℕ) (l : IsLawfulRegion t r) → In r (regions_of t l.holder)
 region_listed t r l =
-    let s = slot_is t r l.stands in
+    let s = slot_is t r l.liveness in
     let same : s.0.op ≡ l.holder = some_is (sym (region_parent_is t r s.0 s.1) ∙ l.held) in
     subst (λ z. In r (regions_of t z)) same (in_slice (regions_of t s.0.op) s.0.index r s.2)
 
 module _ (t v : Tree) (w : IsTree t) (wv : IsTree v) (r0 : ℕ) (bs : List ℕ) (exact : (b : ℕ) → In b bs ↔ IsCutOff t r0 b) (cut : AreCut t v r0 bs) (ssa : IsTrue (has_ssa t r0))
     (A B : ℕ → Type 0) (lawful : (r : ℕ) → A r → IsLawfulRegion t r)
-    (apart : (r h b : ℕ) → A r → region_parent_of t r ≡ Some h → In b bs → StandsIn t b h → ⊥)
+    (apart : (r h b : ℕ) → A r → region_parent_of t r ≡ Some h → In b bs → IsInOperation t b h → ⊥)
     (to : (r : ℕ) → A r → B r) (from : (r : ℕ) → B r → A r) where
   own : (b : ℕ) → In b bs → block_parent_of t b ≡ Some r0
   own b i = ((exact b).0 i).0
@@ -68,12 +68,12 @@ module _ (t v : Tree) (w : IsTree t) (wv : IsTree v) (r0 : ℕ) (bs : List ℕ) 
       let same : r ≡ r0 = some_is (sym (reached_in t w r l b x) ∙ own b i) in
       ((exact b).0 i).1 (subst (λ z. IsReachedIn t z b) same x)
 
-  entered_left : (r b : ℕ) (z : Bool) → IsLawfulRegion t r → IsLookedIntoIf z t r b → In b bs → ⊥
+  entered_left : (r b : ℕ) (z : Bool) → IsLawfulRegion t r → IsVisitedBlockIf z t r b → In b bs → ⊥
   entered_left r b true l x i = reached_left r b l x i
   entered_left r b false l x i = reached_left r b l (b, x, ([], refl)) i
 
   -- the operation that holds a visited region does not go
-  never : (r : ℕ) → IsVisited t A r → (h : ℕ) → region_parent_of t r ≡ Some h → (b : ℕ) → In b bs → StandsIn t b h → ⊥
+  never : (r : ℕ) → IsVisited t A r → (h : ℕ) → region_parent_of t r ≡ Some h → (b : ℕ) → In b bs → IsInOperation t b h → ⊥
   never r (Starts s) h e b i y = apart r h b s e i y
   never r (Nested outer c k x ent p j) h e b i y = ⊎_elim
       (λ s. entered_left outer c (has_ssa t outer) (law outer x) ent (subst (λ z. In z bs) (some_is (sym y.1 ∙ ap (parent_of t) (sym s) ∙ ap (parent_of t) same ∙ p)) i))
@@ -128,7 +128,7 @@ module _ (t v : Tree) (w : IsTree t) (wv : IsTree v) (r0 : ℕ) (bs : List ℕ) 
     ssa_same = ap (has_ssa_at v) parent_same ∙ ap (λ z. ssa_in z.head) row_same ∙ sym (ap (has_ssa_at t) l.held)
 
     placed_was : (c : ℕ) → block_parent_of v c ≡ Some r → block_parent_of t c ≡ Some r
-    placed_was c e = ⊎_elim (λ d. absurd (not_none (sym (cut.gone_blocks c d) ∙ e))) (λ d. sym (cut.block_parents c d) ∙ e) (told (cut_block t bs c))
+    placed_was c e = ⊎_elim (λ d. absurd (not_none (sym (cut.detached_blocks c d) ∙ e))) (λ d. sym (cut.block_parents c d) ∙ e) (reported (cut_block t bs c))
 
     -- the entry is the same
     pub first_kept : (e : ℕ) → first_of (layout_of t r) None ≡ Some e → first_of (layout_of v r) None ≡ Some e
@@ -167,19 +167,19 @@ module _ (t v : Tree) (w : IsTree t) (wv : IsTree v) (r0 : ℕ) (bs : List ℕ) 
     pub reached_was : (c : ℕ) → IsReachedIn v r c → IsReachedIn t r c
     reached_was c y = let f = first_was y.0 y.1 in (y.0, f, (y.2.0, back y.2.0 y.0 c (y.0, f, ([], refl)) y.2.1))
 
-    entered_still_if : (z : Bool) (c : ℕ) → IsLookedIntoIf z t r c → IsLookedIntoIf z v r c
+    entered_still_if : (z : Bool) (c : ℕ) → IsVisitedBlockIf z t r c → IsVisitedBlockIf z v r c
     entered_still_if true c y = reached_still c y
     entered_still_if false c y = first_kept c y
 
-    entered_was_if : (z : Bool) (c : ℕ) → IsLookedIntoIf z v r c → IsLookedIntoIf z t r c
+    entered_was_if : (z : Bool) (c : ℕ) → IsVisitedBlockIf z v r c → IsVisitedBlockIf z t r c
     entered_was_if true c y = reached_was c y
     entered_was_if false c y = first_was c y
 
-    entered_still : (c : ℕ) → IsLookedInto t r c → IsLookedInto v r c
-    entered_still c y = subst (λ z. IsLookedIntoIf z v r c) (sym ssa_same) (entered_still_if (has_ssa t r) c y)
+    entered_still : (c : ℕ) → IsVisitedBlock t r c → IsVisitedBlock v r c
+    entered_still c y = subst (λ z. IsVisitedBlockIf z v r c) (sym ssa_same) (entered_still_if (has_ssa t r) c y)
 
-    entered_was : (c : ℕ) → IsLookedInto v r c → IsLookedInto t r c
-    entered_was c y = entered_was_if (has_ssa t r) c (subst (λ z. IsLookedIntoIf z v r c) ssa_same y)
+    entered_was : (c : ℕ) → IsVisitedBlock v r c → IsVisitedBlock t r c
+    entered_was c y = entered_was_if (has_ssa t r) c (subst (λ z. IsVisitedBlockIf z v r c) ssa_same y)
 
     -- a block of the region is cut off after exactly if it was and is not among them
     pub cut_off_was : (b : ℕ) → IsCutOff v r b → IsCutOff t r b
@@ -198,8 +198,8 @@ module _ (t v : Tree) (w : IsTree t) (wv : IsTree v) (r0 : ℕ) (bs : List ℕ) 
   visited_was r (Starts s) = Starts (from r s)
   visited_was r (Nested outer c k x ent p j) =
       let y = visited_was outer x in
-      let live : IsLive v k = (wv.joined.standing k c p).0 in
-      let left : cut_op t bs k ≡ false = false_from_ne_true _ (λ e. true≢false (sym live ∙ ap is_some (cut.gone k e))) in
+      let live : IsLive v k = (wv.joined.all_in_place k c p).0 in
+      let left : cut_op t bs k ≡ false = false_from_ne_true _ (λ e. true≢false (sym live ∙ ap is_some (cut.deleted k e))) in
       Nested outer c k y (entered_was outer y c ent) (sym (cut.parents k left) ∙ p) (subst (λ z. In r z.regions) (cut.rows k left) j)
 
   pub visits_still : (rs ks : List ℕ) → AreVisits t A rs ks → AreVisits v B rs ks
@@ -218,4 +218,4 @@ module _ (t v : Tree) (w : IsTree t) (wv : IsTree v) (r0 : ℕ) (bs : List ℕ) 
   pub none_left : IsVisited t A r0 → (b : ℕ) → IsCutOff v r0 b → ⊥
   none_left x b y =
       let i = (exact b).1 (cut_off_was r0 x b y) in
-      not_none (sym (cut.gone_blocks b (in_cut_listed t bs b i)) ∙ y.0)
+      not_none (sym (cut.detached_blocks b (in_cut_listed t bs b i)) ∙ y.0)

@@ -7,13 +7,13 @@ use Rattle.pliron_core.specs.Invariant.{IsTree}
 use Rattle.pliron_core.specs.Reads.{has_ssa}
 use Rattle.pliron_core.proofs.FlatLemmas.{In-flat_map, flat_map-In}
 use Rattle.pliron_core.proofs.ListLemmas.{In-left, In-right, In-cases}
-use Rattle.pliron_cfg.specs.Visited.{IsVisited, IsVisited.Starts, IsVisited.Nested, IsLookedInto, IsReachedIn}
+use Rattle.pliron_cfg.specs.Visited.{IsVisited, IsVisited.Starts, IsVisited.Nested, IsVisitedBlock, IsReachedIn}
 use Rattle.pliron_cfg.specs.Visits.{AreVisits}
 use Rattle.pliron_cfg.specs.Internal.Seen.{HasGrown}
 
 -- a region with what it leads to
 pub record IsDone (t : Tree) (seen rs bs : List ℕ) (r : ℕ) : Type 0 where
-  pub nested : (b k q : ℕ) → IsLookedInto t r b → parent_of t k ≡ Some b → In q (regions_of t k) → In q seen
+  pub nested : (b k q : ℕ) → IsVisitedBlock t r b → parent_of t k ≡ Some b → In q (regions_of t k) → In q seen
   pub listed : IsTrue (has_ssa t r) → In r rs
   pub blocks : IsTrue (has_ssa t r) → (b : ℕ) → IsReachedIn t r b → In b bs
 
@@ -41,7 +41,7 @@ visiting_starts t starts seen waiting g = record {
   distinct = g.distinct tt;
 }
 
-module _ (t : Tree) (w : IsTree t) (Start : ℕ → Type 0) (seen rest rs bs : List ℕ) (r : ℕ) (h : IsVisiting t Start seen (rest ++ r ∷ []) rs bs) (entered seen' waiting' : List ℕ) (in_entered : (b : ℕ) → In b entered → IsLookedInto t r b) (all_entered : (b : ℕ) → IsLookedInto t r b → In b entered) (g : HasGrown (nested_in t entered) seen rest seen' waiting') where
+module _ (t : Tree) (w : IsTree t) (Start : ℕ → Type 0) (seen rest rs bs : List ℕ) (r : ℕ) (h : IsVisiting t Start seen (rest ++ r ∷ []) rs bs) (entered seen' waiting' : List ℕ) (in_entered : (b : ℕ) → In b entered → IsVisitedBlock t r b) (all_entered : (b : ℕ) → IsVisitedBlock t r b → In b entered) (g : HasGrown (nested_in t entered) seen rest seen' waiting') where
   here : In r seen
   here = h.waits r (In-right r rest (r ∷ []) (inl refl))
 
@@ -51,7 +51,7 @@ module _ (t : Tree) (w : IsTree t) (Start : ℕ → Type 0) (seen rest rs bs : L
       let k = flat_map-In (λ k. regions_of t k) (body_of t b.0) q b.2 in
       Nested r b.0 k.0 (h.visited r here) (in_entered b.0 b.1) (w.bodies.owned k.0 b.0 k.1) k.2
 
-  nested_seen : (b k q : ℕ) → IsLookedInto t r b → parent_of t k ≡ Some b → In q (regions_of t k) → In q seen'
+  nested_seen : (b k q : ℕ) → IsVisitedBlock t r b → parent_of t k ≡ Some b → In q (regions_of t k) → In q seen'
   nested_seen b k q e p i = g.all q (In-flat_map (λ b. flat_map (λ k. regions_of t k) (body_of t b)) entered b q (all_entered b e) (In-flat_map (λ k. regions_of t k) (body_of t b) k q (w.bodies.listed k b p) i))
 
   -- whatever is recorded of the region

@@ -32,7 +32,7 @@ pub own_region : (t : Tree) → IsTree t → (op r : ℕ) → In r (regions_of t
 own_region t w op r i =
     let x = slice_in (regions_of t op) r i in
     let slot = w.joined.regions op x.0 r x.1 in
-    record { holder = op; held = region_parent_is t r (record { op = op; index = x.0 }) slot; stands = region_by t r (record { op = op; index = x.0 }) slot x.1; within = inl refl }
+    record { holder = op; held = region_parent_is t r (record { op = op; index = x.0 }) slot; liveness = region_by t r (record { op = op; index = x.0 }) slot x.1; within = inl refl }
 
 pub operation_lasts : (op : ℕ) → IsLasting (OfOperation op) op
 operation_lasts op = record {
@@ -86,7 +86,7 @@ module _ (m : Meaning) (can_fold : Head → Bool) (SameTests : Head → Head →
   whole u (Then {u = x} a b jump values before listed pair tree well) =
       let r = whole x before in
       let opened = r.forth a listed (ap is_some (first_held m x r.tree a b jump values pair).2) in
-      let k = kept m can_fold SameTests shortened law start root lasting x a b jump values r.tree r.change.stands r.change.linked r.begins opened pair well tree in
+      let k = kept m can_fold SameTests shortened law start root lasting x a b jump values r.tree r.change.liveness r.change.linked r.begins opened pair well tree in
       record {
         tree = tree;
         some = OneMerged a b jump values r.some (due_of start m x a b jump values opened pair);
@@ -96,7 +96,7 @@ module _ (m : Meaning) (can_fold : Head → Bool) (SameTests : Head → Head →
         cut = λ c y. r.cut c (k.cut c y);
         were = λ c is. r.were c (k.were c is);
         lives = λ j l. r.lives j (k.lives j l);
-        went = inr (jump, r.lives jump (jump_live m can_fold SameTests shortened law start root lasting x a b jump values r.tree r.change.stands r.change.linked r.begins opened pair well tree), jump_gone m can_fold SameTests shortened law start root lasting x a b jump values r.tree r.change.stands r.change.linked r.begins opened pair well tree);
+        went = inr (jump, r.lives jump (jump_live m can_fold SameTests shortened law start root lasting x a b jump values r.tree r.change.liveness r.change.linked r.begins opened pair well tree), jump_gone m can_fold SameTests shortened law start root lasting x a b jump values r.tree r.change.liveness r.change.linked r.begins opened pair well tree);
         change = whole_trans m t x (after_merging x a b jump values) root r.change k.change;
       }
 
@@ -110,7 +110,7 @@ module _ (m : Meaning) (can_fold : Head → Bool) (SameTests : Head → Head →
   -- where there was a pair, a branch went
   pub branch_went : (u : Tree) (s : IRStatus) → MergesAmong m blocks t u × HasNoPairAmong m blocks u × ReportsMerged m blocks t u s → LosesOperation s t u
   branch_went u Unchanged x = tt
-  branch_went u Changed (way, none, tells) = ⊎_elim (λ same. absurd (none tells.0 tells.1 tells.2 tells.3 tells.4 (subst (λ (z : Tree). IsMergeable m z tells.0 tells.1 tells.2 tells.3) (sym same) tells.5))) (λ y. y) (whole u way).went
+  branch_went u Changed (way, none, accurate) = ⊎_elim (λ same. absurd (none accurate.0 accurate.1 accurate.2 accurate.3 accurate.4 (subst (λ (z : Tree). IsMergeable m z accurate.0 accurate.1 accurate.2 accurate.3) (sym same) accurate.5))) (λ y. y) (whole u way).went
 
   -- one pair more, in part
   half : (u v : Tree) → MergesAmong m blocks t u → IsHalfMergedAmong m blocks u v → IsHalfMerged start m u v × IsWholeChange m t v root × KeepsLinks m u v
@@ -122,7 +122,7 @@ module _ (m : Meaning) (can_fold : Head → Bool) (SameTests : Head → Head →
       let close : IsWellLinked m u h.holder = elim h.within [ inl e ↦ subst (IsWellLinked m u) (sym e) r.change.linked | inr i ↦ linked_inside m u root h.holder i r.change.linked ] in
       let f = forwarded_first m can_fold SameTests shortened law h.holder x.a x.b x.jump x.values u x.n r.tree close there x.pair in
       let wide : IsInsideChange u (forwarded_uses u (take x.n (arguments_of u x.b)) x.values) root = elim h.within [ inl e ↦ subst (IsInsideChange u (forwarded_uses u (take x.n (arguments_of u x.b)) x.values)) e f.inside | inr i ↦ widen u (forwarded_uses u (take x.n (arguments_of u x.b)) x.values) root h.holder r.tree.joined i f.inside ] in
-      let change : IsWholeChange m u (forwarded_uses u (take x.n (arguments_of u x.b)) x.values) root = record { stands = (wide.operations root (outside_itself r.tree.joined.rooted r.change.stands)).0.0; linked = f.links root r.change.linked; inside = wide; runs = f.runs } in
+      let change : IsWholeChange m u (forwarded_uses u (take x.n (arguments_of u x.b)) x.values) root = record { liveness = (wide.operations root (outside_itself r.tree.joined.rooted r.change.liveness)).0.0; linked = f.links root r.change.linked; inside = wide; runs = f.runs } in
       (record { a = x.a; b = x.b; jump = x.jump; values = x.values; due = due_of start m u x.a x.b x.jump x.values opened x.pair; n = x.n; forwarded = x.forwarded }, whole_trans m t u v root r.change (subst (λ (z : Tree). IsWholeChange m u z root) (sym x.forwarded) change), subst (λ (z : Tree). KeepsLinks m u z) (sym x.forwarded) f.links)
 
   pub partly : (v : Tree) → MergesAmongPartly m blocks t v → MergesPartly start m t v
@@ -138,10 +138,10 @@ module _ (m : Meaning) (can_fold : Head → Bool) (SameTests : Head → Head →
   partly_links v (inr (u, way, x)) = λ r l. (half u v way x).2 r ((chain m can_fold SameTests shortened law blocks t u w all_linked way).links r l)
 
   pub all_merged : (v : Tree) (s : IRStatus) → MergesAmong m blocks t v × HasNoPairAmong m blocks v × ReportsMerged m blocks t v s → MergesAll start m t v s
-  all_merged v Changed (way, none, tells) =
+  all_merged v Changed (way, none, accurate) =
       let r = whole v way in
-      ((tells.0, tells.1, tells.2, tells.3, due_of start m t tells.0 tells.1 tells.2 tells.3 (open_of tells.0 tells.4) tells.5), r.some, λ p. none p.0 p.1 p.2 p.3 (r.back p.0 (record { region = p.4.region; searched = p.4.searched; in_region = p.4.in_region; reached = p.4.reached })) p.4.pair)
-  all_merged v Unchanged (way, none, tells) = (tells, λ p. none p.0 p.1 p.2 p.3 (listed_of p.0 (record { region = p.4.region; searched = p.4.searched; in_region = p.4.in_region; reached = p.4.reached })) (subst (λ (z : Tree). IsMergeable m z p.0 p.1 p.2 p.3) (sym tells) p.4.pair))
+      ((accurate.0, accurate.1, accurate.2, accurate.3, due_of start m t accurate.0 accurate.1 accurate.2 accurate.3 (open_of accurate.0 accurate.4) accurate.5), r.some, λ p. none p.0 p.1 p.2 p.3 (r.back p.0 (record { region = p.4.region; searched = p.4.searched; in_region = p.4.in_region; reached = p.4.reached })) p.4.pair)
+  all_merged v Unchanged (way, none, accurate) = (accurate, λ p. none p.0 p.1 p.2 p.3 (listed_of p.0 (record { region = p.4.region; searched = p.4.searched; in_region = p.4.in_region; reached = p.4.reached })) (subst (λ (z : Tree). IsMergeable m z p.0 p.1 p.2 p.3) (sym accurate) p.4.pair))
 
 -- what stands, whatever the answer
 pub either_way : {E : Type 0} (m : Meaning) (blocks : List ℕ) (t v : Tree) (r : Result IRStatus E) → IfOk r (λ s. MergesAmong m blocks t v × HasNoPairAmong m blocks v × ReportsMerged m blocks t v s) → OnErr r (MergesAmongPartly m blocks t v) → MergesAmongPartly m blocks t v
@@ -158,4 +158,4 @@ err_weaker (Err e) f x = f x
 
 -- where a call on a region starts
 pub region_starts : (t : Tree) (region root : ℕ) → IsRegion t region → region_parent_of t region ≡ Some root → (r : ℕ) → r ≡ region → IsHeld t root r
-region_starts t region root is e r same = subst (IsHeld t root) (sym same) (record { holder = root; held = e; stands = is; within = inl refl })
+region_starts t region root is e r same = subst (IsHeld t root) (sym same) (record { holder = root; held = e; liveness = is; within = inl refl })

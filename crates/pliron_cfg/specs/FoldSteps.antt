@@ -40,4 +40,4 @@ pub record IsFoldingBranches (m : Meaning) (can_fold can_fold_branch : Head → 
   pub distinct : IsDistinct (drop i branches)
   pub all : (u : Tree) (rest : IRStatus) → FoldsAll m can_fold constants outcome (drop i branches) now u rest → FoldsAll m can_fold constants outcome branches start u (changed_by_either status rest)
   pub some : (u : Tree) → FoldsSome m can_fold constants outcome (drop i branches) now u → FoldsSome m can_fold constants outcome branches start u
-  pub told : ReportsAnyErased status start now
+  pub reported : ReportsAnyErased status start now

@@ -25,7 +25,7 @@ pub record Simplifies (m : Meaning) (can_fold can_fold_branch : Head → Bool) (
   pub removes : RemovesAll (OfOperation op) folded removed removal_status
   pub merges : MergesAll (OfOperation op) m removed t' merge_status
   pub answer : status ≡ changed_by_either (changed_by_either fold_status removal_status) merge_status
-  pub honest : ReportsChange (Some status) t t'
+  pub reports_change : ReportsChange (Some status) t t'
   pub none_unreachable : (b : ℕ) → IsUnreachable (OfOperation op) t' b → ⊥
   pub no_pair : HasPair (OfOperation op) m t' → ⊥
 

@@ -9,19 +9,19 @@ use Rattle.pliron_traversal.specs.Regions.{graph_of_region}
 abbrev pub IsReachedIn : Tree → (r b : ℕ) → Type 0
 IsReachedIn t r b = (entry : ℕ) × (first_of (layout_of t r) None ≡ Some entry) × Reaches (graph_of_region t r) entry b
 
-abbrev pub IsLookedIntoIf : Bool → Tree → (r b : ℕ) → Type 0
-IsLookedIntoIf true t r b = IsReachedIn t r b
-IsLookedIntoIf false t r b = first_of (layout_of t r) None ≡ Some b
+abbrev pub IsVisitedBlockIf : Bool → Tree → (r b : ℕ) → Type 0
+IsVisitedBlockIf true t r b = IsReachedIn t r b
+IsVisitedBlockIf false t r b = first_of (layout_of t r) None ≡ Some b
 
 -- a call that visits the region visits the operations of this block: of each that the entry reaches, or of the
 -- first alone where the region has no SSA dominance
-abbrev pub IsLookedInto : Tree → (r b : ℕ) → Type 0
-IsLookedInto t r b = IsLookedIntoIf (has_ssa t r) t r b
+abbrev pub IsVisitedBlock : Tree → (r b : ℕ) → Type 0
+IsVisitedBlock t r b = IsVisitedBlockIf (has_ssa t r) t r b
 
 -- the regions that a call visits, from those on where it starts
 pub data IsVisited (t : Tree) (Start : ℕ → Type 0) : ℕ → Type 0 where
   Starts : {r : ℕ} → Start r → IsVisited t Start r
-  Nested : {r : ℕ} (outer b k : ℕ) → IsVisited t Start outer → IsLookedInto t outer b → parent_of t k ≡ Some b → In r (regions_of t k) → IsVisited t Start r
+  Nested : {r : ℕ} (outer b k : ℕ) → IsVisited t Start outer → IsVisitedBlock t outer b → parent_of t k ≡ Some b → In r (regions_of t k) → IsVisited t Start r
 
 -- where a call on an operation starts, one on a block, one on a region
 abbrev pub OfOperation : ℕ → Tree → ℕ → Type 0

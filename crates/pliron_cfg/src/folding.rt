@@ -69,7 +69,7 @@ fn fold_known<D: Dialect, R: Rewriter + Room>(
     ensures refused { OnErr result (D.BranchOpFoldInterface.outcome ctx.old.tree ctx.new.tree op
         (constants_of D.meaning D.can_fold D.constants ctx.old.tree op) None) }
     ensures memory { IsOkUnless result OptError.Memory }
-    ensures told { IfOk result (λ status. ReportsAnyErased status ctx.old.tree ctx.new.tree) }
+    ensures reported { IfOk result (λ status. ReportsAnyErased status ctx.old.tree ctx.new.tree) }
     ensures step { (root : ℕ) → IsWellLinked D.meaning ctx.old.tree root → IsBranchInside D.can_fold_branch ctx.old.tree
         root op → IsBranchFoldStep D.meaning D.can_fold_branch ctx.old.tree ctx.new.tree root op }
 {
@@ -94,7 +94,7 @@ fn fold_one<D: Dialect, R: Rewriter + Room>(
     ensures refused { OnErr result (ctx.new.tree ≡ ctx.old.tree ⊎ D.BranchOpFoldInterface.outcome ctx.old.tree
         ctx.new.tree op (constants_of D.meaning D.can_fold D.constants ctx.old.tree op) None) }
     ensures memory { IsOkUnless result OptError.Memory }
-    ensures told { IfOk result (λ status. ReportsAnyErased status ctx.old.tree ctx.new.tree) }
+    ensures reported { IfOk result (λ status. ReportsAnyErased status ctx.old.tree ctx.new.tree) }
     ensures step { (root : ℕ) → IsWellLinked D.meaning ctx.old.tree root → IsBranchInside D.can_fold_branch ctx.old.tree
         root op → IsBranchFoldStep D.meaning D.can_fold_branch ctx.old.tree ctx.new.tree root op }
 {
@@ -124,8 +124,8 @@ pub fn fold_branches<D: Dialect, R: Rewriter + Room>(
     requires linked { IsWellLinked D.meaning ctx.old.tree root }
     ensures folds { IfOk result (λ status. FoldsAll D.meaning D.can_fold D.constants D.BranchOpFoldInterface.outcome
         (branches_of D.can_fold_branch ctx.old.tree root) ctx.old.tree ctx.new.tree status) }
-    ensures tells { IfOk result (λ status. ReportsChange (Some status) ctx.old.tree ctx.new.tree) }
-    ensures told { IfOk result (λ status. ReportsAnyErased status ctx.old.tree ctx.new.tree) }
+    ensures accurate { IfOk result (λ status. ReportsChange (Some status) ctx.old.tree ctx.new.tree) }
+    ensures reported { IfOk result (λ status. ReportsAnyErased status ctx.old.tree ctx.new.tree) }
     ensures blocks { OnOk result ((b : ℕ) → block_parent_of ctx.new.tree b ≡ block_parent_of ctx.old.tree b) }
     ensures refused { OnErr result (FoldsSome D.meaning D.can_fold D.constants D.BranchOpFoldInterface.outcome
         (branches_of D.can_fold_branch ctx.old.tree root) ctx.old.tree ctx.new.tree) }

@@ -11,7 +11,7 @@ ghost use Rattle.pliron_block_laws.specs.Links.{KeepsLinks};
 ghost use Rattle.pliron_cfg.specs.Visited.{OfBlock, OfOperation, OfRegion};
 ghost use Rattle.pliron_cfg.specs.Visits.{AreVisits};
 ghost use Rattle.pliron_cfg.specs.Removed.{RemovesAll, RemovalFails};
-ghost use Rattle.pliron_cfg.specs.Internal.Scopes.{start_of, ScopeStands, IsHolder};
+ghost use Rattle.pliron_cfg.specs.Internal.Scopes.{start_of, IsScopeLive, IsHolder};
 ghost use Rattle.pliron_cfg.specs.Internal.Cleared.{status_after};
 
 mod contents;
@@ -51,7 +51,7 @@ fn clear_regions<D: Dialect, R: Rewriter + Room>(
     reached: &IndexSet<Ptr<BasicBlock>>,
     rewriter: &mut R,
 ) -> Result<IRStatus, OptError>
-    requires stands { ScopeStands ctx.old.tree scope.now }
+    requires liveness { IsScopeLive ctx.old.tree scope.now }
     requires linked { (holder : ℕ) → IsHolder ctx.old.tree scope.now holder → IsWellLinked D.meaning ctx.old.tree
         holder }
     requires visits { AreVisits ctx.old.tree (start_of scope.now ctx.old.tree) regions.items reached.now.keys }
@@ -83,12 +83,12 @@ fn remove_blocks_in<D: Dialect, R: Rewriter + Room>(
     ctx: &mut Context,
     rewriter: &mut R,
 ) -> Result<IRStatus, OptError>
-    requires stands { ScopeStands ctx.old.tree scope.now }
+    requires liveness { IsScopeLive ctx.old.tree scope.now }
     requires linked { (holder : ℕ) → IsHolder ctx.old.tree scope.now holder → IsWellLinked D.meaning ctx.old.tree
         holder }
     ensures ok { IfOk result (λ status. RemovesAll (start_of scope.now) ctx.old.tree ctx.new.tree status) }
     ensures err { IfErr result (λ e. RemovalFails (start_of scope.now) ctx.old.tree ctx.new.tree e) }
-    ensures tells { IfOk result (λ a. (a ≡ Unchanged) ↔ (ctx.new.tree ≡ ctx.old.tree)) }
+    ensures accurate { IfOk result (λ a. (a ≡ Unchanged) ↔ (ctx.new.tree ≡ ctx.old.tree)) }
     ensures change { (holder : ℕ) → IsHolder ctx.old.tree scope.now holder → IsWholeChange D.meaning ctx.old.tree
         ctx.new.tree holder }
     ensures links { KeepsLinks D.meaning ctx.old.tree ctx.new.tree }
@@ -123,7 +123,7 @@ pub fn remove_blocks_inside_op<D: Dialect, R: Rewriter + Room>(
     requires linked { IsWellLinked D.meaning ctx.old.tree op }
     ensures ok { IfOk result (λ status. RemovesAll (OfOperation op) ctx.old.tree ctx.new.tree status) }
     ensures err { IfErr result (λ e. RemovalFails (OfOperation op) ctx.old.tree ctx.new.tree e) }
-    ensures tells { IfOk result (λ a. (a ≡ Unchanged) ↔ (ctx.new.tree ≡ ctx.old.tree)) }
+    ensures accurate { IfOk result (λ a. (a ≡ Unchanged) ↔ (ctx.new.tree ≡ ctx.old.tree)) }
     ensures change { IsWholeChange D.meaning ctx.old.tree ctx.new.tree op }
     ensures links { KeepsLinks D.meaning ctx.old.tree ctx.new.tree }
 {
@@ -146,7 +146,7 @@ pub fn remove_blocks_inside_block<D: Dialect, R: Rewriter + Room>(
         ctx.old.tree holder }
     ensures ok { IfOk result (λ status. RemovesAll (OfBlock block) ctx.old.tree ctx.new.tree status) }
     ensures err { IfErr result (λ e. RemovalFails (OfBlock block) ctx.old.tree ctx.new.tree e) }
-    ensures tells { IfOk result (λ a. (a ≡ Unchanged) ↔ (ctx.new.tree ≡ ctx.old.tree)) }
+    ensures accurate { IfOk result (λ a. (a ≡ Unchanged) ↔ (ctx.new.tree ≡ ctx.old.tree)) }
     ensures change { (holder : ℕ) → block_parent_operation_of ctx.old.tree block ≡ Some holder → IsWholeChange D.meaning
         ctx.old.tree ctx.new.tree holder }
     ensures links { KeepsLinks D.meaning ctx.old.tree ctx.new.tree }
@@ -171,7 +171,7 @@ pub fn remove_blocks_inside_region<D: Dialect, R: Rewriter + Room>(
         ctx.old.tree holder }
     ensures ok { IfOk result (λ status. RemovesAll (OfRegion region) ctx.old.tree ctx.new.tree status) }
     ensures err { IfErr result (λ e. RemovalFails (OfRegion region) ctx.old.tree ctx.new.tree e) }
-    ensures tells { IfOk result (λ a. (a ≡ Unchanged) ↔ (ctx.new.tree ≡ ctx.old.tree)) }
+    ensures accurate { IfOk result (λ a. (a ≡ Unchanged) ↔ (ctx.new.tree ≡ ctx.old.tree)) }
     ensures change { (holder : ℕ) → region_parent_of ctx.old.tree region ≡ Some holder → IsWholeChange D.meaning
         ctx.old.tree ctx.new.tree holder }
     ensures links { KeepsLinks D.meaning ctx.old.tree ctx.new.tree }

@@ -6,7 +6,7 @@ ghost use Rattle.std.specs.List.{flat_map};
 ghost use Rattle.pliron_core.specs.Tree.{In, IsLive, IsBlock, IsRegion, body_of, regions_of, block_parent_operation_of, region_parent_of};
 ghost use Rattle.pliron_laws.specs.Linked.{EdgesLast};
 ghost use Rattle.pliron_traversal.specs.Regions.{IsLawfulRegion};
-ghost use Rattle.pliron_cfg.specs.Visited.{IsReachedIn, IsLookedInto, OfOperation, OfBlock, OfRegion};
+ghost use Rattle.pliron_cfg.specs.Visited.{IsReachedIn, IsVisitedBlock, OfOperation, OfBlock, OfRegion};
 ghost use Rattle.pliron_cfg.specs.Visits.{AreVisits};
 ghost use Rattle.pliron_cfg.specs.Internal.Seen.{HasGrown, blocks_postponed};
 
@@ -115,7 +115,7 @@ fn entered_blocks(
     region: Ptr<Region>,
 ) -> Result<Vec<Ptr<BasicBlock>>, OptError>
     requires lawful { IsLawfulRegion ctx.now.tree region }
-    ensures entered { IfOk result (λ r. (b : ℕ) → In b r.items ↔ IsLookedInto ctx.now.tree region b) }
+    ensures entered { IfOk result (λ r. (b : ℕ) → In b r.items ↔ IsVisitedBlock ctx.now.tree region b) }
     ensures memory { IsOkUnless result OptError.Memory }
 {
     if region.has_ssa_dominance(ctx) {

@@ -106,24 +106,28 @@ impl<'t> Names<'t> {
     }
 
     /// Adds what the value is called. Errors: allocation failure. Cost: linear in its name.
-    pub fn push_value(&self, value: Value, told: &mut String) -> Result<(), AllocError> {
+    pub fn push_value(&self, value: Value, reported: &mut String) -> Result<(), AllocError> {
         if let Some(name) = self.parts.value(value.key()) {
-            return told.push_str(word_of(self.alloc, name.part.of(self.text))?.as_str());
+            return reported.push_str(word_of(self.alloc, name.part.of(self.text))?.as_str());
         }
         match self.values.get(&value) {
-            Some(name) => told.push_str(name.as_str()),
-            None => told.push_str("_"),
+            Some(name) => reported.push_str(name.as_str()),
+            None => reported.push_str("_"),
         }
     }
 
     /// Adds what the block is called. Errors: allocation failure. Cost: linear in its name.
-    pub fn push_block(&self, block: Ptr<BasicBlock>, told: &mut String) -> Result<(), AllocError> {
+    pub fn push_block(
+        &self,
+        block: Ptr<BasicBlock>,
+        reported: &mut String,
+    ) -> Result<(), AllocError> {
         if let Some(head) = self.parts.block(self.text, block.key()) {
-            return told.push_str(word_of(self.alloc, name_of_head(head))?.as_str());
+            return reported.push_str(word_of(self.alloc, name_of_head(head))?.as_str());
         }
         match self.blocks.get(&block) {
-            Some(name) => told.push_str(name.as_str()),
-            None => told.push_str("_"),
+            Some(name) => reported.push_str(name.as_str()),
+            None => reported.push_str("_"),
         }
     }
 

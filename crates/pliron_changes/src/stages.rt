@@ -31,7 +31,7 @@ pub struct StageOptions<'w> {
     pub prints_after: &'w [&'w str],
     pub prints_all: bool,
     /// Whether the lines that each run changed are reported, and whether in colours.
-    pub tells_changes: bool,
+    pub reports_changes: bool,
     pub is_coloured: bool,
 }
 
@@ -129,7 +129,12 @@ impl Stages<'_> {
     }
 
     // Prints the operation before a run, where the options ask for it.
-    fn tell_before(&mut self, name: &str, subject: &Subject, ctx: &Context) -> Result<(), OptError>
+    fn report_before(
+        &mut self,
+        name: &str,
+        subject: &Subject,
+        ctx: &Context,
+    ) -> Result<(), OptError>
         requires { IsLive ctx.now.tree subject.now.op }
     {
         let op = subject.op;
@@ -141,7 +146,7 @@ impl Stages<'_> {
     }
 
     // Prints the operation after a run, where the options ask for it.
-    fn tell_after(
+    fn report_after(
         &mut self,
         name: &str,
         subject: &Subject,
@@ -159,7 +164,7 @@ impl Stages<'_> {
     }
 
     // Reports which lines a run changed, where it changed something: `before` has the lines before it.
-    fn tell_changes(
+    fn report_changes(
         &mut self,
         name: &str,
         subject: &Subject,
@@ -190,7 +195,7 @@ impl Stages<'_> {
         } else {
             Vec::new(self.alloc)
         };
-        let lines = if self.options.tells_changes {
+        let lines = if self.options.reports_changes {
             Some(self.print_lines(op, ctx)?)
         } else {
             None
@@ -228,12 +233,12 @@ impl Stages<'_> {
             return Ok(IRStatus::Unchanged);
         }
         self.number = self.number.saturating_add(1);
-        self.tell_before(name, subject, ctx)?;
+        self.report_before(name, subject, ctx)?;
         let before = self.state_before(op, ctx)?;
         let status = run_pipeline(&mut step, alloc, op, ctx, &mut self.analyses)?;
         self.name_new(op, ctx, &before)?;
-        self.tell_after(name, subject, status, ctx)?;
-        self.tell_changes(name, subject, status, &before, ctx)?;
+        self.report_after(name, subject, status, ctx)?;
+        self.report_changes(name, subject, status, &before, ctx)?;
         Ok(status)
     }
 

@@ -20,9 +20,9 @@ use Rattle.pliron_cli.specs.Asked.{EndsByPlan, EndsByPlan.ByPasses, EndsByPlan.W
 use Rattle.pliron_fit.specs.declared.violation.Violation.{Violation}
 use Rattle.pliron_cli.specs.declared.checking.Checked.{Checked}
 use Rattle.pliron_cli.specs.declared.checking.Checked.TheVariants.{Fit, FitByParts, Unfit}
-use Rattle.pliron_cli.specs.Checked.{IsChecked, IsWholeText, IsFitText, IsUnfitText, IsToldFit, IsToldFit.SaysWhole, IsToldFit.SaysParts, fit_line, parts_line}
+use Rattle.pliron_cli.specs.Checked.{IsChecked, IsWholeText, IsFitText, IsUnfitText, IsReportedFit, IsReportedFit.SaysWhole, IsReportedFit.SaysParts, fit_line, parts_line}
 use Rattle.pliron_cli.specs.Compared.{AreSeen, are_same, is_cut_off, EndsWith, EndsCompared}
-use Rattle.pliron_cli.specs.Likeness.{IsLikeness, IsTold, IsToldOther, last_line, status_for}
+use Rattle.pliron_cli.specs.Likeness.{IsLikeness, IsReported, IsReportedOther, last_line, status_for}
 use Rattle.pliron_cli.specs.Optimised.{IsLaidOut, IsMade, EndsOptimised}
 use Rattle.pliron_cli.specs.Outcomes.{Ends, Ends.Says, Ends.Denies, Ends.Fails, EndsBadly}
 
@@ -45,7 +45,7 @@ unfit_when reads m text found part violation is said =
 -- how a check ends
 module _ (reads : Reads) (m : Meaning) (text : List ℕ) where
   abbrev pub EndsChecked : Outcome → Type 0
-  EndsChecked o = Ends (IsToldFit reads m text o.output.items) (IsUnfitText reads m text × (o.output.items ≡ [])) o
+  EndsChecked o = Ends (IsReportedFit reads m text o.output.items) (IsUnfitText reads m text × (o.output.items ≡ [])) o
 
   pub says_whole : {E : Type 0} (r : Result Outcome E) → IsWholeText reads m text → IfOk r (λ o. o.output.items ≡ fit_line) → IfOk r (λ o. o.status ≡ 0) → IfOk r EndsChecked
   says_whole (Ok o) whole line e = Says (SaysWhole whole line) e
@@ -83,18 +83,18 @@ module _ (eq : Sight → Sight → Bool) (sights : Sights) where
       ∙ ap (λ b. if b then false else if is_cut_off sights.after then false else eq sights.before sights.after) (sym whole ∙ is)
 
   -- the likeness of two runs, and the line that is written of it
-  pub told_likeness : (likeness : Likeness) (o : Outcome) → IsLikeness eq sights likeness → EndsWith (last_line likeness) o.output.items → o.status ≡ status_for likeness → Ends (IsTold eq sights o.output.items) (IsToldOther eq sights o.output.items) o
-  told_likeness Same o is line e = Says (is, line) e
-  told_likeness SoFar o is line e = Denies (is, inl line) e
-  told_likeness Different o is line e = Denies (is, inr line) e
+  pub reported_likeness : (likeness : Likeness) (o : Outcome) → IsLikeness eq sights likeness → EndsWith (last_line likeness) o.output.items → o.status ≡ status_for likeness → Ends (IsReported eq sights o.output.items) (IsReportedOther eq sights o.output.items) o
+  reported_likeness Same o is line e = Says (is, line) e
+  reported_likeness SoFar o is line e = Denies (is, inl line) e
+  reported_likeness Different o is line e = Denies (is, inr line) e
 
 module _ (reads : Reads) (m : Meaning) (inputs world : List Datum) (steps : ℕ) (eq : Sight → Sight → Bool) (ran : ℕ → Tree → Tree → IRStatus → Type 0) (text : List ℕ) where
-  compared_so : (sights : Sights) (o : Outcome) → AreSeen reads m inputs world steps ran text sights → Ends (IsTold eq sights o.output.items) (IsToldOther eq sights o.output.items) o → EndsCompared reads m inputs world steps eq ran text o
+  compared_so : (sights : Sights) (o : Outcome) → AreSeen reads m inputs world steps ran text sights → Ends (IsReported eq sights o.output.items) (IsReportedOther eq sights o.output.items) o → EndsCompared reads m inputs world steps eq ran text o
   compared_so sights o are (Says (same, line) e) = Says (record { sights = sights; seen_so = are; same_sights = same; written = line }) e
   compared_so sights o are (Denies (other, line) e) = Denies (record { sights = sights; seen_so = are; other_sights = other; written = line }) e
   compared_so sights o are (Fails bad) = Fails bad
 
-  pub are_compared : {E : Type 0} (sights : Sights) (r : Result Outcome E) → AreSeen reads m inputs world steps ran text sights → IfOk r (λ o. Ends (IsTold eq sights o.output.items) (IsToldOther eq sights o.output.items) o) → IfOk r (EndsCompared reads m inputs world steps eq ran text)
+  pub are_compared : {E : Type 0} (sights : Sights) (r : Result Outcome E) → AreSeen reads m inputs world steps ran text sights → IfOk r (λ o. Ends (IsReported eq sights o.output.items) (IsReportedOther eq sights o.output.items) o) → IfOk r (EndsCompared reads m inputs world steps eq ran text)
   are_compared sights (Ok o) are ends = compared_so sights o are ends
   are_compared sights (Err e) are ends = tt
 

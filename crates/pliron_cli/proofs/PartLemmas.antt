@@ -39,8 +39,8 @@ module _ (m : Meaning) (t : Tree) (root : ℕ) where
   pub search_live : IsTree t → (k : ℕ) (left : List ℕ) → IsSearched (k ∷ left) → IsLive t k
   search_live tree k left so = inside_live t tree root k (so.inside k (inl refl))
 
-  pub search_goes_on : (k : ℕ) (left : List ℕ) → IsSearched (k ∷ left) → (IsPart t k → IsFit m t k) → IsSearched left
-  search_goes_on k left so fit = record {
+  pub search_continues : (k : ℕ) (left : List ℕ) → IsSearched (k ∷ left) → (IsPart t k → IsFit m t k) → IsSearched left
+  search_continues k left so fit = record {
     inside = λ x i. so.inside x (inr i);
     others = λ x u p. elim (so.others x u p) [ inl at ↦ elim at [ inl e ↦ inr (subst (IsFit m t) (sym e) (fit (subst (IsPart t) e p))) | inr i ↦ inl i ] | inr is ↦ inr is ];
   }

@@ -51,9 +51,9 @@ module _ (reads : Reads) (m : Meaning) (text : List ℕ) where
   IsChecked (Unfit part violation) = (tree : Tree) × (root : ℕ) × reads text tree root × (IsFitByParts m tree root → ⊥) × IsViolation m tree part violation
 
   -- it is fit by its parts, and the line that is written says whether as a whole
-  pub data IsToldFit (output : List ℕ) : Type 0 where
-    SaysWhole : IsWholeText → output ≡ fit_line → IsToldFit output
-    SaysParts : IsFitText → output ≡ parts_line → IsToldFit output
+  pub data IsReportedFit (output : List ℕ) : Type 0 where
+    SaysWhole : IsWholeText → output ≡ fit_line → IsReportedFit output
+    SaysParts : IsFitText → output ≡ parts_line → IsReportedFit output
 
   -- something keeps it from being fit to run, and nothing is to be written
   pub record IsRejected (o : Outcome) : Type 0 where

@@ -51,14 +51,14 @@ module _ (reads : Reads) (m : Meaning) (inputs world : List Datum) (steps : ℕ)
     pub second : sight_of sights.after ≡ sight_after (run m after root inputs world steps)
 
   -- the runs around the passes are the same, and it is written that they are
-  pub record AreToldSame (eq : Sight → Sight → Bool) (ran : ℕ → Tree → Tree → IRStatus → Type 0) (text output : List ℕ) : Type 0 where
+  pub record AreReportedSame (eq : Sight → Sight → Bool) (ran : ℕ → Tree → Tree → IRStatus → Type 0) (text output : List ℕ) : Type 0 where
     pub sights : Sights
     pub seen_so : AreSeen ran text sights
     pub same_sights : are_same eq sights ≡ true
     pub written : EndsWith same_line output
 
   -- they are not, and it is written that nothing differs so far, or that something does
-  pub record AreToldOther (eq : Sight → Sight → Bool) (ran : ℕ → Tree → Tree → IRStatus → Type 0) (text output : List ℕ) : Type 0 where
+  pub record AreReportedOther (eq : Sight → Sight → Bool) (ran : ℕ → Tree → Tree → IRStatus → Type 0) (text output : List ℕ) : Type 0 where
     pub sights : Sights
     pub seen_so : AreSeen ran text sights
     pub other_sights : are_same eq sights ≡ false
@@ -66,4 +66,4 @@ module _ (reads : Reads) (m : Meaning) (inputs world : List Datum) (steps : ℕ)
 
   -- how comparing runs of a text around these passes ends
   abbrev pub EndsCompared : (eq : Sight → Sight → Bool) → (ran : ℕ → Tree → Tree → IRStatus → Type 0) → (text : List ℕ) → Outcome → Type 0
-  EndsCompared eq ran text o = Ends (AreToldSame eq ran text o.output.items) (AreToldOther eq ran text o.output.items) o
+  EndsCompared eq ran text o = Ends (AreReportedSame eq ran text o.output.items) (AreReportedOther eq ran text o.output.items) o

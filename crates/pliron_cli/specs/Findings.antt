@@ -9,4 +9,4 @@ use Rattle.pliron_cli.specs.declared.checking.Finding.TheVariants.{Whole, ByPart
 abbrev pub IsFinding : Reads → Meaning → (text : List ℕ) → Finding → Type 0
 IsFinding reads m text Whole = IsWholeText reads m text
 IsFinding reads m text ByParts = IsFitText reads m text
-IsFinding reads m text (Wrong told) = IsUnfitText reads m text
+IsFinding reads m text (Wrong reported) = IsUnfitText reads m text

@@ -22,8 +22,8 @@ IsLikeness eq sights Same = are_same eq sights ≡ true
 IsLikeness eq sights SoFar = are_same eq sights ≡ false
 IsLikeness eq sights Different = are_same eq sights ≡ false
 
-abbrev pub IsTold : (Sight → Sight → Bool) → Sights → List ℕ → Type 0
-IsTold eq sights output = (are_same eq sights ≡ true) × EndsWith same_line output
+abbrev pub IsReported : (Sight → Sight → Bool) → Sights → List ℕ → Type 0
+IsReported eq sights output = (are_same eq sights ≡ true) × EndsWith same_line output
 
-abbrev pub IsToldOther : (Sight → Sight → Bool) → Sights → List ℕ → Type 0
-IsToldOther eq sights output = (are_same eq sights ≡ false) × (EndsWith so_far_line output ⊎ EndsWith different_line output)
+abbrev pub IsReportedOther : (Sight → Sight → Bool) → Sights → List ℕ → Type 0
+IsReportedOther eq sights output = (are_same eq sights ≡ false) × (EndsWith so_far_line output ⊎ EndsWith different_line output)

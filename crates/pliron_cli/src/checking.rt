@@ -1,7 +1,7 @@
 //! Whether a text's operation is fit to run.
 ghost use Rattle.std.specs.Prelude.{◌≡◌, [], IfOk, IfSome};
 ghost use Rattle.pliron_core.specs.Writes.{no_tree};
-ghost use Rattle.pliron_cli.specs.Checked.{IsChecked, IsToldFit, IsUnfitText};
+ghost use Rattle.pliron_cli.specs.Checked.{IsChecked, IsReportedFit, IsUnfitText};
 ghost use Rattle.pliron_cli.specs.Findings.{IsFinding};
 ghost use Rattle.pliron_cli.specs.Outcomes.{Ends};
 
@@ -118,7 +118,7 @@ fn fit_outcome(alloc: Global, line: &[u8]) -> Result<Outcome, AllocError>
 /// of `check_text`.
 #[tactic(auto, using(crate::proofs::CommandLemmas::says_whole, crate::proofs::CommandLemmas::says_parts, crate::proofs::CommandLemmas::says_unfit))]
 pub fn check<N: Shown>(alloc: Global, source: &Source) -> Result<Outcome, AllocError>
-    ensures { IfOk result (λ outcome. Ends (IsToldFit N.reads N.D.meaning source.now.text.now outcome.output.items)
+    ensures { IfOk result (λ outcome. Ends (IsReportedFit N.reads N.D.meaning source.now.text.now outcome.output.items)
         (IsUnfitText N.reads N.D.meaning source.now.text.now × (outcome.output.items ≡ [])) outcome) }
 {
     match find_message::<N>(alloc, source) {

@@ -5,7 +5,7 @@ ghost use Rattle.pliron_laws.specs.Datum.{Number as NumberOf};
 ghost use Rattle.pliron_opts.specs.Ran.{RunsAlone};
 ghost use Rattle.pliron_cli.specs.Asked.{EndsByPlan, EndsByWord};
 ghost use Rattle.pliron_cli.specs.Compared.{AreSeen, EndsCompared, EndsWith, are_same, is_cut_off as was_cut_off};
-ghost use Rattle.pliron_cli.specs.Likeness.{IsLikeness, IsTold, IsToldOther, last_line, status_for};
+ghost use Rattle.pliron_cli.specs.Likeness.{IsLikeness, IsReported, IsReportedOther, last_line, status_for};
 ghost use Rattle.pliron_cli.specs.Outcomes.{Ends};
 
 use crate::failure::CommandFailure;
@@ -190,10 +190,10 @@ fn status_of(likeness: Likeness) -> u8
 }
 
 // The outcome of these runs.
-#[tactic(auto, using(crate::proofs::CommandLemmas::told_likeness))]
+#[tactic(auto, using(crate::proofs::CommandLemmas::reported_likeness))]
 fn outcome_of(alloc: Global, sights: &Sights) -> Result<Outcome, AllocError>
-    ensures { IfOk result (λ outcome. Ends (IsTold ⟦<Sight as PartialEq>⟧.eq sights.now outcome.output.items)
-        (IsToldOther ⟦<Sight as PartialEq>⟧.eq sights.now outcome.output.items) outcome) }
+    ensures { IfOk result (λ outcome. Ends (IsReported ⟦<Sight as PartialEq>⟧.eq sights.now outcome.output.items)
+        (IsReportedOther ⟦<Sight as PartialEq>⟧.eq sights.now outcome.output.items) outcome) }
 {
     let likeness = likeness_of(sights);
     Ok(Outcome {

@@ -42,7 +42,7 @@ fn passes_of(alloc: Global, names: &[&str]) -> Result<Option<Vec<PassName>>, All
 fn list_of(
     alloc: Global,
     plan: &PipelineText,
-    tells_missed: bool,
+    reports_missed: bool,
 ) -> Result<Option<PassList>, AllocError>
     ensures nested { IfOk result (λ found. IfSome found (λ list. list.is_nested ≡ plan.now.nested)) }
     ensures passes { IfOk result (λ found. IfSome found
@@ -53,7 +53,7 @@ fn list_of(
             runs: plan.runs.unwrap_or(1),
             is_nested: plan.nested,
             passes,
-            tells_missed,
+            reports_missed,
         })),
         None => Ok(None),
     }
@@ -64,11 +64,11 @@ fn explain_by(
     alloc: Global,
     source: &Source,
     plan: &PipelineText,
-    tells_missed: bool,
+    reports_missed: bool,
 ) -> Result<Outcome, AllocError>
     ensures { IfOk result (Ends ⊤ ⊥) }
 {
-    let Some(list) = list_of(alloc, plan, tells_missed)? else {
+    let Some(list) = list_of(alloc, plan, reports_missed)? else {
         return draw_failure_outcome(alloc, DrawFailure::Failed(CommandFailure::Text), source);
     };
     match explain_changes(alloc, source.text, &list) {

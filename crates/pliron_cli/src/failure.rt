@@ -43,7 +43,7 @@ impl CommandFailure {
     ) -> Result<String, AllocError> {
         match self {
             CommandFailure::Text => match N::fault_message(alloc, source) {
-                Ok(Some(told)) => Ok(told),
+                Ok(Some(reported)) => Ok(reported),
                 _ => format!(in alloc; "error: unreadable text\n"),
             },
             CommandFailure::Refused(error) => format!(in alloc; "error: refused: {error}\n"),

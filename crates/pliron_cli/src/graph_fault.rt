@@ -101,7 +101,7 @@ impl Numerals {
     }
 
     // The first number that doesn't fit: a node that had a line before, or a successor that has none.
-    fn first_misfit(&self, alloc: Global) -> Result<Option<GraphFault>, AllocError> {
+    fn first_violation(&self, alloc: Global) -> Result<Option<GraphFault>, AllocError> {
         let mut lines = HashMap::new(alloc);
         for node in &self.nodes {
             if lines.insert(node.value, node.start)?.is_some() {
@@ -142,7 +142,7 @@ fn find_fault(alloc: Global, text: &[u8]) -> Result<Option<GraphFault>, AllocErr
             Err(fault) => return Ok(Some(fault)),
         }
     }
-    numerals.first_misfit(alloc)
+    numerals.first_violation(alloc)
 }
 
 /// The message for a text that isn't that of a graph: the first place at which it is wrong, and what was expected
@@ -159,9 +159,9 @@ pub fn graph_fault_message(alloc: Global, source: &Source) -> Result<String, All
         start: fault.start,
         len: fault.len,
     };
-    let mut told = mark_source(alloc, source.text, &mark)?;
-    told.push_str(
+    let mut reported = mark_source(alloc, source.text, &mark)?;
+    reported.push_str(
         "help: write a line for each node, as `0: 1 2`: its number and its successors\n",
     )?;
-    Ok(told)
+    Ok(reported)
 }

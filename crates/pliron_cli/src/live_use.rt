@@ -125,7 +125,7 @@ impl LiveUseSearch {
     }
 
     // A use that keeps the unreachable blocks of this region from being removed. The region has these blocks.
-    fn look_at_blocks(
+    fn visit_blocks(
         &mut self,
         region: Ptr<Region>,
         blocks: &[Ptr<BasicBlock>],
@@ -156,7 +156,7 @@ impl LiveUseSearch {
     }
 
     // The same for this region; where definitions need not come before uses, its first block alone is visited.
-    fn look_at_region(
+    fn visit_region(
         &mut self,
         region: Ptr<Region>,
         ctx: &Context,
@@ -168,7 +168,7 @@ impl LiveUseSearch {
         let mut blocks = Vec::new(self.alloc);
         push_layout(region, ctx, &mut blocks)?;
         if region.has_ssa_dominance(ctx) {
-            return self.look_at_blocks(region, &blocks, ctx);
+            return self.visit_blocks(region, &blocks, ctx);
         }
         if let Some(first) = blocks.first() {
             self.add_block(*first, ctx)?;
@@ -177,13 +177,13 @@ impl LiveUseSearch {
     }
 
     // The same for the regions of an operation.
-    fn look_at(&mut self, op: Ptr<Operation>, ctx: &Context) -> Result<Option<LiveUse>, OptError>
+    fn visit_op(&mut self, op: Ptr<Operation>, ctx: &Context) -> Result<Option<LiveUse>, OptError>
         requires { IsLive ctx.now.tree op }
         ensures { IfOk result (λ found. IfSome found
             (λ it. slice_get (operands_of ctx.now.tree it.user) it.index ≡ Some it.value)) }
     {
         for i in 0..op.num_region(ctx) {
-            let found = self.look_at_region(op.get_region(ctx, i), ctx)?;
+            let found = self.visit_region(op.get_region(ctx, i), ctx)?;
             if found.is_some() {
                 return Ok(found);
             }
@@ -202,7 +202,7 @@ impl LiveUseSearch {
                 return Ok(None);
             };
             if op.is_live(ctx) {
-                let found = self.look_at(op, ctx)?;
+                let found = self.visit_op(op, ctx)?;
                 if found.is_some() {
                     return Ok(found);
                 }

@@ -62,7 +62,7 @@ fn part_violation<D: Dialect>(
 }
 
 // The first part inside the operation that isn't fit to run, with what keeps it from that. Errors: allocation failure.
-#[tactic(auto, using(crate::proofs::PartLemmas::search_begins, crate::proofs::PartLemmas::search_live, crate::proofs::PartLemmas::search_goes_on, crate::proofs::PartLemmas::search_ends))]
+#[tactic(auto, using(crate::proofs::PartLemmas::search_begins, crate::proofs::PartLemmas::search_live, crate::proofs::PartLemmas::search_continues, crate::proofs::PartLemmas::search_ends))]
 fn first_unfit_part<D: Dialect>(
     alloc: Global,
     root: Ptr<Operation>,

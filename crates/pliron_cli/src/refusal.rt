@@ -78,12 +78,12 @@ pub(crate) fn refused_outcome<N: Shown>(
 ) -> Result<Outcome, AllocError>
     ensures { IfOk result EndsBadly }
 {
-    let told = if error == OptError::LiveUse {
+    let reported = if error == OptError::LiveUse {
         refusal_message::<N>(alloc, source, plan).ok().flatten()
     } else {
         None
     };
-    match told {
+    match reported {
         Some(report) => Ok(Outcome {
             output: Vec::new(alloc),
             report,

@@ -26,15 +26,15 @@ fn status_of_end(end: End) -> u8
 fn outcome_of_run(
     alloc: Global,
     source: &Source,
-    told: Result<Option<RunReport>, OptError>,
+    reported: Result<Option<RunReport>, OptError>,
 ) -> Result<Outcome, AllocError>
     ensures { IfOk result (Ends ⊤ ⊤) }
 {
-    match told {
-        Ok(Some(told)) => Ok(Outcome {
-            output: told.seen.into_bytes(),
-            report: told.report,
-            status: status_of_end(told.end),
+    match reported {
+        Ok(Some(reported)) => Ok(Outcome {
+            output: reported.seen.into_bytes(),
+            report: reported.report,
+            status: status_of_end(reported.end),
         }),
         Ok(None) => failure_outcome::<BenchNotation>(alloc, CommandFailure::Text, source),
         Err(error) => failure_outcome::<BenchNotation>(
@@ -53,8 +53,8 @@ fn outcome_of_run(
 pub fn run(alloc: Global, source: &Source, options: &RunOptions) -> Result<Outcome, AllocError>
     ensures { IfOk result (Ends ⊤ ⊤) }
 {
-    let told = run_text(alloc, source, options);
-    outcome_of_run(alloc, source, told)
+    let reported = run_text(alloc, source, options);
+    outcome_of_run(alloc, source, reported)
 }
 
 /// The same, but the sink is given the effects as they come, and the output has only what the sink wasn't given.
@@ -69,6 +69,6 @@ pub fn run_streamed<S: EffectSink>(
 ) -> Result<Outcome, AllocError>
     ensures { IfOk result (Ends ⊤ ⊤) }
 {
-    let told = run_text_streamed(alloc, source, options, sink);
-    outcome_of_run(alloc, source, told)
+    let reported = run_text_streamed(alloc, source, options, sink);
+    outcome_of_run(alloc, source, reported)
 }

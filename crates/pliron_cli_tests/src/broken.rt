@@ -8,16 +8,22 @@ use std::alloc::Global;
 use std::process::Abort;
 
 // The command ended with 2, wrote nothing, and reported this place and label.
-fn expect_told(rt: &impl Abort, outcome: &Outcome, text: &str, place: &str, label: &str) {
+fn expect_reported(rt: &impl Abort, outcome: &Outcome, text: &str, place: &str, label: &str) {
     assert!(rt; outcome.status == 2, "{text}");
     assert!(rt; outcome.output.is_empty(), "{text}");
-    let told = outcome.report.as_str();
-    let mut lines = told.lines();
-    assert!(rt; lines.next() == Some("error: unreadable text"), "{told}");
+    let reported = outcome.report.as_str();
+    let mut lines = reported.lines();
+    assert!(rt;
+        lines.next() == Some("error: unreadable text"),
+        "{reported}"
+    );
     let second = lines.next().unwrap_or("");
     let found = second.split_once("--> in.plir:").unwrap_or(("", "")).1;
-    assert!(rt; found == place, "{text} => {told}");
-    assert!(rt; told.trim_end().ends_with(label), "{text} => {told}");
+    assert!(rt; found == place, "{text} => {reported}");
+    assert!(rt;
+        reported.trim_end().ends_with(label),
+        "{text} => {reported}"
+    );
 }
 
 fn expect_broken(rt: &impl Abort, alloc: Global, text: &str, wanted: &str) {
@@ -28,11 +34,11 @@ fn expect_broken(rt: &impl Abort, alloc: Global, text: &str, wanted: &str) {
     };
     let (place, label) = wanted.split_once(' ').expect(rt, "a place");
     let checked = check::<BenchNotation>(alloc, &source).expect(rt, "memory");
-    expect_told(rt, &checked, text, place, label);
+    expect_reported(rt, &checked, text, place, label);
     let optimised = opt::<BenchNotation, _>(alloc, &source, &plain("sccp"), Timeless).expect(
         rt, "memory",
     );
-    expect_told(rt, &optimised, text, place, label);
+    expect_reported(rt, &optimised, text, place, label);
 }
 
 /// Broken texts, and line, column and what was expected there.

@@ -38,7 +38,7 @@ fn lines_that_changed(rt: HostRuntime) {
 }
 
 #[test]
-fn colours_stand_around_lines(rt: HostRuntime) {
+fn colours_surround_lines(rt: HostRuntime) {
     let changes = changed_lines(rt.alloc(), "a\n", "b\n").expect(&rt, "memory");
     let mut found = String::new(rt.alloc());
     write_changes(&mut found, &changes, true).expect(&rt, "memory");
@@ -53,7 +53,7 @@ fn names_alone<'w>() -> StageOptions<'w> {
         prints_before: &[],
         prints_after: &[],
         prints_all: false,
-        tells_changes: false,
+        reports_changes: false,
         is_coloured: false,
     }
 }
@@ -66,7 +66,7 @@ fn names_around<'w>(passes: &'w [&'w str]) -> StageOptions<'w> {
         prints_before: passes,
         prints_after: passes,
         prints_all: false,
-        tells_changes: false,
+        reports_changes: false,
         is_coloured: false,
     }
 }
@@ -158,9 +158,9 @@ canonicalize => func { f(x): z = const 0; a = mul x z; ret a } => --- run 1, cha
 dce => func { b0(): ret } => ";
 
 #[test]
-fn changes_are_told(rt: HostRuntime) {
+fn changes_are_reported(rt: HostRuntime) {
     let mut options = names_alone();
-    options.tells_changes = true;
+    options.reports_changes = true;
     for case in CHANGED.lines() {
         expect_report(&rt, rt.alloc(), case, &options);
     }

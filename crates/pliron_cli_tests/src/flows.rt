@@ -105,13 +105,13 @@ static FAULTS: &str = "\
 0.x.0 => func { b0(): ret } => error: no region `0.x.0`";
 
 #[test]
-fn faults_are_told(rt: HostRuntime) {
+fn faults_are_reported(rt: HostRuntime) {
     for case in FAULTS.lines() {
         let (region, rest) = case.split_once(" => ").expect(&rt, "a case");
-        let (text, told) = rest.split_once(" => ").expect(&rt, "a case");
+        let (text, reported) = rest.split_once(" => ").expect(&rt, "a case");
         let outcome = draw_region(&rt, rt.alloc(), region, text);
         assert!(rt; outcome.output.is_empty());
         assert_eq!(rt; outcome.status, 2);
-        assert_eq!(rt; outcome.report.lines().next(), Some(told));
+        assert_eq!(rt; outcome.report.lines().next(), Some(reported));
     }
 }

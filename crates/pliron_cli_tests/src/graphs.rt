@@ -76,11 +76,11 @@ fn other_texts_are_no_graphs(rt: HostRuntime) {
         let outcome = draw_graph(rt.alloc(), &source).expect(&rt, "memory");
         assert!(rt; outcome.output.is_empty());
         assert_eq!(rt; outcome.status, 2);
-        let told = outcome.report.as_str();
-        assert!(rt; told.starts_with("error: unreadable graph\n"));
-        let second = told.lines().nth(1).unwrap_or("");
+        let reported = outcome.report.as_str();
+        assert!(rt; reported.starts_with("error: unreadable graph\n"));
+        let second = reported.lines().nth(1).unwrap_or("");
         let found = second.split_once("--> text:").unwrap_or(("", "")).1;
-        assert!(rt; found == place, "{case} => {told}");
-        assert!(rt; told.contains(expected), "{case} => {told}");
+        assert!(rt; found == place, "{case} => {reported}");
+        assert!(rt; reported.contains(expected), "{case} => {reported}");
     }
 }

@@ -44,16 +44,16 @@ fn explained(
 }
 
 #[test]
-fn reasons_are_told(rt: HostRuntime) {
+fn reasons_are_reported(rt: HostRuntime) {
     for case in REASONS.lines() {
         let (passes, rest) = case.split_once(" => ").expect(&rt, "a case");
-        let (text, told) = rest.split_once(" => ").expect(&rt, "a case");
+        let (text, reported) = rest.split_once(" => ").expect(&rt, "a case");
         let source = Source {
             name: "text",
             text: text.as_bytes(),
         };
         let outcome = explained(&rt, rt.alloc(), &source, passes, false);
-        let wanted = with_lines(&rt, rt.alloc(), told);
+        let wanted = with_lines(&rt, rt.alloc(), reported);
         assert_eq!(rt;
             std::str::from_utf8(&outcome.output).unwrap_or(""),
             wanted.as_str(),
@@ -101,20 +101,20 @@ repeat<1>(sccp) => func { b0(): a = const 2; b = add a a; ret b } => 1:27 b = ad
 fn what_was_missed(rt: HostRuntime) {
     for case in MISSED.lines() {
         let (passes, rest) = case.split_once(" => ").expect(&rt, "a case");
-        let (text, told) = rest.split_once(" => ").expect(&rt, "a case");
+        let (text, reported) = rest.split_once(" => ").expect(&rt, "a case");
         let source = Source {
             name: "text",
             text: text.as_bytes(),
         };
         let outcome = explained(&rt, rt.alloc(), &source, passes, true);
-        let wanted = with_lines(&rt, rt.alloc(), told);
+        let wanted = with_lines(&rt, rt.alloc(), reported);
         let found = std::str::from_utf8(&outcome.output).unwrap_or("");
         assert!(rt; found.contains(wanted.as_str()), "{text} => {found}");
     }
 }
 
 #[test]
-fn a_limit_is_told(rt: HostRuntime) {
+fn a_limit_is_reported(rt: HostRuntime) {
     let source = Source {
         name: "text",
         text: b"func { b0(): br b1(); b1(): br b2(); b2(): ret }",

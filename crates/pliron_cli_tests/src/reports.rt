@@ -203,7 +203,7 @@ nested(simplify-cfg) | mod { m(): func { a(): ret }; func { b(): ret v; c(): v =
     note: it was the pass simplify-cfg|";
 
 #[test]
-fn refusals_tell_uses(rt: HostRuntime) {
+fn refusals_report_uses(rt: HostRuntime) {
     for case in REFUSED.lines() {
         let (pipeline, rest) = case.split_once(" | ").expect(&rt, "passes");
         let (text, wanted) = rest.split_once(" => ").expect(&rt, "a case");

@@ -17,9 +17,9 @@ mod { m(): func { b0(): ret }; func { b0(): x = add y y; y = const 4; ret x } } 
 mod { m(): mod { n(): func { b0(x): br b1(); b1(y): ret } } } => an edge passes another number of values than its block takes|--> in.plir:1:37";
 
 // Each of the parts is in what is reported.
-fn expect_parts(rt: &impl Abort, text: &str, told: &str, wanted: &str) {
+fn expect_parts(rt: &impl Abort, text: &str, reported: &str, wanted: &str) {
     for part in wanted.split('|') {
-        assert!(rt; told.contains(part), "{text} => {told}");
+        assert!(rt; reported.contains(part), "{text} => {reported}");
     }
 }
 
@@ -36,7 +36,7 @@ fn expect_unfit(rt: &impl Abort, alloc: Global, text: &str, wanted: &str) {
 }
 
 #[test]
-fn unfit_texts_are_told(rt: HostRuntime) {
+fn unfit_texts_are_reported(rt: HostRuntime) {
     for case in UNFIT.lines() {
         let (text, wanted) = case.split_once(" => ").expect(&rt, "a case");
         expect_unfit(&rt, rt.alloc(), text, wanted);
@@ -146,7 +146,7 @@ fn strictly(rt: HostRuntime) {
 
 // Where each run is verified, it is reported that the text wasn't fit before.
 #[test]
-fn verifying_looks_at_the_input(rt: HostRuntime) {
+fn verifying_reads_the_input(rt: HostRuntime) {
     let source = Source {
         name: "in.plir",
         text: b"func { b0(): x = add y y; y = const 4; ret x }",
@@ -161,8 +161,8 @@ fn verifying_looks_at_the_input(rt: HostRuntime) {
         Timeless,
     );
     let outcome = outcome.expect(&rt, "memory");
-    let told = outcome.report.as_str();
+    let reported = outcome.report.as_str();
     let wanted =
         "warning: already in the input: an operand isn't defined on each way to this operation\n --> in.plir:1:14\n";
-    assert!(rt; told.starts_with(wanted), "{told}");
+    assert!(rt; reported.starts_with(wanted), "{reported}");
 }

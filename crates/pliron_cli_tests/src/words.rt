@@ -13,14 +13,17 @@ fn expect_fault(rt: &impl Abort, alloc: Global, word: &str, column: &str, label:
     let outcome = opt::<BenchNotation, _>(alloc, &source, &plain(word), Timeless).expect(
         rt, "memory",
     );
-    let told = outcome.report.as_str();
+    let reported = outcome.report.as_str();
     assert!(rt; outcome.status == 2 && outcome.output.is_empty(), "{word}");
-    let mut lines = told.lines();
-    assert!(rt; lines.next() == Some("error: no such passes"), "{told}");
+    let mut lines = reported.lines();
+    assert!(rt; lines.next() == Some("error: no such passes"), "{reported}");
     let second = lines.next().unwrap_or("");
     let found = second.split_once("--> PIPELINE:1:").unwrap_or(("", "")).1;
-    assert!(rt; found == column, "{word} => {told}");
-    assert!(rt; told.trim_end().ends_with(label), "{word} => {told}");
+    assert!(rt; found == column, "{word} => {reported}");
+    assert!(rt;
+        reported.trim_end().ends_with(label),
+        "{word} => {reported}"
+    );
 }
 
 /// Words that plan nothing, the column of what is wrong, and what was expected there.
@@ -83,16 +86,17 @@ repeat<20>(nested:sccp) => 20 each sccp";
 
 // What is planned, in words.
 fn in_words(rt: &impl Abort, alloc: Global, plan: &PipelineText) -> String {
-    let mut told = match plan.runs {
+    let mut reported = match plan.runs {
         Some(runs) => format!(in alloc; "{runs}").expect(rt, "memory"),
         None => String::from_str(alloc, "once").expect(rt, "memory"),
     };
-    told.push_str(if plan.nested { " each" } else { " itself" })
+    reported
+        .push_str(if plan.nested { " each" } else { " itself" })
         .expect(rt, "memory");
     for name in &plan.names {
-        write!(told, " {name}").expect(rt, "memory");
+        write!(reported, " {name}").expect(rt, "memory");
     }
-    told
+    reported
 }
 
 #[test]

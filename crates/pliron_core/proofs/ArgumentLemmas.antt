@@ -177,7 +177,7 @@ module _ (t : Tree) (block i : ℕ) (keys : HaveSameKeys t) (w : IsJoined t) (is
 
   pub kept_argument_removed : IsJoined (argument_removed t block i)
   kept_argument_removed = record {
-    standing = w.standing;
+    all_in_place = w.all_in_place;
     placed = w.placed;
     regions = w.regions;
     results = λ k j v e. kept v (Result k j) (w.results k j v e) (λ n lt f. cc);
@@ -219,7 +219,7 @@ module _ (t : Tree) (op : ℕ) (entry : OperationEntry) (w : IsJoined t) (live :
 
   pub kept_entry : IsJoined (record t { operations = slice_set t.operations op entry })
   kept_entry = record {
-    standing = λ x b e. let s = w.standing x b e in (lives x s.0, s.1);
+    all_in_place = λ x b e. let s = w.all_in_place x b e in (lives x s.0, s.1);
     placed = λ b r e. listed r (slot_of t r) (w.placed b r e);
     regions = λ k i r e. w.regions k i r (ap (λ l. slice_get l i) (sym (same k).1) ∙ e);
     results = λ k i v e. w.results k i v (ap (λ l. slice_get l i) (sym (same k).0) ∙ e);

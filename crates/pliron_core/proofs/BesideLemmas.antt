@@ -17,7 +17,7 @@ use Rattle.pliron_core.proofs.HoldingLemmas.{some_is, slot_is, maker_is, region_
 use Rattle.pliron_core.proofs.InsideLemmas.{AreKeptOutside, same_change, change_of_kept}
 use Rattle.pliron_core.proofs.WriteInsideLemmas.{same_block, same_operation, push_other, grown_front}
 use Rattle.pliron_core.proofs.BlankLemmas.{blanked_gone, blanked_kept}
-use Rattle.pliron_core.proofs.ClearedLemmas.{told, met_above, met_itself}
+use Rattle.pliron_core.proofs.ClearedLemmas.{reported, met_above, met_itself}
 
 -- d is t with one more operation, n, which stands in no block
 pub record IsBeside (t d : Tree) (n : ℕ) : Type 0 where
@@ -187,11 +187,11 @@ module _ (t d : Tree) (n : ℕ) (w : IsTree t) (s : IsBeside t d n) where
     bodies = λ b. blanked_kept block_gone [] d.bodies b (block_stays b) ∙ s.bodies b;
     arguments = λ b. blanked_kept block_gone [] d.arguments b (block_stays b) ∙ s.arguments b;
     block_parents = λ b. blanked_kept block_gone None d.block_parents b (block_stays b) ∙ s.block_parents b;
-    layouts = λ r. layout r (told (region_gone r));
+    layouts = λ r. layout r (reported (region_gone r));
   }
     where
-      gone : ℕ → Bool
-      gone = λ k. is_met_above d (nat_eq n) (Some k)
+      deleted : ℕ → Bool
+      deleted = λ k. is_met_above d (nat_eq n) (Some k)
 
       block_gone : ℕ → Bool
       block_gone = λ b. is_met_above d (nat_eq n) (block_parent_operation_of d b)
@@ -199,18 +199,18 @@ module _ (t d : Tree) (n : ℕ) (w : IsTree t) (s : IsBeside t d n) where
       region_gone : ℕ → Bool
       region_gone = λ r. is_met_above d (nat_eq n) (region_parent_of d r)
 
-      row : {A : Type 0} (none : A) (xs ys : List A) → ((k : ℕ) → k ≢ n → get_or xs k none ≡ get_or ys k none) → get_or ys n none ≡ none → (k : ℕ) → get_or (blank_at gone none xs) k none ≡ get_or ys k none
-      row none xs ys same empty k = go (told (gone k))
+      row : {A : Type 0} (none : A) (xs ys : List A) → ((k : ℕ) → k ≢ n → get_or xs k none ≡ get_or ys k none) → get_or ys n none ≡ none → (k : ℕ) → get_or (blank_at deleted none xs) k none ≡ get_or ys k none
+      row none xs ys same empty k = go (reported (deleted k))
         where
-          go : (gone k ≡ true) ⊎ (gone k ≡ false) → get_or (blank_at gone none xs) k none ≡ get_or ys k none
+          go : (deleted k ≡ true) ⊎ (deleted k ≡ false) → get_or (blank_at deleted none xs) k none ≡ get_or ys k none
           go (inl e) =
               let m = met_above d n (Some k) e in
               let here : k ≡ n = some_is m.1 ∙ within_new m.0 m.2 in
-              blanked_gone gone none xs k e ∙ sym (ap (λ z. get_or ys z none) here ∙ empty)
-          go (inr e) = blanked_kept gone none xs k e ∙ same k (λ here. true≢false (sym (ap gone here ∙ met_itself d n s.key) ∙ e))
+              blanked_gone deleted none xs k e ∙ sym (ap (λ z. get_or ys z none) here ∙ empty)
+          go (inr e) = blanked_kept deleted none xs k e ∙ same k (λ here. true≢false (sym (ap deleted here ∙ met_itself d n s.key) ∙ e))
 
       block_stays : (b : ℕ) → block_gone b ≡ false
-      block_stays b = go (told (block_gone b))
+      block_stays b = go (reported (block_gone b))
         where
           go : (block_gone b ≡ true) ⊎ (block_gone b ≡ false) → block_gone b ≡ false
           go (inl e) = let m = met_above d n (block_parent_operation_of d b) e in absurd (holds_no_block b (m.1 ∙ ap Some (within_new m.0 m.2)))

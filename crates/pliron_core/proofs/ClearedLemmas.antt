@@ -2,12 +2,12 @@
 use Rattle.std.proofs.Common.{◌≡◌, ◌⊎◌, ℕ, zero, suc, ◌<◌, Bool, true, false, nat_eq, if◌then◌else◌, List, [], ◌∷◌, length, get_or, Option, Some, None, slice_set, refl, sym, ap, ◌∙◌, inl, inr, true≢false, arith}
 use Rattle.std.proofs.lemmas.Bool.{eq-eqb}
 use Rattle.pliron_core.specs.Tree.{Tree, parent_operation_of, IsWithin}
-use Rattle.pliron_core.specs.Erased.{is_met, is_met_above, stands_in, StandsIn}
+use Rattle.pliron_core.specs.Erased.{is_met, is_met_above, is_in_operation, IsInOperation}
 use Rattle.pliron_core.proofs.WithinLemmas.{within_is, in_block_is}
 
-pub told : (b : Bool) → (b ≡ true) ⊎ (b ≡ false)
-told true = inl refl
-told false = inr refl
+pub reported : (b : Bool) → (b ≡ true) ⊎ (b ≡ false)
+reported true = inl refl
+reported false = inr refl
 
 -- an entry that is blanked is blank
 pub blank_set : {A : Type 0} (none : A) (xs : List A) (k : ℕ) → get_or (slice_set xs k none) k none ≡ none
@@ -28,8 +28,8 @@ pub met_above : (t : Tree) (op : ℕ) (o : Option ℕ) → is_met_above t (nat_e
 met_above t op None e = absurd (nothing_met t (nat_eq op) e)
 met_above t op (Some x) e = (x, refl, within_is t op x e)
 
-pub met_block : (t : Tree) (block : ℕ) (o : Option ℕ) → is_met_above t (stands_in t block) o ≡ true → (x : ℕ) × (o ≡ Some x) × StandsIn t block x
-met_block t block None e = absurd (nothing_met t (stands_in t block) e)
+pub met_block : (t : Tree) (block : ℕ) (o : Option ℕ) → is_met_above t (is_in_operation t block) o ≡ true → (x : ℕ) × (o ≡ Some x) × IsInOperation t block x
+met_block t block None e = absurd (nothing_met t (is_in_operation t block) e)
 met_block t block (Some x) e = (x, refl, in_block_is t block x e)
 
 pub met_itself : (t : Tree) (op : ℕ) → op < length t.operations → is_met_above t (nat_eq op) (Some op) ≡ true

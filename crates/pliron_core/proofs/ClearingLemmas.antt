@@ -75,8 +75,8 @@ clearing_trans ops blocks bodies regions t u v a b = record {
 }
 
 -- a write in the set leaves alone what is not
-pub set_kept : {A : Type 0} (xs : List A) (d : A) (gone : ℕ → Bool) (i : ℕ) (x : A) (k : ℕ) → gone i ≡ true → gone k ≡ false → get_or (slice_set xs i x) k d ≡ get_or xs k d
-set_kept xs d gone i x k e f = get_or-set_other xs i k x d (λ s. true≢false (sym e ∙ ap gone (sym s) ∙ f))
+pub set_kept : {A : Type 0} (xs : List A) (d : A) (deleted : ℕ → Bool) (i : ℕ) (x : A) (k : ℕ) → deleted i ≡ true → deleted k ≡ false → get_or (slice_set xs i x) k d ≡ get_or xs k d
+set_kept xs d deleted i x k e f = get_or-set_other xs i k x d (λ s. true≢false (sym e ∙ ap deleted (sym s) ∙ f))
 
 -- trees with equal tables
 tables_same : (a1 b1 : List OperationEntry) (a2 b2 a3 b3 : List (List ℕ)) (a4 b4 : List (Option ℕ)) (a5 b5 a6 b6 : List (List ℕ)) (a7 b7 : List (Option ℕ)) (a8 b8 : List (List ℕ)) (a9 b9 : List RegionSlot) (a10 b10 : List Def)
@@ -104,7 +104,7 @@ module _ (t u : Tree) (p bodies : ℕ → Bool) (wt : IsTree t) (wu : IsTree u) 
   pub holder_was : (x y : ℕ) → parent_operation_of u x ≡ Some y → parent_operation_of t x ≡ Some y
   holder_was x y e =
       let s = holder_steps u x y e in
-      let k = c.stays x (wu.joined.standing x s.0 s.1).0 in
+      let k = c.stays x (wu.joined.all_in_place x s.0 s.1).0 in
       holder_from t x s.0 (sym k.1 ∙ s.1) ∙ block_holder_was s.0 y s.2
 
   pub holder_is : (x y : ℕ) → IsLive u x → parent_operation_of t x ≡ Some y → parent_operation_of u x ≡ Some y
@@ -114,7 +114,7 @@ module _ (t u : Tree) (p bodies : ℕ → Bool) (wt : IsTree t) (wu : IsTree u) 
       go s.0 at s.2 (block_parent_of u s.0) refl
     where
       go : (b : ℕ) → parent_of u x ≡ Some b → block_parent_operation_of t b ≡ Some y → (o : Option ℕ) → block_parent_of u b ≡ o → parent_operation_of u x ≡ Some y
-      go b f g None k = absurd (true≢false (sym (wu.joined.standing x b f).1 ∙ ap is_some k))
+      go b f g None k = absurd (true≢false (sym (wu.joined.all_in_place x b f).1 ∙ ap is_some k))
       go b f g (Some r) k = holder_from u x b f ∙ block_holder_from u b r k ∙ region_parent_same r ∙ sym (block_holder_from t b r (c.placed b r k)) ∙ g
 
   live-below : (x : ℕ) → IsLive u x → x < length t.operations
@@ -142,7 +142,7 @@ module _ (t u : Tree) (p bodies : ℕ → Bool) (wt : IsTree t) (wu : IsTree u) 
       where
         go : (o : Option ℕ) → parent_of u k ≡ o → o ≡ None
         go None f = refl
-        go (Some b) f = absurd (true≢false (sym (wu.joined.standing k b f).0 ∙ ap is_some e))
+        go (Some b) f = absurd (true≢false (sym (wu.joined.all_in_place k b f).0 ∙ ap is_some e))
 
     -- no block of an operation that is gone stands
     not_placed : (b r : ℕ) → block_parent_of u b ≡ Some r → region_gone t p r ≡ true → ⊥
@@ -166,8 +166,8 @@ module _ (t u : Tree) (p bodies : ℕ → Bool) (wt : IsTree t) (wu : IsTree u) 
         go [] f = refl
         go (x ∷ xs) f = absurd (not_placed x r (wu.layouts.owned x r (subst (In x) (sym f) (inl refl))) g)
 
-    pub gone_blocks : (b : ℕ) → block_gone t p b ≡ true → (arguments_of u b ≡ []) × (body_of u b ≡ [])
-    gone_blocks b g = wu.joined.unplaced b (no_holder b g)
+    pub detached_blocks : (b : ℕ) → block_gone t p b ≡ true → (arguments_of u b ≡ []) × (body_of u b ≡ [])
+    detached_blocks b g = wu.joined.unplaced b (no_holder b g)
 
     pub cleared_all : u ≡ record (after_clearing t p) { bodies = u.bodies }
     cleared_all = tree_same u (record (after_clearing t p) { bodies = u.bodies })
@@ -176,7 +176,7 @@ module _ (t u : Tree) (p bodies : ℕ → Bool) (wt : IsTree t) (wu : IsTree u) 
         (is_blanked (op_gone t p) [] t.successors u.successors (wu.keys.successors ∙ c.count ∙ sym wt.keys.successors) (λ k g. (wu.joined.erased k (all_dead k g)).1) c.successors)
         (is_blanked (op_gone t p) None t.parents u.parents (wu.keys.parents ∙ c.count ∙ sym wt.keys.parents) (λ k g. no_parent k (all_dead k g)) c.parents)
         refl
-        (is_blanked (block_gone t p) [] t.arguments u.arguments (wu.keys.arguments ∙ c.block_count ∙ sym wt.keys.arguments) (λ b g. (gone_blocks b g).0) c.arguments)
+        (is_blanked (block_gone t p) [] t.arguments u.arguments (wu.keys.arguments ∙ c.block_count ∙ sym wt.keys.arguments) (λ b g. (detached_blocks b g).0) c.arguments)
         (is_blanked (block_gone t p) None t.block_parents u.block_parents (wu.keys.block_parents ∙ c.block_count ∙ sym wt.keys.block_parents) no_holder c.block_parents)
         (is_blanked (region_gone t p) [] t.layouts u.layouts (sym wu.keys.slots ∙ ap length c.slots ∙ wt.keys.slots) no_layout c.layouts)
         c.slots c.definitions

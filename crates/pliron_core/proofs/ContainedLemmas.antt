@@ -13,7 +13,7 @@ use Rattle.pliron_core.specs.Lists.{In, IsDistinct, first_of, next_in}
 use Rattle.pliron_core.specs.Tree.{Tree, View, IsListedBy, IsMadeBy, IsDefinedWithin, IsInside, IsWithin, up_from, op_of_slot, uses_of, operands_of, successors_of, results_of, regions_of, arguments_of, layout_of, body_of, slot_of, block_parent_of, region_parent_of, block_parent_operation_of, parent_of, definition_of, parent_operation_of}
 use Rattle.pliron_core.specs.Tree.IsInside.{Directly}
 use Rattle.pliron_core.specs.Invariant.{IsTree, HaveUses}
-use Rattle.pliron_core.specs.Erased.{IsSelfContained, StandsIn, IsBlockWithin, IsDefinedInBlock, IsSelfContainedBlock}
+use Rattle.pliron_core.specs.Erased.{IsSelfContained, IsInOperation, IsBlockWithin, IsDefinedInBlock, IsSelfContainedBlock}
 use Rattle.pliron_core.specs.Reads.{next_of, next_block_of}
 use Rattle.pliron_core.specs.WalkSteps.{rest_from}
 use Rattle.pliron_core.specs.Contained.{IsInScope, IsValueKept, IsTargetKept, IsBlockKept, IsOperationKept, IsPreorderKept, IsBodyKept}
@@ -114,7 +114,7 @@ within_up t x p z h (inl e) = Directly (ap (λ k. parent_operation_of t k) e ∙
 within_up t x p z h (inr u) = inside_trans t p x z (Directly h) u
 
 -- what stands in a block does so in it or further up
-pub stands_up : (t : Tree) (block x : ℕ) → parent_of t x ≢ Some block → StandsIn t block x → (p : ℕ) × (parent_operation_of t x ≡ Some p) × StandsIn t block p
+pub stands_up : (t : Tree) (block x : ℕ) → parent_of t x ≢ Some block → IsInOperation t block x → (p : ℕ) × (parent_operation_of t x ≡ Some p) × IsInOperation t block p
 stands_up t block x ne s =
     elim s.2 [
       | inl e ↦ absurd (ne (ap (λ k. parent_of t k) e ∙ s.1))
@@ -191,14 +191,14 @@ module _ (t : Tree) (w : IsTree t) where
       blocks = λ x b is h. (each b h).block x is;
     }
       where
-        all : (k : ℕ) → StandsIn t block k → IsOperationKept t (InBlock block) k
+        all : (k : ℕ) → IsInOperation t block k → IsOperationKept t (InBlock block) k
         all k s = body s.0 (w.bodies.listed s.0 block s.1) k s.2
 
         each : (b : ℕ) → IsBlockWithin t block b → IsBlockKept t (InBlock block) b
         each b (inl e) = subst (IsBlockKept t (InBlock block)) (sym e) own
         each b (inr h) = block_kept (InBlock block) all b h.0 h.1 h.2
 
-        value : (x v : ℕ) → In v (operands_of t x) → (d : Option Def) → IsMadeBy t v d → IsDefinedInBlock t block d → StandsIn t block x
+        value : (x v : ℕ) → In v (operands_of t x) → (d : Option Def) → IsMadeBy t v d → IsDefinedInBlock t block d → IsInOperation t block x
         value x v is None by made = absurd made
         value x v is (Some (Result k i)) by made = (all k made).results v (in_slice (results_of t k) i v by) x is
         value x v is (Some (Argument b i)) by made = (each b made).arguments v (in_slice (arguments_of t b) i v by) x is
@@ -212,5 +212,5 @@ module _ (t : Tree) (w : IsTree t) where
 
     pub contained_block-body : IsSelfContainedBlock t block → IsBodyKept t (InBlock block) block
     contained_block-body c k i x u =
-        let here : StandsIn t block x = (k, w.bodies.owned k block i, u) in
+        let here : IsInOperation t block x = (k, w.bodies.owned k block i, u) in
         keeps_operation (InBlock block) x (λ j v made y is. c.values y v is (subst (IsDefinedInBlock t block) (sym made) here)) (λ b held. keeps_inner c b (inr (x, held, here)))

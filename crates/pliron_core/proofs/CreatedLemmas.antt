@@ -41,7 +41,7 @@ holder_kept t t' w parents blocks slots x = ap (λ o. up_from o (λ b. block_par
 
     go : (o : Option ℕ) → parent_of t x ≡ o → up_from o (λ b. block_parent_operation_of t' b) ≡ up_from o (λ b. block_parent_operation_of t b)
     go None e = refl
-    go (Some b) e = ap (λ o. up_from o (λ r. region_parent_of t' r)) (blocks b (w.standing x b e).1) ∙ at_region (block_parent_of t b) b refl
+    go (Some b) e = ap (λ o. up_from o (λ r. region_parent_of t' r)) (blocks b (w.all_in_place x b e).1) ∙ at_region (block_parent_of t b) b refl
 
 module _ (t : Tree) (h : Head) (results regions : ℕ) (w : IsJoined t) where
   abbrev pub t' : Tree
@@ -107,7 +107,7 @@ module _ (t : Tree) (h : Head) (results regions : ℕ) (w : IsJoined t) where
 
   pub kept_created : IsJoined (after_creating t h results regions)
   kept_created = record {
-    standing = λ x b e. let s = w.standing x b (sym (get_grown t.parents None x) ∙ e) in (live_created x s.0, s.1);
+    all_in_place = λ x b e. let s = w.all_in_place x b (sym (get_grown t.parents None x) ∙ e) in (live_created x s.0, s.1);
     placed = λ b r e. region_created r (w.placed b r e);
     regions = region_back;
     results = result_back;
@@ -193,7 +193,7 @@ module _ (t : Tree) (region count : ℕ) (keys : HaveSameKeys t) (w : IsJoined t
 
   pub kept_block_created : IsJoined (block_created t region count)
   kept_block_created = record {
-    standing = λ x b e. let s = w.standing x b e in (s.0, block_still b s.1);
+    all_in_place = λ x b e. let s = w.all_in_place x b e in (s.0, block_still b s.1);
     placed = λ b r e. ⊎_elim (λ s. w.placed b r (sym s ∙ e)) (λ s. let f : Some region ≡ Some r = sym s.0 ∙ e in let g : region ≡ r = cc in subst (IsRegion t) g is) (parent_at b);
     regions = w.regions;
     results = λ k i v e. define v _ (w.results k i v e);

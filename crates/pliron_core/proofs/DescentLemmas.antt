@@ -12,7 +12,7 @@ use Rattle.pliron_core.specs.Dismantling.{IsStep, Down, LessBlock, LessRegion, U
 use Rattle.pliron_core.proofs.TreeLemmas.{live-within, live_dead}
 use Rattle.pliron_core.proofs.WithinLemmas.{block_steps, holder_steps, holder_from, holder_live, not_own_holder, met_below, met_here, met_up, within_is, equal_from}
 use Rattle.pliron_core.proofs.BlankLemmas.{is_blanked}
-use Rattle.pliron_core.proofs.ClearingLemmas.{IsClearing, op_gone, block_gone, region_gone, clearing_none, clearing_trans, set_kept, block_holder_was, holder_was, holder_is, region_parent_same, cleared_all, gone_blocks}
+use Rattle.pliron_core.proofs.ClearingLemmas.{IsClearing, op_gone, block_gone, region_gone, clearing_none, clearing_trans, set_kept, block_holder_was, holder_was, holder_is, region_parent_same, cleared_all, detached_blocks}
 
 pub set_none_some : (xs : List (Option ℕ)) (i k q : ℕ) → get_or (slice_set xs i None) k None ≡ Some q → get_or xs k None ≡ Some q
 set_none_some [] i k q e = e
@@ -249,7 +249,7 @@ module _ (t : Tree) (op : ℕ) (w : IsTree t) (live : IsLive t op) (free : paren
   pub descent_end : (u : Tree) → IsDescent t op None u → u ≡ after_clearing t (nat_eq op)
   descent_end u d =
       cleared_all t u (nat_eq op) blocks w d.tree d.clearing none ∙ ap (λ z. record (after_clearing t (nat_eq op)) { bodies = z })
-      (is_blanked blocks [] t.bodies u.bodies d.clearing.block_count (λ b g. (gone_blocks t u (nat_eq op) blocks w d.tree d.clearing none b g).1) d.clearing.contents)
+      (is_blanked blocks [] t.bodies u.bodies d.clearing.block_count (λ b g. (detached_blocks t u (nat_eq op) blocks w d.tree d.clearing none b g).1) d.clearing.contents)
     where
       none : (k : ℕ) → nat_eq op k ≡ true → IsLive u k → ⊥
       none k e l = live_dead u op (subst (IsLive u) (equal_from op k e) l) d.place

@@ -62,8 +62,8 @@ module _ (t : Tree) (op : ℕ) (w : IsJoined t) (live : IsLive t op) (free : par
 
   pub kept_bury : IsJoined (after_dismantling t op)
   kept_bury = record {
-    standing = λ x b e.
-        let s = w.standing x b e in
+    all_in_place = λ x b e.
+        let s = w.all_in_place x b e in
         let ne : x ≢ op = λ f. let y : None ≡ Some b = sym free ∙ ap (parent_of t) (sym f) ∙ e in cc in
         (subst (λ z. IsSome z.head) (sym (other x ne)) s.0, s.1);
     placed = λ b r e. region_kept t (after_dismantling t op) r refl (λ k i f. buried_region k i r f) (w.placed b r e);
@@ -127,7 +127,7 @@ module _ (t : Tree) (op r : ℕ) (is : IsTree t) (live : IsLive t op) (last : la
 
   pub kept_popped : IsJoined (region_popped t op)
   kept_popped = record {
-    standing = λ x b e. let s = w.standing x b e in (subst IsSome (sym (pop_head x)) s.0, s.1);
+    all_in_place = λ x b e. let s = w.all_in_place x b e in (subst IsSome (sym (pop_head x)) s.0, s.1);
     placed = λ b q e.
         let differs : q ≢ r = λ s. no_member (layout_of t q) b (ap (layout_of t) s ∙ empty) (is.layouts.listed b q e) in
         region_kept t (region_popped t op) q refl (λ k i f. popped_region k i q differs f) (w.placed b q e);
@@ -204,7 +204,7 @@ module _ (t : Tree) (block r : ℕ) (is : IsTree t) (at : block_parent_of t bloc
 
   pub kept_block_out : IsJoined (block_taken_from t block (Some r))
   kept_block_out = record {
-    standing = λ x b e. let s = is.joined.standing x b e in (s.0, stays_block b (holds_nothing x b e) s.1);
+    all_in_place = λ x b e. let s = is.joined.all_in_place x b e in (s.0, stays_block b (holds_nothing x b e) s.1);
     placed = λ b q e. is.joined.placed b q (was_placed b q e).1;
     regions = is.joined.regions;
     results = is.joined.results;

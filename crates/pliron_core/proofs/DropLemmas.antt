@@ -4,7 +4,7 @@ use Rattle.std.proofs.lemmas.Bool.{cases_eq, eq-eqb, ne_eqb}
 use Rattle.std.proofs.lemmas.List.{get_or-set_other, length-set}
 use Rattle.pliron_core.specs.Tree.{Tree, View, In, IsDistinct, IsLive, IsWithin, first_of, next_in, head_of, operands_of, successors_of, parent_of, body_of}
 use Rattle.pliron_core.specs.Invariant.{IsTree, IsWellFormed}
-use Rattle.pliron_core.specs.Erased.{is_met_above, names_dropped, uses_dropped, blank_at, stands_in}
+use Rattle.pliron_core.specs.Erased.{is_met_above, names_dropped, uses_dropped, blank_at, is_in_operation}
 use Rattle.pliron_core.specs.Dismantling.{without_names}
 use Rattle.pliron_core.specs.Walks.{preorder, contents}
 use Rattle.pliron_core.specs.WalkSteps.{rest_after, rest_from}
@@ -201,7 +201,7 @@ pub record IsBlockPass (t : Tree) (block : ℕ) (at : Option ℕ) (u : Tree) : T
   pub names : IsNamesOnly t u
   pub within : (c : ℕ) → at ≡ Some c → In c (body_of t block)
   pub behind : (c k : ℕ) → In c (body_of t block) → IsWithin t c k → In c (rest_from at (body_of t block)) ⊎ IsBare u k
-  pub others : (k : ℕ) → op_gone t (stands_in t block) k ≡ false → NamesSame t u k
+  pub others : (k : ℕ) → op_gone t (is_in_operation t block) k ≡ false → NamesSame t u k
 
 rest_first : (xs : List ℕ) → rest_from (first_of xs None) xs ≡ xs
 rest_first [] = refl
@@ -222,7 +222,7 @@ pass_start t block o e = record {
 pub pass_live : (t : Tree) (block c : ℕ) (u : Tree) → IsTree t → IsBlockPass t block (Some c) u → IsLive u c × (parent_of u c ≡ Some block)
 pass_live t block c u w d =
     let at : parent_of t c ≡ Some block = w.bodies.owned c block (d.within c refl) in
-    (subst IsSome (sym (same_live t u d.names c)) (w.joined.standing c block at).0, same_parent t u d.names c ∙ at)
+    (subst IsSome (sym (same_live t u d.names c)) (w.joined.all_in_place c block at).0, same_parent t u d.names c ∙ at)
 
 pub pass_next : (t : Tree) (block c : ℕ) (u v : Tree) (o : Option ℕ) → IsTree t → IsBlockPass t block (Some c) u → v ≡ names_dropped u (nat_eq c) → o ≡ next_in c (body_of v block) → IsBlockPass t block o v
 pass_next t block c u v o w d e f = record {
@@ -250,10 +250,10 @@ pass_next t block c u v o w d e f = record {
     rest : rest_from o (body_of t block) ≡ rest_after c (body_of t block)
     rest = ap (λ z. rest_from z (body_of t block)) next ∙ rest_step c (body_of t block) (w.bodies.distinct block) here
 
-    gone : (k : ℕ) → IsWithin t c k → op_gone u (nat_eq c) k ≡ true
-    gone k j = same_met t u d.names (nat_eq c) (Some k) ∙ is_within t c k w.joined (w.joined.standing c block at).0 j
+    deleted : (k : ℕ) → IsWithin t c k → op_gone u (nat_eq c) k ≡ true
+    deleted k j = same_met t u d.names (nat_eq c) (Some k) ∙ is_within t c k w.joined (w.joined.all_in_place c block at).0 j
 
-    outside : (k : ℕ) → op_gone t (stands_in t block) k ≡ false → op_gone u (nat_eq c) k ≡ false
+    outside : (k : ℕ) → op_gone t (is_in_operation t block) k ≡ false → op_gone u (nat_eq c) k ≡ false
     outside k g = go (op_gone u (nat_eq c) k) refl
       where
         go : (b : Bool) → op_gone u (nat_eq c) k ≡ b → b ≡ false
@@ -261,7 +261,7 @@ pass_next t block c u v o w d e f = record {
         go true q = absurd (true≢false (sym (is_in_block t block k w.joined (c, at, within_is t c k (sym (same_met t u d.names (nat_eq c) (Some k)) ∙ q))) ∙ g))
 
     behind : (z k : ℕ) → IsWithin t z k → In z (c ∷ rest_after c (body_of t block)) ⊎ IsBare u k → In z (rest_from o (body_of t block)) ⊎ IsBare v k
-    behind z k j (inl (inl s)) = inr (subst (λ y. IsBare y k) (sym e) (dropped_gone u (nat_eq c) k (gone k (subst (λ y. IsWithin t y k) s j))))
+    behind z k j (inl (inl s)) = inr (subst (λ y. IsBare y k) (sym e) (dropped_gone u (nat_eq c) k (deleted k (subst (λ y. IsWithin t y k) s j))))
     behind z k j (inl (inr i)) = inl (subst (In z) (sym rest) i)
     behind z k j (inr b) = inr (subst (λ y. IsBare y k) (sym e) (dropped_stays u (nat_eq c) k b))
 
@@ -273,7 +273,7 @@ pass_falls t block c u v o w d e f =
     omega (arith, g)
 
 pub pass_end : (t : Tree) (block : ℕ) (u : Tree) → IsTree t → IsBlockPass t block None u → u ≡ uses_dropped t block
-pass_end t block u w d = dropped_all t u (stands_in t block) d.names
+pass_end t block u w d = dropped_all t u (is_in_operation t block) d.names
     (λ k e. let s = in_block_is t block k e in elim (d.behind s.0 k (w.bodies.listed s.0 block s.1) s.2) [ inl i ↦ absurd i | inr b ↦ b ])
     d.others
 

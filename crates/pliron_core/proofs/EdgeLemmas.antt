@@ -23,10 +23,10 @@ nowhere : (xs : List ℕ) (i x : ℕ) → xs ≡ [] → slice_get xs i ≡ Some 
 nowhere xs i x empty e = none-some x (sym (ap (λ l. slice_get l i) empty) ∙ e)
 
 pub successor-user : (t : Tree) → IsJoined t → (k i x : ℕ) → slice_get (successors_of t k) i ≡ Some x → IsLive t k
-successor-user t j k i x e = live-by t k (λ gone. nowhere (successors_of t k) i x (j.erased k gone).1 e)
+successor-user t j k i x e = live-by t k (λ deleted. nowhere (successors_of t k) i x (j.erased k deleted).1 e)
 
 pub operand-user : (t : Tree) → IsJoined t → (k i x : ℕ) → slice_get (operands_of t k) i ≡ Some x → IsLive t k
-operand-user t j k i x e = live-by t k (λ gone. nowhere (operands_of t k) i x (j.erased k gone).0 e)
+operand-user t j k i x e = live-by t k (λ deleted. nowhere (operands_of t k) i x (j.erased k deleted).0 e)
 
 -- a block that stands has a key in the tables
 pub block-within : (t : Tree) → IsTree t → (b : ℕ) → IsBlock t b → b < length t.arguments
@@ -80,11 +80,11 @@ source-pred t w block user place a live s e =
     (ap (λ o. list_any (λ z. nat_eq z block) (succs_from t o)) s.last ∙ at_any (successors_of t user) block place e)
 
 pub pred-block : (t : Tree) → IsTree t → (block a : ℕ) → In a (preds_of t block) → IsBlock t a
-pred-block t w block a i = standing (block_parent_of t block) (In-filter (λ z. leads_to t block z) (blocks_in t (block_parent_of t block)) a i).0
+pred-block t w block a i = all_in_place (block_parent_of t block) (In-filter (λ z. leads_to t block z) (blocks_in t (block_parent_of t block)) a i).0
   where
-    standing : (o : Option ℕ) → In a (blocks_in t o) → IsBlock t a
-    standing None i = absurd i
-    standing (Some r) i = In-block t w r a i
+    all_in_place : (o : Option ℕ) → In a (blocks_in t o) → IsBlock t a
+    all_in_place None i = absurd i
+    all_in_place (Some r) i = In-block t w r a i
 
 pub pred-within : (t : Tree) → IsTree t → (block a : ℕ) → In a (preds_of t block) → a < length t.arguments
 pred-within t w block a i = block-within t w a (pred-block t w block a i)

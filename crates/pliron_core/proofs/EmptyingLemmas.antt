@@ -7,22 +7,22 @@ use Rattle.pliron_core.specs.declared.context.Def.TheVariants.{Result, Argument}
 use Rattle.pliron_core.specs.Tree.{Tree, In, IsLive, IsBlock, IsWithin, IsInside, Directly, Deeper, IsDefinedWithin, HoldsBlock, op_of_slot, no_entry, operands_of, successors_of, parent_of, body_of, block_parent_of, definition_of, region_parent_of, block_parent_operation_of, parent_operation_of, without, last_of}
 use Rattle.pliron_core.specs.Invariant.{IsJoined, IsTree}
 use Rattle.pliron_core.specs.Writes.{taken_from, taken_out}
-use Rattle.pliron_core.specs.Erased.{is_met, is_met_above, after_clearing, uses_dropped, blank_at, stands_in, StandsIn, IsBlockWithin, IsDefinedInBlock, IsSelfContainedBlock, block_emptied, block_taken_out, block_erased}
+use Rattle.pliron_core.specs.Erased.{is_met, is_met_above, after_clearing, uses_dropped, blank_at, is_in_operation, IsInOperation, IsBlockWithin, IsDefinedInBlock, IsSelfContainedBlock, block_emptied, block_taken_out, block_erased}
 use Rattle.pliron_core.specs.Dismantling.{IsUnused, IsUnusedBlock}
 use Rattle.pliron_core.proofs.BlankLemmas.{length-blanked, blanked_gone, blanked_kept}
 use Rattle.pliron_core.proofs.LastLemmas.{last_in}
 use Rattle.pliron_core.proofs.TreeLemmas.{live-within, block-within, live_dead}
 use Rattle.pliron_core.proofs.PlacedLemmas.{taken-parents}
-use Rattle.pliron_core.proofs.WithinLemmas.{holder_steps, holder_from, met_here, met_below, within_is, in_block_is, is_in_block, stands_met, stands_from, not_own_holder}
+use Rattle.pliron_core.proofs.WithinLemmas.{holder_steps, holder_from, met_here, met_below, within_is, in_block_is, is_in_block, stands_met, is_listed_from, not_own_holder}
 use Rattle.pliron_core.proofs.WalkLemmas.{inside_trans, not_inside-itself}
-use Rattle.pliron_core.proofs.ClearingLemmas.{IsClearing, op_gone, block_gone, region_gone, clearing_none, clearing_trans, block_holder_was, holder_was, cleared_all, gone_blocks}
+use Rattle.pliron_core.proofs.ClearingLemmas.{IsClearing, op_gone, block_gone, region_gone, clearing_none, clearing_trans, block_holder_was, holder_was, cleared_all, detached_blocks}
 use Rattle.pliron_core.proofs.DescentLemmas.{set_default, taken-operations, taken-operands, taken-successors, taken-block_parents}
 use Rattle.pliron_core.proofs.DropLemmas.{dropped_gone}
 use Rattle.pliron_core.proofs.ErasedLemmas.{taken-slots, taken-definitions, taken-block_parent_operation, cleared_dropped, dropped-operand, dropped-successor}
 
 -- after the drop nothing in the block is used any more
 module _ (t : Tree) (block : ℕ) (w : IsTree t) (is : IsJoined (uses_dropped t block)) where
-  still : (k : ℕ) → StandsIn (uses_dropped t block) block k → StandsIn t block k
+  still : (k : ℕ) → IsInOperation (uses_dropped t block) block k → IsInOperation t block k
   still k s = in_block_is t block k (is_in_block (uses_dropped t block) block k is s)
 
   still_block : (b : ℕ) → IsBlockWithin (uses_dropped t block) block b → IsBlockWithin t block b
@@ -34,14 +34,14 @@ module _ (t : Tree) (block : ℕ) (w : IsTree t) (is : IsJoined (uses_dropped t 
   still_made (Some (Result k i)) m = still k m
   still_made (Some (Argument b i)) m = still_block b m
 
-  outside : (x : ℕ) → op_gone t (stands_in t block) x ≡ false → StandsIn t block x → ⊥
+  outside : (x : ℕ) → op_gone t (is_in_operation t block) x ≡ false → IsInOperation t block x → ⊥
   outside x e s = true≢false (sym (is_in_block t block x w.joined s) ∙ e)
 
   unused-after : IsSelfContainedBlock t block → IsUnusedBlock (uses_dropped t block) block
   unused-after c = record {
-    bare = λ k s. dropped_gone t (stands_in t block) k (is_in_block (uses_dropped t block) block k is s);
-    values = λ x v i m. let s = dropped-operand t (stands_in t block) x v i in outside x s.0 (c.values x v s.1 (still_made (definition_of t v) m));
-    blocks = λ x b i m. let s = dropped-successor t (stands_in t block) x b i in outside x s.0 (c.blocks x b s.1 (still_block b m));
+    bare = λ k s. dropped_gone t (is_in_operation t block) k (is_in_block (uses_dropped t block) block k is s);
+    values = λ x v i m. let s = dropped-operand t (is_in_operation t block) x v i in outside x s.0 (c.values x v s.1 (still_made (definition_of t v) m));
+    blocks = λ x b i m. let s = dropped-successor t (is_in_operation t block) x b i in outside x s.0 (c.blocks x b s.1 (still_block b m));
   }
 
 pub unused_block : (t : Tree) (block : ℕ) (u : Tree) → IsTree t → IsTree u → u ≡ uses_dropped t block → IsSelfContainedBlock t block → IsUnusedBlock u block
@@ -49,18 +49,18 @@ unused_block t block u w is e c = subst (λ z. IsUnusedBlock z block) (sym e) (u
 
 -- operations, blocks and regions that go with the block, and the bodies that change
 abbrev pub touched : Tree → ℕ → ℕ → Bool
-touched t block b = if nat_eq block b then true else block_gone t (stands_in t block) b
+touched t block b = if nat_eq block b then true else block_gone t (is_in_operation t block) b
 
-touched_not : (t : Tree) (block b : ℕ) → touched t block b ≡ false → (b ≢ block) × (block_gone t (stands_in t block) b ≡ false)
+touched_not : (t : Tree) (block b : ℕ) → touched t block b ≡ false → (b ≢ block) × (block_gone t (is_in_operation t block) b ≡ false)
 touched_not t block b e = go (nat_eq block b) refl e
   where
-    go : (g : Bool) → nat_eq block b ≡ g → (if g then true else block_gone t (stands_in t block) b) ≡ false → (b ≢ block) × (block_gone t (stands_in t block) b ≡ false)
+    go : (g : Bool) → nat_eq block b ≡ g → (if g then true else block_gone t (is_in_operation t block) b) ≡ false → (b ≢ block) × (block_gone t (is_in_operation t block) b ≡ false)
     go true f h = absurd (true≢false h)
     go false f h = (λ s. true≢false (sym (eq-eqb block block refl) ∙ ap (nat_eq block) (sym s) ∙ f), h)
 
 pub record IsEmptying (t : Tree) (block : ℕ) (u : Tree) : Type 0 where
   pub tree : IsTree u
-  pub clearing : IsClearing (op_gone t (stands_in t block)) (block_gone t (stands_in t block)) (touched t block) (region_gone t (stands_in t block)) t u
+  pub clearing : IsClearing (op_gone t (is_in_operation t block)) (block_gone t (is_in_operation t block)) (touched t block) (region_gone t (is_in_operation t block)) t u
   pub operands : (x v : ℕ) → In v (operands_of u x) → In v (operands_of t x)
   pub successors : (x b : ℕ) → In b (successors_of u x) → In b (successors_of t x)
 
@@ -102,19 +102,19 @@ is_met_first h c zero lt = absurd (omega arith)
 is_met_first h c (suc n) lt = ap (λ b. if b then true else is_met h (nat_eq c) n (h c)) (eq-eqb c c refl)
 
 -- a list of a cleared table has what it had, or nothing
-cleared_in : (gone : ℕ → Bool) (xs : List (List ℕ)) (k v : ℕ) → In v (get_or (blank_at gone [] xs) k []) → In v (get_or xs k [])
-cleared_in gone xs k v i = go (gone k) refl
+cleared_in : (deleted : ℕ → Bool) (xs : List (List ℕ)) (k v : ℕ) → In v (get_or (blank_at deleted [] xs) k []) → In v (get_or xs k [])
+cleared_in deleted xs k v i = go (deleted k) refl
   where
-    go : (b : Bool) → gone k ≡ b → In v (get_or xs k [])
-    go true e = absurd (subst (In v) (blanked_gone gone [] xs k e) i)
-    go false e = subst (In v) (blanked_kept gone [] xs k e) i
+    go : (b : Bool) → deleted k ≡ b → In v (get_or xs k [])
+    go true e = absurd (subst (In v) (blanked_gone deleted [] xs k e) i)
+    go false e = subst (In v) (blanked_kept deleted [] xs k e) i
 
-cleared_shorter : (gone : ℕ → Bool) (xs : List (List ℕ)) (k : ℕ) → length (get_or (blank_at gone [] xs) k []) ≤ length (get_or xs k [])
-cleared_shorter gone xs k = go (gone k) refl
+cleared_shorter : (deleted : ℕ → Bool) (xs : List (List ℕ)) (k : ℕ) → length (get_or (blank_at deleted [] xs) k []) ≤ length (get_or xs k [])
+cleared_shorter deleted xs k = go (deleted k) refl
   where
-    go : (b : Bool) → gone k ≡ b → length (get_or (blank_at gone [] xs) k []) ≤ length (get_or xs k [])
-    go true e = let h : length (get_or (blank_at gone [] xs) k []) ≡ 0 = ap length (blanked_gone gone [] xs k e) in omega (arith, h)
-    go false e = let h : length (get_or (blank_at gone [] xs) k []) ≡ length (get_or xs k []) = ap length (blanked_kept gone [] xs k e) in omega (arith, h)
+    go : (b : Bool) → deleted k ≡ b → length (get_or (blank_at deleted [] xs) k []) ≤ length (get_or xs k [])
+    go true e = let h : length (get_or (blank_at deleted [] xs) k []) ≡ 0 = ap length (blanked_gone deleted [] xs k e) in omega (arith, h)
+    go false e = let h : length (get_or (blank_at deleted [] xs) k []) ≡ length (get_or xs k []) = ap length (blanked_kept deleted [] xs k e) in omega (arith, h)
 
 without_shorter : (x : ℕ) (xs : List ℕ) → In x xs → length (without x xs) < length xs
 without_shorter x [] i = absurd i
@@ -131,13 +131,13 @@ none_met h p (suc n) = refl
 
 module _ (t : Tree) (block : ℕ) (w : IsTree t) where
   abbrev p : ℕ → Bool
-  p = stands_in t block
+  p = is_in_operation t block
 
   -- the block stands not inside what stands in it
-  pub block_stays : block_gone t (stands_in t block) block ≡ false
+  pub block_stays : block_gone t (is_in_operation t block) block ≡ false
   block_stays = go (block_parent_operation_of t block) refl
     where
-      here : (y : ℕ) → block_parent_operation_of t block ≡ Some y → op_gone t (stands_in t block) y ≡ true → ⊥
+      here : (y : ℕ) → block_parent_operation_of t block ≡ Some y → op_gone t (is_in_operation t block) y ≡ true → ⊥
       here y e g =
           let s = in_block_is t block y g in
           let held : parent_operation_of t s.0 ≡ Some y = holder_from t s.0 block s.1 ∙ e in
@@ -146,43 +146,43 @@ module _ (t : Tree) (block : ℕ) (w : IsTree t) where
             | inr inside ↦ not_inside-itself t w y (inside_trans t y s.0 y (Directly held) inside)
           ]
 
-      no : (b : Bool) (y : ℕ) → block_parent_operation_of t block ≡ Some y → op_gone t (stands_in t block) y ≡ b → b ≡ false
+      no : (b : Bool) (y : ℕ) → block_parent_operation_of t block ≡ Some y → op_gone t (is_in_operation t block) y ≡ b → b ≡ false
       no true y e g = absurd (here y e g)
       no false y e g = refl
 
-      go : (o : Option ℕ) → block_parent_operation_of t block ≡ o → is_met_above t (stands_in t block) o ≡ false
-      go None e = none_met (parent_operation_of t) (stands_in t block) (length t.operations)
-      go (Some y) e = no (op_gone t (stands_in t block) y) y e refl
+      go : (o : Option ℕ) → block_parent_operation_of t block ≡ o → is_met_above t (is_in_operation t block) o ≡ false
+      go None e = none_met (parent_operation_of t) (is_in_operation t block) (length t.operations)
+      go (Some y) e = no (op_gone t (is_in_operation t block) y) y e refl
 
   module _ (u : Tree) (d : IsEmptying t block u) (c : ℕ) (last : last_of None (body_of u block) ≡ Some c) where
     pub last_parent : parent_of u c ≡ Some block
     last_parent = d.tree.bodies.owned c block (last_in (body_of u block) c last)
 
     pub last_live : IsLive u c
-    last_live = (d.tree.joined.standing c block last_parent).0
+    last_live = (d.tree.joined.all_in_place c block last_parent).0
 
-    last_gone : op_gone t (stands_in t block) c ≡ true
+    last_gone : op_gone t (is_in_operation t block) c ≡ true
     last_gone =
         let s = d.clearing.stays c last_live in
-        met_here t (stands_in t block) w.joined c (live-within t c s.0) (stands_met t block c (sym s.1 ∙ last_parent))
+        met_here t (is_in_operation t block) w.joined c (live-within t c s.0) (stands_met t block c (sym s.1 ∙ last_parent))
 
     taken_holder_was : (x y : ℕ) → parent_operation_of (taken_out u c) x ≡ Some y → parent_operation_of t x ≡ Some y
-    taken_holder_was x y e = holder_was t u (stands_in t block) (touched t block) w d.tree d.clearing x y (taken-holder u c (parent_of u c) x y e)
+    taken_holder_was x y e = holder_was t u (is_in_operation t block) (touched t block) w d.tree d.clearing x y (taken-holder u c (parent_of u c) x y e)
 
-    inside_gone : (k : ℕ) → IsInside (taken_out u c) c k → op_gone t (stands_in t block) k ≡ true
-    inside_gone k (Directly e) = met_below t (stands_in t block) w.joined k c (taken_holder_was k c e) last_gone
-    inside_gone k (Deeper y e i) = met_below t (stands_in t block) w.joined k y (taken_holder_was k y e) (inside_gone y i)
+    inside_gone : (k : ℕ) → IsInside (taken_out u c) c k → op_gone t (is_in_operation t block) k ≡ true
+    inside_gone k (Directly e) = met_below t (is_in_operation t block) w.joined k c (taken_holder_was k c e) last_gone
+    inside_gone k (Deeper y e i) = met_below t (is_in_operation t block) w.joined k y (taken_holder_was k y e) (inside_gone y i)
 
     -- what goes with c, goes with the block
-    within_gone : (k : ℕ) → IsWithin (taken_out u c) c k → op_gone t (stands_in t block) k ≡ true
-    within_gone k (inl e) = ap (op_gone t (stands_in t block)) e ∙ last_gone
+    within_gone : (k : ℕ) → IsWithin (taken_out u c) c k → op_gone t (is_in_operation t block) k ≡ true
+    within_gone k (inl e) = ap (op_gone t (is_in_operation t block)) e ∙ last_gone
     within_gone k (inr i) = inside_gone k i
 
-    gone_goes : (k : ℕ) → op_gone (taken_out u c) (nat_eq c) k ≡ true → op_gone t (stands_in t block) k ≡ true
+    gone_goes : (k : ℕ) → op_gone (taken_out u c) (nat_eq c) k ≡ true → op_gone t (is_in_operation t block) k ≡ true
     gone_goes k e = within_gone k (within_is (taken_out u c) c k e)
 
     holder_in_t : (b y : ℕ) → block_parent_operation_of (taken_out u c) b ≡ Some y → block_parent_operation_of t b ≡ Some y
-    holder_in_t b y e = block_holder_was t u (stands_in t block) (touched t block) w d.tree d.clearing b y (sym (taken-block_parent_operation u c (parent_of u c) b) ∙ e)
+    holder_in_t b y e = block_holder_was t u (is_in_operation t block) (touched t block) w d.tree d.clearing b y (sym (taken-block_parent_operation u c (parent_of u c) b) ∙ e)
 
     in_block : (b : ℕ) → HoldsBlock (taken_out u c) c b → IsBlockWithin t block b
     in_block b h = inr (h.0, holder_in_t b h.0 h.1, in_block_is t block h.0 (within_gone h.0 h.2))
@@ -213,7 +213,7 @@ module _ (t : Tree) (block : ℕ) (w : IsTree t) where
     pub taken_free : parent_of (taken_out u c) c ≡ None
     taken_free = taken-parents u c (parent_of u c) d.tree.joined refl
 
-    goes_not : (k : ℕ) → op_gone t (stands_in t block) k ≡ false → op_gone (taken_out u c) (nat_eq c) k ≡ false
+    goes_not : (k : ℕ) → op_gone t (is_in_operation t block) k ≡ false → op_gone (taken_out u c) (nat_eq c) k ≡ false
     goes_not k e = go (op_gone (taken_out u c) (nat_eq c) k) refl
       where
         go : (b : Bool) → op_gone (taken_out u c) (nat_eq c) k ≡ b → b ≡ false
@@ -221,14 +221,14 @@ module _ (t : Tree) (block : ℕ) (w : IsTree t) where
         go true f = absurd (true≢false (sym (gone_goes k f) ∙ e))
 
     -- what is held by no operation that goes with the block, is held by none that goes with c
-    held_not : (o q : Option ℕ) → ((y : ℕ) → o ≡ Some y → q ≡ Some y) → is_met_above t (stands_in t block) q ≡ false → is_met_above (taken_out u c) (nat_eq c) o ≡ false
+    held_not : (o q : Option ℕ) → ((y : ℕ) → o ≡ Some y → q ≡ Some y) → is_met_above t (is_in_operation t block) q ≡ false → is_met_above (taken_out u c) (nat_eq c) o ≡ false
     held_not None q up e = none_met (parent_operation_of (taken_out u c)) (nat_eq c) (length (taken_out u c).operations)
-    held_not (Some y) q up e = goes_not y (sym (ap (is_met_above t (stands_in t block)) (up y refl)) ∙ e)
+    held_not (Some y) q up e = goes_not y (sym (ap (is_met_above t (is_in_operation t block)) (up y refl)) ∙ e)
 
-    block_goes_not : (b : ℕ) → block_gone t (stands_in t block) b ≡ false → block_gone (taken_out u c) (nat_eq c) b ≡ false
+    block_goes_not : (b : ℕ) → block_gone t (is_in_operation t block) b ≡ false → block_gone (taken_out u c) (nat_eq c) b ≡ false
     block_goes_not b e = held_not (block_parent_operation_of (taken_out u c) b) (block_parent_operation_of t b) (holder_in_t b) e
 
-    region_goes_not : (r : ℕ) → region_gone t (stands_in t block) r ≡ false → region_gone (taken_out u c) (nat_eq c) r ≡ false
+    region_goes_not : (r : ℕ) → region_gone t (is_in_operation t block) r ≡ false → region_gone (taken_out u c) (nat_eq c) r ≡ false
     region_goes_not r e = held_not (region_parent_of (taken_out u c) r) (region_parent_of t r) (λ y f. sym (ap (λ z. op_of_slot (slice_get z r)) (taken-slots u c (parent_of u c) ∙ d.clearing.slots)) ∙ f) e
 
     root_goes : op_gone (taken_out u c) (nat_eq c) c ≡ true
@@ -241,9 +241,9 @@ module _ (t : Tree) (block : ℕ) (w : IsTree t) where
     body_after b ne = ap (λ o. body_of (taken_from u c o) b) last_parent ∙ get_or-set_other u.bodies block b _ [] ne
 
     body_here : body_of (taken_out u c) block ≡ without c (body_of u block)
-    body_here = ap (λ o. body_of (taken_from u c o) block) last_parent ∙ get_or-set_same u.bodies block _ [] (block-within u block d.tree.keys (d.tree.joined.standing c block last_parent).1)
+    body_here = ap (λ o. body_of (taken_from u c o) block) last_parent ∙ get_or-set_same u.bodies block _ [] (block-within u block d.tree.keys (d.tree.joined.all_in_place c block last_parent).1)
 
-    taken_cleared : IsClearing (op_gone t (stands_in t block)) (block_gone t (stands_in t block)) (touched t block) (region_gone t (stands_in t block)) u (after_clearing (taken_out u c) (nat_eq c))
+    taken_cleared : IsClearing (op_gone t (is_in_operation t block)) (block_gone t (is_in_operation t block)) (touched t block) (region_gone t (is_in_operation t block)) u (after_clearing (taken_out u c) (nat_eq c))
     taken_cleared = record {
       count = length-blanked _ _ _ ∙ ap length (taken-operations u c (parent_of u c));
       block_count = length-blanked _ _ _ ∙ taken-block_count u c (parent_of u c);
@@ -275,7 +275,7 @@ module _ (t : Tree) (block : ℕ) (w : IsTree t) where
     pub emptying_next : (v : Tree) → v ≡ after_clearing (taken_out u c) (nat_eq c) → IsTree v → IsEmptying t block v
     emptying_next v e is = record {
       tree = is;
-      clearing = clearing_trans _ _ _ _ t u v d.clearing (subst (IsClearing (op_gone t (stands_in t block)) (block_gone t (stands_in t block)) (touched t block) (region_gone t (stands_in t block)) u) (sym e) taken_cleared);
+      clearing = clearing_trans _ _ _ _ t u v d.clearing (subst (IsClearing (op_gone t (is_in_operation t block)) (block_gone t (is_in_operation t block)) (touched t block) (region_gone t (is_in_operation t block)) u) (sym e) taken_cleared);
       operands = λ x y i. operand_was x y (cleared_in (op_gone (taken_out u c) (nat_eq c)) (taken_out u c).operands x y (subst (λ z. In y (operands_of z x)) e i));
       successors = λ x y i. successor_was x y (cleared_in (op_gone (taken_out u c) (nat_eq c)) (taken_out u c).successors x y (subst (λ z. In y (successors_of z x)) e i));
     }
@@ -290,39 +290,39 @@ module _ (t : Tree) (block : ℕ) (w : IsTree t) where
 
   -- the block stands empty
   module _ (u : Tree) (d : IsEmptying t block u) (empty : body_of u block ≡ []) where
-    none_live : (k : ℕ) → stands_in t block k ≡ true → IsLive u k → ⊥
-    none_live k e l = subst (In k) empty (d.tree.bodies.listed k block ((d.clearing.stays k l).1 ∙ stands_from t block k e))
+    none_live : (k : ℕ) → is_in_operation t block k ≡ true → IsLive u k → ⊥
+    none_live k e l = subst (In k) empty (d.tree.bodies.listed k block ((d.clearing.stays k l).1 ∙ is_listed_from t block k e))
 
-    emptied_body : (b : ℕ) → body_of u b ≡ get_or (slice_set (after_clearing t (stands_in t block)).bodies block []) b []
+    emptied_body : (b : ℕ) → body_of u b ≡ get_or (slice_set (after_clearing t (is_in_operation t block)).bodies block []) b []
     emptied_body b = elim (cases_eq b block) [
-      | inl s ↦ ap (body_of u) s ∙ empty ∙ sym (ap (λ z. get_or (slice_set (after_clearing t (stands_in t block)).bodies block []) z []) s ∙ set_default (after_clearing t (stands_in t block)).bodies [] block)
-      | inr ne ↦ other ne (block_gone t (stands_in t block) b) refl ∙ sym (get_or-set_other (after_clearing t (stands_in t block)).bodies block b [] [] ne)
+      | inl s ↦ ap (body_of u) s ∙ empty ∙ sym (ap (λ z. get_or (slice_set (after_clearing t (is_in_operation t block)).bodies block []) z []) s ∙ set_default (after_clearing t (is_in_operation t block)).bodies [] block)
+      | inr ne ↦ other ne (block_gone t (is_in_operation t block) b) refl ∙ sym (get_or-set_other (after_clearing t (is_in_operation t block)).bodies block b [] [] ne)
     ]
       where
-        other : b ≢ block → (g : Bool) → block_gone t (stands_in t block) b ≡ g → body_of u b ≡ body_of (after_clearing t (stands_in t block)) b
-        other ne true e = (gone_blocks t u (stands_in t block) (touched t block) w d.tree d.clearing none_live b e).1 ∙ sym (blanked_gone (block_gone t (stands_in t block)) [] t.bodies b e)
-        other ne false e = d.clearing.contents b (ap (λ q. if q then true else block_gone t (stands_in t block) b) (ne_eqb block b (λ s. ne (sym s))) ∙ e) ∙ sym (blanked_kept (block_gone t (stands_in t block)) [] t.bodies b e)
+        other : b ≢ block → (g : Bool) → block_gone t (is_in_operation t block) b ≡ g → body_of u b ≡ body_of (after_clearing t (is_in_operation t block)) b
+        other ne true e = (detached_blocks t u (is_in_operation t block) (touched t block) w d.tree d.clearing none_live b e).1 ∙ sym (blanked_gone (block_gone t (is_in_operation t block)) [] t.bodies b e)
+        other ne false e = d.clearing.contents b (ap (λ q. if q then true else block_gone t (is_in_operation t block) b) (ne_eqb block b (λ s. ne (sym s))) ∙ e) ∙ sym (blanked_kept (block_gone t (is_in_operation t block)) [] t.bodies b e)
 
     pub emptying_end : u ≡ block_emptied t block
     emptying_end =
-        cleared_all t u (stands_in t block) (touched t block) w d.tree d.clearing none_live
-        ∙ ap (λ z. record (after_clearing t (stands_in t block)) { bodies = z }) (ext_get_or [] u.bodies (slice_set (after_clearing t (stands_in t block)).bodies block []) (d.clearing.block_count ∙ sym (length-blanked _ _ _) ∙ sym (length-set _ _ _)) (λ b lt. emptied_body b))
+        cleared_all t u (is_in_operation t block) (touched t block) w d.tree d.clearing none_live
+        ∙ ap (λ z. record (after_clearing t (is_in_operation t block)) { bodies = z }) (ext_get_or [] u.bodies (slice_set (after_clearing t (is_in_operation t block)).bodies block []) (d.clearing.block_count ∙ sym (length-blanked _ _ _) ∙ sym (length-set _ _ _)) (λ b lt. emptied_body b))
 
 -- what the removal of the block asks
 module _ (t : Tree) (block : ℕ) (w : IsTree t) (n : IsUnusedBlock t block) (u : Tree) (e : u ≡ block_emptied t block) where
   pub emptied_block : IsBlock t block → IsBlock u block
-  emptied_block is = subst IsSome (sym (ap (λ z. block_parent_of z block) e ∙ blanked_kept (block_gone t (stands_in t block)) None t.block_parents block (block_stays t block w))) is
+  emptied_block is = subst IsSome (sym (ap (λ z. block_parent_of z block) e ∙ blanked_kept (block_gone t (is_in_operation t block)) None t.block_parents block (block_stays t block w))) is
 
   pub emptied_body_of : body_of u block ≡ []
-  emptied_body_of = ap (λ z. body_of z block) e ∙ set_default (after_clearing t (stands_in t block)).bodies [] block
+  emptied_body_of = ap (λ z. body_of z block) e ∙ set_default (after_clearing t (is_in_operation t block)).bodies [] block
 
   pub emptied_not_named : (x : ℕ) → In block (successors_of u x) → ⊥
-  emptied_not_named x i = n.blocks x block (cleared_in (op_gone t (stands_in t block)) t.successors x block (subst (λ z. In block (successors_of z x)) e i)) (inl refl)
+  emptied_not_named x i = n.blocks x block (cleared_in (op_gone t (is_in_operation t block)) t.successors x block (subst (λ z. In block (successors_of z x)) e i)) (inl refl)
 
   pub emptied_unnamed : (x v i : ℕ) → In v (operands_of u x) → definition_of u v ≡ Some (Argument block i) → ⊥
-  emptied_unnamed x v i j f = n.values x v (cleared_in (op_gone t (stands_in t block)) t.operands x v (subst (λ z. In v (operands_of z x)) e j)) (subst (IsDefinedInBlock t block) (sym f ∙ ap (λ z. definition_of z v) e) (inl refl))
+  emptied_unnamed x v i j f = n.values x v (cleared_in (op_gone t (is_in_operation t block)) t.operands x v (subst (λ z. In v (operands_of z x)) e j)) (subst (IsDefinedInBlock t block) (sym f ∙ ap (λ z. definition_of z v) e) (inl refl))
 
 -- the whole, from before the drop
 pub block_done : (t : Tree) (block : ℕ) (u v : Tree) → u ≡ uses_dropped t block → v ≡ block_emptied u block → block_taken_out v block ≡ block_erased t block
 block_done t block u v e f =
-    ap (λ z. block_taken_out z block) (f ∙ ap (λ z. block_emptied z block) e ∙ ap {A = Tree} (λ (z : Tree). record z { bodies = slice_set z.bodies block [] }) (cleared_dropped t (stands_in t block)))
+    ap (λ z. block_taken_out z block) (f ∙ ap (λ z. block_emptied z block) e ∙ ap {A = Tree} (λ (z : Tree). record z { bodies = slice_set z.bodies block [] }) (cleared_dropped t (is_in_operation t block)))

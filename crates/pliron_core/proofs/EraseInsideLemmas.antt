@@ -6,13 +6,13 @@ use Rattle.pliron_core.specs.Lists.{without}
 use Rattle.pliron_core.specs.Tree.{Tree, no_entry, up_from, op_of_slot, row_of, parent_of, body_of, block_parent_of, slot_of, region_parent_of, block_parent_operation_of, parent_operation_of, IsLive, IsBlock, IsInside, IsInside.Directly, IsInside.Deeper, IsWithin, HoldsBlock}
 use Rattle.pliron_core.specs.Invariant.{IsJoined, IsTree}
 use Rattle.pliron_core.specs.Writes.{taken_from}
-use Rattle.pliron_core.specs.Erased.{is_met_above, stands_in, blank_at, after_clearing, after_erasing, block_emptied, block_taken_from, block_erased, uses_dropped}
+use Rattle.pliron_core.specs.Erased.{is_met_above, is_in_operation, blank_at, after_clearing, after_erasing, block_emptied, block_taken_from, block_erased, uses_dropped}
 use Rattle.pliron_core.specs.Changes.{HoldsRegion, IsOutside, IsBlockOutside, IsInsideChange}
 use Rattle.pliron_core.proofs.HoldingLemmas.{some_is, not_none, past_live, inside_by, not_itself, within_more, inside_up, within_inside, holder_is, holder_by, block_held, held_block, block_inside, inside_block, inside_alike, within_alike}
 use Rattle.pliron_core.proofs.InsideLemmas.{AreKeptOutside, change_of_kept}
 use Rattle.pliron_core.proofs.WriteInsideLemmas.{same_block, same_operation}
 use Rattle.pliron_core.proofs.BlankLemmas.{blanked_gone, blanked_kept}
-use Rattle.pliron_core.proofs.ClearedLemmas.{told, blank_set, met_above, met_block, met_itself}
+use Rattle.pliron_core.proofs.ClearedLemmas.{reported, blank_set, met_above, met_block, met_itself}
 
 -- where rows and blocks are as before or gone, nothing comes to stand outside anything
 module _ (t u : Tree) (wu : IsJoined u)
@@ -43,7 +43,7 @@ module _ (t u : Tree) (wu : IsJoined u)
   holder_left y p live e =
       let h = holder_is t y p e in
       let there : parent_of u y ≡ Some h.0 = (left y live).1 ∙ h.1 in
-      let r = block_holder_left h.0 (wu.standing y h.0 there).1 in
+      let r = block_holder_left h.0 (wu.all_in_place y h.0 there).1 in
       let same : r.0 ≡ p = some_is (sym r.2 ∙ h.2) in
       (holder_by u y h.0 p there (r.1 ∙ ap Some same), subst (IsLive u) same r.3)
 
@@ -73,8 +73,8 @@ module _ (t : Tree) (op x from : ℕ) (w : IsTree t) (there : parent_of t x ≡ 
   abbrev pub without_it : Tree
   without_it = after_clearing cut (nat_eq x)
 
-  abbrev gone : ℕ → Bool
-  gone k = is_met_above cut (nat_eq x) (Some k)
+  abbrev deleted : ℕ → Bool
+  deleted k = is_met_above cut (nat_eq x) (Some k)
 
   abbrev block_gone : ℕ → Bool
   block_gone b = is_met_above cut (nat_eq x) (block_parent_operation_of t b)
@@ -96,27 +96,27 @@ module _ (t : Tree) (op x from : ℕ) (w : IsTree t) (there : parent_of t x ≡ 
   up_stays : (o : Option ℕ) → ((k : ℕ) → o ≡ Some k → IsWithin t x k → ⊥) → is_met_above cut (nat_eq x) o ≡ false
   up_stays o out = not_met _ (λ e. let m = met_above cut x o e in out m.0 m.1 (within_more cut t cut_holder m.2))
 
-  op_stays : (y : ℕ) → (IsWithin t x y → ⊥) → gone y ≡ false
+  op_stays : (y : ℕ) → (IsWithin t x y → ⊥) → deleted y ≡ false
   op_stays y out = up_stays (Some y) (λ k e z. out (subst (IsWithin t x) (sym (some_is e)) z))
 
-  parent_stays : (y : ℕ) → gone y ≡ false → parent_of without_it y ≡ parent_of t y
-  parent_stays y f = blanked_kept gone None (slice_set t.parents x None) y f ∙ get_or-set_other t.parents x y None None other
+  parent_stays : (y : ℕ) → deleted y ≡ false → parent_of without_it y ≡ parent_of t y
+  parent_stays y f = blanked_kept deleted None (slice_set t.parents x None) y f ∙ get_or-set_other t.parents x y None None other
     where
       other : y ≢ x
-      other e = true≢false (sym (ap gone e ∙ met_itself cut x (past_live t x (w.joined.standing x from there).0)) ∙ f)
+      other e = true≢false (sym (ap deleted e ∙ met_itself cut x (past_live t x (w.joined.all_in_place x from there).0)) ∙ f)
 
   erased_change : IsJoined without_it → IsInsideChange t without_it op
   erased_change wu = change_of_kept t without_it op w.joined kept (fewer_operations t without_it wu rows blocks (λ r. refl) op) (fewer_blocks t without_it wu rows blocks (λ r. refl) op)
     where
       rows : (y : ℕ) → ((row_of without_it y ≡ row_of t y) × (parent_of without_it y ≡ parent_of t y)) ⊎ (row_of without_it y ≡ no_entry)
-      rows y = go (told (gone y))
+      rows y = go (reported (deleted y))
         where
-          go : (gone y ≡ true) ⊎ (gone y ≡ false) → ((row_of without_it y ≡ row_of t y) × (parent_of without_it y ≡ parent_of t y)) ⊎ (row_of without_it y ≡ no_entry)
-          go (inl e) = inr (blanked_gone gone no_entry t.operations y e)
-          go (inr f) = inl (blanked_kept gone no_entry t.operations y f, parent_stays y f)
+          go : (deleted y ≡ true) ⊎ (deleted y ≡ false) → ((row_of without_it y ≡ row_of t y) × (parent_of without_it y ≡ parent_of t y)) ⊎ (row_of without_it y ≡ no_entry)
+          go (inl e) = inr (blanked_gone deleted no_entry t.operations y e)
+          go (inr f) = inl (blanked_kept deleted no_entry t.operations y f, parent_stays y f)
 
       blocks : (b : ℕ) → (block_parent_of without_it b ≡ block_parent_of t b) ⊎ (block_parent_of without_it b ≡ None)
-      blocks b = go (told (block_gone b))
+      blocks b = go (reported (block_gone b))
         where
           go : (block_gone b ≡ true) ⊎ (block_gone b ≡ false) → (block_parent_of without_it b ≡ block_parent_of t b) ⊎ (block_parent_of without_it b ≡ None)
           go (inl e) = inr (blanked_gone block_gone None t.block_parents b e)
@@ -129,7 +129,7 @@ module _ (t : Tree) (op x from : ℕ) (w : IsTree t) (there : parent_of t x ≡ 
       kept = record {
         operations = λ y o.
             let f = op_stays y (λ z. o.1 (within_inside i z)) in
-            same_operation t without_it op y (blanked_kept gone no_entry t.operations y f) (blanked_kept gone [] t.operands y f) (blanked_kept gone [] t.successors y f) (parent_stays y f);
+            same_operation t without_it op y (blanked_kept deleted no_entry t.operations y f) (blanked_kept deleted [] t.operands y f) (blanked_kept deleted [] t.successors y f) (parent_stays y f);
         blocks = λ b o.
             let f = up_stays (block_parent_operation_of t b) (λ k e z. o.1 (k, e, inr (within_inside i z))) in
             same_block t without_it b
@@ -150,10 +150,10 @@ erased_inside t op x w wu i =
 
 -- what stands in a block that op holds is inside op
 module _ (t : Tree) (op block : ℕ) (held : HoldsBlock t op block) where
-  met_inside : (o : Option ℕ) → is_met_above t (stands_in t block) o ≡ true → (k : ℕ) × (o ≡ Some k) × IsInside t op k
+  met_inside : (o : Option ℕ) → is_met_above t (is_in_operation t block) o ≡ true → (k : ℕ) × (o ≡ Some k) × IsInside t op k
   met_inside o e = let m = met_block t block o e in (m.0, m.1, within_inside (inside_block block m.2.1 held) m.2.2)
 
-  in_block_stays : (o : Option ℕ) → ((k : ℕ) → o ≡ Some k → IsInside t op k → ⊥) → is_met_above t (stands_in t block) o ≡ false
+  in_block_stays : (o : Option ℕ) → ((k : ℕ) → o ≡ Some k → IsInside t op k → ⊥) → is_met_above t (is_in_operation t block) o ≡ false
   in_block_stays o out = not_met _ (λ e. let m = met_inside o e in out m.0 m.1 m.2)
 
   -- it loses its operands and successors
@@ -168,8 +168,8 @@ module _ (t : Tree) (op block : ℕ) (held : HoldsBlock t op block) where
         operations = λ y o.
             let f = in_block_stays (Some y) (λ k e j. o.1 (subst (IsInside t op) (sym (some_is e)) j)) in
             same_operation t u op y refl
-            (blanked_kept (λ k. is_met_above t (stands_in t block) (Some k)) [] t.operands y f)
-            (blanked_kept (λ k. is_met_above t (stands_in t block) (Some k)) [] t.successors y f)
+            (blanked_kept (λ k. is_met_above t (is_in_operation t block) (Some k)) [] t.operands y f)
+            (blanked_kept (λ k. is_met_above t (is_in_operation t block) (Some k)) [] t.successors y f)
             refl;
         blocks = λ b o. same_block t u b refl refl refl;
         regions = λ r o. record { layout = refl; slot = refl };
@@ -179,13 +179,13 @@ module _ (t : Tree) (op block : ℕ) (held : HoldsBlock t op block) where
 -- a block that op holds is erased, with what stands in it
 module _ (t : Tree) (op block region : ℕ) (w : IsTree t) (there : block_parent_of t block ≡ Some region) (held : HoldsBlock t op block) where
   abbrev inner : ℕ → Bool
-  inner k = is_met_above t (stands_in t block) (Some k)
+  inner k = is_met_above t (is_in_operation t block) (Some k)
 
   abbrev inner_block : ℕ → Bool
-  inner_block b = is_met_above t (stands_in t block) (block_parent_operation_of t b)
+  inner_block b = is_met_above t (is_in_operation t block) (block_parent_operation_of t b)
 
   abbrev inner_region : ℕ → Bool
-  inner_region r = is_met_above t (stands_in t block) (region_parent_of t r)
+  inner_region r = is_met_above t (is_in_operation t block) (region_parent_of t r)
 
   abbrev without_block : Tree
   without_block = block_taken_from (block_emptied t block) block (Some region)
@@ -203,14 +203,14 @@ module _ (t : Tree) (op block region : ℕ) (w : IsTree t) (there : block_parent
   block_erased_change wu = change_of_kept t without_block op w.joined kept (fewer_operations t without_block wu rows blocks (λ r. refl) op) (fewer_blocks t without_block wu rows blocks (λ r. refl) op)
     where
       rows : (y : ℕ) → ((row_of without_block y ≡ row_of t y) × (parent_of without_block y ≡ parent_of t y)) ⊎ (row_of without_block y ≡ no_entry)
-      rows y = go (told (inner y))
+      rows y = go (reported (inner y))
         where
           go : (inner y ≡ true) ⊎ (inner y ≡ false) → ((row_of without_block y ≡ row_of t y) × (parent_of without_block y ≡ parent_of t y)) ⊎ (row_of without_block y ≡ no_entry)
           go (inl e) = inr (blanked_gone inner no_entry t.operations y e)
           go (inr f) = inl (blanked_kept inner no_entry t.operations y f, blanked_kept inner None t.parents y f)
 
       blocks : (b : ℕ) → (block_parent_of without_block b ≡ block_parent_of t b) ⊎ (block_parent_of without_block b ≡ None)
-      blocks b = go (cases_eq b block) (told (inner_block b))
+      blocks b = go (cases_eq b block) (reported (inner_block b))
         where
           go : (b ≡ block) ⊎ (b ≢ block) → (inner_block b ≡ true) ⊎ (inner_block b ≡ false) → (block_parent_of without_block b ≡ block_parent_of t b) ⊎ (block_parent_of without_block b ≡ None)
           go (inl s) d = inr (ap (block_parent_of without_block) s ∙ blank_set None (blank_at inner_block None t.block_parents) block)
@@ -236,11 +236,11 @@ module _ (t : Tree) (op block region : ℕ) (w : IsTree t) (there : block_parent
       }
 
 -- a block does not stand inside itself
-own_block_stays : (t : Tree) (block : ℕ) → IsJoined t → is_met_above t (stands_in t block) (block_parent_operation_of t block) ≡ false
+own_block_stays : (t : Tree) (block : ℕ) → IsJoined t → is_met_above t (is_in_operation t block) (block_parent_operation_of t block) ≡ false
 own_block_stays t block w = not_met _ (λ e. let m = met_block t block (block_parent_operation_of t block) e in let up : IsInside t m.0 m.2.0 = inside_by m.0 (holder_by t m.2.0 block m.0 m.2.1 m.1) (inl refl) in not_itself w.rooted (within_inside up m.2.2))
 
 pub block_erased_inside : (t : Tree) (op block : ℕ) → IsTree t → IsJoined (block_erased t block) → HoldsBlock t op block → IsInsideChange t (block_erased t block) op
 block_erased_inside t op block w wu held =
     let h = block_held t block w.joined (held_block t block held.0 held.1) in
-    let there : block_parent_of (block_emptied t block) block ≡ Some h.0 = blanked_kept (λ b. is_met_above t (stands_in t block) (block_parent_operation_of t b)) None t.block_parents block (own_block_stays t block w.joined) ∙ h.2 in
+    let there : block_parent_of (block_emptied t block) block ≡ Some h.0 = blanked_kept (λ b. is_met_above t (is_in_operation t block) (block_parent_operation_of t b)) None t.block_parents block (own_block_stays t block w.joined) ∙ h.2 in
     subst (λ o. IsInsideChange t (block_taken_from (block_emptied t block) block o) op) (sym there) (block_erased_change t op block h.0 w h.2 held (subst (λ o. IsJoined (block_taken_from (block_emptied t block) block o)) there wu))

@@ -119,7 +119,7 @@ holder_by t x b p e h = ap (λ o. up_from o (λ b. block_parent_operation_of t b
 pub holder_live : (t : Tree) (x p : ℕ) → IsJoined t → parent_operation_of t x ≡ Some p → IsLive t x × IsLive t p
 holder_live t x p w e =
     let h = holder_is t x p e in
-    let s = w.standing x h.0 h.1 in
+    let s = w.all_in_place x h.0 h.1 in
     let b = block_held t h.0 w s.1 in
     (s.0, subst (IsLive t) (some_is (sym b.5 ∙ h.2)) b.6)
 

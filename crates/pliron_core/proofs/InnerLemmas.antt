@@ -27,7 +27,7 @@ module _ (t : Tree) (op r : ℕ) (is : IsTree t) (last : last_region_of t op ≡
   pub last_operation : (b c : ℕ) → last_of None (layout_of t r) ≡ Some b → last_of None (body_of t b) ≡ Some c → IsLive t c × (parent_operation_of t c ≡ Some op)
   last_operation b c e f =
       let at : parent_of t c ≡ Some b = is.bodies.owned c b (last_in (body_of t b) c f) in
-      ((is.joined.standing c b at).0, holder_from t c b at ∙ last_block_holder b e)
+      ((is.joined.all_in_place c b at).0, holder_from t c b at ∙ last_block_holder b e)
 
 -- the row that was read at an operation's key
 pub row_read : (t : Tree) (op : ℕ) (row : OperationEntry) → IsLive t op → row ≡ get_or t.operations op row → row ≡ row_of t op

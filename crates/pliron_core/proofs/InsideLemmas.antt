@@ -91,7 +91,7 @@ kept_of t u op h = record {
 -- the way up from what is outside stays outside
 module _ (t : Tree) (op : ℕ) (w : IsJoined t) where
   pub parent_outside : (x b : ℕ) → IsOutside t op x → parent_of t x ≡ Some b → IsBlockOutside t op b
-  parent_outside x b o e = ((w.standing x b e).1, λ h. o.1 (inside_block b e h))
+  parent_outside x b o e = ((w.all_in_place x b e).1, λ h. o.1 (inside_block b e h))
 
   pub holder_outside : (x p : ℕ) → IsOutside t op x → parent_operation_of t x ≡ Some p → IsOutside t op p
   holder_outside x p o e = ((holder_live t x p w e).1, λ i. o.1 (Deeper p e i))

@@ -34,8 +34,8 @@ defined-at (x ∷ ds) (us ∷ uses) zero d n e = ap (λ z. Some (definition_now 
 defined-at (x ∷ ds) (us ∷ uses) (suc v) d n e = defined-at ds uses v d (omega (arith, n)) e
 
 -- a value stands at some place, or is an argument of no block
-pub stands-or_free : (rows : List (List ℕ)) (uses : List (List Use)) → AreAgreed rows uses → (v : ℕ) → ((block : ℕ) × (i : ℕ) × (at rows block i ≡ Some v)) ⊎ IsFree rows v
-stands-or_free rows uses agreed v = go (get_or uses v []) refl
+pub liveness-or_free : (rows : List (List ℕ)) (uses : List (List Use)) → AreAgreed rows uses → (v : ℕ) → ((block : ℕ) × (i : ℕ) × (at rows block i ≡ Some v)) ⊎ IsFree rows v
+liveness-or_free rows uses agreed v = go (get_or uses v []) refl
   where
     go : (list : List Use) → get_or uses v [] ≡ list → ((block : ℕ) × (i : ℕ) × (at rows block i ≡ Some v)) ⊎ IsFree rows v
     go (u ∷ us) is = inl (u.user, u.place, agreed.listed v 0 u (ap (λ l. slice_get l 0) is))
@@ -90,7 +90,7 @@ module _ (rows : List (List ℕ)) (written : List Def) (uses : List (List Use)) 
       first v (u ∷ us) None is e b i h = missing now written v (length-defined written uses count) e ∙ sym (missing all written v n e)
 
       each : (v : ℕ) → slice_get now v ≡ slice_get all v
-      each v = elim (stands-or_free rows uses agreed v) [
+      each v = elim (liveness-or_free rows uses agreed v) [
         | inl s ↦ first v (get_or uses v []) (slice_get written v) refl refl s.0 s.1 s.2
         | inr f ↦ defined-free v f ∙ sym (free v f)
       ]
@@ -100,8 +100,8 @@ module _ (rows : List (List ℕ)) (written : List Def) (uses : List (List Use)) 
   made-is all n argument_definitions_from free apart = record { apart = apart; count = count; numbered = subst (AreNumbered rows) (sym (defined-is all n argument_definitions_from free)) argument_definitions_from }
 
 -- an argument stands at one place
-pub stands-once : (rows : List (List ℕ)) (all : List Def) → AreNumbered rows all → (b b' i i' v : ℕ) → at rows b i ≡ Some v → at rows b' i' ≡ Some v → (b ≡ b') × (i ≡ i')
-stands-once rows all is b b' i i' v e f =
+pub liveness-once : (rows : List (List ℕ)) (all : List Def) → AreNumbered rows all → (b b' i i' v : ℕ) → at rows b i ≡ Some v → at rows b' i' ≡ Some v → (b ≡ b') × (i ≡ i')
+liveness-once rows all is b b' i i' v e f =
     let g : Some (Argument b i) ≡ Some (Argument b' i') = sym (is b i v e) ∙ is b' i' v f in
     (cc, cc)
 
@@ -208,14 +208,14 @@ module _ (rows : List (List ℕ)) (written : List Def) (uses : List (List Use)) 
     at-later m v e = sym (slice_get_drop row (i + 1) m) ∙ e
 
     once : StandOnce later
-    once m n v e f = let s = stands-once rows before is.numbered block block (i + 1 + m) (i + 1 + n) v (at-later m v e) (at-later n v f) in omega (arith, s.1)
+    once m n v e f = let s = liveness-once rows before is.numbered block block (i + 1 + m) (i + 1 + n) v (at-later m v e) (at-later n v f) in omega (arith, s.1)
 
     -- what is no later argument of the block keeps its place
     kept : (b j v : ℕ) → at rows b j ≡ Some v → (b ≡ block → i < j → ⊥) → slice_get after v ≡ Some (Argument b j)
     kept b j v e out = numbered_other before block i later v not_later ∙ is.numbered b j v e
       where
         not_later : In v later → ⊥
-        not_later l = let p = in_at later v l in let s = stands-once rows before is.numbered b block j (i + 1 + p.0) v e (at-later p.0 v p.1) in out s.0 (omega (arith, s.1))
+        not_later l = let p = in_at later v l in let s = liveness-once rows before is.numbered b block j (i + 1 + p.0) v e (at-later p.0 v p.1) in out s.0 (omega (arith, s.1))
 
     renumbered : (j v : ℕ) → i ≤ j → at rows block (suc j) ≡ Some v → slice_get after v ≡ Some (Argument block j)
     renumbered j v le e =
@@ -240,7 +240,7 @@ module _ (rows : List (List ℕ)) (written : List Def) (uses : List (List Use)) 
         at_block f (inr le) = renumbered j v le (sym (removed_above row i j le) ∙ f)
 
     left-free : (v : ℕ) → IsFree rows-left v → slice_get after v ≡ slice_get written-left v
-    left-free v free = elim (stands-or_free rows uses agreed v) [
+    left-free v free = elim (liveness-or_free rows uses agreed v) [
       | inr f ↦ numbered_other before block i later v (λ l. let p = in_at later v l in f block (i + 1 + p.0) (at-later p.0 v p.1)) ∙ defined-free rows written uses agreed is.count v f ∙ sym (set-other written value v (Argument block i) (λ e. f block i (there ∙ ap Some (sym e))))
       | inl s ↦ stood s.0 s.1 s.2 (cases_eq s.0 block)
     ]
@@ -310,10 +310,10 @@ module _ (rows : List (List ℕ)) (written : List Def) (uses : List (List Use)) 
     ]
 
     once-row : StandOnce (get_or rows block [])
-    once-row m n v e f = (stands-once rows before is.numbered block block m n v e f).1
+    once-row m n v e f = (liveness-once rows before is.numbered block block m n v e f).1
 
     cleared-free : (v : ℕ) → IsFree cleared v → slice_get before v ≡ slice_get written-cleared v
-    cleared-free v free = elim (stands-or_free rows uses agreed v) [
+    cleared-free v free = elim (liveness-or_free rows uses agreed v) [
       | inr f ↦ defined-free rows written uses agreed is.count v f ∙ sym (numbered_other written block 0 (get_or rows block []) v (λ l. let p = in_at (get_or rows block []) v l in f block p.0 p.1))
       | inl s ↦ stood s.0 s.1 s.2 (cases_eq s.0 block)
     ]
@@ -334,7 +334,7 @@ module _ (rows : List (List ℕ)) (written : List Def) (uses : List (List Use)) 
       where
         stood : b ≢ block → at rows b k ≡ Some v → ⊥
         stood ne g =
-            let out : In v (get_or rows block []) → ⊥ = λ l. let p = in_at (get_or rows block []) v l in ne (stands-once rows before is.numbered b block k p.0 v g p.1).0 in
+            let out : In v (get_or rows block []) → ⊥ = λ l. let p = in_at (get_or rows block []) v l in ne (liveness-once rows before is.numbered b block k p.0 v g p.1).0 in
             is.apart v op j (sym (numbered_other written block 0 (get_or rows block []) v out) ∙ e) b k g
 
     pub made-cleared : (uses' : List (List Use)) → length uses' ≡ length uses → AreAgreed cleared uses' → (definitions_now written-cleared uses' ≡ before) × AreMade cleared written-cleared uses'

@@ -72,10 +72,10 @@ one_more old new first k before rows moved one each is listed placed u p =
     kept other = each u p ∙ same (at before u p) refl other
 
 -- the place of a listed use stands in the tables
-pub standing : (old new first k : ℕ) (before rows : List (List UseSlot)) (u p : ℕ)
+pub all_in_place : (old new first k : ℕ) (before rows : List (List UseSlot)) (u p : ℕ)
     → at rows u p ≡ option_map (retarget_slot old new first k) (at before u p) → at before u p ≡ Some (record { target = old; at = k })
     → (u < length rows) × (p < length (get_or rows u []))
-standing old new first k before rows u p each listed =
+all_in_place old new first k before rows u p each listed =
     let here : at rows u p ≡ Some (retarget_slot old new first k (record { target = old; at = k })) = each ∙ ap (option_map (retarget_slot old new first k)) listed in
     (at-within rows u p _ here, slice_get_within (get_or rows u []) p _ here)
 
@@ -86,7 +86,7 @@ pub one_written : (old new first k : ℕ) (before rows : List (List UseSlot)) (m
     → row ≡ get_or rows one.user row → row2 ≡ set row one.place (record { target = new; at = first + k })
     → (u p : ℕ) → at (set rows one.user row2) u p ≡ option_map (retarget_slot old new first (k + 1)) (at before u p)
 one_written old new first k before rows moved one row row2 each is listed placed read written u p =
-    let w = (standing old new first k before rows one.user one.place (each one.user one.place) listed).0 in
+    let w = (all_in_place old new first k before rows one.user one.place (each one.user one.place) listed).0 in
     let row_is : row ≡ get_or rows one.user [] = read ∙ get_or_default rows one.user row [] w in
     rw (written, row_is) (one_more old new first k before rows moved one each is listed placed u p)
 

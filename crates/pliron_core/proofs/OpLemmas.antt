@@ -21,8 +21,8 @@ pub record StandsFor (nodes : List Node) (ends : List Ends) (lists : List (List 
   pub lists_is : lists_of nodes ends ≡ lists
   pub owners_is : owners_of nodes ≡ owners
 
-stands : (nodes : List Node) (ends : List Ends) (lists : List (List ℕ)) (owners : List (Option ℕ)) → AreSoundLists nodes ends lists → owners_of nodes ≡ owners → StandsFor nodes ends lists owners
-stands nodes ends lists owners is own =
+liveness : (nodes : List Node) (ends : List Ends) (lists : List (List ℕ)) (owners : List (Option ℕ)) → AreSoundLists nodes ends lists → owners_of nodes ≡ owners → StandsFor nodes ends lists owners
+liveness nodes ends lists owners is own =
     record { sound = IsSound-view nodes ends lists is; lists_is = sym (lists-sound nodes ends lists is); owners_is = own }
 
 -- the parts of a view
@@ -74,7 +74,7 @@ module _ (nodes : List Node) (ends : List Ends) (is : AreSoundLists nodes ends (
       let tail : e.tail ≡ last_of None front = ap (λ z. z.tail) (ends_read l e within read) ∙ (is.each l within).tail in
       let n_is : n3 ≡ step.nodes3 nodes ends (lists_of nodes ends) l x front [] = same ∙ linked ∙ ap (λ t. with_next (set nodes x (record { owner = Some l; prev = t; next = None })) t (Some x)) tail in
       let e_is : e3 ≡ step.ends3 nodes ends (lists_of nodes ends) l x front [] = ended ∙ ap (λ z. with_tail z None (Some x)) headed ∙ ap (λ t. with_tail (with_first e t (Some x)) None (Some x)) tail ∙ ap (λ z. with_tail (with_first z (last_of None front) (Some x)) None (Some x)) (ends_read l e within read) in
-      rw (n_is, e_is) (stands _ _ _ _ sound owned)
+      rw (n_is, e_is) (liveness _ _ _ _ sound owned)
 
   -- the tables after a node went to the front
   pub pushed_front : (l x : ℕ) (e e2 e3 : Ends) (n2 n3 : List Node) → l < length (lists_of nodes ends) → x < length (owners_of nodes) → get_or (owners_of nodes) x None ≡ None → e ≡ get_or ends l e
@@ -91,7 +91,7 @@ module _ (nodes : List Node) (ends : List Ends) (is : AreSoundLists nodes ends (
       let head : e.head ≡ first_of back None = ap (λ z. z.head) (ends_read l e within read) ∙ (is.each l within).head in
       let n_is : n3 ≡ step.nodes3 nodes ends (lists_of nodes ends) l x [] back = behind ∙ ap (λ ns. with_prev ns e.head (Some x)) linked ∙ ap (λ t. with_prev (set nodes x (record { owner = Some l; prev = None; next = t })) t (Some x)) head in
       let e_is : e3 ≡ step.ends3 nodes ends (lists_of nodes ends) l x [] back = ended ∙ ap (λ z. with_tail z e.head (Some x)) headed ∙ ap (λ t. with_tail (with_first e None (Some x)) t (Some x)) head ∙ ap (λ z. with_tail (with_first z None (Some x)) (first_of back None) (Some x)) (ends_read l e within read) in
-      rw (n_is, e_is) (stands _ _ _ _ sound owned)
+      rw (n_is, e_is) (liveness _ _ _ _ sound owned)
 
   -- where the node at hand stands
   pub held : (x l : ℕ) → get_or (owners_of nodes) x None ≡ Some l → (l < length ends) × (front : List ℕ) × (back : List ℕ) × (get_or (lists_of nodes ends) l [] ≡ front ++ x ∷ back)
@@ -122,9 +122,9 @@ module _ (nodes : List Node) (ends : List Ends) (is : AreSoundLists nodes ends (
       let n_is = node_read l x n front back h.0 here nread in
       let p : n.prev ≡ last_of None front = ap (λ z. z.prev) n_is in
       let q : n.next ≡ first_of back None = ap (λ z. z.next) n_is in
-      let gone : without x (get_or (lists_of nodes ends) l []) ≡ front ++ back = ap (without x) here ∙ without-split x front back (not_before l x front back h.0 here) in
+      let deleted : without x (get_or (lists_of nodes ends) l []) ≡ front ++ back = ap (without x) here ∙ without-split x front back (not_before l x front back h.0 here) in
       let e_is = ends_read l e h.0 read in
-      rw (gone, nodes_prev, nodes_next, tail_prev, head_next, p, q, e_is) (stands _ _ _ _ sound owned)
+      rw (deleted, nodes_prev, nodes_next, tail_prev, head_next, p, q, e_is) (liveness _ _ _ _ sound owned)
 
   -- the tables after a node went before another
   pub inserted : (l at x : ℕ) (n : Node) (e e2 e3 : Ends) (n2 n3 : List Node) → get_or (owners_of nodes) at None ≡ Some l → x < length (owners_of nodes) → get_or (owners_of nodes) x None ≡ None → n ≡ get_or nodes at n → e ≡ get_or ends l e
@@ -143,7 +143,7 @@ module _ (nodes : List Node) (ends : List Ends) (is : AreSoundLists nodes ends (
       let p : n.prev ≡ last_of None front = ap (λ z. z.prev) (node_read l at n front back h.0 here nread) in
       let put : put_before at x (get_or (lists_of nodes ends) l []) ≡ front ++ x ∷ at ∷ back = ap (put_before at x) here ∙ put_before-split at x front back (not_before l at front back h.0 here) in
       let e_is = ends_read l e h.0 read in
-      rw (put, behind, linked, ended, headed, p, e_is) (stands _ _ _ _ sound owned)
+      rw (put, behind, linked, ended, headed, p, e_is) (liveness _ _ _ _ sound owned)
 
   -- the neighbours of a node are in range
   pub InRange-links : (l x : ℕ) (n : Node) → get_or (owners_of nodes) x None ≡ Some l → n ≡ get_or nodes x n → InRange nodes n.prev × InRange nodes n.next × (l < length ends)
@@ -178,7 +178,7 @@ get_or-pad (x ∷ xs) d (suc y) = get_or-pad xs d y
 -- the tables after a node was added
 pub node_added : (nodes : List Node) (ends : List Ends) → length nodes < key_limit → AreSoundLists nodes ends (lists_of nodes ends) → StandsFor (nodes ++ no_node ∷ []) ends (lists_of nodes ends) (owners_of nodes ++ None ∷ [])
 node_added nodes ends room is =
-    stands _ _ _ _ (record {
+    liveness _ _ _ _ (record {
       count = is.count;
       each = λ l h. let was = is.each l h in record { head = was.head; tail = was.tail; row = row-same nodes _ l None _ None (omega (arith, length-append nodes (no_node ∷ []))) (λ y i. get_or-pad nodes no_node y) was.row; distinct = was.distinct };
       owned = λ x l own. is.owned x l (sym (ap (λ n. n.owner) (get_or-pad nodes no_node x)) ∙ own);
@@ -190,7 +190,7 @@ node_added nodes ends room is =
 pub list_added : (nodes : List Node) (ends : List Ends) → length ends < key_limit → AreSoundLists nodes ends (lists_of nodes ends) → StandsFor nodes (ends ++ no_ends ∷ []) (lists_of nodes ends ++ [] ∷ []) (owners_of nodes)
 list_added nodes ends room is =
     let longer : length (ends ++ no_ends ∷ []) ≡ length ends + 1 = omega (arith, length-append ends (no_ends ∷ [])) in
-    stands _ _ _ _ (record {
+    liveness _ _ _ _ (record {
       count = omega (arith, longer, is.count, length-append (lists_of nodes ends) ([] ∷ []));
       each = λ l h. rw (get_or-pad ends no_ends l, get_or-pad (lists_of nodes ends) [] l) (elim (cases_lt l) [ inl lt ↦ is.each l lt | inr le ↦ rw (get_or_past ends l no_ends le, get_or_past (lists_of nodes ends) l [] (omega (arith, is.count, le))) (record { head = refl; tail = refl; row = tt; distinct = tt }) ]);
       owned = λ x l own. let o = is.owned x l own in (omega (arith, o.0, longer), rw (get_or-pad (lists_of nodes ends) [] l) o.1);

@@ -10,7 +10,7 @@ use Rattle.pliron_core.proofs.RootLemmas.{rooted-put}
 
 pub kept_put : (t : Tree) (op block : ℕ) (body : List ℕ) → HaveSameKeys t → IsJoined t → IsLive t op → IsBlock t block → parent_of t op ≡ None → (HoldsBlock t op block → ⊥) → IsJoined (after_placing t op block body)
 kept_put t op block body keys w live is free out = record {
-  standing = λ x b e. stand x b e (cases_eq x op);
+  all_in_place = λ x b e. stand x b e (cases_eq x op);
   placed = w.placed;
   regions = w.regions;
   results = w.results;
@@ -30,7 +30,7 @@ kept_put t op block body keys w live is free out = record {
     other b e s = let l : IsSome (block_parent_of t b) = subst (λ z. IsSome (block_parent_of t z)) (sym s) is in let m : is_some (block_parent_of t b) ≡ false = ap is_some e in absurd (true≢false (sym l ∙ m))
 
     stand : (x b : ℕ) → get_or (slice_set t.parents op (Some block)) x None ≡ Some b → (x ≡ op) ⊎ (x ≢ op) → IsLive t x × IsBlock t b
-    stand x b e (inr ne) = w.standing x b (sym (get_or-set_other t.parents op x (Some block) None ne) ∙ e)
+    stand x b e (inr ne) = w.all_in_place x b (sym (get_or-set_other t.parents op x (Some block) None ne) ∙ e)
     stand x b e (inl s) =
         let f : Some block ≡ Some b = sym (ap (λ z. get_or (slice_set t.parents op (Some block)) z None) s ∙ get_or-set_same t.parents op (Some block) None lt) ∙ e in
         let g : block ≡ b = cc in
@@ -55,7 +55,7 @@ kept_put t op block body keys w live is free out = record {
 pub kept_taken : (t : Tree) (op : ℕ) (o : Option ℕ) → IsJoined t → parent_of t op ≡ o → IsJoined (taken_from t op o)
 kept_taken t op None w e = w
 kept_taken t op (Some d) w e = record {
-  standing = λ x b f. w.standing x b (free x b f (cases_eq x op));
+  all_in_place = λ x b f. w.all_in_place x b (free x b f (cases_eq x op));
   placed = w.placed;
   regions = w.regions;
   results = w.results;
@@ -81,7 +81,7 @@ kept_taken t op (Some d) w e = record {
     own = get_or-set_same t.parents op None None lt
 
     other : (b : ℕ) → block_parent_of t b ≡ None → b ≢ d
-    other b f s = let x : true ≡ false = sym (w.standing op d e).1 ∙ ap (λ z. is_some (block_parent_of t z)) (sym s) ∙ ap is_some f in absurd (true≢false x)
+    other b f s = let x : true ≡ false = sym (w.all_in_place op d e).1 ∙ ap (λ z. is_some (block_parent_of t z)) (sym s) ∙ ap is_some f in absurd (true≢false x)
 
     free : (x b : ℕ) → get_or (slice_set t.parents op None) x None ≡ Some b → (x ≡ op) ⊎ (x ≢ op) → parent_of t x ≡ Some b
     free x b f (inl s) = let y : None ≡ Some b = sym (ap (λ z. get_or (slice_set t.parents op None) z None) s ∙ own) ∙ f in grind arith

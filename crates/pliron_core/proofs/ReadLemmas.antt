@@ -51,34 +51,34 @@ if-some P (Some x) f = f x refl
 
 -- so is what stands in a body, and what stands in a layout
 pub In-live : (t : Tree) → IsTree t → (b x : ℕ) → In x (body_of t b) → IsLive t x
-In-live t w b x i = (w.joined.standing x b (w.bodies.owned x b i)).0
+In-live t w b x i = (w.joined.all_in_place x b (w.bodies.owned x b i)).0
 
 pub In-block : (t : Tree) → IsTree t → (r b : ℕ) → In b (layout_of t r) → IsBlock t b
 In-block t w r b i = rw (w.layouts.owned b r i) refl
 
-pub tail-stands : (t : Tree) → IsTree t → (b : ℕ) (o : Option ℕ) → o ≡ last_of None (body_of t b) → IfSome o (λ x. IsLive t x)
-tail-stands t w b o is = if-some (λ x. IsLive t x) o (λ x e. In-live t w b x (In-last _ x (sym is ∙ e)))
+pub tail-liveness : (t : Tree) → IsTree t → (b : ℕ) (o : Option ℕ) → o ≡ last_of None (body_of t b) → IfSome o (λ x. IsLive t x)
+tail-liveness t w b o is = if-some (λ x. IsLive t x) o (λ x e. In-live t w b x (In-last _ x (sym is ∙ e)))
 
-pub last-stands : (t : Tree) → IsTree t → (r : ℕ) (o : Option ℕ) → o ≡ last_of None (layout_of t r) → IfSome o (λ b. IsBlock t b)
-last-stands t w r o is = if-some (λ b. IsBlock t b) o (λ b e. In-block t w r b (In-last _ b (sym is ∙ e)))
+pub last-liveness : (t : Tree) → IsTree t → (r : ℕ) (o : Option ℕ) → o ≡ last_of None (layout_of t r) → IfSome o (λ b. IsBlock t b)
+last-liveness t w r o is = if-some (λ b. IsBlock t b) o (λ b e. In-block t w r b (In-last _ b (sym is ∙ e)))
 
 -- what stands beside an operation in its block, and beside a block in its region
 up-some : (p : Option ℕ) (f : ℕ → Option ℕ) (x : ℕ) → up_from p f ≡ Some x → (y : ℕ) × (f y ≡ Some x)
 up-some None f x e = absurd (none-some x e)
 up-some (Some y) f x e = (y, e)
 
-pub next-stands : (t : Tree) → IsTree t → (op : ℕ) (o : Option ℕ) → o ≡ up_from (parent_of t op) (λ b. next_in op (body_of t b)) → IfSome o (λ x. IsLive t x)
-next-stands t w op o is =
+pub next-liveness : (t : Tree) → IsTree t → (op : ℕ) (o : Option ℕ) → o ≡ up_from (parent_of t op) (λ b. next_in op (body_of t b)) → IfSome o (λ x. IsLive t x)
+next-liveness t w op o is =
     if-some (λ x. IsLive t x) o (λ x e. let u = up-some (parent_of t op) (λ b. next_in op (body_of t b)) x (sym is ∙ e) in In-live t w u.0 x (In-next op _ x u.1))
 
-pub prev-stands : (t : Tree) → IsTree t → (op : ℕ) (o : Option ℕ) → o ≡ up_from (parent_of t op) (λ b. prev_in None op (body_of t b)) → IfSome o (λ x. IsLive t x)
-prev-stands t w op o is =
+pub prev-liveness : (t : Tree) → IsTree t → (op : ℕ) (o : Option ℕ) → o ≡ up_from (parent_of t op) (λ b. prev_in None op (body_of t b)) → IfSome o (λ x. IsLive t x)
+prev-liveness t w op o is =
     if-some (λ x. IsLive t x) o (λ x e. let u = up-some (parent_of t op) (λ b. prev_in None op (body_of t b)) x (sym is ∙ e) in In-live t w u.0 x (In-prev op _ x u.1))
 
-pub next_block-stands : (t : Tree) → IsTree t → (block : ℕ) (o : Option ℕ) → o ≡ up_from (block_parent_of t block) (λ r. next_in block (layout_of t r)) → IfSome o (λ b. IsBlock t b)
-next_block-stands t w block o is =
+pub next_block-liveness : (t : Tree) → IsTree t → (block : ℕ) (o : Option ℕ) → o ≡ up_from (block_parent_of t block) (λ r. next_in block (layout_of t r)) → IfSome o (λ b. IsBlock t b)
+next_block-liveness t w block o is =
     if-some (λ b. IsBlock t b) o (λ b e. let u = up-some (block_parent_of t block) (λ r. next_in block (layout_of t r)) b (sym is ∙ e) in In-block t w u.0 b (In-next block _ b u.1))
 
-pub prev_block-stands : (t : Tree) → IsTree t → (block : ℕ) (o : Option ℕ) → o ≡ up_from (block_parent_of t block) (λ r. prev_in None block (layout_of t r)) → IfSome o (λ b. IsBlock t b)
-prev_block-stands t w block o is =
+pub prev_block-liveness : (t : Tree) → IsTree t → (block : ℕ) (o : Option ℕ) → o ≡ up_from (block_parent_of t block) (λ r. prev_in None block (layout_of t r)) → IfSome o (λ b. IsBlock t b)
+prev_block-liveness t w block o is =
     if-some (λ b. IsBlock t b) o (λ b e. let u = up-some (block_parent_of t block) (λ r. prev_in None block (layout_of t r)) b (sym is ∙ e) in In-block t w u.0 b (In-prev block _ b u.1))

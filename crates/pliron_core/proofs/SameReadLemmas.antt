@@ -10,12 +10,12 @@ use Rattle.pliron_core.specs.Lists.{In, next_in, prev_in, last_of}
 use Rattle.pliron_core.specs.Tree.{Tree, IsDefinedWithin, up_from, op_of_slot, operands_of, regions_of, body_of, block_parent_of, definition_of, region_parent_of}
 use Rattle.pliron_core.specs.Invariant.{IsTree}
 use Rattle.pliron_core.specs.Insertion.{IsPointFor}
-use Rattle.pliron_core.specs.Erased.{StandsIn, IsBlockWithin, IsDefinedInBlock, IsSelfContained, IsSelfContainedBlock}
+use Rattle.pliron_core.specs.Erased.{IsInOperation, IsBlockWithin, IsDefinedInBlock, IsSelfContained, IsSelfContainedBlock}
 use Rattle.pliron_core.specs.Reads.{ssa_in, has_ssa_at, IsDefinitionLive}
 use Rattle.pliron_core.specs.Edges.{succs_from, succs_of, leads_to, blocks_in, preds_of}
 use Rattle.pliron_core.specs.Walks.{children, contents}
 use Rattle.pliron_core.specs.Changes.{IsSameTree}
-use Rattle.pliron_core.specs.ChangeLaws.{StandAlike, AreReadAlike, AllowAlike}
+use Rattle.pliron_core.specs.ChangeLaws.{ReadAlike, AreReadAlike, AllowAlike}
 use Rattle.pliron_core.proofs.WalkLemmas.{children-same, contents-same}
 use Rattle.pliron_core.proofs.SameTreeLemmas.{same_sym, same_live, same_block, same_region, same_value, same_slot, same_definition, same_block_holder, same_holder, same_inside, same_within, same_holds, same_holds_region, same_made_inside}
 
@@ -64,7 +64,7 @@ module _ (t u : Tree) (wt : IsTree t) (wu : IsTree u) (s : IsSameTree t u) where
   pub same_contents : (op : ℕ) → contents u op ≡ contents t op
   same_contents op = contents-same t u wt wu op (λ k i. same_children t u s k)
 
-  pub stand_alike : StandAlike t u
+  pub stand_alike : ReadAlike t u
   stand_alike = record {
     operations = same_live t u wt.joined wu.joined s;
     blocks = same_block t u wt.joined wu.joined s;
@@ -107,7 +107,7 @@ module _ (t u : Tree) (wt : IsTree t) (wu : IsTree u) (s : IsSameTree t u) where
   point (BeforeOperation at) op h = (subst IsSome (sym (s.parents at)) h.0, h.1, λ i. h.2 ((stand_alike.inside op at).1 i))
   point (AtBlockStart b) op h = ((stand_alike.blocks b).0 h.0, λ i. h.1 ((stand_alike.holds op b).1 i))
 
-  in_block : (b x : ℕ) → StandsIn t b x → StandsIn u b x
+  in_block : (b x : ℕ) → IsInOperation t b x → IsInOperation u b x
   in_block b x h = (h.0, s.parents h.0 ∙ h.1, (stand_alike.within h.0 x).0 h.2)
 
   block_within : (b c : ℕ) → IsBlockWithin t b c → IsBlockWithin u b c

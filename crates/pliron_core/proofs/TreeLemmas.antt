@@ -84,4 +84,4 @@ parented_live t x w is = go (parent_of t x) refl is
   where
     go : (o : Option ℕ) → parent_of t x ≡ o → IsSome o → IsLive t x
     go None e i = absurd (let f : true ≡ false = sym i in true≢false f)
-    go (Some b) e i = (w.standing x b e).0
+    go (Some b) e i = (w.all_in_place x b e).0

@@ -106,7 +106,7 @@ module _ (t : Tree) (w : IsTree t) where
   -- what has a region is live
   pub regions_live : (k i r : ℕ) → slice_get (regions_of t k) i ≡ Some r → IsLive t k
   regions_live k i r e =
-      not_none (head_of t k) (λ none. let gone : slice_get (regions_of t k) i ≡ None = ap (λ z. slice_get z.regions i) (w.joined.erased k none).2 in absurd (cc))
+      not_none (head_of t k) (λ none. let deleted : slice_get (regions_of t k) i ≡ None = ap (λ z. slice_get z.regions i) (w.joined.erased k none).2 in absurd (cc))
 
   pub live_within : (k : ℕ) → IsLive t k → k < length t.operations
   live_within k live =
@@ -119,7 +119,7 @@ module _ (t : Tree) (w : IsTree t) where
       cases k = grind arith
 
   pub held_live : (x k : ℕ) → parent_operation_of t x ≡ Some k → IsLive t x
-  held_live x k e = let p = place_of t x k e in (w.joined.standing x p.block p.parent).0
+  held_live x k e = let p = place_of t x k e in (w.joined.all_in_place x p.block p.parent).0
 
   pub holder_live : (x k : ℕ) → parent_operation_of t x ≡ Some k → IsLive t k
   holder_live x k e = let p = place_of t x k e in regions_live k p.index p.region (place_listed x k p)

@@ -28,7 +28,7 @@ shape a b c d e f x = simp append_assoc
 
 -- after an empty block the same comes first, from the next block on
 pub record IsPassed (t : Tree) (b : ℕ) (next : Option ℕ) : Type 0 where
-  pub stands : ForSome next (λ c. IsBlock t c)
+  pub liveness : ForSome next (λ c. IsBlock t c)
   pub first : first_in_blocks t (Some b) ≡ first_in_blocks t next
   pub shorter : length (blocks_from t next) < length (blocks_from t (Some b))
 
@@ -50,7 +50,7 @@ module _ (t : Tree) (w : IsTree t) where
       cases b = grind arith
 
   pub parent_within : (x b : ℕ) → parent_of t x ≡ Some b → b < length t.block_parents
-  parent_within x b e = block_within b (w.joined.standing x b e).1
+  parent_within x b e = block_within b (w.joined.all_in_place x b e).1
 
   pub region_slot : (r : ℕ) → IsRegion t r → r < length t.slots
   region_slot r is = go (slot_of t r) refl is
@@ -160,13 +160,13 @@ module _ (t : Tree) (w : IsTree t) where
         first_of-or_append (pieces s.1) g.1 ∙ ap (λ z. or_next z (first_of g.1 None)) (first_of-pieces (λ c. contents t c) s.1 None ∙ sym next) ∙ ap (or_next (next_in x (children t k))) g.3,
       )
 
-  pub goes_on-root : (root : ℕ) → IsFollowedBy (preorder t root) (preorder t root) None
-  goes_on-root root = ([], [], sym (append-nil (preorder t root)), refl)
+  pub continues-root : (root : ℕ) → IsFollowedBy (preorder t root) (preorder t root) None
+  continues-root root = ([], [], sym (append-nil (preorder t root)), refl)
 
-  pub goes_on : (root x : ℕ) → IsWithin t root x → (o : Option ℕ) × IsFollowedBy (preorder t root) (preorder t x) o
-  goes_on root x (inl e) = (None, subst (λ z. IsFollowedBy (preorder t root) (preorder t z) None) (sym e) (goes_on-root root))
-  goes_on root x (inr (Directly e)) = (or_next (next_in x (children t root)) None, goes_up root x root None e (goes_on-root root))
-  goes_on root x (inr (Deeper p e u)) = let r = goes_on root p (inr u) in (or_next (next_in x (children t p)) r.0, goes_up root x p r.0 e r.1)
+  pub continues : (root x : ℕ) → IsWithin t root x → (o : Option ℕ) × IsFollowedBy (preorder t root) (preorder t x) o
+  continues root x (inl e) = (None, subst (λ z. IsFollowedBy (preorder t root) (preorder t z) None) (sym e) (continues-root root))
+  continues root x (inr (Directly e)) = (or_next (next_in x (children t root)) None, goes_up root x root None e (continues-root root))
+  continues root x (inr (Deeper p e u)) = let r = continues root p (inr u) in (or_next (next_in x (children t p)) r.0, goes_up root x p r.0 e r.1)
 
   -- the next of the walk, when that is found
   pub next_walked : (root x : ℕ) (o : Option ℕ) → IsFollowedBy (preorder t root) (preorder t x) o → next_in x (preorder t root) ≡ or_next (first_of (children t x) None) o
@@ -187,7 +187,7 @@ module _ (t : Tree) (w : IsTree t) where
   passed s lists owners b next is none e =
       let from : blocks_from t (Some b) ≡ b ∷ blocks_from t next = blocks_next s lists owners b is ∙ ap (λ o. b ∷ blocks_from t o) (sym e) in
       record {
-        stands = λ c f. next_block s lists owners b c (sym e ∙ f);
+        liveness = λ c f. next_block s lists owners b c (sym e ∙ f);
         first = ap (λ zs. first_of (flat_map (λ b. body_of t b) zs) None) from ∙ first_of-or_append (body_of t b) (flat_map (λ b. body_of t b) (blocks_from t next)) ∙ or_next-none (first_of (body_of t b) None) _ none;
         shorter = omega (arith, ap length from);
       }
@@ -240,7 +240,7 @@ module _ (t : Tree) (w : IsTree t) where
   -- what follows, found beside or further up
   pub found_beside : (root x k : ℕ) (n : Option ℕ) → parent_operation_of t x ≡ Some k → IsWithin t root k → n ≡ next_in x (children t k) → is_some n ≡ true → IsFollowedBy (preorder t root) (preorder t x) n
   found_beside root x k n e u f some =
-      let g = goes_on root k u in
+      let g = continues root k u in
       subst (IsFollowedBy (preorder t root) (preorder t x)) (or_found n _ g.0 f some) (goes_up root x k g.0 e g.1)
 
   pub found_above : (root x k : ℕ) (n : Option ℕ) → parent_operation_of t x ≡ Some k → n ≡ next_in x (children t k) → is_some n ≡ false → (o : Option ℕ) → IsFollowedBy (preorder t root) (preorder t k) o → IsFollowedBy (preorder t root) (preorder t x) o

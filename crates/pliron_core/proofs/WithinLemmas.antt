@@ -1,10 +1,10 @@
 -- What stands inside an operation, by tests and by steps up.
 use Rattle.std.proofs.Common.{◌≡◌, ◌≢◌, ℕ, zero, suc, ◌<◌, Bool, true, false, nat_eq, length, Option, Some, None, is_some, refl, sym, ap, ◌∙◌, subst, inl, inr, if◌then◌else◌, true≢false}
-use Rattle.std.proofs.lemmas.Bool.Decides.{eqb_tells}
+use Rattle.std.proofs.lemmas.Bool.Decides.{eqb_decides}
 use Rattle.std.proofs.lemmas.Bool.{eq-eqb}
 use Rattle.pliron_core.specs.Tree.{Tree, IsLive, IsRegion, IsInside, Directly, Deeper, IsWithin, climb, up_from, op_of_slot, parent_operation_of, block_parent_operation_of, region_parent_of, parent_of, block_parent_of}
 use Rattle.pliron_core.specs.Invariant.{IsJoined}
-use Rattle.pliron_core.specs.Erased.{is_met, is_met_above, is_the, stands_in, StandsIn}
+use Rattle.pliron_core.specs.Erased.{is_met, is_met_above, is_the, is_in_operation, IsInOperation}
 use Rattle.pliron_core.proofs.TreeLemmas.{live-within, region_owner, region_live}
 use Rattle.pliron_core.proofs.ChainLemmas.{is_met_step}
 
@@ -37,14 +37,14 @@ pub block_holder_live : (t : Tree) (b y : ℕ) → IsJoined t → block_parent_o
 block_holder_live t b y w e = let s = block_steps t b y e in region_parent_live t s.0 y w (w.placed b s.0 s.1) s.2
 
 pub holder_live : (t : Tree) (x y : ℕ) → IsJoined t → parent_operation_of t x ≡ Some y → IsLive t x × IsLive t y
-holder_live t x y w e = let s = holder_steps t x y e in ((w.standing x s.0 s.1).0, block_holder_live t s.0 y w s.2)
+holder_live t x y w e = let s = holder_steps t x y e in ((w.all_in_place x s.0 s.1).0, block_holder_live t s.0 y w s.2)
 
 -- what stands in a standing block has a holder
 pub parent_holder : (t : Tree) (x b : ℕ) → IsJoined t → parent_of t x ≡ Some b → (y : ℕ) × (block_parent_operation_of t b ≡ Some y)
 parent_holder t x b w e = go (block_parent_of t b) refl
   where
     go : (o : Option ℕ) → block_parent_of t b ≡ o → (y : ℕ) × (block_parent_operation_of t b ≡ Some y)
-    go None f = absurd (true≢false (sym (w.standing x b e).1 ∙ ap is_some f))
+    go None f = absurd (true≢false (sym (w.all_in_place x b e).1 ∙ ap is_some f))
     go (Some r) f = let s = region_owner t r (w.placed b r f) in (s.0.op, block_holder_from t b r f ∙ ap (λ o. op_of_slot o) s.1)
 
 -- a standing region has an operation
@@ -115,16 +115,16 @@ met_within t p (suc n) k e = go (p k) refl e (parent_operation_of t k) refl (λ 
     go false f g o h rest = up (parent_operation_of t k) refl g rest
 
 pub equal_from : (op x : ℕ) → nat_eq op x ≡ true → x ≡ op
-equal_from op x e = elim (eqb_tells op x) [ inl y ↦ sym y.1 | inr n ↦ absurd (true≢false (sym e ∙ n.0)) ]
+equal_from op x e = elim (eqb_decides op x) [ inl y ↦ sym y.1 | inr n ↦ absurd (true≢false (sym e ∙ n.0)) ]
 
-pub stands_from : (t : Tree) (block x : ℕ) → stands_in t block x ≡ true → parent_of t x ≡ Some block
-stands_from t block x e = go (parent_of t x) refl e
+pub is_listed_from : (t : Tree) (block x : ℕ) → is_in_operation t block x ≡ true → parent_of t x ≡ Some block
+is_listed_from t block x e = go (parent_of t x) refl e
   where
     go : (o : Option ℕ) → parent_of t x ≡ o → is_the block o ≡ true → o ≡ Some block
     go None f g = absurd (true≢false (sym g))
     go (Some c) f g = ap Some (equal_from block c g)
 
-pub stands_met : (t : Tree) (block x : ℕ) → parent_of t x ≡ Some block → stands_in t block x ≡ true
+pub stands_met : (t : Tree) (block x : ℕ) → parent_of t x ≡ Some block → is_in_operation t block x ≡ true
 stands_met t block x e = ap (λ o. is_the block o) e ∙ eq-eqb block block refl
 
 -- the tests say what they are to say
@@ -134,8 +134,8 @@ is_within t op k w live i = within_met t (nat_eq op) w op k (live-within t op li
 pub within_is : (t : Tree) (op k : ℕ) → is_met_above t (nat_eq op) (Some k) ≡ true → IsWithin t op k
 within_is t op k e = let r = met_within t (nat_eq op) (length t.operations) k e in subst (λ z. IsWithin t z k) (equal_from op r.0 r.1) r.2
 
-pub is_in_block : (t : Tree) (block k : ℕ) → IsJoined t → StandsIn t block k → is_met_above t (stands_in t block) (Some k) ≡ true
-is_in_block t block k w s = within_met t (stands_in t block) w s.0 k (live-within t s.0 (w.standing s.0 block s.1).0) (stands_met t block s.0 s.1) s.2
+pub is_in_block : (t : Tree) (block k : ℕ) → IsJoined t → IsInOperation t block k → is_met_above t (is_in_operation t block) (Some k) ≡ true
+is_in_block t block k w s = within_met t (is_in_operation t block) w s.0 k (live-within t s.0 (w.all_in_place s.0 block s.1).0) (stands_met t block s.0 s.1) s.2
 
-pub in_block_is : (t : Tree) (block k : ℕ) → is_met_above t (stands_in t block) (Some k) ≡ true → StandsIn t block k
-in_block_is t block k e = let r = met_within t (stands_in t block) (length t.operations) k e in (r.0, stands_from t block r.0 r.1, r.2)
+pub in_block_is : (t : Tree) (block k : ℕ) → is_met_above t (is_in_operation t block) (Some k) ≡ true → IsInOperation t block k
+in_block_is t block k e = let r = met_within t (is_in_operation t block) (length t.operations) k e in (r.0, is_listed_from t block r.0 r.1, r.2)

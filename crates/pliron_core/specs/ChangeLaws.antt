@@ -7,14 +7,14 @@ use Rattle.pliron_core.specs.Tree.{Tree, IsLive, IsBlock, IsRegion, IsDefined, I
 use Rattle.pliron_core.specs.Invariant.{IsTree}
 use Rattle.pliron_core.specs.Writes.{after_creating}
 use Rattle.pliron_core.specs.Insertion.{IsPointFor}
-use Rattle.pliron_core.specs.Erased.{IsSelfContained, IsSelfContainedBlock, StandsIn, after_erasing}
+use Rattle.pliron_core.specs.Erased.{IsSelfContained, IsSelfContainedBlock, IsInOperation, after_erasing}
 use Rattle.pliron_core.specs.Reads.{next_of, prev_of, next_block_of, prev_block_of, has_ssa, IsDefinitionLive}
 use Rattle.pliron_core.specs.Edges.{succs_of, preds_of}
 use Rattle.pliron_core.specs.Walks.{children, contents, preorder}
 use Rattle.pliron_core.specs.Changes.{IsSameTree, HoldsRegion, IsDefinedInside, IsInsideChange}
 
 -- the same is live in both trees, at the same place and defined by the same
-pub record StandAlike (t u : Tree) : Type 0 where
+pub record ReadAlike (t u : Tree) : Type 0 where
   pub operations : (x : ℕ) → IsLive t x ↔ IsLive u x
   pub blocks : (b : ℕ) → IsBlock t b ↔ IsBlock u b
   pub regions : (r : ℕ) → IsRegion t r ↔ IsRegion u r
@@ -47,7 +47,7 @@ pub record AreReadAlike (t u : Tree) : Type 0 where
 -- what inserting and erasing ask holds of both trees, or of neither
 pub record AllowAlike (t u : Tree) : Type 0 where
   pub points : (point : OpInsertionPoint) (op : ℕ) → IsPointFor t point op ↔ IsPointFor u point op
-  pub in_block : (b x : ℕ) → StandsIn t b x ↔ StandsIn u b x
+  pub in_block : (b x : ℕ) → IsInOperation t b x ↔ IsInOperation u b x
   pub contained : (op : ℕ) → IsSelfContained t op ↔ IsSelfContained u op
   pub contained_block : (b : ℕ) → IsSelfContainedBlock t b ↔ IsSelfContainedBlock u b
 
@@ -55,7 +55,7 @@ pub record SameTreeLaws : Type 0 where
   pub reflexive : (t : Tree) → IsSameTree t t
   pub symmetric : (t u : Tree) → IsSameTree t u → IsSameTree u t
   pub transitive : (t u v : Tree) → IsSameTree t u → IsSameTree u v → IsSameTree t v
-  pub alike : (t u : Tree) → IsTree t → IsTree u → IsSameTree t u → StandAlike t u
+  pub alike : (t u : Tree) → IsTree t → IsTree u → IsSameTree t u → ReadAlike t u
   pub read : (t u : Tree) → IsTree t → IsTree u → IsSameTree t u → AreReadAlike t u
   pub allow : (t u : Tree) → IsTree t → IsTree u → IsSameTree t u → AllowAlike t u
   -- what is created and erased again leaves only an erased handle

@@ -4,12 +4,12 @@ use Rattle.pliron_core.specs.declared.context.contained.Scope.{Scope}
 use Rattle.pliron_core.specs.declared.context.contained.Scope.TheVariants.{Inside, InBlock}
 use Rattle.pliron_core.specs.Lists.{In}
 use Rattle.pliron_core.specs.Tree.{Tree, operands_of, successors_of, results_of, regions_of, layout_of, arguments_of, body_of, IsWithin}
-use Rattle.pliron_core.specs.Erased.{StandsIn}
+use Rattle.pliron_core.specs.Erased.{IsInOperation}
 
 -- x is the operation or is inside it, or it is in the block
 abbrev pub IsInScope : Tree → Scope → ℕ → Type 0
 IsInScope t (Inside op) x = IsWithin t op x
-IsInScope t (InBlock block) x = StandsIn t block x
+IsInScope t (InBlock block) x = IsInOperation t block x
 
 -- each operation that uses the value is in the scope
 abbrev pub IsValueKept : Tree → Scope → ℕ → Type 0

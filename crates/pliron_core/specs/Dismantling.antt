@@ -7,7 +7,7 @@ use Rattle.pliron_core.specs.declared.context.erase.Inner.TheVariants.{Operation
 use Rattle.pliron_core.specs.Lists.{In, last_of}
 use Rattle.pliron_core.specs.Tree.{Tree, no_entry, row_of, regions_of, operands_of, successors_of, body_of, layout_of, parent_operation_of, block_parent_operation_of, definition_of, IsLive, IsWithin, IsDefinedWithin, HoldsBlock}
 use Rattle.pliron_core.specs.Writes.{taken_out}
-use Rattle.pliron_core.specs.Erased.{block_taken_out, StandsIn, IsBlockWithin, IsDefinedInBlock}
+use Rattle.pliron_core.specs.Erased.{block_taken_out, IsInOperation, IsBlockWithin, IsDefinedInBlock}
 
 -- the operation is erased
 abbrev pub after_dismantling : Tree → ℕ → Tree
@@ -64,6 +64,6 @@ without_names t op = record t { operands = slice_set t.operands op []; successor
 
 -- what is in the block names nothing, and nothing names the block, or a value or a block in it
 pub record IsUnusedBlock (t : Tree) (block : ℕ) : Type 0 where
-  pub bare : (k : ℕ) → StandsIn t block k → (operands_of t k ≡ []) × (successors_of t k ≡ [])
+  pub bare : (k : ℕ) → IsInOperation t block k → (operands_of t k ≡ []) × (successors_of t k ≡ [])
   pub values : (x v : ℕ) → In v (operands_of t x) → IsDefinedInBlock t block (definition_of t v) → ⊥
   pub blocks : (x b : ℕ) → In b (successors_of t x) → IsBlockWithin t block b → ⊥

@@ -19,8 +19,8 @@ is_met_above t p o = is_met (parent_operation_of t) p (length t.operations) o
 
 -- the table with `none` at each erased handle
 abbrev pub blank_at : {A : Type 0} → (ℕ → Bool) → A → List A → List A
-blank_at gone none [] = []
-blank_at gone none (x ∷ xs) = (if gone 0 then none else x) ∷ blank_at (λ k. gone (suc k)) none xs
+blank_at deleted none [] = []
+blank_at deleted none (x ∷ xs) = (if deleted 0 then none else x) ∷ blank_at (λ k. deleted (suc k)) none xs
 
 -- the operations for which the test holds are erased, and all that is inside them
 abbrev pub after_clearing : Tree → (ℕ → Bool) → Tree
@@ -47,12 +47,12 @@ abbrev pub is_the : ℕ → Option ℕ → Bool
 is_the b None = false
 is_the b (Some c) = nat_eq b c
 
-abbrev pub stands_in : Tree → ℕ → ℕ → Bool
-stands_in t block x = is_the block (parent_of t x)
+abbrev pub is_in_operation : Tree → ℕ → ℕ → Bool
+is_in_operation t block x = is_the block (parent_of t x)
 
 -- all that is in the block is erased
 abbrev pub block_emptied : Tree → ℕ → Tree
-block_emptied t block = let u = after_clearing t (stands_in t block) in record u { bodies = slice_set u.bodies block [] }
+block_emptied t block = let u = after_clearing t (is_in_operation t block) in record u { bodies = slice_set u.bodies block [] }
 
 -- the block leaves its region, without arguments
 abbrev pub block_taken_from : Tree → ℕ → Option ℕ → Tree
@@ -76,7 +76,7 @@ block_erased t block = block_taken_out (block_emptied t block) block
 
 -- all operations in the block, at any depth, have no operands and no successors
 abbrev pub uses_dropped : Tree → ℕ → Tree
-uses_dropped t block = names_dropped t (stands_in t block)
+uses_dropped t block = names_dropped t (is_in_operation t block)
 
 -- no value and no block of op is used outside it
 pub record IsSelfContained (t : Tree) (op : ℕ) : Type 0 where
@@ -84,20 +84,20 @@ pub record IsSelfContained (t : Tree) (op : ℕ) : Type 0 where
   pub blocks : (x b : ℕ) → In b (successors_of t x) → HoldsBlock t op b → IsWithin t op x
 
 -- x is in the block, at any depth
-abbrev pub StandsIn : Tree → ℕ → ℕ → Type 0
-StandsIn t block x = (k : ℕ) × (parent_of t k ≡ Some block) × IsWithin t k x
+abbrev pub IsInOperation : Tree → ℕ → ℕ → Type 0
+IsInOperation t block x = (k : ℕ) × (parent_of t k ≡ Some block) × IsWithin t k x
 
 -- b is the block or is inside it
 abbrev pub IsBlockWithin : Tree → ℕ → ℕ → Type 0
-IsBlockWithin t block b = (b ≡ block) ⊎ ((k : ℕ) × (block_parent_operation_of t b ≡ Some k) × StandsIn t block k)
+IsBlockWithin t block b = (b ≡ block) ⊎ ((k : ℕ) × (block_parent_operation_of t b ≡ Some k) × IsInOperation t block k)
 
 -- the value is an argument of the block or defined inside it
 abbrev pub IsDefinedInBlock : Tree → ℕ → Option Def → Type 0
 IsDefinedInBlock t block None = ⊥
-IsDefinedInBlock t block (Some (Result k i)) = StandsIn t block k
+IsDefinedInBlock t block (Some (Result k i)) = IsInOperation t block k
 IsDefinedInBlock t block (Some (Argument b i)) = IsBlockWithin t block b
 
 -- the block, its arguments, and the values and blocks inside it are used nowhere outside it
 pub record IsSelfContainedBlock (t : Tree) (block : ℕ) : Type 0 where
-  pub values : (x v : ℕ) → In v (operands_of t x) → IsDefinedInBlock t block (definition_of t v) → StandsIn t block x
-  pub blocks : (x b : ℕ) → In b (successors_of t x) → IsBlockWithin t block b → StandsIn t block x
+  pub values : (x v : ℕ) → In v (operands_of t x) → IsDefinedInBlock t block (definition_of t v) → IsInOperation t block x
+  pub blocks : (x b : ℕ) → In b (successors_of t x) → IsBlockWithin t block b → IsInOperation t block x

@@ -25,7 +25,7 @@ pub record HaveFewKeys (t : Tree) : Type 0 where
 -- what is named is live, and names back
 pub record IsJoined (t : Tree) : Type 0 where
   -- what is in a block is live, and so are the block and its region
-  pub standing : (x b : ℕ) → parent_of t x ≡ Some b → IsLive t x × IsBlock t b
+  pub all_in_place : (x b : ℕ) → parent_of t x ≡ Some b → IsLive t x × IsBlock t b
   pub placed : (b r : ℕ) → block_parent_of t b ≡ Some r → IsRegion t r
   -- a region has one place, a value one definition
   pub regions : (k i r : ℕ) → slice_get (regions_of t k) i ≡ Some r → slot_of t r ≡ Some (record { op = k; index = i })

@@ -35,11 +35,11 @@ fn argument_of(rt: &impl Abort, ctx: &Context, block: Ptr<BasicBlock>, i: usize)
 pub fn remove_argument(rt: &impl Abort, ctx: &mut Context, block: Ptr<BasicBlock>, i: usize) {
     assert!(rt; block.is_live(ctx));
     assert!(rt; i < block.num_argument(ctx));
-    let gone = block.get_argument(ctx, i);
-    assert!(rt; gone.is_live(ctx));
-    assert!(rt; gone.num_use(ctx) == 0);
+    let deleted = block.get_argument(ctx, i);
+    assert!(rt; deleted.is_live(ctx));
+    assert!(rt; deleted.num_use(ctx) == 0);
     BasicBlock::remove_argument(ctx, block, i);
-    assert!(rt; !gone.is_live(ctx));
+    assert!(rt; !deleted.is_live(ctx));
 }
 
 pub fn check_argument(

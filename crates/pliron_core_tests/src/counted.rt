@@ -68,8 +68,8 @@ fn lose_operand(
     assert!(rt; place < want.len());
     assert!(rt; op.is_live(ctx));
     assert!(rt; place < op.num_operand(ctx));
-    let gone = Operation::remove_operand(ctx, op, place);
-    assert!(rt; gone == want[place]);
+    let deleted = Operation::remove_operand(ctx, op, place);
+    assert!(rt; deleted == want[place]);
     want.remove(place);
     check_operands(rt, ctx, op, want);
 }

@@ -93,6 +93,6 @@ fn stand_deep(rt: &impl Abort, alloc: Global, ctx: &mut Context) -> Result<(), F
 }
 
 #[test]
-fn stands_ten_thousand_deep(rt: HostRuntime) -> Result<(), Fail> {
+fn is_ten_thousand_deep(rt: HostRuntime) -> Result<(), Fail> {
     in_new_context(&rt, rt.alloc(), stand_deep)
 }

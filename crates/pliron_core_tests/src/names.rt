@@ -65,6 +65,6 @@ fn walk_inside(rt: &impl Abort, alloc: Global, ctx: &mut Context) -> Result<(), 
 }
 
 #[test]
-fn walks_over_what_stands_directly_inside(rt: HostRuntime) -> Result<(), Fail> {
+fn walks_over_what_is_directly_inside(rt: HostRuntime) -> Result<(), Fail> {
     in_new_context(&rt, rt.alloc(), walk_inside)
 }

@@ -60,6 +60,6 @@ fn used_outside(rt: &impl Abort, alloc: Global, ctx: &mut Context) -> Result<(),
 }
 
 #[test]
-fn tells_what_is_used_outside(rt: HostRuntime) -> Result<(), Fail> {
+fn reports_what_is_used_outside(rt: HostRuntime) -> Result<(), Fail> {
     in_new_context(&rt, rt.alloc(), used_outside)
 }

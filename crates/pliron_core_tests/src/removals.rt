@@ -68,10 +68,10 @@ fn step(
         Some(name) => add_operand(rt, ctx, op, value_named(rt, values, name))?,
         None => {
             let place = number(rt, word);
-            let gone = operand_of(rt, ctx, op, place);
+            let deleted = operand_of(rt, ctx, op, place);
             assert!(rt; op.is_live(ctx));
             assert!(rt; place < op.num_operand(ctx));
-            assert!(rt; Operation::remove_operand(ctx, op, place) == gone);
+            assert!(rt; Operation::remove_operand(ctx, op, place) == deleted);
         }
     }
     Ok(())

@@ -86,7 +86,7 @@ fn set_points(rt: &impl Abort, alloc: Global, ctx: &mut Context) -> Result<(), F
 }
 
 #[test]
-fn tells_where_it_inserts(rt: HostRuntime) -> Result<(), Fail> {
+fn reports_where_it_inserts(rt: HostRuntime) -> Result<(), Fail> {
     in_new_context(&rt, rt.alloc(), set_points)
 }
 
@@ -101,7 +101,7 @@ fn make_and_erase(rt: &impl Abort, alloc: Global, ctx: &mut Context) -> Result<(
 }
 
 #[test]
-fn tells_an_empty_context(rt: HostRuntime) -> Result<(), Fail> {
+fn reports_an_empty_context(rt: HostRuntime) -> Result<(), Fail> {
     in_new_context(&rt, rt.alloc(), make_and_erase)
 }
 
@@ -145,8 +145,8 @@ fn remove_first_operand(rt: &impl Abort, alloc: Global, ctx: &mut Context) -> Re
     let a = result_of(rt, ctx, sum.one, 0);
     let b = result_of(rt, ctx, sum.two, 0);
     add_operand(rt, ctx, sum.add, a)?;
-    let gone = remove_operand(rt, ctx, sum.add, 0);
-    assert!(rt; gone == a);
+    let deleted = remove_operand(rt, ctx, sum.add, 0);
+    assert!(rt; deleted == a);
     assert!(rt; operand_of(rt, ctx, sum.add, 0) == b);
     assert!(rt; operand_of(rt, ctx, sum.add, 1) == a);
     assert!(rt; count_uses(rt, ctx, a) == 1);

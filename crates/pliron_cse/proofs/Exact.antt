@@ -11,11 +11,11 @@ use Rattle.pliron_core.proofs.HoldingLemmas.{some_is, slice_in}
 use Rattle.pliron_laws.specs.Datum.{Head, Meaning}
 use Rattle.pliron_laws.specs.Laws.{KeepsCounts, GivesAtOnce}
 use Rattle.pliron_laws.specs.Linked.{IsWellLinked}
-use Rattle.pliron_equivalence.specs.Standing.{StandsBefore}
+use Rattle.pliron_equivalence.specs.OperationDominance.{DominatesOperation}
 use Rattle.pliron_equivalence.specs.Merging.{replaced_all, results_merged, after_merging}
 use Rattle.pliron_equivalence.proofs.Replaced.{target_cases, operands_replaced}
 use Rattle.pliron_equivalence.proofs.Merging.{results_same, rows_same}
-use Rattle.pliron_equivalence.proofs.Standing.{stands_trans}
+use Rattle.pliron_equivalence.proofs.OperationDominance.{stands_trans}
 use Rattle.pliron_order.proofs.NumberLemmas.{at_in}
 use Rattle.pliron_order.proofs.PreorderLemmas.{in_at}
 use Rattle.pliron_cse.specs.Keys.{head_words_of, operand_words, key_words, region_around}
@@ -97,8 +97,8 @@ used_before (v ∷ vs) (x ∷ xs) t k y i = ⊎_elim
     (used_before vs xs (after_replacing t v x) k y i)
 
 module _ (m : Meaning) (side_effects : Head → Option Bool) (counts : KeepsCounts m) (free : GivesAtOnce m side_effects) (t : Tree) (a b root : ℕ) (w : IsTree t) (live : IsLive t root) (linked : IsWellLinked m t root) (pair : IsPair side_effects t root a b) (w' : IsTree (after_merging t a b)) where
-  gone : (k : ℕ) → IsLive (after_merging t a b) k → k ≢ b
-  gone k l = merged_gone m side_effects counts free t a b root w live linked pair w' k l
+  deleted : (k : ℕ) → IsLive (after_merging t a b) k → k ≢ b
+  deleted k l = merged_gone m side_effects counts free t a b root w live linked pair w' k l
 
   fewer : (k : ℕ) → IsLive (after_merging t a b) k → IsLive t k
   fewer k l = merged_fewer m side_effects counts free t a b root w live linked pair w' k l
@@ -125,19 +125,19 @@ module _ (m : Meaning) (side_effects : Head → Option Bool) (counts : KeepsCoun
 
   pub behind_merged : UsesAreBehind t root → UsesAreBehind (after_merging t a b) root
   behind_merged h k v user sk su made used =
-      let nk : k ≢ b = gone k (w'.joined.standing k sk.block sk.in_block).0 in
-      let nu : user ≢ b = gone user (w'.joined.standing user su.block su.in_block).0 in
+      let nk : k ≢ b = deleted k (w'.joined.all_in_place k sk.block sk.in_block).0 in
+      let nu : user ≢ b = deleted user (w'.joined.all_in_place user su.block su.in_block).0 in
       let sk' = (merged_seen m side_effects counts free t a b root w live linked pair w' k nk).1 sk in
       let su' = (merged_seen m side_effects counts free t a b root w live linked pair w' user nu).1 su in
       let made' : In v (results_of t k) = subst (In v) (ap (λ z. z.results) (row_of_merged m side_effects counts free t a b root w live linked pair w' k nk) ∙ results_same (results_of t b) (results_of t a) t k) made in
       let used' : In v (operands_of (results_merged t a b) user) = subst (In v) (operands_of_merged m side_effects counts free t a b root w live linked pair w' user nu) used in
-      let there : StandsBefore t k user = ⊎_elim
+      let there : DominatesOperation t k user = ⊎_elim
       (λ i. h k v user sk' su' made' i)
       (λ r. ⊎_elim
       (λ q.
       let same : k ≡ a = one_maker v k a made' q.0 in
-      let below : StandsBefore t b user = h b q.1.0 user pair.second su' q.1.1 q.1.2 in
-      subst (λ z. StandsBefore t z user) (sym same) (stands_trans t w a b user pair.leads.before below))
+      let below : DominatesOperation t b user = h b q.1.0 user pair.second su' q.1.1 q.1.2 in
+      subst (λ z. DominatesOperation t z user) (sym same) (stands_trans t w a b user pair.leads.before below))
       (λ q. absurd (pair.leads.apart (sym (one_maker q.1.0 b a q.1.1 (subst (λ z. In z (results_of t a)) (sym q.1.2.2) q.1.2.1)))))
       r)
       (used_before (results_of t b) (results_of t a) t user v used') in
@@ -150,13 +150,13 @@ module _ (m : Meaning) (side_effects : Head → Option Bool) (counts : KeepsCoun
         let k = get_or ops i 0 in
         let li : i < length ops = omega (arith, lt, low) in
         let seen = o.seen k (at_in ops i li) (fewer k l) in
-        looks k (gone k l) (λ v made used.
-        let s : StandsBefore t (get_or ops place 0) k = subst (λ z. StandsBefore t z k) at (behind b v k pair.second seen made used) in
-        let q = (o.standing place i low li (subst (IsLive t) at (w.joined.standing b pair.second.block pair.second.in_block).0) (fewer k l)).1 s in
+        looks k (deleted k l) (λ v made used.
+        let s : DominatesOperation t (get_or ops place 0) k = subst (λ z. DominatesOperation t z k) at (behind b v k pair.second seen made used) in
+        let q = (o.all_in_place place i low li (subst (IsLive t) at (w.joined.all_in_place b pair.second.block pair.second.in_block).0) (fewer k l)).1 s in
         omega (arith, q.0, lt))
 
     before : (i : ℕ) → i < place + 1 → IsLive (after_merging t a b) (get_or ops i 0) → i < place
-    before i lt l = ⊎_elim (λ e. absurd (gone (get_or ops i 0) l (ap (λ z. get_or ops z 0) e ∙ sym at))) (λ ne. omega (arith, lt, ne)) (cases i place)
+    before i lt l = ⊎_elim (λ e. absurd (deleted (get_or ops i 0) l (ap (λ z. get_or ops z 0) e ∙ sym at))) (λ ne. omega (arith, lt, ne)) (cases i place)
       where
         cases : (x y : ℕ) → (x ≡ y) ⊎ (x ≢ y)
         cases x y = grind arith
@@ -191,7 +191,7 @@ module _ (m : Meaning) (side_effects : Head → Option Bool) (counts : KeepsCoun
     where
       uses : UsesAreBehind t0 root ⊎ (after_merging t a b ≡ t0) → UsesAreBehind t0 root
       uses (inl h) = h
-      uses (inr e) = absurd (gone b (subst (λ z. IsLive z b) (sym e) (before_all b (w.joined.standing b pair.second.block pair.second.in_block).0)) refl)
+      uses (inr e) = absurd (deleted b (subst (λ z. IsLive z b) (sym e) (before_all b (w.joined.all_in_place b pair.second.block pair.second.in_block).0)) refl)
 
       had : (s : IRStatus) → status ≡ s → HasRedundancy side_effects t0 root
       had Changed e = x.had e
@@ -222,12 +222,12 @@ module _ (side_effects : Head → Option Bool) where
   redundancy_leads t w root ops ends place o (a, b, p) =
       let ia = in_at ops a (o.each a p.first) in
       let ib = in_at ops b (o.each b p.second) in
-      let la = (w.joined.standing a p.first.block p.first.in_block).0 in
-      let lb = (w.joined.standing b p.second.block p.second.in_block).0 in
+      let la = (w.joined.all_in_place a p.first.block p.first.in_block).0 in
+      let lb = (w.joined.all_in_place b p.second.block p.second.in_block).0 in
       let la' : IsLive t (get_or ops ia.0 0) = subst (IsLive t) (sym ia.2) la in
       let lb' : IsLive t (get_or ops ib.0 0) = subst (IsLive t) (sym ib.2) lb in
-      let s : StandsBefore t (get_or ops ia.0 0) (get_or ops ib.0 0) = subst (λ z. StandsBefore t z (get_or ops ib.0 0)) (sym ia.2) (subst (StandsBefore t a) (sym ib.2) p.leads.before) in
-      let q = (o.standing ia.0 ib.0 ia.1 ib.1 la' lb').1 s in (
+      let s : DominatesOperation t (get_or ops ia.0 0) (get_or ops ib.0 0) = subst (λ z. DominatesOperation t z (get_or ops ib.0 0)) (sym ia.2) (subst (DominatesOperation t a) (sym ib.2) p.leads.before) in
+      let q = (o.all_in_place ia.0 ib.0 ia.1 ib.1 la' lb').1 s in (
         ia.0,
         ib.0,
         ib.1,
@@ -248,11 +248,11 @@ module _ (side_effects : Head → Option Bool) where
       )
 
   pub exact_end : (t0 t : Tree) (w : IsTree t) (root : ℕ) (ops ends : List ℕ) (place : ℕ) (find : List ℕ → Option ℕ) (status : IRStatus) → length ops ≤ place → IsOrdered t root ops ends place → (status ≡ Unchanged → t ≡ t0) → IsExact side_effects t0 t root ops ends place find status → LeavesNoRedundancy side_effects t0 t root × ReportsEquivalent side_effects t0 root status
-  exact_end t0 t w root ops ends place find status all o unchanged x = (λ h redundancy. over (inl h) redundancy, (λ e. x.had e, λ redundancy. told status refl redundancy))
+  exact_end t0 t w root ops ends place find status all o unchanged x = (λ h redundancy. over (inl h) redundancy, (λ e. x.had e, λ redundancy. reported status refl redundancy))
     where
       over : UsesAreBehind t0 root ⊎ (t ≡ t0) → HasRedundancy side_effects t root → ⊥
       over h redundancy = let q = redundancy_leads t w root ops ends place o redundancy in x.none h q.0 q.1 (omega (arith, q.2, all)) q.2 q.3 q.4
 
-      told : (s : IRStatus) → status ≡ s → HasRedundancy side_effects t0 root → status ≡ Changed
-      told Changed e redundancy = e
-      told Unchanged e redundancy = absurd (over (inr (unchanged e)) (subst (λ z. HasRedundancy side_effects z root) (sym (unchanged e)) redundancy))
+      reported : (s : IRStatus) → status ≡ s → HasRedundancy side_effects t0 root → status ≡ Changed
+      reported Changed e redundancy = e
+      reported Unchanged e redundancy = absurd (over (inr (unchanged e)) (subst (λ z. HasRedundancy side_effects z root) (sym (unchanged e)) redundancy))

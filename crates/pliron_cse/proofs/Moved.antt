@@ -10,7 +10,7 @@ use Rattle.pliron_laws.specs.Paths.{Path}
 use Rattle.pliron_laws.specs.Root.{HasPassed}
 use Rattle.pliron_theory.specs.Edges.{EdgesAlike}
 use Rattle.pliron_theory.proofs.KeptPlaces.{within_back}
-use Rattle.pliron_equivalence.specs.Standing.{StandsBefore}
+use Rattle.pliron_equivalence.specs.OperationDominance.{DominatesOperation}
 use Rattle.pliron_equivalence.specs.Merging.{replaced_all}
 use Rattle.pliron_equivalence.proofs.Replaced.{places_kept, stands_kept}
 use Rattle.pliron_equivalence.proofs.Merging.{ArePairs}
@@ -32,7 +32,7 @@ module _ (t : Tree) (old new : ℕ) where
   passed_back (Some (Argument c j)) before b done p = p
   passed_back (Some (Result k j)) before b done p = p
 
-  stands_back : (a b : ℕ) → StandsBefore (after_replacing t old new) a b → StandsBefore t a b
+  stands_back : (a b : ℕ) → DominatesOperation (after_replacing t old new) a b → DominatesOperation t a b
   stands_back a b p = record {
     around = p.around;
     holds = within_back (places_kept t old new) p.around b p.holds;
@@ -71,7 +71,7 @@ moved_around [] xs t k = refl
 moved_around (v ∷ vs) [] t k = refl
 moved_around (v ∷ vs) (x ∷ xs) t k = moved_around vs xs (after_replacing t v x) k
 
-pub moved_stands : (vs xs : List ℕ) (t : Tree) (a b : ℕ) → StandsBefore t a b ↔ StandsBefore (replaced_all t vs xs) a b
+pub moved_stands : (vs xs : List ℕ) (t : Tree) (a b : ℕ) → DominatesOperation t a b ↔ DominatesOperation (replaced_all t vs xs) a b
 moved_stands [] xs t a b = (λ p. p, λ p. p)
 moved_stands (v ∷ vs) [] t a b = (λ p. p, λ p. p)
 moved_stands (v ∷ vs) (x ∷ xs) t a b =

@@ -14,11 +14,11 @@ use Rattle.pliron_theory.specs.Edges.{KeepsEdges, EdgesAlike}
 use Rattle.pliron_theory.proofs.EdgeLemmas.{edges_alike, edges_transitive}
 use Rattle.pliron_theory.proofs.ErasedKeeps.{erased_gone}
 use Rattle.pliron_theory.proofs.WholeChanges.{whole_refl, whole_trans}
-use Rattle.pliron_equivalence.specs.Standing.{StandsBefore}
+use Rattle.pliron_equivalence.specs.OperationDominance.{DominatesOperation}
 use Rattle.pliron_equivalence.specs.Redundancy.{IsLeader}
 use Rattle.pliron_equivalence.specs.Merging.{partly_merged, results_merged, after_merging}
 use Rattle.pliron_equivalence.proofs.Merging.{tree_all, own_pairs, contained_all, merged_lives, partly}
-use Rattle.pliron_equivalence.proofs.Standing.{stands_holder}
+use Rattle.pliron_equivalence.proofs.OperationDominance.{stands_holder}
 use Rattle.pliron_order.specs.Order.{IsOrder}
 use Rattle.pliron_order.specs.Seen.{IsSeen}
 use Rattle.pliron_order.proofs.NumberLemmas.{at_in}
@@ -61,7 +61,7 @@ module _ (m : Meaning) (side_effects : Head → Option Bool) (counts : KeepsCoun
   pub way_partly : (n : ℕ) → IsTree (partly_merged t a b n) → IsOnWay m t (partly_merged t a b n) root
   way_partly n w' = record {
     change = record {
-      stands = (moved_live vs xs t root).0 live;
+      liveness = (moved_live vs xs t root).0 live;
       linked = links_all m vs xs t root linked;
       inside = (inside_all side_effects a b root vs xs t w (taken_pairs side_effects t a b n) inside).0;
       runs = partly m side_effects counts free t a b n w leads;
@@ -102,7 +102,7 @@ module _ (m : Meaning) (side_effects : Head → Option Bool) (counts : KeepsCoun
     inside_still : IsInside (results_merged t a b) root b
     inside_still = (inside_all side_effects a b root (results_of t b) (results_of t a) t w (own_pairs side_effects a b t) inside).1
 
-    pub merged_stands : (x y : ℕ) → x ≢ b → y ≢ b → StandsBefore t x y ↔ StandsBefore (after_merging t a b) x y
+    pub merged_stands : (x y : ℕ) → x ≢ b → y ≢ b → DominatesOperation t x y ↔ DominatesOperation (after_merging t a b) x y
     merged_stands x y nx ny =
         let s = moved_stands (results_of t b) (results_of t a) t x y in (
           λ p. stands_forth (results_merged t a b) b tree none next lives_still contained w' root edges_last inside_still x y nx ny (s.0 p),
@@ -118,9 +118,9 @@ module _ (m : Meaning) (side_effects : Head → Option Bool) (counts : KeepsCoun
     -- the operation is gone
     pub merged_gone : (k : ℕ) → IsLive (after_merging t a b) k → k ≢ b
     merged_gone k l e =
-        let stands = some_of (head_of (after_merging t a b) b) (subst (IsLive (after_merging t a b)) e l) in
-        let gone = (erased_gone (results_merged t a b) b tree lives_still contained).operations b (is_within (results_merged t a b) b b tree.joined lives_still (inl refl)) in
-        not_none (sym gone ∙ stands.1)
+        let liveness = some_of (head_of (after_merging t a b) b) (subst (IsLive (after_merging t a b)) e l) in
+        let deleted = (erased_gone (results_merged t a b) b tree lives_still contained).operations b (is_within (results_merged t a b) b b tree.joined lives_still (inl refl)) in
+        not_none (sym deleted ∙ liveness.1)
 
     pub row_of_merged : (k : ℕ) → k ≢ b → row_of (after_merging t a b) k ≡ row_of (results_merged t a b) k
     row_of_merged k ne = (is (results_merged t a b) b tree none next lives_still contained w' root edges_last inside_still).rows k (lives (results_merged t a b) b tree none next lives_still contained w' root edges_last inside_still k ne)
@@ -172,8 +172,8 @@ module _ (m : Meaning) (side_effects : Head → Option Bool) (counts : KeepsCoun
       distinct = o.distinct;
       each = λ k s. ⊎_elim (λ e. subst (λ z. In z ops) (sym (e ∙ at)) (at_in ops place low)) (λ ne. o.each k ((merged_seen k ne).1 s)) (cases k b);
       seen = λ k i l. (merged_seen k (merged_gone k l)).0 (o.seen k i (merged_fewer k l));
-      standing = λ i j li lj a_lives b_lives.
-          let s = o.standing i j li lj (merged_fewer (get_or ops i 0) a_lives) (merged_fewer (get_or ops j 0) b_lives) in
+      all_in_place = λ i j li lj a_lives b_lives.
+          let s = o.all_in_place i j li lj (merged_fewer (get_or ops i 0) a_lives) (merged_fewer (get_or ops j 0) b_lives) in
           let q = merged_stands (get_or ops i 0) (get_or ops j 0) (merged_gone (get_or ops i 0) a_lives) (merged_gone (get_or ops j 0) b_lives) in
           (λ p. q.0 (s.0 p), λ p. s.1 (q.1 p));
       left = λ j from lj. merged_live (get_or ops j 0) (λ e. let same : j ≡ place = distinct_at ops o.distinct j place lj low (e ∙ at) in omega (arith, same, from)) (o.left j (omega (arith, from)) lj);
@@ -183,7 +183,7 @@ module _ (m : Meaning) (side_effects : Head → Option Bool) (counts : KeepsCoun
         cases x y = grind arith
 
 pub ordered_on : (t : Tree) (root : ℕ) (ops ends : List ℕ) (place : ℕ) → IsOrdered t root ops ends place → IsOrdered t root ops ends (place + 1)
-ordered_on t root ops ends place o = record { counted = o.counted; distinct = o.distinct; each = o.each; seen = o.seen; standing = o.standing; left = λ j from lj. o.left j (omega (arith, from)) lj }
+ordered_on t root ops ends place o = record { counted = o.counted; distinct = o.distinct; each = o.each; seen = o.seen; all_in_place = o.all_in_place; left = λ j from lj. o.left j (omega (arith, from)) lj }
 
 pub ordered_start : (t : Tree) → IsTree t → (root : ℕ) (ops ends : List ℕ) → IsOrder t root ops ends → IsOrdered t root ops ends 0
 ordered_start t w root ops ends o = record {
@@ -191,12 +191,12 @@ ordered_start t w root ops ends o = record {
   distinct = o.distinct;
   each = λ k s. (o.each k).1 s;
   seen = λ k i l. (o.each k).0 i;
-  standing = λ i j li lj a b. o.standing i j li lj;
-  left = λ j from lj. let s = (o.each (get_or ops j 0)).0 (at_in ops j lj) in (w.joined.standing (get_or ops j 0) s.block s.in_block).0;
+  all_in_place = λ i j li lj a b. o.all_in_place i j li lj;
+  left = λ j from lj. let s = (o.each (get_or ops j 0)).0 (at_in ops j lj) in (w.joined.all_in_place (get_or ops j 0) s.block s.in_block).0;
 }
 
 -- what stands before another in its region has nothing round that
-around_itself : (t : Tree) → IsTree t → (a b : ℕ) (s : StandsBefore t a b) (block region : ℕ) → parent_of t b ≡ Some block → block_parent_of t block ≡ Some region → s.region ≡ region → s.around ≡ b
+around_itself : (t : Tree) → IsTree t → (a b : ℕ) (s : DominatesOperation t a b) (block region : ℕ) → parent_of t b ≡ Some block → block_parent_of t block ≡ Some region → s.region ≡ region → s.around ≡ b
 around_itself t w a b s block region at in_region same = ⊎_elim
     (λ e. sym e)
     (λ i.
@@ -230,10 +230,10 @@ pair_of side_effects t w root ops ends i j a b o lt low within is_a is_b live ne
     second : IsSeen t root b
     second = o.seen b (subst (λ z. In z ops) (sym is_b) (at_in ops j low)) live_b
 
-    before : StandsBefore t a b
-    before = subst (λ z. StandsBefore t z b) (sym is_a) (subst (StandsBefore t (get_or ops i 0)) (sym is_b) ((o.standing i j (omega (arith, lt, low)) low (subst (IsLive t) is_a live) (subst (IsLive t) is_b live_b)).0 (lt, within)))
+    before : DominatesOperation t a b
+    before = subst (λ z. DominatesOperation t z b) (sym is_a) (subst (DominatesOperation t (get_or ops i 0)) (sym is_b) ((o.all_in_place i j (omega (arith, lt, low)) low (subst (IsLive t) is_a live) (subst (IsLive t) is_b live_b)).0 (lt, within)))
 
-    around_a : (s : StandsBefore t a b) → region_around t a ≡ Some s.region
+    around_a : (s : DominatesOperation t a b) → region_around t a ≡ Some s.region
     around_a s = ap (λ o. up_from o (λ c. block_parent_of t c)) s.in_home ∙ s.home_region
 
     around_b : (s : IsSeen t root b) → region_around t b ≡ Some s.region

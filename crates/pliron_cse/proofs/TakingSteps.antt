@@ -15,23 +15,23 @@ use Rattle.pliron_cse.proofs.Exact.{exact_start, exact_merged, exact_stays, exac
 use Rattle.pliron_cse.proofs.OnWay.{way_start, way_more, way_merged, way_partly, ordered_merged, ordered_on, merged_gone, pair_of, turn_more}
 
 pub tells_unchanged : (t0 t : Tree) (status : IRStatus) → ReportsErased t0 t status → status ≡ Unchanged → t ≡ t0
-tells_unchanged t0 t Unchanged told e = told
-tells_unchanged t0 t Changed told e = absurd (cc e)
+tells_unchanged t0 t Unchanged reported e = reported
+tells_unchanged t0 t Changed reported e = absurd (cc e)
 
 pub tells_same : (t0 t : Tree) (status : IRStatus) → ReportsErased t0 t status → (status ≡ Unchanged) ↔ (t ≡ t0)
-tells_same t0 t Unchanged told = (λ e. told, λ e. refl)
-tells_same t0 t Changed told = (λ e. absurd (cc e), λ e. absurd (told.2 (subst (λ z. IsLive z told.0) (sym e) told.1)))
+tells_same t0 t Unchanged reported = (λ e. reported, λ e. refl)
+tells_same t0 t Changed reported = (λ e. absurd (cc e), λ e. absurd (reported.2 (subst (λ z. IsLive z reported.0) (sym e) reported.1)))
 
 module _ (m : Meaning) (side_effects : Head → Option Bool) (counts : KeepsCounts m) (free : GivesAtOnce m side_effects) (t0 : Tree) (root : ℕ) (live : IsLive t0 root) (linked : IsWellLinked m t0 root) (ops ends : List ℕ) where
   pub taking_start : (find : List ℕ → Option ℕ) → IsOrdered t0 root ops ends 0 → IsTaking m side_effects t0 t0 root ops ends 0 find Unchanged
-  taking_start find o = record { way = way_start m t0 root live linked; taken = ([], refl); tells = refl; ordered = o; exact = exact_start side_effects t0 root ops ends find }
+  taking_start find o = record { way = way_start m t0 root live linked; taken = ([], refl); accurate = refl; ordered = o; exact = exact_start side_effects t0 root ops ends find }
 
   module _ (t : Tree) (place : ℕ) (find find' : List ℕ → Option ℕ) (status : IRStatus) (w : IsTree t) (low : place < length ops) (h : IsTaking m side_effects t0 t root ops ends place find status) where
     linked_now : IsWellLinked m t root
     linked_now = h.way.links root linked
 
     live_now : IsLive t root
-    live_now = h.way.change.stands
+    live_now = h.way.change.liveness
 
     pair : (i : ℕ) → LeadsAt side_effects t ops ends i place → IsPair side_effects t root (get_or ops i 0) (get_or ops place 0)
     pair i q = pair_of side_effects t w root ops ends i place (get_or ops i 0) (get_or ops place 0) h.ordered q.first low q.within refl refl q.live q.alike
@@ -40,23 +40,23 @@ module _ (m : Meaning) (side_effects : Head → Option Bool) (counts : KeepsCoun
     taken_one a p w' same = record {
       way = way_more m t0 t (after_merging t a b) root h.way (way_merged m side_effects counts free t a b root w live_now linked_now p w');
       taken = (h.taken.0 ++ record { leader = a; redundant = b } ∷ [], turn_more side_effects root h.taken.0 (record { leader = a; redundant = b }) t0 t h.taken.1 p);
-      tells = (b, h.way.fewer b lives, λ l. merged_gone m side_effects counts free t a b root w live_now linked_now p w' b l refl);
+      accurate = (b, h.way.fewer b lives, λ l. merged_gone m side_effects counts free t a b root w live_now linked_now p w' b l refl);
       ordered = ordered_merged m side_effects counts free t a b root w live_now linked_now p w' ops ends place low refl h.ordered;
-      exact = exact_merged m side_effects counts free t a b root w live_now linked_now p w' t0 ops ends place find find' status low refl h.ordered h.way.fewer (tells_unchanged t0 t status h.tells) same h.exact;
+      exact = exact_merged m side_effects counts free t a b root w live_now linked_now p w' t0 ops ends place find find' status low refl h.ordered h.way.fewer (tells_unchanged t0 t status h.accurate) same h.exact;
     }
       where
         b : ℕ
         b = get_or ops place 0
 
         lives : IsLive t (get_or ops place 0)
-        lives = (w.joined.standing (get_or ops place 0) p.second.block p.second.in_block).0
+        lives = (w.joined.all_in_place (get_or ops place 0) p.second.block p.second.in_block).0
 
     pub taking_next : (t' : Tree) (taken : Bool) → IsTree t' → TakesOrStays side_effects t t' ops ends place taken → LeadsOn side_effects t ops ends place find find' taken → IsTaking m side_effects t0 t' root ops ends (place + 1) find' (status_after status taken)
     taking_next t' true w' (i, q, is) same = subst (λ z. IsTaking m side_effects t0 z root ops ends (place + 1) find' Changed) (sym is) (taken_one (get_or ops i 0) (pair i q) (subst IsTree is w') same)
     taking_next t' false w' is alone = subst (λ z. IsTaking m side_effects t0 z root ops ends (place + 1) find' status) (sym is) (record {
       way = h.way;
       taken = h.taken;
-      tells = h.tells;
+      accurate = h.accurate;
       ordered = ordered_on t root ops ends place h.ordered;
       exact = exact_stays side_effects t0 t root ops ends place find find' status alone h.exact;
     })
@@ -71,4 +71,4 @@ module _ (m : Meaning) (side_effects : Head → Option Bool) (counts : KeepsCoun
     refused_taken t' (inr (i, q, part)) = (h.taken.0, (t, h.taken.1, inr (record { leader = get_or ops i 0; redundant = get_or ops place 0 }, pair i q, part)))
 
   pub taking_end : (t : Tree) (place : ℕ) (find : List ℕ → Option ℕ) (status : IRStatus) → IsTree t → length ops ≤ place → IsTaking m side_effects t0 t root ops ends place find status → LeavesNoRedundancy side_effects t0 t root × ReportsEquivalent side_effects t0 root status
-  taking_end t place find status w all h = exact_end side_effects t0 t w root ops ends place find status all h.ordered (tells_unchanged t0 t status h.tells) h.exact
+  taking_end t place find status w all h = exact_end side_effects t0 t w root ops ends place find status all h.ordered (tells_unchanged t0 t status h.accurate) h.exact

@@ -9,7 +9,7 @@ use Rattle.pliron_laws.specs.Linked.{IsWellLinked}
 use Rattle.pliron_theory.specs.Change.{IsWholeChange}
 use Rattle.pliron_theory.specs.Edges.{KeepsEdges}
 use Rattle.pliron_theory.specs.Rewrites.{HasNoSideEffects}
-use Rattle.pliron_equivalence.specs.Standing.{StandsBefore}
+use Rattle.pliron_equivalence.specs.OperationDominance.{DominatesOperation}
 use Rattle.pliron_equivalence.specs.Redundancy.{AreAlike}
 use Rattle.pliron_equivalence.specs.Merging.{after_merging, AreHandedOver}
 use Rattle.pliron_order.specs.Seen.{IsSeen}
@@ -59,7 +59,7 @@ pub record IsOrdered (t : Tree) (root : ℕ) (ops ends : List ℕ) (place : ℕ)
   pub distinct : IsDistinct ops
   pub each : (k : ℕ) → IsSeen t root k → In k ops
   pub seen : (k : ℕ) → In k ops → IsLive t k → IsSeen t root k
-  pub standing : (i j : ℕ) → i < length ops → j < length ops → IsLive t (get_or ops i 0) → IsLive t (get_or ops j 0) → ((i < j) × (j < get_or ends i 0)) ↔ StandsBefore t (get_or ops i 0) (get_or ops j 0)
+  pub all_in_place : (i j : ℕ) → i < length ops → j < length ops → IsLive t (get_or ops i 0) → IsLive t (get_or ops j 0) → ((i < j) × (j < get_or ends i 0)) ↔ DominatesOperation t (get_or ops i 0) (get_or ops j 0)
   pub left : (j : ℕ) → place ≤ j → j < length ops → IsLive t (get_or ops j 0)
 
 -- the operation at the place was erased as redundant, or nothing changed
@@ -94,7 +94,7 @@ pub record IsExact (side_effects : Head → Option Bool) (t0 t : Tree) (root : �
 pub record IsTaking (m : Meaning) (side_effects : Head → Option Bool) (t0 t : Tree) (root : ℕ) (ops ends : List ℕ) (place : ℕ) (find : List ℕ → Option ℕ) (status : IRStatus) : Type 0 where
   pub way : IsOnWay m t0 t root
   pub taken : (xs : List Pair) × TakeInTurn side_effects root xs t0 t
-  pub tells : ReportsErased t0 t status
+  pub accurate : ReportsErased t0 t status
   pub ordered : IsOrdered t root ops ends place
   pub exact : IsExact side_effects t0 t root ops ends place find status
 

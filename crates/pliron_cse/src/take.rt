@@ -171,7 +171,7 @@ pub fn take_all<D: Dialect, R: Rewriter + Room>(
     ensures taken { (xs : List Pair) × IsTakenSoFar D.side_effects root xs ctx.old.tree ctx.new.tree × OnOk result
         (TakeInTurn D.side_effects root xs ctx.old.tree ctx.new.tree) }
     ensures way { IsOnWay D.meaning ctx.old.tree ctx.new.tree root }
-    ensures tells { IfOk result (λ a. ReportsErased ctx.old.tree ctx.new.tree a) }
+    ensures accurate { IfOk result (λ a. ReportsErased ctx.old.tree ctx.new.tree a) }
     ensures none { IfOk result (λ a. LeavesNoRedundancy D.side_effects ctx.old.tree ctx.new.tree root) }
     ensures status { IfOk result (λ a. ReportsEquivalent D.side_effects ctx.old.tree root a) }
     ensures memory { IsOkUnless result OptError.Memory }

@@ -53,15 +53,15 @@ module _ (t : Tree) (op : ℕ) (w : IsTree t) (none : regions_of t op ≡ []) wh
   no_held b (k, e, inl s) = no_block b (e ∙ ap Some s)
   no_held b (k, e, inr i) = no_inside k i
 
-  told : (b : Bool) → (b ≡ true → ⊥) → b ≡ false
-  told true never = absurd (never refl)
-  told false never = refl
+  reported : (b : Bool) → (b ≡ true → ⊥) → b ≡ false
+  reported true never = absurd (never refl)
+  reported false never = refl
 
   only_itself : (k : ℕ) → op_erased t op k ≡ true → k ≡ op
   only_itself k d = ⊎_elim (λ e. e) (λ i. absurd (no_inside k i)) (within_is t op k d)
 
   block_left : (b : ℕ) → block_erased_with t op b ≡ false
-  block_left b = told _ (λ d. let m = met_above t op (block_parent_operation_of t b) d in no_held b (m.0, m.1, m.2))
+  block_left b = reported _ (λ d. let m = met_above t op (block_parent_operation_of t b) d in no_held b (m.0, m.1, m.2))
 
   module _ (live : IsLive t op) (contained : IsSelfContained t op) (w' : IsTree (after_erasing t op)) (root : ℕ) (edges : EdgesLast t root) (inside : IsInside t root op) (nowhere : (b : ℕ) → In b (successors_of t op) → ⊥) where
     t' : Tree

@@ -83,13 +83,13 @@ module _ (m : Meaning) (can_fold : Head → Bool) (SameTests : Head → Head →
     bare = childless m u now.0 (law.alone (shape_of m u now.0) now.1.admitted (subst (λ z. IsTrue (m.is_branch z)) (sym (shape_head m u now.0)) now.1.branch)).1
 
     stands_now : op_at t' e.user ≡ Some now.0
-    stands_now = op_kept u t' e.user refl refl refl refl ∙ now.1.stands
+    stands_now = op_kept u t' e.user refl refl refl refl ∙ now.1.liveness
 
     width_now : width m t' e ≡ length (m.forwarded (shape_of m u now.0) e.place)
     width_now = ap (count_along m t' e.place) stands_now ∙ ap (λ z. length (m.forwarded z e.place)) (shape_closed m t' u now.0 bare now.1.branch)
 
     width_then : width m t e ≡ length (m.forwarded (shape_of m t b.operation) e.place)
-    width_then = ap (count_along m t e.place) b.stands
+    width_then = ap (count_along m t e.place) b.liveness
 
     pub width_less : slice_get (successors_of t e.user) e.place ≡ Some block → Loses index (width m t e) (width m t' e)
     width_less s =
@@ -114,7 +114,7 @@ module _ (m : Meaning) (can_fold : Head → Bool) (SameTests : Head → Head →
   branch_at k b i held passes =
       let s = leads_inside k b i held in
       let h = some_of (head_of t k) (inside_live t w.joined s).1 in
-      record { operation = operation_of t k h.0; stands = make_op t k h.0 h.1; admitted = admitted_shape m t k (operation_of t k h.0) (make_op t k h.0 h.1) (linked.admitted k (inr s)); branch = passes h.0 h.1 }
+      record { operation = operation_of t k h.0; liveness = make_op t k h.0 h.1; admitted = admitted_shape m t k (operation_of t k h.0) (make_op t k h.0 h.1) (linked.admitted k (inr s)); branch = passes h.0 h.1 }
 
   -- what is a branch stays one, and what is none stays none
   led_after : (b : ℕ) → HoldsBlock t root b → BranchesLead m t b → BranchesLead m t' b

@@ -68,15 +68,15 @@ at_all P (y ∷ ys) h (suc n) x q = at_all P ys h.1 n x q
 apart : (n l : ℕ) → suc n ≡ suc l → n ≡ l
 apart n l q = omega (arith, q)
 
-told : (b : Bool) → (b ≡ true → ⊥) → b ≡ false
-told true n = absurd (n refl)
-told false n = refl
+reported : (b : Bool) → (b ≡ true → ⊥) → b ≡ false
+reported true n = absurd (n refl)
+reported false n = refl
 
 distinct_of : (xs : List Edge) → AreOnce xs → IsDistinct same_edge xs
 unfolding IsDistinct
 distinct_of [] h = tt
 distinct_of (e ∷ xs) h = (
-  all_by (λ f. same_edge e f ≡ false) xs (λ n f q. told (same_edge e f) (λ s.
+  all_by (λ f. same_edge e f ≡ false) xs (λ n f q. reported (same_edge e f) (λ s.
       let y = same_is e.user e.place f.user f.place s in
       let one : f ≡ e = ap₂ (λ a b. record { user = a; place = b }) (sym y.0) (sym y.1) in
       never n (h 0 (suc n) e refl (q ∙ ap Some one)))),

@@ -16,12 +16,12 @@ use Rattle.pliron_dce.specs.Readiness.{HaveNoUse}
 
 -- what was told to have no regions has none
 pub regionless : (t : Tree) (op : ℕ) (had : Bool) → (IsTrue had ↔ IsTrue (has_regions t op)) → IsTrue (not had) → length (regions_of t op) ≡ 0
-regionless t op had told lacks = go (regions_of t op) had told lacks
+regionless t op had reported lacks = go (regions_of t op) had reported lacks
   where
     go : (rs : List ℕ) (had : Bool) → (IsTrue had ↔ IsTrue (has_entries rs)) → IsTrue (not had) → length rs ≡ 0
-    go [] had told lacks = refl
-    go (r ∷ rs) true told lacks = absurd (true≢false (sym lacks))
-    go (r ∷ rs) false told lacks = absurd (true≢false (sym (told.1 refl)))
+    go [] had reported lacks = refl
+    go (r ∷ rs) true reported lacks = absurd (true≢false (sym lacks))
+    go (r ∷ rs) false reported lacks = absurd (true≢false (sym (reported.1 refl)))
 
 module _ (t : Tree) (w : IsTree t) (op : ℕ) (w' : IsTree (after_erasing t op)) (live : IsLive t op) (contained : IsSelfContained t op) (unused : HaveNoUse t op) (few : length (regions_of t op) ≡ 0) where
   none : regions_of t op ≡ []

@@ -19,26 +19,26 @@ use Rattle.pliron_theory.specs.Dropping.{EdgesLose, AreEdgesTo}
 use Rattle.pliron_laws.proofs.Records.{op_shows, operation_of}
 use Rattle.pliron_theory.proofs.Keys.{not_is}
 use Rattle.pliron_laws.proofs.ShapeLemmas.{shape_head}
-use Rattle.pliron_theory.proofs.ShortenedBranches.{Among, lost, shape_operands, SameFrame, same_frame, Steps, Stays, Goes, steps, frame_step, Untouched, untouched, user_live, AreListed, loses_one, branch_less, shape_less, stands_less}
+use Rattle.pliron_theory.proofs.ShortenedBranches.{Among, lost, shape_operands, SameFrame, same_frame, Steps, Stays, Continues, steps, frame_step, Untouched, untouched, user_live, AreListed, loses_one, branch_less, shape_less, stands_less}
 use Rattle.pliron_dce.proofs.PlaceLists.{map_remove, remove_none, pick_moved, in_others, picked_at, picked_none, distinct_remove, distinct_gone, distinct_range, range_in, pick_range}
 
 module _ (m : Meaning) (can_fold : Head → Bool) (SameTests : Head → Head → Type 0) (shortened : Shape → ℕ → ℕ → Head) (law : ForwardsOperands m can_fold SameTests shortened) (tests : (h h' : Head) → SameTests h h' → m.is_branch h' ≡ m.is_branch h) (t : Tree) (w : IsTree t) (block index : ℕ) where
   -- a branch that the dialect admits
   pub record IsBranchAt (k : ℕ) : Type 0 where
     pub operation : Operation
-    pub stands : op_at t k ≡ Some operation
+    pub liveness : op_at t k ≡ Some operation
     pub admitted : Admitted m (shape_of m t operation)
     pub branch : IsTrue (m.is_branch operation.head)
 
   -- the operands are those at these places; the edges in `done` lost the place that they forwarded to the
   -- argument, and each edge forwards the same places otherwise
   pub record PlacesStill (x : Tree) (k : ℕ) (now : Operation) (places done : List ℕ) (u : IsBranchAt k) : Type 0 where
-    pub stands : op_at x k ≡ Some now
+    pub liveness : op_at x k ≡ Some now
     pub admitted : Admitted m (shape_of m x now)
     pub branch : IsTrue (m.is_branch now.head)
     pub lost : (i : ℕ) → In i done → pick (m.forwarded (shape_of m x now) i) places ≡ map Some (remove (m.forwarded (shape_of m t u.operation) i) index)
     pub same : (i : ℕ) → (In i done → ⊥) → pick (m.forwarded (shape_of m x now) i) places ≡ map Some (m.forwarded (shape_of m t u.operation) i)
-    pub gone : (i p : ℕ) → In i done → slice_get (m.forwarded (shape_of m t u.operation) i) index ≡ Some p → In p places → ⊥
+    pub deleted : (i p : ℕ) → In i done → slice_get (m.forwarded (shape_of m t u.operation) i) index ≡ Some p → In p places → ⊥
     pub there : (p : ℕ) → p < length (operands_of t k) → In p places ⊎ ((i : ℕ) × In i done × (slice_get (m.forwarded (shape_of m t u.operation) i) index ≡ Some p))
 
   pub record Placed (x : Tree) (k : ℕ) (rest : List Use) : Type 0 where
@@ -54,12 +54,12 @@ module _ (m : Meaning) (can_fold : Head → Bool) (SameTests : Head → Head →
 
   still_untouched : (x x' : Tree) (k : ℕ) (now : Operation) (places done : List ℕ) (u : IsBranchAt k) → Untouched m can_fold SameTests shortened law tests t w block index x x' k → PlacesStill x k now places done u → PlacesStill x' k now places done u
   still_untouched x x' k now places done u c a = record {
-    stands = c.op ∙ a.stands;
+    liveness = c.op ∙ a.liveness;
     admitted = subst (Admitted m) (sym (c.shape now)) a.admitted;
     branch = a.branch;
     lost = λ i d. ap (λ z. pick (m.forwarded z i) places) (c.shape now) ∙ a.lost i d;
     same = λ i n. ap (λ z. pick (m.forwarded z i) places) (c.shape now) ∙ a.same i n;
-    gone = a.gone;
+    deleted = a.deleted;
     there = a.there;
   }
 
@@ -106,10 +106,10 @@ module _ (m : Meaning) (can_fold : Head → Bool) (SameTests : Head → Head →
       branch_shape = subst (λ z. IsTrue (m.is_branch z)) (sym (shape_head m x o)) a.branch
 
       loses : LosesOperand m SameTests s e.place index p h
-      loses = loses_one m can_fold SameTests shortened law tests t w block index e x l f listed o p a.stands a.admitted a.branch at lt
+      loses = loses_one m can_fold SameTests shortened law tests t w block index e x l f listed o p a.liveness a.admitted a.branch at lt
 
       shape_next : s' ≡ fewer_operands s h
-      shape_next = shape_less m can_fold SameTests shortened law tests t w block index e x l f listed o p a.stands a.admitted a.branch at lt
+      shape_next = shape_less m can_fold SameTests shortened law tests t w block index e x l f listed o p a.liveness a.admitted a.branch at lt
 
       edges_next : (i : ℕ) (b : Bool) → nat_eq i e.place ≡ b → m.forwarded s' i ≡ map (moved_up p) (if b then remove (m.forwarded s i) index else m.forwarded s i)
       edges_next i b q = ap (λ z. m.forwarded z i) shape_next ∙ loses.same_edges i ∙ ap (λ z. map (moved_up p) (if z then remove (m.forwarded s i) index else m.forwarded s i)) q
@@ -144,7 +144,7 @@ module _ (m : Meaning) (can_fold : Head → Bool) (SameTests : Head → Head →
       gone_next i q (inl y) g j =
           let same : q ≡ old.0 = some_is (sym g ∙ ap (λ z. slice_get (m.forwarded s0 z) index) y ∙ old.1) in
           distinct_gone r.places p q r.distinct (old.2 ∙ ap Some (sym same)) j
-      gone_next i q (inr d) g j = a.gone i q d g (in_from-remove q r.places p j)
+      gone_next i q (inr d) g j = a.deleted i q d g (in_from-remove q r.places p j)
 
       there_next : (q : ℕ) → In q r.places ⊎ ((i : ℕ) × In i r.done × (slice_get (m.forwarded s0 i) index ≡ Some q)) → In q (remove r.places p) ⊎ ((i : ℕ) × In i (e.place ∷ r.done) × (slice_get (m.forwarded s0 i) index ≡ Some q))
       there_next q (inl i) = ⊎_elim (λ y. inr (e.place, inl refl, old.1 ∙ ap Some (some_is (sym old.2 ∙ y)))) (λ y. inl y) (in-remove_cases q r.places p i)
@@ -152,12 +152,12 @@ module _ (m : Meaning) (can_fold : Head → Bool) (SameTests : Head → Head →
 
       places_next : PlacesStill next e.user (operation_of next e.user h) (remove r.places p) (e.place ∷ r.done) u
       places_next = record {
-        stands = stands_less m can_fold SameTests shortened law tests t w block index e x l f listed o p a.stands a.admitted a.branch at lt;
+        liveness = stands_less m can_fold SameTests shortened law tests t w block index e x l f listed o p a.liveness a.admitted a.branch at lt;
         admitted = subst (Admitted m) (sym shape_next) loses.admitted;
-        branch = branch_less m can_fold SameTests shortened law tests t w block index e x l f listed o p a.stands a.admitted a.branch at lt;
+        branch = branch_less m can_fold SameTests shortened law tests t w block index e x l f listed o p a.liveness a.admitted a.branch at lt;
         lost = lost_next;
         same = λ i n. pick_other i (λ q. n (inl q)) ∙ a.same i (λ d. n (inr d));
-        gone = gone_next;
+        deleted = gone_next;
         there = λ q lq. there_next q (a.there q lq);
       }
 
@@ -177,12 +177,12 @@ module _ (m : Meaning) (can_fold : Head → Bool) (SameTests : Head → Head →
     -- an edge that has no such place
     still_stays : (u : IsBranchAt e.user) (o : Operation) → PlacesStill x e.user o r.places r.done u → slice_get (m.forwarded (shape_of m x o) e.place) index ≡ None → PlacesStill x e.user o r.places (e.place ∷ r.done) u
     still_stays u o a none = record {
-      stands = a.stands;
+      liveness = a.liveness;
       admitted = a.admitted;
       branch = a.branch;
       lost = lost_same;
       same = λ i n. a.same i (λ d. n (inr d));
-      gone = gone_same;
+      deleted = gone_same;
       there = λ q lq. ⊎_elim (λ y. inl y) (λ y. inr (y.0, inr y.1, y.2)) (a.there q lq);
     }
       where
@@ -195,7 +195,7 @@ module _ (m : Meaning) (can_fold : Head → Bool) (SameTests : Head → Head →
 
         gone_same : (i p : ℕ) → In i (e.place ∷ r.done) → slice_get (m.forwarded (shape_of m t u.operation) i) index ≡ Some p → In p r.places → ⊥
         gone_same i p (inl q) g j = let y : None ≡ Some p = sym none0 ∙ ap (λ z. slice_get (m.forwarded (shape_of m t u.operation) z) index) (sym q) ∙ g in absurd (cc)
-        gone_same i p (inr d) g j = a.gone i p d g j
+        gone_same i p (inr d) g j = a.deleted i p d g j
 
     placed_own : Steps m can_fold SameTests shortened law tests t w block index e x x' → Placed x' e.user rest
     placed_own (Stays none same) = record {
@@ -207,9 +207,9 @@ module _ (m : Meaning) (can_fold : Head → Bool) (SameTests : Head → Head →
       distinct = r.distinct;
       left = ap (λ z. map Some (operands_of z e.user)) same ∙ r.left;
       same = λ q. grind arith;
-      acts = λ u. let a = r.acts u in (a.0, subst (λ z. PlacesStill z e.user a.0 r.places (e.place ∷ r.done) u) (sym same) (still_stays u a.0 a.1 (none a.0 a.1.stands a.1.branch)));
+      acts = λ u. let a = r.acts u in (a.0, subst (λ z. PlacesStill z e.user a.0 r.places (e.place ∷ r.done) u) (sym same) (still_stays u a.0 a.1 (none a.0 a.1.liveness a.1.branch)));
     }
-    placed_own (Goes o p oe at lt same) = record {
+    placed_own (Continues o p oe at lt same) = record {
       done = e.place ∷ r.done;
       sound = own_sound;
       pending = λ i s. own_pending i (r.pending i s);
@@ -220,7 +220,7 @@ module _ (m : Meaning) (can_fold : Head → Bool) (SameTests : Head → Head →
       same = λ q. grind arith;
       acts = λ u.
           let a = r.acts u in
-          let q : a.0 ≡ o = some_is (sym a.1.stands ∙ oe) in
+          let q : a.0 ≡ o = some_is (sym a.1.liveness ∙ oe) in
           (operation_of (lost x e.user p (shortened (shape_of m x o) e.place index)) e.user (shortened (shape_of m x o) e.place index), subst (λ z. PlacesStill z e.user (operation_of (lost x e.user p (shortened (shape_of m x o) e.place index)) e.user (shortened (shape_of m x o) e.place index)) (remove r.places p) (e.place ∷ r.done) u) (sym same) (places_next u o p (subst (λ z. PlacesStill x e.user z r.places r.done u) q a.1) at lt));
     }
       where
@@ -270,12 +270,12 @@ module _ (m : Meaning) (can_fold : Head → Bool) (SameTests : Head → Head →
     acts = λ u. (
       u.operation,
       record {
-        stands = u.stands;
+        liveness = u.liveness;
         admitted = u.admitted;
         branch = u.branch;
         lost = λ i d. absurd d;
-        same = λ i n. pick_range (m.forwarded (shape_of m t u.operation) i) (length (operands_of t k)) (λ p j. subst (λ z. p < z) (shape_operands m t u.operation ∙ ap length (sym (op_shows t k u.operation u.stands).operands)) (law.places (shape_of m t u.operation) u.admitted (subst (λ z. IsTrue (m.is_branch z)) (sym (shape_head m t u.operation)) u.branch) i p j));
-        gone = λ i p d. absurd d;
+        same = λ i n. pick_range (m.forwarded (shape_of m t u.operation) i) (length (operands_of t k)) (λ p j. subst (λ z. p < z) (shape_operands m t u.operation ∙ ap length (sym (op_shows t k u.operation u.liveness).operands)) (law.places (shape_of m t u.operation) u.admitted (subst (λ z. IsTrue (m.is_branch z)) (sym (shape_head m t u.operation)) u.branch) i p j));
+        deleted = λ i p d. absurd d;
         there = λ p lt. inl (range_in 0 (length (operands_of t k)) p (omega arith) (omega (arith, lt)));
       },
     );

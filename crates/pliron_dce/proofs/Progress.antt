@@ -99,7 +99,7 @@ module _ (m : Meaning) (can_fold : Head → Bool) (SameTests : Head → Head →
   step t t' root (Use user place) w w' linked r g = absurd g
 
   abbrev OnWay : Tree → Tree → ℕ → List Item → Type 0
-  OnWay t0 t root gone = IsSweptSoFar m shortened side_effects removable t0 t root gone
+  OnWay t0 t root deleted = IsSweptSoFar m shortened side_effects removable t0 t root deleted
 
   pub on_the_way : (t : Tree) (root : ℕ) → IsLive t root → OnWay t t root []
   on_the_way t root l = record {
@@ -108,7 +108,7 @@ module _ (m : Meaning) (can_fold : Head → Bool) (SameTests : Head → Head →
     keeps = λ chosen. keeps_refl (with_roots m chosen) t;
     inside = inside_refl t root;
     linked = λ r y s. y;
-    stands = l;
+    liveness = l;
     before = λ k y. (y, refl);
     operations_back = λ k d. d;
     arguments_back = λ v d. d;
@@ -126,19 +126,19 @@ module _ (m : Meaning) (can_fold : Head → Bool) (SameTests : Head → Head →
   among_more (z ∷ zs) x y (inl e) = inl (inl e)
   among_more (z ∷ zs) x y (inr i) = ⊎_elim (λ j. inl (inr j)) (λ e. inr e) (among_more zs x y i)
 
-  back_to : (t0 t : Tree) (root : ℕ) (gone : List Item) → OnWay t0 t root gone → (x : Item) → IsReady m side_effects removable t root x → D t0 root x
-  back_to t0 t root gone h (Op k) r = h.operations_back k (ready_dead m side_effects removable t root (Op k) r)
-  back_to t0 t root gone h (Arg v) r = h.arguments_back v (ready_dead m side_effects removable t root (Arg v) r)
-  back_to t0 t root gone h (Use user place) r = absurd r
+  back_to : (t0 t : Tree) (root : ℕ) (deleted : List Item) → OnWay t0 t root deleted → (x : Item) → IsReady m side_effects removable t root x → D t0 root x
+  back_to t0 t root deleted h (Op k) r = h.operations_back k (ready_dead m side_effects removable t root (Op k) r)
+  back_to t0 t root deleted h (Arg v) r = h.arguments_back v (ready_dead m side_effects removable t root (Arg v) r)
+  back_to t0 t root deleted h (Use user place) r = absurd r
 
-  pub one_more : (t0 t t' : Tree) (root : ℕ) (gone : List Item) (x : Item) → IsWellLinked m t0 root → IsTree t → IsTree t' → OnWay t0 t root gone → IsReady m side_effects removable t root x → ErasesItem m shortened t t' x → OnWay t0 t' root (gone ++ x ∷ [])
-  one_more t0 t t' root gone x linked w w' h r g = record {
-    went = turn_more gone x t0 t t' h.went g;
-    dead = λ y i. ⊎_elim (λ j. h.dead y j) (λ e. subst (D t0 root) (sym e) (back_to t0 t root gone h x r)) (among_more gone x y i);
+  pub one_more : (t0 t t' : Tree) (root : ℕ) (deleted : List Item) (x : Item) → IsWellLinked m t0 root → IsTree t → IsTree t' → OnWay t0 t root deleted → IsReady m side_effects removable t root x → ErasesItem m shortened t t' x → OnWay t0 t' root (deleted ++ x ∷ [])
+  one_more t0 t t' root deleted x linked w w' h r g = record {
+    went = turn_more deleted x t0 t t' h.went g;
+    dead = λ y i. ⊎_elim (λ j. h.dead y j) (λ e. subst (D t0 root) (sym e) (back_to t0 t root deleted h x r)) (among_more deleted x y i);
     keeps = λ chosen. keeps_trans (with_roots m chosen) t0 t t' (h.keeps chosen) (s.keeps chosen);
     inside = inside_trans t0 t t' root h.inside s.inside;
     linked = λ q y l. s.linked q (h.linked q y (s.thins.live_before q l)) l;
-    stands = s.root_stands h.stands;
+    liveness = s.root_stands h.liveness;
     before = λ k l. let b = h.before k (s.thins.live_before k l) in (b.0, s.regions k l ∙ b.1);
     operations_back = λ k d. h.operations_back k (back m side_effects removable t t' root s.thins d);
     arguments_back = λ v d. h.arguments_back v (back m side_effects removable t t' root s.thins d);
@@ -147,11 +147,11 @@ module _ (m : Meaning) (can_fold : Head → Bool) (SameTests : Head → Head →
   }
     where
       s : IsStep m side_effects removable t t' root x
-      s = step t t' root x w w' (h.linked root linked h.stands) r g
+      s = step t t' root x w w' (h.linked root linked h.liveness) r g
 
   -- nothing is ready any more
-  pub at_the_end : (t0 t : Tree) (root : ℕ) (gone : List Item) → OnWay t0 t root gone → ((x : Item) → IsReady m side_effects removable t root x → ⊥) → LeavesNoDead m side_effects removable t0 t root
-  at_the_end t0 t root gone h never = record {
+  pub at_the_end : (t0 t : Tree) (root : ℕ) (deleted : List Item) → OnWay t0 t root deleted → ((x : Item) → IsReady m side_effects removable t root x → ⊥) → LeavesNoDead m side_effects removable t0 t root
+  at_the_end t0 t root deleted h never = record {
     operations = λ k d l. no_dead m side_effects removable t root never (h.operations_forth k d l);
     arguments = λ v d l. no_dead m side_effects removable t root never (h.arguments_forth v d l);
     none = λ some. ⊎_elim (λ x. no_dead m side_effects removable t root never x.1) (λ x. no_dead m side_effects removable t root never x.1) some;
@@ -166,13 +166,13 @@ module _ (m : Meaning) (can_fold : Head → Bool) (SameTests : Head → Head →
   not_both : (s : IRStatus) → s ≡ Changed → s ≡ Unchanged → ⊥
   not_both s e f = let q : Changed ≡ Unchanged = sym e ∙ f in absurd (cc)
 
-  pub tells_dead : (t0 t : Tree) (root : ℕ) (gone : List Item) (status : IRStatus) → OnWay t0 t root gone → LeavesNoDead m side_effects removable t0 t root → ReportsErased gone status → ReportsDead m side_effects removable t0 root status
-  tells_dead t0 t root [] status h end told = (λ e. absurd (not_both status e told), λ some. absurd (end.none (subst (λ z. HasDead m side_effects removable z root) (sym h.went) some)))
-  tells_dead t0 t root (x ∷ xs) status h end told = (λ e. some_dead t0 t root x xs h, λ some. told)
+  pub tells_dead : (t0 t : Tree) (root : ℕ) (deleted : List Item) (status : IRStatus) → OnWay t0 t root deleted → LeavesNoDead m side_effects removable t0 t root → ReportsErased deleted status → ReportsDead m side_effects removable t0 root status
+  tells_dead t0 t root [] status h end reported = (λ e. absurd (not_both status e reported), λ some. absurd (end.none (subst (λ z. HasDead m side_effects removable z root) (sym h.went) some)))
+  tells_dead t0 t root (x ∷ xs) status h end reported = (λ e. some_dead t0 t root x xs h, λ some. reported)
 
-  pub tells_same : (t0 t : Tree) (root : ℕ) (gone : List Item) (status : IRStatus) → OnWay t0 t root gone → LeavesNoDead m side_effects removable t0 t root → ReportsErased gone status → (status ≡ Unchanged) ↔ (t ≡ t0)
-  tells_same t0 t root [] status h end told = (λ e. h.went, λ same. told)
-  tells_same t0 t root (x ∷ xs) status h end told = (λ e. absurd (not_both status told e), λ same. absurd (end.none (subst (λ z. HasDead m side_effects removable z root) (sym same) (some_dead t0 t root x xs h))))
+  pub tells_same : (t0 t : Tree) (root : ℕ) (deleted : List Item) (status : IRStatus) → OnWay t0 t root deleted → LeavesNoDead m side_effects removable t0 t root → ReportsErased deleted status → (status ≡ Unchanged) ↔ (t ≡ t0)
+  tells_same t0 t root [] status h end reported = (λ e. h.went, λ same. reported)
+  tells_same t0 t root (x ∷ xs) status h end reported = (λ e. absurd (not_both status reported e), λ same. absurd (end.none (subst (λ z. HasDead m side_effects removable z root) (sym same) (some_dead t0 t root x xs h))))
 
   -- edges stay until an operation with regions goes
   pub edges_more : (t0 t t' : Tree) (root : ℕ) (x : Item) → IsTree t → IsTree t' → IsWellLinked m t root → IsReady m side_effects removable t root x → ErasesItem m shortened t t' x → KeepsEdges t0 t → (HasRegions t x → ⊥) → KeepsEdges t0 t'
@@ -180,15 +180,15 @@ module _ (m : Meaning) (can_fold : Head → Bool) (SameTests : Head → Head →
       let s = step t t' root x w w' linked r g in
       edges_transitive t0 t t' (λ op l0 l. s.thins.live_before op l) kept (s.edges n)
 
-  regions_before : (t0 t t' : Tree) (root : ℕ) (gone : List Item) (x : Item) → OnWay t0 t root gone → ErasesItem m shortened t t' x → HasRegions t x ↔ HasRegions t0 x
-  regions_before t0 t t' root gone (Op k) h g = let e = (h.before k g.0).1 in (λ y. subst (λ z. IsTrue (has_entries z)) e y, λ y. subst (λ z. IsTrue (has_entries z)) (sym e) y)
-  regions_before t0 t t' root gone (Arg v) h g = (λ y. y, λ y. y)
-  regions_before t0 t t' root gone (Use user place) h g = (λ y. y, λ y. y)
+  regions_before : (t0 t t' : Tree) (root : ℕ) (deleted : List Item) (x : Item) → OnWay t0 t root deleted → ErasesItem m shortened t t' x → HasRegions t x ↔ HasRegions t0 x
+  regions_before t0 t t' root deleted (Op k) h g = let e = (h.before k g.0).1 in (λ y. subst (λ z. IsTrue (has_entries z)) e y, λ y. subst (λ z. IsTrue (has_entries z)) (sym e) y)
+  regions_before t0 t t' root deleted (Arg v) h g = (λ y. y, λ y. y)
+  regions_before t0 t t' root deleted (Use user place) h g = (λ y. y, λ y. y)
 
-  pub regions_more : (t0 t t' : Tree) (root : ℕ) (gone : List Item) (x : Item) (old had new : Bool) → OnWay t0 t root gone → ErasesItem m shortened t t' x → IsTrue old ↔ SomeHasRegions t0 gone → IsTrue had ↔ HasRegions t x → IsTrue new ↔ (IsTrue old ⊎ IsTrue had) → IsTrue new ↔ SomeHasRegions t0 (gone ++ x ∷ [])
-  regions_more t0 t t' root gone x old had new h g before here either = (
-    (λ n. ⊎_elim (λ o. let y = before.0 o in (y.0, front gone x y.0 y.1, y.2)) (λ o. (x, last gone x, (regions_before t0 t t' root gone x h g).0 (here.0 o))) (either.0 n)),
-    (λ y. either.1 (⊎_elim (λ i. inl (before.1 (y.0, i, y.2))) (λ e. inr (here.1 ((regions_before t0 t t' root gone x h g).1 (subst (HasRegions t0) e y.2)))) (among_more gone x y.0 y.1))),
+  pub regions_more : (t0 t t' : Tree) (root : ℕ) (deleted : List Item) (x : Item) (old had new : Bool) → OnWay t0 t root deleted → ErasesItem m shortened t t' x → IsTrue old ↔ SomeHasRegions t0 deleted → IsTrue had ↔ HasRegions t x → IsTrue new ↔ (IsTrue old ⊎ IsTrue had) → IsTrue new ↔ SomeHasRegions t0 (deleted ++ x ∷ [])
+  regions_more t0 t t' root deleted x old had new h g before here either = (
+    (λ n. ⊎_elim (λ o. let y = before.0 o in (y.0, front deleted x y.0 y.1, y.2)) (λ o. (x, last deleted x, (regions_before t0 t t' root deleted x h g).0 (here.0 o))) (either.0 n)),
+    (λ y. either.1 (⊎_elim (λ i. inl (before.1 (y.0, i, y.2))) (λ e. inr (here.1 ((regions_before t0 t t' root deleted x h g).1 (subst (HasRegions t0) e y.2)))) (among_more deleted x y.0 y.1))),
   )
     where
       front : (xs : List Item) (x y : Item) → Among y xs → Among y (xs ++ x ∷ [])
@@ -204,9 +204,9 @@ module _ (m : Meaning) (can_fold : Head → Bool) (SameTests : Head → Head →
   pub gone_unready : (t t' : Tree) (root : ℕ) (x : Item) → IsTree t → IsTree t' → IsWellLinked m t root → IsReady m side_effects removable t root x → ErasesItem m shortened t t' x → IsReady m side_effects removable t' root x → ⊥
   gone_unready t t' root (Op k) w w' linked r g r' =
       let live = (inside_live t w.joined r.may.inside).1 in
-      let gone = (erased_gone t k w live (ready_contained m side_effects removable counts free t root w linked k r.may r.none)).operations k (is_within t k k w.joined live (inl refl)) in
-      let stands = some_of (head_of t' k) (inside_live t' w'.joined r'.may.inside).1 in
-      let f : None ≡ Some stands.0 = sym gone ∙ ap (λ z. head_of z k) (sym g.1) ∙ stands.1 in
+      let deleted = (erased_gone t k w live (ready_contained m side_effects removable counts free t root w linked k r.may r.none)).operations k (is_within t k k w.joined live (inl refl)) in
+      let liveness = some_of (head_of t' k) (inside_live t' w'.joined r'.may.inside).1 in
+      let f : None ≡ Some liveness.0 = sym deleted ∙ ap (λ z. head_of z k) (sym g.1) ∙ liveness.1 in
       absurd (cc)
   gone_unready t t' root (Arg v) w w' linked r g r' =
       let s : Some (Argument r.may.block r.may.index) ≡ Some (Argument g.block g.index) = sym (w.joined.arguments r.may.block r.may.index v r.may.argument) ∙ w.joined.arguments g.block g.index v g.argument in

@@ -168,7 +168,7 @@ module _ (m : Meaning) (can_fold : Head → Bool) (SameTests : Head → Head →
 
   -- a branch in the tree before
   branch_at : (k : ℕ) → IsWithin t root k → (h : Head) → head_of t k ≡ Some h → IsTrue (m.is_branch h) → B k
-  branch_at k i h e b = record { operation = operation_of t k h; stands = make_op t k h e; admitted = admitted_shape m t k (operation_of t k h) (make_op t k h e) (linked.admitted k i); branch = b }
+  branch_at k i h e b = record { operation = operation_of t k h; liveness = make_op t k h e; admitted = admitted_shape m t k (operation_of t k h) (make_op t k h e) (linked.admitted k i); branch = b }
 
   user_branch : (k : ℕ) → In block (successors_of t k) → B k
   user_branch k i =
@@ -178,13 +178,13 @@ module _ (m : Meaning) (can_fold : Head → Bool) (SameTests : Head → Head →
 
   -- a branch holds nothing
   no_regions : (k : ℕ) → B k → regions_of t k ≡ []
-  no_regions k b = (op_shows t k b.operation b.stands).regions ∙ childless m t b.operation (law.alone (shape_of m t b.operation) b.admitted (subst (λ z. IsTrue (m.is_branch z)) (sym (shape_head m t b.operation)) b.branch)).1
+  no_regions k b = (op_shows t k b.operation b.liveness).regions ∙ childless m t b.operation (law.alone (shape_of m t b.operation) b.admitted (subst (λ z. IsTrue (m.is_branch z)) (sym (shape_head m t b.operation)) b.branch)).1
 
   -- what has successors ends a block
   ends_t : (k : ℕ) → In block (successors_of t k) → (h : Head) → head_of t k ≡ Some h → IsTrue (m.is_terminator h)
   ends_t k i h e =
       let b = user_branch k i in
-      let s = op_shows t k b.operation b.stands in
+      let s = op_shows t k b.operation b.liveness in
       let many : 0 < length (successors_of t k) = let y = slice_in (successors_of t k) block i in let z = slice_get_within (successors_of t k) y.0 block y.1 in omega (arith, z) in
       subst (λ z. IsTrue (m.is_terminator z)) (shape_head m t b.operation ∙ some_is (sym s.head ∙ e)) (counts.successors (shape_of m t b.operation) b.admitted (subst (λ n. 0 < n) (ap length s.successors ∙ sym (shape_successors m t b.operation)) many))
 
@@ -192,7 +192,7 @@ module _ (m : Meaning) (can_fold : Head → Bool) (SameTests : Head → Head →
   ends_t' k i h e =
       let b = user_branch k i in
       let a = (placed k).acts b in
-      let s = op_shows u k a.0 a.1.stands in
+      let s = op_shows u k a.0 a.1.liveness in
       let many : 0 < length (successors_of u k) = let y = slice_in (successors_of t k) block i in let z = slice_get_within (successors_of t k) y.0 block y.1 in subst (λ q. 0 < length (slice_index_or q k [])) (sym f.successors) (omega (arith, z)) in
       subst (λ z. IsTrue (m.is_terminator z)) (shape_head m u a.0 ∙ some_is (sym s.head ∙ e)) (counts.successors (shape_of m u a.0) a.1.admitted (subst (λ n. 0 < n) (ap length s.successors ∙ sym (shape_successors m u a.0)) many))
 
@@ -300,7 +300,7 @@ module _ (m : Meaning) (can_fold : Head → Bool) (SameTests : Head → Head →
       go b (inl i) = let y = slice_in (kept user) place i in Stands y.0 y.1 (operand_is user place y.0 x y.1 e)
       go b (inr y) = Went (Forwarded v user place is_dead (record {
         operation = b.operation;
-        stands = b.stands;
+        liveness = b.liveness;
         branch = b.branch;
         edge = y.0;
         index = index;
@@ -352,7 +352,7 @@ module _ (m : Meaning) (can_fold : Head → Bool) (SameTests : Head → Head →
     | inl i ↦
         let b = user_branch k i in
         let a = (placed k).acts b in
-        subst (λ z. IsTrue (m.is_branch z)) (some_is (sym (op_shows u k a.0 a.1.stands).head ∙ e)) a.1.branch
+        subst (λ z. IsTrue (m.is_branch z)) (some_is (sym (op_shows u k a.0 a.1.liveness).head ∙ e)) a.1.branch
     | inr n ↦ p h (sym (ap (λ z. z.head) (alone k n).0) ∙ e)
   ]
 
@@ -401,10 +401,10 @@ module _ (m : Meaning) (can_fold : Head → Bool) (SameTests : Head → Head →
       a = (placed k).acts b
 
       same : a.0 ≡ o'
-      same = some_is (sym a.1.stands ∙ op_kept t' u k refl refl refl refl ∙ e)
+      same = some_is (sym a.1.liveness ∙ op_kept t' u k refl refl refl refl ∙ e)
 
       none : a.0.regions ≡ []
-      none = sym (op_shows u k a.0 a.1.stands).regions ∙ f.regions k ∙ no_regions k b
+      none = sym (op_shows u k a.0 a.1.liveness).regions ∙ f.regions k ∙ no_regions k b
 
   -- an edge of a branch inside the root, before and after
   module _ (k : ℕ) (b : B k) (o' : Operation) (e' : op_at t' k ≡ Some o') where
@@ -441,7 +441,7 @@ module _ (m : Meaning) (can_fold : Head → Bool) (SameTests : Head → Head →
     place_forth : (i c j x place place' : ℕ) → slice_get (successors_of t k) i ≡ Some c → slice_get (m.forwarded s0 i) j ≡ Some place → slice_get (arguments_of t c) j ≡ Some x → slice_get (kept k) place' ≡ Some place → (l : ℕ) × (slice_get (m.forwarded s1 i) l ≡ Some place') × (slice_get (arguments_of t' c) l ≡ Some x)
     place_forth i c j x place place' s fw ar kp = elim (cases_eq c block) [
       | inl q ↦ elim (cases_eq j index) [
-        | inl ji ↦ absurd (a.1.gone i place (lost_all k i (s ∙ ap Some q)) (ap (slice_get (m.forwarded s0 i)) (sym ji) ∙ fw) (in_slice (kept k) place' place kp))
+        | inl ji ↦ absurd (a.1.deleted i place (lost_all k i (s ∙ ap Some q)) (ap (slice_get (m.forwarded s0 i)) (sym ji) ∙ fw) (in_slice (kept k) place' place kp))
         | inr nj ↦
             let y = picked_from (m.forwarded s1 i) (kept k) (remove (m.forwarded s0 i) index) (moved_up index j) place (to_block i (s ∙ ap Some q)) (get_moved (m.forwarded s0 i) index j nj ∙ fw) in
             (moved_up index j, y.1 ∙ ap Some (distinct_same (kept k) y.0 place' place (placed k).distinct y.2 kp), ap (λ z. slice_get (arguments_of t' z) (moved_up index j)) q ∙ ap (λ z. slice_get z (moved_up index j)) arguments_there ∙ get_moved (arguments_of t block) index j nj ∙ ap (λ z. slice_get (arguments_of t z) j) (sym q) ∙ ar)
@@ -463,18 +463,18 @@ module _ (m : Meaning) (can_fold : Head → Bool) (SameTests : Head → Head →
       let sb = one_block t' w' h.block g.block h.index g.index x h.argument g.argument in
       let inner : HoldsBlock t root h.block = subst (HoldsBlock t root) (sym sb) (holds_block_back root g.block g.inside) in
       let s : slice_get (successors_of t user) h.edge ≡ Some h.block = ap (λ z. slice_get z h.edge) (sym (same_successors user)) ∙ h.target in
-      let p : HeadPasses m.is_branch t' user = λ y e. subst (λ z. IsTrue (m.is_branch z)) (some_is (sym (op_shows t' user h.operation h.stands).head ∙ e)) h.branch in
+      let p : HeadPasses m.is_branch t' user = λ y e. subst (λ z. IsTrue (m.is_branch z)) (some_is (sym (op_shows t' user h.operation h.liveness).head ∙ e)) h.branch in
       let b = edge_branch user h.edge h.block s inner (branch_back user p) in
-      let y = place_back user b h.operation h.stands h.edge h.block h.index x place place' s h.forwards h.argument kp in
-      record { operation = b.operation; stands = b.stands; branch = b.branch; edge = h.edge; index = y.0; block = h.block; target = s; forwards = y.1; argument = y.2 }
+      let y = place_back user b h.operation h.liveness h.edge h.block h.index x place place' s h.forwards h.argument kp in
+      record { operation = b.operation; liveness = b.liveness; branch = b.branch; edge = h.edge; index = y.0; block = h.block; target = s; forwards = y.1; argument = y.2 }
 
   forwarded_forth : (user place place' x : ℕ) → MayBeRemoved m removable t root x → IsLive t' user → slice_get (kept user) place' ≡ Some place → ForwardsToArgument m t user place x → IsDefined t' x × ForwardsToArgument m t' user place' x
   forwarded_forth user place place' x g live kp h =
       let sb = one_block t w h.block g.block h.index g.index x h.argument g.argument in
       let inner : HoldsBlock t root h.block = subst (HoldsBlock t root) (sym sb) g.inside in
-      let p : HeadPasses m.is_branch t user = λ y e. subst (λ z. IsTrue (m.is_branch z)) (some_is (sym (op_shows t user h.operation h.stands).head ∙ e)) h.branch in
+      let p : HeadPasses m.is_branch t user = λ y e. subst (λ z. IsTrue (m.is_branch z)) (some_is (sym (op_shows t user h.operation h.liveness).head ∙ e)) h.branch in
       let b = edge_branch user h.edge h.block h.target inner p in
-      let so : b.operation ≡ h.operation = some_is (sym b.stands ∙ h.stands) in
+      let so : b.operation ≡ h.operation = some_is (sym b.liveness ∙ h.liveness) in
       let hd = some_of (head_of t' user) live in
       let o' = operation_of t' user hd.0 in
       let e' = make_op t' user hd.0 hd.1 in
@@ -482,7 +482,7 @@ module _ (m : Meaning) (can_fold : Head → Bool) (SameTests : Head → Head →
         subst (IsMadeBy t' x) (sym (w'.joined.arguments h.block y.0 x y.2)) y.2,
         record {
           operation = o';
-          stands = e';
+          liveness = e';
           branch = branch_forth user p hd.0 hd.1;
           edge = h.edge;
           index = y.0;
@@ -572,7 +572,7 @@ module _ (m : Meaning) (can_fold : Head → Bool) (SameTests : Head → Head →
       admitted k i = elim (decide_in block (successors_of t k)) [
         | inl l ↦
             let a = (placed k).acts (user_branch k l) in
-            shape_admitted m t' k a.0 (sym (op_kept t' u k refl refl refl refl) ∙ a.1.stands) (subst (Admitted m) (shape_closed m u t' a.0 (sym (op_shows u k a.0 a.1.stands).regions ∙ f.regions k ∙ no_regions k (user_branch k l)) a.1.branch) a.1.admitted)
+            shape_admitted m t' k a.0 (sym (op_kept t' u k refl refl refl refl) ∙ a.1.liveness) (subst (Admitted m) (shape_closed m u t' a.0 (sym (op_shows u k a.0 a.1.liveness).regions ∙ f.regions k ∙ no_regions k (user_branch k l)) a.1.branch) a.1.admitted)
         | inr n ↦
             let same = alone k n in
             admitted_same m t t' k (ap (λ z. z.head) same.0) (ap length same.1) (ap (λ z. length z.results) same.0) (ap length (same_successors k)) (ap (λ z. length z.regions) same.0) (y.admitted k i)

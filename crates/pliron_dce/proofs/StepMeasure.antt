@@ -22,7 +22,7 @@ arguments_as_many t op None = length-blanked _ [] t.arguments
 arguments_as_many t op (Some b) = length-blanked _ [] t.arguments
 
 pub erased_less : (t : Tree) (op : ℕ) → IsTree t → IsTree (after_erasing t op) → (live : IsLive t op) → IsSelfContained t op → ((k : ℕ) → IsLive (after_erasing t op) k → IsLive t k) → things (after_erasing t op) < things t
-erased_less t op w w' live contained before = fewer_things t (after_erasing t op) (as_many t op w live contained (parent_of t op) refl) (arguments_as_many t op (parent_of t op)) before most (inl (op, live, gone))
+erased_less t op w w' live contained before = fewer_things t (after_erasing t op) (as_many t op w live contained (parent_of t op) refl) (arguments_as_many t op (parent_of t op)) before most (inl (op, live, deleted))
   where
     most : (b : ℕ) → length (arguments_of (after_erasing t op) b) ≤ length (arguments_of t b)
     most b = go (block_erased_with t op b) refl
@@ -31,8 +31,8 @@ erased_less t op w w' live contained before = fewer_things t (after_erasing t op
         go true d = let e = ap length (w'.joined.unplaced b ((erased_gone t op w live contained).blocks b d)).0 in omega (arith, e)
         go false l = let e = ap length ((erased_swept t op w live contained).arguments b l) in omega (arith, e)
 
-    gone : IsLive (after_erasing t op) op → ⊥
-    gone l =
+    deleted : IsLive (after_erasing t op) op → ⊥
+    deleted l =
         let y = some_of (head_of (after_erasing t op) op) l in
         let f : None ≡ Some y.0 = sym ((erased_gone t op w live contained).operations op (is_within t op op w.joined live (inl refl))) ∙ y.1 in
         absurd (cc)

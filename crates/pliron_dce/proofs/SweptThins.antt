@@ -23,12 +23,12 @@ use Rattle.pliron_dce.proofs.Thinned.{IsThinned, Fate, Went, Stands}
 use Rattle.pliron_dce.proofs.PlaceLists.{range_get}
 use Rattle.pliron_dce.proofs.RemovedThins.{inside_live, used_live}
 
-module _ (m : Meaning) (t t' : Tree) (dead dead_block : ℕ → Bool) (w : IsTree t) (w' : IsTree t') (h : IsSwept t t' dead dead_block) (g : AreAway t' dead dead_block) (gone : (k : ℕ) → dead k ≡ true → head_of t' k ≡ None) where
+module _ (m : Meaning) (t t' : Tree) (dead dead_block : ℕ → Bool) (w : IsTree t) (w' : IsTree t') (h : IsSwept t t' dead dead_block) (g : AreAway t' dead dead_block) (deleted : (k : ℕ) → dead k ≡ true → head_of t' k ≡ None) where
   lives : (k : ℕ) → IsLive t' k → dead k ≡ false
   lives k l = go (dead k) refl
     where
       go : (b : Bool) → dead k ≡ b → dead k ≡ false
-      go true d = let e : None ≡ Some (some_of (head_of t' k) l).0 = sym (gone k d) ∙ (some_of (head_of t' k) l).1 in absurd (cc)
+      go true d = let e : None ≡ Some (some_of (head_of t' k) l).0 = sym (deleted k d) ∙ (some_of (head_of t' k) l).1 in absurd (cc)
       go false d = d
 
   head_same : (k : ℕ) → dead k ≡ false → head_of t' k ≡ head_of t k
@@ -149,8 +149,8 @@ module _ (m : Meaning) (t t' : Tree) (dead dead_block : ℕ → Bool) (w : IsTre
     argument_forth : (v : ℕ) → IsDefined t' v → MayBeRemoved m removable t root v → MayBeRemoved m removable t' root v
     argument_forth v d y = go lb
       where
-        standing : dead_block y.block ≡ false
-        standing = made (maker_is t' v d).0 (maker_is t' v d).1 (maker_is t' v d).2
+        all_in_place : dead_block y.block ≡ false
+        all_in_place = made (maker_is t' v d).0 (maker_is t' v d).1 (maker_is t' v d).2
           where
             made : (q : Def) → definition_of t' v ≡ Some q → IsMadeBy t' v (Some q) → dead_block y.block ≡ false
             made (Result k i) e q =
@@ -166,7 +166,7 @@ module _ (m : Meaning) (t t' : Tree) (dead dead_block : ℕ → Bool) (w : IsTre
                 subst (λ z. dead_block z ≡ false) sb l
 
         lb : dead_block y.block ≡ false
-        lb = standing
+        lb = all_in_place
 
         go : dead_block y.block ≡ false → MayBeRemoved m removable t' root v
         go lb =
@@ -187,7 +187,7 @@ module _ (m : Meaning) (t t' : Tree) (dead dead_block : ℕ → Bool) (w : IsTre
       kept = kept;
       live = λ k i. (inside_live t' w'.joined i).1;
       results_same = λ k l. results_same k (lives k l);
-      made_forth = λ k v user l i j n. let lv = maker_lives k v user (lives k l) i j n in (standing v user i lv, subst (IsDefiningOperationInside t' k) (sym (made_same t t' dead dead_block w w' h v (w.joined.operands user v i) lv)) (made_forth t t' dead dead_block w w' h k (definition_of t v) lv j));
+      made_forth = λ k v user l i j n. let lv = maker_lives k v user (lives k l) i j n in (all_in_place v user i lv, subst (IsDefiningOperationInside t' k) (sym (made_same t t' dead dead_block w w' h v (w.joined.operands user v i) lv)) (made_forth t t' dead dead_block w w' h k (definition_of t v) lv j));
       live_before = λ k l. subst (λ z. IsSome z.head) (h.rows k (lives k l)) l;
       defined_before = λ v d. let y = maker_is t' v d in defined_back v y.0 y.2;
       within_back = within_back t t' dead dead_block w w' h g;
@@ -216,8 +216,8 @@ module _ (m : Meaning) (t t' : Tree) (dead dead_block : ℕ → Bool) (w : IsTre
             go true e true q = absurd (n (apart k v user l j e q))
             go true e false q = h.values user v q i
 
-        standing : (v user : ℕ) → In v (operands_of t user) → is_maker_dead dead dead_block (definition_of t v) ≡ false → IsDefined t' v
-        standing v user i l = let y = maker_is t v (w.joined.operands user v i) in go y.0 y.1 y.2 (subst (λ z. is_maker_dead dead dead_block z ≡ false) y.1 l)
+        all_in_place : (v user : ℕ) → In v (operands_of t user) → is_maker_dead dead dead_block (definition_of t v) ≡ false → IsDefined t' v
+        all_in_place v user i l = let y = maker_is t v (w.joined.operands user v i) in go y.0 y.1 y.2 (subst (λ z. is_maker_dead dead dead_block z ≡ false) y.1 l)
           where
             go : (q : Def) → definition_of t v ≡ Some q → IsMadeBy t v (Some q) → is_maker_dead dead dead_block (Some q) ≡ false → IsDefined t' v
             go (Result p n) e s lp =
@@ -271,17 +271,17 @@ module _ (m : Meaning) (t t' : Tree) (dead dead_block : ℕ → Bool) (w : IsTre
         forwarded_back : (user place place' v : ℕ) → MayBeRemoved m removable t' root v → slice_get (kept user) place' ≡ Some place → ForwardsToArgument m t' user place' v → ForwardsToArgument m t user place v
         forwarded_back user place place' v y e f =
             let lk = jumper_lives t t' dead dead_block w w' h g user f.block (in_slice (successors_of t' user) f.edge f.block f.target) in
-            let stands : op_at t user ≡ Some f.operation = sym (op_same t t' dead dead_block w w' h user lk) ∙ f.stands in
+            let liveness : op_at t user ≡ Some f.operation = sym (op_same t t' dead dead_block w w' h user lk) ∙ f.liveness in
             let lb = block_left f.block f.index v f.argument in
             record {
               operation = f.operation;
-              stands = stands;
+              liveness = liveness;
               branch = f.branch;
               edge = f.edge;
               index = f.index;
               block = f.block;
               target = ap (λ z. slice_get z f.edge) (sym (h.successors user lk)) ∙ f.target;
-              forwards = ap (λ z. slice_get (m.forwarded z f.edge) f.index) (shape_swept t t' dead dead_block w w' h m user f.operation lk stands) ∙ f.forwards ∙ ap Some (sym (same_place user place place' e));
+              forwards = ap (λ z. slice_get (m.forwarded z f.edge) f.index) (shape_swept t t' dead dead_block w w' h m user f.operation lk liveness) ∙ f.forwards ∙ ap Some (sym (same_place user place place' e));
               argument = ap (λ z. slice_get z f.index) (sym (h.arguments f.block lb)) ∙ f.argument;
             }
 
@@ -293,13 +293,13 @@ module _ (m : Meaning) (t t' : Tree) (dead dead_block : ℕ → Bool) (w : IsTre
               subst (IsMadeBy t' v) (sym (w'.joined.arguments f.block f.index v there)) there,
               record {
                 operation = f.operation;
-                stands = op_same t t' dead dead_block w w' h user lk ∙ f.stands;
+                liveness = op_same t t' dead dead_block w w' h user lk ∙ f.liveness;
                 branch = f.branch;
                 edge = f.edge;
                 index = f.index;
                 block = f.block;
                 target = ap (λ z. slice_get z f.edge) (h.successors user lk) ∙ f.target;
-                forwards = ap (λ z. slice_get (m.forwarded z f.edge) f.index) (sym (shape_swept t t' dead dead_block w w' h m user f.operation lk f.stands)) ∙ f.forwards ∙ ap Some (same_place user place place' e);
+                forwards = ap (λ z. slice_get (m.forwarded z f.edge) f.index) (sym (shape_swept t t' dead dead_block w w' h m user f.operation lk f.liveness)) ∙ f.forwards ∙ ap Some (same_place user place place' e);
                 argument = there;
               },
             )

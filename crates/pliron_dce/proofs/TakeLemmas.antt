@@ -165,21 +165,21 @@ module _ (m : Meaning) (can_fold : Head → Bool) (SameTests : Head → Head →
     removes = record { block = block; index = index; argument = argument; edges = edges; complete = to; between = u; lose = lose; removed = refl }
 
     used_at : (used : List ℕ) → AreForwardedTo m t index edges used → (i p x : ℕ) (e : Edge) (o : Operation) → slice_get edges i ≡ Some e → op_at t e.user ≡ Some o → slice_get (m.forwarded (shape_of m t o) e.place) index ≡ Some p → slice_get (operands_of t e.user) p ≡ Some x → In x used
-    used_at used tells i p x e o q oe fw op = ⊎_elim
+    used_at used accurate i p x e o q oe fw op = ⊎_elim
         (λ l.
         let v = at_place used i l in
-        let y = picked_some (m.forwarded (shape_of m t o) e.place) o.operands index v.0 (tells.first i v.0 e v.1 q o oe) in
+        let y = picked_some (m.forwarded (shape_of m t o) e.place) o.operands index v.0 (accurate.first i v.0 e v.1 q o oe) in
         let place : p ≡ y.0 = some_is (sym fw ∙ y.1) in
         let same : x ≡ v.0 = some_is (sym op ∙ ap (slice_get (operands_of t e.user)) place ∙ ap (λ z. slice_get z y.0) (op_shows t e.user o oe).operands ∙ y.2) in
         subst (λ z. In z used) (sym same) (in_slice used i v.0 v.1))
         (λ l.
-        let few : length (m.forwarded (shape_of m t o) e.place) ≤ index = subst (λ z. z ≤ index) (ap (count_along m t e.place) oe) (tells.none i e l q) in
+        let few : length (m.forwarded (shape_of m t o) e.place) ≤ index = subst (λ z. z ≤ index) (ap (count_along m t e.place) oe) (accurate.none i e l q) in
         let many = slice_get_within (m.forwarded (shape_of m t o) e.place) index p fw in
         absurd (omega (arith, few, many)))
         (cases_lt i (length used))
 
     pub noted : (used : List ℕ) → AreForwardedTo m t index edges used → AreRecorded t (argument_removed u block index) used
-    noted used tells user x i = elim (decide_in block (successors_of t user)) [
+    noted used accurate user x i = elim (decide_in block (successors_of t user)) [
       | inl j ↦ own j
       | inr n ↦ inr (subst (In x) (sym ((placed user).same (none_lost m can_fold SameTests shortened law tests t w block index edges to u lose user n)).1) i)
     ]
@@ -189,7 +189,7 @@ module _ (m : Meaning) (can_fold : Head → Bool) (SameTests : Head → Head →
             let l = some_of (head_of t user) (user_live m can_fold SameTests shortened law tests t w block index user (slice_in (successors_of t user) block j).0 (slice_in (successors_of t user) block j).1) in
             let o = operation_of t user l.0 in
             let oe = make_op t user l.0 l.1 in
-            let b : IsBranchAt m can_fold SameTests shortened law tests t w block index user = record { operation = o; stands = oe; admitted = admitted_shape m t user o oe (linked.admitted user (inr (inside user j))); branch = branches user j l.0 l.1 } in
+            let b : IsBranchAt m can_fold SameTests shortened law tests t w block index user = record { operation = o; liveness = oe; admitted = admitted_shape m t user o oe (linked.admitted user (inr (inside user j))); branch = branches user j l.0 l.1 } in
             let a = (placed user).acts b in
             let p = slice_in (operands_of t user) x i in
             ⊎_elim
@@ -199,7 +199,7 @@ module _ (m : Meaning) (can_fold : Head → Bool) (SameTests : Head → Head →
             inr (in_slice (operands_of u user) y.0 x (z.1 ∙ sym z.2 ∙ p.1)))
             (λ q.
             let n = to.complete user q.0 ((placed user).sound q.0 q.1) in
-            inl (used_at used tells n.0 p.0 x (record { user = user; place = q.0 }) o n.1 oe q.2 p.1))
+            inl (used_at used accurate n.0 p.0 x (record { user = user; place = q.0 }) o n.1 oe q.2 p.1))
             (a.1.there p.0 (slice_get_within (operands_of t user) p.0 x p.1))
 
 pub argument_at : (t : Tree) (block index : ℕ) → index < length (arguments_of t block) → (v : ℕ) × (slice_get (arguments_of t block) index ≡ Some v)

@@ -160,10 +160,10 @@ looked_more t v values i old mid new before at more kept round makers arguments 
 
 -- a value that stands no more needs no look
 pub looked_past : (t : Tree) (v : ℕ) (values : List ℕ) (i : ℕ) (items : List Item) → AreRevisited t (take i values) items → slice_get values i ≡ Some v → (IsDefined t v → ⊥) → AreRevisited t (take (i + 1) values) items
-looked_past t v values i items before at gone = record {
-  makers = λ u k n j d e. ⊎_elim (λ y. before.makers u k n y d e) (λ s. absurd (gone (subst (IsDefined t) s d))) (was u j);
-  arguments = λ u b n j d e. ⊎_elim (λ y. before.arguments u b n y d e) (λ s. absurd (gone (subst (IsDefined t) s d))) (was u j);
-  around = λ u k j d m. ⊎_elim (λ y. before.around u k y d m) (λ s. absurd (gone (subst (IsDefined t) s d))) (was u j);
+looked_past t v values i items before at deleted = record {
+  makers = λ u k n j d e. ⊎_elim (λ y. before.makers u k n y d e) (λ s. absurd (deleted (subst (IsDefined t) s d))) (was u j);
+  arguments = λ u b n j d e. ⊎_elim (λ y. before.arguments u b n y d e) (λ s. absurd (deleted (subst (IsDefined t) s d))) (was u j);
+  around = λ u k j d m. ⊎_elim (λ y. before.around u k y d m) (λ s. absurd (deleted (subst (IsDefined t) s d))) (was u j);
 }
   where
     in_split : (u : ℕ) (xs : List ℕ) → In u (xs ++ v ∷ []) → In u xs ⊎ (u ≡ v)

@@ -48,7 +48,7 @@ pub data KeepsAlive (t : Tree) (k user place : ℕ) : Type 0 where
 -- the operand at this place is what an edge of the branch forwards to the argument
 pub record ForwardsToArgument (m : Meaning) (t : Tree) (user place v : ℕ) : Type 0 where
   pub operation : Operation
-  pub stands : op_at t user ≡ Some operation
+  pub liveness : op_at t user ≡ Some operation
   pub branch : IsTrue (m.is_branch operation.head)
   pub edge : ℕ
   pub index : ℕ

@@ -16,10 +16,10 @@ pub record ReadyLaws (m : Meaning) (side_effects : Head → Option Bool) (remova
 
 -- ready candidates are erased in turn: each step keeps what holds on the way, and at the end none of the dead
 -- is live
-pub record GoingLaws (m : Meaning) (shortened : Shape → ℕ → ℕ → Head) (side_effects : Head → Option Bool) (removable : Head → ℕ → Bool → Option Bool) : Type 0 where
+pub record ErasingLaws (m : Meaning) (shortened : Shape → ℕ → ℕ → Head) (side_effects : Head → Option Bool) (removable : Head → ℕ → Bool → Option Bool) : Type 0 where
   pub start : (t : Tree) (root : ℕ) → IsLive t root → IsSweptSoFar m shortened side_effects removable t t root []
-  pub more : (t0 t t' : Tree) (root : ℕ) (gone : List Item) (x : Item) → IsWellLinked m t0 root → IsTree t → IsTree t' → IsSweptSoFar m shortened side_effects removable t0 t root gone → IsReady m side_effects removable t root x → ErasesItem m shortened t t' x → IsSweptSoFar m shortened side_effects removable t0 t' root (gone ++ x ∷ [])
-  pub done : (t0 t : Tree) (root : ℕ) (gone : List Item) → IsSweptSoFar m shortened side_effects removable t0 t root gone → ((x : Item) → IsReady m side_effects removable t root x → ⊥) → LeavesNoDead m side_effects removable t0 t root
+  pub more : (t0 t t' : Tree) (root : ℕ) (deleted : List Item) (x : Item) → IsWellLinked m t0 root → IsTree t → IsTree t' → IsSweptSoFar m shortened side_effects removable t0 t root deleted → IsReady m side_effects removable t root x → ErasesItem m shortened t t' x → IsSweptSoFar m shortened side_effects removable t0 t' root (deleted ++ x ∷ [])
+  pub done : (t0 t : Tree) (root : ℕ) (deleted : List Item) → IsSweptSoFar m shortened side_effects removable t0 t root deleted → ((x : Item) → IsReady m side_effects removable t root x → ⊥) → LeavesNoDead m side_effects removable t0 t root
 
 -- what is ready after a whole rewrite was ready before it, or is on the worklist
 abbrev pub PendingLaw : Meaning → (Shape → ℕ → ℕ → Head) → (Head → Option Bool) → (Head → ℕ → Bool → Option Bool) → Type 0

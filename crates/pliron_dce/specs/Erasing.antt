@@ -39,7 +39,7 @@ EraseInTurn m shortened (x ∷ xs) t t' = (u : Tree) × ErasesItem m shortened t
 
 -- these are dead
 abbrev pub AreDeadItems : Meaning → (Head → Option Bool) → (Head → ℕ → Bool → Option Bool) → Tree → ℕ → List Item → Type 0
-AreDeadItems m side_effects removable t root gone = (x : Item) → Among x gone → IsDead m side_effects removable t root x
+AreDeadItems m side_effects removable t root deleted = (x : Item) → Among x deleted → IsDead m side_effects removable t root x
 
 -- some operation or argument is dead
 abbrev pub HasDead : Meaning → (Head → Option Bool) → (Head → ℕ → Bool → Option Bool) → Tree → ℕ → Type 0
@@ -68,18 +68,18 @@ HasRegions t (Use user place) = ⊥
 
 -- an operation with regions is among these
 abbrev pub SomeHasRegions : Tree → List Item → Type 0
-SomeHasRegions t gone = (x : Item) × Among x gone × HasRegions t x
+SomeHasRegions t deleted = (x : Item) × Among x deleted × HasRegions t x
 
 -- what holds on the way from the tree t0: dead operations and arguments of t0 were erased in turn, the runs of
 -- all roots are kept, links stay, only what is inside the root changed, and what is dead is what was dead in t0
 -- and is still live
-pub record IsSweptSoFar (m : Meaning) (shortened : Shape → ℕ → ℕ → Head) (side_effects : Head → Option Bool) (removable : Head → ℕ → Bool → Option Bool) (t0 t : Tree) (root : ℕ) (gone : List Item) : Type 0 where
-  pub went : EraseInTurn m shortened gone t0 t
-  pub dead : (x : Item) → Among x gone → IsDead m side_effects removable t0 root x
+pub record IsSweptSoFar (m : Meaning) (shortened : Shape → ℕ → ℕ → Head) (side_effects : Head → Option Bool) (removable : Head → ℕ → Bool → Option Bool) (t0 t : Tree) (root : ℕ) (deleted : List Item) : Type 0 where
+  pub went : EraseInTurn m shortened deleted t0 t
+  pub dead : (x : Item) → Among x deleted → IsDead m side_effects removable t0 root x
   pub keeps : KeepsAllRuns m t0 t
   pub inside : IsInsideChange t0 t root
   pub linked : (r : ℕ) → IsWellLinked m t0 r → IsLive t r → IsWellLinked m t r
-  pub stands : IsLive t root
+  pub liveness : IsLive t root
   pub before : (k : ℕ) → IsLive t k → IsLive t0 k × (regions_of t k ≡ regions_of t0 k)
   pub operations_back : (k : ℕ) → IsDead m side_effects removable t root (Op k) → IsDead m side_effects removable t0 root (Op k)
   pub arguments_back : (v : ℕ) → IsDead m side_effects removable t root (Arg v) → IsDead m side_effects removable t0 root (Arg v)

@@ -40,7 +40,7 @@ impl AroundSet {
         ensures { IsTrue result → In op self.now.ops.items }
     {
         match self.places.get(op.key() as usize) {
-            Some(place) => stands_at(&self.ops, *place, op),
+            Some(place) => is_op_at(&self.ops, *place, op),
             None => false,
         }
     }
@@ -70,7 +70,7 @@ impl AroundSet {
 
 // Whether the operation is at this place.
 #[inline(always)]
-fn stands_at(ops: &[Ptr<Operation>], place: usize, op: Ptr<Operation>) -> bool
+fn is_op_at(ops: &[Ptr<Operation>], place: usize, op: Ptr<Operation>) -> bool
     ensures { IsTrue result → In op ops.now }
 {
     if place < ops.len() {

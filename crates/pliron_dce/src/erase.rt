@@ -98,7 +98,7 @@ pub(crate) fn erase_dead_operation<D: Dialect>(
 ) -> Result<(), OptError>
     requires linked { IsWellLinked D.meaning ctx.old.tree root }
     requires ready { IsReadyOperation D.meaning D.side_effects ctx.old.tree root op }
-    ensures gone { OnOk result (ctx.new.tree ≡ after_erasing ctx.old.tree op) }
+    ensures deleted { OnOk result (ctx.new.tree ≡ after_erasing ctx.old.tree op) }
     ensures noted { OnOk result (AreRecorded ctx.old.tree ctx.new.tree used.new.items) }
     ensures live { OnOk result (length (regions_of ctx.old.tree op) ≡ 0 → (v : ℕ) → In v used.new.items → IsDefined
         ctx.new.tree v) }
@@ -174,7 +174,7 @@ pub(crate) fn erase_dead_argument<D: Dialect>(
     requires block { IsBlock ctx.old.tree block }
     requires index { index < length (arguments_of ctx.old.tree block) }
     requires edges { AreIncoming D.meaning ctx.old.tree block (edges_of edges.now) }
-    ensures gone { IfOk result (λ used. (v : ℕ) → slice_get (arguments_of ctx.old.tree block) index ≡ Some v →
+    ensures deleted { IfOk result (λ used. (v : ℕ) → slice_get (arguments_of ctx.old.tree block) index ≡ Some v →
         Removes D.meaning D.shortened ctx.old.tree ctx.new.tree v) }
     ensures noted { IfOk result (λ used. AreRecorded ctx.old.tree ctx.new.tree used.items) }
     ensures refused { OnErr result (ctx.new ≡ ctx.old) }

@@ -26,7 +26,7 @@ ghost use Rattle.pliron_core.specs.declared.attrs.IRStatus.TheVariants.{Unchange
 ghost use Rattle.pliron_theory.specs.Change.{IsWholeChange};
 ghost use Rattle.pliron_theory.specs.Edges.{KeepsEdges};
 ghost use Rattle.pliron_laws.specs.Linked.{IsWellLinked};
-ghost use Rattle.pliron_dce.specs.DeadLaws.{ReadyLaws, GoingLaws, PendingLaw};
+ghost use Rattle.pliron_dce.specs.DeadLaws.{ReadyLaws, ErasingLaws, PendingLaw};
 ghost use Rattle.pliron_dce.specs.Dead.{Item};
 ghost use Rattle.pliron_dce.specs.Erasing.{EraseInTurn, AreDeadItems, LeavesNoDead, ReportsDead, SomeHasRegions};
 
@@ -57,7 +57,7 @@ pub fn ready_is_dead<D: Dialect>()
 /// Ready candidates are erased in turn: each step keeps all runs and links, and at the end exactly the dead are
 /// erased.
 pub fn ready_items_are_erased<D: Dialect>()
-    ensures { GoingLaws D.meaning D.shortened D.side_effects D.removable }
+    ensures { ErasingLaws D.meaning D.shortened D.side_effects D.removable }
 {}
 
 /// What is ready after a whole rewrite was ready before it, or is on the worklist.
@@ -100,11 +100,11 @@ pub fn dce<D: Dialect>(
     requires live { IsLive ctx.old.tree op }
     requires linked { IsWellLinked D.meaning ctx.old.tree op }
     ensures change { IsWholeChange D.meaning ctx.old.tree ctx.new.tree op }
-    ensures gone { (gone : List Item) × EraseInTurn D.meaning D.shortened gone ctx.old.tree ctx.new.tree ×
-        AreDeadItems D.meaning D.side_effects D.removable ctx.old.tree op gone }
+    ensures deleted { (deleted : List Item) × EraseInTurn D.meaning D.shortened deleted ctx.old.tree ctx.new.tree ×
+        AreDeadItems D.meaning D.side_effects D.removable ctx.old.tree op deleted }
     ensures none { IfOk result (λ a. LeavesNoDead D.meaning D.side_effects D.removable ctx.old.tree ctx.new.tree op) }
     ensures status { IfOk result (λ a. ReportsDead D.meaning D.side_effects D.removable ctx.old.tree op a) }
-    ensures tells { IfOk result (λ a. (a ≡ Unchanged) ↔ (ctx.new.tree ≡ ctx.old.tree)) }
+    ensures accurate { IfOk result (λ a. (a ≡ Unchanged) ↔ (ctx.new.tree ≡ ctx.old.tree)) }
     ensures links { (root : ℕ) → IsWellLinked D.meaning ctx.old.tree root → IsLive ctx.new.tree root
         → IsWellLinked D.meaning ctx.new.tree root }
     ensures memory { IsOkUnless result OptError.Memory }
@@ -126,12 +126,12 @@ pub fn dce_with_regions<D: Dialect>(
     requires live { IsLive ctx.old.tree op }
     requires linked { IsWellLinked D.meaning ctx.old.tree op }
     ensures change { IsWholeChange D.meaning ctx.old.tree ctx.new.tree op }
-    ensures gone { (gone : List Item) × EraseInTurn D.meaning D.shortened gone ctx.old.tree ctx.new.tree
-        × AreDeadItems D.meaning D.side_effects D.removable ctx.old.tree op gone × IfOk result
-        (λ a. IsTrue a.1 ↔ SomeHasRegions ctx.old.tree gone) }
+    ensures deleted { (deleted : List Item) × EraseInTurn D.meaning D.shortened deleted ctx.old.tree ctx.new.tree
+        × AreDeadItems D.meaning D.side_effects D.removable ctx.old.tree op deleted × IfOk result
+        (λ a. IsTrue a.1 ↔ SomeHasRegions ctx.old.tree deleted) }
     ensures none { IfOk result (λ a. LeavesNoDead D.meaning D.side_effects D.removable ctx.old.tree ctx.new.tree op) }
     ensures status { IfOk result (λ a. ReportsDead D.meaning D.side_effects D.removable ctx.old.tree op a.0) }
-    ensures tells { IfOk result (λ a. (a.0 ≡ Unchanged) ↔ (ctx.new.tree ≡ ctx.old.tree)) }
+    ensures accurate { IfOk result (λ a. (a.0 ≡ Unchanged) ↔ (ctx.new.tree ≡ ctx.old.tree)) }
     ensures edges { IfOk result (λ a. (IsTrue a.1 → ⊥) → KeepsEdges ctx.old.tree ctx.new.tree) }
     ensures links { (root : ℕ) → IsWellLinked D.meaning ctx.old.tree root → IsLive ctx.new.tree root
         → IsWellLinked D.meaning ctx.new.tree root }

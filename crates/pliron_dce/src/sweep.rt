@@ -106,9 +106,9 @@ fn erase_all_dead<D: Dialect>(
     requires closed { AreClosed ctx.old.tree state.old.worklist.around.ops.items }
     requires known { AreKnown D.meaning ctx.old.tree root (λ b. list_of state.old.incoming b) }
     requires marked { AreMarked D.meaning ctx.old.tree root (λ b. mark_of predecessors.now b) }
-    ensures gone { (gone : List Item) × IsSweptSoFar D.meaning D.shortened D.side_effects D.removable ctx.old.tree
-        ctx.new.tree root gone × IfOk result (λ a. LeavesNoDead D.meaning D.side_effects D.removable ctx.old.tree
-        ctx.new.tree root × ReportsErased gone a.0 × (IsTrue a.1 ↔ SomeHasRegions ctx.old.tree gone)) }
+    ensures deleted { (deleted : List Item) × IsSweptSoFar D.meaning D.shortened D.side_effects D.removable ctx.old.tree
+        ctx.new.tree root deleted × IfOk result (λ a. LeavesNoDead D.meaning D.side_effects D.removable ctx.old.tree
+        ctx.new.tree root × ReportsErased deleted a.0 × (IsTrue a.1 ↔ SomeHasRegions ctx.old.tree deleted)) }
     ensures edges { IfOk result (λ a. (IsTrue a.1 → ⊥) → KeepsEdges ctx.old.tree ctx.new.tree) }
     ensures memory { IsOkUnless result OptError.Memory }
 {
@@ -139,9 +139,9 @@ pub(crate) fn sweep<D: Dialect>(
     requires linked { IsWellLinked D.meaning ctx.old.tree root }
     requires all { HasReady D.meaning D.side_effects D.removable ctx.old.tree root candidates.items }
     requires marked { AreMarked D.meaning ctx.old.tree root (λ b. mark_of predecessors.now b) }
-    ensures gone { (gone : List Item) × IsSweptSoFar D.meaning D.shortened D.side_effects D.removable ctx.old.tree
-        ctx.new.tree root gone × IfOk result (λ a. LeavesNoDead D.meaning D.side_effects D.removable ctx.old.tree
-        ctx.new.tree root × ReportsErased gone a.0 × (IsTrue a.1 ↔ SomeHasRegions ctx.old.tree gone)) }
+    ensures deleted { (deleted : List Item) × IsSweptSoFar D.meaning D.shortened D.side_effects D.removable ctx.old.tree
+        ctx.new.tree root deleted × IfOk result (λ a. LeavesNoDead D.meaning D.side_effects D.removable ctx.old.tree
+        ctx.new.tree root × ReportsErased deleted a.0 × (IsTrue a.1 ↔ SomeHasRegions ctx.old.tree deleted)) }
     ensures edges { IfOk result (λ a. (IsTrue a.1 → ⊥) → KeepsEdges ctx.old.tree ctx.new.tree) }
     ensures memory { IsOkUnless result OptError.Memory }
 {

@@ -360,7 +360,8 @@ pub(crate) fn note(
     requires closed { AreClosed ctx.now.tree worklist.old.around.ops.items }
     ensures kept { OnOk result ((x : Item) → Among x (items_of (pending_candidates worklist.old)) → Among x
         (items_of (pending_candidates worklist.new))) }
-    ensures looked { OnOk result (AreRevisited ctx.now.tree used.now (items_of (pending_candidates worklist.new))) }
+    ensures was_visited { OnOk result (AreRevisited ctx.now.tree used.now
+        (items_of (pending_candidates worklist.new))) }
     ensures closed { OnOk result (AreClosed ctx.now.tree worklist.new.around.ops.items) }
 {
     for value in used {

@@ -21,7 +21,7 @@ pub fn text_fault(alloc: Global, name: &str, text: &[u8]) -> Result<Option<Strin
     let label = label_of(alloc, text, &fault)?;
     let mark = SourceMark {
         message: "unreadable text",
-        label: label.told.as_str(),
+        label: label.reported.as_str(),
         name,
         start: label.span.start,
         len: label.span.len,

@@ -169,7 +169,7 @@ fn write_open(
     form: MessageForm,
 ) -> Result<(), AllocError> {
     match open {
-        Some(told) => told.write(text, form),
+        Some(reported) => reported.write(text, form),
         None => Ok(()),
     }
 }
@@ -192,13 +192,13 @@ pub fn in_form(alloc: Global, report: &str, form: MessageForm) -> Result<String,
             open = Some(Message::new(severity, message));
             continue;
         }
-        let mut told = open;
-        let is_taken = match &mut told {
-            Some(told) => told.take(line),
+        let mut reported = open;
+        let is_taken = match &mut reported {
+            Some(reported) => reported.take(line),
             None => false,
         };
         if is_taken {
-            open = told;
+            open = reported;
         } else {
             write_open(open, &mut text, form)?;
             open = None;

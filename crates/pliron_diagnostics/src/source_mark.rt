@@ -71,14 +71,14 @@ fn shown_char(byte: u8) -> char {
 /// Writes so many bytes of the text from a place on, as they are shown. Errors: allocation failure. Cost: linear in
 /// these.
 pub fn push_bytes(
-    told: &mut String,
+    reported: &mut String,
     text: &[u8],
     start: usize,
     len: usize,
 ) -> Result<(), AllocError> {
     let start = start.min(text.len());
     for byte in text[start..].iter().take(len) {
-        told.push(shown_char(*byte))?;
+        reported.push(shown_char(*byte))?;
     }
     Ok(())
 }
@@ -140,28 +140,32 @@ pub fn mark_source_as(
         .saturating_add(mark.len.max(1))
         .saturating_add(AROUND)
         .min(line.len());
-    let mut told = format!(in alloc; "{severity}: {}\n", mark.message)?;
+    let mut reported = format!(in alloc; "{severity}: {}\n", mark.message)?;
     let number = format!(in alloc; "{}", place.line)?;
-    push_times(&mut told, " ", number.len())?;
-    write!(told, "--> {}:{}:{}\n", mark.name, place.line, place.column)?;
-    push_times(&mut told, " ", number.len())?;
-    write!(told, " |\n{number} | ")?;
-    told.push_str(if from > 0 { ".. " } else { "" })?;
+    push_times(&mut reported, " ", number.len())?;
+    write!(
+        reported,
+        "--> {}:{}:{}\n",
+        mark.name, place.line, place.column
+    )?;
+    push_times(&mut reported, " ", number.len())?;
+    write!(reported, " |\n{number} | ")?;
+    reported.push_str(if from > 0 { ".. " } else { "" })?;
     for byte in line.iter().take(to).skip(from) {
-        told.push(shown_char(*byte))?;
+        reported.push(shown_char(*byte))?;
     }
-    told.push_str(if to < line.len() { " ..\n" } else { "\n" })?;
-    push_times(&mut told, " ", number.len())?;
-    told.push_str(if from > 0 { " |    " } else { " | " })?;
-    push_times(&mut told, " ", column - from)?;
+    reported.push_str(if to < line.len() { " ..\n" } else { "\n" })?;
+    push_times(&mut reported, " ", number.len())?;
+    reported.push_str(if from > 0 { " |    " } else { " | " })?;
+    push_times(&mut reported, " ", column - from)?;
     push_times(
-        &mut told,
+        &mut reported,
         "^",
         mark.len.max(1).min((line.len() - column).max(1)),
     )?;
     if !mark.label.is_empty() {
-        write!(told, " {}", mark.label)?;
+        write!(reported, " {}", mark.label)?;
     }
-    told.push_str("\n")?;
-    Ok(told)
+    reported.push_str("\n")?;
+    Ok(reported)
 }

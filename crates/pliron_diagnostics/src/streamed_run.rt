@@ -13,7 +13,7 @@ use std::alloc::{AllocError, Global};
 /// Receives the effects of a run as they come.
 pub trait EffectSink {
     /// Takes more effects, each on a line; answers whether the next ones are wanted.
-    fn tell(&mut self, lines: &[u8]) -> bool;
+    fn accept(&mut self, lines: &[u8]) -> bool;
 }
 
 /// How many moves the first part of a run makes.
@@ -25,11 +25,11 @@ struct RunPart {
     /// The most moves of this part.
     moves: usize,
     /// How many bytes of the effects the sink was given.
-    told: usize,
+    reported: usize,
 }
 
 // Whether the run is cut off by the moves of its part alone.
-fn goes_on(sight: &Sight, options: &RunOptions, moves: usize) -> bool {
+fn continues(sight: &Sight, options: &RunOptions, moves: usize) -> bool {
     match sight {
         Sight::Reached(effects) => moves < options.steps && effects.len() <= options.world.len(),
         _ => false,
@@ -37,22 +37,22 @@ fn goes_on(sight: &Sight, options: &RunOptions, moves: usize) -> bool {
 }
 
 // The bytes behind so many.
-fn bytes_behind(text: &String, told: usize) -> &[u8] {
-    text.as_bytes().get(told..).unwrap_or(b"")
+fn bytes_behind(text: &String, reported: usize) -> &[u8] {
+    text.as_bytes().get(reported..).unwrap_or(b"")
 }
 
 impl RunPart {
     // Gives the sink the effects that it wasn't given yet, and answers whether more are wanted.
-    fn tell_effects<S: EffectSink>(
+    fn report_effects<S: EffectSink>(
         &mut self,
         alloc: Global,
         sight: &Sight,
         sink: &mut S,
     ) -> Result<bool, AllocError> {
         let text = effects_text(alloc, sight)?;
-        let lines = bytes_behind(&text, self.told);
-        let is_heard = lines.is_empty() || sink.tell(lines);
-        self.told = text.len();
+        let lines = bytes_behind(&text, self.reported);
+        let is_heard = lines.is_empty() || sink.accept(lines);
+        self.reported = text.len();
         Ok(is_heard)
     }
 
@@ -64,7 +64,7 @@ impl RunPart {
         run: &FinishedRun,
     ) -> Result<RunReport, OptError> {
         let seen = sight_text(alloc, run.sight)?;
-        let rest = std::str::from_utf8(bytes_behind(&seen, self.told)).unwrap_or("");
+        let rest = std::str::from_utf8(bytes_behind(&seen, self.reported)).unwrap_or("");
         Ok(RunReport {
             seen: String::from_str(alloc, rest)?,
             report: report_of(alloc, ctx, run)?,
@@ -84,7 +84,7 @@ fn report_of_parts<S: EffectSink>(
 ) -> Result<Option<RunReport>, OptError> {
     let mut part = RunPart {
         moves: FIRST_MOVES.min(options.steps),
-        told: 0,
+        reported: 0,
     };
     // Each turn makes more moves.
     for _ in 0..64 {
@@ -94,8 +94,8 @@ fn report_of_parts<S: EffectSink>(
         };
         let mut notes: Notes = notes_for(alloc, &own);
         let sight = run_sight(alloc, root, ctx, &own, &mut notes)?;
-        let is_heard = part.tell_effects(alloc, &sight, sink)?;
-        if is_heard && goes_on(&sight, options, part.moves) {
+        let is_heard = part.report_effects(alloc, &sight, sink)?;
+        if is_heard && continues(&sight, options, part.moves) {
             part.moves = part.moves.saturating_mul(4).min(options.steps);
             continue;
         }

@@ -5,7 +5,7 @@ use Rattle.pliron_core.specs.declared.attrs.AttrObj.{AttrObj}
 use Rattle.pliron_core.specs.declared.attrs.AttrObj.TheVariants.{Int, Text as Words}
 use Rattle.pliron_laws.specs.Datum.{Datum, Empty, Shape, Visit}
 use Rattle.pliron_laws.specs.Acting.{Act, Comes}
-use Rattle.pliron_laws.specs.Acting.Comes.{Begins, Answered, Told}
+use Rattle.pliron_laws.specs.Acting.Comes.{Begins, Answered, AnsweredByWorld}
 use Rattle.pliron_laws.specs.Laws.{CountsFit, KeepsCounts, IsGive, GivesAtOnce, ActsWithoutArgument}
 use Rattle.pliron_laws.specs.Folding.{MakesConstants, constant_shape}
 use Rattle.pliron_laws.specs.Entries.{NamesOperands, RootsNameNone}
@@ -145,7 +145,7 @@ there (Some r) s i j k h own e = role_there r s i j k h (own r refl) e
 comes_as : (f g : Act) (s : Shape) (first : List Datum) → ((memo : Datum) (input : List Datum) → g s memo input ≡ f s memo input) → (later : Bool) (memo : Datum) (input : List Datum) → Comes f s first later memo input → Comes g s first later memo input
 comes_as f g s first same _ _ _ Begins = Begins
 comes_as f g s first same _ _ _ (Answered {memo = memo} {input = input} i ds next answer c e) = Answered i ds next answer (comes_as f g s first same _ _ _ c) (same memo input ∙ e)
-comes_as f g s first same _ _ _ (Told {memo = memo} {input = input} effect next answer c e) = Told effect next answer (comes_as f g s first same _ _ _ c) (same memo input ∙ e)
+comes_as f g s first same _ _ _ (AnsweredByWorld {memo = memo} {input = input} effect next answer c e) = AnsweredByWorld effect next answer (comes_as f g s first same _ _ _ c) (same memo input ∙ e)
 
 -- every invocation of region i passes as argument j what the operand k had
 abbrev Passes : Act → Shape → (i j k : ℕ) → Type 0

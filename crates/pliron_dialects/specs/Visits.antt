@@ -5,7 +5,7 @@ use Rattle.std.proofs.lemmas.Option.{same_Some}
 use Rattle.pliron_laws.specs.Datum.{Datum, Empty, Number, Text, Join, Shape, Move, Give, Visit, Emit}
 use Rattle.pliron_laws.specs.Laws.{CountsFit}
 use Rattle.pliron_laws.specs.Acting.{Comes}
-use Rattle.pliron_laws.specs.Acting.Comes.{Begins, Answered, Told}
+use Rattle.pliron_laws.specs.Acting.Comes.{Begins, Answered, AnsweredByWorld}
 use Rattle.pliron_dialects.specs.Numbers.{whole_number_of, wrapped_sum}
 use Rattle.pliron_dialects.specs.Roles.{NamesFit, condition_of}
 use Rattle.pliron_dialects.specs.RoleParts.{below}
@@ -206,7 +206,7 @@ comes_kept : (place : ℕ) (turns : Turns) (s : Shape) (first : List Datum) (lat
 comes_kept place turns s first _ _ _ Begins = refl
 comes_kept place turns s first _ _ _ (Answered {memo = memo} {input = input} i ds next answer c e) =
     visit_keeps place s (kept_operands memo input) (turns (kept_operands memo input) (stage_of memo) (last_answer memo input)) i ds answer next e ∙ comes_kept place turns s first _ memo input c
-comes_kept place turns s first _ _ _ (Told {memo = memo} {input = input} effect next answer c e) =
+comes_kept place turns s first _ _ _ (AnsweredByWorld {memo = memo} {input = input} effect next answer c e) =
     absurd (turn_quiet place s (kept_operands memo input) (turns (kept_operands memo input) (stage_of memo) (last_answer memo input)) effect next e)
 
 pub turns_fit : {takes : ℕ → ℕ → ℕ → Bool} (place : ℕ) (turns : Turns) → NamesFit takes (turning place turns) (operands_from place)

@@ -17,14 +17,14 @@ use Rattle.pliron_laws.specs.Machine.{start}
 use Rattle.pliron_laws.specs.Paths.{Path, Leads}
 use Rattle.pliron_laws.specs.Root.{defining_block, HasPassed, IsDominated}
 use Rattle.pliron_laws.specs.Linked.{EndsBlock}
-use Rattle.pliron_laws.specs.Acting.{Comes, Begins, Answered, Told}
+use Rattle.pliron_laws.specs.Acting.{Comes, Begins, Answered, AnsweredByWorld}
 use Rattle.pliron_laws.proofs.Records.{op_shows, block_shows, entry_shows, ShowsEntry}
 use Rattle.pliron_theory.specs.Keeps.{IsFit}
 use Rattle.pliron_theory.specs.Renaming.{RunReaches}
 use Rattle.pliron_theory.proofs.Frames.{LatticeValues, Makes, Rules, Below, Holding, holding_kept}
 use Rattle.pliron_theory.proofs.Bound.{IsPlaced, IsAt, HasAnswer, Missed, has_some, last_ends, places, place_rules, placed_parent, placed_holder, placed_inside}
 use Rattle.pliron_theory.proofs.Reached.{reached_holds}
-use Rattle.pliron_equivalence.specs.Standing.{StandsBefore}
+use Rattle.pliron_equivalence.specs.OperationDominance.{DominatesOperation}
 use Rattle.pliron_equivalence.specs.Given.{IsAsGiven, GivenLaw}
 use Rattle.pliron_equivalence.proofs.Ways.{split_once, front_first, part_to, first_part}
 use Rattle.pliron_equivalence.proofs.Bindings.{meet_or, data_stay, bound_data}
@@ -37,20 +37,20 @@ module _ (m : Meaning) (t : Tree) (w : IsTree t) (root : ℕ) (f : IsFit m t roo
   abbrev pub top : ℕ
   top = up.0
 
-  pub stands : (b : ℕ) × (parent_of t k ≡ Some b) × (block_parent_operation_of t b ≡ Some top)
-  stands = holder_is t k up.0 up.1
+  pub liveness : (b : ℕ) × (parent_of t k ≡ Some b) × (block_parent_operation_of t b ≡ Some top)
+  liveness = holder_is t k up.0 up.1
 
   abbrev pub home : ℕ
-  home = stands.0
+  home = liveness.0
 
   pub held : (r x : ℕ) × (block_parent_of t home ≡ Some r) × IsRegion t r × (region_parent_of t r ≡ Some x) × (block_parent_operation_of t home ≡ Some x) × IsLive t x
-  held = block_held t home w.joined (w.joined.standing k home stands.1).1
+  held = block_held t home w.joined (w.joined.all_in_place k home liveness.1).1
 
   abbrev pub here : ℕ
   here = held.0
 
   same_top : held.1 ≡ top
-  same_top = some_is (sym held.5 ∙ stands.2)
+  same_top = some_is (sym held.5 ∙ liveness.2)
 
   top_of_here : region_parent_of t here ≡ Some top
   top_of_here = held.4 ∙ ap Some same_top
@@ -60,7 +60,7 @@ module _ (m : Meaning) (t : Tree) (w : IsTree t) (root : ℕ) (f : IsFit m t roo
 
   -- where it stands in its block
   part : (front : List ℕ) × (back : List ℕ) × (body_of t home ≡ front ++ k ∷ back)
-  part = split_at k (body_of t home) (w.bodies.listed k home stands.1)
+  part = split_at k (body_of t home) (w.bodies.listed k home liveness.1)
 
   -- what stands in its region
   abbrev Here : ℕ → Type 0
@@ -129,7 +129,7 @@ module _ (m : Meaning) (t : Tree) (w : IsTree t) (root : ℕ) (f : IsFit m t roo
     passed : (entry : ℕ) → first_of (layout_of t here) None ≡ Some entry → d.region ≡ here → (before : List ℕ) → Path t entry home before → HasPassed t (definition_of t v) before home part.0
     passed entry fe e before path =
         let s = same_around e in
-        let block : d.block ≡ home = some_is (sym d.in_block ∙ ap (parent_of t) (sym s) ∙ stands.1) in
+        let block : d.block ≡ home = some_is (sym d.in_block ∙ ap (parent_of t) (sym s) ∙ liveness.1) in
         subst (λ z. HasPassed t (definition_of t v) before z part.0) block (d.passes entry before part.0 part.1 (ap (λ z. first_of (layout_of t z) None) e ∙ fe) (subst (λ z. Path t entry z before) (sym block) path) (ap (body_of t) block ∙ part.2 ∙ ap (λ z. part.0 ++ z ∷ part.1) s))
 
   module _ (entry : ℕ) (fe : first_of (layout_of t here) None ≡ Some entry) where
@@ -159,7 +159,7 @@ module _ (m : Meaning) (t : Tree) (w : IsTree t) (root : ℕ) (f : IsFit m t roo
             left (y ∷ xs) (inr z) = inr (left xs z)
 
         at_home : (z : (b : ℕ) × (parent_of t k ≡ Some b) × Unit {0}) → z.0 ≡ home
-        at_home z = some_is (sym z.1 ∙ stands.1)
+        at_home z = some_is (sym z.1 ∙ liveness.1)
 
         same : c ≡ home → Missed t entry c (done ++ j ∷ []) kdef
         same e =
@@ -172,7 +172,7 @@ module _ (m : Meaning) (t : Tree) (w : IsTree t) (root : ℕ) (f : IsFit m t roo
                   (λ i. front_first k j part.0 part.1 done others (subst IsDistinct part.2 (w.bodies.distinct home)) (sym part.2 ∙ ap (body_of t) (sym e) ∙ split) i y)
                   (λ i. q.2 (subst (λ z. In z q.0) e i))
                   (passes q.0 q.1))
-                  (λ y. q.2 (subst (λ z. In z q.0) (some_is (sym y.1 ∙ stands.1)) y.2));
+                  (λ y. q.2 (subst (λ z. In z q.0) (some_is (sym y.1 ∙ liveness.1)) y.2));
             }
 
         apart : c ≢ home → Missed t entry c (done ++ j ∷ []) kdef
@@ -181,12 +181,12 @@ module _ (m : Meaning) (t : Tree) (w : IsTree t) (root : ℕ) (f : IsFit m t roo
             let q = first_part t entry home c before path i in
             let y : In c q.0 = ⊎_elim (λ z. absurd (ne (front_in z))) (λ z. z) (passes q.0 q.1) in
             let p = part_to t entry home c q.0 q.1 y in
-            record { before = p.0; path = p.1; missed = ⊎_elim not_here (λ z. q.2 (p.2 home (inr (subst (λ b. In b p.0) (some_is (sym z.1 ∙ stands.1)) z.2)))) })
-            (λ away. record { before = before; path = path; missed = ⊎_elim not_here (λ z. away (inr (subst (λ b. In b before) (some_is (sym z.1 ∙ stands.1)) z.2))) })
+            record { before = p.0; path = p.1; missed = ⊎_elim not_here (λ z. q.2 (p.2 home (inr (subst (λ b. In b p.0) (some_is (sym z.1 ∙ liveness.1)) z.2)))) })
+            (λ away. record { before = before; path = path; missed = ⊎_elim not_here (λ z. away (inr (subst (λ b. In b before) (some_is (sym z.1 ∙ liveness.1)) z.2))) })
             (decide_in home (c ∷ before))
           where
             not_here : In k (done ++ j ∷ []) → ⊥
-            not_here y = ne (some_is (sym (w.bodies.owned k c (subst (In k) (sym split) (longer done y))) ∙ stands.1))
+            not_here y = ne (some_is (sym (w.bodies.owned k c (subst (In k) (sym split) (longer done y))) ∙ liveness.1))
               where
                 longer : (xs : List ℕ) → In k (xs ++ j ∷ []) → In k (xs ++ j ∷ others)
                 longer [] (inl e) = inl e
@@ -200,12 +200,12 @@ module _ (m : Meaning) (t : Tree) (w : IsTree t) (root : ℕ) (f : IsFit m t roo
         (λ i.
         let q = first_part t entry home c before path (inr i) in
         ⊎_elim
-        (λ s. record { before = q.0; path = subst (λ z. Path t entry z q.0) (sym s) q.1; missed = ⊎_elim (λ y. y) (λ y. q.2 (subst (λ b. In b q.0) (some_is (sym y.1 ∙ stands.1)) y.2)) })
+        (λ s. record { before = q.0; path = subst (λ z. Path t entry z q.0) (sym s) q.1; missed = ⊎_elim (λ y. y) (λ y. q.2 (subst (λ b. In b q.0) (some_is (sym y.1 ∙ liveness.1)) y.2)) })
         (λ y.
         let p = part_to t entry home c q.0 q.1 y in
-        record { before = p.0; path = p.1; missed = ⊎_elim (λ z. z) (λ z. q.2 (p.2 home (inr (subst (λ b. In b p.0) (some_is (sym z.1 ∙ stands.1)) z.2)))) })
+        record { before = p.0; path = p.1; missed = ⊎_elim (λ z. z) (λ z. q.2 (p.2 home (inr (subst (λ b. In b p.0) (some_is (sym z.1 ∙ liveness.1)) z.2)))) })
         (passes q.0 q.1))
-        (λ away. record { before = before; path = path; missed = ⊎_elim (λ y. y) (λ y. away (subst (λ b. In b before) (some_is (sym y.1 ∙ stands.1)) y.2)) })
+        (λ away. record { before = before; path = path; missed = ⊎_elim (λ y. y) (λ y. away (subst (λ b. In b before) (some_is (sym y.1 ∙ liveness.1)) y.2)) })
         (decide_in home before)
       where
         made_by : definition_of t v ≡ Some (Argument c (slice_in (arguments_of t c) v x).0)
@@ -220,7 +220,7 @@ module _ (m : Meaning) (t : Tree) (w : IsTree t) (root : ℕ) (f : IsFit m t roo
     -- it uses none of its own results where a path leads to it
     own_apart : (before : List ℕ) → Path t entry home before → (v : ℕ) → In v (operands_of t k) → In v (results_of t k) → ⊥
     own_apart before path v used x =
-        let q = behind_result v used k home stands.1 held.2 x before part.0 part.1 path part.2 in
+        let q = behind_result v used k home liveness.1 held.2 x before part.0 part.1 path part.2 in
         q.missed (inl (In-right k part.0 (k ∷ []) (inl refl)))
 
     -- what holds at a place of its region: a path leads there, and the results are current, or some path to
@@ -239,7 +239,7 @@ module _ (m : Meaning) (t : Tree) (w : IsTree t) (root : ℕ) (f : IsFit m t roo
     -- it came from the data of its operands to this memo and this answer
     pub record Begun (env : Environment) (memo : Datum) (answer : Option (List Datum)) : Type 0 where
       pub operation : Operation
-      pub stands : op_at t k ≡ Some operation
+      pub liveness : op_at t k ≡ Some operation
       pub first : List Datum
       pub has : data_of env operation.operands ≡ Some first
       pub input : List Datum
@@ -249,7 +249,7 @@ module _ (m : Meaning) (t : Tree) (w : IsTree t) (root : ℕ) (f : IsFit m t roo
     -- and waits with this memo for any answer
     pub record Resting (env : Environment) (memo : Datum) : Type 0 where
       pub operation : Operation
-      pub stands : op_at t k ≡ Some operation
+      pub liveness : op_at t k ≡ Some operation
       pub first : List Datum
       pub has : data_of env operation.operands ≡ Some first
       pub comes : (input : List Datum) → Comes m.act (shape_of m t operation) first true memo input
@@ -272,7 +272,7 @@ module _ (m : Meaning) (t : Tree) (w : IsTree t) (root : ℕ) (f : IsFit m t roo
     at_rest env rest others e = inl (refl, refl)
 
     here_it : Here k
-    here_it = (home, stands.1, held.2)
+    here_it = (home, liveness.1, held.2)
 
     -- from where it came to its move
     record Came (env : Environment) (memo : Datum) (o : Operation) (input : List Datum) : Type 0 where
@@ -289,7 +289,7 @@ module _ (m : Meaning) (t : Tree) (w : IsTree t) (root : ℕ) (f : IsFit m t roo
       comes = subst (λ z. Comes m.act (shape_of m t x.operation) x.input false z x.input) (sym u.0) Begins;
     }
     came env j memo answer move s (inr b) x =
-        let o : b.operation ≡ x.operation = some_is (sym b.stands ∙ ap (op_at t) (sym s) ∙ x.stands) in
+        let o : b.operation ≡ x.operation = some_is (sym b.liveness ∙ ap (op_at t) (sym s) ∙ x.liveness) in
         let i : b.input ≡ x.input = some_is (sym (ap (input_of env x.operation.operands) b.answered) ∙ x.reads) in
         record {
           first = b.first;
@@ -300,16 +300,16 @@ module _ (m : Meaning) (t : Tree) (w : IsTree t) (root : ℕ) (f : IsFit m t roo
 
     still_resting : (env env1 : Environment) (vs : List ℕ) (ds : List Datum) → bind env vs ds ≡ Some env1 → ((v : ℕ) → In v (operands_of t k) → In v vs → ⊥) → (memo : Datum) → Resting env memo → Resting env1 memo
     still_resting env env1 vs ds e free memo b =
-        let s = op_shows t k b.operation b.stands in
-        record { operation = b.operation; stands = b.stands; first = b.first; has = data_stay vs ds env env1 e b.operation.operands (subst (λ xs. (v : ℕ) → In v xs → In v vs → ⊥) s.operands free) ∙ b.has; comes = b.comes }
+        let s = op_shows t k b.operation b.liveness in
+        record { operation = b.operation; liveness = b.liveness; first = b.first; has = data_stay vs ds env env1 e b.operation.operands (subst (λ xs. (v : ℕ) → In v xs → In v vs → ⊥) s.operands free) ∙ b.has; comes = b.comes }
 
     -- binding other values leaves the results current
     still_current : (env env1 : Environment) (vs : List ℕ) (ds : List Datum) → bind env vs ds ≡ Some env1 → ((v : ℕ) → In v (operands_of t k) → In v vs → ⊥) → ((v : ℕ) → In v (results_of t k) → In v vs → ⊥) → IsAsGiven m t env k → IsAsGiven m t env1 k
     still_current env env1 vs ds e free nr c =
-        let s = op_shows t k c.operation c.stands in
+        let s = op_shows t k c.operation c.liveness in
         record {
           operation = c.operation;
-          stands = c.stands;
+          liveness = c.liveness;
           first = c.first;
           has = data_stay vs ds env env1 e c.operation.operands (subst (λ xs. (v : ℕ) → In v xs → In v vs → ⊥) s.operands free) ∙ c.has;
           later = c.later;
@@ -327,7 +327,7 @@ module _ (m : Meaning) (t : Tree) (w : IsTree t) (root : ℕ) (f : IsFit m t roo
         let s = op_shows t k o oe in
         record {
           operation = o;
-          stands = oe;
+          liveness = oe;
           first = c.first;
           has = data_stay (results_of t k) ds env env1 e o.operands (subst (λ xs. (v : ℕ) → In v xs → In v (results_of t k) → ⊥) s.operands own) ∙ c.has;
           later = c.later;
@@ -382,8 +382,8 @@ module _ (m : Meaning) (t : Tree) (w : IsTree t) (root : ℕ) (f : IsFit m t roo
       where
         gave : (c : ℕ) → parent_of t j ≡ Some c → (before : List ℕ) → Path t entry c before → j ≡ k → IsAsGiven m t env1 k
         gave c pc before path s =
-            let h : c ≡ home = some_is (sym pc ∙ ap (parent_of t) s ∙ stands.1) in
-            given_current env env1 x.operation memo x.input ds (ap (op_at t) (sym s) ∙ x.stands) (came env j memo answer (Give ds) s (u (next ∷ rest) (ap (λ z. z ∷ next ∷ rest) s)) x) x.acts (ap (λ z. bind env (results_of t z) ds) (sym s) ∙ e) (own_apart before (subst (λ z. Path t entry z before) h path))
+            let h : c ≡ home = some_is (sym pc ∙ ap (parent_of t) s ∙ liveness.1) in
+            given_current env env1 x.operation memo x.input ds (ap (op_at t) (sym s) ∙ x.liveness) (came env j memo answer (Give ds) s (u (next ∷ rest) (ap (λ z. z ∷ next ∷ rest) s)) x) x.acts (ap (λ z. bind env (results_of t z) ds) (sym s) ∙ e) (own_apart before (subst (λ z. Path t entry z before) h path))
 
         after : (c : ℕ) → parent_of t j ≡ Some c → block_parent_of t c ≡ Some here → (done others : List ℕ) → body_of t c ≡ done ++ j ∷ others → (before : List ℕ) → Path t entry c before → IsAsGiven m t env k ⊎ Missed t entry c done kdef → IsAsGiven m t env1 k ⊎ Missed t entry c (done ++ j ∷ []) kdef
         after c pc rc done others body before path y = ⊎_elim
@@ -482,38 +482,38 @@ module _ (m : Meaning) (t : Tree) (w : IsTree t) (root : ℕ) (f : IsFit m t roo
       waits_deep = λ env g j rest memo q. (there.waits_deep env g j rest memo q.0, inside_by g (placed_holder t w root env g j rest q.0) (inl refl));
       gives = λ env env1 g j rest memo answer ds so q x e.
           let y = there.gives env env1 g j rest memo answer ds tt (q.0, q.1) x e in
-          let be : bind env (results_of t j) ds ≡ Some env1 = ap (λ vs. bind env vs ds) (op_shows t j x.operation x.stands).results ∙ e in
+          let be : bind env (results_of t j) ds ≡ Some env1 = ap (λ vs. bind env vs ds) (op_shows t j x.operation x.liveness).results ∙ e in
           (tt, (y.1.0, y.1.1, next_claim env env1 g j rest memo answer ds be q.0 q.2 q.3 x, at_rest env1 rest), λ o i r z dj wt. (y.2 o i r z dj.0 wt.0, kept_place env env1 (results_of t j) ds be o i r (λ hi v a b. deep_result i j dj.1 hi v a b) (λ hi v a b. not_around i hi (subst (IsInside t i) (result_is v j a b) dj.1)) wt.1, λ others ei. still_resting env env1 (results_of t j) ds be (λ v a b. deep_result k j (subst (λ y. IsInside t y j) (head_is i k r others ei) dj.1) here_it v a b) z (wt.2 others ei)));
       goes = λ env env1 g j rest memo answer n ds c blk so q x ce be e.
           let y = there.goes env env1 g j rest memo answer n ds c blk tt (q.0, q.1) x ce be e in
           let s = block_shows t c blk be in
           let bound : bind env (arguments_of t c) ds ≡ Some env1 = ap (λ vs. bind env vs ds) s.arguments ∙ e in
-          let edge : In c (successors_of t j) = subst (In c) (sym (op_shows t j x.operation x.stands).successors) (in_slice x.operation.successors n c ce) in
+          let edge : In c (successors_of t j) = subst (In c) (sym (op_shows t j x.operation x.liveness).successors) (in_slice x.operation.successors n c ce) in
           (tt, (y.1.0, y.1.1, subst (OfHead env1) s.operations (gone_claim env env1 g j rest memo answer n c ds q.0 q.2 (λ s. subst (In c) (ap (successors_of t) s ∙ none_next) edge) edge bound), at_rest env1 blk.operations), λ o i r z dj wt. (y.2 o i r z dj.0 wt.0, kept_place env env1 (arguments_of t c) ds bound o i r (λ hi v a b. deep_target env g j rest i c q.0 dj.1 hi edge v a b) (λ hi v a b. no_argument v c a b) wt.1, λ others ei. still_resting env env1 (arguments_of t c) ds bound (λ v a b. deep_target env g j rest k c q.0 (subst (λ y. IsInside t y j) (head_is i k r others ei) dj.1) here_it edge v a b) z (wt.2 others ei)));
       visits = λ env env1 g j rest memo answer n ds next r blk so q x re be e.
           let y = there.visits env env1 g j rest memo answer n ds next r blk tt (q.0, q.1) x re be e in
           let a0 = entry_shows t r blk be in
-          let s = block_shows t a0.key blk a0.stands in
+          let s = block_shows t a0.key blk a0.liveness in
           let bound : bind env (arguments_of t a0.key) ds ≡ Some env1 = ap (λ vs. bind env vs ds) s.arguments ∙ e in
-          let held_r : region_parent_of t r ≡ Some j = ap op_of_slot (w.joined.regions j n r (ap (λ l. slice_get l n) (op_shows t j x.operation x.stands).regions ∙ re)) in
+          let held_r : region_parent_of t r ≡ Some j = ap op_of_slot (w.joined.regions j n r (ap (λ l. slice_get l n) (op_shows t j x.operation x.liveness).regions ∙ re)) in
           (tt, (y.1.0, y.1.1, subst (OfHead env1) s.operations (entered_claim env1 r blk a0), at_rest env1 blk.operations), (y.2, kept_place env env1 (arguments_of t a0.key) ds bound g j rest (λ hi v a b. deep_entry j j r blk a0 held_r (inl refl) hi v a b) (λ hi v a b. no_argument v a0.key a b) q.2, λ others ej. visited env env1 j memo answer n ds next x (head_is j k rest others ej) (q.3 others ej) (arguments_of t a0.key) bound (λ v a b. deep_entry k j r blk a0 held_r (inl (head_is j k rest others ej)) here_it v a b)), λ o i rs z dj wt. (y.3 o i rs z dj.0 wt.0, kept_place env env1 (arguments_of t a0.key) ds bound o i rs (λ hi v a b. deep_entry i j r blk a0 held_r (inr dj.1) hi v a b) (λ hi v a b. no_argument v a0.key a b) wt.1, λ others ei. still_resting env env1 (arguments_of t a0.key) ds bound (λ v a b. deep_entry k j r blk a0 held_r (inr (subst (λ y. IsInside t y j) (head_is i k rs others ei) dj.1)) here_it v a b) z (wt.2 others ei)));
-      tells = λ env g j rest memo answer told next d' so q x. (q.0, has_some g (d' ∷ []), q.2, λ others ej. inr (told_on env j memo answer told next d' x (head_is j k rest others ej) (q.3 others ej)));
+      accurate = λ env g j rest memo answer reported next d' so q x. (q.0, has_some g (d' ∷ []), q.2, λ others ej. inr (told_on env j memo answer reported next d' x (head_is j k rest others ej) (q.3 others ej)));
       resumes = λ env g rest memo ds q. (q.0, has_some g ds, q.1, λ others ej. inr (resumed env memo ds (q.2 others ej)));
     }
       where
         visited : (env env1 : Environment) (j : ℕ) (memo : Datum) (answer : Option (List Datum)) (n : ℕ) (ds : List Datum) (next : Datum) (x : Makes m t env j memo answer (Visit n ds next)) → j ≡ k → ((memo ≡ Empty) × (answer ≡ None)) ⊎ Begun env memo answer → (vs : List ℕ) → bind env vs ds ≡ Some env1 → ((v : ℕ) → In v (operands_of t k) → In v vs → ⊥) → Resting env1 next
         visited env env1 j memo answer n ds next x s mind vs e free =
             let c = came env j memo answer (Visit n ds next) s mind x in
-            let oe = ap (op_at t) (sym s) ∙ x.stands in
-            still_resting env env1 vs ds e free next (record { operation = x.operation; stands = oe; first = c.first; has = c.has; comes = λ input. Answered n ds next input c.comes x.acts })
+            let oe = ap (op_at t) (sym s) ∙ x.liveness in
+            still_resting env env1 vs ds e free next (record { operation = x.operation; liveness = oe; first = c.first; has = c.has; comes = λ input. Answered n ds next input c.comes x.acts })
 
-        told_on : (env : Environment) (j : ℕ) (memo : Datum) (answer : Option (List Datum)) (told next d' : Datum) (x : Makes m t env j memo answer (Emit told next)) → j ≡ k → ((memo ≡ Empty) × (answer ≡ None)) ⊎ Begun env memo answer → Begun env next (Some (d' ∷ []))
-        told_on env j memo answer told next d' x s mind =
-            let c = came env j memo answer (Emit told next) s mind x in
-            record { operation = x.operation; stands = ap (op_at t) (sym s) ∙ x.stands; first = c.first; has = c.has; input = d' ∷ []; answered = refl; comes = Told told next d' c.comes x.acts }
+        told_on : (env : Environment) (j : ℕ) (memo : Datum) (answer : Option (List Datum)) (reported next d' : Datum) (x : Makes m t env j memo answer (Emit reported next)) → j ≡ k → ((memo ≡ Empty) × (answer ≡ None)) ⊎ Begun env memo answer → Begun env next (Some (d' ∷ []))
+        told_on env j memo answer reported next d' x s mind =
+            let c = came env j memo answer (Emit reported next) s mind x in
+            record { operation = x.operation; liveness = ap (op_at t) (sym s) ∙ x.liveness; first = c.first; has = c.has; input = d' ∷ []; answered = refl; comes = AnsweredByWorld reported next d' c.comes x.acts }
 
         resumed : (env : Environment) (memo : Datum) (ds : List Datum) → Resting env memo → Begun env memo (Some ds)
-        resumed env memo ds b = record { operation = b.operation; stands = b.stands; first = b.first; has = b.has; input = ds; answered = refl; comes = b.comes ds }
+        resumed env memo ds b = record { operation = b.operation; liveness = b.liveness; first = b.first; has = b.has; input = ds; answered = refl; comes = b.comes ds }
 
         -- what is defined inside an operation of its region is no operand
         deep_result : (i j : ℕ) → IsInside t i j → Here i → (v : ℕ) → In v (operands_of t k) → In v (results_of t j) → ⊥
@@ -555,7 +555,7 @@ module _ (m : Meaning) (t : Tree) (w : IsTree t) (root : ℕ) (f : IsFit m t roo
         let s : u.0 ≡ g = some_is (sym u.1 ∙ placed_holder t w root env g j rest q) in
         find env g around (subst (IsWithin t around) s u.2) below.0 below.1 ws (subst (IsAt t root env below.1) below.2 below.3.0) (subst (OfPlace env below.1) below.2 below.3.1) below.4
 
-    current_at : (u : ℕ) (rest : List ℕ) (s : State) → StandsBefore t k u → RunReaches m t root s → s.rest ≡ u ∷ rest → s.answer ≡ None → IsAsGiven m t s.environment k
+    current_at : (u : ℕ) (rest : List ℕ) (s : State) → DominatesOperation t k u → RunReaches m t root s → s.rest ≡ u ∷ rest → s.answer ≡ None → IsAsGiven m t s.environment k
     current_at u rest s b r e none = ⊎_elim
         (λ y. found y.0 y.1 y.2 y.3)
         (λ y. absurd (not_root y))
@@ -565,7 +565,7 @@ module _ (m : Meaning) (t : Tree) (w : IsTree t) (root : ℕ) (f : IsFit m t roo
         g = holds s r
 
         in_here : b.region ≡ here
-        in_here = some_is (sym b.home_region ∙ ap (block_parent_of t) (some_is (sym b.in_home ∙ stands.1)) ∙ held.2)
+        in_here = some_is (sym b.home_region ∙ ap (block_parent_of t) (some_is (sym b.in_home ∙ liveness.1)) ∙ held.2)
 
         around_here : Here b.around
         around_here = (b.block, b.in_block, b.in_region ∙ ap Some in_here)
@@ -589,7 +589,7 @@ module _ (m : Meaning) (t : Tree) (w : IsTree t) (root : ℕ) (f : IsFit m t roo
       first [] e = absurd e
       first (x ∷ xs) e = (x, refl)
 
-  pub current_here : (u : ℕ) (rest : List ℕ) (s : State) → StandsBefore t k u → RunReaches m t root s → s.rest ≡ u ∷ rest → s.answer ≡ None → IsAsGiven m t s.environment k
+  pub current_here : (u : ℕ) (rest : List ℕ) (s : State) → DominatesOperation t k u → RunReaches m t root s → s.rest ≡ u ∷ rest → s.answer ≡ None → IsAsGiven m t s.environment k
   current_here u rest s b r e none = current_at some_entry.0 some_entry.1 u rest s b r e none
 
 pub results_given : GivenLaw

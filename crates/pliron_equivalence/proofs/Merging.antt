@@ -110,7 +110,7 @@ module _ (side_effects : Head → Option Bool) (a b : ℕ) where
       values x v i None e within = absurd within
       values x v i (Some (Argument c j)) e within = absurd (nothing_held (results_merged t a b) b c tree after.alike.no_regions within)
       values x v i (Some (Result k j)) e (inr within) = absurd (nothing_inside (results_merged t a b) b k tree after.alike.no_regions within)
-      values x v i (Some (Result k j)) e (inl s) = absurd (gone x i)
+      values x v i (Some (Result k j)) e (inl s) = absurd (deleted x i)
         where
           made : slice_get (results_of (results_merged t a b) k) j ≡ Some v
           made = subst (IsMadeBy (results_merged t a b) v) e (tree.joined.operands x v i)
@@ -121,12 +121,12 @@ module _ (side_effects : Head → Option Bool) (a b : ℕ) where
           at : slice_get (results_of t b) j ≡ Some v
           at = ap (λ l. slice_get l j) (sym same) ∙ ap (λ z. slice_get (results_of (results_merged t a b) z) j) (sym s) ∙ made
 
-          gone : IsUnused (results_merged t a b) v
-          gone = unused_all (results_of t b) (results_of t a) t w leads.apart (own_pairs t) leads.alike.results v j at (inl (in_slice (results_of t b) j v at))
+          deleted : IsUnused (results_merged t a b) v
+          deleted = unused_all (results_of t b) (results_of t a) t w leads.apart (own_pairs t) leads.alike.results v j at (inl (in_slice (results_of t b) j v at))
 
 module _ (m : Meaning) (side_effects : Head → Option Bool) (counts : KeepsCounts m) (free : GivesAtOnce m side_effects) where
-  pub gone : (t : Tree) (a b : ℕ) → IsTree t → IsTree (after_merging t a b) → IsLeader side_effects t a b → KeepsAllRuns m t (after_merging t a b)
-  gone t a b w w' leads = λ chosen.
+  pub deleted : (t : Tree) (a b : ℕ) → IsTree t → IsTree (after_merging t a b) → IsLeader side_effects t a b → KeepsAllRuns m t (after_merging t a b)
+  deleted t a b w w' leads = λ chosen.
       let tree = tree_all side_effects a b (results_of t b) (results_of t a) t w (own_pairs side_effects a b t) in
       let after = leader_all side_effects a b (results_of t b) (results_of t a) t w (own_pairs side_effects a b t) leads in
       keeps_trans (with_roots m chosen) t (results_merged t a b) (after_merging t a b)
@@ -134,7 +134,7 @@ module _ (m : Meaning) (side_effects : Head → Option Bool) (counts : KeepsCoun
       (erased_keeps (results_merged t a b) b tree (live (results_merged t a b) tree after) (contained_all side_effects a b t w leads) (with_roots m chosen) w' (λ root f i. gives_now (with_roots m chosen) side_effects (chosen_counts m chosen counts) free (results_merged t a b) b (f.linked.admitted b (inr i)) (λ o e. after.alike.harmless o.head (op_shows (results_merged t a b) b o e).head)))
     where
       live : (u : Tree) → IsTree u → IsLeader side_effects u a b → IsLive u b
-      live u tree x = subst (λ h. IsSome h) (sym x.alike.head) (tree.joined.standing a x.before.home x.before.in_home).0
+      live u tree x = subst (λ h. IsSome h) (sym x.alike.head) (tree.joined.all_in_place a x.before.home x.before.in_home).0
 
   taken_first : (t : Tree) (a b n : ℕ) → ArePairs side_effects a b t (take n (results_of t b)) (take n (results_of t a))
   taken_first t a b n i v x p q = (i, first n (results_of t b) i v p, first n (results_of t a) i x q)
@@ -171,22 +171,22 @@ rows_same (v ∷ vs) (x ∷ xs) t k = rows_same vs xs (after_replacing t v x) k
 
 -- both stand on the way
 pub leader_lives : (side_effects : Head → Option Bool) (t : Tree) (a b n : ℕ) → IsTree t → IsLeader side_effects t a b → IsLive (partly_merged t a b n) a
-leader_lives side_effects t a b n w leads = subst (λ h. IsSome h) (sym (rows_same (take n (results_of t b)) (take n (results_of t a)) t a)) (w.joined.standing a leads.before.home leads.before.in_home).0
+leader_lives side_effects t a b n w leads = subst (λ h. IsSome h) (sym (rows_same (take n (results_of t b)) (take n (results_of t a)) t a)) (w.joined.all_in_place a leads.before.home leads.before.in_home).0
 
 pub redundant_lives : (side_effects : Head → Option Bool) (t : Tree) (a b n : ℕ) → IsTree t → IsLeader side_effects t a b → IsLive (partly_merged t a b n) b
-redundant_lives side_effects t a b n w leads = subst (λ h. IsSome h) (sym (rows_same (take n (results_of t b)) (take n (results_of t a)) t b ∙ leads.alike.head)) (w.joined.standing a leads.before.home leads.before.in_home).0
+redundant_lives side_effects t a b n w leads = subst (λ h. IsSome h) (sym (rows_same (take n (results_of t b)) (take n (results_of t a)) t b ∙ leads.alike.head)) (w.joined.all_in_place a leads.before.home leads.before.in_home).0
 
 pub partly_results : (t : Tree) (a b n k : ℕ) → results_of (partly_merged t a b n) k ≡ results_of t k
 partly_results t a b n k = results_same (take n (results_of t b)) (take n (results_of t a)) t k
 
 pub merged_lives : (side_effects : Head → Option Bool) (t : Tree) (a b : ℕ) → IsTree t → IsLeader side_effects t a b → IsLive (results_merged t a b) b
-merged_lives side_effects t a b w leads = subst (λ h. IsSome h) (sym (rows_same (results_of t b) (results_of t a) t b ∙ leads.alike.head)) (w.joined.standing a leads.before.home leads.before.in_home).0
+merged_lives side_effects t a b w leads = subst (λ h. IsSome h) (sym (rows_same (results_of t b) (results_of t a) t b ∙ leads.alike.head)) (w.joined.all_in_place a leads.before.home leads.before.in_home).0
 
 pub merging : (m : Meaning) (side_effects : Head → Option Bool) → KeepsCounts m → GivesAtOnce m side_effects → MergingLaw m side_effects
 merging m side_effects counts free = record {
   runs = λ t a b w leads. runs_all side_effects a b m counts free (results_of t b) (results_of t a) t w (own_pairs side_effects a b t) leads;
   leads = λ t a b w leads. leader_all side_effects a b (results_of t b) (results_of t a) t w (own_pairs side_effects a b t) leads;
   partly = λ t a b n w leads. partly m side_effects counts free t a b n w leads;
-  gone = λ t a b w w' leads. gone m side_effects counts free t a b w w' leads;
+  deleted = λ t a b w w' leads. deleted m side_effects counts free t a b w w' leads;
   contained = λ t a b w leads. contained_all side_effects a b t w leads;
 }

@@ -23,10 +23,10 @@ use Rattle.pliron_theory.proofs.Bound.{made_within}
 use Rattle.pliron_theory.proofs.Reading.{ready_when_reached}
 use Rattle.pliron_theory.proofs.ReplacedKeeps.{replaced_keeps}
 use Rattle.pliron_theory.proofs.ConstantData.{constant_datum}
-use Rattle.pliron_equivalence.specs.Standing.{StandsBefore}
+use Rattle.pliron_equivalence.specs.OperationDominance.{DominatesOperation}
 use Rattle.pliron_equivalence.specs.Passing.{PassesOperand, KnownByMakers, PassingLaw}
 use Rattle.pliron_equivalence.proofs.Ways.{part_to}
-use Rattle.pliron_equivalence.proofs.Standing.{dominated_stands, stands_holder}
+use Rattle.pliron_equivalence.proofs.OperationDominance.{dominated_stands, stands_holder}
 use Rattle.pliron_equivalence.proofs.Given.{results_given}
 use Rattle.pliron_equivalence.proofs.Merging.{nothing_inside}
 
@@ -44,7 +44,7 @@ passed_longer t (Some (Result k j)) before front more b (inl i) = inl (In-left k
 passed_longer t (Some (Result k j)) before front more b (inr x) = inr x
 
 -- what dominates an operation dominates what that one stands before
-pub dominated_behind : (t : Tree) → IsTree t → (b u v : ℕ) → IsDominated t b v → StandsBefore t b u → IsDominated t u v
+pub dominated_behind : (t : Tree) → IsTree t → (b u v : ℕ) → IsDominated t b v → DominatesOperation t b u → IsDominated t u v
 dominated_behind t w b u v p q = ⊎_elim beside above p.holds
   where
     above : IsInside t p.around b → IsDominated t u v
@@ -126,7 +126,7 @@ module _ (m : Meaning) (t : Tree) (k i p old v : ℕ) (known : List (Option Attr
       let r : y.0 ≡ d.region = some_is (sym y.2 ∙ d.in_region) in
       within_inside (inside_by y.1 (holder_by t d.around d.block y.1 d.in_block y.5) (made_within t root d.region y.1 (definition_of t v) (ap (region_parent_of t) (sym r) ∙ y.4) d.defined made)) d.holds
 
-  behind : (user : ℕ) → In old (operands_of t user) → IsInside t root k → StandsBefore t k user
+  behind : (user : ℕ) → In old (operands_of t user) → IsInside t root k → DominatesOperation t k user
   behind user uses x = dominated_stands t k i user old made_old (f.defined.dominated user old uses (subst (IsDefiningOperationInside t root) (sym made_old) x))
 
   may_use : (user : ℕ) → In old (operands_of t user) → MayUse t root user v
@@ -142,13 +142,13 @@ module _ (m : Meaning) (t : Tree) (k i p old v : ℕ) (known : List (Option Attr
       let inside = (ready_when_reached m t root w f s r u rest e quiet).inside in
       let in_k = k_of_old (f.defined.own_values u old inside uses) in
       let g = results_given m t root k w f in_k none_next u rest s (behind u uses in_k) r e quiet in
-      let o = op_shows t k g.operation g.stands in
+      let o = op_shows t k g.operation g.liveness in
       let has : data_of s.environment (operands_of t k) ≡ Some g.first = ap (data_of s.environment) o.operands ∙ g.has in
       let knows : Known known g.first = known_by s.environment known (operands_of t k) g.first long has (λ q x c d a b h.
       let n = makers q x c a b in
       sym (constant_datum m t w root n.0 x (datum_of c) n.1 (λ same. nothing_inside t root k w (ap (regions_of t) same ∙ n.1.regions) in_k) s r d h)) in
       sym (data_at s.environment (results_of t k) g.given (ap (data_of s.environment) o.results ∙ g.results) i old at)
-      ∙ passes g.operation g.stands g.first (data_long s.environment g.operation.operands g.first g.has) knows g.later g.memo g.input g.given g.comes g.gives
+      ∙ passes g.operation g.liveness g.first (data_long s.environment g.operation.operands g.first g.has) knows g.later g.memo g.input g.given g.comes g.gives
       ∙ data_at s.environment (operands_of t k) g.first has p v place
 
 pub passing : PassingLaw

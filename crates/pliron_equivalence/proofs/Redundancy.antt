@@ -19,10 +19,10 @@ use Rattle.pliron_theory.proofs.Bound.{made_within}
 use Rattle.pliron_theory.proofs.Reading.{ready_when_reached}
 use Rattle.pliron_theory.proofs.ReplacedKeeps.{replaced_keeps}
 use Rattle.pliron_theory.proofs.SweptKeeps.{gives_now}
-use Rattle.pliron_equivalence.specs.Standing.{StandsBefore}
+use Rattle.pliron_equivalence.specs.OperationDominance.{DominatesOperation}
 use Rattle.pliron_equivalence.specs.Current.{IsCurrent}
 use Rattle.pliron_equivalence.specs.Redundancy.{AreAlike, AlikeLaw, IsLeader, LeaderLaw}
-use Rattle.pliron_equivalence.proofs.Standing.{dominated_stands, stands_dominated, stands_holder, stands_trans}
+use Rattle.pliron_equivalence.proofs.OperationDominance.{dominated_stands, stands_dominated, stands_holder, stands_trans}
 use Rattle.pliron_equivalence.proofs.Current.{results_current}
 
 -- the shape of an operation without successors and regions
@@ -47,8 +47,8 @@ module _ (m : Meaning) (side_effects : Head → Option Bool) (counts : KeepsCoun
   -- two operations that are alike give the same
   same_given : (env : Environment) → IsCurrent m t env a → IsCurrent m t env b → env old ≡ env new
   same_given env x y =
-      let p = op_shows t a x.operation x.stands in
-      let q = op_shows t b y.operation y.stands in
+      let p = op_shows t a x.operation x.liveness in
+      let q = op_shows t b y.operation y.liveness in
       let heads : y.operation.head ≡ x.operation.head = some_is (sym q.head ∙ alike.head ∙ p.head) in
       let operands : y.operation.operands ≡ x.operation.operands = sym q.operands ∙ alike.operands ∙ p.operands in
       let results : length y.operation.results ≡ length x.operation.results = ap length (sym q.results) ∙ alike.results ∙ ap length p.results in
@@ -72,13 +72,13 @@ module _ (m : Meaning) (side_effects : Head → Option Bool) (counts : KeepsCoun
     new_of_a : IsInside t root a → IsDefiningOperationInside t root (definition_of t new)
     new_of_a x = subst (IsDefiningOperationInside t root) (sym made_a) x
 
-    behind_b : (user : ℕ) → In old (operands_of t user) → IsInside t root b → StandsBefore t b user
+    behind_b : (user : ℕ) → In old (operands_of t user) → IsInside t root b → DominatesOperation t b user
     behind_b user uses x = dominated_stands t b i user old made_b (f.defined.dominated user old uses (old_of_b x))
 
     gives : (k : ℕ) → IsInside t root k → ((h : Head) → head_of t k ≡ Some h → side_effects h ≡ Some false) → GivesNow m t k
     gives k inside none = gives_now m side_effects counts free t k (f.linked.admitted k (inr inside)) (λ o e. none o.head (op_shows t k o e).head)
 
-    module _ (own : IsInside t root b → IsInside t root a) (before : IsInside t root a → (user : ℕ) → In old (operands_of t user) → StandsBefore t a user) where
+    module _ (own : IsInside t root b → IsInside t root a) (before : IsInside t root a → (user : ℕ) → In old (operands_of t user) → DominatesOperation t a user) where
       may_use : (user : ℕ) → In old (operands_of t user) → MayUse t root user new
       may_use user uses = record {
         own = λ inside. new_of_a (own (b_of_old (f.defined.own_values user old inside uses)));
@@ -133,7 +133,7 @@ module _ (m : Meaning) (side_effects : Head → Option Bool) (t : Tree) (a b i o
           let above : IsWithin t root y.1 = made_within t root d.region y.1 (definition_of t v) (ap (region_parent_of t) (sym r) ∙ y.4) d.defined made in
           within_inside (inside_by y.1 (holder_by t d.around d.block y.1 d.in_block y.5) above) d.holds
 
-  behind_a : IsInside t root a → (user : ℕ) → In old (operands_of t user) → StandsBefore t a user
+  behind_a : IsInside t root a → (user : ℕ) → In old (operands_of t user) → DominatesOperation t a user
   behind_a x user uses =
       let e : definition_of t old ≡ Some (Result b i) = w.joined.results b i old at_b in
       stands_trans t w a b user leads.before (dominated_stands t b i user old e (f.defined.dominated user old uses (subst (IsDefiningOperationInside t root) (sym e) (b_inside x))))

@@ -1,6 +1,6 @@
 -- What stays where the uses of a result go to another value.
 use Rattle.std.proofs.Common.{◌≡◌, ◌≢◌, ◌⊎◌, ℕ, Bool, List, [], ◌∷◌, map, Option, Some, None, inl, inr, ⊎_elim, slice_get, if◌then◌else◌, refl, sym, ap, ◌∙◌, subst, arith}
-use Rattle.std.proofs.lemmas.Bool.Decides.{eqb_tells}
+use Rattle.std.proofs.lemmas.Bool.Decides.{eqb_decides}
 use Rattle.pliron_core.specs.declared.context.Def.{Def}
 use Rattle.pliron_core.specs.declared.context.Def.TheVariants.{Result, Argument}
 use Rattle.pliron_core.specs.Changes.{IsDefiningOperationInside}
@@ -13,7 +13,7 @@ use Rattle.pliron_laws.specs.Datum.{Head}
 use Rattle.pliron_laws.specs.Paths.{Path}
 use Rattle.pliron_laws.specs.Root.{HasPassed}
 use Rattle.pliron_theory.proofs.KeptPlaces.{KeepsPlaces, inside_forth, inside_back, within_forth, within_back, same_block_holder}
-use Rattle.pliron_equivalence.specs.Standing.{StandsBefore}
+use Rattle.pliron_equivalence.specs.OperationDominance.{DominatesOperation}
 use Rattle.pliron_equivalence.specs.Redundancy.{IsOpen, IsLeader}
 
 -- nothing uses the value
@@ -31,7 +31,7 @@ none_mapped f (x ∷ xs) e = grind arith
 
 -- a value is replaced, or stays
 pub target_cases : (old new x : ℕ) → ((x ≡ old) × (replace_target old new x ≡ new)) ⊎ ((x ≢ old) × (replace_target old new x ≡ x))
-target_cases old new x = ⊎_elim (λ y. inl (y.1, ap (λ b. if b then new else x) y.0)) (λ n. inr (n.1, ap (λ b. if b then new else x) n.0)) (eqb_tells x old)
+target_cases old new x = ⊎_elim (λ y. inl (y.1, ap (λ b. if b then new else x) y.0)) (λ n. inr (n.1, ap (λ b. if b then new else x) n.0)) (eqb_decides x old)
 
 module _ (t : Tree) (old new : ℕ) where
   pub operands_replaced : (k : ℕ) → operands_of (after_replacing t old new) k ≡ map (replace_target old new) (operands_of t k)
@@ -57,7 +57,7 @@ module _ (t : Tree) (old new : ℕ) where
   passed_forth (Some (Argument c j)) before b done p = p
   passed_forth (Some (Result k j)) before b done p = p
 
-  pub stands_kept : (a b : ℕ) → StandsBefore t a b → StandsBefore (after_replacing t old new) a b
+  pub stands_kept : (a b : ℕ) → DominatesOperation t a b → DominatesOperation (after_replacing t old new) a b
   stands_kept a b p = record {
     around = p.around;
     holds = within_forth places_kept p.around b p.holds;

@@ -8,12 +8,12 @@ use Rattle.pliron_laws.specs.States.{Environment, State, data_of}
 use Rattle.pliron_laws.specs.Acting.{Comes}
 use Rattle.pliron_theory.specs.Keeps.{IsFit}
 use Rattle.pliron_theory.specs.Renaming.{RunReaches}
-use Rattle.pliron_equivalence.specs.Standing.{StandsBefore}
+use Rattle.pliron_equivalence.specs.OperationDominance.{DominatesOperation}
 
 -- from a first input, which is what its operands have, the operation came to where it gave what its results have
 pub record IsAsGiven (m : Meaning) (t : Tree) (env : Environment) (k : ℕ) : Type 0 where
   pub operation : Operation
-  pub stands : op_at t k ≡ Some operation
+  pub liveness : op_at t k ≡ Some operation
   pub first : List Datum
   pub has : data_of env operation.operands ≡ Some first
   pub later : Bool
@@ -28,4 +28,4 @@ pub record IsAsGiven (m : Meaning) (t : Tree) (env : Environment) (k : ℕ) : Ty
 -- of that one are what it gave on the data that its operands have there, whatever invocations and effects it
 -- made
 abbrev pub GivenLaw : Type 0
-GivenLaw = (m : Meaning) (t : Tree) (root k : ℕ) → IsTree t → IsFit m t root → IsInside t root k → successors_of t k ≡ [] → (u : ℕ) (rest : List ℕ) (s : State) → StandsBefore t k u → RunReaches m t root s → s.rest ≡ u ∷ rest → s.answer ≡ None → IsAsGiven m t s.environment k
+GivenLaw = (m : Meaning) (t : Tree) (root k : ℕ) → IsTree t → IsFit m t root → IsInside t root k → successors_of t k ≡ [] → (u : ℕ) (rest : List ℕ) (s : State) → DominatesOperation t k u → RunReaches m t root s → s.rest ≡ u ∷ rest → s.answer ≡ None → IsAsGiven m t s.environment k

@@ -42,5 +42,5 @@ pub record MergingLaw (m : Meaning) (side_effects : Head → Option Bool) : Type
   pub runs : (t : Tree) (a b : ℕ) → IsTree t → IsLeader side_effects t a b → KeepsAllRuns m t (results_merged t a b)
   pub leads : (t : Tree) (a b : ℕ) → IsTree t → IsLeader side_effects t a b → IsLeader side_effects (results_merged t a b) a b
   pub partly : (t : Tree) (a b n : ℕ) → IsTree t → IsLeader side_effects t a b → KeepsAllRuns m t (partly_merged t a b n)
-  pub gone : (t : Tree) (a b : ℕ) → IsTree t → IsTree (after_merging t a b) → IsLeader side_effects t a b → KeepsAllRuns m t (after_merging t a b)
+  pub deleted : (t : Tree) (a b : ℕ) → IsTree t → IsTree (after_merging t a b) → IsLeader side_effects t a b → KeepsAllRuns m t (after_merging t a b)
   pub contained : (t : Tree) (a b : ℕ) → IsTree t → IsLeader side_effects t a b → IsSelfContained (results_merged t a b) b

@@ -7,7 +7,7 @@ use Rattle.pliron_core.specs.Writes.{after_replacing}
 use Rattle.pliron_laws.specs.Datum.{Head, Meaning}
 use Rattle.pliron_theory.specs.Keeps.{IsFit, KeepsRuns, KeepsAllRuns}
 use Rattle.pliron_theory.specs.Rewrites.{HasNoSideEffects}
-use Rattle.pliron_equivalence.specs.Standing.{StandsBefore}
+use Rattle.pliron_equivalence.specs.OperationDominance.{DominatesOperation}
 
 -- b has the head of a, its operands and as many results; it has neither successors nor regions, nor side effects
 pub record AreAlike (side_effects : Head → Option Bool) (t : Tree) (a b : ℕ) : Type 0 where
@@ -28,13 +28,13 @@ IsOpen t h = (user v : ℕ) × IsInside t h user × In v (operands_of t user) ×
 pub record IsLeader (side_effects : Head → Option Bool) (t : Tree) (a b : ℕ) : Type 0 where
   pub apart : a ≢ b
   pub alike : AreAlike side_effects t a b
-  pub before : StandsBefore t a b
+  pub before : DominatesOperation t a b
   pub near : operands_of t b ≡ [] → (h : ℕ) → IsInside t h b → (IsInside t h a → ⊥) → IsOpen t h
 
 -- the uses of a result may become uses of the same result of an operation that is alike, wherever the two are, if
 -- each fit root that has the one inside has the other inside, and the other dominates each of the uses
 abbrev pub AlikeLaw : Meaning → (Head → Option Bool) → Type 0
-AlikeLaw m side_effects = (t : Tree) (a b i old new : ℕ) → IsTree t → AreAlike side_effects t a b → slice_get (results_of t b) i ≡ Some old → slice_get (results_of t a) i ≡ Some new → ((root : ℕ) → IsFit m t root → IsInside t root b → IsInside t root a) → ((root : ℕ) → IsFit m t root → IsInside t root a → (user : ℕ) → In old (operands_of t user) → StandsBefore t a user) → KeepsRuns m t (after_replacing t old new)
+AlikeLaw m side_effects = (t : Tree) (a b i old new : ℕ) → IsTree t → AreAlike side_effects t a b → slice_get (results_of t b) i ≡ Some old → slice_get (results_of t a) i ≡ Some new → ((root : ℕ) → IsFit m t root → IsInside t root b → IsInside t root a) → ((root : ℕ) → IsFit m t root → IsInside t root a → (user : ℕ) → In old (operands_of t user) → DominatesOperation t a user) → KeepsRuns m t (after_replacing t old new)
 
 -- the uses of a result of an operation may become uses of the same result of its leader
 abbrev pub LeaderLaw : Meaning → (Head → Option Bool) → Type 0

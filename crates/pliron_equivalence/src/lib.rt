@@ -34,7 +34,7 @@ pub fn results_are_current()
 
 /// The uses of a result of an operation may become uses of the same result of one that dominates it and does
 /// the same.
-pub fn leaders_stand_for_redundant_operations<D: Dialect>()
+pub fn leaders_replace_redundant_operations<D: Dialect>()
     ensures { LeaderLaw D.meaning D.side_effects }
 {}
 
@@ -49,12 +49,12 @@ pub fn operations_are_put()
 {}
 
 /// The uses of a result that is one of its operation's operands may become uses of the operand.
-pub fn operands_stand_for_results()
+pub fn operands_replace_results()
     ensures { PassingLaw }
 {}
 
 /// The uses of a result may become uses of the same result of an operation that does the same, wherever the two
 /// are, if that one dominates each of the uses.
-pub fn alike_results_stand_for_one_another<D: Dialect>()
+pub fn alike_results_replace_one_another<D: Dialect>()
     ensures { AlikeLaw D.meaning D.side_effects }
 {}

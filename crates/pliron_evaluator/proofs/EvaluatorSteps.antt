@@ -9,10 +9,10 @@ use Rattle.pliron_core.specs.declared.context.RegionSlot.{RegionSlot}
 use Rattle.pliron_core.specs.Tree.{Tree, IsLive, IsBlock, IsRegion, IsListedBy, op_of_slot, first_of, head_of, operands_of, results_of, successors_of, regions_of, arguments_of, body_of, block_parent_of, layout_of, slot_of}
 use Rattle.pliron_laws.specs.Datum.{Datum, Head, Meaning, Move, Give, Visit, Goto}
 use Rattle.pliron_laws.specs.Tree.{Operation, op_at, op_with, block_at, block_with, and_block, entry_block, count_arguments, shape_of}
-use Rattle.pliron_laws.specs.Machine.{State, Next, Goes, Over, Trapped, Environment, bind, at_rest, begin, enter, entry_in, after_giving, go_to, perform, input_of, leave, move, turn, step, step_at, onward, run_from, sight_after, Reached}
+use Rattle.pliron_laws.specs.Machine.{State, Next, Continues, Over, Trapped, Environment, bind, at_rest, begin, enter, entry_in, after_giving, go_to, perform, input_of, leave, move, turn, step, step_at, onward, run_from, sight_after, Reached}
 use Rattle.pliron_evaluator.specs.declared.evaluator.values.Datum.{Datum as DatumValue}
 use Rattle.pliron_evaluator.specs.declared.evaluator.state.Next.{Next as NextValue}
-use Rattle.pliron_evaluator.specs.declared.evaluator.state.Next.TheVariants.{Goes as GoesValue, Over as OverValue}
+use Rattle.pliron_evaluator.specs.declared.evaluator.state.Next.TheVariants.{Continues as ContinuesValue, Over as OverValue}
 use Rattle.pliron_evaluator.specs.declared.evaluator.state.State.{State as StateValue}
 use Rattle.pliron_evaluator.specs.declared.evaluator.values.Sight.{Sight as SightValue}
 use Rattle.pliron_evaluator.specs.Evaluator.{datum_of_value, sight_of, state_of, next_of_value}
@@ -29,10 +29,10 @@ held_by t r None l = elim l [ ]
 held_by t r (Some slot) l = (slot.op, refl)
 
 pub begins : (t : Tree) (r : ℕ) (o : Option ℕ) → IsRegion t r → o ≡ first_of (layout_of t r) None → and_block t o ≡ entry_block t r
-begins t r o stands e = let held = held_by t r (slot_of t r) stands in ap (and_block t) e ∙ sym (region_entry t r held.0 held.1)
+begins t r o liveness e = let held = held_by t r (slot_of t r) liveness in ap (and_block t) e ∙ sym (region_entry t r held.0 held.1)
 
 pub entry_at : (t : Tree) (rs : List ℕ) (i r : ℕ) (o : Option ℕ) → slice_get rs i ≡ Some r → IsRegion t r → o ≡ first_of (layout_of t r) None → and_block t o ≡ entry_in t (slice_get rs i)
-entry_at t rs i r o at stands e = begins t r o stands e ∙ sym (ap (entry_in t) at)
+entry_at t rs i r o at liveness e = begins t r o liveness e ∙ sym (ap (entry_in t) at)
 
 pub no_entry : (t : Tree) (rs : List ℕ) (i : ℕ) → length rs ≤ i → None ≡ entry_in t (slice_get rs i)
 no_entry t rs i le = sym (ap (entry_in t) (slice_get_past rs i le))
@@ -66,14 +66,14 @@ all_bound env after vs ws ds es fits e f g h =
 
 module _ (t : Tree) (s : State) (ds : List Datum) where
   entered : (o : Option ℕ) (b : ℕ) → o ≡ Some b → IsBlock t b → enter s (and_block t o) ds s.waiting ≡ begin s (body_of t b) s.waiting (bind s.environment (arguments_of t b) ds)
-  entered o b is stands = ap (λ z. enter s (and_block t z) ds s.waiting) is ∙ ap (λ z. enter s z ds s.waiting) (block_stands t b stands).1
+  entered o b is liveness = ap (λ z. enter s (and_block t z) ds s.waiting) is ∙ ap (λ z. enter s z ds s.waiting) (block_stands t b liveness).1
 
   pub enter_traps : (o : Option ℕ) (b : ℕ) → o ≡ Some b → IsBlock t b → bind s.environment (arguments_of t b) ds ≡ None → enter s (and_block t o) ds s.waiting ≡ Over (Trapped s.effects)
-  enter_traps o b is stands e = entered o b is stands ∙ ap (begin s (body_of t b) s.waiting) e
+  enter_traps o b is liveness e = entered o b is liveness ∙ ap (begin s (body_of t b) s.waiting) e
 
-  pub enter_goes : (o : Option ℕ) (b : ℕ) (env : Environment) (operations : List ℕ) → o ≡ Some b → IsBlock t b → bind s.environment (arguments_of t b) ds ≡ Some env → operations ≡ body_of t b → enter s (and_block t o) ds s.waiting ≡ Goes (at_rest s env operations s.waiting)
-  enter_goes o b env operations is stands e f =
-      entered o b is stands ∙ ap (begin s (body_of t b) s.waiting) e ∙ ap (λ z. Goes (at_rest s env z s.waiting)) (sym f)
+  pub enter_goes : (o : Option ℕ) (b : ℕ) (env : Environment) (operations : List ℕ) → o ≡ Some b → IsBlock t b → bind s.environment (arguments_of t b) ds ≡ Some env → operations ≡ body_of t b → enter s (and_block t o) ds s.waiting ≡ Continues (at_rest s env operations s.waiting)
+  enter_goes o b env operations is liveness e f =
+      entered o b is liveness ∙ ap (begin s (body_of t b) s.waiting) e ∙ ap (λ z. Continues (at_rest s env z s.waiting)) (sym f)
 
 -- an answer of one call, told in the words of another
 pub in_words : {E : Type 0} (r : Result NextValue E) (x y : Next) → x ≡ y → IfOk r (λ n. next_of_value n ≡ x) → IfOk r (λ n. next_of_value n ≡ y)
@@ -144,7 +144,7 @@ module _ (f : State → Next) (n : ℕ) where
           let count : n - i ≡ suc (n - (i + 1)) = omega arith in
           sym so_far ∙ ap (λ k. run_from f k (state_of s)) count ∙ ap (λ y. onward y (run_from f (n - (i + 1)))) (sym e)
 
-      pub run_goes : (next : StateValue) → next_of_value z ≡ f (state_of s) → z ≡ GoesValue next → run_from f (n - (i + 1)) (state_of next) ≡ whole
+      pub run_goes : (next : StateValue) → next_of_value z ≡ f (state_of s) → z ≡ ContinuesValue next → run_from f (n - (i + 1)) (state_of next) ≡ whole
       run_goes next e is = sym (one_more e ∙ ap (λ y. onward (next_of_value y) (run_from f (n - (i + 1)))) is)
 
       pub run_over : (sight : SightValue) → next_of_value z ≡ f (state_of s) → z ≡ OverValue sight → sight_of sight ≡ sight_after whole

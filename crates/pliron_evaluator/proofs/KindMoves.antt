@@ -100,12 +100,12 @@ module _ (m : Meaning) (t : Tree) (op : ℕ) (act : Shape → Move) where
   by_counts (Err z) counts own e g f moves = moves
 
 -- an operation of a kind moves as its role says, and another one traps
-module _ {K : Type 0} (tables : Tables K) (t : Tree) (op : ℕ) (h : Head) (stands : head_of t op ≡ Some h) (memo : Datum) (input : List Datum) where
+module _ {K : Type 0} (tables : Tables K) (t : Tree) (op : ℕ) (h : Head) (liveness : head_of t op ≡ Some h) (memo : Datum) (input : List Datum) where
   abbrev m : Meaning
   m = meaning_by (role_at tables)
 
   same_head : (o : Operation) → op_at t op ≡ Some o → h ≡ o.head
-  same_head o at = let same : Some h ≡ Some o.head = sym stands ∙ head_at t op o at in cc
+  same_head o at = let same : Some h ≡ Some o.head = sym liveness ∙ head_at t op o at in cc
 
   kind_acts : (k : K) (o : Operation) → op_at t op ≡ Some o → Some k ≡ tables.kind_of h.kind → act_of (tables.role_of k) (shape_of m t o) memo input ≡ m.act (shape_of m t o) memo input
   unfolding meaning_by shape_of

@@ -18,9 +18,9 @@ first_index : (ns : List ℕ) → slice_index_or ns 0 0 ≡ first_count ns
 first_index [] = refl
 first_index (n ∷ ns) = refl
 
-module _ (t : Tree) (op : ℕ) (h : Head) (stands : head_of t op ≡ Some h) (memo : Datum) (input : List Datum) where
+module _ (t : Tree) (op : ℕ) (h : Head) (liveness : head_of t op ≡ Some h) (memo : Datum) (input : List Datum) where
   same_head : (o : Operation) → op_at t op ≡ Some o → h ≡ o.head
-  same_head o at = let same : Some h ≡ Some o.head = sym stands ∙ head_at t op o at in cc
+  same_head o at = let same : Some h ≡ Some o.head = sym liveness ∙ head_at t op o at in cc
 
   acts : (k : Option TinyKind) → kind_of h.kind ≡ k → (o : Operation) → op_at t op ≡ Some o → tiny_act_of k (shape_of tiny t o) memo input ≡ tiny.act (shape_of tiny t o) memo input
   unfolding tiny shape_of

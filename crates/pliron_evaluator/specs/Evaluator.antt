@@ -4,7 +4,7 @@ use Rattle.std.specs.HashMap.{HashMap, get}
 use Rattle.std.specs.Option.{option_map}
 use Rattle.std.specs.Global.{Vec}
 use Rattle.pliron_laws.specs.Datum.{Datum, Empty, Number, Text, Join, Move, Give, Visit, Goto, Leave, Emit, Trap}
-use Rattle.pliron_laws.specs.States.{Environment, Waiting, State, Sight, Ended, Trapped, Reached, Next, Goes, Over}
+use Rattle.pliron_laws.specs.States.{Environment, Waiting, State, Sight, Ended, Trapped, Reached, Next, Continues, Over}
 use Rattle.pliron_evaluator.specs.declared.evaluator.values.Datum.{Datum as DatumValue}
 use Rattle.pliron_evaluator.specs.declared.evaluator.values.Datum.TheVariants.{Empty as EmptyValue, Number as NumberValue, Text as TextValue, Join' as JoinValue'}
 use Rattle.pliron_evaluator.specs.declared.evaluator.values.Move.{Move as MoveValue}
@@ -14,7 +14,7 @@ use Rattle.pliron_evaluator.specs.declared.evaluator.values.Sight.TheVariants.{E
 use Rattle.pliron_evaluator.specs.declared.evaluator.state.Waiting.{Waiting as WaitingValue}
 use Rattle.pliron_evaluator.specs.declared.evaluator.state.State.{State as StateValue}
 use Rattle.pliron_evaluator.specs.declared.evaluator.state.Next.{Next as NextValue}
-use Rattle.pliron_evaluator.specs.declared.evaluator.state.Next.TheVariants.{Goes as GoesValue, Over as OverValue}
+use Rattle.pliron_evaluator.specs.declared.evaluator.state.Next.TheVariants.{Continues as ContinuesValue, Over as OverValue}
 
 -- p and q are the pointers of the two boxes
 abbrev pub datum_of_value : DatumValue → Datum
@@ -59,5 +59,5 @@ state_of s = record {
 }
 
 abbrev pub next_of_value : NextValue → Next
-next_of_value (GoesValue s) = Goes (state_of s)
+next_of_value (ContinuesValue s) = Continues (state_of s)
 next_of_value (OverValue x) = Over (sight_of x)

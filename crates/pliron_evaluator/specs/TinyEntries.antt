@@ -6,7 +6,7 @@ use Rattle.pliron_evaluator.specs.declared.tiny.TinyKind.TheVariants.{Const, Ask
 use Rattle.pliron_laws.specs.declared.dialect.Interface.TheVariants.{RegionBranch}
 use Rattle.pliron_laws.specs.Datum.{Datum, Empty, Number, Text, Join, Shape, Give, Visit, Emit}
 use Rattle.pliron_laws.specs.Acting.{Act, Comes}
-use Rattle.pliron_laws.specs.Acting.Comes.{Begins, Answered, Told}
+use Rattle.pliron_laws.specs.Acting.Comes.{Begins, Answered, AnsweredByWorld}
 use Rattle.pliron_laws.specs.Laws.{Admitted}
 use Rattle.pliron_laws.specs.Entries.{NamesOperands, RootsNameNone}
 use Rattle.pliron_evaluator.specs.Tiny.{memo_when_begun, between, first_datum, fitted_or_empty, both_move, twice_move, kind_of, is_naming, first_entry_operand, admits_of, tiny_act_of, tiny, tiny_entry_operands, has_tiny_interface}
@@ -78,7 +78,7 @@ Holding act s keeps first = (memo : Datum) (input : List Datum) (i : ℕ) (ds : 
 holds : (act : Act) (s : Shape) (keeps : List Datum → Datum) (first : List Datum) → Holding act s keeps first → ((memo : Datum) (input : List Datum) (effect next : Datum) → act s memo input ≡ Emit effect next → ⊥) → (later : Bool) (memo : Datum) (input : List Datum) → Comes act s first later memo input → Holds keeps first memo input
 holds act s keeps first visits silent later memo input Begins = refl
 holds act s keeps first visits silent later memo input (Answered i ds next answer c move) = visits _ _ i ds next answer (holds act s keeps first visits silent _ _ _ c) move
-holds act s keeps first visits silent later memo input (Told effect next answer c move) = absurd (silent _ _ effect next move)
+holds act s keeps first visits silent later memo input (AnsweredByWorld effect next answer c move) = absurd (silent _ _ effect next move)
 
 -- ---- what a visit of the first region passes
 

@@ -11,7 +11,7 @@ use Rattle.pliron_evaluator.specs.declared.tiny.TinyKind.{TinyKind}
 use Rattle.pliron_evaluator.specs.declared.tiny.TinyKind.TheVariants.{Const, Ask, Scope, Br, Both, Twice}
 use Rattle.pliron_laws.specs.Datum.{Datum, Empty, Number, Text, Join, datum_of, Head, Shape, Move, Give, Visit, Goto, Leave, Emit, Trap}
 use Rattle.pliron_laws.specs.Acting.{Act, Comes, MovesAlike, PassesSame, DropsAt, pick, Known}
-use Rattle.pliron_laws.specs.Acting.Comes.{Begins, Answered, Told}
+use Rattle.pliron_laws.specs.Acting.Comes.{Begins, Answered, AnsweredByWorld}
 use Rattle.pliron_laws.specs.Laws.{Admitted, CountsFit, KeepsCounts, IsGive, GivesAtOnce, ForwardsOperands, LosesOperand, ActsWithoutArgument, fewer_operands, moved_up}
 use Rattle.pliron_laws.specs.Folding.{AnswersTrue, AnswersJumps, MakesConstants}
 use Rattle.pliron_laws.specs.Outcomes.MaterialisesSome.{Rest}
@@ -173,7 +173,7 @@ counts_of_branch s h br = branch_counts s.operands s.results s.successors (lengt
 goes_at_once : (act : Act) (s : Shape) → ((memo : Datum) (input : List Datum) → act s memo input ≡ Goto 0 input) → (first : List Datum) (later : Bool) (memo : Datum) (input : List Datum) → Comes act s first later memo input → (later ≡ false) × (input ≡ first)
 goes_at_once act s goes first later memo input Begins = (refl, refl)
 goes_at_once act s goes first later memo input (Answered i ds next answer c e) = absurd (no_visit (sym (goes _ _) ∙ e))
-goes_at_once act s goes first later memo input (Told effect next answer c e) = absurd (no_effect (sym (goes _ _) ∙ e))
+goes_at_once act s goes first later memo input (AnsweredByWorld effect next answer c e) = absurd (no_effect (sym (goes _ _) ∙ e))
 
 -- it passes all operands, and nothing along another edge
 passes_all : (n i : ℕ) (first input ds : List Datum) → length first ≡ n → input ≡ first → Goto 0 input ≡ Goto i ds → map Some ds ≡ pick (forwarded_along i n) first
@@ -301,14 +301,14 @@ tiny_jumps = record {
 same_tree : (t u : Tree) → u ≡ t → IsSameTree t u
 same_tree t u e = subst (IsSameTree t) (sym e) (record { operations = λ k. refl; operands = λ k. refl; successors = λ k. refl; parents = λ k. refl; bodies = λ k. refl; arguments = λ k. refl; block_parents = λ k. refl; layouts = λ k. refl })
 
-tells : (t t' : Tree) (answer : Option IRStatus) → t' ≡ t → answer ≡ Some Unchanged → ReportsChange answer t t'
-tells t t' answer e f = subst (λ a. ReportsChange a t t') (sym f) (same_tree t t' e)
+accurate : (t t' : Tree) (answer : Option IRStatus) → t' ≡ t → answer ≡ Some Unchanged → ReportsChange answer t t'
+accurate t t' answer e f = subst (λ a. ReportsChange a t t') (sym f) (same_tree t t' e)
 
 pub tiny_in_place : FoldsInPlace tiny tiny_constants tiny_accepts tiny_constant tiny_outcome tiny_outcome
 unfolding tiny_outcome
 tiny_in_place = record {
-  constant = λ t t' op known answer o at h. (Rest (same_tree t t' h.0), tells t t' answer h.0 h.1);
-  branch = λ t t' op known answer h. (Kept (same_tree t t' h.0), tells t t' answer h.0 h.1);
+  constant = λ t t' op known answer o at h. (Rest (same_tree t t' h.0), accurate t t' answer h.0 h.1);
+  branch = λ t t' op known answer h. (Kept (same_tree t t' h.0), accurate t t' answer h.0 h.1);
 }
 
 pub tiny_makes : MakesConstants tiny tiny_accepts tiny_constant

@@ -65,7 +65,7 @@ pub fn evaluate_noting<D: Evaluate>(
     for _ in 0..given.fuel {
         notes.take(alloc, ctx, &state)?;
         match step::<D>(alloc, ctx, state)? {
-            Next::Goes(next) => state = next,
+            Next::Continues(next) => state = next,
             Next::Over(sight) => return Ok(sight),
         }
     }

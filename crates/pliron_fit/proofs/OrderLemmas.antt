@@ -10,7 +10,7 @@ use Rattle.pliron_core.specs.Walks.{children, children_of_region, contents, preo
 use Rattle.pliron_core.proofs.ListLemmas.{split_at, distinct-apart}
 use Rattle.pliron_core.proofs.FlatLemmas.{slice_get-In, flat_map-drop}
 use Rattle.pliron_core.proofs.WalkLemmas.{place_of, place_listed, contents-children, distinct-preorder, inside_step}
-use Rattle.pliron_core.proofs.WalkStepLemmas.{goes_on}
+use Rattle.pliron_core.proofs.WalkStepLemmas.{continues}
 use Rattle.pliron_traversal.specs.Search.{number_in}
 
 same_key : (x y : ℕ) → nat_eq x y && true ≡ true → x ≡ y
@@ -76,7 +76,7 @@ module _ (t : Tree) (w : IsTree t) where
       let split : pieces ((among.0 ++ u) ++ k ∷ (m ++ a ∷ (z ++ among.1))) ≡ pieces (among.0 ++ u) ++ ((k ∷ contents t k) ++ (pieces m ++ ((a ∷ contents t a) ++ pieces (z ++ among.1)))) =
       flat_map-append (λ c. preorder t c) (among.0 ++ u) (k ∷ (m ++ a ∷ (z ++ among.1))) ∙ ap (λ y. pieces (among.0 ++ u) ++ ((k ∷ contents t k) ++ y)) (flat_map-append (λ c. preorder t c) m (a ∷ (z ++ among.1))) in
       let inside : contents t h ≡ pieces (among.0 ++ u) ++ ((k ∷ contents t k) ++ (pieces m ++ ((a ∷ contents t a) ++ pieces (z ++ among.1)))) = contents-children t w h ∙ ap pieces all ∙ split in
-      let on = goes_on t w root h within in
+      let on = continues t w root h within in
       let whole : preorder t root ≡ (on.1.0 ++ h ∷ pieces (among.0 ++ u)) ++ k ∷ ((contents t k ++ pieces m) ++ a ∷ ((contents t a ++ pieces (z ++ among.1)) ++ on.1.1)) =
       on.1.2 ∙ ap (λ y. on.1.0 ++ ((h ∷ y) ++ on.1.1)) inside ∙ parted on.1.0 (pieces (among.0 ++ u)) (contents t k) (pieces m) (contents t a) (pieces (z ++ among.1)) on.1.1 h k a in
       lower (preorder t root) (on.1.0 ++ h ∷ pieces (among.0 ++ u)) (contents t k ++ pieces m) ((contents t a ++ pieces (z ++ among.1)) ++ on.1.1) k a (distinct-preorder t w root) whole

@@ -13,7 +13,7 @@ use pliron_traversal::ListedSet;
 pub(crate) fn block_of_definition(value: Value, ctx: &Context) -> Option<Ptr<BasicBlock>>
     requires { IsDefined ctx.now.tree value }
     ensures block { result ≡ defining_block ctx.now.tree (definition_of ctx.now.tree value) }
-    ensures stands { IfSome result (λ b. IsBlock ctx.now.tree b) }
+    ensures liveness { IfSome result (λ b. IsBlock ctx.now.tree b) }
 {
     match value.def(ctx) {
         Def::Result(op, _) => op.get_parent_block(ctx),

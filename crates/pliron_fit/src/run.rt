@@ -70,7 +70,7 @@ pub fn run_checked<P: Pass>(
 ) -> Result<IRStatus, RunError>
     requires { IsLive ctx.old.tree op }
     ensures same { DoAsBefore P.D.meaning ctx.old.tree ctx.new.tree }
-    ensures stands { IsLive ctx.new.tree op }
+    ensures liveness { IsLive ctx.new.tree op }
     ensures inside { IsInsideChange ctx.old.tree ctx.new.tree op }
     ensures fresh { OnOk result (IsFresh P.E.Kind.eq P.E.kind P.E.holds ctx.old.tree analyses.old.cache.entries →
         IsFresh P.E.Kind.eq P.E.kind P.E.holds ctx.new.tree analyses.new.cache.entries) }
@@ -115,7 +115,7 @@ pub fn run_checked_for<P: Pass>(
     ensures kept { IfOk result (λ run. (root : ℕ) → In root run.fit.items → IsLive ctx.new.tree root →
         Agree P.D.meaning ctx.old.tree ctx.new.tree root × IsFit P.D.meaning ctx.new.tree root) }
     ensures same { DoAsBefore P.D.meaning ctx.old.tree ctx.new.tree }
-    ensures stands { IsLive ctx.new.tree op }
+    ensures liveness { IsLive ctx.new.tree op }
     ensures inside { IsInsideChange ctx.old.tree ctx.new.tree op }
     ensures fresh { OnOk result (IsFresh P.E.Kind.eq P.E.kind P.E.holds ctx.old.tree analyses.old.cache.entries →
         IsFresh P.E.Kind.eq P.E.kind P.E.holds ctx.new.tree analyses.new.cache.entries) }

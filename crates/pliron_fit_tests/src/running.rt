@@ -89,9 +89,9 @@ fn answers(
     let mut pass: PassStep<Tiny, BenchFacts> = PassStep::from_name("dce").expect(rt, "a pass");
     let mut analyses = AnalysisManager::new(alloc);
     assert!(rt; root.is_live(ctx));
-    let told = run_checked_for(&mut pass, alloc, root, &[root], ctx, &mut analyses);
+    let reported = run_checked_for(&mut pass, alloc, root, &[root], ctx, &mut analyses);
     let first = run_checked(&mut pass, alloc, root, ctx, &mut analyses);
-    (first, told.err())
+    (first, reported.err())
 }
 
 #[test]

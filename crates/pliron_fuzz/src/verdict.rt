@@ -52,7 +52,7 @@ pub enum Verdict {
 
 // Whether the status is true. A list of one pass never makes again what it took away, so that it changed
 // the tree is seen in the text.
-fn tells_truly(list: &str, is_same: bool, is_changed: bool) -> bool {
+fn reports_truly(list: &str, is_same: bool, is_changed: bool) -> bool {
     let is_one_pass = !list.contains(',');
     if is_one_pass {
         is_changed != is_same
@@ -74,7 +74,7 @@ fn fault_of_line(
         return Ok(Some(AnswerFault::NotAsRead));
     }
     let is_same = is_printed(alloc, &subject.text, line)?;
-    if !tells_truly(&subject.list, is_same, is_changed) {
+    if !reports_truly(&subject.list, is_same, is_changed) {
         return Ok(Some(AnswerFault::Untrue));
     }
     Ok(None)

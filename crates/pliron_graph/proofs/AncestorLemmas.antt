@@ -6,7 +6,7 @@ use Rattle.std.proofs.lemmas.Option.{none-some, same_Some}
 use Rattle.pliron_core.specs.Tree.{Tree, IsLive, IsBlock, IsInside, IsWithin, up_from, head_of, parent_of, block_parent_of, region_parent_of, block_parent_operation_of, parent_operation_of}
 use Rattle.pliron_core.specs.Tree.IsInside.{Directly}
 use Rattle.pliron_core.specs.Invariant.{IsTree}
-use Rattle.pliron_core.specs.Erased.{StandsIn, IsBlockWithin}
+use Rattle.pliron_core.specs.Erased.{IsInOperation, IsBlockWithin}
 use Rattle.pliron_core.specs.Walks.{contents}
 use Rattle.pliron_core.proofs.WalkLemmas.{holder_live, inside_step, inside_trans, inside_live-outer, not_inside-itself}
 use Rattle.pliron_core.proofs.WalkStepLemmas.{up_smaller}
@@ -106,33 +106,33 @@ module _ (t : Tree) (w : IsTree t) (r : ℕ) where
       ]
 
   -- the block of the operation that was found
-  pub block_of_found : (op a : ℕ) (o : Option ℕ) → o ≡ parent_of t a → IsNearest (IsInside t) (IsAtOrAbove t op) (IsDirectlyInRegion t r) a → FindsNearest (IsBlockInside t) (λ b. StandsIn t b op) (IsDirectlyIn t r) o
+  pub block_of_found : (op a : ℕ) (o : Option ℕ) → o ≡ parent_of t a → IsNearest (IsInside t) (IsAtOrAbove t op) (IsDirectlyInRegion t r) a → FindsNearest (IsBlockInside t) (λ b. IsInOperation t b op) (IsDirectlyIn t r) o
   block_of_found op a o e n =
-      let found : IsNearest (IsBlockInside t) (λ b. StandsIn t b op) (IsDirectlyIn t r) n.meets.0 =
+      let found : IsNearest (IsBlockInside t) (λ b. IsInOperation t b op) (IsDirectlyIn t r) n.meets.0 =
       record { among = (a, n.meets.1, n.among); meets = n.meets.2; nearest = λ c i s m. not_nested n.meets.0 c n.meets.2 m i } in
-      subst (FindsNearest (IsBlockInside t) (λ b. StandsIn t b op) (IsDirectlyIn t r)) (sym n.meets.1 ∙ sym e) found
+      subst (FindsNearest (IsBlockInside t) (λ b. IsInOperation t b op) (IsDirectlyIn t r)) (sym n.meets.1 ∙ sym e) found
 
-  pub no_block : (op : ℕ) (o : Option ℕ) → o ≡ None → ((k : ℕ) → IsAtOrAbove t op k → IsDirectlyInRegion t r k → ⊥) → FindsNearest (IsBlockInside t) (λ b. StandsIn t b op) (IsDirectlyIn t r) o
+  pub no_block : (op : ℕ) (o : Option ℕ) → o ≡ None → ((k : ℕ) → IsAtOrAbove t op k → IsDirectlyInRegion t r k → ⊥) → FindsNearest (IsBlockInside t) (λ b. IsInOperation t b op) (IsDirectlyIn t r) o
   no_block op o e none =
-      let nothing : FindsNearest (IsBlockInside t) (λ b. StandsIn t b op) (IsDirectlyIn t r) None = λ b s m. none s.0 s.2 (b, s.1, m) in
-      subst (FindsNearest (IsBlockInside t) (λ b. StandsIn t b op) (IsDirectlyIn t r)) (sym e) nothing
+      let nothing : FindsNearest (IsBlockInside t) (λ b. IsInOperation t b op) (IsDirectlyIn t r) None = λ b s m. none s.0 s.2 (b, s.1, m) in
+      subst (FindsNearest (IsBlockInside t) (λ b. IsInOperation t b op) (IsDirectlyIn t r)) (sym e) nothing
 
   -- the block itself
   pub block_itself : (b : ℕ) → IsDirectlyIn t r b → IsNearest (IsBlockInside t) (λ c. IsBlockWithin t c b) (IsDirectlyIn t r) b
   block_itself b at_b = record { among = inl refl; meets = at_b; nearest = λ c i s m. not_nested b c at_b m i }
 
   -- or what stands around the operation that holds it
-  pub block_further : (b own p : ℕ) (o : Option ℕ) → IsDirectlyIn t own b → own ≢ r → region_parent_of t own ≡ Some p → FindsNearest (IsBlockInside t) (λ c. StandsIn t c p) (IsDirectlyIn t r) o → FindsNearest (IsBlockInside t) (λ c. IsBlockWithin t c b) (IsDirectlyIn t r) o
+  pub block_further : (b own p : ℕ) (o : Option ℕ) → IsDirectlyIn t own b → own ≢ r → region_parent_of t own ≡ Some p → FindsNearest (IsBlockInside t) (λ c. IsInOperation t c p) (IsDirectlyIn t r) o → FindsNearest (IsBlockInside t) (λ c. IsBlockWithin t c b) (IsDirectlyIn t r) o
   block_further b own p o at_b differs holds found = go o found
     where
       up : block_parent_operation_of t b ≡ Some p
       up = ap (λ z. up_from z (λ x. region_parent_of t x)) at_b ∙ holds
 
-      back : (c : ℕ) → IsBlockWithin t c b → IsDirectlyIn t r c → StandsIn t c p
+      back : (c : ℕ) → IsBlockWithin t c b → IsDirectlyIn t r c → IsInOperation t c p
       back c (inl e) m = absurd (differs (same_Some own r (sym at_b ∙ ap (λ z. block_parent_of t z) e ∙ m)))
-      back c (inr s) m = subst (λ z. StandsIn t c z) (same_Some s.0 p (sym s.1 ∙ up)) s.2
+      back c (inr s) m = subst (λ z. IsInOperation t c z) (same_Some s.0 p (sym s.1 ∙ up)) s.2
 
-      go : (o : Option ℕ) → FindsNearest (IsBlockInside t) (λ c. StandsIn t c p) (IsDirectlyIn t r) o → FindsNearest (IsBlockInside t) (λ c. IsBlockWithin t c b) (IsDirectlyIn t r) o
+      go : (o : Option ℕ) → FindsNearest (IsBlockInside t) (λ c. IsInOperation t c p) (IsDirectlyIn t r) o → FindsNearest (IsBlockInside t) (λ c. IsBlockWithin t c b) (IsDirectlyIn t r) o
       go None none = λ c s m. none c (back c s m) m
       go (Some a) n = record { among = inr (p, up, n.among); meets = n.meets; nearest = λ c i s m. n.nearest c i (back c s m) m }
 

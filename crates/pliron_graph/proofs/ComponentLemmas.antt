@@ -3,7 +3,7 @@ use Rattle.std.proofs.Common.{◌≡◌, ℕ, suc, ◌<◌, ◌≤◌, List, [],
 use Rattle.std.proofs.lemmas.Option.{slice_get_within}
 use Rattle.pliron_traversal.specs.Digraph.{Digraph, IsPath, Reaches, IsReached}
 use Rattle.pliron_traversal.specs.Search.{Encloses, IsSearchNumbering}
-use Rattle.pliron_graph.specs.Components.{ReachEachOther, IsCyclic, Falls, HasGreatest}
+use Rattle.pliron_graph.specs.Components.{ReachEachOther, IsCyclic, Descends, HasGreatest}
 use Rattle.pliron_graph.specs.declared.components.Scc.{Scc}
 use Rattle.pliron_traversal.specs.Internal.Membership.{HasMember, in_from, contains_from, in_left, in_right, in_cases}
 use Rattle.pliron_graph.specs.Internal.Collecting.{IsPathOutside, LeadsOutside}
@@ -26,7 +26,7 @@ module _ {N : Type 0} (g : Digraph N) (roots : List N) (pre post : N → ℕ) wh
     pub shares : (c : Scc N) (u v : N) → HasMember cs c → HasMember c.nodes.items u → (HasMember c.nodes.items v ↔ ReachEachOther g u v)
     pub leads : (c : Scc N) → HasMember cs c → (u : N) × HasMember c.nodes.items u × ((v : N) → IsReached g roots v → (HasMember held v → ⊥) → post v < post u)
     pub ordered : (i j : ℕ) (c e : Scc N) → i < j → slice_get cs i ≡ Some c → slice_get cs j ≡ Some e → HasGreatest post c.nodes.items e.nodes.items
-    pub members : (c : Scc N) → HasMember cs c → Falls pre c.nodes.items
+    pub members : (c : Scc N) → HasMember cs c → Descends pre c.nodes.items
     pub cyclic : (c : Scc N) → HasMember cs c → (IsTrue c.is_cyclic ↔ IsCyclic g c.nodes.items)
 
 module _ {N : Type 0} (g : Digraph N) (roots : List N) (pre post : N → ℕ) (count : ℕ) (d : IsSearchNumbering g roots pre post count) where
@@ -230,8 +230,8 @@ module _ {N : Type 0} (g : Digraph N) (roots : List N) (pre post : N → ℕ) (c
           λ n. added_member v (mutual_added v (mutual_next r u v m n)),
         )
 
-    pub one_more : Falls pre c.nodes.items → (IsTrue c.is_cyclic ↔ IsCyclic g c.nodes.items) → AreTaken g roots pre post (held ++ added) (cs ++ c ∷ []) (post r)
-    one_more falls cyclic = record {
+    pub one_more : Descends pre c.nodes.items → (IsTrue c.is_cyclic ↔ IsCyclic g c.nodes.items) → AreTaken g roots pre post (held ++ added) (cs ++ c ∷ []) (post r)
+    one_more descends cyclic = record {
       late = λ v hv. elim (t.late v hv) [
         | inl h ↦ inl (in_left held added v h)
         | inr l ↦ elim (order (post v) (post r)) [
@@ -264,6 +264,6 @@ module _ {N : Type 0} (g : Digraph N) (roots : List N) (pre post : N → ℕ) (c
         | inr s ↦ (r, subst (λ (z : Scc N). HasMember z.nodes.items r) s (added_member r root_added), low_of_rest)
       ];
       ordered = taken_in_order;
-      members = λ e h. elim (split_component e h) [ inl a ↦ t.members e a | inr s ↦ subst (λ (z : Scc N). Falls pre z.nodes.items) s falls ];
+      members = λ e h. elim (split_component e h) [ inl a ↦ t.members e a | inr s ↦ subst (λ (z : Scc N). Descends pre z.nodes.items) s descends ];
       cyclic = λ e h. elim (split_component e h) [ inl a ↦ t.cyclic e a | inr s ↦ subst (λ (z : Scc N). IsTrue z.is_cyclic ↔ IsCyclic g z.nodes.items) s cyclic ];
     }

@@ -13,7 +13,7 @@ use Rattle.pliron_traversal.specs.Internal.AdjacencyLawful.{same, reflexive, nod
 use Rattle.pliron_traversal.specs.Internal.Forest.{leaf, Grows, done}
 use Rattle.pliron_traversal.specs.Internal.Membership.{HasMember, in_from, contains_from}
 use Rattle.pliron_traversal.proofs.NumberingLemmas.{search_from_growth}
-use Rattle.pliron_graph.specs.Components.{AreComponents, ReachEachOther, IsCyclic, Falls, HasGreatest, entry_then_nodes}
+use Rattle.pliron_graph.specs.Components.{AreComponents, ReachEachOther, IsCyclic, Descends, HasGreatest, entry_then_nodes}
 use Rattle.pliron_graph.specs.declared.components.Scc.{Scc}
 use Rattle.pliron_graph.specs.Internal.Collecting.{AreNumberedComponents}
 use Rattle.pliron_graph.specs.Internal.Named.{IsNamed, AreNamed}
@@ -162,7 +162,7 @@ module _ {N : Type 0} (eq : N → N → Bool) (laws : IsEquivalence eq) (g : Dig
               subst (λ z. number_in eq (map node found.are.orders.post) z < number_in eq (map node found.are.orders.post) (node k.0)) m.2 here,
         )
 
-    falling : (e : Scc N) → Contains ds e → Falls (number_in eq (map node found.are.orders.pre)) e.nodes.items
+    falling : (e : Scc N) → Contains ds e → Descends (number_in eq (map node found.are.orders.pre)) e.nodes.items
     falling e h i j u v l at_u at_v =
         let at = contains_item ds e h in
         let c = counterpart at.0 e at.1 in

@@ -9,7 +9,7 @@ use Rattle.std.proofs.lemmas.List.Sorted.{IsPermutation-sym, IsPermutation-trans
 use Rattle.std.proofs.lemmas.Map.Keys.{IsDistinct-IsPermutation}
 use Rattle.std.proofs.lemmas.Option.{slice_get_within, get_or_from_slice_get}
 use Rattle.pliron_traversal.specs.Search.{IsListed, number_in}
-use Rattle.pliron_graph.specs.Components.{Falls}
+use Rattle.pliron_graph.specs.Components.{Descends}
 use Rattle.pliron_traversal.specs.Internal.Membership.{contains_from, in_from_any}
 use Rattle.pliron_traversal.proofs.ItemLemmas.{in_from_item, stands_once}
 use Rattle.pliron_graph.proofs.ItemLemmas.{item_of_reverse, place_within}
@@ -22,7 +22,7 @@ module _ {N : Type 0} (eq : N → N → Bool) (laws : IsEquivalence eq) (same : 
         let all : IsPermutation nodes (reverse sorted) = IsPermutation-trans nodes sorted (reverse sorted) perm (IsPermutation-reverse sorted) in
         (Contains-permutation (reverse sorted) nodes v (IsPermutation-sym nodes (reverse sorted) all), Contains-permutation nodes (reverse sorted) v all)
 
-    pub reversed_falls : IsDistinct eq nodes → All (IsListed eq order) nodes → IsNonDecreasingBy (number_in eq order) sorted → Falls (number_in eq order) (reverse sorted)
+    pub reversed_falls : IsDistinct eq nodes → All (IsListed eq order) nodes → IsNonDecreasingBy (number_in eq order) sorted → Descends (number_in eq order) (reverse sorted)
     reversed_falls distinct listed rises i j u v l at_i at_j = by (number_in eq order v) (number_in eq order u) refl refl (cases (number_in eq order v) (number_in eq order u))
       where
         cases : (m n : ℕ) → (m < n) ⊎ ((m ≡ n) ⊎ (n < m))

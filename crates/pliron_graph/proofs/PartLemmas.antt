@@ -5,12 +5,12 @@ use Rattle.std.specs.List.{All}
 use Rattle.std.proofs.lemmas.List.Elements.{All-contains, Contains-get_or}
 use Rattle.pliron_traversal.specs.Digraph.{Digraph}
 use Rattle.pliron_traversal.specs.Search.{number_in}
-use Rattle.pliron_graph.specs.Components.{Falls, IsCyclic}
+use Rattle.pliron_graph.specs.Components.{Descends, IsCyclic}
 use Rattle.pliron_graph.specs.declared.components.Scc.{Scc}
 use Rattle.pliron_traversal.specs.Internal.Membership.{in_from, contains_from}
 use Rattle.pliron_graph.specs.Internal.Collecting.{Collects, IsTaken}
 use Rattle.pliron_traversal.specs.Internal.Membership.{HasMember}
-use Rattle.pliron_graph.specs.Internal.Picking.{StandsFrom}
+use Rattle.pliron_graph.specs.Internal.Picking.{IsListedFrom}
 use Rattle.pliron_graph.proofs.PickLemmas.{dropped_stand}
 
 -- what stands past the first part
@@ -35,20 +35,20 @@ module _ {N : Type 0} (eq : N → N → Bool) (laws : IsEquivalence eq) (same : 
   pub members : (xs ys : List N) → xs ≡ ys → ((v : N) → (Contains ys v ↔ Contains (drop first new) v)) → All (λ v. Contains g.nodes v) xs
   members xs ys e h k d l = part_inside (get_or xs k d) ((h (get_or xs k d)).0 (subst (λ zs. Contains zs (get_or xs k d)) e (Contains-get_or xs k d l)))
 
-  pub taken : (pre : List N) (c : Scc N) (xs : List N) → xs ≡ c.nodes.items → ((v : N) → (Contains c.nodes.items v ↔ Contains (drop first new) v)) → Falls (number_in eq pre) c.nodes.items → (IsTrue c.is_cyclic ↔ IsCyclic g xs) → IsTaken g eq pre root old new c
-  taken pre c xs e h falls cyclic = record {
+  pub taken : (pre : List N) (c : Scc N) (xs : List N) → xs ≡ c.nodes.items → ((v : N) → (Contains c.nodes.items v ↔ Contains (drop first new) v)) → Descends (number_in eq pre) c.nodes.items → (IsTrue c.is_cyclic ↔ IsCyclic g xs) → IsTaken g eq pre root old new c
+  taken pre c xs e h descends cyclic = record {
     collects = collects;
     same = λ x. (
       λ k. in_from collects.added x (subst (λ zs. Contains zs x) part_added ((h x).0 k)),
       λ k. (h x).1 (subst (λ zs. Contains zs x) (sym part_added) (contains_from collects.added x k)),
     );
-    falls = falls;
+    descends = descends;
     cyclic = subst (λ zs. IsTrue c.is_cyclic ↔ IsCyclic g zs) e cyclic;
   }
 
 module _ {N : Type 0} (eq : N → N → Bool) (laws : IsEquivalence eq) (same : (x y : N) → eq x y ≡ true → x ≡ y) (g : Digraph N) (pre : List N) (root : N) (old new : List N) (c : Scc N) (taken : IsTaken g eq pre root old new c) where
   -- the nodes of the component are those that are held since
-  pub taken_stand : (first : ℕ) → first ≡ length old → (v : N) → (StandsFrom eq new first v ↔ Contains c.nodes.items v)
+  pub taken_stand : (first : ℕ) → first ≡ length old → (v : N) → (IsListedFrom eq new first v ↔ Contains c.nodes.items v)
   taken_stand first at v =
       let part : drop first new ≡ taken.collects.added = part_added eq laws same g root old new taken.collects first at in
       let stand = dropped_stand eq laws same new first v taken.collects.distinct in (

@@ -9,8 +9,8 @@ use Rattle.std.proofs.lemmas.Option.{slice_get_within, get_or_from_slice_get}
 use Rattle.pliron_traversal.specs.Search.{number_in}
 use Rattle.pliron_traversal.proofs.PlaceLemmas.{place_at}
 use Rattle.pliron_traversal.proofs.UnwindingLemmas.{take_next}
-use Rattle.pliron_graph.specs.Components.{Falls}
-use Rattle.pliron_graph.specs.Internal.Picking.{StandsFrom}
+use Rattle.pliron_graph.specs.Components.{Descends}
+use Rattle.pliron_graph.specs.Internal.Picking.{IsListedFrom}
 use Rattle.pliron_graph.proofs.ItemLemmas.{item_of_reverse, item_at_place, place_at_most}
 use Rattle.pliron_graph.proofs.PreSentinelLemmas.{contains_item, item_contained, item_of_push, item_of_take}
 
@@ -56,7 +56,7 @@ module _ {N : Type 0} (number : N → ℕ) (late : N → Type 0) where
       by i j u v l (inr a) (inl b) = absurd (omega (arith, l, a.0, b.0))
       by i j u v l (inr a) (inr b) = absurd (omega (arith, l, a.0, b.0))
 
-  pub pick_falls : (xs picked : List N) → IsPicked xs picked → Falls number (reverse picked)
+  pub pick_falls : (xs picked : List N) → IsPicked xs picked → Descends number (reverse picked)
   pick_falls xs picked p i j u v l a b =
       p.rises (length picked - 1 - j) (length picked - 1 - i) v u (omega (arith, l, slice_get_within (reverse picked) j v b, length-reverse picked)) (item_of_reverse picked j v b) (item_of_reverse picked i u a)
 
@@ -87,30 +87,30 @@ module _ {N : Type 0} (eq : N → N → Bool) (laws : IsEquivalence eq) (same : 
   number_at : (xs : List N) (k : ℕ) (v : N) → IsDistinct eq xs → slice_get xs k ≡ Some v → number_in eq xs v ≡ k
   number_at xs k v once at = sym (ap (number_in eq xs) (get_or_from_slice_get xs k v v at)) ∙ place_at eq laws xs k v once (slice_get_within xs k v at)
 
-  pub dropped_stand : (xs : List N) (first : ℕ) (v : N) → IsDistinct eq xs → (Contains (drop first xs) v ↔ StandsFrom eq xs first v)
+  pub dropped_stand : (xs : List N) (first : ℕ) (v : N) → IsDistinct eq xs → (Contains (drop first xs) v ↔ IsListedFrom eq xs first v)
   dropped_stand xs first v once = (there, back)
     where
-      there : Contains (drop first xs) v → StandsFrom eq xs first v
+      there : Contains (drop first xs) v → IsListedFrom eq xs first v
       there h =
           let k = contains_item (drop first xs) v h in
           let at : slice_get xs (first + k.0) ≡ Some v = sym (item_of_drop xs first k.0 (first + k.0) refl) ∙ k.1 in
           (omega (arith, number_at xs (first + k.0) v once at), omega (arith, number_at xs (first + k.0) v once at, slice_get_within xs (first + k.0) v at))
 
-      back : StandsFrom eq xs first v → Contains (drop first xs) v
+      back : IsListedFrom eq xs first v → Contains (drop first xs) v
       back s =
           let at : slice_get xs (number_in eq xs v) ≡ Some v = item_at_place eq same laws.refl xs v s.1 in
           item_contained (drop first xs) (number_in eq xs v - first) v (item_of_drop xs first (number_in eq xs v - first) (number_in eq xs v) (omega (arith, s.0)) ∙ at)
 
   -- one more node of the order was looked at
   module _ (order held : List N) (first i : ℕ) (x : N) (picked : List N) (once : IsDistinct eq order) (at : slice_get order i ≡ Some x)
-      (p : IsPicked (number_in eq order) (StandsFrom eq held first) (take i order) picked) where
-    pub passed_over : (StandsFrom eq held first x → ⊥) → IsPicked (number_in eq order) (StandsFrom eq held first) (take (i + 1) order) picked
-    passed_over not = subst (λ xs. IsPicked (number_in eq order) (StandsFrom eq held first) xs picked) (sym (take_next order i x at))
-        (pick_over (number_in eq order) (StandsFrom eq held first) (take i order) picked x not p)
+      (p : IsPicked (number_in eq order) (IsListedFrom eq held first) (take i order) picked) where
+    pub passed_over : (IsListedFrom eq held first x → ⊥) → IsPicked (number_in eq order) (IsListedFrom eq held first) (take (i + 1) order) picked
+    passed_over not = subst (λ xs. IsPicked (number_in eq order) (IsListedFrom eq held first) xs picked) (sym (take_next order i x at))
+        (pick_over (number_in eq order) (IsListedFrom eq held first) (take i order) picked x not p)
 
-    pub picked_next : StandsFrom eq held first x → IsPicked (number_in eq order) (StandsFrom eq held first) (take (i + 1) order) (picked ++ x ∷ [])
-    picked_next is = subst (λ xs. IsPicked (number_in eq order) (StandsFrom eq held first) xs (picked ++ x ∷ [])) (sym (take_next order i x at))
-        (pick_next (number_in eq order) (StandsFrom eq held first) (take i order) picked x is low p)
+    pub picked_next : IsListedFrom eq held first x → IsPicked (number_in eq order) (IsListedFrom eq held first) (take (i + 1) order) (picked ++ x ∷ [])
+    picked_next is = subst (λ xs. IsPicked (number_in eq order) (IsListedFrom eq held first) xs (picked ++ x ∷ [])) (sym (take_next order i x at))
+        (pick_next (number_in eq order) (IsListedFrom eq held first) (take i order) picked x is low p)
       where
         low : (u : N) → Contains (take i order) u → number_in eq order u < number_in eq order x
         low u h =

@@ -6,7 +6,7 @@ use Rattle.std.proofs.lemmas.List.Elements.{All-more, All-get_or, All-contains, 
 use Rattle.std.proofs.lemmas.Option.{slice_get_within, slice_get-get_or}
 use Rattle.pliron_traversal.specs.Digraph.{Digraph}
 use Rattle.pliron_traversal.specs.Search.{number_in}
-use Rattle.pliron_graph.specs.Components.{AreComponents, Falls}
+use Rattle.pliron_graph.specs.Components.{AreComponents, Descends}
 use Rattle.pliron_graph.specs.declared.components.Scc.{Scc}
 use Rattle.pliron_graph.specs.Reverse.{IsSink, IsLastListed, IsInEarlier, AreLastOfSinks, ArePreSentinels}
 use Rattle.pliron_traversal.specs.Internal.Membership.{HasMember, contains_from, in_from, in_from_any, any_from_in}
@@ -68,7 +68,7 @@ module _ {N : Type 0} (eq : N → N → Bool) (same : (x y : N) → eq x y ≡ t
   pub contains_listed : (xs : List N) (v : N) → Contains xs v → list_any (eq v) xs ≡ true
   contains_listed xs v h = any_from_in eq same reflexive xs v (in_from xs v h)
 
-  apart_by_number : (number : N → ℕ) (xs : List N) → Falls number xs → Distinct xs
+  apart_by_number : (number : N → ℕ) (xs : List N) → Descends number xs → Distinct xs
   apart_by_number number [] h = tt
   apart_by_number number (x ∷ xs) h = (
     λ i. let r = item_from_in xs x i in let low : number x < number x = h 0 (suc r.0) x x (omega arith) refl r.1 in omega (arith, low),

@@ -44,12 +44,12 @@ module _ {N : Type 0} (eq : N → N → Bool) (g : Digraph N) (lawful : IsLawful
     start = subst (AreTaken g (entry_then_nodes g) (number_in eq pre) (number_in eq post) [] []) (sym search.equal_lengths)
         (none_taken g (entry_then_nodes g) (number_in eq pre) (number_in eq post) (length pre) search.numbering search.numbering.post_numbers.within)
 
-    module _ (rest gone all : List N) (root : N) (last : all ≡ rest ++ root ∷ []) (is : post ≡ all ++ gone) where
+    module _ (rest deleted all : List N) (root : N) (last : all ≡ rest ++ root ∷ []) (is : post ≡ all ++ deleted) where
       root_at : slice_get post (length rest) ≡ Some root
       root_at =
           let l : length all ≡ length rest + 1 = ap length last ∙ length-append rest (root ∷ []) in
           let here : slice_get (rest ++ root ∷ []) (length rest) ≡ Some root = item_right rest (root ∷ []) 0 (length rest) (omega arith) in
-          subst (λ xs. slice_get xs (length rest) ≡ Some root) (sym is) (item_left all gone (length rest) (omega (arith, l)) ∙ subst (λ xs. slice_get xs (length rest) ≡ Some root) (sym last) here)
+          subst (λ xs. slice_get xs (length rest) ≡ Some root) (sym is) (item_left all deleted (length rest) (omega (arith, l)) ∙ subst (λ xs. slice_get xs (length rest) ≡ Some root) (sym last) here)
 
       root_number : number_in eq post root ≡ length rest
       root_number = place_of_item eq lawful.same laws.refl post (length rest) root
@@ -82,7 +82,7 @@ module _ {N : Type 0} (eq : N → N → Bool) (g : Digraph N) (lawful : IsLawful
           let complete : (x : N) → IsReached g (entry_then_nodes g) x → LeadsOutside g held x root → HasMember taken.collects.added x = λ x hx l. (taken.collects.leads x (reached_inside x hx)).1 l in
           subst (λ xs. AreTaken g (entry_then_nodes g) (number_in eq pre) (number_in eq post) xs (cs ++ c ∷ []) (length rest)) (sym taken.collects.is)
           (subst (AreTaken g (entry_then_nodes g) (number_in eq pre) (number_in eq post) (held ++ added) (cs ++ c ∷ [])) root_number
-          (one_more g (entry_then_nodes g) (number_in eq pre) (number_in eq post) (length pre) search.numbering held added cs c root root_reached (not_in_from_any eq lawful.same laws.refl held root unheld) (before held cs t) collected complete taken.same taken.falls taken.cyclic))
+          (one_more g (entry_then_nodes g) (number_in eq pre) (number_in eq post) (length pre) search.numbering held added cs c root root_reached (not_in_from_any eq lawful.same laws.refl held root unheld) (before held cs t) collected complete taken.same taken.descends taken.cyclic))
 
     pub finish : Grew eq g (entry_then_nodes g) [] [] pre post → (held : List N) (cs : List (Scc N)) → AreTaken g (entry_then_nodes g) (number_in eq pre) (number_in eq post) held cs 0 → AreNumberedComponents eq g cs
     finish grew held cs t = record {

@@ -4,7 +4,7 @@ use Rattle.std.proofs.lemmas.List.Elements.{All-contains}
 use Rattle.std.proofs.lemmas.Option.{slice_get_within}
 use Rattle.std.proofs.lemmas.List.{length-reverse}
 use Rattle.pliron_traversal.specs.Digraph.{Digraph, IsLawful, IsPath, Reaches, IsReached}
-use Rattle.pliron_traversal.specs.Search.{Encloses, IsSearchNumbering, StandsBefore, number_in}
+use Rattle.pliron_traversal.specs.Search.{Encloses, IsSearchNumbering, ComesBefore, number_in}
 use Rattle.pliron_traversal.specs.Walks.{concatenation, IsWalk, AreWalks}
 use Rattle.pliron_graph.specs.Laws.{IsFirstOutside, IsWalkFrom}
 use Rattle.pliron_traversal.specs.Internal.Membership.{HasMember, in_from, contains_from, in_right, in_cases, in_from_any, any_from_in}
@@ -121,7 +121,7 @@ module _ {N : Type 0} (eq : N → N → Bool) (reflexive : (x : N) → eq x x �
         ]
   ]
 
-  pub in_post_order : (u v : N) → Contains g.nodes u → Contains (g.succ u) v → StandsBefore eq (concatenation walks) v u ⊎ Reaches g v u
+  pub in_post_order : (u v : N) → Contains g.nodes u → Contains (g.succ u) v → ComesBefore eq (concatenation walks) v u ⊎ Reaches g v u
   in_post_order u v hu e = edge_law g g.nodes (number_in eq are.pre) (number_in eq (concatenation walks)) (length are.pre) numbering u v (node_reached u hu) e
 
   reversed_place : (i : ℕ) (w : List N) (v : N) → At i w → HasMember w v → number_in eq (reverse w) v + post v + 1 ≡ start i + length w
@@ -136,7 +136,7 @@ module _ {N : Type 0} (eq : N → N → Bool) (reflexive : (x : N) → eq x x �
       let number : post v ≡ start i + (length w - 1 - number_in eq (reverse w) v) = number_in_walk i (length w - 1 - number_in eq (reverse w) v) w v at (item_of_reverse w (number_in eq (reverse w) v) v at_place) in
       omega (arith, number, within, length-reverse w)
 
-  pub in_topological_order : (w : List N) → Contains walks w → (u v : N) → HasMember w u → HasMember w v → Contains (g.succ u) v → StandsBefore eq (reverse w) u v ⊎ Reaches g v u
+  pub in_topological_order : (w : List N) → Contains walks w → (u v : N) → HasMember w u → HasMember w v → Contains (g.succ u) v → ComesBefore eq (reverse w) u v ⊎ Reaches g v u
   in_topological_order w member u v hu hv e =
       let i = item_from_in walks w (in_from walks w member) in
       elim (edge_law g g.nodes (number_in eq are.pre) (number_in eq (concatenation walks)) (length are.pre) numbering u v (walked_reached i.0 w u i.1 hu) e) [
@@ -150,9 +150,9 @@ module _ {N : Type 0} (eq : N → N → Bool) (reflexive : (x : N) → eq x x �
   path_falls (y ∷ ws) m a x v at h p =
       let hy = reached_next g g.nodes (number_in eq are.pre) (number_in eq (concatenation walks)) (length are.pre) numbering x y (walked_reached m a x at h) p.0 in
       let r = walk_of_reached y hy in
-      let falls : r.0 ≤ m = between_walks m r.0 a r.1 at r.2 x y h r.3 p.0 in
+      let descends : r.0 ≤ m = between_walks m r.0 a r.1 at r.2 x y h r.3 p.0 in
       let rest = path_falls ws r.0 r.1 y v r.2 r.3 p.1 in
-      (rest.0, rest.1, rest.2, rest.3, omega (arith, falls, rest.4))
+      (rest.0, rest.1, rest.2, rest.3, omega (arith, descends, rest.4))
 
   module _ (i : ℕ) (w : List N) (at : At i w) (walk : IsWalk eq g g.nodes (record { pre = are.pre; post = concatenation walks }) w) where
     first_node : slice_get (reverse w) 0 ≡ Some walk.top

@@ -1,7 +1,7 @@
 -- What the searches for ancestors answer.
 use Rattle.std.specs.Prelude.{◌≡◌, ℕ, ◌<◌, Option, Some, None, slice_get}
 use Rattle.pliron_core.specs.Tree.{Tree, IsInside, IsWithin, parent_of, body_of, block_parent_of, block_parent_operation_of}
-use Rattle.pliron_core.specs.Erased.{StandsIn}
+use Rattle.pliron_core.specs.Erased.{IsInOperation}
 
 -- k is op or an ancestor of it
 abbrev pub IsAtOrAbove : Tree → (op k : ℕ) → Type 0
@@ -25,7 +25,7 @@ IsDirectlyInRegion t region op = (block : ℕ) × IsDirectlyInBlock t block op �
 
 -- block c is inside block b, at any depth
 abbrev pub IsBlockInside : Tree → (b c : ℕ) → Type 0
-IsBlockInside t b c = (k : ℕ) × (block_parent_operation_of t c ≡ Some k) × StandsIn t b k
+IsBlockInside t b c = (k : ℕ) × (block_parent_operation_of t c ≡ Some k) × IsInOperation t b k
 
 -- a is one of these and meets the test, and nothing nearer does: none that is inside a
 pub record IsNearest (Inside : ℕ → ℕ → Type 0) (Among Meets : ℕ → Type 0) (a : ℕ) : Type 0 where

@@ -18,8 +18,8 @@ abbrev pub IsCyclic : {N : Type 0} → Digraph N → List N → Type 0
 IsCyclic {N} g nodes = (1 < length nodes) ⊎ ((v : N) × Contains nodes v × Contains (g.succ v) v)
 
 -- the nodes are in descending order of their numbers
-abbrev pub Falls : {N : Type 0} → (N → ℕ) → List N → Type 0
-Falls {N} number nodes = (i j : ℕ) (u v : N) → i < j → slice_get nodes i ≡ Some u → slice_get nodes j ≡ Some v → number v < number u
+abbrev pub Descends : {N : Type 0} → (N → ℕ) → List N → Type 0
+Descends {N} number nodes = (i j : ℕ) (u v : N) → i < j → slice_get nodes i ≡ Some u → slice_get nodes j ≡ Some v → number v < number u
 
 -- a node of the first list has a greater number than each of the second
 abbrev pub HasGreatest : {N : Type 0} → (N → ℕ) → List N → List N → Type 0
@@ -35,5 +35,5 @@ pub record AreComponents {N : Type 0} (eq : N → N → Bool) (g : Digraph N) (c
   pub covers : (v : N) → (Contains g.nodes v ↔ ((c : Scc N) × Contains components c × Contains c.nodes.items v))
   pub shares : (c : Scc N) (u v : N) → Contains components c → Contains c.nodes.items u → (Contains c.nodes.items v ↔ ReachEachOther g u v)
   pub ordered : (i j : ℕ) (c d : Scc N) → i < j → slice_get components i ≡ Some c → slice_get components j ≡ Some d → HasGreatest (number_in eq orders.post) c.nodes.items d.nodes.items
-  pub members : (c : Scc N) → Contains components c → Falls (number_in eq orders.pre) c.nodes.items
+  pub members : (c : Scc N) → Contains components c → Descends (number_in eq orders.pre) c.nodes.items
   pub cyclic : (c : Scc N) → Contains components c → (IsTrue c.is_cyclic ↔ IsCyclic g c.nodes.items)

@@ -3,7 +3,7 @@ use Rattle.std.specs.Prelude.{◌≡◌, ℕ, ◌<◌, ◌≤◌, ◌⊎◌, ◌
 use Rattle.pliron_core.specs.Tree.{Tree, layout_of}
 use Rattle.pliron_laws.specs.Paths.{Path}
 use Rattle.pliron_traversal.specs.Digraph.{Digraph, IsLawful, Reaches, HasCycle}
-use Rattle.pliron_traversal.specs.Search.{Orders, IsSearch, StandsBefore}
+use Rattle.pliron_traversal.specs.Search.{Orders, IsSearch, ComesBefore}
 use Rattle.pliron_traversal.specs.Walks.{concatenation, AreWalks}
 use Rattle.pliron_traversal.specs.EdgeKinds.{HasBackEdge}
 use Rattle.pliron_traversal.specs.Regions.{graph_of_region, IsLawfulRegion}
@@ -14,13 +14,13 @@ module _ {N : Type 0} (eq : N → N → Bool) where
   -- in post-order the target of an edge is before its source, or reaches it
   abbrev pub EdgeInPostOrder : Type 0
   EdgeInPostOrder = (g : Digraph N) (walks : List (List N)) → IsLawful eq g → AreWalks eq g walks
-      → (u v : N) → Contains g.nodes u → Contains (g.succ u) v → StandsBefore eq (concatenation walks) v u ⊎ Reaches g v u
+      → (u v : N) → Contains g.nodes u → Contains (g.succ u) v → ComesBefore eq (concatenation walks) v u ⊎ Reaches g v u
 
   -- in a reversed walk the source of an edge is before its target, or the target reaches it
   abbrev pub EdgeInTopologicalOrder : Type 0
   EdgeInTopologicalOrder = (g : Digraph N) (walks : List (List N)) → IsLawful eq g → AreWalks eq g walks
       → (walk : List N) → Contains walks walk
-      → (u v : N) → Contains walk u → Contains walk v → Contains (g.succ u) v → StandsBefore eq (reverse walk) u v ⊎ Reaches g v u
+      → (u v : N) → Contains walk u → Contains walk v → Contains (g.succ u) v → ComesBefore eq (reverse walk) u v ⊎ Reaches g v u
 
   -- an edge between two walks goes from the later to the earlier
   abbrev pub EdgeBetweenWalks : Type 0

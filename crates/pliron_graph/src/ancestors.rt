@@ -2,7 +2,7 @@
 //! fail.
 ghost use Rattle.std.specs.Prelude.{◌≡◌, ◌↔◌, IsTrue, IfSome};
 ghost use Rattle.pliron_core.specs.Tree.{IsLive, IsBlock, IsInside, parent_of};
-ghost use Rattle.pliron_core.specs.Erased.{StandsIn, IsBlockWithin};
+ghost use Rattle.pliron_core.specs.Erased.{IsInOperation, IsBlockWithin};
 ghost use Rattle.pliron_laws.specs.Answers.{HeadPasses};
 ghost use Rattle.pliron_graph.specs.Ancestors.{IsAtOrAbove, IsAncestor, IsDirectlyInBlock, IsDirectlyIn, IsDirectlyInRegion, IsBlockInside, FindsNearest, StrictlyPrecedes};
 
@@ -72,7 +72,7 @@ pub fn find_ancestor_op_of_op_in_region(
     requires { IsLive ctx.now.tree op }
     ensures nearest { FindsNearest (IsInside ctx.now.tree) (IsAtOrAbove ctx.now.tree op)
         (IsDirectlyInRegion ctx.now.tree region) result }
-    ensures stands { IfSome result (λ a. IsLive ctx.now.tree a) }
+    ensures liveness { IfSome result (λ a. IsLive ctx.now.tree a) }
 {
     ctx.well_formed();
     let mut at = Some(op);
@@ -97,7 +97,7 @@ pub fn find_ancestor_op_of_op_in_block(
     requires { IsLive ctx.now.tree op }
     ensures nearest { FindsNearest (IsInside ctx.now.tree) (IsAtOrAbove ctx.now.tree op)
         (IsDirectlyInBlock ctx.now.tree block) result }
-    ensures stands { IfSome result (λ a. IsLive ctx.now.tree a) }
+    ensures liveness { IfSome result (λ a. IsLive ctx.now.tree a) }
 {
     ctx.well_formed();
     let mut at = Some(op);
@@ -120,9 +120,9 @@ pub fn find_ancestor_block_of_op_in_region(
     region: Ptr<Region>,
 ) -> Option<Ptr<BasicBlock>>
     requires { IsLive ctx.now.tree op }
-    ensures nearest { FindsNearest (IsBlockInside ctx.now.tree) (λ b. StandsIn ctx.now.tree b op)
+    ensures nearest { FindsNearest (IsBlockInside ctx.now.tree) (λ b. IsInOperation ctx.now.tree b op)
         (IsDirectlyIn ctx.now.tree region) result }
-    ensures stands { IfSome result (λ b. IsBlock ctx.now.tree b) }
+    ensures liveness { IfSome result (λ b. IsBlock ctx.now.tree b) }
 {
     ctx.well_formed();
     let above = find_ancestor_op_of_op_in_region(ctx, op, region)?;
@@ -141,7 +141,7 @@ pub fn find_ancestor_block_of_block_in_region(
     requires { IsBlock ctx.now.tree block }
     ensures nearest { FindsNearest (IsBlockInside ctx.now.tree) (λ b. IsBlockWithin ctx.now.tree b block)
         (IsDirectlyIn ctx.now.tree region) result }
-    ensures stands { IfSome result (λ b. IsBlock ctx.now.tree b) }
+    ensures liveness { IfSome result (λ b. IsBlock ctx.now.tree b) }
 {
     ctx.well_formed();
     let own = block.get_parent_region(ctx)?;
@@ -163,7 +163,7 @@ pub fn find_ancestor_of_op_type<D: Dialect>(
     requires { IsLive ctx.now.tree op }
     ensures nearest { FindsNearest (IsInside ctx.now.tree) (IsAncestor ctx.now.tree op)
         (HeadPasses (λ h. D.is_of_kind h kind) ctx.now.tree) result }
-    ensures stands { IfSome result (λ a. IsLive ctx.now.tree a) }
+    ensures liveness { IfSome result (λ a. IsLive ctx.now.tree a) }
 {
     ctx.well_formed();
     let mut at = op.get_parent_op(ctx);
@@ -188,7 +188,7 @@ pub fn find_ancestor_of_op_interface<D: Dialect>(
     requires { IsLive ctx.now.tree op }
     ensures nearest { FindsNearest (IsInside ctx.now.tree) (IsAncestor ctx.now.tree op)
         (HeadPasses (λ h. D.has_interface h interface) ctx.now.tree) result }
-    ensures stands { IfSome result (λ a. IsLive ctx.now.tree a) }
+    ensures liveness { IfSome result (λ a. IsLive ctx.now.tree a) }
 {
     ctx.well_formed();
     let mut at = op.get_parent_op(ctx);

@@ -1,13 +1,13 @@
 //! Strongly connected components.
 ghost use Rattle.std.specs.Prelude.{◌≡◌, ◌↔◌, ◌++◌, ◌<◌, ◌≤◌, [], false, Contains, IsTrue, IfOk, OnOk, IsOkUnless, Some, length, drop, nat_eq};
 ghost use Rattle.std.specs.List.{All, IsDistinct, list_any};
-ghost use Rattle.pliron_graph.specs.Components.{AreComponents, IsCyclic, Falls, entry_then_nodes};
+ghost use Rattle.pliron_graph.specs.Components.{AreComponents, IsCyclic, Descends, entry_then_nodes};
 ghost use Rattle.pliron_traversal.specs.Search.{IsListed, number_in};
 ghost use Rattle.pliron_traversal.specs.Internal.Forest.{Grew};
 ghost use Rattle.pliron_graph.specs.Internal.Collecting.{TakesIn, Collects, IsTaken, AreNumberedComponents};
 ghost use Rattle.pliron_graph.specs.Internal.Named.{AreNamedComponents};
 ghost use Rattle.pliron_traversal.specs.Adjacency.{AreInverse, graph_of};
-ghost use Rattle.pliron_graph.specs.Internal.Picking.{StandsFrom};
+ghost use Rattle.pliron_graph.specs.Internal.Picking.{IsListedFrom};
 
 use indexmap::IndexSet;
 use pliron_laws::OptError;
@@ -256,7 +256,7 @@ fn last_by_falling_number<N: Eq + Copy, S: ListedSet<N>>(
     requires within { first ≤ length (S.listed held.now) }
     ensures same_nodes { OnOk result ((v : N) → (Contains nodes.new.items v
         ↔ Contains (drop first (S.listed held.now)) v)) }
-    ensures falls { OnOk result (Falls (number_in N.eq (S.listed order.now)) nodes.new.items) }
+    ensures descends { OnOk result (Descends (number_in N.eq (S.listed order.now)) nodes.new.items) }
     ensures memory { IsOkUnless result OptError.Memory }
 {
     if held.len() - first < order.len() / 8 {
@@ -279,12 +279,12 @@ fn pick_by_falling_number<N: Eq + Copy, S: ListedSet<N>>(
     requires within { first ≤ length (S.listed held.now) }
     ensures same_nodes { OnOk result ((v : N) → (Contains nodes.new.items v
         ↔ Contains (drop first (S.listed held.now)) v)) }
-    ensures falls { OnOk result (Falls (number_in N.eq (S.listed order.now)) nodes.new.items) }
+    ensures descends { OnOk result (Descends (number_in N.eq (S.listed order.now)) nodes.new.items) }
     ensures memory { IsOkUnless result OptError.Memory }
 {
     nodes.clear();
     for node in order.as_slice() {
-        if !stands_from(held, first, node) {
+        if !is_listed_from(held, first, node) {
             continue;
         }
         nodes.push(*node)?;
@@ -294,8 +294,8 @@ fn pick_by_falling_number<N: Eq + Copy, S: ListedSet<N>>(
 }
 
 /// Whether the node is in the set at this place or behind it. Takes no memory. Cost: a look-up of the place.
-pub(crate) fn stands_from<N: Eq, S: ListedSet<N>>(set: &S, first: usize, node: &N) -> bool
-    ensures { IsTrue result ↔ StandsFrom N.eq (S.listed set.now) first node.now }
+pub(crate) fn is_listed_from<N: Eq, S: ListedSet<N>>(set: &S, first: usize, node: &N) -> bool
+    ensures { IsTrue result ↔ IsListedFrom N.eq (S.listed set.now) first node.now }
 {
     let place = set.place_of(node);
     first <= place && place < set.len()
@@ -311,7 +311,7 @@ fn by_falling_number<N: Eq + Copy, S: ListedSet<N>>(
     requires distinct { IsDistinct N.eq nodes.now }
     requires listed { All (IsListed N.eq (S.listed order.now)) nodes.now }
     ensures same_nodes { OnOk result ((v : N) → (Contains sorted.new.items v ↔ Contains nodes.now v)) }
-    ensures falls { OnOk result (Falls (number_in N.eq (S.listed order.now)) sorted.new.items) }
+    ensures descends { OnOk result (Descends (number_in N.eq (S.listed order.now)) sorted.new.items) }
     ensures memory { IsOkUnless result OptError.Memory }
 {
     sorted.clear();

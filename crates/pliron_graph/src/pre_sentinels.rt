@@ -5,10 +5,10 @@ ghost use Rattle.pliron_traversal.specs.Search.{number_in};
 ghost use Rattle.pliron_traversal.specs.Internal.Forest.{Grew};
 ghost use Rattle.pliron_graph.specs.Components.{entry_then_nodes};
 ghost use Rattle.pliron_graph.specs.Reverse.{ArePreSentinels, IsLastListed, IsSink};
-ghost use Rattle.pliron_graph.specs.Internal.Picking.{StandsFrom};
+ghost use Rattle.pliron_graph.specs.Internal.Picking.{IsListedFrom};
 ghost use Rattle.pliron_graph.specs.Internal.Sinks.{AreFoundSinks};
 
-use crate::components::{search_all, stands_from, take_component};
+use crate::components::{is_listed_from, search_all, take_component};
 use indexmap::IndexSet;
 use pliron_laws::OptError;
 use pliron_traversal::traversal::{index_nodes, nodes_by_number};
@@ -99,7 +99,7 @@ fn last_of_sink<C, G: ControlFlowGraph<C>, S: ListedSet<G::Node>>(
     requires lawful { G.is_lawful graph.now ctx.now }
     requires places { S.listed places.now ≡ (G.graph graph.now ctx.now).nodes }
     requires stand { (v : G.Node) → Contains (G.graph graph.now ctx.now).nodes v
-        → (StandsFrom G.Node.eq (S.listed held.now) first v ↔ Contains members.now v) }
+        → (IsListedFrom G.Node.eq (S.listed held.now) first v ↔ Contains members.now v) }
     requires not_empty { 0 < length members.now }
     requires nodes { All (λ v. Contains (G.graph graph.now ctx.now).nodes v) members.now }
     ensures { (v : G.Node) → ((result ≡ Some v) ↔ (IsSink (G.graph graph.now ctx.now) members.now ×
@@ -134,7 +134,7 @@ fn is_sink<C, G: ControlFlowGraph<C>, S: ListedSet<G::Node>>(
 ) -> bool
     requires lawful { G.is_lawful graph.now ctx.now }
     requires nodes { All (λ v. Contains (G.graph graph.now ctx.now).nodes v) members.now }
-    ensures { IsTrue result ↔ All (λ u. All (StandsFrom G.Node.eq (S.listed held.now) first)
+    ensures { IsTrue result ↔ All (λ u. All (IsListedFrom G.Node.eq (S.listed held.now) first)
         ((G.graph graph.now ctx.now).succ u)) members.now }
 {
     for node in members {
@@ -155,11 +155,11 @@ fn stays_inside<C, G: ControlFlowGraph<C>, S: ListedSet<G::Node>>(
 ) -> bool
     requires lawful { G.is_lawful graph.now ctx.now }
     requires member { Contains (G.graph graph.now ctx.now).nodes node.now }
-    ensures { IsTrue result ↔ All (StandsFrom G.Node.eq (S.listed held.now) first)
+    ensures { IsTrue result ↔ All (IsListedFrom G.Node.eq (S.listed held.now) first)
         ((G.graph graph.now ctx.now).succ node.now) }
 {
     for i in 0..graph.num_successors(ctx, node) {
-        if !stands_from(held, first, &graph.get_successor(ctx, node, i)) {
+        if !is_listed_from(held, first, &graph.get_successor(ctx, node, i)) {
             return false;
         }
     }

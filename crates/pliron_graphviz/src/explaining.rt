@@ -90,7 +90,7 @@ impl Explaining<'_> {
             write!(
                 self.lines,
                 "{}:{} {} ({name}",
-                reason.part.line, reason.part.column, reason.told
+                reason.part.line, reason.part.column, reason.reported
             )?;
             if self.counts_runs {
                 write!(self.lines, ", run {}", self.run)?;
@@ -114,13 +114,13 @@ impl Explaining<'_> {
         let before = tree_state(self.alloc, op, ctx)?;
         let status = make_rewrite(self.alloc, rewrite, op, ctx)?;
         if status == IRStatus::Changed {
-            self.tell(pass, rewrite, &before, ctx)?;
+            self.accept(pass, rewrite, &before, ctx)?;
         }
         Ok(status)
     }
 
     // Reports what changed since this state.
-    fn tell(
+    fn accept(
         &mut self,
         pass: PassName,
         rewrite: Rewrite,
@@ -232,7 +232,7 @@ fn explain_in(
     };
     explaining.list(list, &operations, ctx)?;
     let mut lines = explaining.lines;
-    if list.tells_missed {
+    if list.reports_missed {
         push_missed(
             alloc,
             &MissedText {

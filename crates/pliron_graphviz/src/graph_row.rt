@@ -4,7 +4,7 @@ ghost use Rattle.std.specs.List.{All};
 ghost use Rattle.pliron_traversal.specs.Digraph.{Digraph};
 ghost use Rattle.pliron_traversal.specs.Search.{IsListed};
 ghost use Rattle.pliron_dominance.specs.Dominance.{IsImmediate};
-ghost use Rattle.pliron_dominance.specs.NumberTests.{TellsDominance};
+ghost use Rattle.pliron_dominance.specs.NumberTests.{GivesDominance};
 ghost use Rattle.pliron_graphviz.specs.GraphRows.{IsRowOf};
 
 use pliron_dominance::DominatorTree;
@@ -27,8 +27,8 @@ pub struct GraphRow<N> {
 
 // The immediate dominator of a node, if it is reached and has one.
 fn dominator_of<N: Eq + Hash + Copy>(tree: &DominatorTree<N>, node: N) -> Option<N>
-    ensures immediate { (g : Digraph N) → TellsDominance N.eq g tree.now → IfSome result (λ d. IsImmediate g d node) }
-    ensures alone { (g : Digraph N) → TellsDominance N.eq g tree.now → IsListed N.eq tree.now.nodes node →
+    ensures immediate { (g : Digraph N) → GivesDominance N.eq g tree.now → IfSome result (λ d. IsImmediate g d node) }
+    ensures alone { (g : Digraph N) → GivesDominance N.eq g tree.now → IsListed N.eq tree.now.nodes node →
         ((result ≡ None) ↔ (g.entry ≡ Some node)) }
 {
     if tree.is_reached(&node) {
@@ -47,7 +47,7 @@ fn row_of<C, G: ControlFlowGraph<C>>(
     node: G::Node,
 ) -> Result<GraphRow<G::Node>, OptError>
     requires lawful { G.is_lawful graph.now ctx.now }
-    requires tree { TellsDominance G.Node.eq (G.graph graph.now ctx.now) tree.now }
+    requires tree { GivesDominance G.Node.eq (G.graph graph.now ctx.now) tree.now }
     requires member { Contains (G.graph graph.now ctx.now).nodes node }
     ensures node { IfOk result (λ row. row.node ≡ node) }
     ensures row { IfOk result (λ row. IsRowOf (G.graph graph.now ctx.now) row) }

@@ -22,7 +22,7 @@ pub struct MissedText<'m> {
 #[derive(Clone, Copy)]
 struct Missed<'m> {
     alloc: Global,
-    told: &'m MissedText<'m>,
+    reported: &'m MissedText<'m>,
 }
 
 // Whether a `const` makes the value.
@@ -64,7 +64,7 @@ fn is_used(ctx: &Context, op: Ptr<Operation>) -> bool
 impl Missed<'_> {
     // Whether the list has the pass.
     fn has(&self, pass: PassName) -> bool {
-        self.told.list.passes.iter().any(|other| *other == pass)
+        self.reported.list.passes.iter().any(|other| *other == pass)
     }
 
     // Adds that the operand isn't known.
@@ -80,10 +80,10 @@ impl Missed<'_> {
         let number = index.saturating_add(1);
         write!(why, "its operand {number}")?;
         if index < op.num_operand(ctx)
-            && let Some(name) = self.told.parts.value(op.get_operand(ctx, index).key())
+            && let Some(name) = self.reported.parts.value(op.get_operand(ctx, index).key())
         {
             why.push_str(", ")?;
-            push_on_one_line(why, name.part.of(self.told.text))?;
+            push_on_one_line(why, name.part.of(self.reported.text))?;
             why.push_str(",")?;
         }
         why.push_str(" isn't known")
@@ -154,14 +154,14 @@ impl Missed<'_> {
         pass: &str,
         lines: &mut String,
     ) -> Result<(), AllocError> {
-        let Some(part) = self.told.parts.operation_part(op.key()) else {
+        let Some(part) = self.reported.parts.operation_part(op.key()) else {
             return Ok(());
         };
         if why.is_empty() {
             return Ok(());
         }
         write!(lines, "{}:{} ", part.line, part.column)?;
-        push_on_one_line(lines, part.of(self.told.text))?;
+        push_on_one_line(lines, part.of(self.reported.text))?;
         write!(lines, ": {why} (missed by {pass})\n")
     }
 
@@ -189,7 +189,7 @@ impl Missed<'_> {
 /// Cost: linear in what is live.
 pub fn push_missed(
     alloc: Global,
-    told: &MissedText,
+    reported: &MissedText,
     root: Ptr<Operation>,
     ctx: &Context,
     lines: &mut String,
@@ -197,7 +197,7 @@ pub fn push_missed(
     if !root.is_live(ctx) {
         return Ok(());
     }
-    let missed = Missed { alloc, told };
+    let missed = Missed { alloc, reported };
     for op in Contents::new(root, ctx) {
         if op.is_live(ctx) {
             missed.push(ctx, op, lines)?;

@@ -11,5 +11,5 @@ pub struct PassList {
     pub is_nested: bool,
     pub passes: Vec<PassName>,
     /// Whether what they left unchanged is reported, too, and why.
-    pub tells_missed: bool,
+    pub reports_missed: bool,
 }

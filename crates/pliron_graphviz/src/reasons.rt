@@ -33,7 +33,7 @@ pub enum Rewrite {
 pub struct Reason {
     /// Where it is in the text.
     pub part: TextPart,
-    pub told: String,
+    pub reported: String,
 }
 
 /// How many bytes of an operation are shown.
@@ -111,23 +111,28 @@ impl<'t> Reasons<'t> {
     }
 
     // Adds the name of a block.
-    fn push_block(&self, told: &mut String, block: Ptr<BasicBlock>) -> Result<(), AllocError> {
+    fn push_block(&self, reported: &mut String, block: Ptr<BasicBlock>) -> Result<(), AllocError> {
         let head = self.words.block(self.text, block.key()).unwrap_or(b"_");
-        push_on_one_line(told, name_of_head(head))
+        push_on_one_line(reported, name_of_head(head))
     }
 
     // Adds what a value is called: its name in the text, or the number that it is.
-    fn push_value(&self, ctx: &Context, told: &mut String, value: Value) -> Result<(), AllocError> {
+    fn push_value(
+        &self,
+        ctx: &Context,
+        reported: &mut String,
+        value: Value,
+    ) -> Result<(), AllocError> {
         if let Some(name) = self.words.value(value.key()) {
-            return push_on_one_line(told, name.part.of(self.text));
+            return push_on_one_line(reported, name.part.of(self.text));
         }
         match if value.is_live(ctx) {
             number_made(ctx, value)
         } else {
             None
         } {
-            Some(number) => write!(told, "{number}"),
-            None => told.push_str("a new value"),
+            Some(number) => write!(reported, "{number}"),
+            None => reported.push_str("a new value"),
         }
     }
 
@@ -138,13 +143,13 @@ impl<'t> Reasons<'t> {
         };
         let mut line = String::new(self.alloc);
         push_on_one_line(&mut line, part.of(self.text))?;
-        let mut told = String::new(self.alloc);
+        let mut reported = String::new(self.alloc);
         for letter in line.chars().take(SHOWN) {
-            told.push(letter)?;
+            reported.push(letter)?;
         }
-        told.push_str(if line.len() > SHOWN { " ..: " } else { ": " })?;
-        told.push_str(why.as_str())?;
-        self.reasons.push(Reason { part, told })?;
+        reported.push_str(if line.len() > SHOWN { " ..: " } else { ": " })?;
+        reported.push_str(why.as_str())?;
+        self.reasons.push(Reason { part, reported })?;
         Ok(())
     }
 
@@ -158,15 +163,15 @@ impl<'t> Reasons<'t> {
         let Some(name) = self.words.value(argument.key()) else {
             return Ok(());
         };
-        let mut told = format!(in self.alloc; "argument ")?;
-        push_on_one_line(&mut told, name.part.of(self.text))?;
-        told.push_str(" of ")?;
-        self.push_block(&mut told, block)?;
-        told.push_str(": ")?;
-        told.push_str(why)?;
+        let mut reported = format!(in self.alloc; "argument ")?;
+        push_on_one_line(&mut reported, name.part.of(self.text))?;
+        reported.push_str(" of ")?;
+        self.push_block(&mut reported, block)?;
+        reported.push_str(": ")?;
+        reported.push_str(why)?;
         self.reasons.push(Reason {
             part: name.part,
-            told,
+            reported,
         })?;
         Ok(())
     }
@@ -278,7 +283,7 @@ impl Reasons<'_> {
     }
 
     // Why an operation was erased.
-    fn why_gone(&self, ctx: &Context, state: &OperationState) -> Result<String, AllocError> {
+    fn why_erased(&self, ctx: &Context, state: &OperationState) -> Result<String, AllocError> {
         let mut why = String::new(self.alloc);
         match (self.rewrite, state.holder, state.block, state.successor) {
             (Rewrite::DeadCode, Some(holder), _, _) if !holder.is_live(ctx) => {
@@ -416,7 +421,7 @@ impl Reasons<'_> {
         let why = if state.op.is_live(ctx) {
             self.why_changed(ctx, state)?
         } else {
-            self.why_gone(ctx, state)?
+            self.why_erased(ctx, state)?
         };
         if why.is_empty() {
             return Ok(());

@@ -39,7 +39,7 @@ pub fn run_instrumented<N: FoldingNotation, C: Progress + Drop>(
     requires live { IsLive ctx.old.tree root }
     requires linked { IsWellLinked N.D.meaning ctx.old.tree root }
     ensures same { DoAsBefore N.D.meaning ctx.old.tree ctx.new.tree }
-    ensures stands { IsLive ctx.new.tree root }
+    ensures liveness { IsLive ctx.new.tree root }
     ensures links { IsWellLinked N.D.meaning ctx.new.tree root }
     ensures inside { IsInsideChange ctx.old.tree ctx.new.tree root }
     ensures ran { IfOk result (λ status. RunsAlone ⟦<BenchFactKind as PartialEq>⟧.eq

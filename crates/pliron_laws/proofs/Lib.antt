@@ -4,7 +4,7 @@ pub mod PassedLemmas
 pub mod EdgeLastLemmas
 pub mod ConstantLemmas
 pub mod FoldLemmas
-pub mod StandInLemmas
+pub mod MaterialisedLemmas
 pub mod FoldSteps
 pub mod Records
 pub mod PutLinks

@@ -133,7 +133,7 @@ module _ (m : Tree) (c op b : ℕ) (w : IsTree m) (live : IsLive m c) (free : pa
   pub tree_placed : IsTree next
   tree_placed = record {
     keys = record { operands = w.keys.operands; successors = w.keys.successors; parents = length-set m.parents c (Some b) ∙ w.keys.parents; arguments = w.keys.arguments ∙ sym (length-set m.bodies b put); block_parents = w.keys.block_parents ∙ sym (length-set m.bodies b put); slots = w.keys.slots };
-    joined = kept_put m c b put w.keys w.joined live (w.joined.standing op b at).1 free (λ h. blockless m w c b none h);
+    joined = kept_put m c b put w.keys w.joined live (w.joined.all_in_place op b at).1 free (λ h. blockless m w c b none h);
     bodies = record { listed = put_listed; owned = put_owned; distinct = put_distinct };
     layouts = w.layouts;
   }

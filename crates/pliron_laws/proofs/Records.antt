@@ -22,7 +22,7 @@ pub record ShowsBlock (t : Tree) (b : ℕ) (x : Block) : Type 0 where
 pub record ShowsEntry (t : Tree) (r : ℕ) (x : Block) : Type 0 where
   pub key : ℕ
   pub entry : first_of (layout_of t r) None ≡ Some key
-  pub stands : block_at t key ≡ Some x
+  pub liveness : block_at t key ≡ Some x
 
 abbrev pub operation_of : Tree → ℕ → Head → Operation
 operation_of t k h = record { head = h; operands = operands_of t k; results = results_of t k; successors = successors_of t k; regions = regions_of t k; parent = parent_of t k }
@@ -77,7 +77,7 @@ entry_shows t r x e = region (region_parent_of t r) e
   where
     block : (y : Option ℕ) → first_of (layout_of t r) None ≡ y → and_block t y ≡ Some x → ShowsEntry t r x
     block None f g = grind arith
-    block (Some b) f g = record { key = b; entry = f; stands = g }
+    block (Some b) f g = record { key = b; entry = f; liveness = g }
 
     region : (y : Option ℕ) → and_block t (entry_of (region_with t r y)) ≡ Some x → ShowsEntry t r x
     region None f = grind arith

@@ -11,7 +11,7 @@ Act = Shape → Datum → List Datum → Move
 pub data Comes (act : Act) (s : Shape) (first : List Datum) : Bool → Datum → List Datum → Type 0 where
   Begins : Comes act s first false Empty first
   Answered : {later : Bool} {memo : Datum} {input : List Datum} (i : ℕ) (ds : List Datum) (next : Datum) (answer : List Datum) → Comes act s first later memo input → act s memo input ≡ Visit i ds next → Comes act s first true next answer
-  Told : {later : Bool} {memo : Datum} {input : List Datum} (effect next answer : Datum) → Comes act s first later memo input → act s memo input ≡ Emit effect next → Comes act s first true next (answer ∷ [])
+  AnsweredByWorld : {later : Bool} {memo : Datum} {input : List Datum} (effect next answer : Datum) → Comes act s first later memo input → act s memo input ≡ Emit effect next → Comes act s first true next (answer ∷ [])
 
 -- two transitions are one, where invocations and jumps are compared by these relations
 pub record MovesAlike (visits : ℕ → List Datum → List Datum → Type 0) (gotos : ℕ → List Datum → ℕ → List Datum → Type 0) (a b : Move) : Type 0 where

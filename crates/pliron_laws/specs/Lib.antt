@@ -11,7 +11,7 @@ pub mod Laws
 pub mod Entries
 pub mod Folding
 pub mod Outcomes
-pub mod StandIns
+pub mod MaterialisedConstants
 pub mod Replacing
 pub mod InPlace
 pub mod Answers

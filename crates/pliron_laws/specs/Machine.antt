@@ -1,5 +1,5 @@
 -- The machine that runs a tree.
-pub use Rattle.pliron_laws.specs.States.{Environment, Waiting, State, Sight, Ended, Trapped, Reached, Next, Goes, Over, trap, environment_with, bind, prepend_optional, data_of, input_of}
+pub use Rattle.pliron_laws.specs.States.{Environment, Waiting, State, Sight, Ended, Trapped, Reached, Next, Continues, Over, trap, environment_with, bind, prepend_optional, data_of, input_of}
 use Rattle.std.specs.Prelude.{ℕ, zero, suc, List, [], ◌∷◌, Option, Some, None, slice_get}
 use Rattle.pliron_laws.specs.Datum.{Datum, Empty, Move, Give, Visit, Goto, Leave, Emit, Trap, Meaning}
 use Rattle.pliron_laws.specs.Tree.{Tree, Operation, Block, op_at, block_at, entry_block, shape_of}
@@ -11,16 +11,16 @@ at_rest s env rest waiting = record s { environment = env; rest = rest; memo = E
 -- an invocation ends with these values, or the run where no invocation is open
 abbrev pub leave : State → List Waiting → List Datum → Next
 leave s [] ds = Over (Ended ds s.effects)
-leave s (w ∷ ws) ds = Goes (record s { rest = w.rest; memo = w.memo; answer = Some ds; waiting = ws })
+leave s (w ∷ ws) ds = Continues (record s { rest = w.rest; memo = w.memo; answer = Some ds; waiting = ws })
 
 abbrev pub after_giving : State → List ℕ → List Waiting → List Datum → Option Environment → Next
 after_giving s rest waiting ds None = trap s
 after_giving s rest [] ds (Some env) = Over (Ended ds s.effects)
-after_giving s rest (w ∷ ws) ds (Some env) = Goes (at_rest s env rest (w ∷ ws))
+after_giving s rest (w ∷ ws) ds (Some env) = Continues (at_rest s env rest (w ∷ ws))
 
 abbrev pub begin : State → List ℕ → List Waiting → Option Environment → Next
 begin s rest waiting None = trap s
-begin s rest waiting (Some env) = Goes (at_rest s env rest waiting)
+begin s rest waiting (Some env) = Continues (at_rest s env rest waiting)
 
 -- a block begins with these values as its arguments
 abbrev pub enter : State → Option Block → List Datum → List Waiting → Next
@@ -41,7 +41,7 @@ go_to t s b ds (w ∷ ws) = enter s (block_in t b) ds (w ∷ ws)
 
 abbrev pub emit : State → Datum → Datum → List Datum → Next
 emit s e memo [] = Over (Reached (e ∷ s.effects))
-emit s e memo (d ∷ world) = Goes (record s { memo = memo; answer = Some (d ∷ []); world = world; effects = e ∷ s.effects })
+emit s e memo (d ∷ world) = Continues (record s { memo = memo; answer = Some (d ∷ []); world = world; effects = e ∷ s.effects })
 
 -- what a transition of the operation `o` does, where `self` is its handle and `rest` are the ones after it
 abbrev pub perform : Tree → State → Operation → ℕ → List ℕ → Move → Next
@@ -69,12 +69,12 @@ unfoldable pub step : Meaning → Tree → State → Next
 step m t s = step_at m t s s.rest
 
 abbrev pub onward : Next → (State → Next) → Next
-onward (Goes s) go = go s
+onward (Continues s) go = go s
 onward (Over x) go = Over x
 
 -- at most n steps
 abbrev pub run_from : (State → Next) → ℕ → State → Next
-run_from f zero s = Goes s
+run_from f zero s = Continues s
 run_from f (suc n) s = onward (f s) (run_from f n)
 
 abbrev pub start : ℕ → List Datum → List Datum → State
@@ -93,5 +93,5 @@ abbrev pub run : Meaning → Tree → ℕ → List Datum → List Datum → ℕ 
 run m t root inputs world n = run_from (step m t) n (start root inputs world)
 
 abbrev pub sight_after : Next → Sight
-sight_after (Goes s) = Reached s.effects
+sight_after (Continues s) = Reached s.effects
 sight_after (Over x) = x

@@ -31,7 +31,7 @@ pub data Sight : Type 0 where
   Reached : (effects : List Datum) → Sight
 
 pub data Next : Type 0 where
-  Goes : State → Next
+  Continues : State → Next
   Over : Sight → Next
 
 abbrev pub trap : State → Next

@@ -23,7 +23,7 @@ ghost use Rattle.pliron_core.specs.Tree.{Tree, IsLive, block_parent_operation_of
 ghost use Rattle.pliron_laws.specs.Datum.{Head, Shape, Meaning};
 ghost use Rattle.pliron_laws.specs.Folding.{Constants, Feasible, AnswersTrue, AnswersJumps, MakesConstants};
 ghost use Rattle.pliron_laws.specs.Laws.{KeepsCounts, GivesAtOnce, ForwardsOperands, ActsWithoutArgument};
-ghost use Rattle.pliron_laws.specs.StandIns.{AreStanding, IsRestored, IsStoodIn};
+ghost use Rattle.pliron_laws.specs.MaterialisedConstants.{ArePutBefore, IsRestored, FoldsByConstants};
 ghost use Rattle.pliron_laws.specs.InPlace.{Outcome, FoldsInPlace, PassSameTests, materialising_outcome};
 ghost use Rattle.pliron_laws.specs.Answers.{ReadsHead, ReadsCounts, ReadsShape, ReadsEdges, ReadsPlace, HasEntryArgument, HeadPasses, AreForwarded, IsForwardedAt, IsForwardedOnce, HasPlace, LosesForwarded, IsMaterialised};
 ghost use Rattle.pliron_laws.specs.Entries.{EntryOperands, NamesOperands, RootsNameNone};
@@ -31,8 +31,10 @@ ghost use Rattle.pliron_laws.specs.declared.dialect.Interface.{Interface as Inte
 ghost use Rattle.pliron_laws.specs.declared.dialect.Interface.TheVariants.{RegionBranch};
 
 use crate::fault::OptError;
+use crate::materialised_constants::{
+    MaterialisedConstant, erase_all, hand_over_all, insert_constant, take_room,
+};
 use crate::room::Room;
-use crate::stand_ins::{StandIn, erase_all, hand_over_all, stand_in, take_room};
 use pliron_core::{AttrObj, BasicBlock, Context, IRStatus, Operation, Ptr, Rewriter, Value};
 use std::alloc::Global;
 
@@ -192,7 +194,7 @@ pub trait ConstFoldInterface: HasMeaning {
         ctx.well_formed();
         let answers = Self::check_fold(alloc, op, ctx, operand_attrs)?;
         let mut made = Vec::new(alloc);
-        match Self::make_stand_ins(alloc, op, ctx, &answers, rewriter, &mut made) {
+        match Self::materialise_constants(alloc, op, ctx, &answers, rewriter, &mut made) {
             Ok(()) => Ok(hand_over_all(ctx, &made, rewriter)),
             Err(refusal) => {
                 erase_all(ctx, made, rewriter);
@@ -207,21 +209,21 @@ pub trait ConstFoldInterface: HasMeaning {
     /// Asks that the operation is live in a block, for an insertion point just before it, and for an empty list
     /// of constants. Errors: allocation failure, after which the list has those that were made. Cost: one
     /// `materialize` for each answer.
-    fn make_stand_ins<R: Rewriter + Room>(
+    fn materialise_constants<R: Rewriter + Room>(
         alloc: Global,
         op: Ptr<Operation>,
         ctx: &mut Context,
         answers: &[Option<AttrObj>],
         rewriter: &mut R,
-        made: &mut Vec<StandIn>,
+        made: &mut Vec<MaterialisedConstant>,
     ) -> Result<(), OptError>
         requires live { IsLive ctx.old.tree op }
         requires placed { IsSome (parent_of ctx.old.tree op) }
         requires point { R.point rewriter.old ≡ BeforeOperation op }
         requires none { made.old.items ≡ [] }
-        ensures ok { OnOk result (IsStoodIn accepts constant_head op answers.now ctx.old.tree made.new.items
+        ensures ok { OnOk result (FoldsByConstants accepts constant_head op answers.now ctx.old.tree made.new.items
             ctx.new.tree) }
-        ensures refused { OnErr result ((u : Tree) × AreStanding op ctx.old.tree made.new.items u
+        ensures refused { OnErr result ((u : Tree) × ArePutBefore op ctx.old.tree made.new.items u
             × IsRestored u ctx.new.tree) }
         ensures memory { IsOkUnless result OptError.Memory }
         ensures point { R.point rewriter.new ≡ R.point rewriter.old }
@@ -237,7 +239,7 @@ pub trait ConstFoldInterface: HasMeaning {
             let Some(constant) = Self::materialize(alloc, attr, ctx)? else {
                 continue;
             };
-            stand_in(ctx, constant, old, rewriter, made)?;
+            insert_constant(ctx, constant, old, rewriter, made)?;
         }
         Ok(())
     }

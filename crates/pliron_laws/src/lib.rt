@@ -10,9 +10,9 @@ pub mod edges;
 mod fault;
 mod linked;
 pub mod materialise;
+mod materialised_constants;
 pub mod reads;
 mod room;
-mod stand_ins;
 
 pub use dialect::{
     BlockArgRemoval, BranchOpFoldInterface, ConstFoldInterface, Dialect, HasMeaning, Interface,
@@ -21,5 +21,5 @@ pub use dialect::{
 pub use edges::edges_last;
 pub use fault::OptError;
 pub use linked::{is_admitted, is_well_linked};
+pub use materialised_constants::MaterialisedConstant;
 pub use room::Room;
-pub use stand_ins::StandIn;

@@ -12,12 +12,12 @@ only : {x y : ℕ} → In x (y ∷ []) → x ≡ y
 only (inl e) = e
 only (inr i) = absurd i
 
-standing : (x b : ℕ) → parent_of worked_example x ≡ Some b → IsLive worked_example x × IsBlock worked_example b
-standing zero b e = absurd (not_none e)
-standing (suc zero) b e = (refl, subst (λ z. IsBlock worked_example z) (some_is e) refl)
-standing (suc (suc zero)) b e = (refl, subst (λ z. IsBlock worked_example z) (some_is e) refl)
-standing (suc (suc (suc zero))) b e = (refl, subst (λ z. IsBlock worked_example z) (some_is e) refl)
-standing (suc (suc (suc (suc x)))) b e = absurd (not_none e)
+all_in_place : (x b : ℕ) → parent_of worked_example x ≡ Some b → IsLive worked_example x × IsBlock worked_example b
+all_in_place zero b e = absurd (not_none e)
+all_in_place (suc zero) b e = (refl, subst (λ z. IsBlock worked_example z) (some_is e) refl)
+all_in_place (suc (suc zero)) b e = (refl, subst (λ z. IsBlock worked_example z) (some_is e) refl)
+all_in_place (suc (suc (suc zero))) b e = (refl, subst (λ z. IsBlock worked_example z) (some_is e) refl)
+all_in_place (suc (suc (suc (suc x)))) b e = absurd (not_none e)
 
 placed : (b r : ℕ) → block_parent_of worked_example b ≡ Some r → IsRegion worked_example r
 placed zero r e = subst (λ z. IsRegion worked_example z) (some_is e) refl
@@ -118,7 +118,7 @@ layout_once (suc l) = tt
 
 joined : IsJoined worked_example
 joined = record {
-  standing = standing;
+  all_in_place = all_in_place;
   placed = placed;
   regions = regions;
   results = results;

@@ -42,7 +42,7 @@ fn run_alone<N: ModuleNotation>(
 ) -> Result<IRStatus, OptError>
     requires live { IsLive ctx.old.tree loaded.now.root }
     requires linked { IsWellLinked N.D.meaning ctx.old.tree loaded.now.root }
-    ensures stands { IsLive ctx.new.tree loaded.now.root }
+    ensures liveness { IsLive ctx.new.tree loaded.now.root }
     ensures links { IsWellLinked N.D.meaning ctx.new.tree loaded.now.root }
 {
     let plan = plan_of(alloc, name, nested)?;
@@ -92,7 +92,7 @@ fn write_round<N: ModuleNotation>(
 ) -> Result<bool, OptError>
     requires live { IsLive ctx.old.tree loaded.now.root }
     requires linked { IsWellLinked N.D.meaning ctx.old.tree loaded.now.root }
-    ensures stands { IsLive ctx.new.tree loaded.now.root }
+    ensures liveness { IsLive ctx.new.tree loaded.now.root }
     ensures links { IsWellLinked N.D.meaning ctx.new.tree loaded.now.root }
 {
     let mut changes = false;

@@ -23,7 +23,7 @@ pub trait ModuleNotation: FoldingNotation {
     /// place where the text is outside the notation, and what was expected; allocation failure.
     fn read_module(alloc: Global, text: &[u8], ctx: &mut Context) -> Result<Module, Fault>
         requires { ctx.old.tree ≡ no_tree }
-        ensures stands { IfOk result (λ read. IsLive ctx.new.tree read.root) }
+        ensures liveness { IfOk result (λ read. IsLive ctx.new.tree read.root) }
         ensures linked { IfOk result (λ read. IsWellLinked Self.D.meaning ctx.new.tree read.root) }
         ensures text { IfOk result (λ read. Self.reads text.now ctx.new.tree read.root) };
 

@@ -47,7 +47,7 @@ fn given(identity: Identity, a: Option<i128>, b: Option<i128>) -> Option<i128> {
 }
 
 // What is found for an operation of these operands, of which an x is none.
-fn told(identity: Identity, a: Option<i128>, b: Option<i128>) -> Finding {
+fn reported(identity: Identity, a: Option<i128>, b: Option<i128>) -> Finding {
     match left(identity, a, b) {
         Some(place) => Finding::Place(place),
         None => match given(identity, a, b) {
@@ -73,7 +73,7 @@ fn identity_of(alloc: Global, class: Class, how: &str, width: u32) -> Option<Ide
 }
 
 // What the table says of an operation, where the words can be read.
-fn told_of_row(alloc: Global, words: &[&str]) -> Option<Finding> {
+fn answer_of_row(alloc: Global, words: &[&str]) -> Option<Finding> {
     let [name, how, from, a, b] = words else {
         return None;
     };
@@ -89,7 +89,7 @@ fn told_of_row(alloc: Global, words: &[&str]) -> Option<Finding> {
         });
     }
     let identity = identity_of(alloc, class, how, width_from)?;
-    Some(told(identity, known(width_from, a)?, known(width_from, b)?))
+    Some(reported(identity, known(width_from, a)?, known(width_from, b)?))
 }
 
 // What the row wants of an operation whose result has this width.
@@ -116,8 +116,8 @@ fn result_width(words: &[&str]) -> Option<u32> {
 
 // Whether the table's answer is that of the row, where both can be read.
 fn agrees_on(alloc: Global, words: &[&str], answer: &str) -> Option<bool> {
-    let told = told_of_row(alloc, words)?;
-    Some(told == wanted(result_width(words)?, answer)?)
+    let reported = answer_of_row(alloc, words)?;
+    Some(reported == wanted(result_width(words)?, answer)?)
 }
 
 // Whether the table's answer is that of the row.
@@ -132,7 +132,7 @@ fn agrees(alloc: Global, row: &str) -> bool {
 }
 
 #[test]
-fn tells_as_llvm(rt: HostRuntime) {
+fn answers_as_llvm(rt: HostRuntime) {
     let alloc = rt.alloc();
     let failing = identities::ROWS.lines().find(|row| !agrees(alloc, row));
     assert_eq!(rt; failing, None);
@@ -146,7 +146,7 @@ fn computes(alloc: Global, words: &[&str], answer: &str) -> Option<bool> {
     let width_from = width(from)?;
     let (a, b) = (known(width_from, a)?, known(width_from, b)?);
     let identity = identity_of(alloc, class_named(name.as_bytes())?, how, width_from)?;
-    let number = match told(identity, a, b) {
+    let number = match reported(identity, a, b) {
         Finding::Place(0) => a,
         Finding::Place(_) => b,
         Finding::Number(number) => Some(number),
@@ -167,7 +167,7 @@ fn is_computed(alloc: Global, row: &str) -> bool {
 }
 
 #[test]
-fn tells_what_is_computed(rt: HostRuntime) {
+fn answers_what_is_computed(rt: HostRuntime) {
     let alloc = rt.alloc();
     for rows in [
         wrapping::ROWS,

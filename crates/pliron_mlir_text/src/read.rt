@@ -30,7 +30,7 @@ pub fn read_module<D: Dialect>(
     text: &[u8],
     ctx: &mut Context,
 ) -> Result<Module, Fault>
-    ensures stands { IfOk result (λ read. IsLive ctx.new.tree read.root) }
+    ensures liveness { IfOk result (λ read. IsLive ctx.new.tree read.root) }
     ensures linked { IfOk result (λ read. IsWellLinked D.meaning ctx.new.tree read.root) }
 {
     let (syntax, sheet) = parse_text(alloc, text)?;
@@ -44,7 +44,7 @@ fn build_module<D: Dialect>(
     mut sheet: Sheet,
     ctx: &mut Context,
 ) -> Result<Module, Fault>
-    ensures stands { IfOk result (λ read. IsLive ctx.new.tree read.root) }
+    ensures liveness { IfOk result (λ read. IsLive ctx.new.tree read.root) }
     ensures linked { IfOk result (λ read. IsWellLinked D.meaning ctx.new.tree read.root) }
 {
     match build_linked::<D>(alloc, &mut syntax, &mut sheet, ctx) {
@@ -60,7 +60,7 @@ fn build_linked<D: Dialect>(
     sheet: &mut Sheet,
     ctx: &mut Context,
 ) -> Result<Ptr<Operation>, Fault>
-    ensures stands { IfOk result (λ root. IsLive ctx.new.tree root) }
+    ensures liveness { IfOk result (λ root. IsLive ctx.new.tree root) }
     ensures linked { IfOk result (λ root. IsWellLinked D.meaning ctx.new.tree root) }
 {
     let root = build(alloc, syntax, sheet, ctx)?;

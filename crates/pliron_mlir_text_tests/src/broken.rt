@@ -91,7 +91,7 @@ a block outside the region -- \"m\"() ({|^a:|  \"r\"() ({|    \"b\"()[^a] : () -
     => 4:11 a block of this region";
 
 #[test]
-fn tells_where_modules_are_broken(rt: HostRuntime) {
+fn reports_where_modules_are_broken(rt: HostRuntime) {
     for case in BROKEN.lines() {
         let mut ctx = Context::new(rt.alloc());
         expect_broken(&rt, rt.alloc(), case, &mut ctx);

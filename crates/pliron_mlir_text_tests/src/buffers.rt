@@ -28,10 +28,10 @@ pub fn left_of(
     needed: usize,
     buffer: &[u8],
 ) -> String {
-    let mut told = format!(in alloc; "{} {needed} ", status.number()).expect(rt, "memory");
+    let mut reported = format!(in alloc; "{} {needed} ", status.number()).expect(rt, "memory");
     for byte in buffer {
         let shown = if *byte == b'\n' { b'|' } else { *byte };
-        told.push(char::from(shown)).expect(rt, "memory");
+        reported.push(char::from(shown)).expect(rt, "memory");
     }
-    told
+    reported
 }

@@ -64,9 +64,9 @@ fn texts_that_are_too_long(rt: HostRuntime) {
     assert!(rt; answer.as_str() == "mod { }\nunchanged\n");
     let answer = optimise_by_list::<BenchNotation>(alloc, b"dce", &text);
     assert!(rt; matches!(answer, Err(Failure::Text)));
-    let told = fault_of(&rt, alloc, &text);
+    let reported = fault_of(&rt, alloc, &text);
     assert_eq!(rt;
-        told.as_str(),
+        reported.as_str(),
         "0 21 at most 1048576 bytes 1048576+1 1:1048577"
     );
 }
@@ -108,13 +108,13 @@ fn fault_of(rt: &impl Abort, alloc: Global, text: &[u8]) -> String {
     let expected = buffer.get(..needed).unwrap_or(&[]);
     let expected = std::str::from_utf8(expected).unwrap_or("no text");
     let (line, column) = (place.line, place.column);
-    let told = format!(in alloc;
+    let reported = format!(in alloc;
         "{} {needed} {expected} {}+{} {line}:{column}",
         status.number(),
         place.start,
         place.len
     );
-    told.expect(rt, "memory")
+    reported.expect(rt, "memory")
 }
 
 /// Names and broken texts, and what is reported about them: the status, the length of the words, these, and the place.
@@ -131,7 +131,7 @@ fn faults(rt: HostRuntime) {
     for case in BROKEN.lines() {
         let (name, row) = case.split_once(" -- ").expect(&rt, "a name");
         let (text, wanted) = row.split_once(" => ").expect(&rt, "a case");
-        let told = fault_of(&rt, alloc, &with_lines(&rt, alloc, text));
-        assert!(&rt; told.as_str() == wanted, "{name}: {told}");
+        let reported = fault_of(&rt, alloc, &with_lines(&rt, alloc, text));
+        assert!(&rt; reported.as_str() == wanted, "{name}: {reported}");
     }
 }

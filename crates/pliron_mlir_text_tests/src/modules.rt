@@ -116,13 +116,13 @@ fn fault_of(rt: &impl Abort, alloc: Global, text: &[u8]) -> String {
     let expected = buffer.get(..needed).unwrap_or(&[]);
     let expected = std::str::from_utf8(expected).unwrap_or("no text");
     let (line, column) = (place.line, place.column);
-    let told = format!(in alloc;
+    let reported = format!(in alloc;
         "{} {needed} {expected} {}+{} {line}:{column}",
         status.number(),
         place.start,
         place.len
     );
-    told.expect(rt, "memory")
+    reported.expect(rt, "memory")
 }
 
 /// Names and broken modules, and what is reported about them: the status, the length of the words, these, and the
@@ -142,7 +142,7 @@ fn faults(rt: HostRuntime) {
     for case in BROKEN.lines() {
         let (name, row) = case.split_once(" -- ").expect(&rt, "a name");
         let (text, wanted) = row.split_once(" => ").expect(&rt, "a case");
-        let told = fault_of(&rt, alloc, &with_lines(&rt, alloc, text));
-        assert!(&rt; told.as_str() == wanted, "{name}: {told}");
+        let reported = fault_of(&rt, alloc, &with_lines(&rt, alloc, text));
+        assert!(&rt; reported.as_str() == wanted, "{name}: {reported}");
     }
 }

@@ -117,8 +117,8 @@ fn ends(rt: HostRuntime) {
         let (name, rest) = case.split_once(" -- ").expect(&rt, "a name");
         let (word, rest) = rest.split_once(" :: ").expect(&rt, "a word");
         let (text, wanted) = rest.split_once(" => ").expect(&rt, "an outcome");
-        let told = ending(&rt, rt.alloc(), word, text, &NOTHING);
-        assert!(&rt; told.as_str() == wanted, "{name}: {told}");
+        let reported = ending(&rt, rt.alloc(), word, text, &NOTHING);
+        assert!(&rt; reported.as_str() == wanted, "{name}: {reported}");
     }
 }
 
@@ -130,7 +130,7 @@ static SUM: &str = "\
 |    %2 = \"arith.addi\"(%0, %1) <{overflowFlags = #arith.overflow<none>}> : (i32, i32) -> i32\
 |    \"func.return\"(%2) : (i32) -> ()|  }) : () -> ()|}) : () -> ()";
 
-static TOLD: &str = "\
+static REPORTED: &str = "\
 0 \"builtin.module\"() ({|  \"func.func\"() <{sym_name = \"f\"}> ({\
 |    %3 = \"arith.constant\"() <{value = 3 : i32}> : () -> i32|    \"func.return\"(%3) : (i32) -> ()|  }) : () -> ()\
 |}) : () -> ()| => verified after each of 2 runs of passes: 2 without a fault\
@@ -147,13 +147,13 @@ static TOLD: &str = "\
 |checked: what is printed says the same tree|";
 
 #[test]
-fn tells_what_passes_did(rt: HostRuntime) {
+fn reports_what_passes_did(rt: HostRuntime) {
     let options = ModuleOptions {
         counts: true,
         verifies: true,
         times: false,
         checks: true,
     };
-    let told = ending(&rt, rt.alloc(), "sccp,dce", SUM, &options);
-    assert!(rt; told.as_str() == TOLD, "{told}");
+    let reported = ending(&rt, rt.alloc(), "sccp,dce", SUM, &options);
+    assert!(rt; reported.as_str() == REPORTED, "{reported}");
 }

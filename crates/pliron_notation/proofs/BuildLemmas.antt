@@ -13,7 +13,7 @@ use Rattle.pliron_core.proofs.GrownLemmas.{get_grown, get_last, get_last_same, i
 use Rattle.pliron_core.proofs.CreatedLemmas.{holder_kept}
 use Rattle.pliron_core.proofs.HoldingLemmas.{some_is, in_slice, slice_in, past_live, region_by, block_held, held_block, holder_by, holder_live}
 use Rattle.pliron_notation.specs.declared.build.Built.{Built}
-use Rattle.pliron_notation.specs.Building.{All, AddsOnly, IsExtended, IsGrown, IsNewBlock, IsNewRegion, IsBuilt, BuildingGoesOn, AreStanding, after_appending}
+use Rattle.pliron_notation.specs.Building.{All, AddsOnly, IsExtended, IsGrown, IsNewBlock, IsNewRegion, IsBuilt, BuildingContinues, AreLive, after_appending}
 use Rattle.pliron_notation.proofs.GrowthLemmas.{keeps-length, more-live, more-block, more-region, more-defined, more-region_parent, more-block_parent_operation, more-holder, more-appended, more-created, more-block_created, more-operand, more-successor, kept-created, kept-appended, kept-block_created, kept-operand, kept-successor}
 
 -- what is added to a list that all has it
@@ -56,15 +56,15 @@ adds-none xs ys new e x i = inl (subst (In x) e i)
 pub length-last : (xs ys : List ℕ) (x : ℕ) → ys ≡ xs ++ x ∷ [] → length ys ≡ length xs + 1
 length-last xs ys x e = ap length e ∙ length-append xs (x ∷ [])
 
-pub goes-refl : (u : Tree) (built : Built) → BuildingGoesOn u built u built
+pub goes-refl : (u : Tree) (built : Built) → BuildingContinues u built u built
 goes-refl u built t root b = b
 
-pub goes-trans : (u v w : Tree) (a b c : Built) → BuildingGoesOn u a v b → BuildingGoesOn v b w c → BuildingGoesOn u a w c
+pub goes-trans : (u v w : Tree) (a b c : Built) → BuildingContinues u a v b → BuildingContinues v b w c → BuildingContinues u a w c
 goes-trans u v w a b c g h t root is = h t root (g t root is)
 
 -- what stands goes on standing where there is more
-pub standing-more : (u v : Tree) (built : Built) → IsExtended u v → AreStanding u built → AreStanding v built
-standing-more u v built m s = record {
+pub all_in_place-more : (u v : Tree) (built : Built) → IsExtended u v → AreLive u built → AreLive v built
+all_in_place-more u v built m s = record {
   operations = λ x i. more-live u v m x (s.operations x i);
   blocks = λ x i. more-block u v m x (s.blocks x i);
   regions = λ x i. more-region u v m x (s.regions x i);
@@ -102,8 +102,8 @@ module _ (u : Tree) (head : Head) (results regions : ℕ) (is : IsTree u) where
   not_inside x (IsInside.Deeper p e i) = not_inside p i
 
   pub created-outside : (block : ℕ) → IsBlock u block → HoldsBlock c (length u.operations) block → ⊥
-  created-outside block stands h =
-      let b = block_held u block is.joined stands in
+  created-outside block liveness h =
+      let b = block_held u block is.joined liveness in
       let e : block_parent_operation_of c block ≡ Some b.1 = more-block_parent_operation u c (more-created u head results regions) block b.1 b.5 in
       let same : b.1 ≡ h.0 = some_is (sym e ∙ h.1) in
       let lt : h.0 < length u.operations = subst (λ z. z < length u.operations) same (past_live u b.1 b.6) in
@@ -179,15 +179,15 @@ module _ (u : Tree) (head : Head) (results regions block : ℕ) (is : IsTree u) 
       regions = all-adds (IsNewRegion t v root) built.regions.items more.regions.items (regions_of v op) regs (λ x i. let n = b.regions x i in (n.0, more-region_parent u v m x n.0 n.1, n.2, n.3)) (new_region is_v);
     }
 
-  pub goes-appended : (w : Tree) (built more : Built) → w ≡ v → IsTree w → In block built.blocks.items → AddsOnly built.operations.items more.operations.items (op ∷ []) → more.blocks.items ≡ built.blocks.items → AddsOnly built.regions.items more.regions.items (regions_of w op) → BuildingGoesOn u built w more
+  pub goes-appended : (w : Tree) (built more : Built) → w ≡ v → IsTree w → In block built.blocks.items → AddsOnly built.operations.items more.operations.items (op ∷ []) → more.blocks.items ≡ built.blocks.items → AddsOnly built.regions.items more.regions.items (regions_of w op) → BuildingContinues u built w more
   goes-appended w built more same is_w i ops blocks regs t root b =
       subst (λ z. IsBuilt t z root more) (sym same)
       (appended-built t root built b i (subst IsTree same is_w) more ops blocks (subst (λ z. AddsOnly built.regions.items more.regions.items (regions_of z op)) same regs))
 
-  pub standing-appended : (w : Tree) (built more : Built) → w ≡ v → IsTree w → AreStanding u built → AddsOnly built.operations.items more.operations.items (op ∷ []) → more.blocks.items ≡ built.blocks.items → AddsOnly built.regions.items more.regions.items (regions_of w op) → AddsOnly built.values.items more.values.items (results_of w op) → AreStanding w more
-  standing-appended w built more same is_w s ops blocks regs values =
+  pub all_in_place-appended : (w : Tree) (built more : Built) → w ≡ v → IsTree w → AreLive u built → AddsOnly built.operations.items more.operations.items (op ∷ []) → more.blocks.items ≡ built.blocks.items → AddsOnly built.regions.items more.regions.items (regions_of w op) → AddsOnly built.values.items more.values.items (results_of w op) → AreLive w more
+  all_in_place-appended w built more same is_w s ops blocks regs values =
       let mw : IsExtended u w = subst (IsExtended u) (sym same) m in
-      let n = standing-more u w built mw s in
+      let n = all_in_place-more u w built mw s in
       record {
         operations = all-adds (IsLive w) built.operations.items more.operations.items (op ∷ []) ops n.operations (all-one (IsLive w) op (subst (λ z. IsLive z op) (sym same) appended-live));
         blocks = all-same (IsBlock w) built.blocks.items more.blocks.items blocks n.blocks;
@@ -236,13 +236,13 @@ module _ (u : Tree) (region arguments : ℕ) (is : IsTree u) where
   pub created-arguments : length (arguments_of w block) ≡ arguments
   created-arguments = let e : length u.bodies ≡ length u.arguments = sym is.keys.arguments in ap (λ k. length (get_or w.arguments k [])) e ∙ ap length (get_last_same u.arguments (range_with_len (length u.definitions) arguments) []) ∙ length-range_with_len (length u.definitions) arguments
 
-  pub goes-block : (v : Tree) (built more : Built) → v ≡ w → In region built.regions.items → more.operations.items ≡ built.operations.items → AddsOnly built.blocks.items more.blocks.items (block ∷ []) → more.regions.items ≡ built.regions.items → BuildingGoesOn u built v more
+  pub goes-block : (v : Tree) (built more : Built) → v ≡ w → In region built.regions.items → more.operations.items ≡ built.operations.items → AddsOnly built.blocks.items more.blocks.items (block ∷ []) → more.regions.items ≡ built.regions.items → BuildingContinues u built v more
   goes-block v built more same i ops blocks regs t root b = subst (λ z. IsBuilt t z root more) (sym same) (block-built t root built b i more ops blocks regs)
 
-  pub standing-block : (v : Tree) (built more : Built) → v ≡ w → IsTree v → AreStanding u built → more.operations.items ≡ built.operations.items → AddsOnly built.blocks.items more.blocks.items (block ∷ []) → more.regions.items ≡ built.regions.items → AddsOnly built.values.items more.values.items (arguments_of v block) → AreStanding v more
-  standing-block v built more same is_v s ops blocks regs values =
+  pub all_in_place-block : (v : Tree) (built more : Built) → v ≡ w → IsTree v → AreLive u built → more.operations.items ≡ built.operations.items → AddsOnly built.blocks.items more.blocks.items (block ∷ []) → more.regions.items ≡ built.regions.items → AddsOnly built.values.items more.values.items (arguments_of v block) → AreLive v more
+  all_in_place-block v built more same is_v s ops blocks regs values =
       let mv : IsExtended u v = subst (IsExtended u) (sym same) mw in
-      let n = standing-more u v built mv s in
+      let n = all_in_place-more u v built mv s in
       record {
         operations = all-same (IsLive v) built.operations.items more.operations.items ops n.operations;
         blocks = all-adds (IsBlock v) built.blocks.items more.blocks.items (block ∷ []) blocks n.blocks (all-one (IsBlock v) block (subst (λ z. IsBlock z block) (sym same) (ap is_some created-parent)));
@@ -257,7 +257,7 @@ old-operands t is root op e le = let f = is.keys.operands in omega (arith, e, le
 old-successors : (t : Tree) → IsTree t → (root op : ℕ) → root ≡ length t.operations → root ≤ op → length t.successors ≤ op
 old-successors t is root op e le = let f = is.keys.successors in omega (arith, e, le, f)
 
-pub goes-operand : (u v : Tree) (built : Built) (op value : ℕ) → v ≡ operand_pushed u op value → In op built.operations.items → BuildingGoesOn u built v built
+pub goes-operand : (u v : Tree) (built : Built) (op value : ℕ) → v ≡ operand_pushed u op value → In op built.operations.items → BuildingContinues u built v built
 goes-operand u v built op value same i t root b = subst (λ z. IsBuilt t z root built) (sym same) (record {
   grown = record {
     before = b.grown.before;
@@ -272,7 +272,7 @@ goes-operand u v built op value same i t root b = subst (λ z. IsBuilt t z root 
   regions = b.regions;
 })
 
-pub goes-successor : (u v : Tree) (built : Built) (op block : ℕ) → v ≡ successor_pushed u op block → In op built.operations.items → BuildingGoesOn u built v built
+pub goes-successor : (u v : Tree) (built : Built) (op block : ℕ) → v ≡ successor_pushed u op block → In op built.operations.items → BuildingContinues u built v built
 goes-successor u v built op block same i t root b = subst (λ z. IsBuilt t z root built) (sym same) (record {
   grown = record {
     before = b.grown.before;
@@ -287,11 +287,11 @@ goes-successor u v built op block same i t root b = subst (λ z. IsBuilt t z roo
   regions = b.regions;
 })
 
-pub standing-operand : (u v : Tree) (built : Built) (op value : ℕ) → v ≡ operand_pushed u op value → AreStanding u built → AreStanding v built
-standing-operand u v built op value same s = standing-more u v built (subst (IsExtended u) (sym same) (more-operand u op value)) s
+pub all_in_place-operand : (u v : Tree) (built : Built) (op value : ℕ) → v ≡ operand_pushed u op value → AreLive u built → AreLive v built
+all_in_place-operand u v built op value same s = all_in_place-more u v built (subst (IsExtended u) (sym same) (more-operand u op value)) s
 
-pub standing-successor : (u v : Tree) (built : Built) (op block : ℕ) → v ≡ successor_pushed u op block → AreStanding u built → AreStanding v built
-standing-successor u v built op block same s = standing-more u v built (subst (IsExtended u) (sym same) (more-successor u op block)) s
+pub all_in_place-successor : (u v : Tree) (built : Built) (op block : ℕ) → v ≡ successor_pushed u op block → AreLive u built → AreLive v built
+all_in_place-successor u v built op block same s = all_in_place-more u v built (subst (IsExtended u) (sym same) (more-successor u op block)) s
 
 -- the operation of a text before anything is defined in it
 module _ (t : Tree) (head : Head) (is : IsTree t) where

@@ -14,7 +14,7 @@ use Rattle.pliron_notation.specs.Building.{HasMade}
 use Rattle.pliron_notation.specs.declared.steps.OutlineStep.{OutlineStep as Printed}
 use Rattle.pliron_notation.specs.Notation.{AllBelow, AreInRegion, IsNext, IsNextOperation, IsNextBlock, IsOrdered}
 use Rattle.pliron_bench.specs.Bench.{result_count, region_count}
-use Rattle.pliron_notation.specs.Printing.{AllStand, IsStanding}
+use Rattle.pliron_notation.specs.Printing.{AreStepsLive, IsStepLive}
 
 drop-past : {A : Type 0} (xs : List A) (i : ℕ) → length xs ≤ i → drop i xs ≡ []
 drop-past [] zero le = refl
@@ -55,12 +55,12 @@ next-block m m' n None h = absurd h
 next-block m m' n (Some t) h = (t, refl, h.0, h.1, h.2)
 
 -- steps that stand
-pub stand-at : (t : Tree) (steps : List Printed) (i : ℕ) (d : Printed) → AllStand t steps → i < length steps → IsStanding t (get_or steps i d)
+pub stand-at : (t : Tree) (steps : List Printed) (i : ℕ) (d : Printed) → AreStepsLive t steps → i < length steps → IsStepLive t (get_or steps i d)
 stand-at t [] i d a lt = absurd (omega (arith, lt))
 stand-at t (s ∷ steps) zero d a lt = a.0
 stand-at t (s ∷ steps) (suc i) d a lt = stand-at t steps i d a.1 (let h : suc i < suc (length steps) = lt in omega (arith, h))
 
-pub stand-more : (t : Tree) (steps : List Printed) (s : Printed) → AllStand t steps → IsStanding t s → AllStand t (steps ++ s ∷ [])
+pub stand-more : (t : Tree) (steps : List Printed) (s : Printed) → AreStepsLive t steps → IsStepLive t s → AreStepsLive t (steps ++ s ∷ [])
 stand-more t [] s a h = (h, tt)
 stand-more t (x ∷ steps) s a h = (a.0, stand-more t steps s a.1 h)
 

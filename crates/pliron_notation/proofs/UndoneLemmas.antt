@@ -10,7 +10,7 @@ use Rattle.pliron_core.specs.Changes.{IsSameTree}
 use Rattle.pliron_core.specs.Writes.{taken_from}
 use Rattle.pliron_core.specs.Erased.{is_met_above, blank_at, after_clearing, after_erasing, IsSelfContained}
 use Rattle.pliron_core.proofs.BlankLemmas.{blanked_gone, blanked_kept}
-use Rattle.pliron_core.proofs.ClearedLemmas.{told, met_above}
+use Rattle.pliron_core.proofs.ClearedLemmas.{reported, met_above}
 use Rattle.pliron_core.proofs.TreeLemmas.{cases_lt, block-within}
 use Rattle.pliron_core.proofs.HoldingLemmas.{some_is, not_none, past_live, region_live, result_live, argument_stands, slot_is, region_by, maker_is, region_parent_is, block_held, holder_live, inside_by}
 use Rattle.pliron_core.proofs.WithinLemmas.{is_within, within_is}
@@ -42,7 +42,7 @@ module _ (t u : Tree) (root : ℕ) (wt : IsTree t) (wu : IsTree u) (g : IsGrown 
       go : (o : Option ℕ) → parent_of t k ≡ o → IsLive t p
       go None f = absurd (not_none (sym (ap (λ o. up_from o (λ b. block_parent_operation_of u b)) (same ∙ f)) ∙ e))
       go (Some b) f =
-          let h = block_held t b wt.joined (wt.joined.standing k b f).1 in
+          let h = block_held t b wt.joined (wt.joined.all_in_place k b f).1 in
           let there : block_parent_operation_of u b ≡ Some h.1 = more-block_parent_operation t u g.kept.more b h.1 h.5 in
           let is : h.1 ≡ p = some_is (sym there ∙ (sym (ap (λ o. up_from o (λ b. block_parent_operation_of u b)) (same ∙ f)) ∙ e)) in
           subst (IsLive t) is h.6
@@ -102,27 +102,27 @@ module _ (t u : Tree) (root : ℕ) (wt : IsTree t) (wu : IsTree u) (g : IsGrown 
   }
 
   -- the tables after the root is erased
-  abbrev gone : Option ℕ → Bool
-  gone o = is_met_above u (nat_eq root) o
+  abbrev deleted : Option ℕ → Bool
+  deleted o = is_met_above u (nat_eq root) o
 
-  op_table : {A : Type 0} (d : A) (xs ys : List A) → KeepsEntries xs ys → length xs ≡ root → ((k : ℕ) → (IsLive u k → ⊥) → get_or ys k d ≡ d) → (k : ℕ) → get_or (blank_at (λ x. gone (Some x)) d ys) k d ≡ get_or xs k d
+  op_table : {A : Type 0} (d : A) (xs ys : List A) → KeepsEntries xs ys → length xs ≡ root → ((k : ℕ) → (IsLive u k → ⊥) → get_or ys k d ≡ d) → (k : ℕ) → get_or (blank_at (λ x. deleted (Some x)) d ys) k d ≡ get_or xs k d
   op_table d xs ys keeps count dead k = ⊎_elim old new (cases_lt k root)
     where
-      old : k < root → get_or (blank_at (λ x. gone (Some x)) d ys) k d ≡ get_or xs k d
-      old lt = ⊎_elim (λ e. absurd (old_not_within k lt (within_is u root k e))) (λ e. blanked_kept (λ x. gone (Some x)) d ys k e ∙ keeps-old xs ys k d (subst (λ z. k < z) (sym count) lt) keeps) (told (gone (Some k)))
+      old : k < root → get_or (blank_at (λ x. deleted (Some x)) d ys) k d ≡ get_or xs k d
+      old lt = ⊎_elim (λ e. absurd (old_not_within k lt (within_is u root k e))) (λ e. blanked_kept (λ x. deleted (Some x)) d ys k e ∙ keeps-old xs ys k d (subst (λ z. k < z) (sym count) lt) keeps) (reported (deleted (Some k)))
 
-      nothing : gone (Some k) ≡ false → root ≤ k → get_or ys k d ≡ d
+      nothing : deleted (Some k) ≡ false → root ≤ k → get_or ys k d ≡ d
       nothing e from = ⊎_elim (λ live. absurd (true≢false (sym (is_within u root k wu.joined g.live (new_within k live from)) ∙ e))) (λ no. dead k no) (live_or k)
 
-      new : root ≤ k → get_or (blank_at (λ x. gone (Some x)) d ys) k d ≡ get_or xs k d
-      new from = ⊎_elim (λ e. blanked_gone (λ x. gone (Some x)) d ys k e) (λ e. blanked_kept (λ x. gone (Some x)) d ys k e ∙ nothing e from) (told (gone (Some k))) ∙ sym (get_or_past xs k d (subst (λ z. z ≤ k) (sym count) from))
+      new : root ≤ k → get_or (blank_at (λ x. deleted (Some x)) d ys) k d ≡ get_or xs k d
+      new from = ⊎_elim (λ e. blanked_gone (λ x. deleted (Some x)) d ys k e) (λ e. blanked_kept (λ x. deleted (Some x)) d ys k e ∙ nothing e from) (reported (deleted (Some k))) ∙ sym (get_or_past xs k d (subst (λ z. z ≤ k) (sym count) from))
 
   dead_parent : (k : ℕ) → (IsLive u k → ⊥) → parent_of u k ≡ None
   dead_parent k dead = go (parent_of u k) refl
     where
       go : (o : Option ℕ) → parent_of u k ≡ o → parent_of u k ≡ None
       go None e = e
-      go (Some b) e = absurd (dead (wu.joined.standing k b e).0)
+      go (Some b) e = absurd (dead (wu.joined.all_in_place k b e).0)
 
   -- a region that an old operation lists is old
   old_region : (r k i : ℕ) → k < root → slice_get (regions_of u k) i ≡ Some r → IsRegion t r
@@ -135,16 +135,16 @@ module _ (t u : Tree) (root : ℕ) (wt : IsTree t) (wu : IsTree u) (g : IsGrown 
   region_within r is = let s = slot_is t r is in let lt = slice_get_within t.slots r s.0 s.1 in let e = wt.keys.slots in omega (arith, lt, e)
 
   -- a new block stands within the root
-  new_block : (b : ℕ) → length t.bodies ≤ b → IsBlock u b → gone (block_parent_operation_of u b) ≡ true
+  new_block : (b : ℕ) → length t.bodies ≤ b → IsBlock u b → deleted (block_parent_operation_of u b) ≡ true
   new_block b from is =
       let h = block_held u b wu.joined is in
       ⊎_elim
       (λ lt. let s = slot_is u h.0 h.3 in let same : s.0.op ≡ h.1 = some_is (sym (region_parent_is u h.0 s.0 s.1) ∙ h.4) in old_new b h.0 from h.2 (old_region h.0 s.0.op s.0.index (subst (λ z. z < root) (sym same) lt) s.2))
-      (λ new. ap gone h.5 ∙ is_within u root h.1 wu.joined g.live (new_within h.1 h.6 new))
+      (λ new. ap deleted h.5 ∙ is_within u root h.1 wu.joined g.live (new_within h.1 h.6 new))
       (cases_lt h.1 root)
     where
       -- a block of an old region is old
-      old_new : (b r : ℕ) → length t.bodies ≤ b → block_parent_of u b ≡ Some r → IsRegion t r → gone (block_parent_operation_of u b) ≡ true
+      old_new : (b r : ℕ) → length t.bodies ≤ b → block_parent_of u b ≡ Some r → IsRegion t r → deleted (block_parent_operation_of u b) ≡ true
       old_new b r from e old =
           let layout : layout_of u r ≡ layout_of t r = keeps-old t.layouts u.layouts r [] (region_within r old) g.kept.layouts in
           let owned : block_parent_of t b ≡ Some r = wt.layouts.owned b r (subst (In b) layout (wu.layouts.listed b r e)) in
@@ -152,12 +152,12 @@ module _ (t u : Tree) (root : ℕ) (wt : IsTree t) (wu : IsTree u) (g : IsGrown 
           absurd (omega (arith, le, from))
 
   -- a new region that has blocks stands within the root
-  new_region : (r : ℕ) → length t.layouts ≤ r → IsRegion u r → gone (region_parent_of u r) ≡ true
+  new_region : (r : ℕ) → length t.layouts ≤ r → IsRegion u r → deleted (region_parent_of u r) ≡ true
   new_region r from is =
       let s = slot_is u r is in
       ⊎_elim
       (λ lt. absurd (let le = region_within r (old_region r s.0.op s.0.index lt s.2) in omega (arith, le, from)))
-      (λ new. ap gone (region_parent_is u r s.0 s.1) ∙ is_within u root s.0.op wu.joined g.live (new_within s.0.op (region_live u wu.joined s.0.op s.0.index r s.2) new))
+      (λ new. ap deleted (region_parent_is u r s.0 s.1) ∙ is_within u root s.0.op wu.joined g.live (new_within s.0.op (region_live u wu.joined s.0.op s.0.index r s.2) new))
       (cases_lt s.0.op root)
 
   block_or : (b : ℕ) → IsBlock u b ⊎ (block_parent_of u b ≡ None)
@@ -168,7 +168,7 @@ module _ (t u : Tree) (root : ℕ) (wt : IsTree t) (wu : IsTree u) (g : IsGrown 
       go (Some r) e = inl (ap is_some e)
 
   -- an old block is not gone
-  kept_block : (b : ℕ) → b < length t.bodies → gone (block_parent_operation_of u b) ≡ true → ⊥
+  kept_block : (b : ℕ) → b < length t.bodies → deleted (block_parent_operation_of u b) ≡ true → ⊥
   kept_block b lt e = go (block_parent_of t b) refl
     where
       same : block_parent_of u b ≡ block_parent_of t b
@@ -178,48 +178,48 @@ module _ (t u : Tree) (root : ℕ) (wt : IsTree t) (wu : IsTree u) (g : IsGrown 
       go None f = let m = met_above u root (block_parent_operation_of u b) e in not_none (sym (ap (λ o. up_from o (λ r. region_parent_of u r)) (same ∙ f)) ∙ m.1)
       go (Some r) f = let m = met_above u root (block_parent_operation_of u b) e in old_block b (ap is_some f) (m.0, m.1, m.2)
 
-  block_table : {A : Type 0} (d : A) (xs ys : List A) → KeepsEntries xs ys → length xs ≡ length t.bodies → ((b : ℕ) → block_parent_of u b ≡ None → get_or ys b d ≡ d) → (b : ℕ) → get_or (blank_at (λ x. gone (block_parent_operation_of u x)) d ys) b d ≡ get_or xs b d
+  block_table : {A : Type 0} (d : A) (xs ys : List A) → KeepsEntries xs ys → length xs ≡ length t.bodies → ((b : ℕ) → block_parent_of u b ≡ None → get_or ys b d ≡ d) → (b : ℕ) → get_or (blank_at (λ x. deleted (block_parent_operation_of u x)) d ys) b d ≡ get_or xs b d
   block_table d xs ys keeps count dead b = ⊎_elim old new (cases_lt b (length t.bodies))
     where
-      old : b < length t.bodies → get_or (blank_at (λ x. gone (block_parent_operation_of u x)) d ys) b d ≡ get_or xs b d
-      old lt = ⊎_elim (λ e. absurd (kept_block b lt e)) (λ e. blanked_kept (λ x. gone (block_parent_operation_of u x)) d ys b e ∙ keeps-old xs ys b d (subst (λ z. b < z) (sym count) lt) keeps) (told (gone (block_parent_operation_of u b)))
+      old : b < length t.bodies → get_or (blank_at (λ x. deleted (block_parent_operation_of u x)) d ys) b d ≡ get_or xs b d
+      old lt = ⊎_elim (λ e. absurd (kept_block b lt e)) (λ e. blanked_kept (λ x. deleted (block_parent_operation_of u x)) d ys b e ∙ keeps-old xs ys b d (subst (λ z. b < z) (sym count) lt) keeps) (reported (deleted (block_parent_operation_of u b)))
 
-      nothing : gone (block_parent_operation_of u b) ≡ false → length t.bodies ≤ b → get_or ys b d ≡ d
+      nothing : deleted (block_parent_operation_of u b) ≡ false → length t.bodies ≤ b → get_or ys b d ≡ d
       nothing e from = ⊎_elim (λ is. absurd (true≢false (sym (new_block b from is) ∙ e))) (λ no. dead b no) (block_or b)
 
-      new : length t.bodies ≤ b → get_or (blank_at (λ x. gone (block_parent_operation_of u x)) d ys) b d ≡ get_or xs b d
-      new from = ⊎_elim (λ e. blanked_gone (λ x. gone (block_parent_operation_of u x)) d ys b e) (λ e. blanked_kept (λ x. gone (block_parent_operation_of u x)) d ys b e ∙ nothing e from) (told (gone (block_parent_operation_of u b))) ∙ sym (get_or_past xs b d (subst (λ z. z ≤ b) (sym count) from))
+      new : length t.bodies ≤ b → get_or (blank_at (λ x. deleted (block_parent_operation_of u x)) d ys) b d ≡ get_or xs b d
+      new from = ⊎_elim (λ e. blanked_gone (λ x. deleted (block_parent_operation_of u x)) d ys b e) (λ e. blanked_kept (λ x. deleted (block_parent_operation_of u x)) d ys b e ∙ nothing e from) (reported (deleted (block_parent_operation_of u b))) ∙ sym (get_or_past xs b d (subst (λ z. z ≤ b) (sym count) from))
 
   -- a region with a block stands
   filled : (w : Tree) → IsTree w → (r b : ℕ) (bs : List ℕ) → layout_of w r ≡ b ∷ bs → IsRegion w r
   filled w is r b bs e = is.joined.placed b r (is.layouts.owned b r (subst (In b) (sym e) (inl refl)))
 
-  layout_table : (r : ℕ) → get_or (blank_at (λ x. gone (region_parent_of u x)) [] u.layouts) r [] ≡ layout_of t r
+  layout_table : (r : ℕ) → get_or (blank_at (λ x. deleted (region_parent_of u x)) [] u.layouts) r [] ≡ layout_of t r
   layout_table r = ⊎_elim old new (cases_lt r (length t.layouts))
     where
-      both : (xs : List ℕ) → layout_of u r ≡ xs → (gone (region_parent_of u r) ≡ true → xs ≡ []) → get_or (blank_at (λ x. gone (region_parent_of u x)) [] u.layouts) r [] ≡ xs
-      both xs e none = ⊎_elim (λ h. blanked_gone (λ x. gone (region_parent_of u x)) [] u.layouts r h ∙ sym (none h)) (λ h. blanked_kept (λ x. gone (region_parent_of u x)) [] u.layouts r h ∙ e) (told (gone (region_parent_of u r)))
+      both : (xs : List ℕ) → layout_of u r ≡ xs → (deleted (region_parent_of u r) ≡ true → xs ≡ []) → get_or (blank_at (λ x. deleted (region_parent_of u x)) [] u.layouts) r [] ≡ xs
+      both xs e none = ⊎_elim (λ h. blanked_gone (λ x. deleted (region_parent_of u x)) [] u.layouts r h ∙ sym (none h)) (λ h. blanked_kept (λ x. deleted (region_parent_of u x)) [] u.layouts r h ∙ e) (reported (deleted (region_parent_of u r)))
 
-      not_gone : IsRegion t r → gone (region_parent_of u r) ≡ true → ⊥
+      not_gone : IsRegion t r → deleted (region_parent_of u r) ≡ true → ⊥
       not_gone is h =
           let s = slot_is t r is in
           let m = met_above u root (region_parent_of u r) h in
           let same : s.0.op ≡ m.0 = some_is (sym (region_parent_is u r s.0 (g.kept.more.slots r s.0 s.1)) ∙ m.1) in
           old_not_within s.0.op (old_live s.0.op (region_live t wt.joined s.0.op s.0.index r s.2)) (subst (IsWithin u root) (sym same) m.2)
 
-      old : r < length t.layouts → get_or (blank_at (λ x. gone (region_parent_of u x)) [] u.layouts) r [] ≡ layout_of t r
+      old : r < length t.layouts → get_or (blank_at (λ x. deleted (region_parent_of u x)) [] u.layouts) r [] ≡ layout_of t r
       old lt = both (layout_of t r) (keeps-old t.layouts u.layouts r [] lt g.kept.layouts) (λ h. go (layout_of t r) refl h)
         where
-          go : (xs : List ℕ) → layout_of t r ≡ xs → gone (region_parent_of u r) ≡ true → layout_of t r ≡ []
+          go : (xs : List ℕ) → layout_of t r ≡ xs → deleted (region_parent_of u r) ≡ true → layout_of t r ≡ []
           go [] e h = e
           go (b ∷ bs) e h = absurd (not_gone (filled t wt r b bs e) h)
 
-      empty : gone (region_parent_of u r) ≡ false → length t.layouts ≤ r → (xs : List ℕ) → layout_of u r ≡ xs → layout_of u r ≡ []
+      empty : deleted (region_parent_of u r) ≡ false → length t.layouts ≤ r → (xs : List ℕ) → layout_of u r ≡ xs → layout_of u r ≡ []
       empty h from [] e = e
       empty h from (b ∷ bs) e = absurd (true≢false (sym (new_region r from (filled u wu r b bs e)) ∙ h))
 
-      new : length t.layouts ≤ r → get_or (blank_at (λ x. gone (region_parent_of u x)) [] u.layouts) r [] ≡ layout_of t r
-      new from = ⊎_elim (λ h. blanked_gone (λ x. gone (region_parent_of u x)) [] u.layouts r h) (λ h. blanked_kept (λ x. gone (region_parent_of u x)) [] u.layouts r h ∙ empty h from (layout_of u r) refl) (told (gone (region_parent_of u r))) ∙ sym (get_or_past t.layouts r [] from)
+      new : length t.layouts ≤ r → get_or (blank_at (λ x. deleted (region_parent_of u x)) [] u.layouts) r [] ≡ layout_of t r
+      new from = ⊎_elim (λ h. blanked_gone (λ x. deleted (region_parent_of u x)) [] u.layouts r h) (λ h. blanked_kept (λ x. deleted (region_parent_of u x)) [] u.layouts r h ∙ empty h from (layout_of u r) refl) (reported (deleted (region_parent_of u r))) ∙ sym (get_or_past t.layouts r [] from)
 
   cleared-same : IsSameTree t (after_clearing u (nat_eq root))
   cleared-same = record {

@@ -57,11 +57,11 @@ pub record IsBuilt (t u : Tree) (root : ℕ) (built : Built) : Type 0 where
   pub regions : All (IsNewRegion t u root) built.regions.items
 
 -- the building continues from u to v
-abbrev pub BuildingGoesOn : (u : Tree) (built : Built) (v : Tree) (more : Built) → Type 0
-BuildingGoesOn u built v more = (t : Tree) (root : ℕ) → IsBuilt t u root built → IsBuilt t v root more
+abbrev pub BuildingContinues : (u : Tree) (built : Built) (v : Tree) (more : Built) → Type 0
+BuildingContinues u built v more = (t : Tree) (root : ℕ) → IsBuilt t u root built → IsBuilt t v root more
 
 -- what is built is live
-pub record AreStanding (u : Tree) (built : Built) : Type 0 where
+pub record AreLive (u : Tree) (built : Built) : Type 0 where
   pub operations : All (IsLive u) built.operations.items
   pub blocks : All (IsBlock u) built.blocks.items
   pub regions : All (IsRegion u) built.regions.items

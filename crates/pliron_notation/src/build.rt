@@ -14,7 +14,7 @@ ghost use Rattle.pliron_bench.specs.Bench.{head_with, plain_head as head_without
 ghost use Rattle.pliron_bench.specs.BenchMoves.{bench};
 ghost use Rattle.pliron_laws.specs.Linked.{IsWellLinked};
 ghost use Rattle.pliron_notation.specs.Notation.{AllBelow, AreSoundOperations, IsSoundSyntax, first_made};
-ghost use Rattle.pliron_notation.specs.Building.{AddsOnly, AreStanding, BuildingGoesOn, HasAllMade, HasMade, IsGrown, KeepsEntries, after_appending};
+ghost use Rattle.pliron_notation.specs.Building.{AddsOnly, AreLive, BuildingContinues, HasAllMade, HasMade, IsGrown, KeepsEntries, after_appending};
 ghost use Rattle.pliron_notation.specs.Laid.{HasMoreOperands, HasMoreSuccessors, IsAllLaid, LaysBlock, LaysOn, LaysOperation, Wires};
 
 use crate::syntax::{BlockText, OperationText, Syntax, SyntaxStep};
@@ -141,9 +141,9 @@ fn make_all(
 ) -> Result<(), NoMemory>
     requires sound { IsSoundSyntax syntax.now }
     requires first { HasMade built.old first_made }
-    requires standing { AreStanding ctx.old.tree built.old }
-    ensures goes_on { BuildingGoesOn ctx.old.tree built.old ctx.new.tree built.new }
-    ensures standing { AreStanding ctx.new.tree built.new }
+    requires all_in_place { AreLive ctx.old.tree built.old }
+    ensures continues { BuildingContinues ctx.old.tree built.old ctx.new.tree built.new }
+    ensures all_in_place { AreLive ctx.new.tree built.new }
     ensures made { OnOk result (HasAllMade syntax.now built.new) }
     ensures laid { OnOk result (LaysOn syntax.now ctx.old.tree built.old ctx.new.tree built.new) }
 {
@@ -162,8 +162,8 @@ fn make_all(
 fn connect_all(syntax: &Syntax, ctx: &mut Context, built: &Built) -> Result<(), NoMemory>
     requires sound { AreSoundOperations syntax.now }
     requires made { HasAllMade syntax.now built.now }
-    requires standing { AreStanding ctx.old.tree built.now }
-    ensures goes_on { BuildingGoesOn ctx.old.tree built.now ctx.new.tree built.now }
+    requires all_in_place { AreLive ctx.old.tree built.now }
+    ensures continues { BuildingContinues ctx.old.tree built.now ctx.new.tree built.now }
     ensures wired { OnOk result (Wires syntax.now 0 (length syntax.now.operations.items) ctx.old.tree ctx.new.tree
         built.now) }
 {
@@ -211,9 +211,9 @@ fn add_operation(
     text: &OperationText,
 ) -> Result<(), NoMemory>
     requires block { text.now.block < length built.old.blocks.items }
-    requires standing { AreStanding ctx.old.tree built.old }
-    ensures goes_on { BuildingGoesOn ctx.old.tree built.old ctx.new.tree built.new }
-    ensures standing { AreStanding ctx.new.tree built.new }
+    requires all_in_place { AreLive ctx.old.tree built.old }
+    ensures continues { BuildingContinues ctx.old.tree built.old ctx.new.tree built.new }
+    ensures all_in_place { AreLive ctx.new.tree built.new }
     ensures operations { OnOk result (length built.new.operations.items ≡ length built.old.operations.items + 1) }
     ensures blocks { built.new.blocks.items ≡ built.old.blocks.items }
     ensures regions { OnOk result (length built.new.regions.items ≡ length built.old.regions.items + kind_regions
@@ -304,9 +304,9 @@ fn remember_arguments(
 // The next block of the text, at the end of its region.
 fn add_block(ctx: &mut Context, built: &mut Built, text: &BlockText) -> Result<(), NoMemory>
     requires region { text.now.region < length built.old.regions.items }
-    requires standing { AreStanding ctx.old.tree built.old }
-    ensures goes_on { BuildingGoesOn ctx.old.tree built.old ctx.new.tree built.new }
-    ensures standing { AreStanding ctx.new.tree built.new }
+    requires all_in_place { AreLive ctx.old.tree built.old }
+    ensures continues { BuildingContinues ctx.old.tree built.old ctx.new.tree built.new }
+    ensures all_in_place { AreLive ctx.new.tree built.new }
     ensures operations { built.new.operations.items ≡ built.old.operations.items }
     ensures blocks { OnOk result (length built.new.blocks.items ≡ length built.old.blocks.items + 1) }
     ensures regions { built.new.regions.items ≡ built.old.regions.items }
@@ -331,9 +331,9 @@ fn connect(
     requires number { number < length built.now.operations.items }
     requires operands { AllBelow (length built.now.values.items) text.now.operands.items }
     requires successors { AllBelow (length built.now.blocks.items) text.now.successors.items }
-    requires standing { AreStanding ctx.old.tree built.now }
-    ensures goes_on { BuildingGoesOn ctx.old.tree built.now ctx.new.tree built.now }
-    ensures standing { AreStanding ctx.new.tree built.now }
+    requires all_in_place { AreLive ctx.old.tree built.now }
+    ensures continues { BuildingContinues ctx.old.tree built.now ctx.new.tree built.now }
+    ensures all_in_place { AreLive ctx.new.tree built.now }
     ensures wired { OnOk result ((s : Syntax) → slice_get s.operations.items number ≡ Some text.now →
         Wires s number (number + 1) ctx.old.tree ctx.new.tree built.now) }
 {
@@ -350,9 +350,9 @@ fn add_operands(
 ) -> Result<(), NoMemory>
     requires op { In op built.now.operations.items }
     requires operands { AllBelow (length built.now.values.items) operands.now }
-    requires standing { AreStanding ctx.old.tree built.now }
-    ensures goes_on { BuildingGoesOn ctx.old.tree built.now ctx.new.tree built.now }
-    ensures standing { AreStanding ctx.new.tree built.now }
+    requires all_in_place { AreLive ctx.old.tree built.now }
+    ensures continues { BuildingContinues ctx.old.tree built.now ctx.new.tree built.now }
+    ensures all_in_place { AreLive ctx.new.tree built.now }
     ensures added { OnOk result (HasMoreOperands ctx.old.tree ctx.new.tree op (length operands.now)) }
 {
     for number in operands {
@@ -370,9 +370,9 @@ fn add_successors(
 ) -> Result<(), NoMemory>
     requires op { In op built.now.operations.items }
     requires successors { AllBelow (length built.now.blocks.items) successors.now }
-    requires standing { AreStanding ctx.old.tree built.now }
-    ensures goes_on { BuildingGoesOn ctx.old.tree built.now ctx.new.tree built.now }
-    ensures standing { AreStanding ctx.new.tree built.now }
+    requires all_in_place { AreLive ctx.old.tree built.now }
+    ensures continues { BuildingContinues ctx.old.tree built.now ctx.new.tree built.now }
+    ensures all_in_place { AreLive ctx.new.tree built.now }
     ensures added { OnOk result (HasMoreSuccessors built.now ctx.old.tree ctx.new.tree op (length successors.now)
         successors.now) }
 {

@@ -4,7 +4,7 @@
 //! its handle is further away. Digits come from `itoa`.
 ghost use Rattle.std.specs.Prelude.{◌≡◌, IsOkUnless};
 ghost use Rattle.pliron_core.specs.Tree.{IsLive, IsBlock, IsRegion};
-ghost use Rattle.pliron_notation.specs.Printing.{AllStand, IsStanding};
+ghost use Rattle.pliron_notation.specs.Printing.{AreStepsLive, IsStepLive};
 
 mod numbers;
 
@@ -69,7 +69,7 @@ impl Printer {
 
     // Gives each value and each block its number.
     fn number<P: Printed>(&mut self, ctx: &Context, steps: &[OutlineStep]) -> Result<(), AllocError>
-        requires { AllStand ctx.now.tree steps.now }
+        requires { AreStepsLive ctx.now.tree steps.now }
     {
         let mut next: usize = 0;
         for step in steps {
@@ -87,7 +87,7 @@ impl Printer {
         step: &OutlineStep,
         next: usize,
     ) -> Result<usize, AllocError>
-        requires { IsStanding ctx.now.tree step.now }
+        requires { IsStepLive ctx.now.tree step.now }
     {
         match step {
             OutlineStep::Operation(op) => {
@@ -152,7 +152,7 @@ impl Printer {
     }
 
     fn print<P: Printed>(&mut self, ctx: &Context, steps: &[OutlineStep]) -> Result<(), AllocError>
-        requires { AllStand ctx.now.tree steps.now }
+        requires { AreStepsLive ctx.now.tree steps.now }
     {
         let mut last = Last::Nothing;
         for step in steps {
@@ -169,7 +169,7 @@ impl Printer {
         step: &OutlineStep,
         last: &Last,
     ) -> Result<Last, AllocError>
-        requires { IsStanding ctx.now.tree step.now }
+        requires { IsStepLive ctx.now.tree step.now }
     {
         match step {
             OutlineStep::Operation(op) => {

@@ -1,7 +1,7 @@
 //! What is in a tree, in the order of its text.
 ghost use Rattle.std.specs.Prelude.{IfOk, IfSome};
 ghost use Rattle.pliron_core.specs.Tree.{IsLive, IsBlock, IsRegion};
-ghost use Rattle.pliron_notation.specs.Printing.{AllStand, IsStanding};
+ghost use Rattle.pliron_notation.specs.Printing.{AreStepsLive, IsStepLive};
 
 use pliron_core::{BasicBlock, Context, Operation, Ptr, Region, Value};
 use std::alloc::{AllocError, Global};
@@ -42,7 +42,7 @@ impl Outline {
     /// each operation, block and region, where no operation has more than one region.
     pub fn of(alloc: Global, root: Ptr<Operation>, ctx: &Context) -> Result<Outline, AllocError>
         requires { IsLive ctx.now.tree root }
-        ensures { IfOk result (λ outline. AllStand ctx.now.tree outline.steps.items) }
+        ensures { IfOk result (λ outline. AreStepsLive ctx.now.tree outline.steps.items) }
     {
         let mut steps = Vec::new(alloc);
         let mut extent = Extent::none();
@@ -75,7 +75,7 @@ impl Extent {
     // Counts what the step makes.
     #[inline(always)]
     fn add(&mut self, ctx: &Context, step: &OutlineStep)
-        requires { IsStanding ctx.now.tree step.now }
+        requires { IsStepLive ctx.now.tree step.now }
     {
         match step {
             OutlineStep::Operation(op) => {
@@ -106,8 +106,8 @@ impl Extent {
 // What is written after this step.
 #[inline(always)]
 fn step_after(root: Ptr<Operation>, ctx: &Context, step: &OutlineStep) -> Option<OutlineStep>
-    requires { IsStanding ctx.now.tree step.now }
-    ensures { IfSome result (λ next. IsStanding ctx.now.tree next) }
+    requires { IsStepLive ctx.now.tree step.now }
+    ensures { IfSome result (λ next. IsStepLive ctx.now.tree next) }
 {
     match step {
         OutlineStep::Operation(op) => {
@@ -132,7 +132,7 @@ fn step_after(root: Ptr<Operation>, ctx: &Context, step: &OutlineStep) -> Option
 #[inline(always)]
 fn after_operation(root: Ptr<Operation>, ctx: &Context, op: Ptr<Operation>) -> Option<OutlineStep>
     requires { IsLive ctx.now.tree op }
-    ensures { IfSome result (λ next. IsStanding ctx.now.tree next) }
+    ensures { IfSome result (λ next. IsStepLive ctx.now.tree next) }
 {
     if op == root {
         return None;
@@ -146,7 +146,7 @@ fn after_operation(root: Ptr<Operation>, ctx: &Context, op: Ptr<Operation>) -> O
 #[inline(never)]
 fn after_block(ctx: &Context, block: Ptr<BasicBlock>) -> Option<OutlineStep>
     requires { IsBlock ctx.now.tree block }
-    ensures { IfSome result (λ next. IsStanding ctx.now.tree next) }
+    ensures { IfSome result (λ next. IsStepLive ctx.now.tree next) }
 {
     match block.get_next(ctx) {
         Some(next) => Some(OutlineStep::Block(next)),
@@ -157,7 +157,7 @@ fn after_block(ctx: &Context, block: Ptr<BasicBlock>) -> Option<OutlineStep>
 #[inline(never)]
 fn after_region(root: Ptr<Operation>, ctx: &Context, region: Ptr<Region>) -> Option<OutlineStep>
     requires { IsRegion ctx.now.tree region }
-    ensures { IfSome result (λ next. IsStanding ctx.now.tree next) }
+    ensures { IfSome result (λ next. IsStepLive ctx.now.tree next) }
 {
     let op = region.get_parent_op(ctx);
     let mut is_past = false;

@@ -28,8 +28,8 @@ use Rattle.pliron_theory.proofs.ConstantData.{constant_datum}
 use Rattle.pliron_theory.proofs.KnownData.{known_data_at}
 use Rattle.pliron_theory.proofs.Reading.{read_data, ready_when_reached}
 use Rattle.pliron_theory.proofs.ReplacedKeeps.{replaced_keeps}
-use Rattle.pliron_equivalence.specs.Standing.{StandsBefore}
-use Rattle.pliron_equivalence.proofs.Standing.{dominated_stands}
+use Rattle.pliron_equivalence.specs.OperationDominance.{DominatesOperation}
+use Rattle.pliron_equivalence.proofs.OperationDominance.{dominated_stands}
 use Rattle.pliron_equivalence.proofs.Given.{results_given}
 use Rattle.pliron_equivalence.proofs.Merging.{nothing_inside}
 use Rattle.pliron_equivalence.proofs.Passing.{dominated_behind}
@@ -147,8 +147,8 @@ pub shape_admitted : (m : Meaning) (t : Tree) (k : ℕ) (o : Operation) → op_a
 unfolding shape_of
 shape_admitted m t k o e a =
     let s = op_shows t k o e in
-    let told = a o.head s.head in
-    let one = subst (λ z. IsTrue (m.admits o.head (length z) (length (results_of t k)) (length (successors_of t k)) (length (regions_of t k)))) s.operands told in
+    let reported = a o.head s.head in
+    let one = subst (λ z. IsTrue (m.admits o.head (length z) (length (results_of t k)) (length (successors_of t k)) (length (regions_of t k)))) s.operands reported in
     let two = subst (λ z. IsTrue (m.admits o.head (length o.operands) (length z) (length (successors_of t k)) (length (regions_of t k)))) s.results one in
     let three = subst (λ z. IsTrue (m.admits o.head (length o.operands) (length o.results) (length z) (length (regions_of t k)))) s.successors two in
     let four = subst (λ z. IsTrue (m.admits o.head (length o.operands) (length o.results) (length o.successors) (length z))) s.regions three in
@@ -158,7 +158,7 @@ shape_parts : (m : Meaning) (t : Tree) (o : Operation) → ((shape_of m t o).hea
 unfolding shape_of
 shape_parts m t o = (refl, refl, refl)
 
-module _ (x : Folding) (laws : AreLawful x) (t : Tree) (w : IsTree t) (k i old : ℕ) (next : successors_of t k ≡ []) (at : slice_get (results_of t k) i ≡ Some old) (operation : Operation) (stands : op_at t k ≡ Some operation) (answer : OpFoldResult) (answered : IsAnswered x t operation i answer) where
+module _ (x : Folding) (laws : AreLawful x) (t : Tree) (w : IsTree t) (k i old : ℕ) (next : successors_of t k ≡ []) (at : slice_get (results_of t k) i ≡ Some old) (operation : Operation) (liveness : op_at t k ≡ Some operation) (answer : OpFoldResult) (answered : IsAnswered x t operation i answer) where
   abbrev m : Meaning
   m = x.meaning
 
@@ -169,7 +169,7 @@ module _ (x : Folding) (laws : AreLawful x) (t : Tree) (w : IsTree t) (k i old :
   made_old = w.joined.results k i old at
 
   same_operands : operands_of t k ≡ operation.operands
-  same_operands = (op_shows t k operation stands).operands
+  same_operands = (op_shows t k operation liveness).operands
 
   -- what the operation gives
   gives : Admitted m (shape_of m t operation) → (first : List Datum) → length first ≡ length operation.operands → Known known first → AreSameData operation.operands first → (later : Bool) (memo : Datum) (input ds : List Datum) → Comes m.act (shape_of m t operation) first later memo input → m.act (shape_of m t operation) memo input ≡ Give ds → slice_get ds i ≡ datum_by answer first
@@ -188,8 +188,8 @@ module _ (x : Folding) (laws : AreLawful x) (t : Tree) (w : IsTree t) (k i old :
       by_constants said =
           let chosen = chosen_list (x.can_fold operation.head) (map (λ c. option_map Constant c) (x.constants (shape_of m t operation) known)) i (Some answer) said in
           let c = constant_at (x.constants (shape_of m t operation) known) i answer chosen.1 in
-          let told = laws.truly.gives (shape_of m t operation) admitted (subst (λ z. IsTrue (x.can_fold z)) (sym parts.0) chosen.0) known first (long ∙ sym parts.1) knows later memo input ds comes acts in
-          datum_at (x.constants (shape_of m t operation) known) ds i c.0 told c.2 ∙ sym (ap (λ z. datum_by z first) c.1)
+          let reported = laws.truly.gives (shape_of m t operation) admitted (subst (λ z. IsTrue (x.can_fold z)) (sym parts.0) chosen.0) known first (long ∙ sym parts.1) knows later memo input ds comes acts in
+          datum_at (x.constants (shape_of m t operation) known) ds i c.0 reported c.2 ∙ sym (ap (λ z. datum_by z first) c.1)
 
   -- the operand that is answered
   pub operand_is : (p : ℕ) → answer ≡ Operand p → Admitted m (shape_of m t operation) → p < length (operands_of t k)
@@ -220,9 +220,9 @@ module _ (x : Folding) (laws : AreLawful x) (t : Tree) (w : IsTree t) (k i old :
     known_gives v c defined inside is = by (definition_of t v) refl inside is
       where
         by : (d : Option Def) → definition_of t v ≡ d → IsDefiningOperationInside t root d → known_by x t d ≡ Some c → (n : ℕ) × GivesConstant m t n v (datum_of c)
-        by None e inner told = absurd (not_none told)
-        by (Some (Argument b j)) e inner told = absurd (not_none told)
-        by (Some (Result n j)) e inner told = made (op_at t n) refl told
+        by None e inner reported = absurd (not_none reported)
+        by (Some (Argument b j)) e inner reported = absurd (not_none reported)
+        by (Some (Result n j)) e inner reported = made (op_at t n) refl reported
           where
             made : (o : Option Operation) → op_at t n ≡ o → constant_made x t o ≡ Some c → (n : ℕ) × GivesConstant m t n v (datum_of c)
             made None oe z = absurd (not_none z)
@@ -283,7 +283,7 @@ module _ (x : Folding) (laws : AreLawful x) (t : Tree) (w : IsTree t) (k i old :
     k_of_old : IsDefiningOperationInside t root (definition_of t old) → IsInside t root k
     k_of_old made = subst (IsDefiningOperationInside t root) made_old made
 
-    behind : (user : ℕ) → In old (operands_of t user) → IsInside t root k → StandsBefore t k user
+    behind : (user : ℕ) → In old (operands_of t user) → IsInside t root k → DominatesOperation t k user
     behind user uses inner = dominated_stands t k i user old made_old (f.defined.dominated user old uses (subst (IsDefiningOperationInside t root) (sym made_old) inner))
 
     -- where the result is read it has what the answer says of the operands there
@@ -292,8 +292,8 @@ module _ (x : Folding) (laws : AreLawful x) (t : Tree) (w : IsTree t) (k i old :
         let inside = (ready_when_reached m t root w f s r u rest e quiet).inside in
         let inner = k_of_old (f.defined.own_values u old inside uses) in
         let g = results_given m t root k w f inner next u rest s (behind u uses inner) r e quiet in
-        let o = op_shows t k g.operation g.stands in
-        let one : g.operation ≡ operation = some_is (sym g.stands ∙ stands) in
+        let o = op_shows t k g.operation g.liveness in
+        let one : g.operation ≡ operation = some_is (sym g.liveness ∙ liveness) in
         let has : data_of s.environment (operands_of t k) ≡ Some g.first = ap (data_of s.environment) o.operands ∙ g.has in
         let has_own : data_of s.environment operation.operands ≡ Some g.first = ap (data_of s.environment) (sym same_operands) ∙ has in
         let knows : Known known g.first = known_when s.environment known operation.operands g.first (length_map _ operation.operands) has_own (λ p v c d a b h.
@@ -303,8 +303,8 @@ module _ (x : Folding) (laws : AreLawful x) (t : Tree) (w : IsTree t) (k i old :
         let same_data : AreSameData operation.operands g.first = λ p q v a b. data_at s.environment operation.operands g.first has_own p v a ∙ sym (data_at s.environment operation.operands g.first has_own q v b) in
         let comes : Comes m.act (shape_of m t operation) g.first g.later g.memo g.input = subst (λ z. Comes m.act (shape_of m t z) g.first g.later g.memo g.input) one g.comes in
         let acts : m.act (shape_of m t operation) g.memo g.input ≡ Give g.given = subst (λ z. m.act (shape_of m t z) g.memo g.input ≡ Give g.given) one g.gives in
-        let told : slice_get g.given i ≡ datum_by answer g.first = gives (admitted_in k operation inner stands) g.first (data_long s.environment operation.operands g.first has_own) knows same_data g.later g.memo g.input g.given comes acts in
-        (g.first, has, sym (data_at s.environment (results_of t k) g.given (ap (data_of s.environment) o.results ∙ g.results) i old at) ∙ told)
+        let reported : slice_get g.given i ≡ datum_by answer g.first = gives (admitted_in k operation inner liveness) g.first (data_long s.environment operation.operands g.first has_own) knows same_data g.later g.memo g.input g.given comes acts in
+        (g.first, has, sym (data_at s.environment (results_of t k) g.given (ap (data_of s.environment) o.results ∙ g.results) i old at) ∙ reported)
 
   -- the uses may go to the operand
   module _ (p v : ℕ) (is : answer ≡ Operand p) (place : slice_get (operands_of t k) p ≡ Some v) where

@@ -110,14 +110,14 @@ module _ (x : Folding) (t : Tree) (op : ℕ) where
 
   -- the constant of an operation that is not constant-like
   pub made_none : IsLive t op → (like : Bool) → ((o : Operation) → op_at t op ≡ Some o → like ≡ is_constant_like x o) → like ≡ false → None ≡ constant_made x t (op_at t op)
-  made_none l like told unlike =
+  made_none l like reported unlike =
       let o = live_shown l in
-      sym (ap (constant_made x t) o.1 ∙ ap (λ b. if b then answer_in (slice_get (x.constants (shape_of x.meaning t o.0) []) 0) else None) (sym (told o.0 o.1) ∙ unlike))
+      sym (ap (constant_made x t) o.1 ∙ ap (λ b. if b then answer_in (slice_get (x.constants (shape_of x.meaning t o.0) []) 0) else None) (sym (reported o.0 o.1) ∙ unlike))
 
   -- and of one that is
-  module _ (l : IsLive t op) (like : Bool) (told : (o : Operation) → op_at t op ≡ Some o → like ≡ is_constant_like x o) (yes : like ≡ true) where
+  module _ (l : IsLive t op) (like : Bool) (reported : (o : Operation) → op_at t op ≡ Some o → like ≡ is_constant_like x o) (yes : like ≡ true) where
     tests : (o : Operation) → op_at t op ≡ Some o → IsTrue (is_constant_like x o)
-    tests o e = sym (told o e) ∙ yes
+    tests o e = sym (reported o e) ∙ yes
 
     pub like_folds : HeadPasses x.can_fold t op
     like_folds h at =
@@ -154,18 +154,18 @@ operands_answered x t op known answers is reads o e =
     reads o e ∙ ap (λ z. x.operand_folds (shape_of x.meaning t o) z o.operands) (is ∙ ap (known_operands x t) s.operands)
 
 pub constants_answered : (x : Folding) (t : Tree) (op : ℕ) (known constants : List (Option AttrObj)) (answers : List (Option OpFoldResult)) → known ≡ known_operands x t (operands_of t op) → ReadsShape x.meaning (λ s. x.constants s known) t op constants → answers ≡ map (λ c. option_map Constant c) constants → (folds : Bool) → ReadsHead x.can_fold t op folds → IsTrue folds → (o : Operation) → op_at t op ≡ Some o → answers ≡ constant_answers x t o
-constants_answered x t op known constants answers is reads mapped folds told passed o e =
+constants_answered x t op known constants answers is reads mapped folds reported passed o e =
     let s = op_shows t op o e in
     mapped ∙ ap (map (λ c. option_map Constant c)) (reads o e ∙ ap (x.constants (shape_of x.meaning t o)) (is ∙ ap (known_operands x t) s.operands))
-    ∙ sym (ap (λ b. if b then map (λ c. option_map Constant c) (x.constants (shape_of x.meaning t o) (known_operands x t o.operands)) else []) (sym (told o.head s.head) ∙ passed))
+    ∙ sym (ap (λ b. if b then map (λ c. option_map Constant c) (x.constants (shape_of x.meaning t o) (known_operands x t o.operands)) else []) (sym (reported o.head s.head) ∙ passed))
 
 pub none_answered : (x : Folding) (t : Tree) (op : ℕ) (answers : List (Option OpFoldResult)) → answers ≡ [] → (folds : Bool) → ReadsHead x.can_fold t op folds → folds ≡ false → (o : Operation) → op_at t op ≡ Some o → answers ≡ constant_answers x t o
-none_answered x t op answers none folds told unfolded o e =
+none_answered x t op answers none folds reported unfolded o e =
     let s = op_shows t op o e in
-    none ∙ sym (ap (λ b. if b then map (λ c. option_map Constant c) (x.constants (shape_of x.meaning t o) (known_operands x t o.operands)) else []) (sym (told o.head s.head) ∙ unfolded))
+    none ∙ sym (ap (λ b. if b then map (λ c. option_map Constant c) (x.constants (shape_of x.meaning t o) (known_operands x t o.operands)) else []) (sym (reported o.head s.head) ∙ unfolded))
 
 pub passes_head : (x : Folding) (t : Tree) (op : ℕ) (folds : Bool) → ReadsHead x.can_fold t op folds → IsTrue folds → HeadPasses x.can_fold t op
-passes_head x t op folds told passed h at = sym (told h at) ∙ passed
+passes_head x t op folds reported passed h at = sym (reported h at) ∙ passed
 
 pub known_long : (x : Folding) (t : Tree) (op : ℕ) (known : List (Option AttrObj)) → known ≡ known_operands x t (operands_of t op) → length known ≡ length (operands_of t op)
 known_long x t op known is = ap length is ∙ length_map (λ v. known_by x t (definition_of t v)) (operands_of t op)

@@ -53,21 +53,21 @@ module _ (x : Folding) (chosen : Head → Bool) where
 
 module _ (x : Folding) (laws : AreLawful x) (t : Tree) (w : IsTree t) (k i : ℕ) where
   pub answer_within : (answer : OpFoldResult) → HasAnswer x t k i answer → IsAdmitted x.meaning t k → NamesOperand t k answer
-  answer_within (Operand p) has admitted = operand_is x laws t w k i has.value has.may.successors has.listed has.operation has.stands (Operand p) has.answered p refl (shape_admitted x.meaning t k has.operation has.stands admitted)
+  answer_within (Operand p) has admitted = operand_is x laws t w k i has.value has.may.successors has.listed has.operation has.liveness (Operand p) has.answered p refl (shape_admitted x.meaning t k has.operation has.liveness admitted)
   answer_within (Constant c) has admitted = tt
 
   -- an operand has the uses
   pub operand_keeps_all : (p : ℕ) (has : HasAnswer x t k i (Operand p)) → p < length (operands_of t k) → KeepsAllRuns x.meaning t (after_replacing t has.value (get_or (operands_of t k) p 0))
   operand_keeps_all p has lt chosen =
-      operand_keeps (with_chosen x chosen) (lawful_chosen x chosen laws) t w k i has.value has.may.successors has.listed has.operation has.stands (Operand p) (answered_chosen x chosen t has.operation i (Operand p) has.answered) p (get_or (operands_of t k) p 0) refl (slice_get-get_or (operands_of t k) p 0 lt)
+      operand_keeps (with_chosen x chosen) (lawful_chosen x chosen laws) t w k i has.value has.may.successors has.listed has.operation has.liveness (Operand p) (answered_chosen x chosen t has.operation i (Operand p) has.answered) p (get_or (operands_of t k) p 0) refl (slice_get-get_or (operands_of t k) p 0 lt)
 
   -- each run reads the constant
   pub constant_read_all : (c : AttrObj) (has : HasAnswer x t k i (Constant c)) (chosen : Head → Bool) → IsConstant (with_roots x.meaning chosen) t has.value c
   constant_read_all c has chosen =
-      constant_read (with_chosen x chosen) (lawful_chosen x chosen laws) t w k i has.value has.may.successors has.listed has.operation has.stands (Constant c) (answered_chosen x chosen t has.operation i (Constant c) has.answered) c refl
+      constant_read (with_chosen x chosen) (lawful_chosen x chosen laws) t w k i has.value has.may.successors has.listed has.operation has.liveness (Constant c) (answered_chosen x chosen t has.operation i (Constant c) has.answered) c refl
 
   pub constant_read_here : (c : AttrObj) (has : HasAnswer x t k i (Constant c)) → IsConstant x.meaning t has.value c
-  constant_read_here c has = constant_read x laws t w k i has.value has.may.successors has.listed has.operation has.stands (Constant c) has.answered c refl
+  constant_read_here c has = constant_read x laws t w k i has.value has.may.successors has.listed has.operation has.liveness (Constant c) has.answered c refl
 
   -- a constant that is put before the operation has them
   module _ (c : AttrObj) (has : HasAnswer x t k i (Constant c)) (accepted : IsTrue (x.accepts c)) (block : ℕ) (here : parent_of t k ≡ Some block) where
@@ -87,7 +87,7 @@ module _ (x : Folding) (laws : AreLawful x) (t : Tree) (w : IsTree t) (k i : ℕ
   -- and that is what a pass may do
   pub answer_changes : (root : ℕ) (answer : OpFoldResult) → IsLive t root → IsWellLinked x.meaning t root → IsInside t root k → (has : HasAnswer x t k i answer) → IsMade x answer → IsWholeChange x.meaning t (after_folding x t k has.value answer) root
   answer_changes root (Operand p) live linked inside has made = record {
-    stands = live;
+    liveness = live;
     linked = replaced_links x.meaning t has.value (get_or (operands_of t k) p 0) root linked;
     inside = replaced_inside t root has.value (get_or (operands_of t k) p 0) w.joined (subst (IsDefiningOperationInside t root) (sym (w.joined.results k i has.value has.listed)) inside);
     runs = operand_keeps_all p has (answer_within (Operand p) has (linked.admitted k (inr inside)));
@@ -95,9 +95,9 @@ module _ (x : Folding) (laws : AreLawful x) (t : Tree) (w : IsTree t) (k i : ℕ
   answer_changes root (Constant c) live linked inside has made =
       let up = inside_up inside in
       let home = holder_is t k up.0 up.1 in
-      let lives = (w.joined.standing k home.0 home.1).0 in
+      let lives = (w.joined.all_in_place k home.0 home.1).0 in
       record {
-        stands = subst (λ z. IsSome z.head) (sym (put_row t k has.value root (x.constant_head c) (past_live t root live))) live;
+        liveness = subst (λ z. IsSome z.head) (sym (put_row t k has.value root (x.constant_head c) (past_live t root live))) live;
         linked = constant_links c has made home.0 home.1 root linked;
         inside = subst (λ z. IsInsideChange t z root) (sym (put_is t k has.value home.0 (x.constant_head c) w home.1)) (result_inside t root home.0 has.value (x.constant_head c) (put_before k (length t.operations) (body_of t home.0)) w (block_inside home.0 home.1 inside) k i lives home.1 has.listed);
         runs = constant_keeps_all c has made home.0 home.1;

@@ -22,7 +22,7 @@ pub record MayFold (t : Tree) (k : ℕ) : Type 0 where
 pub record HasAnswer (x : Folding) (t : Tree) (k i : ℕ) (answer : OpFoldResult) : Type 0 where
   pub may : MayFold t k
   pub operation : Operation
-  pub stands : op_at t k ≡ Some operation
+  pub liveness : op_at t k ≡ Some operation
   pub value : ℕ
   pub listed : slice_get (results_of t k) i ≡ Some value
   pub answered : IsAnswered x t operation i answer

@@ -16,6 +16,6 @@ use pliron_operand_folding::OperandFoldInterface;
 
 /// The uses of a result may become uses of the operand, or of a new operation that makes the constant, that the
 /// dialect answers the result to be by what is known of the operands.
-pub fn answers_stand_for_results<D: OperandFoldInterface>()
+pub fn answers_replace_results<D: OperandFoldInterface>()
     ensures { AnswerLaws ⟦<D as HasOperandFolding>⟧.operand_folding }
 {}

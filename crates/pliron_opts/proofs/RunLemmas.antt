@@ -11,7 +11,7 @@ use Rattle.pliron_pass.specs.Combined.{Steps}
 use Rattle.pliron_pass.specs.Outcome.{OutcomeOf, Verifying, RunsBy, RunsPass}
 use Rattle.pliron_pass.specs.Stage.{Stage}
 use Rattle.pliron_pipeline.specs.ChangeReports.{IsAccurate}
-use Rattle.pliron_pipeline.proofs.HonestLemmas.{step_same}
+use Rattle.pliron_pipeline.proofs.ReportLemmas.{step_same}
 use Rattle.pliron_opts.specs.Ran.{IsPlain, RunsAlone}
 
 pub runs_alone : {K E P : Type 0} (eq : K → K → Bool) (outcome : OutcomeOf P K E) (p later : P) (root : ℕ) (first last : Stage K E) (r : Result IRStatus OptError) → first.cache ≡ [] → IsPlain first.common → Steps eq outcome p later root first last r → IfOk r (λ status. RunsAlone eq outcome p root first.tree last.tree status)
@@ -37,5 +37,5 @@ steps_managed eq name outcome verifies managed p later root first last (Err err)
 
 -- a step of a pass that reports accurately
 pub steps_truly : {K E P : Type 0} (eq : K → K → Bool) (outcome : OutcomeOf P K E) → IsAccurate outcome → (p later : P) (root : ℕ) (first last : Stage K E) (r : Result IRStatus OptError) → Steps eq outcome p later root first last r → IfOk r (λ status. status ≡ Unchanged → IsSameTree first.tree last.tree)
-steps_truly eq outcome honest p later root first last (Ok c) steps = λ e. step_same eq outcome honest p later root first last c steps e
-steps_truly eq outcome honest p later root first last (Err e) steps = tt
+steps_truly eq outcome reports_change p later root first last (Ok c) steps = λ e. step_same eq outcome reports_change p later root first last c steps e
+steps_truly eq outcome reports_change p later root first last (Err e) steps = tt

@@ -39,7 +39,7 @@ module _ (reads : Reads) (prints : Prints) (m : Meaning) where
     pub read : reads text before root
     pub runs : ran root before after status
     pub same : DoAsBefore m before after
-    pub stands : IsLive after root
+    pub liveness : IsLive after root
     pub links : IsWellLinked m after root
     pub inside : IsInsideChange before after root
     pub truly : status ≡ Unchanged → IsSameTree before after

@@ -17,7 +17,7 @@ use Rattle.pliron_core.specs.Changes.{IsSameTree}
 use Rattle.std.proofs.Common.{Result, Ok, Err, IfOk}
 use Rattle.pliron_laws.specs.declared.fault.OptError.{OptError}
 use Rattle.pliron_pass.specs.Answer.{FreshAfter, has_changed, kept_kinds}
-use Rattle.pliron_pass.specs.Optimising.{with_kind_if, with_edge_kind, edge_kinds, Tells}
+use Rattle.pliron_pass.specs.Optimising.{with_kind_if, with_edge_kind, edge_kinds, Reports}
 use Rattle.pliron_pass.specs.declared.result.PassResult.{PassResult}
 
 module _ {K E : Type 0} (eq : K → K → Bool) (kind : E → K) (holds : E → ℕ → Tree → Type 0) (t u : Tree) (grows : length t.operations ≤ length u.operations) (fewer : (o : ℕ) → o < length t.operations → IsLive u o → IsLive t o) where
@@ -122,12 +122,12 @@ module _ {K : Type 0} (eq : K → K → Bool) (edges : K → Bool) where
 
 -- what an optimisation's pass owes, from what the optimisation tells
 module _ {K E : Type 0} (eq : K → K → Bool) (kind : E → K) (holds : E → ℕ → Tree → Type 0) (edges : K → Bool) (same : (a b : K) → eq a b ≡ true → a ≡ b) (stays : (e : E) (o : ℕ) (t u : Tree) → IsTree t → IsTree u → IsSameTree t u → IsLive u o → holds e o t → holds e o u) (keeps : (e : E) (o : ℕ) (t u : Tree) → IsTree t → IsTree u → edges (kind e) ≡ true → IsLive t o → IsLive u o → edges_inside u o ≡ edges_inside t o → holds e o t → holds e o u) (t u : Tree) (wt : IsTree t) (wu : IsTree u) (grows : length t.operations ≤ length u.operations) (fewer : (o : ℕ) → o < length t.operations → IsLive u o → IsLive t o) where
-  fresh_answer : (status : IRStatus) → Tells t u status → (es : List ((K × ℕ) × E)) (ks : List K) → AllEdges eq edges ks → IsFresh eq kind holds t es → IsFresh eq kind holds u (retained eq status ks es)
+  fresh_answer : (status : IRStatus) → Reports t u status → (es : List ((K × ℕ) × E)) (ks : List K) → AllEdges eq edges ks → IsFresh eq kind holds t es → IsFresh eq kind holds u (retained eq status ks es)
   fresh_answer Unchanged h es ks all f = fresh_all eq kind holds t u grows fewer es (λ e o lt lu. stays e o t u wt wu h lu) f
   fresh_answer Changed h es ks all f =
       fresh_some eq kind holds t u grows fewer (λ p. list_any (eq p.0.0) ks) es (λ p e k lt lu. keeps p.1 p.0.1 t u wt wu (subst (λ z. edges z ≡ true) (sym (same (kind p.1) p.0.0 k)) (edges_kept eq edges same p.0.0 ks all e)) lt lu (h p.0.1 lt lu)) f
 
-  pub fresh_result : (status : IRStatus) → Tells t u status → (es : List ((K × ℕ) × E)) (r : Result (PassResult K) OptError) → IfOk r (λ a. has_changed a ≡ status) → IfOk r (λ a. kept_kinds a ≡ edge_kinds eq edges es) → IfOk r (λ a. FreshAfter eq kind holds t es u es a)
+  pub fresh_result : (status : IRStatus) → Reports t u status → (es : List ((K × ℕ) × E)) (r : Result (PassResult K) OptError) → IfOk r (λ a. has_changed a ≡ status) → IfOk r (λ a. kept_kinds a ≡ edge_kinds eq edges es) → IfOk r (λ a. FreshAfter eq kind holds t es u es a)
   fresh_result status h es (Err e) c k = k
   fresh_result status h es (Ok a) c k =
       λ f. subst (λ z. IsFresh eq kind holds u (retained eq z (kept_kinds a) es)) (sym c) (subst (λ z. IsFresh eq kind holds u (retained eq status z es)) (sym k) (fresh_answer status h es (edge_kinds eq edges es) (all_edges eq edges es) f))

@@ -9,9 +9,9 @@ use Rattle.pliron_core.specs.declared.attrs.IRStatus.TheVariants.{Changed, Uncha
 use Rattle.pliron_theory.specs.Edges.{KeepsEdges}
 
 -- where the answer is `Unchanged` the tree is the same but for erased handles, and else its edges are
-abbrev pub Tells : Tree → Tree → IRStatus → Type 0
-Tells t u Unchanged = IsSameTree t u
-Tells t u Changed = KeepsEdges t u
+abbrev pub Reports : Tree → Tree → IRStatus → Type 0
+Reports t u Unchanged = IsSameTree t u
+Reports t u Changed = KeepsEdges t u
 
 -- the kinds with one more, if it reads edges alone
 abbrev pub with_kind_if : {K : Type 0} → (K → K → Bool) → (K → Bool) → List K → K → List K

@@ -39,7 +39,7 @@ pub fn run_pipeline<P: Pass>(
     requires live { IsLive ctx.old.tree op }
     requires linked { IsWellLinked P.D.meaning ctx.old.tree op }
     ensures same { DoAsBefore P.D.meaning ctx.old.tree ctx.new.tree }
-    ensures stands { IsLive ctx.new.tree op }
+    ensures liveness { IsLive ctx.new.tree op }
     ensures links { IsWellLinked P.D.meaning ctx.new.tree op }
     ensures inside { IsInsideChange ctx.old.tree ctx.new.tree op }
     ensures fresh { OnOk result (IsFresh P.E.Kind.eq P.E.kind P.E.holds ctx.old.tree analyses.old.cache.entries →

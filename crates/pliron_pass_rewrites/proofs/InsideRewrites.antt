@@ -46,20 +46,20 @@ module _ (m : Meaning) (t u : Tree) (holder op : ℕ) (w : IsTree t) (wu : IsTre
   unchanged : u ≡ t → IsPassChange m t u holder
   unchanged e = subst (λ z. IsPassChange m t z holder) (sym e) (change_refl m t holder (inside_live t w.joined held).0 linked)
 
-  gone : u ≡ after_erasing t op → IsPassChange m t u holder
-  gone e =
+  deleted : u ≡ after_erasing t op → IsPassChange m t u holder
+  deleted e =
       let w' : IsTree (after_erasing t op) = subst IsTree e wu in
       let live = inside_live t w.joined held in
       let inside = erased_inside t holder op w w'.joined held in
       subst (λ z. IsPassChange m t z holder) (sym e) (record {
-        stands = (inside.operations holder (outside_itself w.joined.rooted live.0)).0.0;
+        liveness = (inside.operations holder (outside_itself w.joined.rooted live.0)).0.0;
         linked = erased_links m t op w w' live.1 contained holder linked;
         inside = inside;
         runs = subst (KeepsRuns m t) e runs;
       })
 
   pub erased_passes : (side_effects : Head → Option Bool) (r : Result IRStatus OptError) → IfOk r (λ status. ErasesUnused side_effects op t u status) → OnErr r (u ≡ t) → IsPassChange m t u holder
-  erased_passes side_effects (Ok Changed) is err = gone is.1
+  erased_passes side_effects (Ok Changed) is err = deleted is.1
   erased_passes side_effects (Ok Unchanged) is err = unchanged is.1
   erased_passes side_effects (Err e) is err = unchanged err
 
@@ -116,7 +116,7 @@ module _ (m : Meaning) (accepts : AttrObj → Bool) (head : AttrObj → Head) (m
         let h = put_links (definition_of t v) made inside accepted in
         let change : IsInsideChange t u holder = subst (λ z. IsInsideChange t z holder) (sym e) h.0 in
         record {
-          stands = (change.operations holder (outside_itself w.joined.rooted live)).0.0;
+          liveness = (change.operations holder (outside_itself w.joined.rooted live)).0.0;
           linked = subst (λ z. IsWellLinked m z holder) (sym e) h.1;
           inside = change;
           runs = runs;
@@ -124,7 +124,7 @@ module _ (m : Meaning) (accepts : AttrObj → Bool) (head : AttrObj → Head) (m
 
     same : IsSameTree t u → IsPassChange m t u holder
     same s = record {
-      stands = (same_live t u w.joined wu.joined s holder).0 live;
+      liveness = (same_live t u w.joined wu.joined s holder).0 live;
       linked = linked_same m t u holder w wu s linked;
       inside = same_change t u holder w.joined wu.joined s;
       runs = runs;

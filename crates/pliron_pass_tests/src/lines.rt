@@ -18,7 +18,7 @@ use std::alloc::Global;
 use std::process::Abort;
 
 // The branch forwards nothing to a block with an argument, which verifying finds.
-static MISFIT: &str = "func { b0(): c = const 1; d = const 2; cbr c b1() b1(); b1(p): ret p }";
+static VIOLATION: &str = "func { b0(): c = const 1; d = const 2; cbr c b1() b1(); b1(p): ret p }";
 
 static FIT: &str = "func { b0(): c = const 1; d = const 2; ret c }";
 
@@ -183,7 +183,7 @@ fn run_line(
     ctx: &mut Context,
     analyses: &mut AnalysisManager<Fact>,
 ) -> String {
-    let text = if shape == "misfit" { MISFIT } else { FIT };
+    let text = if shape == "misfit" { VIOLATION } else { FIT };
     let root = read(rt, alloc, ctx, text);
     analyses.compute_analysis(2, root, ctx).expect(rt, "memory");
     let answer = run_shape(alloc, shape, line, root, ctx, analyses);

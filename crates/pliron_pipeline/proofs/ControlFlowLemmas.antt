@@ -11,6 +11,6 @@ use Rattle.pliron_pipeline.specs.Optimising.{IsAccurateAnswer}
 
 pub simplified_truly : (m : Meaning) (can_fold can_fold_branch : Head → Bool) (constants : Constants) (outcome : Outcome) (op : ℕ) (t t' : Tree) (status : IRStatus) → Simplifies m can_fold can_fold_branch constants outcome op t t' status → IsAccurateAnswer t t' (record { status = status; keeps_edges = false })
 simplified_truly m can_fold can_fold_branch constants outcome op t t' status is = record {
-  same = λ e. subst (λ s. ReportsChange (Some s) t t') e is.honest;
+  same = λ e. subst (λ s. ReportsChange (Some s) t t') e is.reports_change;
   edges = λ e. absurd (false≢true e);
 }

@@ -12,23 +12,23 @@ use Rattle.pliron_theory.specs.Edges.{edges_inside}
 use Rattle.pliron_pass.specs.Cache.{IsFresh, retained}
 use Rattle.pliron_pass.specs.Answer.{FreshAfter, has_changed, kept_kinds}
 use Rattle.pliron_pass.specs.Stage.{Stage}
-use Rattle.pliron_pass.specs.Optimising.{edge_kinds, Tells}
+use Rattle.pliron_pass.specs.Optimising.{edge_kinds, Reports}
 use Rattle.pliron_pass.specs.declared.result.PassResult.{PassResult}
 use Rattle.pliron_pass.proofs.FreshLemmas.{fresh_all, fresh_some, fresh_result}
 use Rattle.pliron_pipeline.specs.Optimising.{IsAccurateAnswer, preserved_kinds, RunsOptimisation, RunsOptimisation.Optimised, RunsOptimisation.Short}
 use Rattle.pliron_pipeline.specs.declared.optimisation.Effect.{Effect}
 
-tells : (t u : Tree) (effect : Effect) → IsAccurateAnswer t u effect → effect.keeps_edges ≡ true → Tells t u effect.status
-tells t u effect truly e = go effect.status refl
+accurate : (t u : Tree) (effect : Effect) → IsAccurateAnswer t u effect → effect.keeps_edges ≡ true → Reports t u effect.status
+accurate t u effect truly e = go effect.status refl
   where
-    go : (status : IRStatus) → effect.status ≡ status → Tells t u status
+    go : (status : IRStatus) → effect.status ≡ status → Reports t u status
     go Unchanged s = truly.same s
     go Changed s = truly.edges e
 
 module _ {K E : Type 0} (eq : K → K → Bool) (kind : E → K) (holds : E → ℕ → Tree → Type 0) (edges : K → Bool) (same : (a b : K) → eq a b ≡ true → a ≡ b) (stays : (e : E) (o : ℕ) (t u : Tree) → IsTree t → IsTree u → IsSameTree t u → IsLive u o → holds e o t → holds e o u) (keeps : (e : E) (o : ℕ) (t u : Tree) → IsTree t → IsTree u → edges (kind e) ≡ true → IsLive t o → IsLive u o → edges_inside u o ≡ edges_inside t o → holds e o t → holds e o u) (t u : Tree) (wt : IsTree t) (wu : IsTree u) (grows : length t.operations ≤ length u.operations) (fewer : (o : ℕ) → o < length t.operations → IsLive u o → IsLive t o) (effect : Effect) (truly : IsAccurateAnswer t u effect) where
   -- where all edges stay
   pub fresh_kept : effect.keeps_edges ≡ true → (es : List ((K × ℕ) × E)) (r : Result (PassResult K) OptError) → IfOk r (λ a. has_changed a ≡ effect.status) → IfOk r (λ a. kept_kinds a ≡ edge_kinds eq edges es) → IfOk r (λ a. FreshAfter eq kind holds t es u es a)
-  fresh_kept e es r c k = fresh_result eq kind holds edges same stays keeps t u wt wu grows fewer effect.status (tells t u effect truly e) es r c k
+  fresh_kept e es r c k = fresh_result eq kind holds edges same stays keeps t u wt wu grows fewer effect.status (accurate t u effect truly e) es r c k
 
   -- where nothing is preserved
   pub fresh_none : (es : List ((K × ℕ) × E)) (a : PassResult K) → has_changed a ≡ effect.status → kept_kinds a ≡ [] → FreshAfter eq kind holds t es u es a

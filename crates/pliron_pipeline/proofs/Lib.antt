@@ -1,4 +1,4 @@
 pub mod EffectLemmas
 pub mod DeadCodeLemmas
 pub mod ControlFlowLemmas
-pub mod HonestLemmas
+pub mod ReportLemmas

@@ -10,14 +10,14 @@ use Rattle.pliron_pipeline.specs.declared.optimisation.Effect.{Effect}
 
 -- dead operations and arguments of the first tree were erased in turn
 abbrev pub DeadItemsAreErased : Meaning → (Shape → ℕ → ℕ → Head) → (Head → Option Bool) → (Head → ℕ → Bool → Option Bool) → (t t' : Tree) → ℕ → List Item → Type 0
-DeadItemsAreErased m shortened side_effects removable t t' root gone = EraseInTurn m shortened gone t t' × AreDeadItems m side_effects removable t root gone
+DeadItemsAreErased m shortened side_effects removable t t' root deleted = EraseInTurn m shortened deleted t t' × AreDeadItems m side_effects removable t root deleted
 
 -- all that was dead is erased and nothing is dead, the status reports whether something was, and all edges stay
 -- exactly where no operation with regions was erased; or an allocation failed, and some of what is dead is
 -- erased
 abbrev pub EliminatesDead : Meaning → (Shape → ℕ → ℕ → Head) → (Head → Option Bool) → (Head → ℕ → Bool → Option Bool) → (t t' : Tree) → ℕ → Result Effect OptError → Type 0
-EliminatesDead m shortened side_effects removable t t' root (Ok effect) = ((gone : List Item) × DeadItemsAreErased m shortened side_effects removable t t' root gone × ((effect.keeps_edges ≡ true) ↔ (SomeHasRegions t gone → ⊥))) × LeavesNoDead m side_effects removable t t' root × ReportsDead m side_effects removable t root effect.status
-EliminatesDead m shortened side_effects removable t t' root (Err e) = (e ≡ Memory) × ((gone : List Item) × DeadItemsAreErased m shortened side_effects removable t t' root gone)
+EliminatesDead m shortened side_effects removable t t' root (Ok effect) = ((deleted : List Item) × DeadItemsAreErased m shortened side_effects removable t t' root deleted × ((effect.keeps_edges ≡ true) ↔ (SomeHasRegions t deleted → ⊥))) × LeavesNoDead m side_effects removable t t' root × ReportsDead m side_effects removable t root effect.status
+EliminatesDead m shortened side_effects removable t t' root (Err e) = (e ≡ Memory) × ((deleted : List Item) × DeadItemsAreErased m shortened side_effects removable t t' root deleted)
 
 abbrev pub dce_name : List ℕ
 dce_name = 0x64 ∷ 0x63 ∷ 0x65 ∷ []

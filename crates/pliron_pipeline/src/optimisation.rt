@@ -43,7 +43,7 @@ pub trait Optimisation {
         requires live { IsLive ctx.old.tree op }
         requires linked { IsWellLinked Self.D.meaning ctx.old.tree op }
         ensures change { IsPassChange Self.D.meaning ctx.old.tree ctx.new.tree op }
-        ensures tells { IfOk result (λ effect. IsAccurateAnswer ctx.old.tree ctx.new.tree effect) }
+        ensures accurate { IfOk result (λ effect. IsAccurateAnswer ctx.old.tree ctx.new.tree effect) }
         ensures outcome { outcome ctx.old.tree ctx.new.tree op result };
 }
 

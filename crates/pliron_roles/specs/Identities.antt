@@ -60,10 +60,10 @@ abbrev pub are_same : List ℕ → Bool
 are_same (v ∷ w ∷ []) = nat_eq v w
 are_same _ = false
 
-abbrev pub place_told : Identity → List (Option AttrObj) → List ℕ → Option ℕ
-place_told i (p ∷ []) operands = place_of_one i.only
-place_told i (p ∷ q ∷ []) operands = place_by (is_known_as i.neutral q) (i.either_side && is_known_as i.neutral p) (i.idempotent && are_same operands)
-place_told i _ operands = None
+abbrev pub identity_operand : Identity → List (Option AttrObj) → List ℕ → Option ℕ
+identity_operand i (p ∷ []) operands = place_of_one i.only
+identity_operand i (p ∷ q ∷ []) operands = place_by (is_known_as i.neutral q) (i.either_side && is_known_as i.neutral p) (i.idempotent && are_same operands)
+identity_operand i _ operands = None
 
 -- ---- the number that is given
 
@@ -115,6 +115,6 @@ given_known i (a ∷ b ∷ []) = given_of_two i a b
 given_known i _ = None
 
 -- the number that is given by what one operand is known to be, or by both being the same value
-abbrev pub given_told : Identity → List (Option AttrObj) → List ℕ → Option ℤ
-given_told i (p ∷ q ∷ []) operands = given_by i (is_known_as (absorber_of i) q) (i.either_side && is_known_as (absorber_of i) p) (are_same operands)
-given_told i _ operands = None
+abbrev pub identity_constant : Identity → List (Option AttrObj) → List ℕ → Option ℤ
+identity_constant i (p ∷ q ∷ []) operands = given_by i (is_known_as (absorber_of i) q) (i.either_side && is_known_as (absorber_of i) p) (are_same operands)
+identity_constant i _ operands = None

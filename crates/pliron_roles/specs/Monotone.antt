@@ -9,7 +9,7 @@ use Rattle.pliron_core.specs.declared.attrs.AttrObj.TheVariants.{Int}
 use Rattle.pliron_core.specs.Lists.{In}
 use Rattle.pliron_laws.specs.Datum.{Shape}
 use Rattle.pliron_laws.specs.Folding.{KnowsMore, FoldsMonotonely}
-use Rattle.pliron_roles.specs.Roles.{Interpretation, Role, Constant, Folds, Picks, Opaque, Jumps, Chooses, Leaves, Stops, Acts, Forks, told_edge, truth_of, by_role, meaning_by, folds_by, branch_folds_by, constants_by, feasible_by, answers_by, feasible_of, edges_taken, known_as, known_number_at, all_known, with_number, number_computed, left_known, folded_known, picked_known}
+use Rattle.pliron_roles.specs.Roles.{Interpretation, Role, Constant, Folds, Picks, Opaque, Jumps, Chooses, Leaves, Stops, Acts, Forks, chosen_edge, truth_of, by_role, meaning_by, folds_by, branch_folds_by, constants_by, feasible_by, answers_by, feasible_of, edges_taken, known_as, known_number_at, all_known, with_number, number_computed, left_known, folded_known, picked_known}
 use Rattle.pliron_roles.specs.declared.identity.Identity.{Identity}
 use Rattle.pliron_roles.specs.Identities.{place_of_one}
 use Rattle.pliron_roles.specs.FoldLaws.{taken_in}
@@ -119,7 +119,7 @@ role_fewer (Folds n result identity) s targets known more b m h = h
 role_fewer (Picks truth) s targets known more b m h = h
 role_fewer Opaque s targets known more b m h = h
 role_fewer Jumps s targets known more b m h = h
-role_fewer (Chooses choose) s targets known more b m h = taken_more targets (told_edge choose s) (known_number_at known 0) (known_number_at more 0) b (number_more known more 0 m) h
+role_fewer (Chooses choose) s targets known more b m h = taken_more targets (chosen_edge choose s) (known_number_at known 0) (known_number_at more 0) b (number_more known more 0 m) h
 role_fewer Leaves s targets known more b m h = h
 role_fewer Stops s targets known more b m h = h
 role_fewer (Acts takes act) s targets known more b m h = h

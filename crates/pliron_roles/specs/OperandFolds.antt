@@ -8,7 +8,7 @@ use Rattle.pliron_operand_folding.specs.declared.OpFoldResult.TheVariants.{Opera
 use Rattle.pliron_operand_folding.specs.OperandFolding.{OperandFolds}
 use Rattle.pliron_roles.specs.declared.form.Form.{Form}
 use Rattle.pliron_roles.specs.declared.form.Form.TheVariants.{Folds as FoldsForm, Picks as PicksForm}
-use Rattle.pliron_roles.specs.Identities.{place_told, given_told}
+use Rattle.pliron_roles.specs.Identities.{identity_operand, identity_constant}
 use Rattle.pliron_roles.specs.Roles.{Role, form_of, identity_in, truth_in, truth_of, known_number_at, by_role}
 
 -- the place of the operand that is picked, where the truth is known
@@ -30,7 +30,7 @@ answers_at PicksForm left given picked = answer_at picked None ∷ []
 answers_at _ left given picked = []
 
 abbrev pub operands_by : Head → List (Option AttrObj) → List ℕ → Role → List (Option OpFoldResult)
-operands_by h known operands r = answers_at (form_of r) (place_told (identity_in r h) known operands) (given_told (identity_in r h) known operands) (place_picked (truth_of (truth_in r) (known_number_at known 0)))
+operands_by h known operands r = answers_at (form_of r) (identity_operand (identity_in r h) known operands) (identity_constant (identity_in r h) known operands) (place_picked (truth_of (truth_in r) (known_number_at known 0)))
 
 unfoldable pub operand_folds_by : (ℕ → Option Role) → OperandFolds
 operand_folds_by roles s known operands = by_role [] (operands_by s.head known operands) (roles s.head.kind)

@@ -15,7 +15,7 @@ use Rattle.pliron_operand_folding.specs.declared.OpFoldResult.TheVariants.{Opera
 use Rattle.pliron_operand_folding.specs.OperandFolding.{AreSameData, datum_by, IsWithin, AnswersOperand, AnswersOperands}
 use Rattle.pliron_roles.specs.declared.identity.Absorption.{Absorption}
 use Rattle.pliron_roles.specs.declared.identity.Identity.{Identity}
-use Rattle.pliron_roles.specs.Identities.{same_datum, is_this, place_of_one, place_by, place_between, place_in, is_known_as, are_same, place_told, agrees_with, absorption_if, absorption_of, absorber_of, absorbed_of, equal_if, equal_of, given_by, given_between, given_in, given_told}
+use Rattle.pliron_roles.specs.Identities.{same_datum, is_this, place_of_one, place_by, place_between, place_in, is_known_as, are_same, identity_operand, agrees_with, absorption_if, absorption_of, absorber_of, absorbed_of, equal_if, equal_of, given_by, given_between, given_in, identity_constant}
 use Rattle.pliron_roles.specs.Roles.{Interpretation, Role, Constant, Folds, Picks, Opaque, Jumps, Chooses, Leaves, Stops, Acts, Forks, numbers_of, first_number, results_given, operands_picked, operand_left, nth_datum, truth_of, known_number_at, by_role, by_form, form_of, act_of, no_act, meaning_by, folds_of}
 use Rattle.pliron_roles.specs.Parts.{Admits, IsQuiet, comes_first, three, same}
 use Rattle.pliron_roles.specs.FoldLaws.{Agrees, first_agrees, role_quiet}
@@ -61,7 +61,7 @@ abbrev GivesOperand : ℕ → List Datum → List Datum → Type 0
 GivesOperand p first ds = slice_get ds 0 ≡ slice_get first p
 
 -- what determines a place, and what decides: whatever determines one also decides
-record Tells (x y z u v w : Bool) (d e : Datum) : Type 0 where
+record IdentityGives (x y z u v w : Bool) (d e : Datum) : Type 0 where
   second : x ≡ true → u ≡ true
   first : y ≡ true → v ≡ true
   neutral : u ≡ true → v ≡ true → d ≡ e
@@ -83,17 +83,17 @@ left_equal false true w d e ds g f = ap Some g
 left_equal false false true d e ds g f = refl
 left_equal false false false d e ds g f = grind arith
 
-left_told : (x y z u v w : Bool) (d e : Datum) (ds : List Datum) (p : ℕ) → Tells x y z u v w d e → place_by x y z ≡ Some p → GivesOperand p (d ∷ e ∷ []) (operand_left (d ∷ e ∷ []) (place_by u v w) ds)
-left_told true y z u v w d e ds p t f =
+left_identity : (x y z u v w : Bool) (d e : Datum) (ds : List Datum) (p : ℕ) → IdentityGives x y z u v w d e → place_by x y z ≡ Some p → GivesOperand p (d ∷ e ∷ []) (operand_left (d ∷ e ∷ []) (place_by u v w) ds)
+left_identity true y z u v w d e ds p t f =
     let at : 0 ≡ p = same_Some 0 p f in
     sym (left_first u v w d e ds (t.second refl)) ∙ ap (slice_get (d ∷ e ∷ [])) at
-left_told false true z u v w d e ds p t f =
+left_identity false true z u v w d e ds p t f =
     let at : 1 ≡ p = same_Some 1 p f in
     sym (left_second u v w d e ds t.neutral (t.first refl)) ∙ ap (slice_get (d ∷ e ∷ [])) at
-left_told false false true u v w d e ds p t f =
+left_identity false false true u v w d e ds p t f =
     let at : 0 ≡ p = same_Some 0 p f in
     sym (left_equal u v w d e ds (t.equal refl).0 (t.equal refl).1) ∙ ap (slice_get (d ∷ e ∷ [])) at
-left_told false false false u v w d e ds p t f = grind arith
+left_identity false false false u v w d e ds p t f = grind arith
 
 equal_data : (operands : List ℕ) (d e : Datum) → AreSameData operands (d ∷ e ∷ []) → are_same operands ≡ true → d ≡ e
 equal_data [] d e s f = grind arith
@@ -101,8 +101,8 @@ equal_data (v ∷ []) d e s f = grind arith
 equal_data (v ∷ w ∷ x ∷ operands) d e s f = grind arith
 equal_data (v ∷ w ∷ []) d e s f = same_Some d e (s 0 1 w (ap Some (same v w f)) refl)
 
-tells : (i : Identity) (a b : Option AttrObj) (operands : List ℕ) (d e : Datum) → Known (a ∷ b ∷ []) (d ∷ e ∷ []) → AreSameData operands (d ∷ e ∷ []) → Tells (is_known_as i.neutral b) (i.either_side && is_known_as i.neutral a) (i.idempotent && are_same operands) (is_this i.neutral e) (i.either_side && is_this i.neutral d) (i.idempotent && same_datum d e) d e
-tells i a b operands d e h s = record {
+accurate : (i : Identity) (a b : Option AttrObj) (operands : List ℕ) (d e : Datum) → Known (a ∷ b ∷ []) (d ∷ e ∷ []) → AreSameData operands (d ∷ e ∷ []) → IdentityGives (is_known_as i.neutral b) (i.either_side && is_known_as i.neutral a) (i.idempotent && are_same operands) (is_this i.neutral e) (i.either_side && is_this i.neutral d) (i.idempotent && same_datum d e) d e
+accurate i a b operands d e h s = record {
   second = λ x. known_this i.neutral b [] e [] (behind a b d e h) x;
   first = λ y. let p = parts i.either_side (is_known_as i.neutral a) y in both i.either_side (is_this i.neutral d) p.0 (known_this i.neutral a (b ∷ []) d (e ∷ []) h p.1);
   neutral = λ u v. this_is i.neutral d e (parts i.either_side (is_this i.neutral d) v).1 u;
@@ -120,7 +120,7 @@ only_left : (only : Bool) (d : Datum) (ds : List Datum) (p : ℕ) → place_of_o
 only_left true d ds p e = let at : 0 ≡ p = same_Some 0 p e in ap (slice_get (d ∷ [])) at
 only_left false d ds p e = grind arith
 
-folded_left : (i : Identity) (known : List (Option AttrObj)) (operands : List ℕ) (first ds : List Datum) (p : ℕ) → Known known first → AreSameData operands first → place_told i known operands ≡ Some p → GivesOperand p first (operand_left first (place_in i first) ds)
+folded_left : (i : Identity) (known : List (Option AttrObj)) (operands : List ℕ) (first ds : List Datum) (p : ℕ) → Known known first → AreSameData operands first → identity_operand i known operands ≡ Some p → GivesOperand p first (operand_left first (place_in i first) ds)
 folded_left i [] operands first ds p h s e = grind arith
 folded_left i (a ∷ []) operands [] ds p h s e = absurd h
 folded_left i (a ∷ []) operands (d ∷ []) ds p h s e = only_left i.only d ds p e
@@ -134,7 +134,7 @@ folded_left i (None ∷ None ∷ []) operands (d ∷ x ∷ y ∷ first) ds p h s
 folded_left i (None ∷ Some b ∷ []) operands (d ∷ x ∷ y ∷ first) ds p h s e = absurd h.1
 folded_left i (Some a ∷ None ∷ []) operands (d ∷ x ∷ y ∷ first) ds p h s e = absurd h.1
 folded_left i (Some a ∷ Some b ∷ []) operands (d ∷ x ∷ y ∷ first) ds p h s e = absurd h.1.1
-folded_left i (a ∷ b ∷ []) operands (d ∷ x ∷ []) ds p h s e = left_told _ _ _ _ _ _ d x ds p (tells i a b operands d x h s) e
+folded_left i (a ∷ b ∷ []) operands (d ∷ x ∷ []) ds p h s e = left_identity _ _ _ _ _ _ d x ds p (accurate i a b operands d x h s) e
 
 one_of_two : (x y z : Bool) (p : ℕ) → place_by x y z ≡ Some p → p < 2
 one_of_two true y z p e = omega (arith, same_Some 0 p e)
@@ -146,11 +146,11 @@ one_of_one : (only : Bool) (p : ℕ) → place_of_one only ≡ Some p → p < 1
 one_of_one true p e = omega (arith, same_Some 0 p e)
 one_of_one false p e = grind arith
 
-told_within : (i : Identity) (known : List (Option AttrObj)) (operands : List ℕ) (p : ℕ) → place_told i known operands ≡ Some p → p < length known
-told_within i [] operands p e = grind arith
-told_within i (a ∷ []) operands p e = one_of_one i.only p e
-told_within i (a ∷ b ∷ c ∷ known) operands p e = grind arith
-told_within i (a ∷ b ∷ []) operands p e = one_of_two _ _ _ p e
+identity_operand_within : (i : Identity) (known : List (Option AttrObj)) (operands : List ℕ) (p : ℕ) → identity_operand i known operands ≡ Some p → p < length known
+identity_operand_within i [] operands p e = grind arith
+identity_operand_within i (a ∷ []) operands p e = one_of_one i.only p e
+identity_operand_within i (a ∷ b ∷ c ∷ known) operands p e = grind arith
+identity_operand_within i (a ∷ b ∷ []) operands p e = one_of_two _ _ _ p e
 
 -- ---- the number that is given
 
@@ -266,8 +266,8 @@ off : (x y : Bool) → x ≡ true → (x && y) ≡ false → y ≡ false
 off true y e f = f
 off false y e f = grind arith
 
-number_told : (i : Identity) (a b : Option AttrObj) (operands : List ℕ) (d e : Datum) (m : ℤ) → Known (a ∷ b ∷ []) (d ∷ e ∷ []) → AreSameData operands (d ∷ e ∷ []) → place_told i (a ∷ b ∷ []) operands ≡ None → given_told i (a ∷ b ∷ []) operands ≡ Some m → GivesNumber i d e m
-number_told i a b operands d e m h s none given = by_case (given_cases i (is_known_as (absorber_of i) b) (i.either_side && is_known_as (absorber_of i) a) (are_same operands) m given)
+constant_holds : (i : Identity) (a b : Option AttrObj) (operands : List ℕ) (d e : Datum) (m : ℤ) → Known (a ∷ b ∷ []) (d ∷ e ∷ []) → AreSameData operands (d ∷ e ∷ []) → identity_operand i (a ∷ b ∷ []) operands ≡ None → identity_constant i (a ∷ b ∷ []) operands ≡ Some m → GivesNumber i d e m
+constant_holds i a b operands d e m h s none given = by_case (given_cases i (is_known_as (absorber_of i) b) (i.either_side && is_known_as (absorber_of i) a) (are_same operands) m given)
   where
     off_all : (is_known_as i.neutral b ≡ false) × ((i.either_side && is_known_as i.neutral a) ≡ false) × ((i.idempotent && are_same operands) ≡ false)
     off_all = none_placed (is_known_as i.neutral b) (i.either_side && is_known_as i.neutral a) (i.idempotent && are_same operands) none
@@ -330,7 +330,7 @@ module _ (value : Interpretation) (h : Head) (input : List Datum) (computed : Op
   number_there false false true d e o m f g k n = ap Some (k refl)
   number_there false false false d e o m f g k n = ap (λ x. slice_get (results_given value h input (option_or x computed)) 0) n
 
-  number_given_by : (i : Identity) (known : List (Option AttrObj)) (operands : List ℕ) (first : List Datum) (m : ℤ) → Known known first → AreSameData operands first → place_told i known operands ≡ None → given_told i known operands ≡ Some m → slice_get (operand_left first (place_in i first) (results_given value h input (option_or (given_in i first) computed))) 0 ≡ Some (Number m)
+  number_given_by : (i : Identity) (known : List (Option AttrObj)) (operands : List ℕ) (first : List Datum) (m : ℤ) → Known known first → AreSameData operands first → identity_operand i known operands ≡ None → identity_constant i known operands ≡ Some m → slice_get (operand_left first (place_in i first) (results_given value h input (option_or (given_in i first) computed))) 0 ≡ Some (Number m)
   number_given_by i [] operands first m k s e f = grind arith
   number_given_by i (a ∷ []) operands first m k s e f = grind arith
   number_given_by i (a ∷ b ∷ c ∷ known) operands first m k s e f = grind arith
@@ -342,7 +342,7 @@ module _ (value : Interpretation) (h : Head) (input : List Datum) (computed : Op
   number_given_by i (Some a ∷ None ∷ []) operands (d ∷ x ∷ y ∷ first) m k s e f = absurd k.1
   number_given_by i (Some a ∷ Some b ∷ []) operands (d ∷ x ∷ y ∷ first) m k s e f = absurd k.1.1
   number_given_by i (a ∷ b ∷ []) operands (d ∷ x ∷ []) m k s e f =
-      let t = number_told i a b operands d x m k s e f in
+      let t = constant_holds i a b operands d x m k s e f in
       number_there (is_this i.neutral x) (i.either_side && is_this i.neutral d) (i.idempotent && same_datum d x) d x (given_between i d x) m t.second t.first t.equal t.number
 
 -- ---- the operand that is picked
@@ -404,20 +404,20 @@ is_answer (Some p) number answer e = inl (p, refl, sym (same_Some (Operand p) an
 is_answer None None answer e = grind arith
 is_answer None (Some m) answer e = inr (m, refl, refl, sym (same_Some (ConstantFold (Int m)) answer e))
 
-told_answer_within : (i : Identity) (s : Shape) (known : List (Option AttrObj)) (operands : List ℕ) (answer : OpFoldResult) → length known ≡ s.operands → answer_at (place_told i known operands) (given_told i known operands) ≡ Some answer → IsWithin s answer
-told_answer_within i s known operands answer l e = by_case (is_answer (place_told i known operands) (given_told i known operands) answer e)
+identity_answer_within : (i : Identity) (s : Shape) (known : List (Option AttrObj)) (operands : List ℕ) (answer : OpFoldResult) → length known ≡ s.operands → answer_at (identity_operand i known operands) (identity_constant i known operands) ≡ Some answer → IsWithin s answer
+identity_answer_within i s known operands answer l e = by_case (is_answer (identity_operand i known operands) (identity_constant i known operands) answer e)
   where
-    by_case : ((p : ℕ) × (place_told i known operands ≡ Some p) × (answer ≡ Operand p)) ⊎ ((m : ℤ) × (place_told i known operands ≡ None) × (given_told i known operands ≡ Some m) × (answer ≡ ConstantFold (Int m))) → IsWithin s answer
-    by_case (inl c) = subst (IsWithin s) (sym c.2) (omega (arith, told_within i known operands c.0 c.1, l))
+    by_case : ((p : ℕ) × (identity_operand i known operands ≡ Some p) × (answer ≡ Operand p)) ⊎ ((m : ℤ) × (identity_operand i known operands ≡ None) × (identity_constant i known operands ≡ Some m) × (answer ≡ ConstantFold (Int m))) → IsWithin s answer
+    by_case (inl c) = subst (IsWithin s) (sym c.2) (omega (arith, identity_operand_within i known operands c.0 c.1, l))
     by_case (inr c) = subst (IsWithin s) (sym c.3) tt
 
-told_answer_given : (value : Interpretation) (h : Head) (computed : Option ℤ) (i : Identity) (known : List (Option AttrObj)) (operands : List ℕ) (answer : OpFoldResult) (first : List Datum) → Known known first → AreSameData operands first → answer_at (place_told i known operands) (given_told i known operands) ≡ Some answer → GivesFirst answer first (operand_left first (place_in i first) (results_given value h first (option_or (given_in i first) computed)))
-told_answer_given value h computed i known operands answer first k s e = by_case (is_answer (place_told i known operands) (given_told i known operands) answer e)
+identity_answer_given : (value : Interpretation) (h : Head) (computed : Option ℤ) (i : Identity) (known : List (Option AttrObj)) (operands : List ℕ) (answer : OpFoldResult) (first : List Datum) → Known known first → AreSameData operands first → answer_at (identity_operand i known operands) (identity_constant i known operands) ≡ Some answer → GivesFirst answer first (operand_left first (place_in i first) (results_given value h first (option_or (given_in i first) computed)))
+identity_answer_given value h computed i known operands answer first k s e = by_case (is_answer (identity_operand i known operands) (identity_constant i known operands) answer e)
   where
     given : List Datum
     given = operand_left first (place_in i first) (results_given value h first (option_or (given_in i first) computed))
 
-    by_case : ((p : ℕ) × (place_told i known operands ≡ Some p) × (answer ≡ Operand p)) ⊎ ((m : ℤ) × (place_told i known operands ≡ None) × (given_told i known operands ≡ Some m) × (answer ≡ ConstantFold (Int m))) → GivesFirst answer first given
+    by_case : ((p : ℕ) × (identity_operand i known operands ≡ Some p) × (answer ≡ Operand p)) ⊎ ((m : ℤ) × (identity_operand i known operands ≡ None) × (identity_constant i known operands ≡ Some m) × (answer ≡ ConstantFold (Int m))) → GivesFirst answer first given
     by_case (inl c) = subst (λ a. GivesFirst a first given) (sym c.2) (folded_left i known operands first (results_given value h first (option_or (given_in i first) computed)) c.0 k s c.1)
     by_case (inr c) = subst (λ a. GivesFirst a first given) (sym c.3) (number_given_by value h first computed i known operands first c.0 k s c.1 c.2)
 
@@ -428,7 +428,7 @@ picked_answer (Some false) answer e = (2, refl, sym (same_Some (Operand 2) answe
 
 role_left : (value : Interpretation) (r : Role) (s : Shape) (known : List (Option AttrObj)) (operands : List ℕ) (i : ℕ) (answer : OpFoldResult) → Admits (Some r) s → length known ≡ s.operands → slice_get (operands_by s.head known operands r) i ≡ Some (Some answer) → Left value r s known operands i answer
 role_left value (Folds n result identity) s known operands i answer h l e =
-    let at = answered (answer_at (place_told (identity s.head) known operands) (given_told (identity s.head) known operands)) i answer e in
+    let at = answered (answer_at (identity_operand (identity s.head) known operands) (identity_constant (identity s.head) known operands)) i answer e in
     let q = three s.operands n _ h in
     let u = three s.results 1 _ q.1 in
     let v = three s.successors 0 _ u.1 in
@@ -437,8 +437,8 @@ role_left value (Folds n result identity) s known operands i answer h l e =
       one_result = u.0;
       no_successors = v.0;
       folds = refl;
-      within = told_answer_within (identity s.head) s known operands answer l at.1;
-      gives = λ memo first k known_first same_data. told_answer_given value s.head (result s.head (numbers_of first)) (identity s.head) known operands answer first known_first same_data at.1;
+      within = identity_answer_within (identity s.head) s known operands answer l at.1;
+      gives = λ memo first k known_first same_data. identity_answer_given value s.head (result s.head (numbers_of first)) (identity s.head) known operands answer first known_first same_data at.1;
     }
 role_left value (Picks truth) s known operands i answer h l e =
     let at = answered (answer_at (place_picked (truth_of truth (known_number_at known 0))) None) i answer e in

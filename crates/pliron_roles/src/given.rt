@@ -3,7 +3,7 @@ ghost use Rattle.std.specs.Prelude.{◌≡◌, ◌&&◌};
 ghost use Rattle.pliron_core.specs.Tree.{IsLive, operands_of};
 ghost use Rattle.pliron_laws.specs.Datum.{datum_of};
 ghost use Rattle.pliron_roles.specs.Identities.{agrees_with as agrees_with_of, absorption_if as absorption_if_of, absorption_of, absorber_of, absorbed_of, equal_if as equal_if_of, equal_of};
-ghost use Rattle.pliron_roles.specs.Identities.{is_known_as as is_known_as_of, given_by as given_by_of, given_between as given_between_of, given_of_two as given_of_two_of, given_known, given_told};
+ghost use Rattle.pliron_roles.specs.Identities.{is_known_as as is_known_as_of, given_by as given_by_of, given_between as given_between_of, given_of_two as given_of_two_of, given_known, identity_constant};
 
 use crate::identity::{
     Absorption, Identity, has_same_datum, has_same_operands, is_known_as, is_this,
@@ -129,7 +129,7 @@ pub fn known_given(identity: Identity, operand_attrs: &[Option<AttrObj>]) -> Opt
 
 // The number that is given, where it follows from what is known of one of two operands, or from both being the same
 // value.
-fn told_by_two(
+fn constant_of_two(
     identity: Identity,
     a: &Option<AttrObj>,
     b: &Option<AttrObj>,
@@ -145,17 +145,17 @@ fn told_by_two(
 
 /// The number that is given, where there are two operands, and it follows from what is known of one of them or from
 /// both being the same value. Asks that the operation is live (`is_live` tests it). Cost: constant.
-pub fn told_given(
+pub fn constant_by_identity(
     identity: Identity,
     op: Ptr<Operation>,
     ctx: &Context,
     operand_attrs: &[Option<AttrObj>],
 ) -> Option<i128>
     requires { IsLive ctx.now.tree op }
-    ensures { result ≡ given_told identity operand_attrs.now (operands_of ctx.now.tree op) }
+    ensures { result ≡ identity_constant identity operand_attrs.now (operands_of ctx.now.tree op) }
 {
     match operand_attrs {
-        [a, b] => told_by_two(identity, a, b, has_same_operands(op, ctx)),
+        [a, b] => constant_of_two(identity, a, b, has_same_operands(op, ctx)),
         _ => None,
     }
 }

@@ -2,7 +2,7 @@
 ghost use Rattle.std.specs.Prelude.{◌≡◌, ◌&&◌};
 ghost use Rattle.pliron_core.specs.Tree.{IsLive, operands_of};
 ghost use Rattle.pliron_laws.specs.Datum.{datum_of};
-ghost use Rattle.pliron_roles.specs.Identities.{no_identity, is_this as is_this_of, is_known_as as is_known_as_of, same_datum, are_same, place_by as place_by_of, place_of_one as place_of_one_of, place_between as place_between_of, place_of_two as place_of_two_of, place_known, place_told};
+ghost use Rattle.pliron_roles.specs.Identities.{no_identity, is_this as is_this_of, is_known_as as is_known_as_of, same_datum, are_same, place_by as place_by_of, place_of_one as place_of_one_of, place_between as place_between_of, place_of_two as place_of_two_of, place_known, identity_operand};
 
 use pliron_core::{AttrObj, Context, Operation, Ptr};
 
@@ -152,7 +152,7 @@ pub(crate) fn has_same_operands(op: Ptr<Operation>, ctx: &Context) -> bool
 
 // The place of the operand that is left of two, where it follows from what is known of one of them, or from both being
 // the same value.
-fn told_of_two(
+fn operand_of_two(
     identity: Identity,
     a: &Option<AttrObj>,
     b: &Option<AttrObj>,
@@ -169,18 +169,18 @@ fn told_of_two(
 /// The place of the operand that is left, where it is the only one, or one of two and the place follows from what is
 /// known of one of them or from both being the same value. Asks that the operation is live (`is_live` tests it). Cost:
 /// constant.
-pub fn told_place(
+pub fn operand_by_identity(
     identity: Identity,
     op: Ptr<Operation>,
     ctx: &Context,
     operand_attrs: &[Option<AttrObj>],
 ) -> Option<usize>
     requires { IsLive ctx.now.tree op }
-    ensures { result ≡ place_told identity operand_attrs.now (operands_of ctx.now.tree op) }
+    ensures { result ≡ identity_operand identity operand_attrs.now (operands_of ctx.now.tree op) }
 {
     match operand_attrs {
         [_] => place_of_one(identity.only),
-        [a, b] => told_of_two(identity, a, b, has_same_operands(op, ctx)),
+        [a, b] => operand_of_two(identity, a, b, has_same_operands(op, ctx)),
         _ => None,
     }
 }

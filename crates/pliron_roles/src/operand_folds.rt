@@ -3,7 +3,7 @@ ghost use Rattle.std.specs.Prelude.{◌≡◌, IfOk, IsOkUnless, length, option_
 ghost use Rattle.pliron_core.specs.Tree.{IsLive, operands_of};
 ghost use Rattle.pliron_laws.specs.declared.fault.OptError.{OptError as FaultName};
 ghost use Rattle.pliron_operand_folding.specs.declared.OpFoldResult.TheVariants.{Operand};
-ghost use Rattle.pliron_roles.specs.Identities.{place_told};
+ghost use Rattle.pliron_roles.specs.Identities.{identity_operand};
 ghost use Rattle.pliron_roles.specs.Roles.{role_at, meaning_by, identity_in, truth_in, truth_of, known_number_at};
 ghost use Rattle.pliron_roles.specs.OperandFolds.{place_picked as place_picked_of, answer_at as answer_at_of, answers_at as answers_at_of, operand_folds_by};
 ghost use Rattle.pliron_roles.specs.OperandLaws.{answers_operands};
@@ -11,8 +11,8 @@ ghost use Rattle.pliron_roles.specs.OperandLaws.{answers_operands};
 use crate::by_roles::ByRoles;
 use crate::folds::known_truth;
 use crate::form::Form;
-use crate::given::told_given;
-use crate::identity::told_place;
+use crate::given::constant_by_identity;
+use crate::identity::operand_by_identity;
 use crate::roles::Roles;
 use crate::tables::kind_at;
 use pliron_core::{AttrObj, Context, Operation, Ptr};
@@ -80,8 +80,8 @@ impl<K: Roles> OperandFoldInterface for ByRoles<K> {
         match kind_at::<K>(op, ctx) {
             Some(kind) => {
                 let identity = kind.identity(op.head(ctx));
-                let left = told_place(identity, op, ctx, operand_attrs);
-                let given = told_given(identity, op, ctx, operand_attrs);
+                let left = operand_by_identity(identity, op, ctx, operand_attrs);
+                let given = constant_by_identity(identity, op, ctx, operand_attrs);
                 let picked = place_picked(known_truth(kind, operand_attrs));
                 let answers = answers_at(alloc, kind.form(), left, given, picked)?;
                 Ok(answers)

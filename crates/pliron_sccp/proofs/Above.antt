@@ -33,7 +33,7 @@ module _ (x : Says) (mono : FoldsMonotonely x.meaning x.can_fold x.can_fold_bran
   knows_more [] below some = tt
   knows_more (v ∷ vs) below some = knows_one (f.lattice_value v) (g.lattice_value v) (lattice_constant (g.lattice_value v)) refl (below v (inl refl)) (some v (inl refl)) (operand_constants g vs) (operand_constants f vs) (knows_more vs (λ w i. below w (inr i)) (λ w i. some w (inr i)))
 
-  module _ (k : ℕ) (o : Operation) (stands : IsInExecutableBlock t g k) (at : op_at t k ≡ Some o) (admitted : Admitted x.meaning (shape_of x.meaning t o)) (below : (v : ℕ) → In v o.operands → AtMost (g.lattice_value v) (f.lattice_value v)) (some : (v : ℕ) → In v o.operands → f.lattice_value v ≢ Undetermined) where
+  module _ (k : ℕ) (o : Operation) (liveness : IsInExecutableBlock t g k) (at : op_at t k ≡ Some o) (admitted : Admitted x.meaning (shape_of x.meaning t o)) (below : (v : ℕ) → In v o.operands → AtMost (g.lattice_value v) (f.lattice_value v)) (some : (v : ℕ) → In v o.operands → f.lattice_value v ≢ Undetermined) where
     counted : length (operand_constants g o.operands) ≡ (shape_of x.meaning t o).operands
     unfolding shape_of
     counted = length_map (λ v. lattice_constant (g.lattice_value v)) o.operands
@@ -43,7 +43,7 @@ module _ (x : Says) (mono : FoldsMonotonely x.meaning x.can_fold x.can_fold_bran
     unfolding shape_of
     above_result i v a folds listed said =
         let p = knows_at (answers_of x t g o) (answers_of x t f o) (mono.answers (shape_of x.meaning t o) admitted folds (operand_constants g o.operands) (operand_constants f o.operands) counted (knows_more o.operands below some)) i a said in
-        at_most_trans (g.lattice_value v) (value_of_answer p.0) (value_of_answer a) (closed.folded k i v p.0 o stands at folds listed p.1) p.2
+        at_most_trans (g.lattice_value v) (value_of_answer p.0) (value_of_answer a) (closed.folded k i v p.0 o liveness at folds listed p.1) p.2
 
     -- a block that is entered
     pub above_jump : (i b : ℕ) → IsFeasibleEdge x t f o i b → IsFeasibleEdge x t g o i b
@@ -54,4 +54,4 @@ module _ (x : Says) (mono : FoldsMonotonely x.meaning x.can_fold x.can_fold_bran
     pub above_argument : (i b j v w : ℕ) → IsTrue (x.meaning.is_branch o.head) → IsFeasibleEdge x t f o i b → slice_get (arguments_of t b) j ≡ Some v → Forwards x t o i j w → AtMost (g.lattice_value v) (f.lattice_value w)
     above_argument i b j v w branch go listed forwards =
         let p = picked_at (x.meaning.forwarded (shape_of x.meaning t o) i) o.operands j (Some w) forwards in
-        at_most_trans (g.lattice_value v) (g.lattice_value w) (f.lattice_value w) ((closed.branches k i b o stands at branch (above_jump i b go)).1 j v w listed forwards) (below w (in_slice o.operands p.0 w p.2))
+        at_most_trans (g.lattice_value v) (g.lattice_value w) (f.lattice_value w) ((closed.branches k i b o liveness at branch (above_jump i b go)).1 j v w listed forwards) (below w (in_slice o.operands p.0 w p.2))

@@ -75,8 +75,8 @@ most_less f g (inr (inr s)) = let e = ap most s in omega (arith, e)
 -- one value, whose fact falls from f to g, and which waited w before and waits v after
 value_least : (f g : LatticeValue) (w v : Bool) → (w ≡ true → f ≢ Undetermined) → (w ≡ true → v ≡ true) → (g ≡ f) ⊎ (v ≡ true) → least g + one_if w ≤ least f + one_if v
 value_least f g w v known still (inl same) = let e = ap least same in let l = one_less w v still in omega (arith, e, l)
-value_least f g true v known still (inr told) = let e = ap one_if told in let k = least_known f (known refl) in let l = least_one g in omega (arith, e, k, l)
-value_least f g false v known still (inr told) = let e = ap one_if told in let l = least_one g in omega (arith, e, l)
+value_least f g true v known still (inr reported) = let e = ap one_if reported in let k = least_known f (known refl) in let l = least_one g in omega (arith, e, k, l)
+value_least f g false v known still (inr reported) = let e = ap one_if reported in let l = least_one g in omega (arith, e, l)
 
 value_most : (f g : LatticeValue) (w v : Bool) → AtMost g f → (v ≡ true → (w ≡ true) ⊎ (g ≢ f)) → one_if v + most f ≤ one_if w + most g
 value_most f g w false below lowered_stamps = let l = most_less f g below in omega (arith, l)
@@ -87,10 +87,10 @@ value_most f g w true below lowered_stamps = ⊎_elim
 
 -- one block, which was reached r and waited w before, and is reached q and waits v after
 block_least : (r q w v : Bool) → (w ≡ true → r ≡ true) → (w ≡ true → v ≡ true) → (q ≡ true → (r ≡ true) ⊎ (v ≡ true)) → one_if q + one_if w ≤ one_if r + one_if v
-block_least r false w v known still told = let l = one_less w v still in omega (arith, l)
-block_least true true w v known still told = let l = one_less w v still in omega (arith, l)
-block_least false true true v known still told = absurd (true≢false (sym (known refl)))
-block_least false true false v known still told = let e = ap one_if (⊎_elim (λ r. absurd (true≢false (sym r))) (λ t. t) (told refl)) in omega (arith, e)
+block_least r false w v known still reported = let l = one_less w v still in omega (arith, l)
+block_least true true w v known still reported = let l = one_less w v still in omega (arith, l)
+block_least false true true v known still reported = absurd (true≢false (sym (known refl)))
+block_least false true false v known still reported = let e = ap one_if (⊎_elim (λ r. absurd (true≢false (sym r))) (λ t. t) (reported refl)) in omega (arith, e)
 
 block_most : (r q w v : Bool) → (r ≡ true → q ≡ true) → (v ≡ true → (w ≡ true) ⊎ ((r ≡ false) × (q ≡ true))) → one_if v + one_if r ≤ one_if w + one_if q
 block_most r q w false still came = let l = one_less r q still in omega (arith, l)
@@ -173,7 +173,7 @@ module _ (t : Tree) (root : ℕ) where
       let o = to_sums s pops a in
       let bl = sum_both (λ b. one_if (is_executable s' b)) (λ b. one_if (is_block_on_worklist s b)) (λ b. one_if (is_executable s b)) (λ b. one_if (is_block_on_worklist s' b)) (blocks_inside t root) (λ b i. block_least (is_executable s b) (is_executable s' b) (is_block_on_worklist s b) (is_block_on_worklist s' b) (λ y. (w.blocks b y).1) (f.blocks b) (f.entered b)) in
       let bm = sum_both (λ b. one_if (is_block_on_worklist s' b)) (λ b. one_if (is_executable s b)) (λ b. one_if (is_block_on_worklist s b)) (λ b. one_if (is_executable s' b)) (blocks_inside t root) (λ b i. block_most (is_executable s b) (is_executable s' b) (is_block_on_worklist s b) (is_block_on_worklist s' b) (f.below.is_executable b) (f.came b)) in
-      let vl = sum_both (λ v. least (lattice_value_in s' v)) (λ v. one_if (is_value_on_worklist s v)) (λ v. least (lattice_value_in s v)) (λ v. one_if (is_value_on_worklist s' v)) (values_inside t root) (λ v i. value_least (lattice_value_in s v) (lattice_value_in s' v) (is_value_on_worklist s v) (is_value_on_worklist s' v) (λ y. (w.values v y).1) (f.values v) (f.told v)) in
+      let vl = sum_both (λ v. least (lattice_value_in s' v)) (λ v. one_if (is_value_on_worklist s v)) (λ v. least (lattice_value_in s v)) (λ v. one_if (is_value_on_worklist s' v)) (values_inside t root) (λ v i. value_least (lattice_value_in s v) (lattice_value_in s' v) (is_value_on_worklist s v) (is_value_on_worklist s' v) (λ y. (w.values v y).1) (f.values v) (f.reported v)) in
       let vm = sum_both (λ v. one_if (is_value_on_worklist s' v)) (λ v. most (lattice_value_in s v)) (λ v. one_if (is_value_on_worklist s v)) (λ v. most (lattice_value_in s' v)) (values_inside t root) (λ v i. value_most (lattice_value_in s v) (lattice_value_in s' v) (is_value_on_worklist s v) (is_value_on_worklist s' v) (f.below.lattice_value v) (f.lowered_stamps v)) in
       from_sums s' pops (record { least = omega (arith, o.least, bl, vl); most = omega (arith, o.most, bm, vm) })
 
@@ -182,7 +182,7 @@ module _ (t : Tree) (root : ℕ) where
     blocks = λ b y. ⊎_elim (λ old. let z = w.blocks b old in (z.0, f.below.is_executable b z.1)) (λ new. (inside b new.1, new.1)) (f.came b y);
     values = λ v y. ⊎_elim
         (λ old. let z = w.values v old in (z.0, below_undetermined (lattice_value_in s v) (lattice_value_in s' v) (f.below.lattice_value v) z.1))
-        (λ new. (⊎_elim (λ i. i) (λ out. absurd (new (still v out ∙ sym (w.outside v out)))) (decide_in v (values_inside t root)), fallen (lattice_value_in s v) (lattice_value_in s' v) (f.below.lattice_value v) new))
+        (λ new. (⊎_elim (λ i. i) (λ out. absurd (new (still v out ∙ sym (w.outside v out)))) (decide_in v (values_inside t root)), queued (lattice_value_in s v) (lattice_value_in s' v) (f.below.lattice_value v) new))
         (f.lowered_stamps v y);
     outside = still;
   }
@@ -190,10 +190,10 @@ module _ (t : Tree) (root : ℕ) where
       still : (v : ℕ) → (In v (values_inside t root) → ⊥) → lattice_value_in s' v ≡ NotAConstant
       still v out = varies_still (lattice_value_in s v) (lattice_value_in s' v) (f.below.lattice_value v) (w.outside v out)
 
-      fallen : (f g : LatticeValue) → AtMost g f → g ≢ f → g ≢ Undetermined
-      fallen f g (inl u) other e = other (e ∙ sym u)
-      fallen f g (inr (inl n)) other e = let x : Undetermined ≡ NotAConstant = sym e ∙ n in absurd (grind arith)
-      fallen f g (inr (inr same)) other e = other same
+      queued : (f g : LatticeValue) → AtMost g f → g ≢ f → g ≢ Undetermined
+      queued f g (inl u) other e = other (e ∙ sym u)
+      queued f g (inr (inl n)) other e = let x : Undetermined ≡ NotAConstant = sym e ∙ n in absurd (grind arith)
+      queued f g (inr (inr same)) other e = other same
 
   module _ (w : IsTree t) where
     -- one block was taken

@@ -34,7 +34,7 @@ met_below constants f g (Lower v cell ∷ ds) below m = ((m.0.0, m.0.1, at_most_
 met_below constants f g (Answer v c ∷ ds) below m = (at_most_trans (g.lattice_value v) (f.lattice_value v) (Constant c) (below.lattice_value v) m.0, met_below constants f g ds below m.1)
 
 pub falls_refl : (s : Tables) → ValuesAreLowered s s
-falls_refl s = record { below = below_refl (lattice_values_of s); told = λ v. inl refl; entered = λ b r. inl r; values = λ v w. w; blocks = λ b w. w; lowered_stamps = λ v w. inl w; came = λ b w. inl w; numbers = λ b. refl; keeps = λ k c e. e }
+falls_refl s = record { below = below_refl (lattice_values_of s); reported = λ v. inl refl; entered = λ b r. inl r; values = λ v w. w; blocks = λ b w. w; lowered_stamps = λ v w. inl w; came = λ b w. inl w; numbers = λ b. refl; keeps = λ k c e. e }
 
 pub at_most_both : (f g : LatticeValue) → AtMost f g → AtMost g f → f ≡ g
 at_most_both f g (inl u) (inl v) = v ∙ sym u
@@ -52,7 +52,7 @@ between f g h p q e = at_most_both g f p (subst (λ z. AtMost z g) e q)
 pub falls_trans : (s s1 s2 : Tables) → ValuesAreLowered s s1 → ValuesAreLowered s1 s2 → ValuesAreLowered s s2
 falls_trans s s1 s2 p q = record {
   below = below_trans (lattice_values_of s2) (lattice_values_of s1) (lattice_values_of s) q.below p.below;
-  told = λ v. ⊎_elim (λ e. ⊎_elim (λ d. inl (e ∙ d)) (λ w. inr (q.values v w)) (p.told v)) (λ w. inr w) (q.told v);
+  reported = λ v. ⊎_elim (λ e. ⊎_elim (λ d. inl (e ∙ d)) (λ w. inr (q.values v w)) (p.reported v)) (λ w. inr w) (q.reported v);
   entered = λ b r. ⊎_elim (λ e. ⊎_elim (λ d. inl d) (λ w. inr (q.blocks b w)) (p.entered b e)) (λ w. inr w) (q.entered b r);
   values = λ v w. q.values v (p.values v w);
   blocks = λ b w. q.blocks b (p.blocks b w);
@@ -93,7 +93,7 @@ module _ (t : Tree) (k : ℕ) (s u : Tables) (same : StampsIt t k s u) where
   same_falls : ValuesAreLowered s u
   same_falls = record {
     below = record { is_executable = λ b r. same.reached b ∙ r; lattice_value = λ v. same_below (lattice_value_in s v) (lattice_value_in u v) (same.facts v) };
-    told = λ v. inl (same.facts v);
+    reported = λ v. inl (same.facts v);
     entered = λ b r. inl (sym (same.reached b) ∙ r);
     values = λ v w. same.values v ∙ w;
     blocks = λ b w. same.blocks b ∙ w;
@@ -119,8 +119,8 @@ module _ (t : Tree) (k : ℕ) (s u : Tables) (same : StampsIt t k s u) where
 -- one block is entered
 module _ (block : ℕ) (s s' : Tables) (e : Enters block s s') where
   -- it was reached already, or waits from now on
-  told : ((is_executable s block ≡ true) × ((b : ℕ) → is_block_on_worklist s' b ≡ is_block_on_worklist s b)) ⊎ ((is_executable s block ≡ false) × ((b : ℕ) → is_block_on_worklist s' b ≡ (if nat_eq block b then true else is_block_on_worklist s b)))
-  told = by (is_executable s block) refl
+  reported : ((is_executable s block ≡ true) × ((b : ℕ) → is_block_on_worklist s' b ≡ is_block_on_worklist s b)) ⊎ ((is_executable s block ≡ false) × ((b : ℕ) → is_block_on_worklist s' b ≡ (if nat_eq block b then true else is_block_on_worklist s b)))
+  reported = by (is_executable s block) refl
     where
       same : (b : ℕ) (q : Bool) → nat_eq block b ≡ q → (if q then is_block_on_worklist s block else is_block_on_worklist s b) ≡ is_block_on_worklist s b
       same b true is = ap (is_block_on_worklist s) (eqb-true block b is)
@@ -145,7 +145,7 @@ module _ (block : ℕ) (s s' : Tables) (e : Enters block s s') where
       by false other = inr (ap (λ c. if c then true else is_executable s b) (sym other) ∙ sym (e.reached b) ∙ r)
 
   waited_then : (b : ℕ) → is_block_on_worklist s b ≡ true → is_block_on_worklist s' b ≡ true
-  waited_then b w = ⊎_elim (λ p. p.1 b ∙ w) (λ p. p.1 b ∙ by (nat_eq block b)) told
+  waited_then b w = ⊎_elim (λ p. p.1 b ∙ w) (λ p. p.1 b ∙ by (nat_eq block b)) reported
     where
       by : (c : Bool) → (if c then true else is_block_on_worklist s b) ≡ true
       by true = refl
@@ -155,13 +155,13 @@ module _ (block : ℕ) (s s' : Tables) (e : Enters block s s') where
   waits_now b same r = ⊎_elim
       (λ p. inl (ap (is_executable s) (sym same) ∙ p.0))
       (λ p. inr (p.1 b ∙ ap (λ c. if c then true else is_block_on_worklist s b) (equal block b same)))
-      told
+      reported
     where
       equal : (x y : ℕ) → x ≡ y → nat_eq x y ≡ true
       equal x y s = eq-eqb x y s
 
   came_now : (b : ℕ) → is_block_on_worklist s' b ≡ true → (is_block_on_worklist s b ≡ true) ⊎ ((is_executable s b ≡ false) × (is_executable s' b ≡ true))
-  came_now b w = ⊎_elim (λ p. inl (sym (p.1 b) ∙ w)) (λ p. by (nat_eq block b) refl p.0 (p.1 b)) told
+  came_now b w = ⊎_elim (λ p. inl (sym (p.1 b) ∙ w)) (λ p. by (nat_eq block b) refl p.0 (p.1 b)) reported
     where
       by : (c : Bool) → nat_eq block b ≡ c → is_executable s block ≡ false → is_block_on_worklist s' b ≡ (if nat_eq block b then true else is_block_on_worklist s b) → (is_block_on_worklist s b ≡ true) ⊎ ((is_executable s b ≡ false) × (is_executable s' b ≡ true))
       by true same r is = inr (ap (is_executable s) (sym (eqb-true block b same)) ∙ r, e.reached b ∙ ap (λ c. if c then true else is_executable s b) same)
@@ -170,7 +170,7 @@ module _ (block : ℕ) (s s' : Tables) (e : Enters block s s') where
   entered_falls : ValuesAreLowered s s'
   entered_falls = record {
     below = record { is_executable = λ b r. reached_then b r; lattice_value = λ v. same_below (lattice_value_in s v) (lattice_value_in s' v) (e.facts v) };
-    told = λ v. inl (e.facts v);
+    reported = λ v. inl (e.facts v);
     entered = λ b r. ⊎_elim (λ same. waits_now b same r) (λ old. inl old) (reached_before b r);
     values = λ v w. e.values v ∙ w;
     blocks = waited_then;
@@ -206,18 +206,18 @@ module _ (value : ℕ) (to : LatticeValue) (s s' : Tables) (l : Lowers value to 
   fact_then v = ⊎_elim (λ same. subst (λ z. AtMost (lattice_value_in s' z) (lattice_value_in s z)) same l.met.first) (λ other. same_below (lattice_value_in s v) (lattice_value_in s' v) (l.others v other).0) (here_or v)
 
   told_here : (lattice_value_in s' value ≡ lattice_value_in s value) ⊎ (is_value_on_worklist s' value ≡ true)
-  told_here = ⊎_elim (λ p. inl p.0) (λ p. inr p.1) l.told
+  told_here = ⊎_elim (λ p. inl p.0) (λ p. inr p.1) l.reported
 
   waits_here : is_value_on_worklist s value ≡ true → is_value_on_worklist s' value ≡ true
-  waits_here w = ⊎_elim (λ p. p.1 ∙ w) (λ p. p.1) l.told
+  waits_here w = ⊎_elim (λ p. p.1 ∙ w) (λ p. p.1) l.reported
 
   fell_here : is_value_on_worklist s' value ≡ true → (is_value_on_worklist s value ≡ true) ⊎ (lattice_value_in s' value ≢ lattice_value_in s value)
-  fell_here w = ⊎_elim (λ p. inl (sym p.1 ∙ w)) (λ p. inr p.0) l.told
+  fell_here w = ⊎_elim (λ p. inl (sym p.1 ∙ w)) (λ p. inr p.0) l.reported
 
   lowered_falls : ValuesAreLowered s s'
   lowered_falls = record {
     below = record { is_executable = λ b r. l.reached b ∙ r; lattice_value = fact_then };
-    told = λ v. ⊎_elim (λ same. subst (λ z. (lattice_value_in s' z ≡ lattice_value_in s z) ⊎ (is_value_on_worklist s' z ≡ true)) same told_here) (λ other. inl (l.others v other).0) (here_or v);
+    reported = λ v. ⊎_elim (λ same. subst (λ z. (lattice_value_in s' z ≡ lattice_value_in s z) ⊎ (is_value_on_worklist s' z ≡ true)) same told_here) (λ other. inl (l.others v other).0) (here_or v);
     entered = λ b r. inl (sym (l.reached b) ∙ r);
     values = λ v w. ⊎_elim (λ same. subst (λ z. is_value_on_worklist s z ≡ true → is_value_on_worklist s' z ≡ true) same waits_here w) (λ other. (l.others v other).1 ∙ w) (here_or v);
     blocks = λ b w. l.blocks b ∙ w;

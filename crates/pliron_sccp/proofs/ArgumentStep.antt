@@ -20,7 +20,7 @@ use Rattle.pliron_theory.proofs.SoundRuns.{PassesForwarded, NamesWell}
 use Rattle.pliron_sccp.specs.declared.rewrite.ConstantArgument.{ConstantArgument}
 use Rattle.pliron_theory.specs.LatticeValues.{LatticeValues, Says}
 use Rattle.pliron_theory.specs.Following.{Follows}
-use Rattle.pliron_sccp.specs.RewriteSteps.{IsArgumentStep, ReportsCreated, AreArgumentSteps, IsPuttingOn, stands_for, StandForEach}
+use Rattle.pliron_sccp.specs.RewriteSteps.{IsArgumentStep, ReportsCreated, AreArgumentSteps, IsPuttingOn, is_known_argument, AreKnownArguments}
 use Rattle.pliron_sccp.specs.Chain.{KnownArgument, all_put, IsPartlyPut}
 use Rattle.pliron_sccp.proofs.StepLemmas.{told_then}
 use Rattle.pliron_core.specs.Status.{changed_by_either}
@@ -67,11 +67,11 @@ module _ (x : Says) (t₀ : Tree) (root : ℕ) (f₀ : LatticeValues) (t : Tree)
         subst (Follows x t₀ root f₀) (sym e)
         (argument_on x t₀ root f₀ s.first answers jumps passes names accepts head makes plain t s.follows argument.block s.known.value argument.attr s.known.reached (in_slice (arguments_of t₀ argument.block) argument.index s.known.value s.known.listed) s.known.constant accepted (subst IsTree e w) (subst (KeepsRuns x.meaning t) e keeps))
 
-drop_known : (t₀ : Tree) (xs : List ConstantArgument) (ks : List KnownArgument) → StandForEach t₀ xs ks → (i : ℕ) (a : ConstantArgument) → slice_get xs i ≡ Some a → (k : KnownArgument) × stands_for t₀ a k × (drop i ks ≡ k ∷ drop (i + 1) ks)
+drop_known : (t₀ : Tree) (xs : List ConstantArgument) (ks : List KnownArgument) → AreKnownArguments t₀ xs ks → (i : ℕ) (a : ConstantArgument) → slice_get xs i ≡ Some a → (k : KnownArgument) × is_known_argument t₀ a k × (drop i ks ≡ k ∷ drop (i + 1) ks)
 drop_known t₀ [] [] s i a e = absurd (grind arith)
 drop_known t₀ [] (k ∷ ks) s i a e = absurd s
 drop_known t₀ (x ∷ xs) [] s i a e = absurd s
-drop_known t₀ (x ∷ xs) (k ∷ ks) s zero a e = (k, subst (λ z. stands_for t₀ z k) (some_is e) s.0, refl)
+drop_known t₀ (x ∷ xs) (k ∷ ks) s zero a e = (k, subst (λ z. is_known_argument t₀ z k) (some_is e) s.0, refl)
 drop_known t₀ (x ∷ xs) (k ∷ ks) s (suc i) a e =
     let p = drop_known t₀ xs ks s.1 i a e in
     let one : suc i + 1 ≡ suc (i + 1) = omega arith in
@@ -84,7 +84,7 @@ take_one (x ∷ ks) zero k more e = let s : x ≡ k = cc in ap (λ z. z ∷ []) 
 take_one (x ∷ ks) (suc i) k more e =
     let one : suc i + 1 ≡ suc (i + 1) = omega arith in ap (λ n. take n (x ∷ ks)) one ∙ ap (λ z. x ∷ z) (take_one ks i k more e)
 
-as_long : (t₀ : Tree) (xs : List ConstantArgument) (ks : List KnownArgument) → StandForEach t₀ xs ks → length xs ≡ length ks
+as_long : (t₀ : Tree) (xs : List ConstantArgument) (ks : List KnownArgument) → AreKnownArguments t₀ xs ks → length xs ≡ length ks
 as_long t₀ [] [] s = refl
 as_long t₀ [] (k ∷ ks) s = absurd s
 as_long t₀ (x ∷ xs) [] s = absurd s
@@ -96,16 +96,16 @@ module _ (x : Says) (accepts : AttrObj → Bool) (head : AttrObj → Head) (star
   all_put_end (k ∷ known) t a = all_put_end known (if accepts k.attr then materialised_first t k.block k.value (head k.attr) else t) a
 
   pub putting_start : IsPuttingOn x accepts head start arguments 0 Unchanged start
-  putting_start = record { follows = λ t₀ root f₀ s. s.follows; puts = λ t₀ root f₀ s known each. (refl, refl); told = same_refl start; stays = λ k l. l }
+  putting_start = record { follows = λ t₀ root f₀ s. s.follows; puts = λ t₀ root f₀ s known each. (refl, refl); reported = same_refl start; stays = λ k l. l }
 
   pub putting_can : (i : ℕ) (status : IRStatus) (now : Tree) → IsPuttingOn x accepts head start arguments i status now → (a : ConstantArgument) → slice_get arguments i ≡ Some a → (t₀ : Tree) (root : ℕ) (f₀ : LatticeValues) → AreArgumentSteps x t₀ root f₀ start arguments → IsArgumentStep x t₀ root f₀ now a
   putting_can i status now g a at t₀ root f₀ s = record { first = s.first; follows = g.follows t₀ root f₀ s; known = s.each i a at }
 
   pub putting_next : (i : ℕ) (status : IRStatus) (now : Tree) → IsPuttingOn x accepts head start arguments i status now → (a : ConstantArgument) → slice_get arguments i ≡ Some a → (next : Tree) (one : IRStatus) → ReplacesArgument accepts head a.attr a.block a.index now next one → ReportsCreated one now next → ((k : ℕ) → IsLive now k → IsLive next k) → ((t₀ : Tree) (root : ℕ) (f₀ : LatticeValues) → IsArgumentStep x t₀ root f₀ now a → Follows x t₀ root f₀ next) → IsPuttingOn x accepts head start arguments (i + 1) (changed_by_either status one) next
-  putting_next i status now g a at next one is told stays follows = record {
+  putting_next i status now g a at next one is reported stays follows = record {
     follows = λ t₀ root f₀ s. follows t₀ root f₀ (putting_can i status now g a at t₀ root f₀ s);
     puts = puts;
-    told = told_then start now next status one stays g.told told;
+    reported = told_then start now next status one stays g.reported reported;
     stays = λ k l. stays k (g.stays k l);
   }
     where
@@ -118,7 +118,7 @@ module _ (x : Says) (accepts : AttrObj → Bool) (head : AttrObj → Head) (star
       put_one k same attr Unchanged (over, e) =
           ap (λ b. if b then materialised_first now k.block k.value (head k.attr) else now) (ap accepts (sym attr) ∙ over) ∙ sym e
 
-      puts : (t₀ : Tree) (root : ℕ) (f₀ : LatticeValues) → AreArgumentSteps x t₀ root f₀ start arguments → (known : List KnownArgument) → StandForEach t₀ arguments known → (all_put accepts head known start ≡ all_put accepts head (drop (i + 1) known) next) × (all_put accepts head (take (i + 1) known) start ≡ next)
+      puts : (t₀ : Tree) (root : ℕ) (f₀ : LatticeValues) → AreArgumentSteps x t₀ root f₀ start arguments → (known : List KnownArgument) → AreKnownArguments t₀ arguments known → (all_put accepts head known start ≡ all_put accepts head (drop (i + 1) known) next) × (all_put accepts head (take (i + 1) known) start ≡ next)
       puts t₀ root f₀ s known each =
           let p = drop_known t₀ arguments known each i a at in
           let now_listed : slice_get (arguments_of now a.block) a.index ≡ Some p.0.value = ap (λ z. slice_get z a.index) ((g.follows t₀ root f₀ s).arguments a.block) ∙ p.1.1 in
@@ -128,10 +128,10 @@ module _ (x : Says) (accepts : AttrObj → Bool) (head : AttrObj → Head) (star
             ap (λ l. all_put accepts head l start) (take_one known i p.0 _ p.2) ∙ all_put_end (take i known) start p.0 ∙ ap (λ z. if accepts p.0.attr then materialised_first z p.0.block p.0.value (head p.0.attr) else z) before.1 ∙ one_put,
           )
 
-  pub putting_end : (i : ℕ) (status : IRStatus) (now : Tree) → IsPuttingOn x accepts head start arguments i status now → length arguments ≤ i → (t₀ : Tree) (root : ℕ) (f₀ : LatticeValues) → AreArgumentSteps x t₀ root f₀ start arguments → (known : List KnownArgument) → StandForEach t₀ arguments known → now ≡ all_put accepts head known start
+  pub putting_end : (i : ℕ) (status : IRStatus) (now : Tree) → IsPuttingOn x accepts head start arguments i status now → length arguments ≤ i → (t₀ : Tree) (root : ℕ) (f₀ : LatticeValues) → AreArgumentSteps x t₀ root f₀ start arguments → (known : List KnownArgument) → AreKnownArguments t₀ arguments known → now ≡ all_put accepts head known start
   putting_end i status now g le t₀ root f₀ s known each =
       let long = as_long t₀ arguments known each in
       sym ((g.puts t₀ root f₀ s known each).0 ∙ ap (λ l. all_put accepts head l now) (drop_all i known (omega (arith, le, long))))
 
-  pub putting_broken : (i : ℕ) (status : IRStatus) (now : Tree) → IsPuttingOn x accepts head start arguments i status now → (next : Tree) → IsSameTree now next → (t₀ : Tree) (root : ℕ) (f₀ : LatticeValues) → AreArgumentSteps x t₀ root f₀ start arguments → (known : List KnownArgument) → StandForEach t₀ arguments known → IsPartlyPut accepts head known start next
+  pub putting_broken : (i : ℕ) (status : IRStatus) (now : Tree) → IsPuttingOn x accepts head start arguments i status now → (next : Tree) → IsSameTree now next → (t₀ : Tree) (root : ℕ) (f₀ : LatticeValues) → AreArgumentSteps x t₀ root f₀ start arguments → (known : List KnownArgument) → AreKnownArguments t₀ arguments known → IsPartlyPut accepts head known start next
   putting_broken i status now g next same t₀ root f₀ s known each = (i, subst (λ z. IsSameTree z next) (sym (g.puts t₀ root f₀ s known each).1) same)

@@ -105,12 +105,12 @@ module _ (x : Says) (t : Tree) (root : ℕ) (w : IsTree t) (linked : IsWellLinke
 
     one_on : (k c : ℕ) (done rest : List ℕ) (s u : Tables) → VisitsOperation x t k s u → IsNext k c done rest s → IsOn x t root f seen (lattice_values_of u)
     one_on k c done rest s u visit_stamps n =
-        let o = live_at t k (w.joined.standing k c n.placed).0 in
+        let o = live_at t k (w.joined.all_in_place k c n.placed).0 in
         resume_scan x t root w linked answers places owed f visited seen inside grounded ready more k c o.0 n.placed o.1 n.reached n.came done rest n.body (lattice_values_of s) n.on n.front s u refl visit_stamps
 
     one_results : (k c : ℕ) (done rest : List ℕ) (s u : Tables) → VisitsOperation x t k s u → IsNext k c done rest s → (v : ℕ) → In v (results_of t k) → lattice_value_in u v ≢ Undetermined
     one_results k c done rest s u visit_stamps n =
-        let o = live_at t k (w.joined.standing k c n.placed).0 in
+        let o = live_at t k (w.joined.all_in_place k c n.placed).0 in
         look_results x t root w linked answers places owed f visited seen inside grounded ready more k c o.0 n.placed o.1 n.reached n.came done rest n.body (lattice_values_of s) n.on n.front s u refl visit_stamps
 
     one_kept : (k c : ℕ) (done rest : List ℕ) (s : Tables) (edges edges' : FeasibleEdges) → KeepsFeasible x t (lattice_values_of s) k edges edges' → IsNext k c done rest s → AreSurelyFeasible x t root edges → AreSurelyFeasible x t root edges'
@@ -235,19 +235,19 @@ module _ (x : Says) (t : Tree) (root : ℕ) (w : IsTree t) (linked : IsWellLinke
               let j = in_slice (operands_of t q) place r is in
               (before.above g closed).facts r (made_listed t w root r (owed.defined.own_values q r (within q l) j) (w.joined.operands q r j))
 
-          stands : (q : ℕ) → WasVisited t u q → IsInExecutableBlock t g q
-          stands q l = (l.block, l.in_block, (before.above g closed).blocks l.block l.reached)
+          liveness : (q : ℕ) → WasVisited t u q → IsInExecutableBlock t g q
+          liveness q l = (l.block, l.in_block, (before.above g closed).blocks l.block l.reached)
 
           at_place : (q place r : ℕ) (o : Operation) → IsUseOf t r q place → op_at t q ≡ Some o → slice_get o.operands place ≡ Some r
           at_place q place r o is at = ap (λ z. slice_get z place) (sym (op_shows t q o at).operands) ∙ is
 
           edge : (q place v r : ℕ) (o : Operation) → IsUseOf t r q place → WasVisited t u q → op_at t q ≡ Some o → (f : Forwarded x t o place v) → IsOpenEdge x u edges o q f.block → AtMost (g.lattice_value v) (g.lattice_value r)
           edge q place v r o is l at f clear =
-              (closed.branches q f.edge f.block o (stands q l) at f.branch (⊎_elim (λ none. (f.successor, λ folds. absurd (true≢false (sym folds ∙ none)))) (λ y. sure q f.block y.1 g closed f.edge o at f.successor) clear)).1 f.index v r f.is_argument (picked_in (x.meaning.forwarded (shape_of x.meaning t o) f.edge) o.operands f.index place r f.forwards (at_place q place r o is at))
+              (closed.branches q f.edge f.block o (liveness q l) at f.branch (⊎_elim (λ none. (f.successor, λ folds. absurd (true≢false (sym folds ∙ none)))) (λ y. sure q f.block y.1 g closed f.edge o at f.successor) clear)).1 f.index v r f.is_argument (picked_in (x.meaning.forwarded (shape_of x.meaning t o) f.edge) o.operands f.index place r f.forwards (at_place q place r o is at))
 
           named : (q place v r : ℕ) (o : Operation) → IsUseOf t r q place → WasVisited t u q → op_at t q ≡ Some o → IsNamed x t o place v → AtMost (g.lattice_value v) (g.lattice_value r)
           named q place v r o is l at n =
-              let below = (closed.entries q n.region n.key n.entry o (stands q l) at n.in_place n.first).1 n.index v n.is_argument in
+              let below = (closed.entries q n.region n.key n.entry o (liveness q l) at n.in_place n.first).1 n.index v n.is_argument in
               subst (λ z. IsBelowNamed g.lattice_value g.lattice_value o.operands z v) n.names below r (at_place q place r o is at)
 
           handed : (q place v r : ℕ) (o : Operation) → IsUseOf t r q place → WasVisited t u q → op_at t q ≡ Some o → IsPropagatedEagerly x t u edges o q place v → AtMost (g.lattice_value v) (g.lattice_value r)

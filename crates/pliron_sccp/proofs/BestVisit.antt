@@ -169,8 +169,8 @@ module _ (x : Says) (t : Tree) (root : ℕ) (w : IsTree t) (linked : IsWellLinke
         operand_determined t root w f now visited grounded ready (λ y d. below_undetermined (f.lattice_value y) (now.lattice_value y) (on.below.lattice_value y) d) k v c done rest p reached body (λ q m y. front q v m y) j made (owed.defined.dominated k v j made)
 
     module _ (g : LatticeValues) (closed : AreClosed x t root g) where
-      stands : IsInExecutableBlock t g k
-      stands = (c, p, (on.above g closed).blocks c (on.below.is_executable c reached))
+      liveness : IsInExecutableBlock t g k
+      liveness = (c, p, (on.above g closed).blocks c (on.below.is_executable c reached))
 
       below : (v : ℕ) → In v o.operands → AtMost (g.lattice_value v) (now.lattice_value v)
       below v i =
@@ -179,19 +179,19 @@ module _ (x : Says) (t : Tree) (root : ℕ) (w : IsTree t) (linked : IsWellLinke
 
       -- an edge that is feasible under these facts is so under every closed set
       pub feasible_closed : (i b : ℕ) → IsFeasibleEdge x t now o i b → IsFeasibleEdge x t g o i b
-      feasible_closed i b go = above_jump x owed.monotone t root g now closed k o stands at admitted below some i b go
+      feasible_closed i b go = above_jump x owed.monotone t root g now closed k o liveness at admitted below some i b go
 
       -- every closed set meets what is asked under these facts
       meets_closed : IsSatisfied x t now g k o
       meets_closed = record {
-        entries = λ i r b there e. let y = closed.entries k i r b o stands at there e in (y.0, λ j v a. named_above g.lattice_value now.lattice_value o.operands below (x.entry_operands (shape_of x.meaning t o) i j) v (y.1 j v a));
+        entries = λ i r b there e. let y = closed.entries k i r b o liveness at there e in (y.0, λ j v a. named_above g.lattice_value now.lattice_value o.operands below (x.entry_operands (shape_of x.meaning t o) i j) v (y.1 j v a));
         branches = λ i b branch go. (
-          (closed.branches k i b o stands at branch (feasible_closed i b go)).0,
-          λ j v u listed fw. above_argument x owed.monotone t root g now closed k o stands at admitted below some i b j v u branch go listed fw,
+          (closed.branches k i b o liveness at branch (feasible_closed i b go)).0,
+          λ j v u listed fw. above_argument x owed.monotone t root g now closed k o liveness at admitted below some i b j v u branch go listed fw,
         );
-        jumps = λ i b no_branch e. closed.jumps k i b o stands at no_branch e;
-        folded = λ i v a folds listed said. above_result x owed.monotone t root g now closed k o stands at admitted below some i v a folds listed said;
-        others = λ v none i. closed.others k v o stands at none i;
+        jumps = λ i b no_branch e. closed.jumps k i b o liveness at no_branch e;
+        folded = λ i v a folds listed said. above_result x owed.monotone t root g now closed k o liveness at admitted below some i v a folds listed said;
+        others = λ v none i. closed.others k v o liveness at none i;
       }
 
     module _ (s s' : Tables) (same : now ≡ lattice_values_of s) (visit_stamps : VisitsOperation x t k s s') where

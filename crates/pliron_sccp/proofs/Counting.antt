@@ -94,8 +94,8 @@ sum_reached w is_executable values (b ∷ bs) none = by (is_executable b) refl (
     kept : is_executable b ≡ true → filter is_executable (b ∷ bs) ≡ b ∷ filter is_executable bs
     kept e = grind (arith, e)
 
-    gone : is_executable b ≡ false → filter is_executable (b ∷ bs) ≡ filter is_executable bs
-    gone e = grind (arith, e)
+    deleted : is_executable b ≡ false → filter is_executable (b ∷ bs) ≡ filter is_executable bs
+    deleted e = grind (arith, e)
 
     by : (c : Bool) → is_executable b ≡ c → sum_of w (flat_map values (filter is_executable bs)) ≡ sum_of w (flat_map values bs) → sum_of w (flat_map values (filter is_executable (b ∷ bs))) ≡ sum_of w (flat_map values (b ∷ bs))
     by true e rest =
@@ -104,4 +104,4 @@ sum_reached w is_executable values (b ∷ bs) none = by (is_executable b) refl (
         let empty = zero_sum (values b) (λ v i. none b v (inl refl) e i) in
         let whole = sum_append w (values b) (flat_map values bs) in
         let more : sum_of w (flat_map values bs) ≡ sum_of w (flat_map values (b ∷ bs)) = omega (arith, empty, whole) in
-        ap (λ l. sum_of w (flat_map values l)) (gone e) ∙ rest ∙ more
+        ap (λ l. sum_of w (flat_map values l)) (deleted e) ∙ rest ∙ more

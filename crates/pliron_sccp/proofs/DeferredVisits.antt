@@ -28,12 +28,12 @@ module _ (x : Says) (t : Tree) where
 
   -- while facts fall
   pub aside_then : (s u : Tables) (k : ℕ) → ValuesAreLowered s u → IsDeferred x t s k → IsDeferred x t u k
-  aside_then s u k f a = record { looked = looked_then s u k f a.looked; met = λ o at. let m = a.met o at in (m.0, met_still x t m.0 (lattice_values_of s) (lattice_values_of u) k o f.below m.1) }
+  aside_then s u k f a = record { was_visited = looked_then s u k f a.was_visited; met = λ o at. let m = a.met o at in (m.0, met_still x t m.0 (lattice_values_of s) (lattice_values_of u) k o f.below m.1) }
 
   -- where the tables say the same of facts, and no block waits that did not
   aside_same : (s u : Tables) (k : ℕ) → ((v : ℕ) → lattice_value_in u v ≡ lattice_value_in s v) → ((b : ℕ) → is_executable u b ≡ is_executable s b) → ((b : ℕ) → is_block_on_worklist s b ≡ false → is_block_on_worklist u b ≡ false) → IsDeferred x t s k → IsDeferred x t u k
   aside_same s u k facts reached rests a = record {
-    looked = record { block = a.looked.block; in_block = a.looked.in_block; reached = reached a.looked.block ∙ a.looked.reached; taken = rests a.looked.block a.looked.taken };
+    was_visited = record { block = a.was_visited.block; in_block = a.was_visited.in_block; reached = reached a.was_visited.block ∙ a.was_visited.reached; taken = rests a.was_visited.block a.was_visited.taken };
     met = λ o at. let m = a.met o at in (m.0, met_still x t m.0 (lattice_values_of s) (lattice_values_of u) k o (below_same s u facts reached) m.1);
   }
 
@@ -83,8 +83,8 @@ module _ (x : Says) (t : Tree) where
       is_this : (j g : ℕ) → j ≡ i → slice_get ks j ≡ Some g → g ≡ k
       is_this j g same here = some_is (sym here ∙ ap (slice_get ks) same ∙ at)
 
-      looked : VisitsOperation x t k q u → IsSeeing ks (i + 1) s u z y
-      looked l = record {
+      was_visited : VisitsOperation x t k q u → IsSeeing ks (i + 1) s u z y
+      was_visited l = record {
         short = so_far.short ++ k ∷ [];
         visit_stamps = looks_more so_far.short k s q u so_far.visit_stamps l;
         among = λ g m. ⊎_elim (λ h. so_far.among g h) (λ h. ⊎_elim (λ e. subst (λ n. In n ks) (sym e) (in_slice ks i k at)) (λ n. absurd n) h) (In-cases g so_far.short (k ∷ []) m);
@@ -114,7 +114,7 @@ module _ (x : Says) (t : Tree) where
       }
 
       pub seeing_next : IsVisitedOrDeferred x t k q u y y' → IsSeeing ks (i + 1) s u z y'
-      seeing_next (inl (l, same)) = subst (λ n. IsSeeing ks (i + 1) s u z n) (sym same) (looked l)
+      seeing_next (inl (l, same)) = subst (λ n. IsSeeing ks (i + 1) s u z n) (sym same) (was_visited l)
       seeing_next (inr (p, same)) = subst (λ n. IsSeeing ks (i + 1) s n z y') (sym same) (put p)
 
     pub seeing_end : (i : ℕ) (u : Tables) (y : DeferredOperations) → length ks ≤ i → i < 2 ^ 64 → i ≤ length ks → IsSeeing ks i s u z y → VisitsOrDefersAll x t ks s u z y

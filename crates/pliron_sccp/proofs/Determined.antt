@@ -70,7 +70,7 @@ module _ (t : Tree) (root : ℕ) (w : IsTree t) (f now : LatticeValues) (visited
           let same : c ≡ d.block = some_is (sym p ∙ ap (parent_of t) e ∙ d.in_block) in
           from_way c same reached done rest (ap (body_of t) (sym same) ∙ body ∙ ap (λ z. done ++ z ∷ rest) e) front
       by (inr j) =
-          let held = block_held t d.block w.joined (w.joined.standing d.around d.block d.in_block).1 in
+          let held = block_held t d.block w.joined (w.joined.all_in_place d.around d.block d.in_block).1 in
           let same_region : held.0 ≡ d.region = some_is (sym held.2 ∙ d.in_region) in
           let up : region_parent_of t d.region ≡ Some held.1 = ap (λ r. region_parent_of t r) (sym same_region) ∙ held.4 in
           let within = made_within t root d.region held.1 (definition_of t v) up d.defined inside in

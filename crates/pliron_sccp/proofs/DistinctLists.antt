@@ -68,11 +68,11 @@ module _ (t : Tree) (w : IsTree t) where
       ]
 
   pub inside_block : (x z : ℕ) → In z (blocks_inside t x) → IsBlock t z
-  inside_block x z i = let r = below_held (length t.operations) x z i in stands (block_parent_of t z) refl r.0 r.1
+  inside_block x z i = let r = below_held (length t.operations) x z i in liveness (block_parent_of t z) refl r.0 r.1
     where
-      stands : (o : Option ℕ) → block_parent_of t z ≡ o → (m : ℕ) → block_parent_operation_of t z ≡ Some m → IsBlock t z
-      stands None e m h = absurd (let f : None ≡ Some m = sym (ap (λ q. up_from q (λ r. region_parent_of t r)) e) ∙ h in cc)
-      stands (Some r) e m h = ap is_some e
+      liveness : (o : Option ℕ) → block_parent_of t z ≡ o → (m : ℕ) → block_parent_operation_of t z ≡ Some m → IsBlock t z
+      liveness None e m h = absurd (let f : None ≡ Some m = sym (ap (λ q. up_from q (λ r. region_parent_of t r)) e) ∙ h in cc)
+      liveness (Some r) e m h = ap is_some e
 
   -- an operation of a block of x does not hold another block of x, at any depth
   not_deeper : (x b c k m : ℕ) → block_parent_operation_of t b ≡ Some x → block_parent_operation_of t c ≡ Some x → In k (body_of t c) → block_parent_operation_of t b ≡ Some m → IsWithin t k m → ⊥

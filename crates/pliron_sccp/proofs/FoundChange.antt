@@ -21,7 +21,7 @@ use Rattle.pliron_sccp.specs.Propagated.{IsPartlyPropagated, Propagates, pops_of
 module _ (x : Says) (t : Tree) (root : ℕ) (found : Found) (pops : ℕ) (h : HasFound x x.can_fold t root found pops) (u : Tree) where
   pub found_change : IsLive t root → IsWellLinked x.meaning t root → Follows x t root h.facts u → IsPassChange x.meaning t u root
   found_change live linked g = record {
-    stands = subst (λ z. IsSome z.head) (sym (g.rows root live)) live;
+    liveness = subst (λ z. IsSome z.head) (sym (g.rows root live)) live;
     linked = g.links root linked;
     inside = g.changed_inside;
     runs = g.runs;
@@ -37,7 +37,7 @@ module _ (x : Says) (accepts : AttrObj → Bool) (head : AttrObj → Head) (outc
     propagated = tt;
     partly = partly;
     change = change;
-    tells = tt;
+    accurate = tt;
     edges = edges;
     links = links;
     memory = memory;

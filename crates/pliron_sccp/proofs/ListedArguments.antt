@@ -11,21 +11,21 @@ use Rattle.pliron_theory.specs.LatticeValues.{LatticeValue, Undetermined, Consta
 use Rattle.pliron_sccp.specs.declared.rewrite.ConstantArgument.{ConstantArgument}
 use Rattle.pliron_sccp.specs.Chain.{KnownArgument, known_with, known_in_block, known_arguments, blocks_inside}
 use Rattle.pliron_sccp.specs.Listed.{AreArguments, known_there, AddsKnown}
-use Rattle.pliron_sccp.specs.RewriteSteps.{IsKnown, stands_for, StandForEach}
+use Rattle.pliron_sccp.specs.RewriteSteps.{IsKnown, is_known_argument, AreKnownArguments}
 use Rattle.pliron_sccp.proofs.ListedFolds.{each_more, each_none}
 
-stand_more : (t : Tree) (xs : List ConstantArgument) (ks : List KnownArgument) (a : ConstantArgument) (k : KnownArgument) → StandForEach t xs ks → stands_for t a k → StandForEach t (xs ++ a ∷ []) (ks ++ k ∷ [])
+stand_more : (t : Tree) (xs : List ConstantArgument) (ks : List KnownArgument) (a : ConstantArgument) (k : KnownArgument) → AreKnownArguments t xs ks → is_known_argument t a k → AreKnownArguments t (xs ++ a ∷ []) (ks ++ k ∷ [])
 stand_more t [] [] a k s one = (one, tt)
 stand_more t [] (z ∷ zs) a k s one = absurd s
 stand_more t (y ∷ ys) [] a k s one = absurd s
 stand_more t (y ∷ ys) (z ∷ zs) a k s one = (s.0, stand_more t ys zs a k s.1 one)
 
 pub no_arguments : (t : Tree) (f : LatticeValues) (arguments : List ConstantArgument) → arguments ≡ [] → AreArguments t f arguments []
-no_arguments t f arguments e = record { stand = subst (λ z. StandForEach t z []) (sym e) tt; each = each_none (IsKnown t f) arguments e }
+no_arguments t f arguments e = record { stand = subst (λ z. AreKnownArguments t z []) (sym e) tt; each = each_none (IsKnown t f) arguments e }
 
 argument_more : (t : Tree) (f : LatticeValues) (old new : List ConstantArgument) (ks : List KnownArgument) (a : ConstantArgument) (v : ℕ) → new ≡ old ++ a ∷ [] → AreArguments t f old ks → IsTrue (f.is_executable a.block) → slice_get (arguments_of t a.block) a.index ≡ Some v → f.lattice_value v ≡ Constant a.attr → AreArguments t f new (ks ++ record { block = a.block; value = v; attr = a.attr } ∷ [])
 argument_more t f old new ks a v e are reached listed is = record {
-  stand = subst (λ z. StandForEach t z (ks ++ record { block = a.block; value = v; attr = a.attr } ∷ [])) (sym e) (stand_more t old ks a (record { block = a.block; value = v; attr = a.attr }) are.stand (refl, listed, refl));
+  stand = subst (λ z. AreKnownArguments t z (ks ++ record { block = a.block; value = v; attr = a.attr } ∷ [])) (sym e) (stand_more t old ks a (record { block = a.block; value = v; attr = a.attr }) are.stand (refl, listed, refl));
   each = each_more (IsKnown t f) old new a e are.each (record { value = v; reached = reached; listed = listed; constant = is });
 }
 

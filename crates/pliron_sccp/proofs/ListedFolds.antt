@@ -88,7 +88,7 @@ module _ (x : Says) (t : Tree) (f : LatticeValues) (k : ℕ) where
     fold_stays one is = record {
       operation = is.operation;
       at = is.at;
-      stands = is.stands;
+      liveness = is.liveness;
       folds = is.folds;
       rising = is.rising;
       within = let m = grows old.known.items more new.known.items longer in let w = is.within in omega arith;
@@ -121,7 +121,7 @@ module _ (x : Says) (t : Tree) (f : LatticeValues) (k : ℕ) where
             record {
               operation = operation_of t k h.0;
               at = make_op t k h.0 h.1;
-              stands = reached_parent f (parent_of t k) parts.1;
+              liveness = reached_parent f (parent_of t k) parts.1;
               folds = h.2;
               rising = grows old.known.items more new.known.items longer;
               within = omega arith;

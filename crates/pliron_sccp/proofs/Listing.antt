@@ -43,7 +43,7 @@ module _ (t : Tree) (w : IsTree t) where
 
   body_from_blocks : (b : ℕ) → flat_map (λ k. blocks_inside t k) (body_of t b) ≡ flat_map (λ b. from_here t b) (flat_map (λ k. blocks_directly_in t k) (body_of t b))
   body_from_blocks b =
-      flat_map-same (λ k. blocks_inside t k) (λ k. flat_map (λ b. from_here t b) (blocks_directly_in t k)) (body_of t b) (λ k i. inside_from_blocks k (w.joined.standing k b (w.bodies.owned k b i)).0)
+      flat_map-same (λ k. blocks_inside t k) (λ k. flat_map (λ b. from_here t b) (blocks_directly_in t k)) (body_of t b) (λ k i. inside_from_blocks k (w.joined.all_in_place k b (w.bodies.owned k b i)).0)
       ∙ sym (flat_flat (λ b. from_here t b) (λ k. blocks_directly_in t k) (body_of t b))
 
   pub owing_start : (root : ℕ) (stack : List ℕ) → IsLive t root → stack ≡ reverse (blocks_directly_in t root) → AreOwing t root [] stack

@@ -139,7 +139,7 @@ module _ (x : Says) (t : Tree) (root : ℕ) (w : IsTree t) (live : IsLive t root
 
     pub start_on_way : (z : DeferredOperations) → deferred_operations z ≡ [] → IsSearchOnTheWay x t root s z
     start_on_way z none = record {
-      aside = λ k i. absurd (subst (In k) none i);
+      deferral = λ k i. absurd (subst (In k) none i);
       numbered = λ b i. start.applied.values_on_worklist.numbers b ∙ start.unsearched.numbered b i;
       settled = λ k b o p r at. ⊎_elim (λ old. absurd (true≢false (sym old ∙ start.unsearched.reached b))) (λ waits. inl waits) (start.applied.values_on_worklist.entered b r);
       started = start_laid.started;
@@ -187,7 +187,7 @@ module _ (x : Says) (t : Tree) (root : ℕ) (w : IsTree t) (live : IsLive t root
         record {
           numbered = λ b i. values_on_worklist.numbers b ∙ k.numbers b ∙ o.numbered b i;
           settled = through_settles x t (λ j. In j (deferred_operations z)) (body_of t c) u s' d (block_settles x t w (λ j. In j (deferred_operations z)) c s u k o.settled);
-          aside = λ j i. aside_then x t u s' j values_on_worklist (aside_block x t c s u j k (o.aside j i));
+          deferral = λ j i. aside_then x t u s' j values_on_worklist (aside_block x t c s u j k (o.deferral j i));
           started = l.started;
           held = l.held;
           there = l.there;
@@ -205,7 +205,7 @@ module _ (x : Says) (t : Tree) (root : ℕ) (w : IsTree t) (live : IsLive t root
           record {
             started = called_starts x t edges values users constraints s u q k c a root l.started;
             held = λ b h r e. ⊎_elim (λ y. inl y) (λ y. inr (y.0, y.1, a.values_on_worklist.below.is_executable y.0 y.2)) (l.held b h (reached_before x t edges values users constraints s u q k c a b r) e);
-            there = called_known x t edges values users constraints s u q k c a (λ j. In j (deferred_operations z)) o.settled o.aside w root l.there;
+            there = called_known x t edges values users constraints s u q k c a (λ j. In j (deferred_operations z)) o.settled o.deferral w root l.there;
           }
 
       -- users are visited or deferred
@@ -222,9 +222,9 @@ module _ (x : Says) (t : Tree) (root : ℕ) (w : IsTree t) (live : IsLive t root
           record {
             numbered = λ b i. called_falls.numbers b ∙ k.numbers b ∙ o.numbered b i;
             settled = users_settle stamped o;
-            aside = λ j i. aside_then x t u s' j called_falls (⊎_elim
-                (λ old. aside_values x t values s u j k (o.aside j old))
-                (λ new. called_aside x t edges values users constraints s u q k c a (λ j. In j (deferred_operations z)) o.settled o.aside j new)
+            deferral = λ j i. aside_then x t u s' j called_falls (⊎_elim
+                (λ old. aside_values x t values s u j k (o.deferral j old))
+                (λ new. called_aside x t edges values users constraints s u q k c a (λ j. In j (deferred_operations z)) o.settled o.deferral j new)
                 (v.only j i));
             started = l.started;
             held = l.held;
@@ -247,7 +247,7 @@ module _ (x : Says) (t : Tree) (root : ℕ) (w : IsTree t) (live : IsLive t root
     -- one that was deferred was visited
     pub aside_on_way : (k : ℕ) (s s' : Tables) (z z' : DeferredOperations) → PopsDeferred k (deferred_operations z) (deferred_operations z') → VisitsOperation x t k s s' → IsSearchOnTheWay x t root s z → IsSearchOnTheWay x t root s' z'
     aside_on_way k s s' z z' taken visit_stamps o =
-        let p = (o.aside k taken.was).looked in
+        let p = (o.deferral k taken.was).was_visited in
         let here : (c : ℕ) × (parent_of t k ≡ Some c) × (is_executable s c ≡ true) = (p.block, p.in_block, p.reached) in
         let values_on_worklist = visit_stamps.applied.values_on_worklist in
         let l = through_laid (k ∷ []) s s' (Then k s' visit_stamps Nothing) (λ j i. ⊎_elim (λ e. subst (λ q. (c : ℕ) × (parent_of t q ≡ Some c) × (is_executable s c ≡ true)) (sym e) here) (λ n. absurd n) i) (laid_of s z o) in
@@ -256,7 +256,7 @@ module _ (x : Says) (t : Tree) (root : ℕ) (w : IsTree t) (live : IsLive t root
           settled =
               through_settles x t (λ j. In j (deferred_operations z')) (k ∷ []) s s' (Then k s' visit_stamps Nothing)
               (settled_wider x t (λ j. In j (deferred_operations z)) (λ j. In j (k ∷ []) ⊎ In j (deferred_operations z')) s (λ j i. ⊎_elim (λ q. inr q) (λ e. inl (inl e)) (taken.others j i)) o.settled);
-          aside = λ j i. aside_then x t s s' j values_on_worklist (o.aside j (taken.only j i));
+          deferral = λ j i. aside_then x t s s' j values_on_worklist (o.deferral j (taken.only j i));
           started = l.started;
           held = l.held;
           there = l.there;
@@ -399,8 +399,8 @@ module _ (x : Says) (t : Tree) (root : ℕ) (w : IsTree t) (live : IsLive t root
         aside_search = record {
           way = aside_on_way linked.edges visit_stamps.0 s' u z' y visit_stamps.1 visit_stamps.2 same_search.way;
           accounted = falls_accounted t root s' u pops same_search.way.waits visit_stamps.2.applied.values_on_worklist same_search.accounted;
-          best = λ owed. aside_best x t root w linked answers places owed s' (same_search.best owed) same_search.way.started.inside visit_stamps.0 u (same_search.way.aside visit_stamps.0 visit_stamps.1.was).looked visit_stamps.2;
-          sure = λ owed. aside_kept x t root w linked answers places owed s' (same_search.best owed) same_search.way.started.inside visit_stamps.0 edges' kept (same_search.way.aside visit_stamps.0 visit_stamps.1.was).looked visit_stamps.3 (same_search.sure owed);
+          best = λ owed. aside_best x t root w linked answers places owed s' (same_search.best owed) same_search.way.started.inside visit_stamps.0 u (same_search.way.deferral visit_stamps.0 visit_stamps.1.was).was_visited visit_stamps.2;
+          sure = λ owed. aside_kept x t root w linked answers places owed s' (same_search.best owed) same_search.way.started.inside visit_stamps.0 edges' kept (same_search.way.deferral visit_stamps.0 visit_stamps.1.was).was_visited visit_stamps.3 (same_search.sure owed);
         }
 
         pub fewer_aside : length (deferred_operations y) < length (deferred_operations z)

@@ -14,7 +14,7 @@ use Rattle.pliron_core.proofs.WalkLemmas.{contents-shorter, distinct-preorder, I
 use Rattle.pliron_sccp.specs.declared.inside.Part.{Part}
 use Rattle.pliron_sccp.specs.declared.inside.Part.TheVariants.{Block, Operation}
 use Rattle.pliron_sccp.specs.Chain.{blocks_to_depth, blocks_inside}
-use Rattle.pliron_sccp.specs.Inside.{block_values, blocks_directly_in, values_inside, parts_to_depth, parts_inside, defined_by, values_in_preorder, directly_in, IsStanding}
+use Rattle.pliron_sccp.specs.Inside.{block_values, blocks_directly_in, values_inside, parts_to_depth, parts_inside, defined_by, values_in_preorder, directly_in, IsPartLive}
 use Rattle.pliron_sccp.specs.Starting.{keys_added}
 use Rattle.pliron_sccp.proofs.Numbered.{added-append}
 use Rattle.pliron_sccp.proofs.DistinctLists.{held_directly, held_by}
@@ -38,13 +38,13 @@ from_part t (Operation k) = Operation k ∷ parts_inside t k
 abbrev pub owed : Tree → List Part → List Part
 owed t stack = flat_map (λ p. from_part t p) (reverse stack)
 
-abbrev AreStanding : Tree → List Part → Type 0
-AreStanding t [] = Unit {0}
-AreStanding t (p ∷ ps) = IsStanding t p × AreStanding t ps
+abbrev ArePartsLive : Tree → List Part → Type 0
+ArePartsLive t [] = Unit {0}
+ArePartsLive t (p ∷ ps) = IsPartLive t p × ArePartsLive t ps
 
 -- these keys are numbered, and what the stack stands for numbers the rest
 pub record IsOwing (t : Tree) (root : ℕ) (keys : List ℕ) (stack : List Part) : Type 0 where
-  pub standing : AreStanding t (owed t stack)
+  pub all_in_place : ArePartsLive t (owed t stack)
   pub rest : keys_added (flat_map (λ p. defined_by t p) (owed t stack)) keys ≡ keys_added (values_in_preorder t root) []
 
 -- parts are put behind those from before
@@ -65,17 +65,17 @@ module _ (t : Tree) (w : IsTree t) where
   standing_block x b i = let r = block_in x b i in ap is_some (w.layouts.owned b r.0 r.2)
 
   standing_op : (b k : ℕ) → In k (body_of t b) → IsLive t k
-  standing_op b k i = (w.joined.standing k b (w.bodies.owned k b i)).0
+  standing_op b k i = (w.joined.all_in_place k b (w.bodies.owned k b i)).0
 
-  standing_append : (ps qs : List Part) → AreStanding t ps → AreStanding t qs → AreStanding t (ps ++ qs)
+  standing_append : (ps qs : List Part) → ArePartsLive t ps → ArePartsLive t qs → ArePartsLive t (ps ++ qs)
   standing_append [] qs a b = b
   standing_append (p ∷ ps) qs a b = (a.0, standing_append ps qs a.1 b)
 
-  standing_flat : (f : ℕ → List Part) (xs : List ℕ) → ((x : ℕ) → In x xs → AreStanding t (f x)) → AreStanding t (flat_map f xs)
+  standing_flat : (f : ℕ → List Part) (xs : List ℕ) → ((x : ℕ) → In x xs → ArePartsLive t (f x)) → ArePartsLive t (flat_map f xs)
   standing_flat f [] each = tt
   standing_flat f (x ∷ xs) each = standing_append (f x) (flat_map f xs) (each x (inl refl)) (standing_flat f xs (λ y i. each y (inr i)))
 
-  standing_parts : (n x : ℕ) → AreStanding t (parts_to_depth t n x)
+  standing_parts : (n x : ℕ) → ArePartsLive t (parts_to_depth t n x)
   standing_parts zero x = tt
   standing_parts (suc n) x =
       standing_flat (λ b. Block b ∷ flat_map (λ k. Operation k ∷ parts_to_depth t n k) (body_of t b)) (blocks_directly_in t x) (λ b i. (
@@ -97,7 +97,7 @@ module _ (t : Tree) (w : IsTree t) where
       let long = distinct-length (length t.operations) (preorder t x) (distinct-preorder t w x) (λ k i. live_within t w k (within_live t w x k live ((In-preorder t w x k).0 i))) in
       sym (parts_more (length t.operations) x (omega (arith, long)))
 
-  from_is : (p : Part) → IsStanding t p → from_part t p ≡ p ∷ flat_map (λ q. from_part t q) (directly_in t p)
+  from_is : (p : Part) → IsPartLive t p → from_part t p ≡ p ∷ flat_map (λ q. from_part t q) (directly_in t p)
   from_is (Block b) live = ap (λ zs. Block b ∷ zs) (sym (flat_map-map (λ q. from_part t q) (λ k. Operation k) (body_of t b)))
   from_is (Operation k) live = ap (λ zs. Operation k ∷ zs) (parts_nested k live ∙ sym (flat_map-map (λ q. from_part t q) (λ b. Block b) (blocks_directly_in t k)))
 
@@ -105,11 +105,11 @@ module _ (t : Tree) (w : IsTree t) where
   top : (p : Part) (rest : List Part) → owed t (rest ++ p ∷ []) ≡ from_part t p ++ owed t rest
   top p rest = ap (flat_map (λ q. from_part t q)) (reverse-append rest (p ∷ []))
 
-  top_stands : (p : Part) (stack rest : List Part) → stack ≡ rest ++ p ∷ [] → AreStanding t (owed t stack) → IsStanding t p
-  top_stands (Block b) stack rest e s = (subst (AreStanding t) (ap (owed t) e ∙ top (Block b) rest) s).0
-  top_stands (Operation k) stack rest e s = (subst (AreStanding t) (ap (owed t) e ∙ top (Operation k) rest) s).0
+  top_stands : (p : Part) (stack rest : List Part) → stack ≡ rest ++ p ∷ [] → ArePartsLive t (owed t stack) → IsPartLive t p
+  top_stands (Block b) stack rest e s = (subst (ArePartsLive t) (ap (owed t) e ∙ top (Block b) rest) s).0
+  top_stands (Operation k) stack rest e s = (subst (ArePartsLive t) (ap (owed t) e ∙ top (Operation k) rest) s).0
 
-  owed_step : (p : Part) (stack rest later : List Part) → IsStanding t p → stack ≡ rest ++ p ∷ [] → later ≡ rest ++ reverse (directly_in t p) → owed t stack ≡ p ∷ owed t later
+  owed_step : (p : Part) (stack rest later : List Part) → IsPartLive t p → stack ≡ rest ++ p ∷ [] → later ≡ rest ++ reverse (directly_in t p) → owed t stack ≡ p ∷ owed t later
   owed_step p stack rest later live e l =
       let turned : reverse later ≡ directly_in t p ++ reverse rest = ap reverse l ∙ reverse-append rest (reverse (directly_in t p)) ∙ ap (λ xs. xs ++ reverse rest) (reverse-reverse (directly_in t p)) in
       let after : owed t later ≡ flat_map (λ q. from_part t q) (directly_in t p) ++ owed t rest = ap (flat_map (λ q. from_part t q)) turned ∙ flat_map-append (λ q. from_part t q) (directly_in t p) (reverse rest) in
@@ -120,18 +120,18 @@ module _ (t : Tree) (w : IsTree t) where
       let all : owed t stack ≡ parts_inside t root =
       ap (λ xs. flat_map (λ q. from_part t q) (reverse xs)) e ∙ ap (flat_map (λ q. from_part t q)) (reverse-reverse (directly_in t (Operation root))) ∙ flat_map-map (λ q. from_part t q) (λ b. Block b) (blocks_directly_in t root) ∙ sym (parts_nested root live) in
       record {
-        standing = subst (AreStanding t) (sym all) (standing_parts (length t.operations) root);
+        all_in_place = subst (ArePartsLive t) (sym all) (standing_parts (length t.operations) root);
         rest = ap (λ ps. keys_added (flat_map (λ p. defined_by t p) ps) []) all;
       }
 
-  pub owing_stands : (root : ℕ) (keys : List ℕ) (p : Part) (stack rest : List Part) → IsOwing t root keys stack → stack ≡ rest ++ p ∷ [] → IsStanding t p
-  owing_stands root keys p stack rest o e = top_stands p stack rest e o.standing
+  pub owing_stands : (root : ℕ) (keys : List ℕ) (p : Part) (stack rest : List Part) → IsOwing t root keys stack → stack ≡ rest ++ p ∷ [] → IsPartLive t p
+  owing_stands root keys p stack rest o e = top_stands p stack rest e o.all_in_place
 
   pub owing_step : (root : ℕ) (keys more : List ℕ) (p : Part) (stack rest later : List Part) → IsOwing t root keys stack → stack ≡ rest ++ p ∷ [] → more ≡ keys_added (defined_by t p) keys → later ≡ rest ++ reverse (directly_in t p) → IsOwing t root more later
   owing_step root keys more p stack rest later o e m l =
-      let step = owed_step p stack rest later (top_stands p stack rest e o.standing) e l in
+      let step = owed_step p stack rest later (top_stands p stack rest e o.all_in_place) e l in
       record {
-        standing = (subst (AreStanding t) step o.standing).1;
+        all_in_place = (subst (ArePartsLive t) step o.all_in_place).1;
         rest =
             ap (keys_added (flat_map (λ q. defined_by t q) (owed t later))) m
             ∙ sym (added-append (defined_by t p) (flat_map (λ q. defined_by t q) (owed t later)) keys)
@@ -141,7 +141,7 @@ module _ (t : Tree) (w : IsTree t) where
 
   pub owing_smaller : (root : ℕ) (keys : List ℕ) (p : Part) (stack rest later : List Part) → IsOwing t root keys stack → stack ≡ rest ++ p ∷ [] → later ≡ rest ++ reverse (directly_in t p) → length (owed t later) < length (owed t stack)
   owing_smaller root keys p stack rest later o e l =
-      let step = ap length (owed_step p stack rest later (top_stands p stack rest e o.standing) e l) in omega (arith, step)
+      let step = ap length (owed_step p stack rest later (top_stands p stack rest e o.all_in_place) e l) in omega (arith, step)
 
   pub owing_end : (root : ℕ) (keys : List ℕ) (stack : List Part) → IsOwing t root keys stack → stack ≡ [] → keys ≡ keys_added (values_in_preorder t root) []
   owing_end root keys stack o e = ap (λ ps. keys_added (flat_map (λ q. defined_by t q) (owed t ps)) keys) (sym e) ∙ o.rest

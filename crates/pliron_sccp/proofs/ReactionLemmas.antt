@@ -268,7 +268,7 @@ module _ (x : Says) (t : Tree) (edges : FeasibleEdges) where
     pub values : List ℕ
     pub distinct : IsDistinct values
     pub waited : (v : ℕ) → is_value_on_worklist start v ≡ true ↔ (In v values ⊎ (is_value_on_worklist now v ≡ true))
-    pub gone : (v : ℕ) → In v values → is_value_on_worklist now v ≡ false
+    pub deleted : (v : ℕ) → In v values → is_value_on_worklist now v ≡ false
     pub facts : (v : ℕ) → lattice_value_in now v ≡ lattice_value_in start v
     pub reached : (b : ℕ) → is_executable now b ≡ is_executable start b
     pub blocks : (b : ℕ) → is_block_on_worklist now b ≡ is_block_on_worklist start b
@@ -284,7 +284,7 @@ module _ (x : Says) (t : Tree) (edges : FeasibleEdges) where
     values = [];
     distinct = tt;
     waited = λ v. (λ w. inr w, λ w. ⊎_elim (λ z. absurd z) (λ x. x) w);
-    gone = λ v i. absurd i;
+    deleted = λ v i. absurd i;
     facts = λ v. refl;
     reached = λ b. refl;
     blocks = λ b. refl;
@@ -331,12 +331,12 @@ module _ (x : Says) (t : Tree) (edges : FeasibleEdges) where
     pub taking_next : SchedulesUses x t next edges value (IsUseOf t value) users constraints users' constraints' → IsTaking start next users' constraints' (taken + 1)
     taking_next added = record {
       values = value ∷ a.values;
-      distinct = (λ i. true≢false (sym k.waited ∙ a.gone value i), a.distinct);
+      distinct = (λ i. true≢false (sym k.waited ∙ a.deleted value i), a.distinct);
       waited = λ v. (
         λ w. ⊎_elim (λ i. inl (inr i)) (λ x. ⊎_elim (λ e. inl (inl e)) (λ y. inr y) (or_still v x)) ((a.waited v).0 w),
         λ w. ⊎_elim (λ i. ⊎_elim (λ e. (a.waited v).1 (inr (subst (λ z. is_value_on_worklist now z ≡ true) (sym e) k.waited))) (λ j. (a.waited v).1 (inl j)) i) (λ x. (a.waited v).1 (inr (waited_now v x))) w,
       );
-      gone = λ v i. ⊎_elim (λ e. subst (λ z. is_value_on_worklist next z ≡ false) (sym e) it_is_gone) (λ j. gone_next v (a.gone v j)) i;
+      deleted = λ v i. ⊎_elim (λ e. subst (λ z. is_value_on_worklist next z ≡ false) (sym e) it_is_gone) (λ j. gone_next v (a.deleted v j)) i;
       facts = λ v. k.facts v ∙ a.facts v;
       reached = λ b. k.reached b ∙ a.reached b;
       blocks = λ b. k.blocks b ∙ a.blocks b;

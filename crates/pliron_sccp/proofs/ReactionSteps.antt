@@ -128,18 +128,18 @@ module _ (x : Says) (t : Tree) (edges : FeasibleEdges) (values users : List ℕ)
       low = record { is_executable = λ d. is_executable u d; lattice_value = λ v. NotAConstant }
 
   -- an operation that was visited asked something that is met, settled or deferred
-  module _ (rest : ℕ → Type 0) (settled : AreSettledIn x t s rest) (aside : (j : ℕ) → rest j → IsDeferred x t s j) where
+  module _ (rest : ℕ → Type 0) (settled : AreSettledIn x t s rest) (deferral : (j : ℕ) → rest j → IsDeferred x t s j) where
     met_before : (q : ℕ) (o : Operation) → WasVisited t u q → op_at t q ≡ Some o → (f : LatticeValues) × IsSatisfied x t f (lattice_values_of s) q o
     met_before q o l at = ⊎_elim
         (λ waits. absurd (true≢false (sym (k.blocks l.block ∙ waits) ∙ l.taken)))
-        (λ y. ⊎_elim (λ m. (m.seen, m.met)) (λ h. (aside q h).met o at) y)
+        (λ y. ⊎_elim (λ m. (m.seen, m.met)) (λ h. (deferral q h).met o at) y)
         (settled q l.block o l.in_block (sym (k.reached l.block) ∙ l.reached) at)
 
     -- so it may be deferred
     pub called_aside : (q : ℕ) → In q users → IsDeferred x t u q
     called_aside q i =
         let l = (c.only q i).0 in
-        record { looked = l; met = λ o at. let m = met_before q o l at in (m.0, met_still x t m.0 (lattice_values_of s) (lattice_values_of u) q o (below_same s u k.facts k.reached) m.1) }
+        record { was_visited = l; met = λ o at. let m = met_before q o l at in (m.0, met_still x t m.0 (lattice_values_of s) (lattice_values_of u) q o (below_same s u k.facts k.reached) m.1) }
 
     -- an edge of it that is feasible for sure leads to a block that is reached
     edge_reached : (q place v : ℕ) (o : Operation) → WasVisited t u q → op_at t q ≡ Some o → (f : Forwarded x t o place v) → IsOpenEdge x u edges o q f.block → is_executable u f.block ≡ true

@@ -66,11 +66,11 @@ module _ (x : Says) (t : Tree) where
     inside = started.inside;
     outside = started.outside;
     root_entries = started.entries;
-    entries = λ k i r b o stands at there e. (met k o stands at).entries i r b there e;
-    branches = λ k i b o stands at branch go. (met k o stands at).branches i b branch go;
-    jumps = λ k i b o stands at no_branch e. (met k o stands at).jumps i b no_branch e;
-    folded = λ k i v a o stands at folds e said. (met k o stands at).folded i v a folds e said;
-    others = λ k v o stands at none i. (met k o stands at).others v none i;
+    entries = λ k i r b o liveness at there e. (met k o liveness at).entries i r b there e;
+    branches = λ k i b o liveness at branch go. (met k o liveness at).branches i b branch go;
+    jumps = λ k i b o liveness at no_branch e. (met k o liveness at).jumps i b no_branch e;
+    folded = λ k i v a o liveness at folds e said. (met k o liveness at).folded i v a folds e said;
+    others = λ k v o liveness at none i. (met k o liveness at).others v none i;
   }
     where
       met : (k : ℕ) (o : Operation) → IsInExecutableBlock t f k → op_at t k ≡ Some o → IsSatisfied x t f f k o

@@ -54,10 +54,10 @@ module _ (t : Tree) where
 
   -- what fell calls for every operation
   pub told_calls : (s u : Tables) → ValuesAreLowered s u → StampsLowered s u → (k v : ℕ) → (lattice_value_in u v ≡ lattice_value_in s v) ⊎ CallsForVisit t u k v
-  told_calls s u f p k v = by (p v) (f.told v)
+  told_calls s u f p k v = by (p v) (f.reported v)
     where
       by : ((lattice_value_in u v ≡ lattice_value_in s v) × (lowered_stamp u v ≡ lowered_stamp s v)) ⊎ ((first : ℕ) → visit_stamp u first ≤ lowered_stamp u v) → (lattice_value_in u v ≡ lattice_value_in s v) ⊎ (is_value_on_worklist u v ≡ true) → (lattice_value_in u v ≡ lattice_value_in s v) ⊎ CallsForVisit t u k v
-      by (inl same) told = inl same.0
+      by (inl same) reported = inl same.0
       by (inr all) (inl e) = inl e
       by (inr all) (inr w) = inr (w, behind_all u k v all)
 
@@ -71,9 +71,9 @@ module _ (t : Tree) where
 
   -- a look is stamped, and then facts fall
   pub stamped_then : (k : ℕ) (s u w : Tables) → StampsIt t k s u → StampsEachLowered u w → IsStamped t k s w
-  stamped_then k s u w it fallen = record {
-    others = λ j n. of_same u w fallen.visit_stamps (results_of t j) ∙ it.visit_stamps j n;
-    values_on_worklist = λ v. ⊎_elim (λ same. inl (same.0 ∙ it.facts v, same.1 ∙ it.values_on_worklist v)) (λ all. inr all) (fallen.values_on_worklist v);
+  stamped_then k s u w it queued = record {
+    others = λ j n. of_same u w queued.visit_stamps (results_of t j) ∙ it.visit_stamps j n;
+    values_on_worklist = λ v. ⊎_elim (λ same. inl (same.0 ∙ it.facts v, same.1 ∙ it.values_on_worklist v)) (λ all. inr all) (queued.values_on_worklist v);
   }
 
 made_by : {b c i j : ℕ} → Some (Result b i) ≡ Some (Result c j) → b ≡ c

@@ -24,7 +24,7 @@ use Rattle.std.proofs.lemmas.List.{get_or_past}
 use Rattle.pliron_theory.proofs.SoundRuns.{PassesForwarded, NamesWell}
 use Rattle.pliron_laws.proofs.Records.{ShowsOperation, op_shows}
 use Rattle.pliron_theory.specs.LatticeValues.{LatticeValues, Says, lattice_constant, operand_constants, answers_of}
-use Rattle.pliron_theory.specs.Following.{StandsAsBefore, Follows}
+use Rattle.pliron_theory.specs.Following.{IsAsBefore, Follows}
 use Rattle.pliron_sccp.specs.RewriteSteps.{IsFoldStep, AreFoldSteps, IsFoldingOn, ReportsCreated}
 use Rattle.pliron_sccp.specs.declared.rewrite.Fold.{Fold}
 use Rattle.pliron_sccp.specs.declared.rewrite.Folds.{Folds}
@@ -60,17 +60,17 @@ told_then t u v Changed Unchanged stays (k, none, live) q = (k, none, stays k li
 told_then t u v Changed Changed stays (k, none, live) q = (k, none, stays k live)
 
 module _ (x : Says) (t₀ : Tree) (root : ℕ) (f₀ : LatticeValues) (t : Tree) (op : ℕ) (ks : List (Option AttrObj)) (s : IsFoldStep x t₀ root f₀ t op ks) where
-  now : StandsAsBefore x t₀ t f₀ s.follows.facts op s.operation
+  now : IsAsBefore x t₀ t f₀ s.follows.facts op s.operation
   now = s.follows.operations op s.operation s.at
 
   shows : ShowsOperation t op now.operation
-  shows = op_shows t op now.operation now.stands
+  shows = op_shows t op now.operation now.liveness
 
   pub step_live : IsLive t op
   step_live = ap is_some shows.head
 
   pub step_placed : IsSome (parent_of t op)
-  step_placed = ap is_some (s.follows.parents op (ap is_some (op_shows t₀ op s.operation s.at).head) ∙ s.stands.1)
+  step_placed = ap is_some (s.follows.parents op (ap is_some (op_shows t₀ op s.operation s.at).head) ∙ s.liveness.1)
 
   pub step_folds : (h : Head) → head_of t op ≡ Some h → IsTrue (x.can_fold h)
   step_folds h e = ap x.can_fold (some_is (sym e ∙ shows.head) ∙ now.head) ∙ s.folds
@@ -82,21 +82,21 @@ module _ (x : Says) (t₀ : Tree) (root : ℕ) (f₀ : LatticeValues) (t : Tree)
   module _ (accepts : AttrObj → Bool) (head : AttrObj → Head) (outcome branch_outcome : Outcome) (law : FoldsInPlace x.meaning x.constants accepts head outcome branch_outcome) where
     pub step_told : (u : Tree) (status : IRStatus) → outcome t u op ks (Some status) → ReportsCreated status t u
     step_told u status is =
-        let p = law.constant t u op ks (Some status) now.operation now.stands is in
+        let p = law.constant t u op ks (Some status) now.operation now.liveness is in
         told_of t u status p.1 (some_told accepts head op now.operation.results (x.constants (shape_of x.meaning t now.operation) ks) t u p.0)
 
     pub step_stays : (u : Tree) (answer : Option IRStatus) → outcome t u op ks answer → (k : ℕ) → IsLive t k → IsLive u k
     step_stays u answer is =
-        some_stays accepts head op now.operation.results (x.constants (shape_of x.meaning t now.operation) ks) t u (law.constant t u op ks answer now.operation now.stands is).0
+        some_stays accepts head op now.operation.results (x.constants (shape_of x.meaning t now.operation) ks) t u (law.constant t u op ks answer now.operation now.liveness is).0
 
     step_some : (u : Tree) (answer : Option IRStatus) → outcome t u op ks answer → MaterialisesSome accepts head op s.operation.results (answers_of x t₀ f₀ s.operation) t u
     step_some u answer is =
         subst (λ z. MaterialisesSome accepts head op s.operation.results z t u) (ap₂ (λ p q. x.constants p q) now.shape s.known_is)
-        (subst (λ z. MaterialisesSome accepts head op z (x.constants (shape_of x.meaning t now.operation) ks) t u) now.results (law.constant t u op ks answer now.operation now.stands is).0)
+        (subst (λ z. MaterialisesSome accepts head op z (x.constants (shape_of x.meaning t now.operation) ks) t u) now.results (law.constant t u op ks answer now.operation now.liveness is).0)
 
     pub step_follows : AnswersTrue x.meaning x.can_fold x.constants → AnswersJumps x.meaning x.can_fold_branch x.feasible → PassesForwarded x.meaning → NamesWell x → MakesConstants x.meaning accepts head → ((attr : AttrObj) → IsTrue (accepts attr) → x.meaning.is_branch (head attr) ≡ false) → (u : Tree) (answer : Option IRStatus) → outcome t u op ks answer → IsTree u → length t.operations ≤ length u.operations → Follows x t₀ root f₀ u
     step_follows answers jumps passes names makes plain u answer is w longer =
-        fold_on x t₀ root f₀ s.first answers jumps passes names accepts head makes plain op s.operation s.stands s.at s.folds t u s.follows w (step_some u answer is) longer
+        fold_on x t₀ root f₀ s.first answers jumps passes names accepts head makes plain op s.operation s.liveness s.at s.folds t u s.follows w (step_some u answer is) longer
 
 -- the outcome, whatever was answered
 pub either : (P : Option IRStatus → Type 0) (r : Result IRStatus OptError) → IfOk r (λ status. P (Some status)) → OnErr r (P None) → (a : Option IRStatus) × P a
@@ -111,15 +111,15 @@ drop_at (y ∷ ys) (suc i) x e =
 
 module _ (x : Says) (outcome : Outcome) (start : Tree) (folds : Folds) where
   pub folding_start : IsFoldingOn x outcome start folds 0 Unchanged start
-  folding_start = record { follows = λ t₀ root f₀ s. s.follows; partly = λ t₀ root f₀ s u z. z; turns = λ t₀ root f₀ s u z. z; told = same_refl start; stays = λ k l. l }
+  folding_start = record { follows = λ t₀ root f₀ s. s.follows; partly = λ t₀ root f₀ s u z. z; turns = λ t₀ root f₀ s u z. z; reported = same_refl start; stays = λ k l. l }
 
   pub folding_can : (i : ℕ) (status : IRStatus) (here : Tree) → IsFoldingOn x outcome start folds i status here → (fold : Fold) → slice_get folds.rows.items i ≡ Some fold → (t₀ : Tree) (root : ℕ) (f₀ : LatticeValues) → AreFoldSteps x t₀ root f₀ start folds → IsFoldStep x t₀ root f₀ here fold.op (slice_range folds.known.items fold.start fold.end)
   folding_can i status here g fold at t₀ root f₀ s =
       let e = s.each i fold at in
-      record { first = s.first; follows = g.follows t₀ root f₀ s; operation = e.operation; at = e.at; stands = e.stands; folds = e.folds; known_is = e.known_is }
+      record { first = s.first; follows = g.follows t₀ root f₀ s; operation = e.operation; at = e.at; liveness = e.liveness; folds = e.folds; known_is = e.known_is }
 
   pub folding_next : (i : ℕ) (status : IRStatus) (here : Tree) → IsFoldingOn x outcome start folds i status here → (fold : Fold) → slice_get folds.rows.items i ≡ Some fold → (next : Tree) (one : IRStatus) → outcome here next fold.op (slice_range folds.known.items fold.start fold.end) (Some one) → ReportsCreated one here next → ((k : ℕ) → IsLive here k → IsLive next k) → ((t₀ : Tree) (root : ℕ) (f₀ : LatticeValues) → IsFoldStep x t₀ root f₀ here fold.op (slice_range folds.known.items fold.start fold.end) → Follows x t₀ root f₀ next) → IsFoldingOn x outcome start folds (i + 1) (changed_by_either status one) next
-  folding_next i status here g fold at next one is told stays follows = record {
+  folding_next i status here g fold at next one is reported stays follows = record {
     follows = λ t₀ root f₀ s. follows t₀ root f₀ (folding_can i status here g fold at t₀ root f₀ s);
     partly = λ t₀ root f₀ s u z.
         let e = s.each i fold at in
@@ -129,7 +129,7 @@ module _ (x : Says) (outcome : Outcome) (start : Tree) (folds : Folds) where
         let e = s.each i fold at in
         let lattice_constant = e.known_is ∙ ap (operand_constants f₀) (sym (op_shows t₀ fold.op e.operation e.at).operands) in
         g.turns t₀ root f₀ s u (subst (λ l. FoldsInTurn outcome t₀ f₀ (map (λ q. q.op) l) here u) (sym (drop_at folds.rows.items i fold at)) (Next fold.op next one (subst (λ ks. outcome here next fold.op ks (Some one)) lattice_constant is) z));
-    told = told_then start here next status one stays g.told told;
+    reported = told_then start here next status one stays g.reported reported;
     stays = λ k l. stays k (g.stays k l);
   }
 

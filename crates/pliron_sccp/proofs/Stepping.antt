@@ -228,7 +228,7 @@ module _ (x : Says) (t : Tree) where
         before (inr (inr h)) = inr (inr (inr h))
 
   -- a block that comes to be reached is an entry of the operation's regions or a successor of it
-  module _ (k : ℕ) (o : Operation) (stands : op_at t k ≡ Some o) (s u : Tables) (l : VisitsOperation x t k s u) where
+  module _ (k : ℕ) (o : Operation) (liveness : op_at t k ≡ Some o) (s u : Tables) (l : VisitsOperation x t k s u) where
     not_else : (b : ℕ) → is_executable s b ≡ false → (In b (entries_of t k) → ⊥) → (In b (successors_of t k) → ⊥) → is_executable u b ≡ true → ⊥
     not_else b old no_entry no_successor new = true≢false (sym (least.is_executable b new) ∙ ap not (eq-eqb b b refl))
       where
@@ -239,11 +239,11 @@ module _ (x : Says) (t : Tree) where
         below = record { is_executable = λ z r. another b z (λ e. true≢false (sym r ∙ ap (is_executable s) (sym e) ∙ old)); lattice_value = λ v. inr (inl refl) }
 
         successor : (i z : ℕ) → slice_get o.successors i ≡ Some z → not (nat_eq b z) ≡ true
-        successor i z e = another b z (λ same. no_successor (subst (λ q. In q (successors_of t k)) (sym same) (subst (In z) (sym (op_shows t k o stands).successors) (in_slice o.successors i z e))))
+        successor i z e = another b z (λ same. no_successor (subst (λ q. In q (successors_of t k)) (sym same) (subst (In z) (sym (op_shows t k o liveness).successors) (in_slice o.successors i z e))))
 
         met : IsSatisfied x t (lattice_values_of s) g k o
         met = record {
-          entries = λ i r z at e. (entry_apart t k b no_entry r z (subst (In r) (sym (op_shows t k o stands).regions) (in_slice o.regions i r at)) e, λ j v a. unknown_below g.lattice_value (lattice_value_in s) o.operands (x.entry_operands (shape_of x.meaning t o) i j) v refl);
+          entries = λ i r z at e. (entry_apart t k b no_entry r z (subst (In r) (sym (op_shows t k o liveness).regions) (in_slice o.regions i r at)) e, λ j v a. unknown_below g.lattice_value (lattice_value_in s) o.operands (x.entry_operands (shape_of x.meaning t o) i j) v refl);
           branches = λ i z branch go. (successor i z go.0, λ j v y listed forwards. inr (inl refl));
           jumps = λ i z none e. (successor i z e, λ v j. refl);
           folded = λ i v a folds listed said. inr (inl refl);
@@ -251,7 +251,7 @@ module _ (x : Says) (t : Tree) where
         }
 
         least : AreAtMost g (lattice_values_of u)
-        least = l.applied.least g below ((l.asks o stands g below).1 met)
+        least = l.applied.least g below ((l.asks o liveness g below).1 met)
 
     pub came_from : (b : ℕ) → is_executable u b ≡ true → (is_executable s b ≡ true) ⊎ In b (entries_of t k) ⊎ In b (successors_of t k)
     came_from b new = by (is_executable s b) refl (decide_in b (entries_of t k)) (decide_in b (successors_of t k))
@@ -266,7 +266,7 @@ module _ (x : Says) (t : Tree) where
 module _ (x : Says) (t : Tree) (root : ℕ) (w : IsTree t) (edges : EdgesLast t root) where
   module _ (k c : ℕ) (s u : Tables) (l : VisitsOperation x t k s u) (placed : parent_of t k ≡ Some c) (here : is_executable s c ≡ true) (started : AreStarted t root (lattice_values_of s)) where
     operation : (o : Operation) × (op_at t k ≡ Some o)
-    operation = let h = some_of _ (w.joined.standing k c placed).0 in (_, make_op t k h.0 h.1)
+    operation = let h = some_of _ (w.joined.all_in_place k c placed).0 in (_, make_op t k h.0 h.1)
 
     within : IsInside t root k
     within = inside_block c placed (started.inside c here)

@@ -13,7 +13,7 @@ use Rattle.pliron_sccp.specs.declared.rewrite.ConstantArgument.{ConstantArgument
 use Rattle.pliron_sccp.specs.declared.rewrite.Found.{Found}
 use Rattle.pliron_theory.specs.LatticeValues.{LatticeValues, Says}
 use Rattle.pliron_theory.specs.Following.{Follows}
-use Rattle.pliron_sccp.specs.RewriteSteps.{AreFoldSteps, AreArgumentSteps, IsFound, ReportsCreated, StandForEach}
+use Rattle.pliron_sccp.specs.RewriteSteps.{AreFoldSteps, AreArgumentSteps, IsFound, ReportsCreated, AreKnownArguments}
 use Rattle.pliron_sccp.specs.Chain.{FoldsInTurn, FoldsPartly, KnownArgument, folding_operations, known_arguments, all_put, IsPartlyPut, IsRewritten, IsPartlyRewritten}
 use Rattle.pliron_theory.proofs.FollowedFacts.{started}
 
@@ -31,16 +31,16 @@ module _ (x : Says) (can_fold : Head → Bool) (t : Tree) (root : ℕ) (f : Latt
   ops_are : (folds : Folds) → folds ≡ found.folds → map (λ fold. fold.op) folds.rows.items ≡ folding_operations can_fold t root f
   ops_are folds e = ap (λ z. map (λ fold. fold.op) z.rows.items) e ∙ i.folds
 
-  stand_for : (arguments : List ConstantArgument) → arguments ≡ found.arguments.items → StandForEach t arguments (known_arguments t root f)
-  stand_for arguments e = subst (λ z. StandForEach t z (known_arguments t root f)) (sym e) i.arguments
+  stand_for : (arguments : List ConstantArgument) → arguments ≡ found.arguments.items → AreKnownArguments t arguments (known_arguments t root f)
+  stand_for arguments e = subst (λ z. AreKnownArguments t z (known_arguments t root f)) (sym e) i.arguments
 
   module _ (accepts : AttrObj → Bool) (head : AttrObj → Head) (outcome : Outcome) (folds : Folds) (same : folds ≡ found.folds) where
     pub broken_folding : (u : Tree) → FoldsPartly outcome t f (map (λ fold. fold.op) folds.rows.items) t u → IsPartlyRewritten can_fold accepts head outcome t root f u
     broken_folding u p = inl (subst (λ ks. FoldsPartly outcome t f ks t u) (ops_are folds same) p)
 
     module _ (folded : Tree) (turns : FoldsInTurn outcome t f (map (λ fold. fold.op) folds.rows.items) t folded) (arguments : List ConstantArgument) (also : arguments ≡ found.arguments.items) where
-      pub broken_putting : (u : Tree) → ((known : List KnownArgument) → StandForEach t arguments known → IsPartlyPut accepts head known folded u) → IsPartlyRewritten can_fold accepts head outcome t root f u
+      pub broken_putting : (u : Tree) → ((known : List KnownArgument) → AreKnownArguments t arguments known → IsPartlyPut accepts head known folded u) → IsPartlyRewritten can_fold accepts head outcome t root f u
       broken_putting u p = inr (folded, subst (λ ks. FoldsInTurn outcome t f ks t folded) (ops_are folds same) turns, p (known_arguments t root f) (stand_for arguments also))
 
-      pub all_rewritten : (u : Tree) → ((known : List KnownArgument) → StandForEach t arguments known → u ≡ all_put accepts head known folded) → IsRewritten can_fold accepts head outcome t root f u
+      pub all_rewritten : (u : Tree) → ((known : List KnownArgument) → AreKnownArguments t arguments known → u ≡ all_put accepts head known folded) → IsRewritten can_fold accepts head outcome t root f u
       all_rewritten u p = record { folded = folded; folds = subst (λ ks. FoldsInTurn outcome t f ks t folded) (ops_are folds same) turns; arguments = p (known_arguments t root f) (stand_for arguments also) }

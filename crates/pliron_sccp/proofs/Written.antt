@@ -112,14 +112,14 @@ count_taken (Varying ∷ cells) (suc n) k e = count_taken cells n k e
 
 -- one more constant keeps the others
 pub keeps_more : (constants : List AttrObj) (c : AttrObj) → KeepsConstants constants (constants ++ c ∷ [])
-keeps_more [] c k d e = absurd (gone e)
+keeps_more [] c k d e = absurd (deleted e)
   where
     is_none : Option AttrObj → Bool
     is_none None = true
     is_none (Some x) = false
 
-    gone : ◌≡◌ {A = Option AttrObj} None (Some d) → ⊥
-    gone e = true≢false (ap is_none e)
+    deleted : ◌≡◌ {A = Option AttrObj} None (Some d) → ⊥
+    deleted e = true≢false (ap is_none e)
 keeps_more (x ∷ constants) c zero d e = e
 keeps_more (x ∷ constants) c (suc k) d e = keeps_more constants c k d e
 
@@ -134,7 +134,7 @@ said_kept old new keeps cell m = means_said new cell (value_of_cell old cell) (m
 pub stays_low : (value : ℕ) (to : LatticeValue) (s : Tables) → AtMost (lattice_value_in s value) to → Lowers value to s s
 stays_low value to s low = record {
   met = record { first = at_most_refl (lattice_value_in s value); second = low; greatest = λ l p q. p };
-  told = inl (refl, refl);
+  reported = inl (refl, refl);
   others = λ v e. (refl, refl);
   reached = λ b. refl;
   blocks = λ b. refl;
@@ -147,7 +147,7 @@ stays_low value to s low = record {
 pub falls_then : {u : Tables} (s s' : Tables) (value n : ℕ) (to m : LatticeValue) → JoinsWorklist n u s' → position (nat_eq value) s.values.keys ≡ Some n → u.values.keys ≡ s.values.keys → lattice_value_in u value ≡ m → ((v : ℕ) → nat_eq value v ≡ false → lattice_value_in u v ≡ lattice_value_in s v) → ((v : ℕ) → is_value_on_worklist u v ≡ is_value_on_worklist s v) → ((b : ℕ) → is_executable u b ≡ is_executable s b) → ((b : ℕ) → is_block_on_worklist u b ≡ is_block_on_worklist s b) → ((b : ℕ) → is_numbered u b ≡ is_numbered s b) → KeepsStamps s u → KeepsConstants (known_constants s) (known_constants u) → LowersTo (lattice_value_in s value) to m → Lowers value to s s'
 falls_then {u} s s' value n to m w at keys here others waiting reached blocks numbers stamps keeps fall = record {
   met = subst (IsMeet (lattice_value_in s value) to) (sym is) fall.0;
-  told = inr ((λ e. fall.1 (sym is ∙ e)), w.waits value at_u);
+  reported = inr ((λ e. fall.1 (sym is ∙ e)), w.waits value at_u);
   others = λ v e. (w.facts v ∙ others v e, w.others v (apart v e) ∙ waiting v);
   stamps = record { visit_stamps = λ f. w.visit_stamps f ∙ stamps.visit_stamps f; values_on_worklist = λ v. stamped v (nat_eq value v) refl };
   reached = λ b. w.reached b ∙ reached b;

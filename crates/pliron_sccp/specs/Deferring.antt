@@ -34,5 +34,5 @@ pub record PopsDeferred (op : ℕ) (old new : List ℕ) : Type 0 where
 
 -- what is deferred is in a block that was visited, and its constraints of that visit are still satisfied
 pub record IsDeferred (x : Says) (t : Tree) (s : Tables) (k : ℕ) : Type 0 where
-  pub looked : WasVisited t s k
+  pub was_visited : WasVisited t s k
   pub met : (o : Operation) → op_at t k ≡ Some o → (f : LatticeValues) × IsSatisfied x t f (lattice_values_of s) k o

@@ -38,6 +38,6 @@ abbrev pub directly_in : Tree → Part → List Part
 directly_in t (Block b) = map (λ k. Operation k) (body_of t b)
 directly_in t (Operation k) = map (λ b. Block b) (blocks_directly_in t k)
 
-abbrev pub IsStanding : Tree → Part → Type 0
-IsStanding t (Block b) = IsBlock t b
-IsStanding t (Operation k) = IsLive t k
+abbrev pub IsPartLive : Tree → Part → Type 0
+IsPartLive t (Block b) = IsBlock t b
+IsPartLive t (Operation k) = IsLive t k

@@ -93,7 +93,7 @@ pub record Enters (block : ℕ) (s s' : Tables) : Type 0 where
 -- the value is lowered to the meet of both, and is put on the worklist and stamped if that is another one
 pub record Lowers (value : ℕ) (to : LatticeValue) (s s' : Tables) : Type 0 where
   pub met : IsMeet (lattice_value_in s value) to (lattice_value_in s' value)
-  pub told : ((lattice_value_in s' value ≡ lattice_value_in s value) × (is_value_on_worklist s' value ≡ is_value_on_worklist s value)) ⊎ ((lattice_value_in s' value ≢ lattice_value_in s value) × (is_value_on_worklist s' value ≡ true))
+  pub reported : ((lattice_value_in s' value ≡ lattice_value_in s value) × (is_value_on_worklist s' value ≡ is_value_on_worklist s value)) ⊎ ((lattice_value_in s' value ≢ lattice_value_in s value) × (is_value_on_worklist s' value ≡ true))
   pub others : (v : ℕ) → nat_eq value v ≡ false → (lattice_value_in s' v ≡ lattice_value_in s v) × (is_value_on_worklist s' v ≡ is_value_on_worklist s v)
   pub reached : (b : ℕ) → is_executable s' b ≡ is_executable s b
   pub blocks : (b : ℕ) → is_block_on_worklist s' b ≡ is_block_on_worklist s b

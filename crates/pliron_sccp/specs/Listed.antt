@@ -6,7 +6,7 @@ use Rattle.pliron_theory.specs.LatticeValues.{LatticeValues, Says}
 use Rattle.pliron_sccp.specs.declared.rewrite.ConstantArgument.{ConstantArgument}
 use Rattle.pliron_sccp.specs.declared.rewrite.Folds.{Folds}
 use Rattle.pliron_sccp.specs.Chain.{is_reached, has_passing_head, both, folding_operations, KnownArgument, known_in_block}
-use Rattle.pliron_sccp.specs.RewriteSteps.{IsKnown, AreEachFold, StandForEach}
+use Rattle.pliron_sccp.specs.RewriteSteps.{IsKnown, AreEachFold, AreKnownArguments}
 
 -- the operation folds and is in an executable block
 abbrev pub is_folding : (Head → Bool) → Tree → LatticeValues → ℕ → Bool
@@ -32,7 +32,7 @@ pub record AreFolds (x : Says) (t : Tree) (root : ℕ) (f : LatticeValues) (fold
 
 -- these arguments represent those that are known
 pub record AreArguments (t : Tree) (f : LatticeValues) (arguments : List ConstantArgument) (known : List KnownArgument) : Type 0 where
-  pub stand : StandForEach t arguments known
+  pub stand : AreKnownArguments t arguments known
   pub each : Each arguments (IsKnown t f)
 
 -- the constant arguments of the block, if it is executable

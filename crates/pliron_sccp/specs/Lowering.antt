@@ -13,7 +13,7 @@ use Rattle.pliron_sccp.specs.Settling.{AreAtMost}
 -- stays there, and nothing else is
 pub record ValuesAreLowered (s s' : Tables) : Type 0 where
   pub below : AreAtMost (lattice_values_of s') (lattice_values_of s)
-  pub told : (v : ℕ) → (lattice_value_in s' v ≡ lattice_value_in s v) ⊎ (is_value_on_worklist s' v ≡ true)
+  pub reported : (v : ℕ) → (lattice_value_in s' v ≡ lattice_value_in s v) ⊎ (is_value_on_worklist s' v ≡ true)
   pub entered : (b : ℕ) → is_executable s' b ≡ true → (is_executable s b ≡ true) ⊎ (is_block_on_worklist s' b ≡ true)
   pub values : (v : ℕ) → is_value_on_worklist s v ≡ true → is_value_on_worklist s' v ≡ true
   pub blocks : (b : ℕ) → is_block_on_worklist s b ≡ true → is_block_on_worklist s' b ≡ true

@@ -53,7 +53,7 @@ pub record Propagates (x : Says) (accepts : AttrObj → Bool) (head : AttrObj �
   pub propagated : OnOk answer (IsPropagated x accepts head outcome t root t' pops)
   pub partly : OnErr answer (IsPartlyPropagated x accepts head outcome t root t')
   pub change : IsPassChange x.meaning t t' root
-  pub tells : IfOk answer (λ status. ReportsChange (Some status) t t')
+  pub accurate : IfOk answer (λ status. ReportsChange (Some status) t t')
   pub edges : KeepsEdges t t'
   pub links : (r : ℕ) → IsWellLinked x.meaning t r → IsWellLinked x.meaning t' r
   pub memory : IsOkUnless answer Memory

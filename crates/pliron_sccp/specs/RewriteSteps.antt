@@ -24,7 +24,7 @@ pub record IsFoldStep (x : Says) (t₀ : Tree) (root : ℕ) (f₀ : LatticeValue
   pub follows : Follows x t₀ root f₀ t
   pub operation : Operation
   pub at : op_at t₀ op ≡ Some operation
-  pub stands : IsInExecutableBlock t₀ f₀ op
+  pub liveness : IsInExecutableBlock t₀ f₀ op
   pub folds : IsTrue (x.can_fold operation.head)
   pub known_is : known ≡ operand_constants f₀ operation.operands
 
@@ -32,7 +32,7 @@ pub record IsFoldStep (x : Says) (t₀ : Tree) (root : ℕ) (f₀ : LatticeValue
 pub record IsFold (x : Says) (t : Tree) (f : LatticeValues) (known : List (Option AttrObj)) (fold : Fold) : Type 0 where
   pub operation : Operation
   pub at : op_at t fold.op ≡ Some operation
-  pub stands : IsInExecutableBlock t f fold.op
+  pub liveness : IsInExecutableBlock t f fold.op
   pub folds : IsTrue (x.can_fold operation.head)
   pub rising : fold.start ≤ fold.end
   pub within : fold.end ≤ length known
@@ -59,7 +59,7 @@ pub record IsFoldingOn (x : Says) (outcome : Outcome) (start : Tree) (folds : Fo
   pub follows : (t₀ : Tree) (root : ℕ) (f₀ : LatticeValues) → AreFoldSteps x t₀ root f₀ start folds → Follows x t₀ root f₀ now
   pub partly : (t₀ : Tree) (root : ℕ) (f₀ : LatticeValues) → AreFoldSteps x t₀ root f₀ start folds → (u : Tree) → FoldsPartly outcome t₀ f₀ (map (λ fold. fold.op) (drop i folds.rows.items)) now u → FoldsPartly outcome t₀ f₀ (map (λ fold. fold.op) folds.rows.items) start u
   pub turns : (t₀ : Tree) (root : ℕ) (f₀ : LatticeValues) → AreFoldSteps x t₀ root f₀ start folds → (u : Tree) → FoldsInTurn outcome t₀ f₀ (map (λ fold. fold.op) (drop i folds.rows.items)) now u → FoldsInTurn outcome t₀ f₀ (map (λ fold. fold.op) folds.rows.items) start u
-  pub told : ReportsCreated status start now
+  pub reported : ReportsCreated status start now
   pub stays : (k : ℕ) → IsLive start k → IsLive now k
 
 -- the argument at this index of an executable block is this constant, in the first tree
@@ -76,14 +76,14 @@ pub record IsArgumentStep (x : Says) (t₀ : Tree) (root : ℕ) (f₀ : LatticeV
   pub known : IsKnown t₀ f₀ argument
 
 -- what an argument is, as the chain names it
-abbrev pub stands_for : (t₀ : Tree) → ConstantArgument → KnownArgument → Type 0
-stands_for t₀ argument known = (argument.block ≡ known.block) × (slice_get (arguments_of t₀ argument.block) argument.index ≡ Some known.value) × (argument.attr ≡ known.attr)
+abbrev pub is_known_argument : (t₀ : Tree) → ConstantArgument → KnownArgument → Type 0
+is_known_argument t₀ argument known = (argument.block ≡ known.block) × (slice_get (arguments_of t₀ argument.block) argument.index ≡ Some known.value) × (argument.attr ≡ known.attr)
 
-abbrev pub StandForEach : (t₀ : Tree) → List ConstantArgument → List KnownArgument → Type 0
-StandForEach t₀ [] [] = Unit {0}
-StandForEach t₀ [] (k ∷ known) = ⊥
-StandForEach t₀ (a ∷ arguments) [] = ⊥
-StandForEach t₀ (a ∷ arguments) (k ∷ known) = stands_for t₀ a k × StandForEach t₀ arguments known
+abbrev pub AreKnownArguments : (t₀ : Tree) → List ConstantArgument → List KnownArgument → Type 0
+AreKnownArguments t₀ [] [] = Unit {0}
+AreKnownArguments t₀ [] (k ∷ known) = ⊥
+AreKnownArguments t₀ (a ∷ arguments) [] = ⊥
+AreKnownArguments t₀ (a ∷ arguments) (k ∷ known) = is_known_argument t₀ a k × AreKnownArguments t₀ arguments known
 
 -- these arguments of executable blocks are constants, in the first tree
 pub record AreArgumentSteps (x : Says) (t₀ : Tree) (root : ℕ) (f₀ : LatticeValues) (t : Tree) (arguments : List ConstantArgument) : Type 0 where
@@ -94,8 +94,8 @@ pub record AreArgumentSteps (x : Says) (t₀ : Tree) (root : ℕ) (f₀ : Lattic
 -- constants are put for the arguments before index i: what puts the later ones from here puts all from the start
 pub record IsPuttingOn (x : Says) (accepts : AttrObj → Bool) (head : AttrObj → Head) (start : Tree) (arguments : List ConstantArgument) (i : ℕ) (status : IRStatus) (now : Tree) : Type 0 where
   pub follows : (t₀ : Tree) (root : ℕ) (f₀ : LatticeValues) → AreArgumentSteps x t₀ root f₀ start arguments → Follows x t₀ root f₀ now
-  pub puts : (t₀ : Tree) (root : ℕ) (f₀ : LatticeValues) → AreArgumentSteps x t₀ root f₀ start arguments → (known : List KnownArgument) → StandForEach t₀ arguments known → (all_put accepts head known start ≡ all_put accepts head (drop i known) now) × (all_put accepts head (take i known) start ≡ now)
-  pub told : ReportsCreated status start now
+  pub puts : (t₀ : Tree) (root : ℕ) (f₀ : LatticeValues) → AreArgumentSteps x t₀ root f₀ start arguments → (known : List KnownArgument) → AreKnownArguments t₀ arguments known → (all_put accepts head known start ≡ all_put accepts head (drop i known) now) × (all_put accepts head (take i known) start ≡ now)
+  pub reported : ReportsCreated status start now
   pub stays : (k : ℕ) → IsLive start k → IsLive now k
 
 -- these are the folds and the arguments that closed lattice values of the tree say
@@ -104,5 +104,5 @@ pub record IsFound (x : Says) (can_fold : Head → Bool) (t : Tree) (root : ℕ)
   pub held : AreHeld t root f
   pub folds : map (λ fold. fold.op) found.folds.rows.items ≡ folding_operations can_fold t root f
   pub each_fold : AreEachFold x t f found.folds
-  pub arguments : StandForEach t found.arguments.items (known_arguments t root f)
+  pub arguments : AreKnownArguments t found.arguments.items (known_arguments t root f)
   pub each_argument : (i : ℕ) (argument : ConstantArgument) → slice_get found.arguments.items i ≡ Some argument → IsKnown t f argument

@@ -60,7 +60,7 @@ VisitsDeferred x t s s' d d' edges edges' false = (deferred_operations d ≡ [])
 -- numbers
 pub record IsSearchOnTheWay (x : Says) (t : Tree) (root : ℕ) (s : Tables) (d : DeferredOperations) : Type 0 where
   pub settled : AreSettledBut x t (lattice_values_of s) (λ b. is_block_on_worklist s b ≡ true) (λ k v. CallsForVisit t s k v) (λ k. In k (deferred_operations d))
-  pub aside : (k : ℕ) → In k (deferred_operations d) → IsDeferred x t s k
+  pub deferral : (k : ℕ) → In k (deferred_operations d) → IsDeferred x t s k
   pub started : AreStarted t root (lattice_values_of s)
   pub held : AreHeld t root (lattice_values_of s)
   pub there : AreKnownThere t root s

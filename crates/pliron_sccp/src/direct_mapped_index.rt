@@ -52,11 +52,11 @@ impl DirectMappedIndex {
             first = first.min(listed[n].own_key());
         }
         let numbers = Vec::from_elem(alloc, 0, listed.len().saturating_mul(2))?;
-        let mut guesses = DirectMappedIndex { first, numbers };
+        let mut mapped_keys = DirectMappedIndex { first, numbers };
         for n in 0..listed.len() {
-            guesses.put(listed[n].own_key(), n);
+            mapped_keys.put(listed[n].own_key(), n);
         }
-        Ok(guesses)
+        Ok(mapped_keys)
     }
 
     // The index of the guess for a handle; one behind the last where there is no room for it.

@@ -4,7 +4,7 @@ ghost use Rattle.std.specs.List.{flat_map};
 ghost use Rattle.pliron_core.specs.Tree.{IsLive, IsBlock, IsRegion, In, arguments_of, body_of, layout_of, regions_of, results_of};
 ghost use Rattle.pliron_sccp.specs.Chain.{blocks_inside};
 ghost use Rattle.pliron_sccp.specs.declared.inside.Part.TheVariants.{Block as BlockOf, Operation as OperationOf};
-ghost use Rattle.pliron_sccp.specs.Inside.{IsStanding, blocks_directly_in, defined_by, directly_in, values_in_preorder};
+ghost use Rattle.pliron_sccp.specs.Inside.{IsPartLive, blocks_directly_in, defined_by, directly_in, values_in_preorder};
 ghost use Rattle.pliron_sccp.specs.Starting.{AddsKeys};
 
 use indexmap::IndexSet;
@@ -234,7 +234,7 @@ pub enum Part {
 
 // The values that the block or operation defines more.
 fn add_defined(part: &Part, ctx: &Context, values: &mut IndexSet<Value>) -> Result<(), OptError>
-    requires { IsStanding ctx.now.tree part.now }
+    requires { IsPartLive ctx.now.tree part.now }
     ensures ok { OnOk result (AddsKeys (defined_by ctx.now.tree part.now) values.old.keys values.new.keys) }
     ensures memory { IsOkUnless result OptError.Memory }
 {
@@ -292,7 +292,7 @@ fn stack_contents(
     ctx: &Context,
     stack: &mut Vec<Part>,
 ) -> Result<(), OptError>
-    requires { IsStanding ctx.now.tree part.now }
+    requires { IsPartLive ctx.now.tree part.now }
     ensures ok { OnOk result (stack.new.items ≡ stack.old.items ++ reverse (directly_in ctx.now.tree part.now)) }
     ensures memory { IsOkUnless result OptError.Memory }
 {
@@ -307,7 +307,7 @@ fn stack_contents(
 // Whether the block or operation is an operation without regions, so that nothing is inside it.
 #[inline(always)]
 fn is_leaf(part: &Part, ctx: &Context) -> bool
-    requires { IsStanding ctx.now.tree part.now }
+    requires { IsPartLive ctx.now.tree part.now }
     ensures { IsTrue result → directly_in ctx.now.tree part.now ≡ [] }
 {
     match part {
@@ -324,7 +324,7 @@ fn stack_inner(
     ctx: &Context,
     stack: &mut Vec<Part>,
 ) -> Result<(), OptError>
-    requires { IsStanding ctx.now.tree part.now }
+    requires { IsPartLive ctx.now.tree part.now }
     ensures ok { OnOk result (stack.new.items ≡ stack.old.items ++ reverse (directly_in ctx.now.tree part.now)) }
     ensures memory { IsOkUnless result OptError.Memory }
 {

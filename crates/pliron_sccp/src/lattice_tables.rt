@@ -67,8 +67,8 @@ pub struct Tables {
     visit_stamps: Vec<u64>,
     lowered_stamps: Vec<u64>,
     ghost marked: { length marks.items ≡ length blocks.keys },
-    ghost told: { length cells.items ≡ length values.keys },
-    ghost fallen: { length values_on_worklist.items ≡ length values.keys },
+    ghost reported: { length cells.items ≡ length values.keys },
+    ghost queued: { length values_on_worklist.items ≡ length values.keys },
     ghost block_numbers: { (n b : ℕ) → slice_get blocks.keys n ≡ Some b → index_of nat_eq blocks b ≡ Some n },
     ghost value_numbers: { (n v : ℕ) → slice_get values.keys n ≡ Some v → index_of nat_eq values v ≡ Some n },
     ghost blocks_wait: { (n : ℕ) → list_any (nat_eq n) block_worklist.items ≡ is_waiting
@@ -82,7 +82,7 @@ pub struct Tables {
     ghost values_few: { length values.keys < 2 ^ 63 },
     ghost known: { (n k : ℕ) → slice_get cells.items n ≡ Some (Known k) → k < length constants.items },
     ghost constants_room: { length constants.items + unknown_count cells.items ≤ vec_capacity constants },
-    ghost looked: { length visit_stamps.items ≡ length values.keys },
+    ghost was_visited: { length visit_stamps.items ≡ length values.keys },
     ghost stamped: { length lowered_stamps.items ≡ length values.keys },
     ghost past: { (n : ℕ) → stamp_at visit_stamps.items (Some n) ≤ clock },
 }

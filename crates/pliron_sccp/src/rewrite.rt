@@ -12,7 +12,7 @@ ghost use Rattle.pliron_theory.specs.Following.{Follows};
 ghost use Rattle.pliron_theory.specs.Rewrites.{ReplacesArgument};
 ghost use Rattle.pliron_sccp.specs.LatticeTables.{lattice_values_of};
 ghost use Rattle.pliron_sccp.specs.Listed.{is_folding, AddsFold, AreFolds, AddsKnown, AreArguments};
-ghost use Rattle.pliron_sccp.specs.RewriteSteps.{IsFoldStep, AreFoldSteps, ReportsCreated, IsArgumentStep, AreArgumentSteps, StandForEach, IsFound};
+ghost use Rattle.pliron_sccp.specs.RewriteSteps.{IsFoldStep, AreFoldSteps, ReportsCreated, IsArgumentStep, AreArgumentSteps, AreKnownArguments, IsFound};
 ghost use Rattle.pliron_sccp.specs.Chain.{FoldsInTurn, FoldsPartly, KnownArgument, all_put, IsPartlyPut, IsRewritten, IsPartlyRewritten, known_arguments};
 
 use crate::constraints::{add_known, known_constant};
@@ -201,7 +201,7 @@ pub fn fold_one<D: Dialect, R: Rewriter + Room>(
     ensures ok { IfOk result (λ status. D.ConstFoldInterface.outcome ctx.old.tree ctx.new.tree op known.now
         (Some status)) }
     ensures refused { OnErr result (D.ConstFoldInterface.outcome ctx.old.tree ctx.new.tree op known.now None) }
-    ensures told { IfOk result (λ status. ReportsCreated status ctx.old.tree ctx.new.tree) }
+    ensures reported { IfOk result (λ status. ReportsCreated status ctx.old.tree ctx.new.tree) }
     ensures stays { (k : ℕ) → IsLive ctx.old.tree k → IsLive ctx.new.tree k }
     ensures memory { IsOkUnless result OptError.Memory }
     ensures follows { (t₀ : Tree) (root : ℕ) (f₀ : LatticeValues) → IsFoldStep ⟦<D as HasFolding>⟧.folding t₀ root f₀
@@ -235,7 +235,7 @@ pub fn fold_all<D: Dialect, R: Rewriter + Room>(
         → AreFoldSteps ⟦<D as HasFolding>⟧.folding t₀ root f₀ ctx.old.tree folds.now
         → FoldsPartly D.ConstFoldInterface.outcome t₀ f₀ (map (λ fold. fold.op) folds.now.rows.items) ctx.old.tree
         ctx.new.tree) }
-    ensures told { IfOk result (λ status. ReportsCreated status ctx.old.tree ctx.new.tree) }
+    ensures reported { IfOk result (λ status. ReportsCreated status ctx.old.tree ctx.new.tree) }
     ensures stays { (k : ℕ) → IsLive ctx.old.tree k → IsLive ctx.new.tree k }
     ensures memory { IsOkUnless result OptError.Memory }
     ensures follows { (t₀ : Tree) (root : ℕ) (f₀ : LatticeValues) → AreFoldSteps ⟦<D as HasFolding>⟧.folding t₀ root f₀
@@ -267,7 +267,7 @@ pub fn put_argument<D: Dialect, R: Rewriter + Room>(
     ensures ok { IfOk result (λ status. ReplacesArgument D.accepts D.constant_head argument.now.attr argument.now.block
         argument.now.index ctx.old.tree ctx.new.tree status) }
     ensures refused { OnErr result (IsSameTree ctx.old.tree ctx.new.tree) }
-    ensures told { IfOk result (λ status. ReportsCreated status ctx.old.tree ctx.new.tree) }
+    ensures reported { IfOk result (λ status. ReportsCreated status ctx.old.tree ctx.new.tree) }
     ensures stays { (k : ℕ) → IsLive ctx.old.tree k → IsLive ctx.new.tree k }
     ensures memory { IsOkUnless result OptError.Memory }
     ensures follows { (t₀ : Tree) (root : ℕ) (f₀ : LatticeValues) → IsArgumentStep ⟦<D as HasFolding>⟧.folding t₀ root
@@ -300,11 +300,13 @@ pub fn put_all<D: Dialect, R: Rewriter + Room>(
         root f₀ ctx.old.tree arguments.now }
     ensures puts { OnOk result ((t₀ : Tree) (root : ℕ) (f₀ : LatticeValues) → AreArgumentSteps
         ⟦<D as HasFolding>⟧.folding t₀ root f₀ ctx.old.tree arguments.now → (known : List KnownArgument)
-        → StandForEach t₀ arguments.now known → ctx.new.tree ≡ all_put D.accepts D.constant_head known ctx.old.tree) }
+        → AreKnownArguments t₀ arguments.now known → ctx.new.tree
+        ≡ all_put D.accepts D.constant_head known ctx.old.tree) }
     ensures refused { OnErr result ((t₀ : Tree) (root : ℕ) (f₀ : LatticeValues) → AreArgumentSteps
         ⟦<D as HasFolding>⟧.folding t₀ root f₀ ctx.old.tree arguments.now → (known : List KnownArgument)
-        → StandForEach t₀ arguments.now known → IsPartlyPut D.accepts D.constant_head known ctx.old.tree ctx.new.tree) }
-    ensures told { IfOk result (λ status. ReportsCreated status ctx.old.tree ctx.new.tree) }
+        → AreKnownArguments t₀ arguments.now known → IsPartlyPut D.accepts D.constant_head known ctx.old.tree
+        ctx.new.tree) }
+    ensures reported { IfOk result (λ status. ReportsCreated status ctx.old.tree ctx.new.tree) }
     ensures stays { (k : ℕ) → IsLive ctx.old.tree k → IsLive ctx.new.tree k }
     ensures memory { IsOkUnless result OptError.Memory }
     ensures follows { (t₀ : Tree) (root : ℕ) (f₀ : LatticeValues) → AreArgumentSteps ⟦<D as HasFolding>⟧.folding t₀ root
@@ -335,7 +337,7 @@ pub fn rewrite<D: Dialect, R: Rewriter + Room>(
     ensures refused { OnErr result ((root : ℕ) (f : LatticeValues) → IsFound ⟦<D as HasFolding>⟧.folding D.can_fold
         ctx.old.tree root f found.now → IsPartlyRewritten D.can_fold D.accepts D.constant_head
         D.ConstFoldInterface.outcome ctx.old.tree root f ctx.new.tree) }
-    ensures told { IfOk result (λ status. ReportsChange (Some status) ctx.old.tree ctx.new.tree) }
+    ensures reported { IfOk result (λ status. ReportsChange (Some status) ctx.old.tree ctx.new.tree) }
     ensures memory { IsOkUnless result OptError.Memory }
     ensures follows { (root : ℕ) (f : LatticeValues) → IsFound ⟦<D as HasFolding>⟧.folding D.can_fold ctx.old.tree root
         f found.now → Follows ⟦<D as HasFolding>⟧.folding ctx.old.tree root f ctx.new.tree }

@@ -424,8 +424,8 @@ fn visit_deferred<D: Dialect>(
     requires placed { (k : ℕ) → In k (deferred_operations delays.old) → WasVisited ctx.now.tree tables.old k }
     requires targets { AreTargetsNumbered ctx.now.tree tables.old }
     requires entered { AreEntriesExecutable ctx.now.tree (lattice_values_of tables.old) scratch.old.entered }
-    ensures ok { IfOk result (λ looked. VisitsDeferred ⟦<D as HasFolding>⟧.folding ctx.now.tree tables.old tables.new
-        delays.old delays.new edges.old edges.new looked) }
+    ensures ok { IfOk result (λ was_visited. VisitsDeferred ⟦<D as HasFolding>⟧.folding ctx.now.tree tables.old
+        tables.new delays.old delays.new edges.old edges.new was_visited) }
     ensures entered { OnOk result (AreEntriesExecutable ctx.now.tree (lattice_values_of tables.new)
         scratch.new.entered) }
     ensures memory { IsOkUnless result OptError.Memory }

@@ -26,7 +26,7 @@ pub fn read_text<K: Kinds + Word>(
     text: &[u8],
     ctx: &mut Context,
 ) -> Result<Option<Ptr<Operation>>, OptError>
-    ensures stands { IfOk result (λ read. IfSome read (λ root. IsLive ctx.new.tree root)) }
+    ensures liveness { IfOk result (λ read. IfSome read (λ root. IsLive ctx.new.tree root)) }
     ensures linked { IfOk result (λ read. IfSome read (λ root. IsWellLinked (meaning_by (role_at K.tables)) ctx.new.tree
         root)) }
     ensures memory { IsOkUnless result OptError.Memory }

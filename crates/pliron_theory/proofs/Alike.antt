@@ -35,20 +35,20 @@ shape_same m t t' o entries targets =
 
 -- the environments are the same but at values that are gone
 abbrev pub SameBut : (ℕ → Bool) → Environment → Environment → Type 0
-SameBut gone env env' = (v : ℕ) → gone v ≡ false → env v ≡ env' v
+SameBut deleted env env' = (v : ℕ) → deleted v ≡ false → env v ≡ env' v
 
-module _ (gone : ℕ → Bool) where
-  pub bound_same : (env env' : Environment) → SameBut gone env env' → (v : ℕ) (d : Datum) → SameBut gone (environment_with env v d) (environment_with env' v d)
+module _ (deleted : ℕ → Bool) where
+  pub bound_same : (env env' : Environment) → SameBut deleted env env' → (v : ℕ) (d : Datum) → SameBut deleted (environment_with env v d) (environment_with env' v d)
   unfolding environment_with
   bound_same env env' e v d w g = ap (λ o. if nat_eq w v then Some d else o) (e w g)
 
-  pub bind_same : (vs : List ℕ) (env env' : Environment) (ds : List Datum) → SameBut gone env env' → EnvsTied (SameBut gone) (bind env vs ds) (bind env' vs ds)
+  pub bind_same : (vs : List ℕ) (env env' : Environment) (ds : List Datum) → SameBut deleted env env' → EnvsTied (SameBut deleted) (bind env vs ds) (bind env' vs ds)
   bind_same [] env env' [] e = e
   bind_same [] env env' (d ∷ ds) e = tt
   bind_same (v ∷ vs) env env' [] e = tt
   bind_same (v ∷ vs) env env' (d ∷ ds) e = bind_same vs _ _ ds (bound_same env env' e v d)
 
-  pub data_same : (env env' : Environment) → SameBut gone env env' → (vs : List ℕ) → ((v : ℕ) → In v vs → gone v ≡ false) → data_of env vs ≡ data_of env' vs
+  pub data_same : (env env' : Environment) → SameBut deleted env env' → (vs : List ℕ) → ((v : ℕ) → In v vs → deleted v ≡ false) → data_of env vs ≡ data_of env' vs
   data_same env env' e [] a = refl
   data_same env env' e (v ∷ vs) a = ap₂ prepend_optional (e v (a v (inl refl))) (data_same env env' e vs (λ w i. a w (inr i)))
 

@@ -1,7 +1,7 @@
 -- A result that folding answers with no operand known is read as that constant.
 use Rattle.std.proofs.Common.{◌≡◌, inl, inr, ⊎_elim, ℕ, Bool, List, [], ◌∷◌, length, Option, Some, None, slice_get, refl, sym, ap, ◌∙◌, subst, IsTrue, if◌then◌else◌, nat_eq}
 use Rattle.std.specs.Prelude.{replicate}
-use Rattle.std.proofs.lemmas.Bool.Decides.{eqb_tells}
+use Rattle.std.proofs.lemmas.Bool.Decides.{eqb_decides}
 use Rattle.pliron_core.specs.declared.attrs.AttrObj.{AttrObj}
 use Rattle.pliron_core.specs.declared.context.Def.TheVariants.{Result, Argument}
 use Rattle.pliron_core.specs.Tree.{Tree, In, results_of, arguments_of, definition_of}
@@ -24,16 +24,16 @@ abbrev pub only_fact : ℕ → AttrObj → ℕ → Option AttrObj
 only_fact v c x = if nat_eq x v then Some c else None
 
 pub fact_here : (v : ℕ) (c : AttrObj) → only_fact v c v ≡ Some c
-fact_here v c = ⊎_elim (λ y. ap (λ b. if b then Some c else None) y.0) (λ n. absurd (n.1 refl)) (eqb_tells v v)
+fact_here v c = ⊎_elim (λ y. ap (λ b. if b then Some c else None) y.0) (λ n. absurd (n.1 refl)) (eqb_decides v v)
 
 pub fact_there : (v : ℕ) (c : AttrObj) (x : ℕ) (d : AttrObj) → only_fact v c x ≡ Some d → (x ≡ v) × (c ≡ d)
 fact_there v c x d e = ⊎_elim
     (λ y. (y.1, some_is (ap (λ b. if b then Some c else None) (sym y.0) ∙ e)))
     (λ n. absurd (not_none (ap (λ b. if b then Some c else None) (sym n.0) ∙ e)))
-    (eqb_tells x v)
+    (eqb_decides x v)
 
 no_fact : (v : ℕ) (c : AttrObj) (x : ℕ) → (x ≡ v → ⊥) → only_fact v c x ≡ None
-no_fact v c x ne = ⊎_elim (λ y. absurd (ne y.1)) (λ n. ap (λ b. if b then Some c else None) n.0) (eqb_tells x v)
+no_fact v c x ne = ⊎_elim (λ y. absurd (ne y.1)) (λ n. ap (λ b. if b then Some c else None) n.0) (eqb_decides x v)
 
 -- folds are handed nothing
 abbrev nothing : LatticeValues
@@ -48,7 +48,7 @@ module _ (x : Says) (t : Tree) (root v : ℕ) (c : AttrObj) (w : IsTree t) (h : 
   read y = fact_of (only_fact v c y)
 
   made : definition_of t v ≡ Some (Result h.maker h.index)
-  made = w.joined.results h.maker h.index v (ap (λ l. slice_get l h.index) (op_shows t h.maker h.operation h.stands).results ∙ h.result)
+  made = w.joined.results h.maker h.index v (ap (λ l. slice_get l h.index) (op_shows t h.maker h.operation h.liveness).results ∙ h.result)
 
   -- nothing is said of an argument, since the one value is a result
   argument : (b y : ℕ) → In y (arguments_of t b) → read y ≡ fact_of None
@@ -71,7 +71,7 @@ module _ (x : Says) (t : Tree) (root v : ℕ) (c : AttrObj) (w : IsTree t) (h : 
       by (Some d) is =
           let same = fact_there v c y d is in
           let z = only_maker k i (ap (λ l. slice_get l i) (op_shows t k o e).results ∙ at ∙ ap Some same.0) in
-          let one : h.operation ≡ o = some_is (sym h.stands ∙ ap (op_at t) (sym z.0) ∙ e) in
+          let one : h.operation ≡ o = some_is (sym h.liveness ∙ ap (op_at t) (sym z.0) ∙ e) in
           let none : slice_get (answers_of x t nothing h.operation) h.index ≡ Some (Some c) = ap (λ known. slice_get (x.constants (shape_of x.meaning t h.operation) known) h.index) (handed_nothing h.operation.operands) ∙ h.answers in
           let said : slice_get (answers_of x t nothing o) i ≡ Some (Some c) = subst (λ p. slice_get (answers_of x t nothing p) i ≡ Some (Some c)) one (ap (slice_get (answers_of x t nothing h.operation)) z.1 ∙ none) in
           inr (inl (subst (λ p. IsTrue (x.can_fold p.head)) one h.folds, λ a there. inr (inr (ap fact_of (is ∙ ap Some (sym same.1) ∙ some_is (sym said ∙ there))))))

@@ -8,9 +8,9 @@ use Rattle.pliron_core.specs.Invariant.{IsTree}
 use Rattle.pliron_core.proofs.HoldingLemmas.{some_is, in_slice, not_itself}
 use Rattle.pliron_laws.specs.Datum.{Datum, Empty, datum_of, Head, Meaning, Move, Give, Visit, Goto, Leave, Emit, Trap}
 use Rattle.pliron_laws.specs.Tree.{Operation, Block, op_at, block_at, entry_block, shape_of}
-use Rattle.pliron_laws.specs.States.{Environment, Waiting, State, Next, Goes, Over, bind, data_of, input_of}
+use Rattle.pliron_laws.specs.States.{Environment, Waiting, State, Next, Continues, Over, bind, data_of, input_of}
 use Rattle.pliron_laws.specs.Machine.{leave, after_giving, begin, enter, entry_in, go_to, emit, perform, move, turn, step_at, step, start}
-use Rattle.pliron_laws.specs.Acting.{Comes, Begins, Answered, Told, Known}
+use Rattle.pliron_laws.specs.Acting.{Comes, Begins, Answered, AnsweredByWorld, Known}
 use Rattle.pliron_laws.specs.Folding.{Constants, AnswersTrue}
 use Rattle.pliron_theory.specs.Keeps.{IsFit}
 use Rattle.pliron_theory.specs.Renaming.{RunReaches, IsReadAs}
@@ -25,12 +25,12 @@ use Rattle.pliron_theory.proofs.Refolded.{known_read}
 use Rattle.pliron_theory.proofs.Answered.{only_fact, fact_here, fact_there}
 
 both_go : (P Q : State → Type 0) (n : Next) → IfGoes n P → IfGoes n Q → IfGoes n (λ s. P s × Q s)
-both_go P Q (Goes s) p q = (p, q)
+both_go P Q (Continues s) p q = (p, q)
 both_go P Q (Over x) p q = tt
 
-module _ (m : Meaning) (can_fold : Head → Bool) (constants : Constants) (answers : AnswersTrue m can_fold constants) (t : Tree) (root op : ℕ) (known : List (Option AttrObj)) (w : IsTree t) (f : IsFit m t root) (o : Operation) (stands : op_at t op ≡ Some o) (folds : IsTrue (can_fold o.head)) (entries : length known ≡ length (operands_of t op)) (reads : (j v : ℕ) (c : AttrObj) → slice_get (operands_of t op) j ≡ Some v → slice_get known j ≡ Some (Some c) → IsReadAs m t v (datum_of c) root) (i v : ℕ) (c : AttrObj) (listed : slice_get o.results i ≡ Some v) (said : slice_get (constants (shape_of m t o) known) i ≡ Some (Some c)) where
+module _ (m : Meaning) (can_fold : Head → Bool) (constants : Constants) (answers : AnswersTrue m can_fold constants) (t : Tree) (root op : ℕ) (known : List (Option AttrObj)) (w : IsTree t) (f : IsFit m t root) (o : Operation) (liveness : op_at t op ≡ Some o) (folds : IsTrue (can_fold o.head)) (entries : length known ≡ length (operands_of t op)) (reads : (j v : ℕ) (c : AttrObj) → slice_get (operands_of t op) j ≡ Some v → slice_get known j ≡ Some (Some c) → IsReadAs m t v (datum_of c) root) (i v : ℕ) (c : AttrObj) (listed : slice_get o.results i ≡ Some v) (said : slice_get (constants (shape_of m t o) known) i ≡ Some (Some c)) where
   made : definition_of t v ≡ Some (Result op i)
-  made = w.joined.results op i v (ap (λ l. slice_get l i) (op_shows t op o stands).results ∙ listed)
+  made = w.joined.results op i v (ap (λ l. slice_get l i) (op_shows t op o liveness).results ∙ listed)
 
   only_maker : (k j : ℕ) → slice_get (results_of t k) j ≡ Some v → (k ≡ op) × (j ≡ i)
   only_maker k j x = let e : Result k j ≡ Result op i = some_is (sym (w.joined.results k j v x) ∙ made) in (cc, cc)
@@ -72,13 +72,13 @@ module _ (m : Meaning) (can_fold : Head → Bool) (constants : Constants) (answe
     begin_holds : (s : State) → Confirms (only_fact v c) s.environment → (ws : List Waiting) → AllMind ws → (key : ℕ) (b : Block) → block_at t key ≡ Some b → (ds : List Datum) (y : Option Environment) → bind s.environment b.arguments ds ≡ y → IfGoes (begin s b.operations ws y) Holds
     begin_holds s a ws waits key b be ds None e = tt
     begin_holds s a ws waits key b be ds (Some env1) e = record {
-      always = bind_confirms (only_fact v c) b.arguments ds s.environment env1 told e a;
+      always = bind_confirms (only_fact v c) b.arguments ds s.environment env1 reported e a;
       mind = fresh b.operations;
       waits = waits;
     }
       where
-        told : (j x : ℕ) (a : AttrObj) (d : Datum) → slice_get b.arguments j ≡ Some x → only_fact v c x ≡ Some a → slice_get ds j ≡ Some d → datum_of a ≡ d
-        told j x a d at is there =
+        reported : (j x : ℕ) (a : AttrObj) (d : Datum) → slice_get b.arguments j ≡ Some x → only_fact v c x ≡ Some a → slice_get ds j ≡ Some d → datum_of a ≡ d
+        reported j x a d at is there =
             let y = fact_there v c x a is in
             absurd (not_argument key j (ap (λ l. slice_get l j) (block_shows t key b be).arguments ∙ at ∙ ap Some y.0))
 
@@ -97,12 +97,12 @@ module _ (m : Meaning) (can_fold : Head → Bool) (constants : Constants) (answe
       where
         go : (z : Option Block) → entry_block t r ≡ z → IfGoes (enter s z ds ws) Holds
         go None e = tt
-        go (Some z) e = let y = entry_shows t r z e in begin_holds s a ws waits y.key z y.stands ds _ refl
+        go (Some z) e = let y = entry_shows t r z e in begin_holds s a ws waits y.key z y.liveness ds _ refl
 
     -- the operation o' at k moves
     module _ (s : State) (r : RunReaches m t root s) (g : Holds s) (k : ℕ) (rest : List ℕ) (at : s.rest ≡ k ∷ rest) (o' : Operation) (here : op_at t k ≡ Some o') (input : List Datum) (has : input_of s.environment o'.operands s.answer ≡ Some input) where
       same : k ≡ op → o' ≡ o
-      same e = some_is (sym here ∙ ap (op_at t) e ∙ stands)
+      same e = some_is (sym here ∙ ap (op_at t) e ∙ liveness)
 
       minds : k ≡ op → Minds s.memo input
       minds e = go s.answer refl (subst (λ z. Mind z s.memo s.answer) at g.mind)
@@ -111,7 +111,7 @@ module _ (m : Meaning) (can_fold : Head → Bool) (constants : Constants) (answe
           go (Some y) q mind = subst (Minds s.memo) (some_is (ap (input_of s.environment o'.operands) (sym q) ∙ has)) (mind e)
           go None q mind =
               let has_data : data_of s.environment o'.operands ≡ Some input = ap (input_of s.environment o'.operands) (sym q) ∙ has in
-              let listed_o : operands_of t op ≡ o'.operands = (op_shows t op o stands).operands ∙ ap (λ z. z.operands) (sym (same e)) in
+              let listed_o : operands_of t op ≡ o'.operands = (op_shows t op o liveness).operands ∙ ap (λ z. z.operands) (sym (same e)) in
               record {
                 first = input;
                 counted = data_long s.environment o'.operands input has_data ∙ ap (λ z. length z.operands) (same e);
@@ -127,18 +127,18 @@ module _ (m : Meaning) (can_fold : Head → Bool) (constants : Constants) (answe
       gives_holds ds acts ws waits None e = tt
       gives_holds ds acts [] waits (Some env1) e = tt
       gives_holds ds acts (x ∷ ws) waits (Some env1) e = record {
-        always = bind_confirms (only_fact v c) o'.results ds s.environment env1 told e g.always;
+        always = bind_confirms (only_fact v c) o'.results ds s.environment env1 reported e g.always;
         mind = fresh rest;
         waits = waits;
       }
         where
-          told : (j x : ℕ) (a : AttrObj) (d : Datum) → slice_get o'.results j ≡ Some x → only_fact v c x ≡ Some a → slice_get ds j ≡ Some d → datum_of a ≡ d
-          told j x a d placed is there =
+          reported : (j x : ℕ) (a : AttrObj) (d : Datum) → slice_get o'.results j ≡ Some x → only_fact v c x ≡ Some a → slice_get ds j ≡ Some d → datum_of a ≡ d
+          reported j x a d placed is there =
               let y = fact_there v c x a is in
               let z = only_maker k j (ap (λ l. slice_get l j) (op_shows t k o' here).results ∙ placed ∙ ap Some y.0) in
               let q = minds z.0 in
               let acts_o : m.act (shape_of m t o) s.memo input ≡ Give ds = ap (λ p. m.act (shape_of m t p) s.memo input) (sym (same z.0)) ∙ acts in
-              let ad = admitted_shape m t op o stands (f.linked.admitted op (inr inside)) in
+              let ad = admitted_shape m t op o liveness (f.linked.admitted op (inr inside)) in
               let k_ds = answers.gives (shape_of m t o) ad folds known q.first q.counted q.knows q.later s.memo input ds q.comes acts_o in
               known_data_at (constants (shape_of m t o) known) ds k_ds i a d (said ∙ ap (λ p. Some (Some p)) y.1) (ap (slice_get ds) (sym z.1) ∙ there)
 
@@ -148,7 +148,7 @@ module _ (m : Meaning) (can_fold : Head → Bool) (constants : Constants) (answe
         always = g.always;
         mind = subst (λ z. Mind z next (Some (d ∷ []))) (sym at) (λ e.
             let q = minds e in
-            record { first = q.first; counted = q.counted; knows = q.knows; later = true; comes = Told x next d q.comes (ap (λ p. m.act (shape_of m t p) s.memo input) (sym (same e)) ∙ acts) });
+            record { first = q.first; counted = q.counted; knows = q.knows; later = true; comes = AnsweredByWorld x next d q.comes (ap (λ p. m.act (shape_of m t p) s.memo input) (sym (same e)) ∙ acts) });
         waits = g.waits;
       }
 

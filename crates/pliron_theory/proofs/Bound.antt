@@ -1,7 +1,7 @@
 -- In a well-defined root each operand has a datum when it is read.
 use Rattle.std.proofs.Common.{◌≡◌, ◌≢◌, ◌⊎◌, inl, inr, ⊎_elim, ℕ, List, [], ◌∷◌, ◌++◌, Option, Some, None, IsSome, refl, sym, ap, ap₂, ◌∙◌, subst, arith, slice_get, if◌then◌else◌, append_assoc}
 use Rattle.std.proofs.lemmas.Bool.{cases_eq}
-use Rattle.std.proofs.lemmas.Bool.Decides.{eqb_tells}
+use Rattle.std.proofs.lemmas.Bool.Decides.{eqb_decides}
 use Rattle.pliron_core.specs.declared.context.Def.{Def}
 use Rattle.pliron_core.specs.declared.context.Def.TheVariants.{Result, Argument}
 use Rattle.pliron_core.specs.Lists.{In, IsDistinct, first_of, last_of}
@@ -32,14 +32,14 @@ unfolding IsBound environment_with
 bound_more env w d v b = ⊎_elim
     (λ y. (d, ap (λ x. if x then Some d else env v) y.0))
     (λ n. (b.0, ap (λ x. if x then Some d else env v) n.0 ∙ b.1))
-    (eqb_tells v w)
+    (eqb_decides v w)
 
 bound_it : (env : Environment) (w : ℕ) (d : Datum) (v : ℕ) → v ≡ w → IsBound (environment_with env w d) v
 unfolding IsBound environment_with
 bound_it env w d v e = ⊎_elim
     (λ y. (d, ap (λ x. if x then Some d else env v) y.0))
     (λ n. absurd (n.1 e))
-    (eqb_tells v w)
+    (eqb_decides v w)
 
 pub bind_more : (vs : List ℕ) (ds : List Datum) (env env1 : Environment) → bind env vs ds ≡ Some env1 → (v : ℕ) → IsBound env v → IsBound env1 v
 bind_more [] [] env env1 e v b = let f : env ≡ env1 = cc in subst (λ x. IsBound x v) f b
@@ -274,10 +274,10 @@ module _ (t : Tree) (w : IsTree t) (root : ℕ) where
       deeper_trans = λ a b c i j. deeper i j;
       moves_deep = λ env h k rest memo answer p. at_deep env h k rest p.0;
       waits_deep = λ env h k rest memo p. at_deep env h k rest p;
-      gives = λ env env1 h k rest memo answer ds a p x e. (tt, (give env env1 h k rest ds x.operation x.stands e p.0, tt), more env env1 x.operation.results ds e);
-      goes = λ env env1 h k rest memo answer i ds c b a p x ce be e. (tt, (go env env1 h k rest i ds c b x.operation x.stands ce be e p.0, tt), more env env1 b.arguments ds e);
-      visits = λ env env1 h k rest memo answer i ds next r b a p x re be e. (tt, (visit env env1 h k rest i ds r b x.operation x.stands re be e p.0, tt), placed_more t root env env1 h (k ∷ rest) (bind_more b.arguments ds env env1 e) p.0, more env env1 b.arguments ds e);
-      tells = λ env h k rest memo answer e next d a p x. (p.0, has_some h (d ∷ []));
+      gives = λ env env1 h k rest memo answer ds a p x e. (tt, (give env env1 h k rest ds x.operation x.liveness e p.0, tt), more env env1 x.operation.results ds e);
+      goes = λ env env1 h k rest memo answer i ds c b a p x ce be e. (tt, (go env env1 h k rest i ds c b x.operation x.liveness ce be e p.0, tt), more env env1 b.arguments ds e);
+      visits = λ env env1 h k rest memo answer i ds next r b a p x re be e. (tt, (visit env env1 h k rest i ds r b x.operation x.liveness re be e p.0, tt), placed_more t root env env1 h (k ∷ rest) (bind_more b.arguments ds env env1 e) p.0, more env env1 b.arguments ds e);
+      accurate = λ env h k rest memo answer e next d a p x. (p.0, has_some h (d ∷ []));
       resumes = λ env h rest memo ds p. (p, has_some h ds);
     }
       where
@@ -295,7 +295,7 @@ module _ (t : Tree) (w : IsTree t) (root : ℕ) where
         visit : (env env1 : Environment) (h : Option ℕ) (k : ℕ) (rest : List ℕ) (i : ℕ) (ds : List Datum) (r : ℕ) (b : Block) (o : Operation) → op_at t k ≡ Some o → slice_get o.regions i ≡ Some r → entry_block t r ≡ Some b → bind env b.arguments ds ≡ Some env1 → IsAt t root env h (k ∷ rest) → IsPlaced t root env1 k b.operations
         visit env env1 h k rest i ds r b o oe re be e p =
             let x = entry_shows t r b be in
-            let s = block_shows t x.key b x.stands in
+            let s = block_shows t x.key b x.liveness in
             let held : region_parent_of t r ≡ Some k = ap op_of_slot (w.joined.regions k i r (ap (λ l. slice_get l i) (op_shows t k o oe).regions ∙ re)) in
             subst (IsPlaced t root env1 k) s.operations (visited env env1 k r x.key ds (at_within env h k rest p) held x.entry (ap (λ vs. bind env vs ds) s.arguments ∙ e))
 

@@ -15,14 +15,14 @@ use Rattle.pliron_theory.proofs.SweptKeeps.{same_keeps}
 use Rattle.pliron_theory.specs.Change.{IsPassChange, IsWholeChange}
 
 pub change_refl : (m : Meaning) (t : Tree) (op : ℕ) → IsLive t op → IsWellLinked m t op → IsPassChange m t t op
-change_refl m t op live linked = record { stands = live; linked = linked; inside = inside_refl t op; runs = keeps_refl m t }
+change_refl m t op live linked = record { liveness = live; linked = linked; inside = inside_refl t op; runs = keeps_refl m t }
 
 pub whole_passes : (m : Meaning) (t u : Tree) (op : ℕ) → IsWholeChange m t u op → IsPassChange m t u op
-whole_passes m t u op c = record { stands = c.stands; linked = c.linked; inside = c.inside; runs = c.runs m.may_be_root }
+whole_passes m t u op c = record { liveness = c.liveness; linked = c.linked; inside = c.inside; runs = c.runs m.may_be_root }
 
 pub change_trans : (m : Meaning) (t u v : Tree) (op : ℕ) → IsPassChange m t u op → IsPassChange m u v op → IsPassChange m t v op
 change_trans m t u v op a b = record {
-  stands = b.stands;
+  liveness = b.liveness;
   linked = b.linked;
   inside = inside_trans t u v op a.inside b.inside;
   runs = keeps_trans m t u v a.runs b.runs;
@@ -31,7 +31,7 @@ change_trans m t u v op a b = record {
 -- erased handles are nothing to it
 pub same_passes : (m : Meaning) (t u : Tree) (op : ℕ) → IsTree t → IsTree u → IsSameTree t u → length t.operations ≤ length u.operations → IsLive t op → IsWellLinked m t op → IsPassChange m t u op
 same_passes m t u op wt wu s longer live linked = record {
-  stands = (same_live t u wt.joined wu.joined s op).0 live;
+  liveness = (same_live t u wt.joined wu.joined s op).0 live;
   linked = linked_same m t u op wt wu s linked;
   inside = same_change t u op wt.joined wu.joined s;
   runs = same_keeps m t u wt wu s longer;
@@ -71,10 +71,10 @@ module _ (m : Meaning) (t u : Tree) (op : ℕ) (wt : IsTree t) (wu : IsTree u) (
   user_live k s i = not_dead (head_of u k) refl
     where
       not_dead : (o : Option Head) → head_of u k ≡ o → IsLive u k
-      not_dead None e = let none = (wu.joined.erased k e).1 in absurd (gone (subst (In s) none i))
+      not_dead None e = let none = (wu.joined.erased k e).1 in absurd (deleted (subst (In s) none i))
         where
-          gone : In s [] → ⊥
-          gone j = elim j [ ]
+          deleted : In s [] → ⊥
+          deleted j = elim j [ ]
       not_dead (Some x) e = subst (λ o. IsSome o) (sym e) refl
 
   ends_still : (k : ℕ) → IsOutside t op k → EndsBlock t k → EndsBlock u k
@@ -124,7 +124,7 @@ module _ (m : Meaning) (t u : Tree) (op : ℕ) (wt : IsTree t) (wu : IsTree u) (
 -- what a pass does on an operation that op holds, seen from op
 pub change_widen : (m : Meaning) (t u : Tree) (op b : ℕ) → IsTree t → IsTree u → parent_operation_of t b ≡ Some op → IsWellLinked m t op → IsPassChange m t u b → IsPassChange m t u op
 change_widen m t u op b wt wu up linked c = record {
-  stands = holder_stands t u op b wt.joined up c.inside;
+  liveness = holder_stands t u op b wt.joined up c.inside;
   linked = links_stay m t u b wt wu c.inside op (holder_is_outside t op b wt.joined up).0 (holder_stands t u op b wt.joined up c.inside) linked c.linked;
   inside = widen t u op b wt.joined (Directly up) c.inside;
   runs = c.runs;

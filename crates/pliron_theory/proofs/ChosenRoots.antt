@@ -63,8 +63,8 @@ module _ (m : Meaning) (chosen : Head → Bool) where
   folds_branch : (op : ℕ) (known : List (Option AttrObj)) (t t' : Tree) → FoldsBranch m op known t t' → FoldsBranch (with_roots m chosen) op known t t'
   unfolding shape_of
   folds_branch op known t t' (Kept same) = Kept same
-  folds_branch op known t t' (Replaced o head operands successors places edges stands picked r) =
-      Replaced o head operands successors places edges stands picked (record { branch = r.branch; admitted = r.admitted; targets_kept = r.targets_kept; values_kept = r.values_kept; alike = r.alike })
+  folds_branch op known t t' (Replaced o head operands successors places edges liveness picked r) =
+      Replaced o head operands successors places edges liveness picked (record { branch = r.branch; admitted = r.admitted; targets_kept = r.targets_kept; values_kept = r.values_kept; alike = r.alike })
 
   folds_in_place : (constants : Constants) (accepts : AttrObj → Bool) (head : AttrObj → Head) (fold branch_fold : Outcome) → FoldsInPlace m constants accepts head fold branch_fold → FoldsInPlace (with_roots m chosen) constants accepts head fold branch_fold
   unfolding shape_of

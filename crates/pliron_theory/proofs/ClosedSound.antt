@@ -1,7 +1,7 @@
 -- Closed facts are sound on the tree that they are about.
 use Rattle.std.proofs.Common.{◌≡◌, ◌⊎◌, inl, inr, ⊎_elim, ℕ, Bool, true, false, true≢false, if◌then◌else◌, Option, Some, None, slice_get, refl, sym, ap, ◌∙◌, subst, IsTrue}
 use Rattle.std.proofs.lemmas.Bool.{eq-eqb}
-use Rattle.std.proofs.lemmas.Bool.Decides.{eqb_tells}
+use Rattle.std.proofs.lemmas.Bool.Decides.{eqb_decides}
 use Rattle.pliron_core.specs.declared.attrs.AttrObj.{AttrObj}
 use Rattle.pliron_core.specs.declared.context.Def.{Def}
 use Rattle.pliron_core.specs.declared.context.Def.TheVariants.{Result, Argument}
@@ -23,7 +23,7 @@ module _ (x : Says) (t : Tree) (f : LatticeValues) where
     pub operation : Operation
     pub answer : Option AttrObj
     pub made : definition_of t v ≡ Some (Result op index)
-    pub stands : IsInExecutableBlock t f op
+    pub liveness : IsInExecutableBlock t f op
     pub at : op_at t op ≡ Some operation
     pub folds : IsTrue (x.can_fold operation.head)
     pub result : slice_get operation.results index ≡ Some v
@@ -32,7 +32,7 @@ module _ (x : Says) (t : Tree) (f : LatticeValues) where
 
   is_there : (v : ℕ) (o : Option ℕ) → is_it v o ≡ true → o ≡ Some v
   is_there v None e = absurd (true≢false (sym e))
-  is_there v (Some w) e = ⊎_elim (λ y. ap Some (sym y.1)) (λ n. absurd (true≢false (sym e ∙ n.0))) (eqb_tells v w)
+  is_there v (Some w) e = ⊎_elim (λ y. ap Some (sym y.1)) (λ n. absurd (true≢false (sym e ∙ n.0))) (eqb_decides v w)
 
   pub read_cases : (v : ℕ) → IsFold v ⊎ (read_of x t f v ≡ f.lattice_value v)
   unfolding read_of
@@ -40,7 +40,7 @@ module _ (x : Says) (t : Tree) (f : LatticeValues) where
     where
       given : (k i b : ℕ) (o : Operation) → definition_of t v ≡ Some (Result k i) → parent_of t k ≡ Some b → op_at t k ≡ Some o → f.is_executable b ≡ true → x.can_fold o.head ≡ true → is_it v (slice_get o.results i) ≡ true → (a : Option (Option AttrObj)) → slice_get (answers_of x t f o) i ≡ a → read_of x t f v ≡ answer_or a (f.lattice_value v) → IsFold v ⊎ (read_of x t f v ≡ f.lattice_value v)
       given k i b o d p q r c s None e is = inr is
-      given k i b o d p q r c s (Some a) e is = inl (record { op = k; index = i; operation = o; answer = a; made = d; stands = (b, p, r); at = q; folds = c; result = is_there v (slice_get o.results i) s; answers = e; read = is })
+      given k i b o d p q r c s (Some a) e is = inl (record { op = k; index = i; operation = o; answer = a; made = d; liveness = (b, p, r); at = q; folds = c; result = is_there v (slice_get o.results i) s; answers = e; read = is })
 
       tested : (k i b : ℕ) (o : Operation) → definition_of t v ≡ Some (Result k i) → parent_of t k ≡ Some b → op_at t k ≡ Some o → (r c s : Bool) → f.is_executable b ≡ r → x.can_fold o.head ≡ c → is_it v (slice_get o.results i) ≡ s → read_of x t f v ≡ (if both r (both c s) then answer_or (slice_get (answers_of x t f o) i) (f.lattice_value v) else f.lattice_value v) → IsFold v ⊎ (read_of x t f v ≡ f.lattice_value v)
       tested k i b o d p q false c s re ce se is = inr is
@@ -96,13 +96,13 @@ module _ (x : Says) (t : Tree) (root : ℕ) (f : LatticeValues) (w : IsTree t) (
 
   finer : (v : ℕ) → AtMost (f.lattice_value v) (read_of x t f v)
   finer v = ⊎_elim
-      (λ (y : IsFold x t f v). subst (AtMost (f.lattice_value v)) (sym y.read) (closed.folded y.op y.index v y.answer y.operation y.stands y.at y.folds y.result y.answers))
+      (λ (y : IsFold x t f v). subst (AtMost (f.lattice_value v)) (sym y.read) (closed.folded y.op y.index v y.answer y.operation y.liveness y.at y.folds y.result y.answers))
       (λ e. subst (AtMost (f.lattice_value v)) (sym e) (at_most_refl (f.lattice_value v)))
       (read_cases x t f v)
 
   no_results : (k v : ℕ) → (IsInside t root k → ⊥) → In v (results_of t k) → read_of x t f v ≡ NotAConstant
   no_results k v never i = ⊎_elim
-      (λ (y : IsFold x t f v). absurd (never (subst (IsInside t root) (same_op k v i y) (stands_inside y.op y.stands))))
+      (λ (y : IsFold x t f v). absurd (never (subst (IsInside t root) (same_op k v i y) (stands_inside y.op y.liveness))))
       (λ e. e ∙ closed.outside v (λ made. never (subst (IsDefiningOperationInside t root) (made_result k v i).2 made)))
       (read_cases x t f v)
 
@@ -113,8 +113,8 @@ module _ (x : Says) (t : Tree) (root : ℕ) (f : LatticeValues) (w : IsTree t) (
   root_entries r b i e = let y = closed.root_entries r b i e in (y.0, λ v j. read_argument b v j ∙ y.1 v j)
 
   entries : (k i r b : ℕ) (o : Operation) → IsInExecutableBlock t f k → op_at t k ≡ Some o → slice_get o.regions i ≡ Some r → first_of (layout_of t r) None ≡ Some b → IsTrue (f.is_executable b) × AreBelowNamed x t (read_of x t f) (read_of x t f) o i b
-  entries k i r b o stands at there e =
-      let y = closed.entries k i r b o stands at there e in
+  entries k i r b o liveness at there e =
+      let y = closed.entries k i r b o liveness at there e in
       (y.0, λ j v a. below v (in_slice (arguments_of t b) j v a) (x.entry_operands (shape_of x.meaning t o) i j) (y.1 j v a))
     where
       below : (v : ℕ) → In v (arguments_of t b) → (a : Option ℕ) → IsBelowNamed f.lattice_value f.lattice_value o.operands a v → IsBelowNamed (read_of x t f) (read_of x t f) o.operands a v
@@ -122,30 +122,30 @@ module _ (x : Says) (t : Tree) (root : ℕ) (f : LatticeValues) (w : IsTree t) (
       below v i (Some p) q = λ u g. subst (λ z. AtMost z (read_of x t f u)) (sym (read_argument b v i)) (at_most_trans (f.lattice_value v) (f.lattice_value u) (read_of x t f u) (q u g) (finer u))
 
   jumps : (k i b : ℕ) (o : Operation) → IsInExecutableBlock t f k → op_at t k ≡ Some o → IsFeasibleEdge x t f o i b → IsTrue (f.is_executable b) × ((j v : ℕ) → slice_get (arguments_of t b) j ≡ Some v → (read_of x t f v ≡ NotAConstant) ⊎ (IsTrue (x.meaning.is_branch o.head) × ((y : ℕ) → Forwards x t o i j y → AtMost (read_of x t f v) (read_of x t f y))))
-  jumps k i b o stands at go = by _ refl
+  jumps k i b o liveness at go = by _ refl
     where
       by : (c : Bool) → x.meaning.is_branch o.head ≡ c → IsTrue (f.is_executable b) × ((j v : ℕ) → slice_get (arguments_of t b) j ≡ Some v → (read_of x t f v ≡ NotAConstant) ⊎ (IsTrue (x.meaning.is_branch o.head) × ((y : ℕ) → Forwards x t o i j y → AtMost (read_of x t f v) (read_of x t f y))))
       by true e =
-          let y = closed.branches k i b o stands at e go in
+          let y = closed.branches k i b o liveness at e go in
           (y.0, λ j v a. inr (e, λ u p. subst (λ z. AtMost z (read_of x t f u)) (sym (read_argument b v (in_slice (arguments_of t b) j v a))) (at_most_trans (f.lattice_value v) (f.lattice_value u) (read_of x t f u) (y.1 j v u a p) (finer u))))
       by false e =
-          let y = closed.jumps k i b o stands at e go.0 in
+          let y = closed.jumps k i b o liveness at e go.0 in
           (y.0, λ j v a. inl (let i = in_slice (arguments_of t b) j v a in read_argument b v i ∙ y.1 v i))
 
   results : (k i v : ℕ) (o : Operation) → IsInExecutableBlock t f k → op_at t k ≡ Some o → slice_get o.results i ≡ Some v → IsRightResult x t f (read_of x t f) k i v o
-  results k i v o stands at listed = by _ refl
+  results k i v o liveness at listed = by _ refl
     where
       listed_there : slice_get (results_of t k) i ≡ Some v
       listed_there = ap (λ z. slice_get z i) (op_shows t k o at).results ∙ listed
 
       by : (c : Bool) → x.can_fold o.head ≡ c → IsRightResult x t f (read_of x t f) k i v o
-      by true e = inr (inl (e, λ a answers. subst (λ z. AtMost z (value_of_answer a)) (sym (read_fold x t f k i v o a (w.joined.results k i v listed_there) stands at e listed answers)) (at_most_refl (value_of_answer a))))
+      by true e = inr (inl (e, λ a answers. subst (λ z. AtMost z (value_of_answer a)) (sym (read_fold x t f k i v o a (w.joined.results k i v listed_there) liveness at e listed answers)) (at_most_refl (value_of_answer a))))
       by false e = ⊎_elim
           (λ (y : IsFold x t f v).
           let same = same_op k v (in_slice (results_of t k) i v listed_there) y in
           let one : y.operation ≡ o = some_is (sym y.at ∙ ap (op_at t) same ∙ at) in
           absurd (true≢false (sym y.folds ∙ ap (λ z. x.can_fold z.head) one ∙ e)))
-          (λ is. inl (is ∙ closed.others k v o stands at e (in_slice o.results i v listed)))
+          (λ is. inl (is ∙ closed.others k v o liveness at e (in_slice o.results i v listed)))
           (read_cases x t f v)
 
   pub closed_sound : AreSound x t root f (read_of x t f)

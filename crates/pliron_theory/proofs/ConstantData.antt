@@ -47,10 +47,10 @@ module _ (m : Meaning) (t : Tree) (w : IsTree t) (root n v : ℕ) (c : Datum) (g
   -- when it moves it gives
   gives_it : (env : Environment) (k : ℕ) (memo : Datum) (answer : Option (List Datum)) (a : Move) → k ≡ n → (memo ≡ Empty) × (answer ≡ None) → Makes m t env k memo answer a → a ≡ Give (c ∷ [])
   gives_it env k memo answer a s f x =
-      let o = op_shows t k x.operation x.stands in
+      let o = op_shows t k x.operation x.liveness in
       let none : x.operation.operands ≡ [] = sym o.operands ∙ ap (operands_of t) s ∙ g.operands in
       let input : [] ≡ x.input = some_is (sym (ap (input_of env x.operation.operands) f.1 ∙ ap (data_of env) none) ∙ x.reads) in
-      sym x.acts ∙ ap₂ (λ p q. m.act (shape_of m t x.operation) p q) f.0 (sym input) ∙ g.gives x.operation (ap (op_at t) (sym s) ∙ x.stands)
+      sym x.acts ∙ ap₂ (λ p q. m.act (shape_of m t x.operation) p q) f.0 (sym input) ∙ g.gives x.operation (ap (op_at t) (sym s) ∙ x.liveness)
 
   not_argument : (b : ℕ) → In v (arguments_of t b) → ⊥
   not_argument b i = let j = slice_in (arguments_of t b) v i in let f : Some (Result n 0) ≡ Some (Argument b j.0) = sym made ∙ w.joined.arguments b j.0 v j.1 in absurd (cc)
@@ -89,7 +89,7 @@ module _ (m : Meaning) (t : Tree) (w : IsTree t) (root n v : ℕ) (c : Datum) (g
     moves_deep = λ env h k rest memo answer p. tt;
     waits_deep = λ env h k rest memo p. tt;
     gives = λ env env1 h k rest memo answer ds a p x e. (
-      given_only env env1 k ds (λ s. give_same ds (gives_it env k memo answer (Give ds) s (p rest (ap (λ z. z ∷ rest) s)) x)) (ap (λ vs. bind env vs ds) (op_shows t k x.operation x.stands).results ∙ e) a,
+      given_only env env1 k ds (λ s. give_same ds (gives_it env k memo answer (Give ds) s (p rest (ap (λ z. z ∷ rest) s)) x)) (ap (λ vs. bind env vs ds) (op_shows t k x.operation x.liveness).results ∙ e) a,
       λ others f. (refl, refl),
       λ h j r y d z. z,
     );
@@ -101,14 +101,14 @@ module _ (m : Meaning) (t : Tree) (w : IsTree t) (root n v : ℕ) (c : Datum) (g
       λ others f. let s = head_is k rest others f in not_visit i ds next (gives_it env k memo answer (Visit i ds next) s (p others f) x),
       λ h j r y d z. z,
     );
-    tells = λ env h k rest memo answer x next d a p y. λ others f. absurd (not_emit x next (gives_it env k memo answer (Emit x next) (head_is k rest others f) (p others f) y));
+    accurate = λ env h k rest memo answer x next d a p y. λ others f. absurd (not_emit x next (gives_it env k memo answer (Emit x next) (head_is k rest others f) (p others f) y));
     resumes = λ env h rest memo ds p. λ others f. absurd (p others f);
   }
     where
       visited : (env env1 : Environment) (r : ℕ) (b : Block) (ds : List Datum) → entry_block t r ≡ Some b → bind env b.arguments ds ≡ Some env1 → IsOnly v c env → IsOnly v c env1
       visited env env1 r b ds be e only =
           let x = entry_shows t r b be in
-          entered_only env env1 x.key ds (ap (λ vs. bind env vs ds) (block_shows t x.key b x.stands).arguments ∙ e) only
+          entered_only env env1 x.key ds (ap (λ vs. bind env vs ds) (block_shows t x.key b x.liveness).arguments ∙ e) only
 
   begins : (inputs world : List Datum) → Holding m t facts rules root (start root inputs world)
   begins inputs world = record { holder = None; always = λ d e. grind arith; place = λ others f. absurd (apart (head_is root [] others f)); below = tt }

@@ -39,15 +39,15 @@ pub alike_more : (act : Act) (V V' : ℕ → List Datum → List Datum → Type 
 alike_more act V V' G G' s s' first first' v g r = record { begin = moves_more _ _ v g r.begin; later = λ memo input comes. moves_more _ _ v g (r.later memo input comes) }
 
 -- a block is entered without the value of one argument
-bound_gone : (gone : ℕ → Bool) (env env' : Environment) (v : ℕ) (d : Datum) → gone v ≡ true → SameBut gone env env' → SameBut gone (environment_with env v d) env'
+bound_gone : (deleted : ℕ → Bool) (env env' : Environment) (v : ℕ) (d : Datum) → deleted v ≡ true → SameBut deleted env env' → SameBut deleted (environment_with env v d) env'
 unfolding environment_with
-bound_gone gone env env' v d g e w l = ap (λ z. if z then Some d else env w) (not_is w v (λ s. true≢false (sym g ∙ ap gone s ∙ l))) ∙ e w l
+bound_gone deleted env env' v d g e w l = ap (λ z. if z then Some d else env w) (not_is w v (λ s. true≢false (sym g ∙ ap deleted s ∙ l))) ∙ e w l
 
-bind_without : (gone : ℕ → Bool) (v : ℕ) → gone v ≡ true → (vs : List ℕ) (i : ℕ) (env env' : Environment) (ds : List Datum) → slice_get vs i ≡ Some v → length ds ≡ length vs → SameBut gone env env' → EnvsTied (SameBut gone) (bind env vs ds) (bind env' (remove vs i) (remove ds i))
-bind_without gone v g [] i env env' ds e l s = grind arith
-bind_without gone v g (w ∷ vs) i env env' [] e l s = grind arith
-bind_without gone v g (w ∷ vs) zero env env' (d ∷ ds) e l s = let same : w ≡ v = some_is e in bind_same gone vs (environment_with env w d) env' ds (bound_gone gone env env' w d (ap gone same ∙ g) s)
-bind_without gone v g (w ∷ vs) (suc i) env env' (d ∷ ds) e l s = bind_without gone v g vs i (environment_with env w d) (environment_with env' w d) ds e (omega (arith, l)) (bound_same gone env env' s w d)
+bind_without : (deleted : ℕ → Bool) (v : ℕ) → deleted v ≡ true → (vs : List ℕ) (i : ℕ) (env env' : Environment) (ds : List Datum) → slice_get vs i ≡ Some v → length ds ≡ length vs → SameBut deleted env env' → EnvsTied (SameBut deleted) (bind env vs ds) (bind env' (remove vs i) (remove ds i))
+bind_without deleted v g [] i env env' ds e l s = grind arith
+bind_without deleted v g (w ∷ vs) i env env' [] e l s = grind arith
+bind_without deleted v g (w ∷ vs) zero env env' (d ∷ ds) e l s = let same : w ≡ v = some_is e in bind_same deleted vs (environment_with env w d) env' ds (bound_gone deleted env env' w d (ap deleted same ∙ g) s)
+bind_without deleted v g (w ∷ vs) (suc i) env env' (d ∷ ds) e l s = bind_without deleted v g vs i (environment_with env w d) (environment_with env' w d) ds e (omega (arith, l)) (bound_same deleted env env' s w d)
 
 -- the data at the places that are kept
 pick_data : (env : Environment) (vs : List ℕ) (input : List Datum) → data_of env vs ≡ Some input → (p w : ℕ) → slice_get vs p ≡ Some w → (d : Datum) × (env w ≡ Some d) × (slice_get input p ≡ Some d)
@@ -72,13 +72,13 @@ picked_data env vs (w ∷ ws) (p ∷ ps) input e q =
     (x.0 ∷ y.0, ap₂ prepend_optional x.1 y.1, ap₂ (λ a b. a ∷ b) (sym x.2) y.2)
 
 module _ (m : Meaning) (t t' : Tree) (block index v : ℕ) (kept : ℕ → List ℕ) (w : IsTree t) (w' : IsTree t') (h : IsArgumentDropped t t' block index v kept) where
-  abbrev gone : ℕ → Bool
-  gone x = nat_eq v x
+  abbrev deleted : ℕ → Bool
+  deleted x = nat_eq v x
 
-  is_gone : gone v ≡ true
+  is_gone : deleted v ≡ true
   is_gone = eq-eqb v v refl
 
-  still : (k x : ℕ) → In x (operands_of t' k) → gone x ≡ false
+  still : (k x : ℕ) → In x (operands_of t' k) → deleted x ≡ false
   still k x i = not_is v x (λ s. h.unused k (subst (λ z. In z (operands_of t' k)) s i))
 
   abbrev count : ℕ
@@ -89,7 +89,7 @@ module _ (m : Meaning) (t t' : Tree) (block index v : ℕ) (kept : ℕ → List 
     places = λ k. None;
     swap = λ k. k;
     Own = λ rest. Unit {0};
-    Env = SameBut gone;
+    Env = SameBut deleted;
     visits = λ k i ds es. PassesWithout block index count (entry_key t (slice_get (regions_of t k) i)) ds es;
     gotos = λ k i ds j es. (j ≡ i) × PassesWithout block index count (slice_get (successors_of t k) i) ds es;
   }
@@ -100,7 +100,7 @@ module _ (m : Meaning) (t t' : Tree) (block index v : ℕ) (kept : ℕ → List 
 
   -- what stands in both trees
   pub live_forth : (k : ℕ) → IsLive t k → IsLive t' k
-  live_forth k l = ⊎_elim (λ i. h.standing k i) (λ n. subst (λ z. IsSome z.head) (sym (h.rows k n)) l) (decide_in block (successors_of t k))
+  live_forth k l = ⊎_elim (λ i. h.all_in_place k i) (λ n. subst (λ z. IsSome z.head) (sym (h.rows k n)) l) (decide_in block (successors_of t k))
 
   pub live_back : (k : ℕ) → IsLive t' k → IsLive t k
   live_back k l = ⊎_elim (λ i. leads k i (head_of t k) refl) (λ n. subst (λ z. IsSome z.head) (h.rows k n) l) (decide_in block (successors_of t k))
@@ -139,7 +139,7 @@ module _ (m : Meaning) (t t' : Tree) (block index v : ℕ) (kept : ℕ → List 
       go : (x : Option ℕ) → Enters m t t' comparison (block_with t c x) (block_with t' c x) ds es
       go None = tt
       go (Some r) =
-          (h.bodies c ∙ placed_same (body_of t c), tt, λ env env' e. subst (λ vs. EnvsTied (SameBut gone) (bind env (arguments_of t c) ds) (bind env' vs es)) (sym (h.arguments c ne)) (subst (λ z. EnvsTied (SameBut gone) (bind env (arguments_of t c) ds) (bind env' (arguments_of t c) z)) (sym q) (bind_same gone (arguments_of t c) env env' ds e)))
+          (h.bodies c ∙ placed_same (body_of t c), tt, λ env env' e. subst (λ vs. EnvsTied (SameBut deleted) (bind env (arguments_of t c) ds) (bind env' vs es)) (sym (h.arguments c ne)) (subst (λ z. EnvsTied (SameBut deleted) (bind env (arguments_of t c) ds) (bind env' (arguments_of t c) z)) (sym q) (bind_same deleted (arguments_of t c) env env' ds e)))
 
   enters_it : (ds es : List Datum) → length ds ≡ count → es ≡ remove ds index → Enters m t t' comparison (block_at t block) (block_at t' block) ds es
   unfolding block_at
@@ -148,7 +148,7 @@ module _ (m : Meaning) (t t' : Tree) (block index v : ℕ) (kept : ℕ → List 
       go : (x : Option ℕ) → Enters m t t' comparison (block_with t block x) (block_with t' block x) ds es
       go None = tt
       go (Some r) =
-          (h.bodies block ∙ placed_same (body_of t block), tt, λ env env' e. subst (λ vs. EnvsTied (SameBut gone) (bind env (arguments_of t block) ds) (bind env' vs es)) (sym h.dropped) (subst (λ z. EnvsTied (SameBut gone) (bind env (arguments_of t block) ds) (bind env' (remove (arguments_of t block) index) z)) (sym q) (bind_without gone v is_gone (arguments_of t block) index env env' ds h.argument l e)))
+          (h.bodies block ∙ placed_same (body_of t block), tt, λ env env' e. subst (λ vs. EnvsTied (SameBut deleted) (bind env (arguments_of t block) ds) (bind env' vs es)) (sym h.dropped) (subst (λ z. EnvsTied (SameBut deleted) (bind env (arguments_of t block) ds) (bind env' (remove (arguments_of t block) index) z)) (sym q) (bind_without deleted v is_gone (arguments_of t block) index env env' ds h.argument l e)))
 
   enters : (c : ℕ) (ds es : List Datum) → PassesWithout block index count (Some c) ds es → Enters m t t' comparison (block_at t c) (block_at t' c) ds es
   enters c ds es (inl x) = subst (λ z. Enters m t t' comparison (block_at t z) (block_at t' z) ds es) (sym (some_is x.0)) (enters_it ds es x.1 x.2)
@@ -169,7 +169,7 @@ module _ (m : Meaning) (t t' : Tree) (block index v : ℕ) (kept : ℕ → List 
     own_rest = λ k rest u. tt;
     absent = λ k l e. no_op t' k (absent k e (head_of t' k) refl);
     other = λ k o l e. let x = some_of (head_of t' k) (live_forth k (subst IsSome (sym (op_shows t k o e).head) refl)) in (operation_of t' k x.0, make_op t' k x.0 x.1);
-    results = λ k o o' l e e' env env' ds s. subst (λ vs. EnvsTied (SameBut gone) (bind env o.results ds) (bind env' vs ds)) (sym (shows_after k o o' e e').results) (bind_same gone o.results env env' ds s);
+    results = λ k o o' l e e' env env' ds s. subst (λ vs. EnvsTied (SameBut deleted) (bind env o.results ds) (bind env' vs ds)) (sym (shows_after k o o' e e').results) (bind_same deleted o.results env env' ds s);
     entries = λ k o o' l e e' i ds es p. subst (λ rs. Enters m t t' comparison (entry_in t (slice_get o.regions i)) (entry_in t' (slice_get rs i)) ds es) (sym (shows_after k o o' e e').regions) (subst (λ rs. Enters m t t' comparison (entry_in t (slice_get rs i)) (entry_in t' (slice_get rs i)) ds es) (op_shows t k o e).regions (entry k i ds es (slice_get (regions_of t k) i) refl p));
     targets = λ k o o' l e e' i j ds es p. subst (λ cs. Enters m t t' comparison (block_in t (slice_get o.successors i)) (block_in t' (slice_get cs j)) ds es) (sym (shows_after k o o' e e').successors) (subst (λ cs. Enters m t t' comparison (block_in t (slice_get cs i)) (block_in t' (slice_get cs j)) ds es) (op_shows t k o e).successors (subst (λ n. Enters m t t' comparison (block_in t (slice_get (successors_of t k) i)) (block_in t' (slice_get (successors_of t k) n)) ds es) (sym p.0) (target ds es (slice_get (successors_of t k) i) p.1)));
   }
@@ -281,7 +281,7 @@ module _ (m : Meaning) (t t' : Tree) (block index v : ℕ) (kept : ℕ → List 
         input = ap (data_of s.environment) (sym (op_shows t k o oe).operands) ∙ y.has_data
 
         same : data_of s.environment o'.operands ≡ data_of s'.environment o'.operands
-        same = data_same gone s.environment s'.environment r.environment o'.operands (λ x q. still k x (subst (In x) (sym (op_shows t' k o' oe').operands) q))
+        same = data_same deleted s.environment s'.environment r.environment o'.operands (λ x q. still k x (subst (In x) (sym (op_shows t' k o' oe').operands) q))
 
         branch : In block (successors_of t k) → FirstAlike m t t' comparison k o o' (data_of s.environment o.operands) (data_of s'.environment o'.operands)
         branch b =

@@ -13,11 +13,11 @@ use Rattle.pliron_laws.specs.Datum.{Head, Shape, Meaning}
 use Rattle.pliron_laws.specs.Tree.{Operation, op_at, shape_of}
 use Rattle.pliron_laws.specs.Laws.{Admitted, ForwardsOperands}
 use Rattle.pliron_laws.specs.Answers.{HasPlace, HeadPasses}
-use Rattle.pliron_theory.specs.Dropping.{AreEdgesTo, EdgeLoses, Lacks, EdgesLose, AreOfBranches, TellPlaces}
+use Rattle.pliron_theory.specs.Dropping.{AreEdgesTo, EdgeLoses, Lacks, EdgesLose, AreOfBranches, GivePlaces}
 use Rattle.pliron_laws.proofs.Records.{op_shows, operation_of, make_op}
 use Rattle.pliron_laws.proofs.ShapeLemmas.{shape_head}
 use Rattle.pliron_theory.proofs.Keys.{not_is}
-use Rattle.pliron_theory.proofs.ShortenedBranches.{Among, lost, shape_operands, SameFrame, same_frame, Steps, Stays, Goes, steps, frame_step, untouched, user_live, AreListed, loses_one, branch_less, shape_less, stands_less, lengths_less}
+use Rattle.pliron_theory.proofs.ShortenedBranches.{Among, lost, shape_operands, SameFrame, same_frame, Steps, Stays, Continues, steps, frame_step, untouched, user_live, AreListed, loses_one, branch_less, shape_less, stands_less, lengths_less}
 
 -- the uses of a block are the edges to it
 pub uses_are_edges : (t : Tree) (block_uses : List (List Use)) (block : ℕ) → AreAgreed t.successors block_uses → AreEdgesTo t block (uses_of block_uses block)
@@ -42,26 +42,26 @@ module _ (m : Meaning) (can_fold : Head → Bool) (SameTests : Head → Head →
   -- an admitted branch is still one, and forwards as much as before along edges that are not among these
   pub record IsStill (x u : Tree) (k : ℕ) (o : Operation) (edges : List Use) : Type 0 where
     pub now : Operation
-    pub stands : op_at u k ≡ Some now
+    pub liveness : op_at u k ≡ Some now
     pub admitted : Admitted m (shape_of m u now)
     pub branch : IsTrue (m.is_branch now.head)
     pub lengths : (i : ℕ) → (Among k i edges → ⊥) → length (m.forwarded (shape_of m u now) i) ≡ length (m.forwarded (shape_of m x o) i)
 
   as_it_was : (x : Tree) (k : ℕ) (o : Operation) (edges : List Use) → op_at x k ≡ Some o → Admitted m (shape_of m x o) → IsTrue (m.is_branch o.head) → IsStill x x k o edges
-  as_it_was x k o edges oe a b = record { now = o; stands = oe; admitted = a; branch = b; lengths = λ i n. refl }
+  as_it_was x k o edges oe a b = record { now = o; liveness = oe; admitted = a; branch = b; lengths = λ i n. refl }
 
   still_own : (e : Use) (x x' : Tree) → IsLive t e.user → Frame x → slice_get (successors_of t e.user) e.place ≡ Some block → Steps m can_fold SameTests shortened law tests t w block index e x x' → (o : Operation) → op_at x e.user ≡ Some o → Admitted m (shape_of m x o) → IsTrue (m.is_branch o.head) → IsStill x x' e.user o (e ∷ [])
   still_own e x x' l f listed (Stays none same) o oe a b = subst (λ z. IsStill x z e.user o (e ∷ [])) (sym same) (as_it_was x e.user o (e ∷ []) oe a b)
-  still_own e x x' l f listed (Goes o1 p oe1 at lt same) o oe a b = subst (λ z. IsStill x z e.user o (e ∷ [])) (sym same) (subst (λ y. IsStill x (gone o1) e.user y (e ∷ [])) is_o (record {
-    now = operation_of (gone o1) e.user (shortened (shape_of m x o1) e.place index);
-    stands = stands_less m can_fold SameTests shortened law tests t w block index e x l f listed o1 p oe1 a1 b1 at lt;
+  still_own e x x' l f listed (Continues o1 p oe1 at lt same) o oe a b = subst (λ z. IsStill x z e.user o (e ∷ [])) (sym same) (subst (λ y. IsStill x (deleted o1) e.user y (e ∷ [])) is_o (record {
+    now = operation_of (deleted o1) e.user (shortened (shape_of m x o1) e.place index);
+    liveness = stands_less m can_fold SameTests shortened law tests t w block index e x l f listed o1 p oe1 a1 b1 at lt;
     admitted = subst (Admitted m) (sym (shape_less m can_fold SameTests shortened law tests t w block index e x l f listed o1 p oe1 a1 b1 at lt)) (loses_one m can_fold SameTests shortened law tests t w block index e x l f listed o1 p oe1 a1 b1 at lt).admitted;
     branch = branch_less m can_fold SameTests shortened law tests t w block index e x l f listed o1 p oe1 a1 b1 at lt;
     lengths = λ i n. lengths_less m can_fold SameTests shortened law tests t w block index e x l f listed o1 p oe1 a1 b1 at lt i false (not_is i e.place (λ q. n (0, ap (λ z. Some (record { user = e.user; place = z })) q)));
   }))
     where
-      gone : Operation → Tree
-      gone y = lost x e.user p (shortened (shape_of m x y) e.place index)
+      deleted : Operation → Tree
+      deleted y = lost x e.user p (shortened (shape_of m x y) e.place index)
 
       is_o : o1 ≡ o
       is_o = some_is (sym oe1 ∙ oe)
@@ -76,7 +76,7 @@ module _ (m : Meaning) (can_fold : Head → Bool) (SameTests : Head → Head →
   still_one e x x' l f listed s k o oe a b (inl q) = subst (λ z. IsStill x x' z o (e ∷ [])) (sym q) (still_own e x x' l f listed s o (ap (op_at x) (sym q) ∙ oe) a b)
   still_one e x x' l f listed s k o oe a b (inr ne) =
       let c = untouched m can_fold SameTests shortened law tests t w block index e x x' k l f ne s in
-      record { now = o; stands = c.op ∙ oe; admitted = subst (Admitted m) (sym (c.shape o)) a; branch = b; lengths = λ i n. ap (λ z. length (m.forwarded z i)) (c.shape o) }
+      record { now = o; liveness = c.op ∙ oe; admitted = subst (Admitted m) (sym (c.shape o)) a; branch = b; lengths = λ i n. ap (λ z. length (m.forwarded z i)) (c.shape o) }
 
   still : (edges : List Use) (x u : Tree) → AreListed m can_fold SameTests shortened law tests t w block index edges → EdgesLose m shortened index edges x u → Frame x → (k : ℕ) (o : Operation) → op_at x k ≡ Some o → Admitted m (shape_of m x o) → IsTrue (m.is_branch o.head) → IsStill x u k o edges
   still [] x u listed q f k o oe a b = subst (λ z. IsStill x z k o []) (sym q) (as_it_was x k o [] oe a b)
@@ -85,8 +85,8 @@ module _ (m : Meaning) (can_fold : Head → Bool) (SameTests : Head → Head →
       let l = user_live m can_fold SameTests shortened law tests t w block index e.user e.place here in
       let s = steps m can_fold SameTests shortened law tests t w block index e x q.0 (f.live e.user l) q.1 in
       let y = still_one e x q.0 l f here s k o oe a b (cases_eq k e.user) in
-      let z = still rest q.0 u (λ n. listed (suc n)) q.2 (frame_step m can_fold SameTests shortened law tests t w block index e x q.0 l f s) k y.now y.stands y.admitted y.branch in
-      record { now = z.now; stands = z.stands; admitted = z.admitted; branch = z.branch; lengths = λ i n. z.lengths i (λ c. n (suc c.0, c.1)) ∙ y.lengths i (λ c. n (first c.0 c.1)) }
+      let z = still rest q.0 u (λ n. listed (suc n)) q.2 (frame_step m can_fold SameTests shortened law tests t w block index e x q.0 l f s) k y.now y.liveness y.admitted y.branch in
+      record { now = z.now; liveness = z.liveness; admitted = z.admitted; branch = z.branch; lengths = λ i n. z.lengths i (λ c. n (suc c.0, c.1)) ∙ y.lengths i (λ c. n (first c.0 c.1)) }
     where
       first : {i : ℕ} (n : ℕ) → slice_get (e ∷ []) n ≡ Some (record { user = k; place = i }) → Among k i (e ∷ rest)
       first zero c = (zero, c)
@@ -106,11 +106,11 @@ module _ (m : Meaning) (can_fold : Head → Bool) (SameTests : Head → Head →
     after = still edges t u listed q (same_frame m can_fold SameTests shortened law tests t w block index) k o oe admitted is_branch
 
     pub branch_still : HeadPasses m.is_branch u k
-    branch_still h e = subst (λ z. IsTrue (m.is_branch z)) (some_is (sym (op_shows u k after.now after.stands).head ∙ e)) after.branch
+    branch_still h e = subst (λ z. IsTrue (m.is_branch z)) (some_is (sym (op_shows u k after.now after.liveness).head ∙ e)) after.branch
 
     -- after these edges lost, an edge that is not among them has its place
     pub place_still : index < length (m.forwarded (shape_of m t o) i) → HasPlace m u k i index
-    place_still lt x xe = has x (some_is (sym after.stands ∙ xe))
+    place_still lt x xe = has x (some_is (sym after.liveness ∙ xe))
       where
         place : (p : ℕ) × (slice_get (m.forwarded (shape_of m u after.now) i) index ≡ Some p)
         place = at_index (m.forwarded (shape_of m u after.now) i) index (subst (λ z. index < z) (sym (after.lengths i n)) lt)
@@ -123,7 +123,7 @@ module _ (m : Meaning) (can_fold : Head → Bool) (SameTests : Head → Head →
 
     -- or still has none
     pub lack_still : length (m.forwarded (shape_of m t o) i) ≤ index → (x : Operation) → op_at u k ≡ Some x → IsTrue (m.is_branch x.head) → slice_get (m.forwarded (shape_of m u x) i) index ≡ None
-    lack_still le x xe b = subst (λ z. slice_get (m.forwarded (shape_of m u z) i) index ≡ None) (some_is (sym after.stands ∙ xe)) (slice_get_past (m.forwarded (shape_of m u after.now) i) index (subst (λ z. z ≤ index) (sym (after.lengths i n)) le))
+    lack_still le x xe b = subst (λ z. slice_get (m.forwarded (shape_of m u z) i) index ≡ None) (some_is (sym after.liveness ∙ xe)) (slice_get_past (m.forwarded (shape_of m u after.now) i) index (subst (λ z. z ≤ index) (sym (after.lengths i n)) le))
 
 -- the first items
 take_at : {A : Type 0} (xs : List A) (i n : ℕ) (x : A) → slice_get (take i xs) n ≡ Some x → (n < i) × (slice_get xs n ≡ Some x)
@@ -174,7 +174,7 @@ module _ (m : Meaning) (can_fold : Head → Bool) (SameTests : Head → Head →
       pub turn_branch : HeadPasses m.is_branch x e.user
       turn_branch = branch_still m can_fold SameTests shortened law tests t w block index (take i edges) x before_listed lost_some e.user e.place o oe admitted ((branches i e at).1 head.0 head.1) not_yet
 
-      module _ (places : List Bool) (tell : TellPlaces m t index edges places) where
+      module _ (places : List Bool) (tell : GivePlaces m t index edges places) where
         pub turn_place : slice_get places i ≡ Some true → HasPlace m x e.user e.place index
         turn_place q = place_still m can_fold SameTests shortened law tests t w block index (take i edges) x before_listed lost_some e.user e.place o oe admitted ((branches i e at).1 head.0 head.1) not_yet ((tell i e true o at q oe).0 refl)
 

@@ -1,7 +1,7 @@
 -- Erasing an operation that gives at once, with its contents, keeps what roots do.
 use Rattle.std.proofs.Common.{◌≡◌, ◌≢◌, ◌⊎◌, inl, inr, ⊎_elim, ℕ, ◌<◌, ◌≤◌, Bool, true, false, true≢false, nat_eq, if◌then◌else◌, List, [], ◌∷◌, length, get_or, Option, Some, None, slice_set, refl, sym, ap, ◌∙◌, subst, arith}
 use Rattle.std.proofs.lemmas.Bool.{cases_eq}
-use Rattle.std.proofs.lemmas.Bool.Decides.{eqb_tells}
+use Rattle.std.proofs.lemmas.Bool.Decides.{eqb_decides}
 use Rattle.std.proofs.lemmas.List.{get_or-set_other, get_or-set_same, get_or_past}
 use Rattle.pliron_core.specs.declared.context.Def.{Def}
 use Rattle.pliron_core.specs.declared.context.Def.TheVariants.{Result, Argument}
@@ -17,7 +17,7 @@ use Rattle.pliron_core.proofs.WithinLemmas.{is_within, within_is, met_below, par
 use Rattle.pliron_core.proofs.HoldingLemmas.{some_is, slice_in, inside_up, holder_is}
 use Rattle.pliron_laws.specs.Datum.{Meaning}
 use Rattle.pliron_theory.specs.Keeps.{IsFit, KeepsRuns}
-use Rattle.pliron_theory.specs.Sweeping.{keep, swept, is_maker_dead, IsSwept, AreGone, GivesNow}
+use Rattle.pliron_theory.specs.Sweeping.{keep, swept, is_maker_dead, IsSwept, AreNotLive, GivesNow}
 use Rattle.pliron_theory.proofs.SweptLists.{swept_all}
 use Rattle.pliron_theory.proofs.SweptKeeps.{swept_keeps}
 
@@ -34,17 +34,17 @@ without_swept dead op [] d e only = refl
 without_swept dead op (x ∷ xs) d e only = ⊎_elim
     (λ y. ap (λ b. if b then xs else x ∷ without op xs) y.0 ∙ sym (swept_all dead xs (λ k i. lives k i y.1)) ∙ ap (λ b. keep b x (swept dead xs)) (sym (ap dead (sym y.1) ∙ e)))
     (λ n. ap (λ b. if b then xs else x ∷ without op xs) n.0 ∙ ap (λ l. x ∷ l) (without_swept dead op xs d.1 e (λ k i f. only k (inr i) f)) ∙ ap (λ b. keep b x (swept dead xs)) (sym (live (λ f. n.1 (sym f)))))
-    (eqb_tells op x)
+    (eqb_decides op x)
   where
-    told : (k : ℕ) → (dead k ≡ true → ⊥) → (b : Bool) → dead k ≡ b → dead k ≡ false
-    told k never true f = absurd (never f)
-    told k never false f = f
+    reported : (k : ℕ) → (dead k ≡ true → ⊥) → (b : Bool) → dead k ≡ b → dead k ≡ false
+    reported k never true f = absurd (never f)
+    reported k never false f = f
 
     lives : (k : ℕ) → In k xs → op ≡ x → dead k ≡ false
-    lives k i s = told k (λ f. d.0 (subst (λ z. In z xs) (only k (inr i) f ∙ s) i)) (dead k) refl
+    lives k i s = reported k (λ f. d.0 (subst (λ z. In z xs) (only k (inr i) f ∙ s) i)) (dead k) refl
 
     live : x ≢ op → dead x ≡ false
-    live ne = told x (λ f. ne (only x (inl refl) f)) (dead x) refl
+    live ne = reported x (λ f. ne (only x (inl refl) f)) (dead x) refl
 
 taken-arguments : (t : Tree) (op : ℕ) (o : Option ℕ) → (taken_from t op o).arguments ≡ t.arguments
 taken-arguments t op None = refl
@@ -69,9 +69,9 @@ module _ (t : Tree) (op : ℕ) (w : IsTree t) (live : IsLive t op) (contained : 
   dead_block : ℕ → Bool
   dead_block b = block_erased_with t op b
 
-  told : (b : Bool) → (b ≡ true → ⊥) → b ≡ false
-  told true never = absurd (never refl)
-  told false never = refl
+  reported : (b : Bool) → (b ≡ true → ⊥) → b ≡ false
+  reported true never = absurd (never refl)
+  reported false never = refl
 
   op_dead : op_erased t op op ≡ true
   op_dead = is_within t op op w.joined live (inl refl)
@@ -88,7 +88,7 @@ module _ (t : Tree) (op : ℕ) (w : IsTree t) (live : IsLive t op) (contained : 
   ]
 
   holders : (k b : ℕ) → parent_of t k ≡ Some b → op_erased t op k ≡ false → block_erased_with t op b ≡ false
-  holders k b e l = told _ (λ d.
+  holders k b e l = reported _ (λ d.
       let y = parent_holder t k b w.joined e in
       true≢false (sym (met_below t (nat_eq op) w.joined k y.0 (holder_from t k b e ∙ y.1) (ap (is_met_above t (nat_eq op)) (sym y.1) ∙ d)) ∙ l))
 
@@ -110,18 +110,18 @@ module _ (t : Tree) (op : ℕ) (w : IsTree t) (live : IsLive t op) (contained : 
     gone_op : (k : ℕ) (b : Bool) → op_erased t op k ≡ b → is_met_above (taken_from t op o) (nat_eq op) (Some k) ≡ b
     gone_op k b e = taken-met t op o (Some k) ∙ e
 
-    gone_block : (c : ℕ) (b : Bool) → block_erased_with t op c ≡ b → is_met_above (taken_from t op o) (nat_eq op) (block_parent_operation_of (taken_from t op o) c) ≡ b
-    gone_block c b e = taken-met t op o (block_parent_operation_of (taken_from t op o) c) ∙ ap (is_met_above t (nat_eq op)) (taken-block_parent_operation t op o c) ∙ e
+    detached_block : (c : ℕ) (b : Bool) → block_erased_with t op c ≡ b → is_met_above (taken_from t op o) (nat_eq op) (block_parent_operation_of (taken_from t op o) c) ≡ b
+    detached_block c b e = taken-met t op o (block_parent_operation_of (taken_from t op o) c) ∙ ap (is_met_above t (nat_eq op)) (taken-block_parent_operation t op o c) ∙ e
 
     body : (b : ℕ) → block_erased_with t op b ≡ false → (o : Option ℕ) → parent_of t op ≡ o → body_of (taken_from t op o) b ≡ swept (λ k. op_erased t op k) (body_of t b)
-    body b l None e = sym (swept_all (λ k. op_erased t op k) (body_of t b) (λ k i. told _ (λ d. let s = only_op k b d (w.bodies.owned k b i) l in let f : None ≡ Some b = sym e ∙ ap (parent_of t) (sym s) ∙ w.bodies.owned k b i in absurd (cc))))
+    body b l None e = sym (swept_all (λ k. op_erased t op k) (body_of t b) (λ k i. reported _ (λ d. let s = only_op k b d (w.bodies.owned k b i) l in let f : None ≡ Some b = sym e ∙ ap (parent_of t) (sym s) ∙ w.bodies.owned k b i in absurd (cc))))
     body b l (Some c) e = elim (cases_eq b c) [
       | inl s ↦
           ap (λ z. get_or (slice_set t.bodies c (without op (body_of t c))) z []) s ∙ here ∙ ap (λ z. without op (body_of t z)) (sym s)
           ∙ without_swept (λ k. op_erased t op k) op (body_of t b) (w.bodies.distinct b) op_dead (λ k i d. only_op k b d (w.bodies.owned k b i) l)
       | inr ne ↦
           get_or-set_other t.bodies c b (without op (body_of t c)) [] ne
-          ∙ sym (swept_all (λ k. op_erased t op k) (body_of t b) (λ k i. told _ (λ d. let s = only_op k b d (w.bodies.owned k b i) l in ne (some_is (sym (w.bodies.owned k b i) ∙ ap (parent_of t) s ∙ e)))))
+          ∙ sym (swept_all (λ k. op_erased t op k) (body_of t b) (λ k i. reported _ (λ d. let s = only_op k b d (w.bodies.owned k b i) l in ne (some_is (sym (w.bodies.owned k b i) ∙ ap (parent_of t) s ∙ e)))))
     ]
       where
         lt : c < length t.bodies
@@ -147,9 +147,9 @@ module _ (t : Tree) (op : ℕ) (w : IsTree t) (live : IsLive t op) (contained : 
       operands = λ k l. blanked_kept _ [] (taken_from t op o).operands k (gone_op k false l) ∙ ap (λ z. get_or z k []) (taken-operands t op o);
       successors = λ k l. blanked_kept _ [] (taken_from t op o).successors k (gone_op k false l) ∙ ap (λ z. get_or z k []) (taken-successors t op o);
       parents = λ k l. blanked_kept _ None (taken_from t op o).parents k (gone_op k false l) ∙ taken-others t op k o (λ s. true≢false (sym op_dead ∙ ap (op_erased t op) (sym s) ∙ l));
-      bodies = λ b l. blanked_kept _ [] (taken_from t op o).bodies b (gone_block b false l) ∙ body b l o at;
-      arguments = λ b l. blanked_kept _ [] (taken_from t op o).arguments b (gone_block b false l) ∙ ap (λ z. get_or z b []) (taken-arguments t op o);
-      block_parents = λ b l. blanked_kept _ None (taken_from t op o).block_parents b (gone_block b false l) ∙ ap (λ z. get_or z b None) (taken-block_parents t op o);
+      bodies = λ b l. blanked_kept _ [] (taken_from t op o).bodies b (detached_block b false l) ∙ body b l o at;
+      arguments = λ b l. blanked_kept _ [] (taken_from t op o).arguments b (detached_block b false l) ∙ ap (λ z. get_or z b []) (taken-arguments t op o);
+      block_parents = λ b l. blanked_kept _ None (taken_from t op o).block_parents b (detached_block b false l) ∙ ap (λ z. get_or z b None) (taken-block_parents t op o);
       layouts = λ k r l i.
           let x = slice_in (regions_of t k) r i in
           let up : region_parent_of (taken_from t op o) r ≡ Some k = taken-region_parent t op o r ∙ ap op_of_slot (w.joined.regions k x.0 r x.1) in
@@ -158,18 +158,18 @@ module _ (t : Tree) (op : ℕ) (w : IsTree t) (live : IsLive t op) (contained : 
       holders = holders;
       block_holders = λ b k e l. ap (is_met_above t (nat_eq op)) (sym e) ∙ l;
       entries = λ k r b l i e. in_layout k r b l i (first_in (layout_of t r) b e);
-      values = λ k v l i. told _ (λ d. true≢false (sym (is_within t op k w.joined live (contained.values k v i (made (definition_of t v) d))) ∙ l));
-      targets = λ k b l i. told _ (λ d. let m = met_above t op (block_parent_operation_of t b) d in true≢false (sym (is_within t op k w.joined live (contained.blocks k b i (m.0, m.1, m.2))) ∙ l));
+      values = λ k v l i. reported _ (λ d. true≢false (sym (is_within t op k w.joined live (contained.values k v i (made (definition_of t v) d))) ∙ l));
+      targets = λ k b l i. reported _ (λ d. let m = met_above t op (block_parent_operation_of t b) d in true≢false (sym (is_within t op k w.joined live (contained.blocks k b i (m.0, m.1, m.2))) ∙ l));
     }
       where
         first_in : (xs : List ℕ) (x : ℕ) → first_of xs None ≡ Some x → In x xs
         first_in [] x e = grind arith
         first_in (y ∷ ys) x e = let f : y ≡ x = cc in inl (sym f)
 
-    pub are_gone : AreGone (after_clearing (taken_from t op o) (nat_eq op)) (λ k. op_erased t op k) (λ b. block_erased_with t op b)
+    pub are_gone : AreNotLive (after_clearing (taken_from t op o) (nat_eq op)) (λ k. op_erased t op k) (λ b. block_erased_with t op b)
     are_gone = record {
       operations = λ k d. ap (λ z. z.head) (blanked_gone _ no_entry (taken_from t op o).operations k (gone_op k true d));
-      blocks = λ b d. blanked_gone _ None (taken_from t op o).block_parents b (gone_block b true d);
+      blocks = λ b d. blanked_gone _ None (taken_from t op o).block_parents b (detached_block b true d);
     }
 
     pub as_many : length (after_clearing (taken_from t op o) (nat_eq op)).operations ≡ length t.operations
@@ -178,7 +178,7 @@ module _ (t : Tree) (op : ℕ) (w : IsTree t) (live : IsLive t op) (contained : 
   pub erased_swept : IsSwept t (after_erasing t op) (λ k. op_erased t op k) (λ b. block_erased_with t op b)
   erased_swept = is_swept (parent_of t op) refl
 
-  pub erased_gone : AreGone (after_erasing t op) (λ k. op_erased t op k) (λ b. block_erased_with t op b)
+  pub erased_gone : AreNotLive (after_erasing t op) (λ k. op_erased t op k) (λ b. block_erased_with t op b)
   erased_gone = are_gone (parent_of t op) refl
 
   pub erased_keeps : (m : Meaning) → IsTree (after_erasing t op) → ((root : ℕ) → IsFit m t root → IsInside t root op → GivesNow m t op) → KeepsRuns m t (after_erasing t op)

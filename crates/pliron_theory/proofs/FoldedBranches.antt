@@ -38,9 +38,9 @@ use Rattle.pliron_theory.specs.Folded.{BranchFoldsLaw, BranchLinksLaw, BranchOut
 use Rattle.pliron_core.specs.Changes.{IsSameTree}
 use Rattle.pliron_theory.proofs.Refolded.{refolded, refolded_admitted}
 
-told : (b : Bool) → (b ≡ true → ⊥) → b ≡ false
-told true f = absurd (f refl)
-told false f = refl
+reported : (b : Bool) → (b ≡ true → ⊥) → b ≡ false
+reported true f = absurd (f refl)
+reported false f = refl
 
 app_other : {A : Type 0} (xs : List A) (x d : A) (k : ℕ) → k ≢ length xs → get_or (xs ++ x ∷ []) k d ≡ get_or xs k d
 app_other [] x d zero ne = absurd (ne refl)
@@ -63,7 +63,7 @@ module _ (t : Tree) (a op : ℕ) (head : Head) (operands successors : List ℕ) 
   in_a = w.bodies.owned op a (subst (In op) (sym split) (In-right op front (op ∷ []) (inl refl)))
 
   op_in : op < length t.operations
-  op_in = live-within t op (w.joined.standing op a in_a).0
+  op_in = live-within t op (w.joined.all_in_place op a in_a).0
 
   not_new : op ≢ n
   not_new e = let lt = op_in in absurd (omega (arith, lt, e))
@@ -106,10 +106,10 @@ module _ (t : Tree) (a op : ℕ) (head : Head) (operands successors : List ℕ) 
   nothing_inside x (Deeper q e i) = nothing_inside q i
 
   kept : (k : ℕ) → k ≢ op → is_met_above free (nat_eq op) (Some k) ≡ false
-  kept k ne = told _ (λ e. ⊎_elim ne (λ i. nothing_inside k i) (within_is free op k e))
+  kept k ne = reported _ (λ e. ⊎_elim ne (λ i. nothing_inside k i) (within_is free op k e))
 
   block_kept : (c : ℕ) → is_met_above free (nat_eq op) (block_parent_operation_of free c) ≡ false
-  block_kept c = told _ (λ e. let y = met_above free op (block_parent_operation_of free c) e in ⊎_elim (λ s. no_block c (sym (block_same c) ∙ y.1 ∙ ap Some s)) (λ i. nothing_inside y.0 i) y.2)
+  block_kept c = reported _ (λ e. let y = met_above free op (block_parent_operation_of free c) e in ⊎_elim (λ s. no_block c (sym (block_same c) ∙ y.1 ∙ ap Some s)) (λ i. nothing_inside y.0 i) y.2)
 
   long : length free.operations ≡ suc (length t.operations)
   long = let x = length-append t.operations (record { head = Some head; results = []; regions = [] } ∷ []) in omega (arith, x)
@@ -188,7 +188,7 @@ module _ (t : Tree) (a op : ℕ) (head : Head) (operands successors : List ℕ) 
     split = split;
     put = body_a;
     fresh = ap (λ z. z.head) (get_or_past t.operations n no_entry (omega arith));
-    gone = ap (λ z. z.head) (blanked_gone _ no_entry free.operations op op_gone);
+    deleted = ap (λ z. z.head) (blanked_gone _ no_entry free.operations op op_gone);
     childless = childless;
     new_childless = ap (λ z. z.regions) row_new;
     no_results = no_results;
@@ -214,8 +214,8 @@ picked_in (z ∷ xs) ys (p ∷ places) e x (inr i) = let rest : map Some xs ≡ 
 
 -- what folding puts in the place of a branch that ends its block, without results and regions
 refolded_as : (m : Meaning) (t : Tree) (a op : ℕ) (front : List ℕ) (known : List (Option AttrObj)) (o : Operation) (head : Head) (operands successors places edges : List ℕ) → IsTree t → IsTree (branch_replaced t op head operands successors) → body_of t a ≡ front ++ op ∷ [] → regions_of t op ≡ [] → results_of t op ≡ [] → op_at t op ≡ Some o → map Some operands ≡ pick places o.operands → ReplacesBranch m (shape_of m t o) o.successors successors known head places edges → IsRefolded m t (branch_replaced t op head operands successors) a op (length t.operations) front known
-refolded_as m t a op front known o head operands successors places edges w w' split childless no_results stands picked replaces =
-    let x = op_shows t op o stands in
+refolded_as m t a op front known o head operands successors places edges w w' split childless no_results liveness picked replaces =
+    let x = op_shows t op o liveness in
     let r = rebranched t a op head operands successors front w w' split childless no_results
     (λ v i. subst (In v) (sym x.operands) (picked_in operands o.operands places picked v i))
     (λ c i. subst (In c) (sym x.successors) (picked_in successors o.successors edges replaces.targets_kept c i)) in
@@ -223,7 +223,7 @@ refolded_as m t a op front known o head operands successors places edges w w' sp
     let new_targets = successors_new t a op head operands successors front w w' split childless in
     let row = row_new t a op head operands successors front w w' split childless in
     subst (λ (z : Tree). IsRefolded m t z a op (length t.operations) front known) (sym (same t a op head operands successors front w w' split childless))
-    (record { placed = r; operation = o; stands = stands; head = head; places = places; edges = edges; new_head = ap (λ z. z.head) row; operands = ap (map Some) new_ops ∙ picked; replaces = subst (λ ts. ReplacesBranch m (shape_of m t o) o.successors ts known head places edges) (sym new_targets) replaces })
+    (record { placed = r; operation = o; liveness = liveness; head = head; places = places; edges = edges; new_head = ap (λ z. z.head) row; operands = ap (map Some) new_ops ∙ picked; replaces = subst (λ ts. ReplacesBranch m (shape_of m t o) o.successors ts known head places edges) (sym new_targets) replaces })
 
 -- a branch that ends its block, without results and regions
 record EndsAlone (m : Meaning) (t : Tree) (op : ℕ) : Type 0 where
@@ -236,20 +236,20 @@ record EndsAlone (m : Meaning) (t : Tree) (op : ℕ) : Type 0 where
 
 folding : (m : Meaning) (t t' : Tree) (op : ℕ) (known : List (Option AttrObj)) → IsTree t → IsTree t' → length t.operations ≤ length t'.operations → EndsAlone m t op → length known ≡ length (operands_of t op) → AreReadAs m t op known → FoldsBranch m op known t t' → KeepsRuns m t t'
 folding m t t' op known w w' longer ends long so (Kept s) = same_keeps m t t' w w' s longer
-folding m t t' op known w w' longer ends long so (Replaced o head operands successors places edges stands picked replaces) =
-    refolded m t t' ends.block op (length t.operations) ends.front known w w' longer (omega arith) ends.branch long (refolded_as m t ends.block op ends.front known o head operands successors places edges w w' ends.split ends.childless ends.no_results stands picked replaces) so
+folding m t t' op known w w' longer ends long so (Replaced o head operands successors places edges liveness picked replaces) =
+    refolded m t t' ends.block op (length t.operations) ends.front known w w' longer (omega arith) ends.branch long (refolded_as m t ends.block op ends.front known o head operands successors places edges w w' ends.split ends.childless ends.no_results liveness picked replaces) so
 
 linking : (m : Meaning) (t t' : Tree) (op : ℕ) (known : List (Option AttrObj)) → IsTree t → IsTree t' → EndsAlone m t op → (root : ℕ) → IsWellLinked m t root → IsLive t root → IsLive t' root → FoldsBranch m op known t t' → IsWellLinked m t' root
 linking m t t' op known w w' ends root links live left (Kept s) = linked_same m t t' root w w' s links
-linking m t t' op known w w' ends root links live left (Replaced o head operands successors places edges stands picked replaces) =
-    let h = refolded_as m t ends.block op ends.front known o head operands successors places edges w w' ends.split ends.childless ends.no_results stands picked replaces in
-    rebranched_linked m t t' ends.block op (length t.operations) ends.front w w' h.placed root links live (λ e. true≢false (sym left ∙ ap (λ z. is_some (head_of t' z)) e ∙ ap is_some h.placed.gone))
+linking m t t' op known w w' ends root links live left (Replaced o head operands successors places edges liveness picked replaces) =
+    let h = refolded_as m t ends.block op ends.front known o head operands successors places edges w w' ends.split ends.childless ends.no_results liveness picked replaces in
+    rebranched_linked m t t' ends.block op (length t.operations) ends.front w w' h.placed root links live (λ e. true≢false (sym left ∙ ap (λ z. is_some (head_of t' z)) e ∙ ap is_some h.placed.deleted))
     (λ i. refolded_admitted m t t' ends.block op (length t.operations) ends.front known h)
 
 replacing : (m : Meaning) (t u : Tree) (op : ℕ) (known : List (Option AttrObj)) → IsTree t → IsTree u → EndsAlone m t op → FoldsBranch m op known t u → IsSameTree t u ⊎ ((a new : ℕ) × (front : List ℕ) × IsRebranched t u a op new front)
 replacing m t u op known w w' ends (Kept s) = inl s
-replacing m t u op known w w' ends (Replaced o head operands successors places edges stands picked replaces) =
-    inr (ends.block, length t.operations, ends.front, (refolded_as m t ends.block op ends.front known o head operands successors places edges w w' ends.split ends.childless ends.no_results stands picked replaces).placed)
+replacing m t u op known w w' ends (Replaced o head operands successors places edges liveness picked replaces) =
+    inr (ends.block, length t.operations, ends.front, (refolded_as m t ends.block op ends.front known o head operands successors places edges w w' ends.split ends.childless ends.no_results liveness picked replaces).placed)
 
 no_items : {A : Type 0} (xs : List A) → length xs ≡ 0 → xs ≡ []
 no_items [] e = refl

@@ -43,24 +43,24 @@ module _ (m : Meaning) (accepts : AttrObj → Bool) (head : AttrObj → Head) (m
   record HasCome (t₀ t : Tree) : Type 0 where
     pub tree : IsTree t
     pub runs : KeepsRuns m t₀ t
-    pub stands : parent_of t op ≡ Some block
+    pub liveness : parent_of t op ≡ Some block
     pub listed : results_of t op ≡ results
     pub reads : (i v : ℕ) (attr : AttrObj) → slice_get results i ≡ Some v → slice_get answers i ≡ Some (Some attr) → (root : ℕ) → IsFit m t₀ root → IsLive t root → IsReadAs m t v (datum_of attr) root
 
   come_next : (t₀ t : Tree) → HasCome t₀ t → (i v : ℕ) (attr : AttrObj) → slice_get results i ≡ Some v → slice_get answers i ≡ Some (Some attr) → IsTrue (accepts attr) → HasCome t₀ (after_materialising t op v (head attr))
-  come_next t₀ t h i v attr at said accepted = subst (HasCome t₀) (sym (put_is t op v block (head attr) h.tree h.stands)) (record {
-    tree = tree_put t op v block (head attr) h.tree h.stands;
+  come_next t₀ t h i v attr at said accepted = subst (HasCome t₀) (sym (put_is t op v block (head attr) h.tree h.liveness)) (record {
+    tree = tree_put t op v block (head attr) h.tree h.liveness;
     runs = on.0;
-    stands = ap (λ z. parent_of z op) (sym same) ∙ put_parent t op v op (head attr) within ∙ h.stands;
+    liveness = ap (λ z. parent_of z op) (sym same) ∙ put_parent t op v op (head attr) within ∙ h.liveness;
     listed = ap (λ z. results_of z op) (sym same) ∙ ap (λ z. z.results) (put_row t op v op (head attr) within) ∙ h.listed;
     reads = λ j x other here is root f l. let old = before root f l in on.1 root f old x (datum_of other) (not_new j x here) (h.reads j x other here is root f old);
   })
     where
       same : after_materialising t op v (head attr) ≡ after_replacing (put_next_to (after_creating t (head attr) 1 0) (length t.operations) op (Some block)) v (length t.definitions)
-      same = put_is t op v block (head attr) h.tree h.stands
+      same = put_is t op v block (head attr) h.tree h.liveness
 
       within : op < length t.operations
-      within = live-within t op (h.tree.joined.standing op block h.stands).0
+      within = live-within t op (h.tree.joined.all_in_place op block h.liveness).0
 
       def : (j x : ℕ) → slice_get results j ≡ Some x → definition_of t x ≡ Some (Result op j)
       def j x here = h.tree.joined.results op j x (ap (λ l. slice_get l j) h.listed ∙ here)
@@ -70,8 +70,8 @@ module _ (m : Meaning) (accepts : AttrObj → Bool) (head : AttrObj → Head) (m
 
       on : KeepsRuns m t₀ (after_replacing (put_next_to (after_creating t (head attr) 1 0) (length t.operations) op (Some block)) v (length t.definitions)) × ((root : ℕ) → IsFit m t₀ root → IsLive t root → (x : ℕ) (d : Datum) → x ≢ length t.definitions → IsReadAs m t x d root → IsReadAs m (after_replacing (put_next_to (after_creating t (head attr) 1 0) (length t.operations) op (Some block)) v (length t.definitions)) x d root)
       on =
-          result_keeps_on m t (head attr) attr h.tree (makes attr accepted) (plain attr accepted) op block v i h.stands (def i v at) t₀ h.runs (λ root f l. h.reads i v attr at said root f l)
-          (tree_put₁ t op v block (head attr) h.tree h.stands) (tree_put t op v block (head attr) h.tree h.stands)
+          result_keeps_on m t (head attr) attr h.tree (makes attr accepted) (plain attr accepted) op block v i h.liveness (def i v at) t₀ h.runs (λ root f l. h.reads i v attr at said root f l)
+          (tree_put₁ t op v block (head attr) h.tree h.liveness) (tree_put t op v block (head attr) h.tree h.liveness)
 
       before : (root : ℕ) → IsFit m t₀ root → IsLive (after_replacing (put_next_to (after_creating t (head attr) 1 0) (length t.operations) op (Some block)) v (length t.definitions)) root → IsLive t root
       before root f l = subst (λ z. IsSome z.head) (ap (λ z. row_of z root) (sym same) ∙ put_row t op v root (head attr) (let g = h.runs.grows in let lt = past_live t₀ root f.live in omega (arith, g, lt))) l
@@ -89,15 +89,15 @@ module _ (m : Meaning) (accepts : AttrObj → Bool) (head : AttrObj → Head) (m
           omega (arith, lt, same)
 
 pub constant_folds : (m : Meaning) (can_fold : Head → Bool) (constants : Constants) (accepts : AttrObj → Bool) (head : AttrObj → Head) (fold branch_fold : Outcome) (SameTests : Head → Head → Type 0) (shortened : Shape → ℕ → ℕ → Head) → FoldsInPlace m constants accepts head fold branch_fold → ForwardsOperands m can_fold SameTests shortened → AnswersTrue m can_fold constants → MakesConstants m accepts head → ConstantFoldsLaw m can_fold fold
-constant_folds m can_fold constants accepts head fold branch_fold SameTests shortened folds forwards answers makes t t' op block known answer w w' longer stands tests entries reads outcome =
-    let h = some_of (head_of t op) (w.joined.standing op block stands).0 in
+constant_folds m can_fold constants accepts head fold branch_fold SameTests shortened folds forwards answers makes t t' op block known answer w w' longer liveness tests entries reads outcome =
+    let h = some_of (head_of t op) (w.joined.all_in_place op block liveness).0 in
     let o = operation_of t op h.0 in
     let oe : op_at t op ≡ Some o = make_op t op h.0 h.1 in
     let s = op_shows t op o oe in
     come_on m accepts head makes plain op block o.results (constants (shape_of m t o) known) t t t' (record {
       tree = w;
       runs = keeps_refl m t;
-      stands = stands;
+      liveness = liveness;
       listed = s.results;
       reads = λ i v attr at said root f l. answered_read m can_fold constants answers t root op known w f o oe (tests o.head s.head) entries (λ j x c there is. reads root j x c f there is) i v attr at said;
     }) w' (folds.constant t t' op known answer o oe outcome).0 longer

@@ -37,7 +37,7 @@ use Rattle.pliron_theory.proofs.MaterialisedKeeps.{result_keeps}
 use Rattle.pliron_theory.proofs.SweptKeeps.{same_keeps}
 use Rattle.pliron_theory.specs.LatticeValues.{LatticeValue, Constant, LatticeValues, Says, operand_constants, answers_of, IsInExecutableBlock, AreClosed, AreHeld}
 use Rattle.pliron_theory.specs.Sound.{read_of}
-use Rattle.pliron_theory.specs.Following.{StandsAsBefore, Follows, FollowingLaws}
+use Rattle.pliron_theory.specs.Following.{IsAsBefore, Follows, FollowingLaws}
 use Rattle.pliron_theory.proofs.SoundEverywhere.{sound_facts}
 use Rattle.pliron_theory.proofs.ClosedSound.{closed_sound, read_fold, read_argument}
 use Rattle.pliron_theory.proofs.CarriedFacts.{IsCarried, WasBefore, before, handed_same, carried_sound}
@@ -69,7 +69,7 @@ module _ (x : Says) (t₀ : Tree) (root : ℕ) (f₀ : LatticeValues) (w₀ : Is
     parents = λ k l. refl;
     block_parents = λ b. refl;
     arguments = λ b. refl;
-    operations = λ k o e. record { operation = o; stands = e; head = refl; results = refl; successors = refl; shape = refl; handed_same = refl };
+    operations = λ k o e. record { operation = o; liveness = e; head = refl; results = refl; successors = refl; shape = refl; handed_same = refl };
     read_results = λ k v i. refl;
     read_arguments = λ b v i. read_argument x t₀ root f₀ w₀ closed held b v i;
   }
@@ -108,19 +108,19 @@ module _ (x : Says) (t₀ : Tree) (root : ℕ) (f₀ : LatticeValues) (w₀ : Is
       old : (k : ℕ) → IsLive t₀ k → New k → ⊥
       old k l n = let p = some_of (head_of t k) (live_still k l) in not_none (sym (ap (λ z. z.head) (c.fresh k n).0) ∙ p.1)
 
-      operations : (k : ℕ) (o₀ : Operation) → op_at t₀ k ≡ Some o₀ → StandsAsBefore x t₀ t' f₀ f' k o₀
+      operations : (k : ℕ) (o₀ : Operation) → op_at t₀ k ≡ Some o₀ → IsAsBefore x t₀ t' f₀ f' k o₀
       operations k o₀ e =
           let live : IsLive t₀ k = ap is_some (op_shows t₀ k o₀ e).head in
           let n : New k → ⊥ = old k live in
           let s = g.operations k o₀ e in
-          let h : head_of t' k ≡ Some s.operation.head = ap (λ z. z.head) (c.rows k n) ∙ (op_shows t k s.operation s.stands).head in
+          let h : head_of t' k ≡ Some s.operation.head = ap (λ z. z.head) (c.rows k n) ∙ (op_shows t k s.operation s.liveness).head in
           let o' : Operation = operation_of t' k s.operation.head in
           let at : op_at t' k ≡ Some o' = make_op t' k s.operation.head h in
           let b : WasBefore x t t' root g.facts f' g.read read' rename New g.tree w' c g.sound k o' = before x t t' root g.facts f' g.read read' rename New g.tree w' c g.sound k n o' at in
-          let same : b.operation ≡ s.operation = some_is (sym b.stands ∙ s.stands) in
+          let same : b.operation ≡ s.operation = some_is (sym b.liveness ∙ s.liveness) in
           record {
             operation = o';
-            stands = at;
+            liveness = at;
             head = s.head;
             results = b.results ∙ ap (λ z. z.results) same ∙ s.results;
             successors = b.successors ∙ ap (λ z. z.successors) same ∙ s.successors;
@@ -178,9 +178,9 @@ module _ (x : Says) (t₀ : Tree) (root : ℕ) (f₀ : LatticeValues) (w₀ : Is
 
     -- some of the answered results of an operation are materialised
     pub fold_on : (k : ℕ) (o₀ : Operation) → IsInExecutableBlock t₀ f₀ k → op_at t₀ k ≡ Some o₀ → IsTrue (x.can_fold o₀.head) → (t t' : Tree) → Follows x t₀ root f₀ t → IsTree t' → MaterialisesSome accepts head k o₀.results (answers_of x t₀ f₀ o₀) t t' → length t.operations ≤ length t'.operations → Follows x t₀ root f₀ t'
-    fold_on k o₀ stands at folds t t' g w' (Rest same) longer = same_on t t' g w' same longer
-    fold_on k o₀ stands at folds t t' g w' (Then i v attr listed said accepted done) longer =
-        fold_on k o₀ stands at folds (after_materialising t k v (head attr)) t' (put_on t g k i v attr stands live listed_there is accepted) w' done grown
+    fold_on k o₀ liveness at folds t t' g w' (Rest same) longer = same_on t t' g w' same longer
+    fold_on k o₀ liveness at folds t t' g w' (Then i v attr listed said accepted done) longer =
+        fold_on k o₀ liveness at folds (after_materialising t k v (head attr)) t' (put_on t g k i v attr liveness live listed_there is accepted) w' done grown
       where
         live : IsLive t₀ k
         live = ap is_some (op_shows t₀ k o₀ at).head
@@ -189,7 +189,7 @@ module _ (x : Says) (t₀ : Tree) (root : ℕ) (f₀ : LatticeValues) (w₀ : Is
         listed_there = ap (λ z. slice_get z i) (op_shows t₀ k o₀ at).results ∙ listed
 
         is : read_of x t₀ f₀ v ≡ Constant attr
-        is = read_fold x t₀ f₀ k i v o₀ (Some attr) (w₀.joined.results k i v listed_there) stands at folds listed said
+        is = read_fold x t₀ f₀ k i v o₀ (Some attr) (w₀.joined.results k i v listed_there) liveness at folds listed said
 
         new_live : IsLive t' (length t.operations)
         new_live = some_lives k o₀.results (answers_of x t₀ f₀ o₀) (after_materialising t k v (head attr)) t' done (length t.operations) (ap (λ z. is_some z.head) (put_row-new t k v (head attr)))
@@ -230,7 +230,7 @@ module _ (x : Says) (t₀ : Tree) (root : ℕ) (f₀ : LatticeValues) (w₀ : Is
 pub following : (x : Says) → AnswersTrue x.meaning x.can_fold x.constants → AnswersJumps x.meaning x.can_fold_branch x.feasible → PassesForwarded x.meaning → NamesWell x → (accepts : AttrObj → Bool) (head : AttrObj → Head) → MakesConstants x.meaning accepts head → ((attr : AttrObj) → IsTrue (accepts attr) → x.meaning.is_branch (head attr) ≡ false) → FollowingLaws x accepts head
 following x answers jumps passes names accepts head makes plain = record {
   start = λ t₀ root f₀ w closed held. started x t₀ root f₀ w closed held;
-  folded = λ t₀ root f₀ t t' w₀ g w' k o₀ stands at folds some longer. fold_on x t₀ root f₀ w₀ answers jumps passes names accepts head makes plain k o₀ stands at folds t t' g w' some longer;
+  folded = λ t₀ root f₀ t t' w₀ g w' k o₀ liveness at folds some longer. fold_on x t₀ root f₀ w₀ answers jumps passes names accepts head makes plain k o₀ liveness at folds t t' g w' some longer;
   argument = λ t₀ root f₀ t w₀ g b v attr reached i is accepted w' keeps. argument_on x t₀ root f₀ w₀ answers jumps passes names accepts head makes plain t g b v attr reached i is accepted w' keeps;
   same = λ t₀ root f₀ t t' w₀ g w' s longer. same_on x t₀ root f₀ w₀ t t' g w' s longer;
 }

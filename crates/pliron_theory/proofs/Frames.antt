@@ -15,7 +15,7 @@ pub record LatticeValues : Type 1 where
 -- an operation makes a move
 pub record Makes (m : Meaning) (t : Tree) (env : Environment) (k : ℕ) (memo : Datum) (answer : Option (List Datum)) (a : Move) : Type 0 where
   pub operation : Operation
-  pub stands : op_at t k ≡ Some operation
+  pub liveness : op_at t k ≡ Some operation
   pub input : List Datum
   pub reads : input_of env operation.operands answer ≡ Some input
   pub acts : m.act (shape_of m t operation) memo input ≡ a
@@ -30,7 +30,7 @@ pub record Rules (m : Meaning) (t : Tree) (F : LatticeValues) : Type 1 where
   pub gives : (env env1 : Environment) (h : ℕ) (k : ℕ) (rest : List ℕ) (memo : Datum) (answer : Option (List Datum)) (ds : List Datum) → F.Always env → F.Moves env (Some h) (k ∷ rest) memo answer → (x : Makes m t env k memo answer (Give ds)) → bind env x.operation.results ds ≡ Some env1 → F.Always env1 × F.Moves env1 (Some h) rest Empty None × ((g : Option ℕ) (j : ℕ) (r : List ℕ) (w : Datum) → Deeper j k → F.Waits env g (j ∷ r) w → F.Waits env1 g (j ∷ r) w)
   pub goes : (env env1 : Environment) (h : ℕ) (k : ℕ) (rest : List ℕ) (memo : Datum) (answer : Option (List Datum)) (i : ℕ) (ds : List Datum) (c : ℕ) (b : Block) → F.Always env → F.Moves env (Some h) (k ∷ rest) memo answer → (x : Makes m t env k memo answer (Goto i ds)) → slice_get x.operation.successors i ≡ Some c → block_at t c ≡ Some b → bind env b.arguments ds ≡ Some env1 → F.Always env1 × F.Moves env1 (Some h) b.operations Empty None × ((g : Option ℕ) (j : ℕ) (r : List ℕ) (w : Datum) → Deeper j k → F.Waits env g (j ∷ r) w → F.Waits env1 g (j ∷ r) w)
   pub visits : (env env1 : Environment) (h : Option ℕ) (k : ℕ) (rest : List ℕ) (memo : Datum) (answer : Option (List Datum)) (i : ℕ) (ds : List Datum) (next : Datum) (r : ℕ) (b : Block) → F.Always env → F.Moves env h (k ∷ rest) memo answer → (x : Makes m t env k memo answer (Visit i ds next)) → slice_get x.operation.regions i ≡ Some r → entry_block t r ≡ Some b → bind env b.arguments ds ≡ Some env1 → F.Always env1 × F.Moves env1 (Some k) b.operations Empty None × F.Waits env1 h (k ∷ rest) next × ((g : Option ℕ) (j : ℕ) (r : List ℕ) (w : Datum) → Deeper j k → F.Waits env g (j ∷ r) w → F.Waits env1 g (j ∷ r) w)
-  pub tells : (env : Environment) (h : Option ℕ) (k : ℕ) (rest : List ℕ) (memo : Datum) (answer : Option (List Datum)) (e next d : Datum) → F.Always env → F.Moves env h (k ∷ rest) memo answer → Makes m t env k memo answer (Emit e next) → F.Moves env h (k ∷ rest) next (Some (d ∷ []))
+  pub accurate : (env : Environment) (h : Option ℕ) (k : ℕ) (rest : List ℕ) (memo : Datum) (answer : Option (List Datum)) (e next d : Datum) → F.Always env → F.Moves env h (k ∷ rest) memo answer → Makes m t env k memo answer (Emit e next) → F.Moves env h (k ∷ rest) next (Some (d ∷ []))
   pub resumes : (env : Environment) (h : Option ℕ) (rest : List ℕ) (memo : Datum) (ds : List Datum) → F.Waits env h rest memo → F.Moves env h rest memo (Some ds)
 
 module _ (m : Meaning) (t : Tree) (F : LatticeValues) (rules : Rules m t F) (root : ℕ) where
@@ -111,7 +111,7 @@ module _ (m : Meaning) (t : Tree) (F : LatticeValues) (rules : Rules m t F) (roo
   emit_holds s g k rest re e next x (d ∷ world) = record {
     holder = g.holder;
     always = g.always;
-    place = subst (λ r. F.Moves s.environment g.holder r next (Some (d ∷ []))) (sym re) (rules.tells s.environment g.holder k rest s.memo s.answer e next d g.always (subst (λ r. F.Moves s.environment g.holder r s.memo s.answer) re g.place) x);
+    place = subst (λ r. F.Moves s.environment g.holder r next (Some (d ∷ []))) (sym re) (rules.accurate s.environment g.holder k rest s.memo s.answer e next d g.always (subst (λ r. F.Moves s.environment g.holder r s.memo s.answer) re g.place) x);
     below = g.below;
   }
 
@@ -125,7 +125,7 @@ module _ (m : Meaning) (t : Tree) (F : LatticeValues) (rules : Rules m t F) (roo
 
   move_holds : (s : State) → (g : Holding s) → (k : ℕ) (rest : List ℕ) → s.rest ≡ k ∷ rest → (o : Operation) → op_at t k ≡ Some o → (i : Option (List Datum)) → input_of s.environment o.operands s.answer ≡ i → IfGoes (move m t s o k rest i) Holding
   move_holds s g k rest re o oe None ie = tt
-  move_holds s g k rest re o oe (Some ds) ie = perform_holds s g k rest re _ (record { operation = o; stands = oe; input = ds; reads = ie; acts = refl })
+  move_holds s g k rest re o oe (Some ds) ie = perform_holds s g k rest re _ (record { operation = o; liveness = oe; input = ds; reads = ie; acts = refl })
 
   turn_holds : (s : State) → (g : Holding s) → (k : ℕ) (rest : List ℕ) → s.rest ≡ k ∷ rest → (o : Option Operation) → op_at t k ≡ o → IfGoes (turn m t s k rest o) Holding
   turn_holds s g k rest re None oe = tt

@@ -2,22 +2,22 @@
 use Rattle.std.proofs.Common.{◌≡◌, ℕ, List, [], ◌∷◌, Option, Some, None, refl, sym, ap, ◌∙◌, subst, arith, slice_get}
 use Rattle.pliron_laws.specs.Datum.{Datum, Empty, Move, Give, Visit, Goto, Leave, Emit, Trap}
 use Rattle.pliron_laws.specs.Tree.{Tree, Operation, Block}
-use Rattle.pliron_laws.specs.Machine.{Environment, Waiting, State, Next, Goes, Over, Ended, Trapped, Reached, trap, bind, at_rest, leave, after_giving, begin, enter, entry_in, block_in, go_to, emit, perform}
+use Rattle.pliron_laws.specs.Machine.{Environment, Waiting, State, Next, Continues, Over, Ended, Trapped, Reached, trap, bind, at_rest, leave, after_giving, begin, enter, entry_in, block_in, go_to, emit, perform}
 use Rattle.pliron_laws.specs.Acting.{MovesAlike}
 use Rattle.pliron_theory.proofs.Simulation.{Pace, Both, Finish}
 
 abbrev pub NextAlike : (State → State → Type 0) → Next → Next → Type 0
-NextAlike R (Goes s) (Goes s') = R s s'
+NextAlike R (Continues s) (Continues s') = R s s'
 NextAlike R (Over x) (Over y) = x ≡ y
-NextAlike R (Goes s) (Over y) = ⊥
-NextAlike R (Over x) (Goes s') = ⊥
+NextAlike R (Continues s) (Over y) = ⊥
+NextAlike R (Over x) (Continues s') = ⊥
 
 -- both make a step, or both are over
 pub paced : (f g : State → Next) (R : State → State → Type 0) (left : State → State → ℕ) (s s' : State) (o o' : Next) → f s ≡ o → g s' ≡ o' → NextAlike R o o' → Pace f g R left s s'
-paced f g R left s s' (Goes a) (Goes b) e e' r = Both a b e e' r
+paced f g R left s s' (Continues a) (Continues b) e e' r = Both a b e e' r
 paced f g R left s s' (Over x) (Over y) e e' r = Finish y (e ∙ ap Over r) e'
-paced f g R left s s' (Goes a) (Over y) e e' r = absurd r
-paced f g R left s s' (Over x) (Goes b) e e' r = absurd r
+paced f g R left s s' (Continues a) (Over y) e e' r = absurd r
+paced f g R left s s' (Over x) (Continues b) e e' r = absurd r
 
 abbrev pub Waits : (List ℕ → List ℕ → Datum → Type 0) → List Waiting → List Waiting → Type 0
 Waits W [] [] = Unit {0}
@@ -114,7 +114,7 @@ goes_tied T t t' s s' r b b' ds es h (v ∷ vs) (v' ∷ vs') w = enters_tied T s
 pub record AlikeMoves (T : Ties) (t t' : Tree) (s s' : State) (k k' : ℕ) (rest rest' : List ℕ) (o o' : Operation) (a : Move) (visits : ℕ → List Datum → List Datum → Type 0) (gotos : ℕ → List Datum → ℕ → List Datum → Type 0) : Type 0 where
   pub after : T.At rest rest' Empty None
   pub wait : (i : ℕ) (ds : List Datum) (memo : Datum) → a ≡ Visit i ds memo → T.Wait (k ∷ rest) (k' ∷ rest') memo
-  pub told : (e memo answer : Datum) → a ≡ Emit e memo → T.At s.rest s'.rest memo (Some (answer ∷ []))
+  pub reported : (e memo answer : Datum) → a ≡ Emit e memo → T.At s.rest s'.rest memo (Some (answer ∷ []))
   pub results : (env env' : Environment) (ds : List Datum) → T.Env env env' → EnvsTied T.Env (bind env o.results ds) (bind env' o'.results ds)
   pub entries : (i : ℕ) (ds es : List Datum) → visits i ds es → EntersTied T (entry_in t (slice_get o.regions i)) (entry_in t' (slice_get o'.regions i)) ds es
   pub targets : (i j : ℕ) (ds es : List Datum) → gotos i ds j es → EntersTied T (block_in t (slice_get o.successors i)) (block_in t' (slice_get o'.successors j)) ds es
@@ -148,5 +148,5 @@ alike_tied T t t' s s' r k k' rest rest' o o' visits gotos (Goto i ds) b m h =
     let v = m.goto i ds refl in
     subst (λ x. NextAlike (Tied T) (perform t s o k rest (Goto i ds)) (perform t' s' o' k' rest' x)) (sym v.2) (goes_tied T t t' s s' r _ _ ds v.1 (h.targets i v.0 ds v.1 v.3) s.waiting s'.waiting r.waiting)
 alike_tied T t t' s s' r k k' rest rest' o o' visits gotos (Leave ds) b m h = subst (λ x. NextAlike (Tied T) (leave s s.waiting ds) (perform t' s' o' k' rest' x)) (sym (m.leave ds refl)) (leave_tied T s s' r s.waiting s'.waiting r.waiting ds)
-alike_tied T t t' s s' r k k' rest rest' o o' visits gotos (Emit e memo) b m h = subst (λ x. NextAlike (Tied T) (emit s e memo s.world) (perform t' s' o' k' rest' x)) (sym (m.emit e memo refl)) (emits_tied T s s' r e memo (λ answer. h.told e memo answer refl) s.world s'.world r.world)
+alike_tied T t t' s s' r k k' rest rest' o o' visits gotos (Emit e memo) b m h = subst (λ x. NextAlike (Tied T) (emit s e memo s.world) (perform t' s' o' k' rest' x)) (sym (m.emit e memo refl)) (emits_tied T s s' r e memo (λ answer. h.reported e memo answer refl) s.world s'.world r.world)
 alike_tied T t t' s s' r k k' rest rest' o o' visits gotos Trap b m h = subst (λ x. NextAlike (Tied T) (trap s) (perform t' s' o' k' rest' x)) (sym (m.traps refl)) (trap_tied T s s' r)

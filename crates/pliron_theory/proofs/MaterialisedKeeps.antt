@@ -75,7 +75,7 @@ module _ (m : Meaning) (t : Tree) (head : Head) (attr : AttrObj) (w : IsTree t) 
   body_first block = length t.operations ∷ body_of t block
 
   -- before the operation whose result the value is
-  module _ (at block old j : ℕ) (standing : parent_of t at ≡ Some block) (def : definition_of t old ≡ Some (Result at j)) where
+  module _ (at block old j : ℕ) (all_in_place : parent_of t at ≡ Some block) (def : definition_of t old ≡ Some (Result at j)) where
     pub result_uses : IsTree (u block (body_before at block)) → (root : ℕ) → IsFit m (u block (body_before at block)) root → (user : ℕ) → In old (operands_of (u block (body_before at block)) user) → MayUse (u block (body_before at block)) root user v
     result_uses wu = may_use_before m (u block (body_before at block)) wu n v block old (is_put block (body_before at block)) home at j (body_of t block) new_def here
       where
@@ -83,23 +83,23 @@ module _ (m : Meaning) (t : Tree) (head : Head) (attr : AttrObj) (w : IsTree t) 
         new_def = beside.definitions old (Result at j) def
 
         other : at ≢ n
-        other e = let lt = past_live t at (w.joined.standing at block standing).0 in omega (arith, lt, e)
+        other e = let lt = past_live t at (w.joined.all_in_place at block all_in_place).0 in omega (arith, lt, e)
 
         home : defining_block (u block (body_before at block)) (definition_of (u block (body_before at block)) old) ≡ Some block
-        home = ap (defining_block (u block (body_before at block))) new_def ∙ get_or-set_other made.parents n at (Some block) None other ∙ beside.parents at other ∙ standing
+        home = ap (defining_block (u block (body_before at block))) new_def ∙ get_or-set_other made.parents n at (Some block) None other ∙ beside.parents at other ∙ all_in_place
 
         here : body_of (u block (body_before at block)) block ≡ body_before at block
-        here = get_or-set_same made.bodies block (body_before at block) [] (range_of m t head attr w makes plain block at (w.bodies.listed at block standing))
+        here = get_or-set_same made.bodies block (body_before at block) [] (range_of m t head attr w makes plain block at (w.bodies.listed at block all_in_place))
 
     pub result_keeps : IsConstant m t old attr → IsTree (put_next_to made n at (Some block)) → IsTree (after_replacing (put_next_to made n at (Some block)) old v) → KeepsRuns m t (after_replacing (put_next_to made n at (Some block)) old v)
     result_keeps reads wu wv =
-        let x = before_well m t head attr w makes plain at block standing wu in
+        let x = before_well m t head attr w makes plain at block all_in_place wu in
         put_constant_keeps m t (u block (body_before at block)) old v n (datum_of attr) x.0 wu wv (gives block (body_before at block) old) (result_uses wu) (λ root f l. x.1 root f old (datum_of attr) (reads root f))
 
     -- in a tree that came from another one, whose roots read the value as the constant
     pub result_keeps_on : (t₀ : Tree) → KeepsRuns m t₀ t → ((root : ℕ) → IsFit m t₀ root → IsLive t root → IsReadAs m t old (datum_of attr) root) → IsTree (put_next_to made n at (Some block)) → IsTree (after_replacing (put_next_to made n at (Some block)) old v) → KeepsRuns m t₀ (after_replacing (put_next_to made n at (Some block)) old v) × ((root : ℕ) → IsFit m t₀ root → IsLive t root → (x : ℕ) (d : Datum) → x ≢ v → IsReadAs m t x d root → IsReadAs m (after_replacing (put_next_to made n at (Some block)) old v) x d root)
     result_keeps_on t₀ keeps reads wu wv =
-        let x = before_well m t head attr w makes plain at block standing wu in
+        let x = before_well m t head attr w makes plain at block all_in_place wu in
         let there = keeps_trans m t₀ t (u block (body_before at block)) keeps x.0 in (
           put_constant_keeps m t₀ (u block (body_before at block)) old v n (datum_of attr) there wu wv (gives block (body_before at block) old) (result_uses wu) (λ root f l. let old_l = before root f l in x.1 root (keeps.stays root f old_l) old (datum_of attr) (reads root f old_l)),
           λ root f l y d ne known.
@@ -108,15 +108,15 @@ module _ (m : Meaning) (t : Tree) (head : Head) (attr : AttrObj) (w : IsTree t) 
         )
       where
         before : (root : ℕ) → IsFit m t₀ root → IsLive (u block (body_before at block)) root → IsLive t root
-        before root f l = (before_well m t head attr w makes plain at block standing wu).0.fewer root (let g = keeps.grows in let lt = past_live t₀ root f.live in omega (arith, g, lt)) l
+        before root f l = (before_well m t head attr w makes plain at block all_in_place wu).0.fewer root (let g = keeps.grows in let lt = past_live t₀ root f.live in omega (arith, g, lt)) l
 
         forth : (root : ℕ) → IsFit m t root → IsLive (u block (body_before at block)) root
         forth root f = subst (λ z. IsSome z.head) (sym (beside.operations root (λ e. let lt = past_live t root f.live in omega (arith, lt, e)))) f.live
 
   -- first in the block whose argument the value is
   pub argument_keeps : (block old j : ℕ) → IsBlock t block → definition_of t old ≡ Some (Argument block j) → IsConstant m t old attr → IsTree (put_first made n block) → IsTree (after_replacing (put_first made n block) old v) → KeepsRuns m t (after_replacing (put_first made n block) old v)
-  argument_keeps block old j standing def reads wu wv =
-      let x = first_well m t head attr w makes plain block standing wu in
+  argument_keeps block old j all_in_place def reads wu wv =
+      let x = first_well m t head attr w makes plain block all_in_place wu in
       put_constant_keeps m t (u block (body_first block)) old v n (datum_of attr) x.0 wu wv (gives block (body_first block) old)
       (may_use_first m (u block (body_first block)) wu n v block old (is_put block (body_first block)) (ap (defining_block (u block (body_first block))) new_def) j (body_of t block) new_def here)
       (λ root f l. x.1 root f old (datum_of attr) (reads root f))
@@ -125,4 +125,4 @@ module _ (m : Meaning) (t : Tree) (head : Head) (attr : AttrObj) (w : IsTree t) 
       new_def = beside.definitions old (Argument block j) def
 
       here : body_of (u block (body_first block)) block ≡ body_first block
-      here = get_or-set_same made.bodies block (body_first block) [] (block-within t block w.keys standing)
+      here = get_or-set_same made.bodies block (body_first block) [] (block-within t block w.keys all_in_place)

@@ -38,15 +38,15 @@ module _ (t : Tree) (root b v : ℕ) (head : Head) (body : List ℕ) (w : IsTree
   beside : IsBeside t made c
   beside = created_beside t head 1 0 w
 
-  stands : IsBlock made b
-  stands = subst IsSome (sym (beside.block_parents b)) (held_block t b held.0 held.1)
+  liveness : IsBlock made b
+  liveness = subst IsSome (sym (beside.block_parents b)) (held_block t b held.0 held.1)
 
   joined : IsJoined between
   joined =
       let all = tree_created t head w in
       let row = made_row t made c head refl refl in
       let free : parent_of made c ≡ None = get_grown t.parents None c ∙ get_or_past t.parents c None (omega (arith, w.keys.parents)) in
-      kept_put made c b body all.keys all.joined (ap (λ z. is_some z.head) row) stands free (λ h. blockless made all c b (ap (λ z. z.regions) row) h)
+      kept_put made c b body all.keys all.joined (ap (λ z. is_some z.head) row) liveness free (λ h. blockless made all c b (ap (λ z. z.regions) row) h)
 
   put_inside : IsInsideChange t between root
   put_inside = beside_placed t made c root b body w beside held
@@ -61,4 +61,4 @@ module _ (t : Tree) (root b v : ℕ) (head : Head) (body : List ℕ) (w : IsTree
 
   pub argument_inside : (i : ℕ) → slice_get (arguments_of t b) i ≡ Some v → IsInsideChange t (after_replacing between v (length t.definitions)) root
   argument_inside i listed =
-      after (subst (IsDefiningOperationInside between root) (sym (beside.definitions v (Argument b i) (w.joined.arguments b i v listed))) (holds_stays t between root joined put_inside b stands held))
+      after (subst (IsDefiningOperationInside between root) (sym (beside.definitions v (Argument b i) (w.joined.arguments b i v listed))) (holds_stays t between root joined put_inside b liveness held))

@@ -27,21 +27,21 @@ abbrev pub no_block_dead : ℕ → Bool
 no_block_dead b = false
 
 module _ (m : Meaning) (t t' : Tree) (dead : ℕ → Bool) (w : IsTree t) (w' : IsTree t') (h : IsSwept t t' dead no_block_dead) (g : AreAway t' dead no_block_dead) (p : ArePut m t t' dead) (root : ℕ) (f : IsFit m t' root) (left : dead root ≡ false) where
-  told : (k : ℕ) → (dead k ≡ true → ⊥) → dead k ≡ false
-  told k never = go (dead k) refl
+  reported : (k : ℕ) → (dead k ≡ true → ⊥) → dead k ≡ false
+  reported k never = go (dead k) refl
     where
       go : (b : Bool) → dead k ≡ b → dead k ≡ false
       go true d = absurd (never d)
       go false d = d
 
   user_old : (k v : ℕ) → In v (operands_of t k) → dead k ≡ false
-  user_old k v i = told k (λ d. subst (In v) (p.operands k d) i)
+  user_old k v i = reported k (λ d. subst (In v) (p.operands k d) i)
 
   jumper_old : (k b : ℕ) → In b (successors_of t k) → dead k ≡ false
-  jumper_old k b i = told k (λ d. subst (In b) (p.successors k d) i)
+  jumper_old k b i = reported k (λ d. subst (In b) (p.successors k d) i)
 
   holder_old : (k r : ℕ) → In r (regions_of t k) → dead k ≡ false
-  holder_old k r i = told k (λ d. subst (In r) (p.regions k d) i)
+  holder_old k r i = reported k (λ d. subst (In r) (p.regions k d) i)
 
   old_operand : (k v : ℕ) → In v (operands_of t k) → In v (operands_of t' k)
   old_operand k v i = subst (In v) (sym (h.operands k (user_old k v i))) i
@@ -151,10 +151,10 @@ module _ (m : Meaning) (t t' : Tree) (dead : ℕ → Bool) (w : IsTree t) (w' : 
     dominance = λ k r i j. ssa k r i j;
     forwards = λ k i b o ins e br s. forwards k i b o ins e br s;
     terminators = λ k b x i e tr q.
-        let lk = told k (λ d. true≢false (sym tr ∙ p.plain k x d e)) in
+        let lk = reported k (λ d. true≢false (sym tr ∙ p.plain k x d e)) in
         last_put b k (f.defined.terminators k b x (forth k lk i) (ap (λ z. z.head) (h.rows k lk) ∙ e) tr (h.parents k lk ∙ q));
     unused = λ k v user i ne j u.
-        let lk = told k (λ d. ne (p.successors k d)) in
+        let lk = reported k (λ d. ne (p.successors k d)) in
         f.defined.unused k v user (forth k lk i) (λ e. ne (sym (h.successors k lk) ∙ e)) (subst (In v) (sym (ap (λ z. z.results) (h.rows k lk))) j) (old_operand user v u);
     dominated = dominated;
   }

@@ -1,6 +1,6 @@
 -- Users of a value may use the result of an operation that was put before what defines the value.
 use Rattle.std.proofs.Common.{◌≡◌, ◌≢◌, inl, inr, ⊎_elim, ℕ, List, [], ◌∷◌, ◌++◌, if◌then◌else◌, Option, Some, None, slice_get, refl, sym, ap, ◌∙◌, subst, arith}
-use Rattle.std.proofs.lemmas.Bool.Decides.{eqb_tells}
+use Rattle.std.proofs.lemmas.Bool.Decides.{eqb_decides}
 use Rattle.pliron_core.specs.declared.context.Def.{Def}
 use Rattle.pliron_core.specs.declared.context.Def.TheVariants.{Result, Argument}
 use Rattle.pliron_core.specs.Lists.{In, put_before}
@@ -20,7 +20,7 @@ pub put_passed : (at n u : ℕ) (xs done rest : List ℕ) → put_before at n xs
 put_passed at n u [] [] rest e i = absurd i
 put_passed at n u [] (d ∷ done) rest e i = grind arith
 put_passed at n u (x ∷ xs) [] rest e i = absurd i
-put_passed at n u (x ∷ xs) (d ∷ done) rest e i = ⊎_elim (λ y. here (ap (λ b. if b then n ∷ x ∷ xs else x ∷ put_before at n xs) (sym y.0) ∙ e)) (λ y. there y.1 (ap (λ b. if b then n ∷ x ∷ xs else x ∷ put_before at n xs) (sym y.0) ∙ e) (λ f j. put_passed at n u xs done rest f j) i) (eqb_tells at x)
+put_passed at n u (x ∷ xs) (d ∷ done) rest e i = ⊎_elim (λ y. here (ap (λ b. if b then n ∷ x ∷ xs else x ∷ put_before at n xs) (sym y.0) ∙ e)) (λ y. there y.1 (ap (λ b. if b then n ∷ x ∷ xs else x ∷ put_before at n xs) (sym y.0) ∙ e) (λ f j. put_passed at n u xs done rest f j) i) (eqb_decides at x)
   where
     here : n ∷ x ∷ xs ≡ d ∷ done ++ u ∷ rest → In n (d ∷ done)
     here f = let g : n ≡ d = cc in inl g
@@ -96,8 +96,8 @@ module _ (m : Meaning) (t : Tree) (w : IsTree t) (n v block old : ℕ) (p : IsPu
   pub may_use_before : (at j : ℕ) (xs : List ℕ) → definition_of t old ≡ Some (Result at j) → body_of t block ≡ put_before at n xs → (root : ℕ) → IsFit m t root → (user : ℕ) → In old (operands_of t user) → MayUse t root user v
   may_use_before at j xs def body = may_use passes
     where
-      standing : parent_of t at ≡ Some block
-      standing = ap (defining_block t) (sym def) ∙ home
+      all_in_place : parent_of t at ≡ Some block
+      all_in_place = ap (defining_block t) (sym def) ∙ home
 
       passes : PassesToo
       passes around user b before done rest holds i be q = go (subst (λ x. HasPassed t x before b done) def q)
@@ -105,9 +105,9 @@ module _ (m : Meaning) (t : Tree) (w : IsTree t) (n v block old : ℕ) (p : IsPu
           go : HasPassed t (Some (Result at j)) before b done → HasPassed t (Some (Result n 0)) before b done
           go (inl y) =
               let listed : In at (body_of t b) = subst (In at) (sym be) (In-left at done (around ∷ rest) y) in
-              let same : b ≡ block = some_is (sym (w.bodies.owned at b listed) ∙ standing) in
+              let same : b ≡ block = some_is (sym (w.bodies.owned at b listed) ∙ all_in_place) in
               inl (put_passed at n around xs done rest (sym body ∙ ap (body_of t) (sym same) ∙ be) y)
-          go (inr x) = inr (x.0, p.parent ∙ sym standing ∙ x.1, x.2)
+          go (inr x) = inr (x.0, p.parent ∙ sym all_in_place ∙ x.1, x.2)
 
   -- first in the block that has the old value as an argument
   pub may_use_first : (j : ℕ) (xs : List ℕ) → definition_of t old ≡ Some (Argument block j) → body_of t block ≡ n ∷ xs → (root : ℕ) → IsFit m t root → (user : ℕ) → In old (operands_of t user) → MayUse t root user v

@@ -60,13 +60,13 @@ module _ (m : Meaning) (t t' : Tree) (a op new : ℕ) (front : List ℕ) (w : Is
   op_in = w.bodies.owned op a (subst (In op) (sym h.split) (In-right op front (op ∷ []) (inl refl)))
 
   pub op_live : IsLive t op
-  op_live = (w.joined.standing op a op_in).0
+  op_live = (w.joined.all_in_place op a op_in).0
 
   pub new_in : parent_of t' new ≡ Some a
   new_in = w'.bodies.owned new a (subst (In new) (sym h.put) (In-right new front (new ∷ []) (inl refl)))
 
   pub new_live : IsLive t' new
-  new_live = (w'.joined.standing new a new_in).0
+  new_live = (w'.joined.all_in_place new a new_in).0
 
   not_live : (u : Tree) (k : ℕ) → head_of u k ≡ None → IsLive u k → ⊥
   not_live u k e l = true≢false (sym l ∙ ap is_some e)
@@ -78,10 +78,10 @@ module _ (m : Meaning) (t t' : Tree) (a op new : ℕ) (front : List ℕ) (w : Is
   live_old k l e = not_live t new h.fresh (subst (IsLive t) e l)
 
   pub live_new : (k : ℕ) → IsLive t' k → k ≢ op
-  live_new k l e = not_live t' op h.gone (subst (IsLive t') e l)
+  live_new k l e = not_live t' op h.deleted (subst (IsLive t') e l)
 
   body_live : (c k : ℕ) → In k (body_of t c) → k ≢ new
-  body_live c k i = live_old k (w.joined.standing k c (w.bodies.owned k c i)).0
+  body_live c k i = live_old k (w.joined.all_in_place k c (w.bodies.owned k c i)).0
 
   placed_free : (xs : List ℕ) → (In op xs → ⊥) → ((k : ℕ) → In k xs → k ≢ new) → placed_all (λ k. None) (exchanged op new) xs ≡ xs
   placed_free [] f g = refl
@@ -187,7 +187,7 @@ module _ (m : Meaning) (t t' : Tree) (a op new : ℕ) (front : List ℕ) (w : Is
   substitutes = record {
     own_rest = λ k rest u. tt;
     absent = λ k l e. elim (cases_eq k new) [
-      | inl s ↦ no_op t' (exchanged op new k) (ap (head_of t') (ap (exchanged op new) s ∙ exchanged_second op new apart) ∙ h.gone)
+      | inl s ↦ no_op t' (exchanged op new k) (ap (head_of t') (ap (exchanged op new) s ∙ exchanged_second op new apart) ∙ h.deleted)
       | inr nq ↦ elim (cases_eq k op) [
         | inl s ↦ absurd (there op op_live (ap (op_at t) (sym s) ∙ e))
         | inr np ↦ no_op t' (exchanged op new k) (ap (head_of t') (exchanged_other op new k np nq) ∙ ap (λ z. z.head) (h.rows k np nq) ∙ not_there k e (head_of t k) refl)

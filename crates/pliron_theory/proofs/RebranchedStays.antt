@@ -70,11 +70,11 @@ module _ (m : Meaning) (t t' : Tree) (a op new : ℕ) (front : List ℕ) (w : Is
 
   -- what an operation is and names, under its key before
   now_held : (k c : ℕ) → parent_of t' k ≡ Some c → k ≢ op
-  now_held k c e = now_op k (w'.joined.standing k c e).0
+  now_held k c e = now_op k (w'.joined.all_in_place k c e).0
 
   user_back : (k v : ℕ) → In v (operands_of t' k) → In v (operands_of t (other k))
   user_back k v i = elim (cases_eq k op) [
-    | inl s ↦ absurd (subst (In v) (ap (operands_of t') s ∙ (w'.joined.erased op h.gone).0) i)
+    | inl s ↦ absurd (subst (In v) (ap (operands_of t') s ∙ (w'.joined.erased op h.deleted).0) i)
     | inr np ↦ elim (cases_eq k new) [
       | inl s ↦ subst (λ z. In v (operands_of t z)) (sym (ap other s ∙ is_new)) (h.new_operands v (subst (λ z. In v (operands_of t' z)) s i))
       | inr nq ↦ subst (λ z. In v (operands_of t z)) (sym (is_else k np nq)) (subst (In v) (h.operands k np nq) i)
@@ -83,7 +83,7 @@ module _ (m : Meaning) (t t' : Tree) (a op new : ℕ) (front : List ℕ) (w : Is
 
   target_back : (k c : ℕ) → In c (successors_of t' k) → In c (successors_of t (other k))
   target_back k c i = elim (cases_eq k op) [
-    | inl s ↦ absurd (subst (In c) (ap (successors_of t') s ∙ (w'.joined.erased op h.gone).1) i)
+    | inl s ↦ absurd (subst (In c) (ap (successors_of t') s ∙ (w'.joined.erased op h.deleted).1) i)
     | inr np ↦ elim (cases_eq k new) [
       | inl s ↦ subst (λ z. In c (successors_of t z)) (sym (ap other s ∙ is_new)) (h.new_successors c (subst (λ z. In c (successors_of t' z)) s i))
       | inr nq ↦ subst (λ z. In c (successors_of t z)) (sym (is_else k np nq)) (subst (In c) (h.successors k np nq) i)
@@ -97,7 +97,7 @@ module _ (m : Meaning) (t t' : Tree) (a op new : ℕ) (front : List ℕ) (w : Is
   ]
 
   holder_not_op : (k r : ℕ) → In r (regions_of t' k) → k ≢ op
-  holder_not_op k r i e = subst (In r) (ap (regions_of t') e ∙ ap (λ z. z.regions) (w'.joined.erased op h.gone).2) i
+  holder_not_op k r i e = subst (In r) (ap (regions_of t') e ∙ ap (λ z. z.regions) (w'.joined.erased op h.deleted).2) i
 
   block_back : (c p : ℕ) → block_parent_operation_of t' c ≡ Some p → (block_parent_operation_of t c ≡ Some p) × (p ≢ op) × (p ≢ new)
   block_back c p e =
@@ -175,7 +175,7 @@ module _ (m : Meaning) (t t' : Tree) (a op new : ℕ) (front : List ℕ) (w : Is
         edge : (k s : ℕ) → In s (successors_of t' k) → IsInside t' root k ⊎ HoldsBlock t' root s → EndsBlock t' k
         edge k s i held =
             let ends = links.edges (other k) s (target_back k s i) (held_back k s held) in
-            let np : k ≢ op = λ q. subst (In s) (ap (successors_of t') q ∙ (w'.joined.erased op h.gone).1) i in
+            let np : k ≢ op = λ q. subst (In s) (ap (successors_of t') q ∙ (w'.joined.erased op h.deleted).1) i in
             record {
               block = ends.block;
               in_block = parent_other k np ∙ ends.in_block;
@@ -255,7 +255,7 @@ module _ (m : Meaning) (t t' : Tree) (a op new : ℕ) (front : List ℕ) (w : Is
               let last : last_of None (body_of t c) ≡ Some k = ap (last_of None) (sym (h.bodies c ne)) ∙ q in
               let at : parent_of t k ≡ Some c = w.bodies.owned k c (last_of-In k (body_of t c) last) in
               let np : k ≢ op = λ s. ne (some_is (sym at ∙ ap (parent_of t) s ∙ op_at_a)) in
-              let nq = old_op k (w.joined.standing k c at).0 in
+              let nq = old_op k (w.joined.all_in_place k c at).0 in
               subst (λ o. In x (succs_from t o)) (sym last) (subst (In x) (h.successors k np nq) i)
         ]
 
@@ -291,14 +291,14 @@ module _ (m : Meaning) (t t' : Tree) (a op new : ℕ) (front : List ℕ) (w : Is
     ]
       where
         nq : x ≢ new
-        nq = old_op x (w.joined.standing x c at).0
+        nq = old_op x (w.joined.all_in_place x c at).0
 
         in_front : (k : ℕ) (xs : List ℕ) → front ≡ xs → In k xs → In k (body_of t a)
         in_front k xs q i = subst (In k) (sym h.split) (In-left k front (op ∷ []) (subst (In k) (sym q) i))
 
         branch : c ≡ a → x ≡ op → (r : List ℕ) × (body_of t c ≡ done ++ x ∷ r)
         branch s p = ⊎_elim
-            (λ r. absurd (old_op new (w.joined.standing new a (w.bodies.owned new a (in_front new _ r.1 (In-right new done (new ∷ r.0) (inl refl))))).0 refl))
+            (λ r. absurd (old_op new (w.joined.all_in_place new a (w.bodies.owned new a (in_front new _ r.1 (In-right new done (new ∷ r.0) (inl refl))))).0 refl))
             (λ r. ([], ap (body_of t) s ∙ h.split ∙ ap (λ z. front ++ z ∷ []) (sym p) ∙ ap (λ z. z ++ x ∷ []) (sym (r.1 ∙ ap (λ z. front ++ z) (only r.0 r.2) ∙ append-nil front))))
             (split_append new rest front (new ∷ []) done (sym h.put ∙ ap (body_of t') (sym s) ∙ e ∙ ap (λ z. done ++ z ∷ rest) (ap other p ∙ is_op)))
           where
@@ -340,10 +340,10 @@ module _ (m : Meaning) (t t' : Tree) (a op new : ℕ) (front : List ℕ) (w : Is
         d = f.defined.dominated (other user) v j (made_back (definition_of t v) x.0 (subst (IsDefiningOperationInside t' root) x.1 made))
 
         nu : user ≢ op
-        nu s = subst (In v) (ap (operands_of t') s ∙ (w'.joined.erased op h.gone).0) i
+        nu s = subst (In v) (ap (operands_of t') s ∙ (w'.joined.erased op h.deleted).0) i
 
         na : other d.around ≢ op
-        na s = old_op d.around (w.joined.standing d.around d.block d.in_block).0 (sym (twice d.around) ∙ ap other s ∙ is_op)
+        na s = old_op d.around (w.joined.all_in_place d.around d.block d.in_block).0 (sym (twice d.around) ∙ ap other s ∙ is_op)
 
     defined : WellDefined m t' root
     defined = record {

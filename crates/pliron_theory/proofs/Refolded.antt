@@ -93,14 +93,14 @@ module _ (m : Meaning) (t t' : Tree) (a op new : ℕ) (front : List ℕ) (known 
 
   acts : (root : ℕ) → IsFit m t root → ActsInPlace m t t' root op new
   acts root f st rest o o' first r at none e e' reads =
-      let same : h.operation ≡ o = some_is (sym h.stands ∙ e) in
+      let same : h.operation ≡ o = some_is (sym h.liveness ∙ e) in
       let x = op_shows t' new o' e' in
       let picked : map Some o'.operands ≡ pick h.places o.operands = ap (map Some) (sym x.operands) ∙ h.operands ∙ ap (λ z. pick h.places z.operands) same in
       let y = data_picked st.environment o.operands first reads h.places o'.operands picked in
       let old = op_shows t op o e in
       let knows : Known known first = known_read st.environment known o.operands first (long ∙ ap length old.operands) reads (λ j v c at' is. so root j v c f (ap (λ z. slice_get z j) old.operands ∙ at') is st op rest r at none (subst (In v) (sym old.operands) (in_slice o.operands j v at'))) in
       let alike = h.replaces.alike first y.0 (data_long st.environment o.operands first reads ∙ ap (λ z. length z.operands) (sym same) ∙ counted m t h.operation) knows y.2 in
-      let targets : h.operation.successors ≡ successors_of t op = sym (op_shows t op h.operation h.stands).successors in (
+      let targets : h.operation.successors ≡ successors_of t op = sym (op_shows t op h.operation h.liveness).successors in (
         y.0,
         y.1,
         subst (λ z. ActAlike m.act PassesSame (JumpsTo (successors_of t op) (successors_of t' new)) z (shape_of m t' o') first y.0) (ap (shape_of m t) same)
@@ -120,7 +120,7 @@ module _ (m : Meaning) (t t' : Tree) (a op new : ℕ) (front : List ℕ) (known 
           let there : slice_get (successors_of t' new) i ≡ Some c = ap (λ z. slice_get z i) x.successors ∙ at in
           let q = picked_at h.edges h.operation.successors i (Some c) (ap (λ z. slice_get z i) (sym h.replaces.targets_kept) ∙ mapped (successors_of t' new) i c there) in
           let kept = h.replaces.values_kept i q.0 q.1 in
-          let old = f.defined.forwards op q.0 c h.operation inside h.stands (branch h.operation.head (op_shows t op h.operation h.stands).head) q.2 in
+          let old = f.defined.forwards op q.0 c h.operation inside h.liveness (branch h.operation.head (op_shows t op h.operation h.liveness).head) q.2 in
           ap (λ z. length (m.forwarded z i)) (new_shape o e)
           ∙ sym (length-map (m.forwarded (branch_shape h.head (length h.places) (length h.edges)) i) (λ j. slice_get h.places j)) ∙ ap length kept ∙ length-map (m.forwarded (shape_of m t h.operation) q.0) Some
           ∙ old ∙ ap length (sym (h.placed.arguments c))

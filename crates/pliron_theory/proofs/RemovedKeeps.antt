@@ -137,7 +137,7 @@ module _ (m : Meaning) (can_fold : Head → Bool) (SameTests : Head → Head →
     dropped = get_or-set_same u.arguments block _ [] has_block ∙ ap (λ z. remove (slice_index_or z block []) index) frame.arguments;
     unused = unused;
     left = λ k i. (end k).left;
-    standing = λ k i. let j = slice_in (successors_of t k) block i in frame.live k (user_live m can_fold SameTests shortened law tests t w block index k j.0 j.1);
+    all_in_place = λ k i. let j = slice_in (successors_of t k) block i in frame.live k (user_live m can_fold SameTests shortened law tests t w block index k j.0 j.1);
     rows = λ k n. ((end k).same (none_done m can_fold SameTests shortened law tests t w block index edges to u lose k n)).0;
     operands = λ k n. ((end k).same (none_done m can_fold SameTests shortened law tests t w block index edges to u lose k n)).1;
     results = frame.results;
@@ -169,7 +169,7 @@ module _ (m : Meaning) (can_fold : Head → Bool) (SameTests : Head → Head →
       abbrev user : IsUser m can_fold SameTests shortened law tests t w block index k
       user = record {
         operation = o;
-        stands = oe;
+        liveness = oe;
         admitted = admitted_shape m t k o oe (f.linked.admitted k (inr inside));
         branch = branches k i before.0 before.1;
         forwards = λ j s. subst (λ n. index < n) (sym (f.defined.forwards k j block o inside oe (branches k i before.0 before.1) s)) enough;
@@ -191,10 +191,10 @@ module _ (m : Meaning) (can_fold : Head → Bool) (SameTests : Head → Head →
       no_regions = childless m t o (law.alone s user.admitted branch).1
 
       stands_after : op_at t' k ≡ Some now
-      stands_after = op_kept u t' k refl refl refl refl ∙ after.1.stands
+      stands_after = op_kept u t' k refl refl refl refl ∙ after.1.liveness
 
       shape_after : shape_of m u now ≡ shape_of m t' now
-      shape_after = shape_closed m u t' now (sym (op_shows u k now after.1.stands).regions ∙ frame.regions k ∙ no_regions) after.1.branch
+      shape_after = shape_closed m u t' now (sym (op_shows u k now after.1.liveness).regions ∙ frame.regions k ∙ no_regions) after.1.branch
 
       is_now : (x : Operation) → op_at t' k ≡ Some x → now ≡ x
       is_now x e = some_is (sym stands_after ∙ e)
@@ -221,10 +221,10 @@ module _ (m : Meaning) (can_fold : Head → Bool) (SameTests : Head → Head →
       abbrev Jumps : ℕ → List Datum → ℕ → List Datum → Type 0
       Jumps = JumpsWithout m can_fold SameTests shortened law tests t w block index (end k).done
 
-      abbrev Goes : ℕ → List Datum → ℕ → List Datum → Type 0
-      Goes j ds l es = (l ≡ j) × PassesWithout block index count (slice_get (successors_of t k) j) ds es
+      abbrev Continues : ℕ → List Datum → ℕ → List Datum → Type 0
+      Continues j ds l es = (l ≡ j) × PassesWithout block index count (slice_get (successors_of t k) j) ds es
 
-      goes : (first : List Datum) → length first ≡ length o.operands → (later : Bool) (memo : Datum) (input : List Datum) → Comes m.act s first later memo input → (j : ℕ) (ds : List Datum) (l : ℕ) (es : List Datum) → m.act s memo input ≡ Goto j ds → Jumps j ds l es → Goes j ds l es
+      goes : (first : List Datum) → length first ≡ length o.operands → (later : Bool) (memo : Datum) (input : List Datum) → Comes m.act s first later memo input → (j : ℕ) (ds : List Datum) (l : ℕ) (es : List Datum) → m.act s memo input ≡ Goto j ds → Jumps j ds l es → Continues j ds l es
       goes first lf later memo input comes j ds l es e p = (p.0, passes p.1)
         where
           long : slice_get (successors_of t k) j ≡ Some block → length ds ≡ count
@@ -234,8 +234,8 @@ module _ (m : Meaning) (can_fold : Head → Bool) (SameTests : Head → Head →
           passes (inl y) = let q = (end k).sound j y.0 in inl (q, long q, y.1)
           passes (inr y) = inr (λ q. y.0 (all_done m can_fold SameTests shortened law tests t w block index edges to u lose k j q), y.1)
 
-      acts_now : (first first' : List Datum) → length first ≡ length o.operands → map Some first' ≡ pick (kept k) first → ActAlike m.act PassesSame Goes s (shape_of m t' now) first first'
-      acts_now first first' l q = subst (λ z. ActAlike m.act PassesSame Goes s z first first') shape_after (alike_where m.act PassesSame PassesSame Jumps Goes s (shape_of m u now) first first' (λ later memo input comes j ds next es e p. p) (λ later memo input comes j ds n es e p. goes first l later memo input comes j ds n es e p) (after.1.alike first first' l q))
+      acts_now : (first first' : List Datum) → length first ≡ length o.operands → map Some first' ≡ pick (kept k) first → ActAlike m.act PassesSame Continues s (shape_of m t' now) first first'
+      acts_now first first' l q = subst (λ z. ActAlike m.act PassesSame Continues s z first first') shape_after (alike_where m.act PassesSame PassesSame Jumps Continues s (shape_of m u now) first first' (λ later memo input comes j ds next es e p. p) (λ later memo input comes j ds n es e p. goes first l later memo input comes j ds n es e p) (after.1.alike first first' l q))
 
       leads : LeadsWithout m t t' block index (kept k) k
       leads = record {
@@ -243,7 +243,7 @@ module _ (m : Meaning) (can_fold : Head → Bool) (SameTests : Head → Head →
         fits = fits;
         acts = λ x x' xe xe' first first' l q.
             subst (λ y. length first ≡ length y.operands → ActAlike m.act PassesSame (λ j ds l es. (l ≡ j) × PassesWithout block index count (slice_get y.successors j) ds es) (shape_of m t y) (shape_of m t' x') first first') (some_is (sym oe ∙ xe))
-            (λ lf. subst (λ y. ActAlike m.act PassesSame Goes s (shape_of m t' y) first first') (is_now x' xe') (acts_now first first' lf q)) l;
+            (λ lf. subst (λ y. ActAlike m.act PassesSame Continues s (shape_of m t' y) first first') (is_now x' xe') (acts_now first first' lf q)) l;
       }
 
     -- an operation within the root with the block as the entry of a region

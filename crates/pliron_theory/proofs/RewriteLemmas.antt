@@ -76,8 +76,8 @@ module _ (m : Meaning) (can_fold : Head → Bool) (SameTests : Head → Head →
           (λ wu wv. result_keeps m t (head attr) attr w (makes attr accepted) is_plain op block old i e (w.joined.results op i old listed) reads wu wv)
 
   pub argument_put : (block i : ℕ) → p ≡ AtBlockStart block → IsBlock t block → slice_get (arguments_of t block) i ≡ Some old → IsConstant m t old attr → PutKeepsRuns m t p old (head attr)
-  argument_put block i at standing listed reads w = subst (λ q. IsTree (after_inserting (after_creating t (head attr) 1 0) q (length t.operations)) → IsTree (materialised_at t q old (head attr)) → KeepsRuns m t (materialised_at t q old (head attr))) (sym at)
-      (λ wu wv. argument_keeps m t (head attr) attr w (makes attr accepted) is_plain block old i standing (w.joined.arguments block i old listed) reads wu wv)
+  argument_put block i at all_in_place listed reads w = subst (λ q. IsTree (after_inserting (after_creating t (head attr) 1 0) q (length t.operations)) → IsTree (materialised_at t q old (head attr)) → KeepsRuns m t (materialised_at t q old (head attr))) (sym at)
+      (λ wu wv. argument_keeps m t (head attr) attr w (makes attr accepted) is_plain block old i all_in_place (w.joined.arguments block i old listed) reads wu wv)
 
 -- what was done
 

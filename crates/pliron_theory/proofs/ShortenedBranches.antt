@@ -18,7 +18,7 @@ use Rattle.std.specs.List.{range_with_len}
 use Rattle.pliron_laws.specs.PlaceLaws.{pick_all}
 use Rattle.pliron_theory.specs.Dropping.{EdgeLoses, Loses, Lacks, EdgesLose, AreEdgesTo}
 use Rattle.pliron_laws.proofs.Records.{op_shows, operation_of, make_op}
-use Rattle.pliron_laws.specs.Acting.{Act, Comes, Begins, Answered, Told, MovesAlike, ActAlike, PassesSame, JumpsSame, DropsAt, pick}
+use Rattle.pliron_laws.specs.Acting.{Act, Comes, Begins, Answered, AnsweredByWorld, MovesAlike, ActAlike, PassesSame, JumpsSame, DropsAt, pick}
 use Rattle.pliron_laws.proofs.ShapeLemmas.{shape_head}
 use Rattle.pliron_theory.proofs.Keys.{not_is}
 use Rattle.pliron_theory.proofs.Alike.{alike_refl}
@@ -47,13 +47,13 @@ module _ (act : Act) (G : ℕ → List Datum → ℕ → List Datum → Type 0) 
   visited true memo input i ds next answer c x e = let y = (alike.later memo input c).visit i ds next e in Answered i y.0 next answer x y.1
 
   emitted : (later : Bool) (memo : Datum) (input : List Datum) (effect next answer : Datum) → Comes act s first later memo input → ComesToo later memo input → act s memo input ≡ Emit effect next → Comes act s' first' true next (answer ∷ [])
-  emitted false memo input effect next answer c x e = Told effect next answer Begins (alike.begin.emit effect next (ap₂ (act s) (sym x.0) (sym x.1) ∙ e))
-  emitted true memo input effect next answer c x e = Told effect next answer x ((alike.later memo input c).emit effect next e)
+  emitted false memo input effect next answer c x e = AnsweredByWorld effect next answer Begins (alike.begin.emit effect next (ap₂ (act s) (sym x.0) (sym x.1) ∙ e))
+  emitted true memo input effect next answer c x e = AnsweredByWorld effect next answer x ((alike.later memo input c).emit effect next e)
 
   comes_too : {later : Bool} {memo : Datum} {input : List Datum} → Comes act s first later memo input → ComesToo later memo input
   comes_too Begins = (refl, refl)
   comes_too (Answered {later} {memo} {input} i ds next answer c e) = visited later memo input i ds next answer c (comes_too c) e
-  comes_too (Told {later} {memo} {input} effect next answer c e) = emitted later memo input effect next answer c (comes_too c) e
+  comes_too (AnsweredByWorld {later} {memo} {input} effect next answer c e) = emitted later memo input effect next answer c (comes_too c) e
 
 -- acting alike, one after the other
 pub alike_after : (act : Act) (G H K : ℕ → List Datum → ℕ → List Datum → Type 0) (s s' s'' : Shape) (a b c : List Datum) → ((i : ℕ) (ds : List Datum) (j : ℕ) (es : List Datum) (k : ℕ) (fs : List Datum) → G i ds j es → H j es k fs → K i ds k fs) → ActAlike act PassesSame G s s' a b → ActAlike act PassesSame H s' s'' b c → ActAlike act PassesSame K s s'' a c
@@ -238,25 +238,25 @@ module _ (m : Meaning) (can_fold : Head → Bool) (SameTests : Head → Head →
   -- what an edge does to the tree
   pub data Steps (e : Use) (x x' : Tree) : Type 0 where
     Stays : ((o : Operation) → op_at x e.user ≡ Some o → IsTrue (m.is_branch o.head) → slice_get (m.forwarded (shape_of m x o) e.place) index ≡ None) → x' ≡ x → Steps e x x'
-    Goes : (o : Operation) (p : ℕ) → op_at x e.user ≡ Some o → slice_get (m.forwarded (shape_of m x o) e.place) index ≡ Some p → p < length o.operands → x' ≡ lost x e.user p (shortened (shape_of m x o) e.place index) → Steps e x x'
+    Continues : (o : Operation) (p : ℕ) → op_at x e.user ≡ Some o → slice_get (m.forwarded (shape_of m x o) e.place) index ≡ Some p → p < length o.operands → x' ≡ lost x e.user p (shortened (shape_of m x o) e.place index) → Steps e x x'
 
   pub steps : (e : Use) (x x' : Tree) → IsLive x e.user → EdgeLoses m shortened index e x x' → Steps e x x'
-  steps e x x' live (Loses v has gone) =
+  steps e x x' live (Loses v has deleted) =
       let hd = some_of (head_of x e.user) live in
       let o = operation_of x e.user hd.0 in
       let oe = make_op x e.user hd.0 hd.1 in
       let place = has o oe in
-      Goes o place.0 oe place.1 place.2 (gone o place.0 oe place.1).1
+      Continues o place.0 oe place.1 place.2 (deleted o place.0 oe place.1).1
   steps e x x' live (Lacks none same) = Stays none same
 
   pub frame_step : (e : Use) (x x' : Tree) → IsLive t e.user → SameFrame x → Steps e x x' → SameFrame x'
   frame_step e x x' l f (Stays none same) = subst SameFrame (sym same) f
-  frame_step e x x' l f (Goes o p oe at lt same) = subst SameFrame (sym same) (frame_lost x e.user p _ l f)
+  frame_step e x x' l f (Continues o p oe at lt same) = subst SameFrame (sym same) (frame_lost x e.user p _ l f)
 
   -- a branch whose edges to the block forward a value for the argument
   pub record IsUser (k : ℕ) : Type 0 where
     pub operation : Operation
-    pub stands : op_at t k ≡ Some operation
+    pub liveness : op_at t k ≡ Some operation
     pub admitted : Admitted m (shape_of m t operation)
     pub branch : IsTrue (m.is_branch operation.head)
     pub forwards : (i : ℕ) → slice_get (successors_of t k) i ≡ Some block → index < length (m.forwarded (shape_of m t operation) i)
@@ -266,7 +266,7 @@ module _ (m : Meaning) (can_fold : Head → Bool) (SameTests : Head → Head →
   JumpsWithout done i ds j es = (j ≡ i) × ((In i done × (es ≡ remove ds index)) ⊎ ((In i done → ⊥) × (es ≡ ds)))
 
   pub record ActsStill (x : Tree) (k : ℕ) (now : Operation) (places done : List ℕ) (u : IsUser k) : Type 0 where
-    pub stands : op_at x k ≡ Some now
+    pub liveness : op_at x k ≡ Some now
     pub admitted : Admitted m (shape_of m x now)
     pub branch : IsTrue (m.is_branch now.head)
     pub shorter : (i : ℕ) → In i done → length (m.forwarded (shape_of m x now) i) + 1 ≡ length (m.forwarded (shape_of m t u.operation) i)
@@ -293,7 +293,7 @@ module _ (m : Meaning) (can_fold : Head → Bool) (SameTests : Head → Head →
 
   pub untouched : (e : Use) (x x' : Tree) (k : ℕ) → IsLive t e.user → SameFrame x → k ≢ e.user → Steps e x x' → Untouched x x' k
   untouched e x x' k l f ne (Stays none same) = record { row = ap (λ z. row_of z k) same; operands = ap (λ z. operands_of z k) same; op = ap (λ z. op_at z k) same; shape = λ o. ap (λ z. shape_of m z o) same }
-  untouched e x x' k l f ne (Goes o p oe at lt same) =
+  untouched e x x' k l f ne (Continues o p oe at lt same) =
       let h = shortened (shape_of m x o) e.place index in
       let a = within x e.user f l in
       let b = within_too x e.user f l in
@@ -306,7 +306,7 @@ module _ (m : Meaning) (can_fold : Head → Bool) (SameTests : Head → Head →
 
   acts_untouched : (x x' : Tree) (k : ℕ) (now : Operation) (places done : List ℕ) (u : IsUser k) → Untouched x x' k → ActsStill x k now places done u → ActsStill x' k now places done u
   acts_untouched x x' k now places done u c a = record {
-    stands = c.op ∙ a.stands;
+    liveness = c.op ∙ a.liveness;
     admitted = subst (Admitted m) (sym (c.shape now)) a.admitted;
     branch = a.branch;
     shorter = λ i d. ap (λ z. length (m.forwarded z i) + 1) (c.shape now) ∙ a.shorter i d;
@@ -376,13 +376,13 @@ module _ (m : Meaning) (can_fold : Head → Bool) (SameTests : Head → Head →
       next = lost x e.user p h
 
       loses : LosesOperand m SameTests s e.place index p h
-      loses = loses_one e x l f listed o p a.stands a.admitted a.branch at lt
+      loses = loses_one e x l f listed o p a.liveness a.admitted a.branch at lt
 
       shape_next : shape_of m next (operation_of next e.user h) ≡ fewer_operands s h
-      shape_next = shape_less e x l f listed o p a.stands a.admitted a.branch at lt
+      shape_next = shape_less e x l f listed o p a.liveness a.admitted a.branch at lt
 
       edges_next : (i : ℕ) (b : Bool) → nat_eq i e.place ≡ b → length (m.forwarded (shape_of m next (operation_of next e.user h)) i) ≡ length (if b then remove (m.forwarded s i) index else m.forwarded s i)
-      edges_next i b q = lengths_less e x l f listed o p a.stands a.admitted a.branch at lt i b q
+      edges_next i b q = lengths_less e x l f listed o p a.liveness a.admitted a.branch at lt i b q
 
       shorter : (i : ℕ) → In i (e.place ∷ r.done) → length (m.forwarded (shape_of m next (operation_of next e.user h)) i) + 1 ≡ length (m.forwarded (shape_of m t u.operation) i)
       shorter i (inl q) =
@@ -404,8 +404,8 @@ module _ (m : Meaning) (can_fold : Head → Bool) (SameTests : Head → Head →
 
       alike : (first last : List Datum) → length first ≡ length u.operation.operands → map Some last ≡ pick (remove r.places p) first → ActAlike m.act PassesSame (JumpsWithout (e.place ∷ r.done)) (shape_of m t u.operation) (shape_of m next (operation_of next e.user h)) first last
       alike first last len q =
-          let old : operands_of t e.user ≡ u.operation.operands = (op_shows t e.user u.operation u.stands).operands in
-          let now : operands_of x e.user ≡ o.operands = (op_shows x e.user o a.stands).operands in
+          let old : operands_of t e.user ≡ u.operation.operands = (op_shows t e.user u.operation u.liveness).operands in
+          let now : operands_of x e.user ≡ o.operands = (op_shows x e.user o a.liveness).operands in
           let y = picks_data r.places (operands_of t e.user) (operands_of x e.user) first r.left (len ∙ ap length (sym old)) in
           let z : last ≡ remove y.0 p = some_map last (remove y.0 p) (q ∙ map_remove (λ i. slice_get first i) r.places p ∙ ap (λ v. remove v p) (sym y.1) ∙ sym (map_remove Some y.0 p)) in
           let long : length y.0 ≡ s.operands = length_picked y.0 r.places first y.1 ∙ sym (length_picked (operands_of x e.user) r.places (operands_of t e.user) r.left) ∙ ap length now ∙ sym (shape_operands m x o) in
@@ -415,9 +415,9 @@ module _ (m : Meaning) (can_fold : Head → Bool) (SameTests : Head → Head →
 
       acts_lost : ActsStill next e.user (operation_of next e.user h) (remove r.places p) (e.place ∷ r.done) u
       acts_lost = record {
-        stands = stands_less e x l f listed o p a.stands a.admitted a.branch at lt;
+        liveness = stands_less e x l f listed o p a.liveness a.admitted a.branch at lt;
         admitted = subst (Admitted m) (sym shape_next) loses.admitted;
-        branch = branch_less e x l f listed o p a.stands a.admitted a.branch at lt;
+        branch = branch_less e x l f listed o p a.liveness a.admitted a.branch at lt;
         shorter = shorter;
         same = same;
         alike = alike;
@@ -445,9 +445,9 @@ module _ (m : Meaning) (can_fold : Head → Bool) (SameTests : Head → Head →
       places = r.places;
       left = ap (λ z. map Some (operands_of z e.user)) same ∙ r.left;
       same = λ q. grind arith;
-      acts = λ u. let a = r.acts u in absurd (not_past (m.forwarded (shape_of m x a.0) e.place) index (subst (λ n. index < n) (sym (a.1.same e.place not_done)) (u.forwards e.place listed)) (none a.0 a.1.stands a.1.branch));
+      acts = λ u. let a = r.acts u in absurd (not_past (m.forwarded (shape_of m x a.0) e.place) index (subst (λ n. index < n) (sym (a.1.same e.place not_done)) (u.forwards e.place listed)) (none a.0 a.1.liveness a.1.branch));
     }
-    tracked_own (Goes o p oe at lt same) = record {
+    tracked_own (Continues o p oe at lt same) = record {
       done = e.place ∷ r.done;
       sound = own_sound;
       pending = λ i s. own_pending i (r.pending i s);
@@ -457,7 +457,7 @@ module _ (m : Meaning) (can_fold : Head → Bool) (SameTests : Head → Head →
       same = λ q. grind arith;
       acts = λ u.
           let a = r.acts u in
-          let q : a.0 ≡ o = some_is (sym a.1.stands ∙ oe) in
+          let q : a.0 ≡ o = some_is (sym a.1.liveness ∙ oe) in
           (operation_of (lost x e.user p (shortened (shape_of m x o) e.place index)) e.user (shortened (shape_of m x o) e.place index), subst (λ z. ActsStill z e.user (operation_of (lost x e.user p (shortened (shape_of m x o) e.place index)) e.user (shortened (shape_of m x o) e.place index)) (remove r.places p) (e.place ∷ r.done) u) (sym same) (acts_lost u o p (subst (λ z. ActsStill x e.user z r.places r.done u) q a.1) at lt));
     }
 
@@ -507,7 +507,7 @@ module _ (m : Meaning) (can_fold : Head → Bool) (SameTests : Head → Head →
     acts = λ u. (
       u.operation,
       record {
-        stands = u.stands;
+        liveness = u.liveness;
         admitted = u.admitted;
         branch = u.branch;
         shorter = λ i d. absurd d;
@@ -519,7 +519,7 @@ module _ (m : Meaning) (can_fold : Head → Bool) (SameTests : Head → Head →
     where
       begins : (u : IsUser k) (first first' : List Datum) → length first ≡ length u.operation.operands → map Some first' ≡ pick (range_with_len 0 (length (operands_of t k))) first → ActAlike m.act PassesSame (JumpsWithout []) (shape_of m t u.operation) (shape_of m t u.operation) first first'
       begins u first first' l q =
-          let long : length first ≡ length (operands_of t k) = l ∙ ap length (sym (op_shows t k u.operation u.stands).operands) in
+          let long : length first ≡ length (operands_of t k) = l ∙ ap length (sym (op_shows t k u.operation u.liveness).operands) in
           let same : first ≡ first' = sym (some_map first' first (q ∙ pick_all first (length (operands_of t k)) long)) in
           alike_more m.act PassesSame PassesSame JumpsSame (JumpsWithout []) (shape_of m t u.operation) (shape_of m t u.operation) first first' (λ i ds es p. p) (λ i ds j es p. (p.0, inr (λ d. d, p.1))) (alike_refl m.act (shape_of m t u.operation) (shape_of m t u.operation) first first' refl same)
 

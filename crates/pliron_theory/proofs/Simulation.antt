@@ -2,7 +2,7 @@
 use Rattle.std.proofs.Common.{◌≡◌, ℕ, zero, suc, ◌<◌, List, refl, sym, ap, ◌∙◌, subst, arith}
 use Rattle.pliron_laws.specs.Datum.{Datum, Meaning}
 use Rattle.pliron_laws.specs.Tree.{Tree}
-use Rattle.pliron_laws.specs.Machine.{State, Next, Goes, Over, Sight, Reached, run_from, onward, sight_after, step, start}
+use Rattle.pliron_laws.specs.Machine.{State, Next, Continues, Over, Sight, Reached, run_from, onward, sight_after, step, start}
 use Rattle.pliron_laws.specs.Agree.{Shows, SeenAlike, Agree}
 
 pub agree_refl : (m : Meaning) (t : Tree) (root : ℕ) → Agree m t t root
@@ -17,10 +17,10 @@ agree_trans a b = record { alike = λ inputs world x. (λ s. (b.alike inputs wor
 -- from two related states both machines make a step, or both are over alike, or one of them makes a step
 -- which the other one waits for; a number falls where one waits
 pub data Pace (f g : State → Next) (R : State → State → Type 0) (left : State → State → ℕ) (s s' : State) : Type 0 where
-  Both : (a b : State) → f s ≡ Goes a → g s' ≡ Goes b → R a b → Pace f g R left s s'
+  Both : (a b : State) → f s ≡ Continues a → g s' ≡ Continues b → R a b → Pace f g R left s s'
   Finish : (x : Sight) → f s ≡ Over x → g s' ≡ Over x → Pace f g R left s s'
-  Left : (a : State) → f s ≡ Goes a → R a s' → left a s' < left s s' → Pace f g R left s s'
-  Right : (b : State) → g s' ≡ Goes b → R s b → left s b < left s s' → Pace f g R left s s'
+  Left : (a : State) → f s ≡ Continues a → R a s' → left a s' < left s s' → Pace f g R left s s'
+  Right : (b : State) → g s' ≡ Continues b → R s b → left s b < left s s' → Pace f g R left s s'
 
 pub record KeepPace (f g : State → Next) (R : State → State → Type 0) (left : State → State → ℕ) : Type 0 where
   pub effects : (s s' : State) → R s s' → s.effects ≡ s'.effects
@@ -31,7 +31,7 @@ Matches : (State → Next) → (State → Next) → (State → State → Type 0)
 Matches f g R n = (s s' : State) → R s s' → Shows g s' (sight_after (run_from f n s))
 
 -- one more step of the second
-later : (g : State → Next) (s b : State) (x : Sight) → g s ≡ Goes b → Shows g b x → Shows g s x
+later : (g : State → Next) (s b : State) (x : Sight) → g s ≡ Continues b → Shows g b x → Shows g s x
 later g s b x e h = (suc h.0, ap (λ o. sight_after (onward o (run_from g h.0))) e ∙ h.1)
 
 matches_suc : (f g : State → Next) (R : State → State → Type 0) (left : State → State → ℕ) → KeepPace f g R left → (n : ℕ) → Matches f g R n → (c : ℕ) (s s' : State) → left s s' < c → R s s' → Shows g s' (sight_after (run_from f (suc n) s))
@@ -71,23 +71,23 @@ seen_alike f g R left k s s' r x = (shown_too f g R left k s s' r x, shown_too g
 
 -- a state that the first comes to has its like among those that the second comes to
 Follows : (State → Next) → (State → Next) → (State → State → Type 0) → ℕ → Type 0
-Follows f g R n = (s s' z : State) → R s s' → run_from f n s ≡ Goes z → (z' : State) × (k : ℕ) × (run_from g k s' ≡ Goes z') × R z z'
+Follows f g R n = (s s' z : State) → R s s' → run_from f n s ≡ Continues z → (z' : State) × (k : ℕ) × (run_from g k s' ≡ Continues z') × R z z'
 
 -- one step of the second, and the rest of its run
-step_first : (g : State → Next) (k : ℕ) (s b z : State) → g s ≡ Goes b → run_from g k b ≡ Goes z → run_from g (suc k) s ≡ Goes z
+step_first : (g : State → Next) (k : ℕ) (s b z : State) → g s ≡ Continues b → run_from g k b ≡ Continues z → run_from g (suc k) s ≡ Continues z
 step_first g k s b z e h = ap (λ o. onward o (run_from g k)) e ∙ h
 
-follows_suc : (f g : State → Next) (R : State → State → Type 0) (left : State → State → ℕ) → KeepPace f g R left → (n : ℕ) → Follows f g R n → (c : ℕ) (s s' z : State) → left s s' < c → R s s' → run_from f (suc n) s ≡ Goes z → (z' : State) × (k : ℕ) × (run_from g k s' ≡ Goes z') × R z z'
+follows_suc : (f g : State → Next) (R : State → State → Type 0) (left : State → State → ℕ) → KeepPace f g R left → (n : ℕ) → Follows f g R n → (c : ℕ) (s s' z : State) → left s s' < c → R s s' → run_from f (suc n) s ≡ Continues z → (z' : State) × (k : ℕ) × (run_from g k s' ≡ Continues z') × R z z'
 unfolding Follows
 follows_suc f g R left p n ih zero s s' z lt r e = absurd (omega arith)
 follows_suc f g R left p n ih (suc c) s s' z lt r e = go (p.pace s s' r) (λ b lt' r'. follows_suc f g R left p n ih c s b z lt' r' e)
   where
-    rest : (a : State) → f s ≡ Goes a → run_from f n a ≡ Goes z
+    rest : (a : State) → f s ≡ Continues a → run_from f n a ≡ Continues z
     rest a h = ap (λ o. onward o (run_from f n)) (sym h) ∙ e
 
-    go : Pace f g R left s s' → ((b : State) → left s b < c → R s b → (z' : State) × (k : ℕ) × (run_from g k b ≡ Goes z') × R z z') → (z' : State) × (k : ℕ) × (run_from g k s' ≡ Goes z') × R z z'
+    go : Pace f g R left s s' → ((b : State) → left s b < c → R s b → (z' : State) × (k : ℕ) × (run_from g k b ≡ Continues z') × R z z') → (z' : State) × (k : ℕ) × (run_from g k s' ≡ Continues z') × R z z'
     go (Both a b h h' r') again = let x = ih a b z r' (rest a h) in (x.0, suc x.1, step_first g x.1 s' b x.0 h' x.2, x.3)
-    go (Finish x h h') again = let w : Over x ≡ Goes z = ap (λ o. onward o (run_from f n)) (sym h) ∙ e in absurd (cc)
+    go (Finish x h h') again = let w : Over x ≡ Continues z = ap (λ o. onward o (run_from f n)) (sym h) ∙ e in absurd (cc)
     go (Left a h r' lt') again = ih a s' z r' (rest a h)
     go (Right b h r' lt') again = let x = again b (omega arith) r' in (x.0, suc x.1, step_first g x.1 s' b x.0 h x.2, x.3)
 
@@ -96,7 +96,7 @@ unfolding Follows
 follows f g R left p zero s s' z r e = let same : s ≡ z = cc in (s', zero, refl, subst (λ x. R x s') same r)
 follows f g R left p (suc n) s s' z r e = follows_suc f g R left p n (follows f g R left p n) (suc (left s s')) s s' z (omega arith) r e
 
-pub followed : (f g : State → Next) (R : State → State → Type 0) (left : State → State → ℕ) → KeepPace f g R left → (n : ℕ) (s s' z : State) → R s s' → run_from f n s ≡ Goes z → (z' : State) × (k : ℕ) × (run_from g k s' ≡ Goes z') × R z z'
+pub followed : (f g : State → Next) (R : State → State → Type 0) (left : State → State → ℕ) → KeepPace f g R left → (n : ℕ) (s s' z : State) → R s s' → run_from f n s ≡ Continues z → (z' : State) × (k : ℕ) × (run_from g k s' ≡ Continues z') × R z z'
 unfolding Follows
 followed f g R left p n = follows f g R left p n
 
@@ -106,13 +106,13 @@ agree_by m t t' root R left k r = record { alike = λ inputs world. seen_alike (
 
 -- what a step keeps
 abbrev pub IfGoes : Next → (State → Type 0) → Type 0
-IfGoes (Goes s) P = P s
+IfGoes (Continues s) P = P s
 IfGoes (Over x) P = Unit {0}
 
 pub record Kept (f : State → Next) (P : State → Type 0) : Type 0 where
   pub keeps : (s : State) → P s → IfGoes (f s) P
 
-goes_kept : (f : State → Next) (P : State → Type 0) → Kept f P → (s a : State) → P s → f s ≡ Goes a → P a
+goes_kept : (f : State → Next) (P : State → Type 0) → Kept f P → (s a : State) → P s → f s ≡ Continues a → P a
 goes_kept f P k s a p e = subst (λ o. IfGoes o P) e (k.keeps s p)
 
 -- a fact about each state of the first machine may be used
@@ -145,5 +145,5 @@ pub anything_kept : (f : State → Next) → Kept f (λ s. Unit {0})
 anything_kept f = record { keeps = λ s u. go (f s) }
   where
     go : (n : Next) → IfGoes n (λ s. Unit {0})
-    go (Goes s) = tt
+    go (Continues s) = tt
     go (Over x) = tt

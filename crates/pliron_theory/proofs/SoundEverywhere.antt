@@ -46,8 +46,8 @@ module _ (says : Says) (t : Tree) (root : ℕ) (f : LatticeValues) (read : ℕ �
   Counts other = IsWithin t root other → (other ≡ root) ⊎ IsInExecutableBlock t f other
 
   module _ (other : ℕ) (counts : Counts other) (fit : IsFit says.meaning t other) where
-    stands : (k : ℕ) → MayMove t other Comes_to k → IsInside t root k → IsInExecutableBlock t f k
-    stands k may inside = (may.1.0, may.1.1, may.1.2 (block_inside may.1.0 may.1.1 inside))
+    liveness : (k : ℕ) → MayMove t other Comes_to k → IsInside t root k → IsInExecutableBlock t f k
+    liveness k may inside = (may.1.0, may.1.1, may.1.2 (block_inside may.1.0 may.1.1 inside))
 
     within_or : (k : ℕ) → IsWithin t root k ⊎ (IsWithin t root k → ⊥)
     within_or k = elim (cases_eq k root) [
@@ -67,15 +67,15 @@ module _ (says : Says) (t : Tree) (root : ℕ) (f : LatticeValues) (read : ℕ �
         held = entry_holder t w other r b i e
 
         inside : IsInExecutableBlock t f other → (o : Operation) → op_at t other ≡ Some o → IsTrue (f.is_executable b) × ((v : ℕ) → In v (arguments_of t b) → read v ≡ NotAConstant)
-        inside stands o at =
+        inside liveness o at =
             let place = slice_in o.regions r (subst (In r) (op_shows t other o at).regions i) in
-            let y = sound.entries other place.0 r b o stands at place.1 e in
+            let y = sound.entries other place.0 r b o liveness at place.1 e in
             let may : IsTrue (says.meaning.may_be_root (shape_of says.meaning t o).head) = ap says.meaning.may_be_root (shape_head says.meaning t o) ∙ fit.chosen o.head (head_at t other o at) in
             (y.0, λ v j. let p = slice_in (arguments_of t b) v j in subst (λ z. IsBelowNamed read read o.operands z v) (names.roots (shape_of says.meaning t o) may place.0 p.0) (y.1 p.0 v p.1))
 
         entered : (other ≡ root) ⊎ IsInExecutableBlock t f other → IsTrue (f.is_executable b) × ((v : ℕ) → In v (arguments_of t b) → read v ≡ NotAConstant)
         entered (inl s) = sound.root_entries r b (subst (λ z. In r (regions_of t z)) s i) e
-        entered (inr stands) = let o = live_at t other fit.live in inside stands o.0 o.1
+        entered (inr liveness) = let o = live_at t other fit.live in inside liveness o.0 o.1
 
         comes : Comes_to b
         comes (h, is, within) = (entered (counts (subst (IsWithin t root) (some_is (sym is ∙ held)) within))).0
@@ -98,7 +98,7 @@ module _ (says : Says) (t : Tree) (root : ℕ) (f : LatticeValues) (read : ℕ �
 
         entered : IsWithin t root k → IsTrue (f.is_executable b) × AreBelowNamed says t read read o i b
         entered (inl s) = let y = sound.root_entries r b (subst (λ z. In r (regions_of t z)) s listed) e in (y.0, unknown y.1)
-        entered (inr inside) = sound.entries k i r b o (stands k may inside) at place e
+        entered (inr inside) = sound.entries k i r b o (liveness k may inside) at place e
 
         comes : Comes_to b
         comes (h, is, within) = (entered (subst (IsWithin t root) (some_is (sym is ∙ held)) within)).0
@@ -117,14 +117,14 @@ module _ (says : Says) (t : Tree) (root : ℕ) (f : LatticeValues) (read : ℕ �
         not_held never (h, is, within) = never (inside_by h (beside_holder t w k b h (fit.linked.edges k b target (inl may.0)) target is) within)
 
         by : IsInside t root k ⊎ (IsInside t root k → ⊥) → Comes_to b × ((j v : ℕ) → slice_get (arguments_of t b) j ≡ Some v → (read v ≡ NotAConstant) ⊎ (IsTrue (says.meaning.is_branch o.head) × ((y : ℕ) → Forwards says t o i j y → AtMost (read v) (read y))))
-        by (inl inside) = let x = sound.jumps k i b o (stands k may inside) e go in ((λ h. x.0), x.1)
+        by (inl inside) = let x = sound.jumps k i b o (liveness k may inside) e go in ((λ h. x.0), x.1)
         by (inr never) = ((λ h. absurd (not_held never h)), λ j v at. inl (sound.no_arguments b v (not_held never) (in_slice (arguments_of t b) j v at)))
 
     results : (k i v : ℕ) (o : Operation) → MayMove t other Comes_to k → op_at t k ≡ Some o → slice_get o.results i ≡ Some v → IsRightResult says t f read k i v o
     results k i v o may e at = by (inside_or t root k w.joined.rooted)
       where
         by : IsInside t root k ⊎ (IsInside t root k → ⊥) → IsRightResult says t f read k i v o
-        by (inl inside) = sound.results k i v o (stands k may inside) e at
+        by (inl inside) = sound.results k i v o (liveness k may inside) e at
         by (inr never) = inl (sound.no_results k v never (subst (In v) (sym (op_shows t k o e).results) (in_slice o.results i v at)))
 
     pub kept : AreKept says t other Comes_to f read

@@ -8,7 +8,7 @@ use Rattle.pliron_laws.specs.Datum.{Datum, Empty, datum_of, Head, Shape, Meaning
 use Rattle.pliron_laws.specs.Tree.{Operation, Block, op_at, block_at, shape_of}
 use Rattle.pliron_laws.specs.States.{Environment, State, bind}
 use Rattle.pliron_laws.specs.Machine.{start}
-use Rattle.pliron_laws.specs.Acting.{Comes, Begins, Answered, Told, Known, pick}
+use Rattle.pliron_laws.specs.Acting.{Comes, Begins, Answered, AnsweredByWorld, Known, pick}
 use Rattle.pliron_laws.specs.Laws.{Admitted}
 use Rattle.pliron_laws.specs.Folding.{Constants, Feasible, AnswersTrue, AnswersJumps}
 use Rattle.pliron_laws.specs.Entries.{NamesOperands, RootsNameNone, names_none, none_are_named}
@@ -127,7 +127,7 @@ module _ (says : Says) (answers : AnswersTrue says.meaning says.can_fold says.co
     later = false;
     comes = subst (λ z. Comes m.act (shape_of m t x.operation) x.input false z x.input) (sym mind) Begins;
   }
-  now env so k rest memo (Some input) mind a x = subst (Minds x.operation memo) (some_is x.reads) (mind x.operation x.stands)
+  now env so k rest memo (Some input) mind a x = subst (Minds x.operation memo) (some_is x.reads) (mind x.operation x.liveness)
 
   -- what it is after a move
   onward : {o : Operation} {memo : Datum} {input : List Datum} → Minds o memo input → (next : Datum) (answer : List Datum) → ((later : Bool) (first : List Datum) → Comes m.act (shape_of m t o) first later memo input → Comes m.act (shape_of m t o) first true next answer) → Minds o next answer
@@ -153,7 +153,7 @@ module _ (says : Says) (answers : AnswersTrue says.meaning says.can_fold says.co
     where
       give_visit : (r ds : List Datum) (n : Datum) (i : ℕ) → Give r ≡ Visit i ds n → ⊥
       give_visit r ds n i e = cc
-  moves_once s r gives later memo input (Told {later = l} {memo = b} {input = n} effect next answer c e) =
+  moves_once s r gives later memo input (AnsweredByWorld {later = l} {memo = b} {input = n} effect next answer c e) =
       let p = moves_once s r gives l b n c in
       let q : Give r ≡ Emit effect memo = sym gives ∙ ap₂ (λ y z. m.act s y z) (sym p.0) (sym p.1) ∙ e in
       absurd (give_emit r effect memo q)
@@ -164,13 +164,13 @@ module _ (says : Says) (answers : AnswersTrue says.meaning says.can_fold says.co
   -- its results confirm what is read
   gives_found : (env env1 : Environment) → Agrees read env → (k : ℕ) (memo : Datum) (o : Operation) (input ds : List Datum) → MayMove t root Comes_to k → op_at t k ≡ Some o → Minds o memo input → m.act (shape_of m t o) memo input ≡ Give ds → bind env o.results ds ≡ Some env1 → Agrees read env1
   unfolding shape_of
-  gives_found env env1 so k memo o input ds may e x acts be = bind_agrees read o.results ds env env1 told be so
+  gives_found env env1 so k memo o input ds may e x acts be = bind_agrees read o.results ds env env1 reported be so
     where
       ad : Admitted m (shape_of m t o)
       ad = admitted k o (inr may.0) e
 
-      told : (i v : ℕ) (d : Datum) → slice_get o.results i ≡ Some v → slice_get ds i ≡ Some d → Fits (read v) d
-      told i v d at there = right (kept.results k i v o may e at)
+      reported : (i v : ℕ) (d : Datum) → slice_get o.results i ≡ Some v → slice_get ds i ≡ Some d → Fits (read v) d
+      reported i v d at there = right (kept.results k i v o may e at)
         where
           answer : IsTrue (says.can_fold o.head) → (a : Option AttrObj) × (slice_get (answers_of says t found o) i ≡ Some a)
           answer folds = same_index o.results (answers_of says t found o) (sym (answers.counts (shape_of m t o) ad folds (operand_constants found o.operands) (length_handed o.operands))) i v at
@@ -199,7 +199,7 @@ module _ (says : Says) (answers : AnswersTrue says.meaning says.can_fold says.co
   -- a jump comes to a block that runs may come to, and its arguments confirm what is read
   goes_found : (env env1 : Environment) → Agrees read env → (k i c : ℕ) (memo : Datum) (o : Operation) (b : Block) (input ds : List Datum) → MayMove t root Comes_to k → op_at t k ≡ Some o → Minds o memo input → m.act (shape_of m t o) memo input ≡ Goto i ds → slice_get o.successors i ≡ Some c → block_at t c ≡ Some b → bind env b.arguments ds ≡ Some env1 → Comes_to c × Agrees read env1
   unfolding shape_of
-  goes_found env env1 so k i c memo o b input ds may e x acts ce be bound = (jump.0, bind_agrees read b.arguments ds env env1 told bound so)
+  goes_found env env1 so k i c memo o b input ds may e x acts ce be bound = (jump.0, bind_agrees read b.arguments ds env env1 reported bound so)
     where
       ad : Admitted m (shape_of m t o)
       ad = admitted k o (inr may.0) e
@@ -207,8 +207,8 @@ module _ (says : Says) (answers : AnswersTrue says.meaning says.can_fold says.co
       jump : Comes_to c × ((j v : ℕ) → slice_get (arguments_of t c) j ≡ Some v → (read v ≡ NotAConstant) ⊎ (IsTrue (m.is_branch o.head) × ((y : ℕ) → Forwards says t o i j y → AtMost (read v) (read y))))
       jump = kept.jumps k i c o may e (ce, λ folds. jumps.goes (shape_of m t o) o.successors ad folds refl (operand_constants found o.operands) x.first (x.counted) x.known x.later memo input i c ds x.comes acts ce)
 
-      told : (j v : ℕ) (d : Datum) → slice_get b.arguments j ≡ Some v → slice_get ds j ≡ Some d → Fits (read v) d
-      told j v d at is = right (jump.1 j v (ap (λ l. slice_get l j) (block_shows t c b be).arguments ∙ at))
+      reported : (j v : ℕ) (d : Datum) → slice_get b.arguments j ≡ Some v → slice_get ds j ≡ Some d → Fits (read v) d
+      reported j v d at is = right (jump.1 j v (ap (λ l. slice_get l j) (block_shows t c b be).arguments ∙ at))
         where
           right : (read v ≡ NotAConstant) ⊎ (IsTrue (m.is_branch o.head) × ((y : ℕ) → Forwards says t o i j y → AtMost (read v) (read y))) → Fits (read v) d
           right (inl n) = subst (λ z. Fits z d) (sym n) tt
@@ -222,18 +222,18 @@ module _ (says : Says) (answers : AnswersTrue says.meaning says.can_fold says.co
   root_visit_found : (env env1 : Environment) → Agrees read env → (k i r : ℕ) (o : Operation) (b : Block) (ds : List Datum) → k ≡ root → op_at t k ≡ Some o → slice_get o.regions i ≡ Some r → (y : ShowsEntry t r b) → bind env b.arguments ds ≡ Some env1 → Comes_to y.key × Agrees read env1
   root_visit_found env env1 so k i r o b ds s e re y be =
       let visit = kept.root_visits r y.key (subst (λ z. In r (regions_of t z)) s (subst (In r) (sym (op_shows t k o e).regions) (in_slice o.regions i r re))) y.entry in
-      (visit.0, bind_agrees read b.arguments ds env env1 (λ j v d at is. subst (λ z. Fits z d) (sym (visit.1 v (subst (In v) (sym (block_shows t y.key b y.stands).arguments) (in_slice b.arguments j v at)))) tt) be so)
+      (visit.0, bind_agrees read b.arguments ds env env1 (λ j v d at is. subst (λ z. Fits z d) (sym (visit.1 v (subst (In v) (sym (block_shows t y.key b y.liveness).arguments) (in_slice b.arguments j v at)))) tt) be so)
 
   -- of others' with what the operands were that they name
   visit_found : (env env1 : Environment) → Agrees read env → (k i r : ℕ) (memo : Datum) (o : Operation) (b : Block) (input ds : List Datum) (next : Datum) → MayMove t root Comes_to k → op_at t k ≡ Some o → Minds o memo input → m.act (shape_of m t o) memo input ≡ Visit i ds next → slice_get o.regions i ≡ Some r → (y : ShowsEntry t r b) → bind env b.arguments ds ≡ Some env1 → Comes_to y.key × Agrees read env1
   unfolding shape_of
-  visit_found env env1 so k i r memo o b input ds next may e x acts re y be = (visit.0, bind_agrees read b.arguments ds env env1 told be so)
+  visit_found env env1 so k i r memo o b input ds next may e x acts re y be = (visit.0, bind_agrees read b.arguments ds env env1 reported be so)
     where
       visit : Comes_to y.key × AreBelowNamed says t read read o i y.key
       visit = kept.visits k i r y.key o may e re y.entry
 
-      told : (j v : ℕ) (d : Datum) → slice_get b.arguments j ≡ Some v → slice_get ds j ≡ Some d → Fits (read v) d
-      told j v d at is = by (says.entry_operands (shape_of m t o) i j) refl (visit.1 j v (ap (λ l. slice_get l j) (block_shows t y.key b y.stands).arguments ∙ at))
+      reported : (j v : ℕ) (d : Datum) → slice_get b.arguments j ≡ Some v → slice_get ds j ≡ Some d → Fits (read v) d
+      reported j v d at is = by (says.entry_operands (shape_of m t o) i j) refl (visit.1 j v (ap (λ l. slice_get l j) (block_shows t y.key b y.liveness).arguments ∙ at))
         where
           by : (a : Option ℕ) → says.entry_operands (shape_of m t o) i j ≡ a → IsBelowNamed read read o.operands a v → Fits (read v) d
           by None q below = subst (λ z. Fits z d) (sym below) tt
@@ -254,17 +254,17 @@ module _ (says : Says) (answers : AnswersTrue says.meaning says.can_fold says.co
     waits_deep = λ env h k rest memo p. there.waits_deep env h k rest memo p.0;
     gives = λ env env1 h k rest memo answer ds so p x e.
         let q = there.gives env env1 h k rest memo answer ds tt (p.0, p.1) x e in
-        (gives_found env env1 so k memo x.operation x.input ds (moves env h k rest p.0 p.3) x.stands (now env so k rest memo answer p.2 (Give ds) x) x.acts e, (q.1.0, q.1.1, at_rest (Some h) rest, λ j i. p.3 j (inr i)), λ g j r y d z. (q.2 g j r y d z.0, z.1, z.2));
+        (gives_found env env1 so k memo x.operation x.input ds (moves env h k rest p.0 p.3) x.liveness (now env so k rest memo answer p.2 (Give ds) x) x.acts e, (q.1.0, q.1.1, at_rest (Some h) rest, λ j i. p.3 j (inr i)), λ g j r y d z. (q.2 g j r y d z.0, z.1, z.2));
     goes = λ env env1 h k rest memo answer i ds c b so p x ce be e.
         let q = there.goes env env1 h k rest memo answer i ds c b tt (p.0, p.1) x ce be e in
-        let g = goes_found env env1 so k i c memo x.operation b x.input ds (moves env h k rest p.0 p.3) x.stands (now env so k rest memo answer p.2 (Goto i ds) x) x.acts ce be e in
+        let g = goes_found env env1 so k i c memo x.operation b x.input ds (moves env h k rest p.0 p.3) x.liveness (now env so k rest memo answer p.2 (Goto i ds) x) x.acts ce be e in
         (g.1, (q.1.0, q.1.1, at_rest (Some h) b.operations, all_stand c b be g.0 h), λ g j r y d z. (q.2 g j r y d z.0, z.1, z.2));
     visits = λ env env1 h k rest memo answer i ds next r b so p x re be e.
         let q = there.visits env env1 h k rest memo answer i ds next r b tt (p.0, p.1) x re be e in
         let a = entry_shows t r b be in
         let g = comes env env1 so h k rest memo answer i r ds next b p.0 p.2 p.3 x re a e in
-        (g.1, (q.1.0, q.1.1, at_rest (Some k) b.operations, all_stand a.key b a.stands g.0 k), (q.2, (λ back. visited env so h k rest memo answer i ds next p.2 x back), p.3), λ g j s y d z. (q.3 g j s y d z.0, z.1, z.2));
-    tells = λ env h k rest memo answer e next d so p x. (p.0, has_some h (d ∷ []), told env so h k rest memo answer e next d p.2 x, p.3);
+        (g.1, (q.1.0, q.1.1, at_rest (Some k) b.operations, all_stand a.key b a.liveness g.0 k), (q.2, (λ back. visited env so h k rest memo answer i ds next p.2 x back), p.3), λ g j s y d z. (q.3 g j s y d z.0, z.1, z.2));
+    accurate = λ env h k rest memo answer e next d so p x. (p.0, has_some h (d ∷ []), reported env so h k rest memo answer e next d p.2 x, p.3);
     resumes = λ env h rest memo ds p. (p.0, has_some h ds, p.1 ds, p.2);
   }
     where
@@ -272,19 +272,19 @@ module _ (says : Says) (answers : AnswersTrue says.meaning says.can_fold says.co
       moves env h k rest p q = (placed_inside t w root env h k rest p, q k (inl refl))
 
       comes : (env env1 : Environment) → Agrees read env → (h : Option ℕ) (k : ℕ) (rest : List ℕ) (memo : Datum) (answer : Option (List Datum)) (i r : ℕ) (ds : List Datum) (next : Datum) (b : Block) → IsAt t root env h (k ∷ rest) → IsMinding h (k ∷ rest) memo answer → IsFound h (k ∷ rest) → (x : Makes m t env k memo answer (Visit i ds next)) → slice_get x.operation.regions i ≡ Some r → (y : ShowsEntry t r b) → bind env b.arguments ds ≡ Some env1 → Comes_to y.key × Agrees read env1
-      comes env env1 so None k rest memo answer i r ds next b p mind q x re y e = let s : k ≡ root = cc in root_visit_found env env1 so k i r x.operation b ds s x.stands re y e
+      comes env env1 so None k rest memo answer i r ds next b p mind q x re y e = let s : k ≡ root = cc in root_visit_found env env1 so k i r x.operation b ds s x.liveness re y e
       comes env env1 so (Some h) k rest memo answer i r ds next b p mind q x re y e =
-          visit_found env env1 so k i r memo x.operation b x.input ds next (moves env h k rest p q) x.stands (now env so k rest memo answer mind (Visit i ds next) x) x.acts re y e
+          visit_found env env1 so k i r memo x.operation b x.input ds next (moves env h k rest p q) x.liveness (now env so k rest memo answer mind (Visit i ds next) x) x.acts re y e
 
       visited : (env : Environment) → Agrees read env → (h : Option ℕ) (k : ℕ) (rest : List ℕ) (memo : Datum) (answer : Option (List Datum)) (i : ℕ) (ds : List Datum) (next : Datum) → IsMinding h (k ∷ rest) memo answer → Makes m t env k memo answer (Visit i ds next) → (back : List Datum) → IsMinding h (k ∷ rest) next (Some back)
       visited env so None k rest memo answer i ds next p x back = tt
       visited env so (Some h) k rest memo answer i ds next p x back =
-          in_mind k rest next back x.operation x.stands (onward (now env so k rest memo answer p (Visit i ds next) x) next back (λ later first c. Answered i ds next back c x.acts)) (Some h)
+          in_mind k rest next back x.operation x.liveness (onward (now env so k rest memo answer p (Visit i ds next) x) next back (λ later first c. Answered i ds next back c x.acts)) (Some h)
 
-      told : (env : Environment) → Agrees read env → (h : Option ℕ) (k : ℕ) (rest : List ℕ) (memo : Datum) (answer : Option (List Datum)) (e next d : Datum) → IsMinding h (k ∷ rest) memo answer → Makes m t env k memo answer (Emit e next) → IsMinding h (k ∷ rest) next (Some (d ∷ []))
-      told env so None k rest memo answer e next d p x = tt
-      told env so (Some h) k rest memo answer e next d p x =
-          in_mind k rest next (d ∷ []) x.operation x.stands (onward (now env so k rest memo answer p (Emit e next) x) next (d ∷ []) (λ later first c. Told e next d c x.acts)) (Some h)
+      reported : (env : Environment) → Agrees read env → (h : Option ℕ) (k : ℕ) (rest : List ℕ) (memo : Datum) (answer : Option (List Datum)) (e next d : Datum) → IsMinding h (k ∷ rest) memo answer → Makes m t env k memo answer (Emit e next) → IsMinding h (k ∷ rest) next (Some (d ∷ []))
+      reported env so None k rest memo answer e next d p x = tt
+      reported env so (Some h) k rest memo answer e next d p x =
+          in_mind k rest next (d ∷ []) x.operation x.liveness (onward (now env so k rest memo answer p (Emit e next) x) next (d ∷ []) (λ later first c. AnsweredByWorld e next d c x.acts)) (Some h)
 
   begins : (inputs world : List Datum) → Holding m t knowing rules root (start root inputs world)
   begins inputs world = record { holder = None; always = λ v d e. absurd (not_none e); place = (refl, has_some None inputs, tt, tt); below = tt }

@@ -1,7 +1,7 @@
 -- A root does the same once a block joined the end of its only predecessor.
 use Rattle.std.proofs.Common.{◌≡◌, ◌≢◌, ◌⊎◌, inl, inr, ⊎_elim, ℕ, ◌+◌, ◌<◌, Bool, true, false, true≢false, nat_eq, List, [], ◌∷◌, ◌++◌, length, Option, Some, None, slice_get, refl, sym, ap, ap₂, ◌∙◌, subst, arith, append_assoc, append-nil, if◌then◌else◌}
 use Rattle.std.proofs.lemmas.Bool.{cases_eq, eq-eqb}
-use Rattle.std.proofs.lemmas.Bool.Decides.{eqb_tells}
+use Rattle.std.proofs.lemmas.Bool.Decides.{eqb_decides}
 use Rattle.pliron_core.specs.declared.context.Def.{Def}
 use Rattle.pliron_core.specs.declared.context.Def.TheVariants.{Result, Argument}
 use Rattle.pliron_core.specs.Tree.{Tree, In, IsDistinct, without, first_of, last_of, IsLive, IsInside, IsMadeBy, head_of, operands_of, successors_of, results_of, regions_of, parent_of, body_of, arguments_of, block_parent_of, layout_of, region_parent_of, definition_of, op_of_slot}
@@ -11,7 +11,7 @@ use Rattle.pliron_core.proofs.HoldingLemmas.{some_is, some_of, in_slice, slice_i
 use Rattle.pliron_core.proofs.RowLemmas.{last_of-append}
 use Rattle.pliron_laws.specs.Datum.{Datum, Empty, Head, Meaning, Goto}
 use Rattle.pliron_laws.specs.Tree.{Operation, Block, op_with, op_at, block_with, block_at, and_block, entry_block, count_arguments, shape_of}
-use Rattle.pliron_laws.specs.States.{Environment, State, Goes, bind, data_of, input_of}
+use Rattle.pliron_laws.specs.States.{Environment, State, Continues, bind, data_of, input_of}
 use Rattle.pliron_laws.specs.Machine.{at_rest, begin, enter, go_to, entry_in, block_in, perform, move, turn, step_at, step}
 use Rattle.pliron_laws.specs.Agree.{Agree}
 use Rattle.pliron_laws.specs.Acting.{PassesSame, JumpsSame}
@@ -58,14 +58,14 @@ module _ (jump : ℕ) (l : List ℕ) where
   placed_end (x ∷ xs) f = ap (λ b. put_one (λ k. k) (taking b l) x (placed_all place (λ k. k) (xs ++ jump ∷ []))) (not_is jump x (λ e. f (inl (sym e)))) ∙ ap (λ ys. x ∷ ys) (placed_end xs (λ i. f (inr i)))
 
 module _ (m : Meaning) (t t' : Tree) (a b jump : ℕ) (front : List ℕ) (w : IsTree t) (w' : IsTree t') (h : IsSpliced t t' a b jump front) (root : ℕ) where
-  abbrev pub gone : ℕ → Bool
-  gone v = is_maker_dead (nat_eq jump) (nat_eq b) (definition_of t v)
+  abbrev pub deleted : ℕ → Bool
+  deleted v = is_maker_dead (nat_eq jump) (nat_eq b) (definition_of t v)
 
   abbrev pub IsBlockRest : List ℕ → Type 0
   IsBlockRest rest = (rest ≡ root ∷ []) ⊎ ((rest ≡ []) ⊎ ((c : ℕ) × (done : List ℕ) × (body_of t c ≡ done ++ rest)))
 
   abbrev pub comparison : Comparison
-  comparison = record { places = place jump (body_of t b); swap = λ k. k; Own = IsBlockRest; Env = SameBut gone; visits = λ k. PassesSame; gotos = λ k. JumpsSame }
+  comparison = record { places = place jump (body_of t b); swap = λ k. k; Own = IsBlockRest; Env = SameBut deleted; visits = λ k. PassesSame; gotos = λ k. JumpsSame }
 
   pub jump_in : parent_of t jump ≡ Some a
   jump_in = w.bodies.owned jump a (subst (In jump) (sym h.split) (In-right jump front (jump ∷ []) (inl refl)))
@@ -143,7 +143,7 @@ module _ (m : Meaning) (t t' : Tree) (a b jump : ℕ) (front : List ℕ) (w : Is
   enters None (Some y) ds es s q own = s
   enters (Some x) None ds es s q own = s
   enters (Some x) (Some y) ds es s q own =
-      (s.0, own x refl, λ env env' e. subst (λ vs. EnvsTied (SameBut gone) (bind env x.arguments ds) (bind env' vs es)) (sym s.1) (subst (λ z. EnvsTied (SameBut gone) (bind env x.arguments ds) (bind env' x.arguments z)) (sym q) (bind_same gone x.arguments env env' ds e)))
+      (s.0, own x refl, λ env env' e. subst (λ vs. EnvsTied (SameBut deleted) (bind env x.arguments ds) (bind env' vs es)) (sym s.1) (subst (λ z. EnvsTied (SameBut deleted) (bind env x.arguments ds) (bind env' x.arguments z)) (sym q) (bind_same deleted x.arguments env env' ds e)))
 
   own_block : (c : ℕ) (x : Block) → block_at t c ≡ Some x → IsBlockRest x.operations
   own_block c x f = inr (inr (c, [], (block_shows t c x f).operations))
@@ -166,7 +166,7 @@ module _ (m : Meaning) (t t' : Tree) (a b jump : ℕ) (front : List ℕ) (w : Is
     other = λ k o l e. let x = op_same k (is_not jump k (not_taken (nat_eq jump k) (body_of t b) l)) o e in (x.0, x.1);
     results = λ k o o' l oe oe' env env' ds e.
         let x = op_same k (is_not jump k (not_taken (nat_eq jump k) (body_of t b) l)) o oe in
-        subst (λ vs. EnvsTied (SameBut gone) (bind env o.results ds) (bind env' vs ds)) (sym (ap (λ z. z.results) (one_op k o' x.0 oe' x.1) ∙ x.4)) (bind_same gone o.results env env' ds e);
+        subst (λ vs. EnvsTied (SameBut deleted) (bind env o.results ds) (bind env' vs ds)) (sym (ap (λ z. z.results) (one_op k o' x.0 oe' x.1) ∙ x.4)) (bind_same deleted o.results env env' ds e);
     entries = λ k o o' l oe oe' i ds es v.
         let ne = is_not jump k (not_taken (nat_eq jump k) (body_of t b) l) in
         let x = op_same k ne o oe in
@@ -181,7 +181,7 @@ module _ (m : Meaning) (t t' : Tree) (a b jump : ℕ) (front : List ℕ) (w : Is
       entry k o ne oe i ds es q None e = tt
       entry k o ne oe i ds es q (Some r) e =
           let at : slice_get (regions_of t k) i ≡ Some r = ap (λ z. slice_get z i) (op_shows t k o oe).regions ∙ e in
-          enters (entry_block t r) (entry_block t' r) ds es (entry_spliced k i r ne at) q (λ x f. let s = entry_shows t r x f in own_block s.key x s.stands)
+          enters (entry_block t r) (entry_block t' r) ds es (entry_spliced k i r ne at) q (λ x f. let s = entry_shows t r x f in own_block s.key x s.liveness)
 
       target : (k : ℕ) (o : Operation) → k ≢ jump → op_at t k ≡ Some o → (i : ℕ) (ds es : List Datum) → es ≡ ds → (x : Option ℕ) → slice_get o.successors i ≡ x → Enters m t t' comparison (block_in t x) (block_in t' x) ds es
       target k o ne oe i ds es q None e = tt
@@ -199,7 +199,7 @@ module _ (m : Meaning) (t t' : Tree) (a b jump : ℕ) (front : List ℕ) (w : Is
       let x = op_same k ne o oe in
       shape_spliced k o ne oe ∙ sym (shape_parts t' o x.0 x.2 x.3 x.4 x.5 x.6) ∙ ap (shape_of m t') (one_op k x.0 o' x.1 oe')
 
-  pub used_stays : (k v : ℕ) → In v (operands_of t k) → gone v ≡ false
+  pub used_stays : (k v : ℕ) → In v (operands_of t k) → deleted v ≡ false
   used_stays k v i = let x = maker_is t v (w.joined.operands k v i) in ap (is_maker_dead (nat_eq jump) (nat_eq b)) x.1 ∙ go x.0 x.2
     where
       go : (d : Def) → IsMadeBy t v (Some d) → is_maker_dead (nat_eq jump) (nat_eq b) (Some d) ≡ false
@@ -211,7 +211,7 @@ module _ (m : Meaning) (t t' : Tree) (a b jump : ℕ) (front : List ℕ) (w : Is
       let ne = is_not jump k (not_taken (nat_eq jump k) (body_of t b) l) in
       let x = op_same k ne o oe in
       first_alike k o o' (shapes k o o' ne oe oe') (data_of s.environment o.operands) (data_of s'.environment o'.operands)
-      (data_same gone s.environment s'.environment r.environment o.operands (λ v q. used_stays k v (subst (In v) (sym (op_shows t k o oe).operands) q)) ∙ ap (data_of s'.environment) (sym (ap (λ z. z.operands) (one_op k o' x.0 oe' x.1) ∙ x.3)))
+      (data_same deleted s.environment s'.environment r.environment o.operands (λ v q. used_stays k v (subst (In v) (sym (op_shows t k o oe).operands) q)) ∙ ap (data_of s'.environment) (sym (ap (λ z. z.operands) (one_op k o' x.0 oe' x.1) ∙ x.3)))
 
   module _ (edges : EdgesLast t root) (well : WellDefined m t root) (jumps : IsInside t root jump → JumpsNow m t jump b) (left : root ≢ jump) where
     skips : Skips m t t' comparison (IsOnWay t w root m edges well)
@@ -222,7 +222,7 @@ module _ (m : Meaning) (t t' : Tree) (a b jump : ℕ) (front : List ℕ) (w : Is
         d = is_taken (nat_eq jump k) (body_of t b) l q
 
         same : k ≡ jump
-        same = ⊎_elim (λ y. sym y.1) (λ z. absurd (true≢false (sym d ∙ z.0))) (eqb_tells jump k)
+        same = ⊎_elim (λ y. sym y.1) (λ z. absurd (true≢false (sym d ∙ z.0))) (eqb_decides jump k)
 
         fr : (s.memo ≡ Empty) × (s.answer ≡ None)
         fr = subst (λ z. HeadAt m t t' comparison (taking z (body_of t b)) k s.memo s.answer) d (subst (λ z. PlaceAt m t t' comparison z s.memo s.answer) e r.place.1)
@@ -240,7 +240,7 @@ module _ (m : Meaning) (t t' : Tree) (a b jump : ℕ) (front : List ℕ) (w : Is
         ends = last_ends k y.done rest (body_of t a) (w.bodies.distinct a) (ap (body_of t) (sym here) ∙ y.split) (last ∙ ap Some (sym same))
 
         hd : (z : Head) × (head_of t jump ≡ Some z)
-        hd = some_of (head_of t jump) (w.joined.standing jump a jump_in).0
+        hd = some_of (head_of t jump) (w.joined.all_in_place jump a jump_in).0
 
         o : Operation
         o = operation_of t jump hd.0
@@ -257,23 +257,23 @@ module _ (m : Meaning) (t t' : Tree) (a b jump : ℕ) (front : List ℕ) (w : Is
         region : (z : ℕ) × (block_parent_of t b ≡ Some z)
         region = some_of (block_parent_of t b) (w.joined.successors jump b (subst (In b) (sym h.goes) (inl refl)))
 
-        stands : block_at t b ≡ Some (block_of t b region.0)
-        stands = make_block t b region.0 region.1
+        liveness : block_at t b ≡ Some (block_of t b region.0)
+        liveness = make_block t b region.0 region.1
 
-        bg : (env1 : Environment) × (bind s.environment (arguments_of t b) j.0 ≡ Some env1) × SameBut gone env1 s'.environment
-        bg = bind_gone gone (arguments_of t b) j.0 s.environment s'.environment j.2 (λ v i. let p = slice_in (arguments_of t b) v i in ap (is_maker_dead (nat_eq jump) (nat_eq b)) (w.joined.arguments b p.0 v p.1) ∙ eq-eqb b b refl) r.environment
+        bg : (env1 : Environment) × (bind s.environment (arguments_of t b) j.0 ≡ Some env1) × SameBut deleted env1 s'.environment
+        bg = bind_gone deleted (arguments_of t b) j.0 s.environment s'.environment j.2 (λ v i. let p = slice_in (arguments_of t b) v i in ap (is_maker_dead (nat_eq jump) (nat_eq b)) (w.joined.arguments b p.0 v p.1) ∙ eq-eqb b b refl) r.environment
 
         x : State
         x = at_rest s bg.0 (body_of t b) (y.inner ∷ y.others)
 
-        steps : step m t s ≡ Goes x
+        steps : step m t s ≡ Continues x
         steps =
             ap (step_at m t s) (e ∙ ap₂ (λ p r. p ∷ r) same ends)
             ∙ ap (turn m t s jump []) oe
             ∙ ap (move m t s o jump []) (ap (input_of s.environment o.operands) fr.1 ∙ data_is)
             ∙ ap (perform t s o jump []) (ap (λ z. m.act (shape_of m t o) z y.input) fr.0 ∙ j.1)
             ∙ ap₂ (λ c z. go_to t s c j.0 z) (ap (λ z. slice_get z 0) h.goes) y.waits
-            ∙ ap (λ c. enter s c j.0 (y.inner ∷ y.others)) stands
+            ∙ ap (λ c. enter s c j.0 (y.inner ∷ y.others)) liveness
             ∙ ap (begin s (body_of t b) (y.inner ∷ y.others)) bg.1
 
         free : In jump (body_of t b) → ⊥

@@ -64,19 +64,19 @@ module _ (m : Meaning) (t t' : Tree) (a b jump : ℕ) (front : List ℕ) (w : Is
 
   -- what stands, names or holds something after is not the one that went
   user_not : (k v : ℕ) → In v (operands_of t' k) → k ≢ jump
-  user_not k v i e = subst (In v) (ap (operands_of t') e ∙ (w'.joined.erased jump h.gone).0) i
+  user_not k v i e = subst (In v) (ap (operands_of t') e ∙ (w'.joined.erased jump h.deleted).0) i
 
   jumper_not : (k c : ℕ) → In c (successors_of t' k) → k ≢ jump
-  jumper_not k c i e = subst (In c) (ap (successors_of t') e ∙ (w'.joined.erased jump h.gone).1) i
+  jumper_not k c i e = subst (In c) (ap (successors_of t') e ∙ (w'.joined.erased jump h.deleted).1) i
 
   holder_not : (k r : ℕ) → In r (regions_of t' k) → k ≢ jump
-  holder_not k r i e = subst (In r) (ap (regions_of t') e ∙ ap (λ z. z.regions) (w'.joined.erased jump h.gone).2) i
+  holder_not k r i e = subst (In r) (ap (regions_of t') e ∙ ap (λ z. z.regions) (w'.joined.erased jump h.deleted).2) i
 
   held_not : (k c : ℕ) → parent_of t' k ≡ Some c → k ≢ jump
-  held_not k c i e = true≢false (sym (w'.joined.standing k c i).0 ∙ ap (λ z. is_some (head_of t' z)) e ∙ ap is_some h.gone)
+  held_not k c i e = true≢false (sym (w'.joined.all_in_place k c i).0 ∙ ap (λ z. is_some (head_of t' z)) e ∙ ap is_some h.deleted)
 
   block_not : (c r : ℕ) → block_parent_of t' c ≡ Some r → c ≢ b
-  block_not c r e f = let g : None ≡ Some r = sym h.gone_block ∙ ap (block_parent_of t') (sym f) ∙ e in absurd (cc)
+  block_not c r e f = let g : None ≡ Some r = sym h.detached_block ∙ ap (block_parent_of t') (sym f) ∙ e in absurd (cc)
 
   parent_forth : (x c : ℕ) → x ≢ jump → parent_of t x ≡ Some c → parent_of t' x ≡ Some (into c)
   parent_forth x c ne e = elim (cases_eq c b) [
@@ -482,4 +482,4 @@ spliced_keeps m t t' a b jump front w w' h longer jumps = record {
 }
   where
     not_jump : (root : ℕ) → IsLive t' root → root ≢ jump
-    not_jump root l e = true≢false (sym l ∙ ap (λ z. is_some (head_of t' z)) e ∙ ap is_some h.gone)
+    not_jump root l e = true≢false (sym l ∙ ap (λ z. is_some (head_of t' z)) e ∙ ap is_some h.deleted)

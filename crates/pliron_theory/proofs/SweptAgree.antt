@@ -1,13 +1,13 @@
 -- A root does the same without operations that give at once and blocks that no run comes to.
 use Rattle.std.proofs.Common.{◌≡◌, ◌⊎◌, inl, inr, ⊎_elim, ℕ, ◌+◌, ◌<◌, Bool, true, false, true≢false, List, [], ◌∷◌, ◌++◌, length, Option, Some, None, slice_get, refl, sym, ap, ap₂, ◌∙◌, subst, arith, append_assoc, if◌then◌else◌}
-use Rattle.std.proofs.lemmas.Bool.Decides.{eqb_tells}
+use Rattle.std.proofs.lemmas.Bool.Decides.{eqb_decides}
 use Rattle.pliron_core.specs.Tree.{Tree, In, IsLive, head_of, operands_of, regions_of, parent_of, body_of, definition_of}
 use Rattle.pliron_core.specs.Invariant.{IsTree}
 use Rattle.pliron_core.proofs.ListLemmas.{In-right}
 use Rattle.pliron_core.proofs.HoldingLemmas.{some_is, some_of, in_slice, slice_in}
 use Rattle.pliron_laws.specs.Datum.{Datum, Empty, Head, Meaning, Give}
 use Rattle.pliron_laws.specs.Tree.{Operation, Block, op_at, block_at, entry_block, shape_of}
-use Rattle.pliron_laws.specs.States.{Environment, State, Goes, environment_with, bind, data_of, input_of}
+use Rattle.pliron_laws.specs.States.{Environment, State, Continues, environment_with, bind, data_of, input_of}
 use Rattle.pliron_laws.specs.Machine.{at_rest, after_giving, entry_in, block_in, perform, move, turn, step_at, step}
 use Rattle.pliron_laws.specs.Agree.{Agree}
 use Rattle.pliron_laws.specs.Acting.{PassesSame, JumpsSame}
@@ -35,31 +35,31 @@ taken_dead false l e = grind arith
 same_op : (t t' : Tree) (k : ℕ) (o o' : Operation) → op_at t' k ≡ op_at t k → op_at t k ≡ Some o → op_at t' k ≡ Some o' → o' ≡ o
 same_op t t' k o o' e f g = some_is (sym g ∙ e ∙ f)
 
-module _ (gone : ℕ → Bool) where
-  bound_gone : (env env' : Environment) → SameBut gone env env' → (v : ℕ) (d : Datum) → gone v ≡ true → SameBut gone (environment_with env v d) env'
+module _ (deleted : ℕ → Bool) where
+  bound_gone : (env env' : Environment) → SameBut deleted env env' → (v : ℕ) (d : Datum) → deleted v ≡ true → SameBut deleted (environment_with env v d) env'
   unfolding environment_with
   bound_gone env env' e v d g w l = ⊎_elim
-      (λ y. absurd (true≢false (sym g ∙ ap gone (sym y.1) ∙ l)))
+      (λ y. absurd (true≢false (sym g ∙ ap deleted (sym y.1) ∙ l)))
       (λ n. ap (λ b. if b then Some d else env w) n.0 ∙ e w l)
-      (eqb_tells w v)
+      (eqb_decides w v)
 
   -- binding values that are gone changes nothing else
-  pub bind_gone : (vs : List ℕ) (ds : List Datum) (env env' : Environment) → length ds ≡ length vs → ((v : ℕ) → In v vs → gone v ≡ true) → SameBut gone env env' → (env1 : Environment) × (bind env vs ds ≡ Some env1) × SameBut gone env1 env'
+  pub bind_gone : (vs : List ℕ) (ds : List Datum) (env env' : Environment) → length ds ≡ length vs → ((v : ℕ) → In v vs → deleted v ≡ true) → SameBut deleted env env' → (env1 : Environment) × (bind env vs ds ≡ Some env1) × SameBut deleted env1 env'
   bind_gone [] [] env env' l g e = (env, refl, e)
   bind_gone [] (d ∷ ds) env env' l g e = grind arith
   bind_gone (v ∷ vs) [] env env' l g e = grind arith
   bind_gone (v ∷ vs) (d ∷ ds) env env' l g e = bind_gone vs ds (environment_with env v d) env' (omega arith) (λ x i. g x (inr i)) (bound_gone env env' e v d (g v (inl refl)))
 
 module _ (m : Meaning) (t t' : Tree) (dead dead_block : ℕ → Bool) (w : IsTree t) (w' : IsTree t') (h : IsSwept t t' dead dead_block) (root : ℕ) where
-  abbrev pub gone : ℕ → Bool
-  gone v = is_maker_dead dead dead_block (definition_of t v)
+  abbrev pub deleted : ℕ → Bool
+  deleted v = is_maker_dead dead dead_block (definition_of t v)
 
   -- the rest of a block that is left, or what the run of the root itself is at
   abbrev pub IsLiveRest : List ℕ → Type 0
   IsLiveRest rest = (rest ≡ root ∷ []) ⊎ ((rest ≡ []) ⊎ ((b : ℕ) × (done : List ℕ) × (body_of t b ≡ done ++ rest) × (dead_block b ≡ false)))
 
   abbrev pub comparison : Comparison
-  comparison = record { places = λ k. place_if (dead k); swap = λ k. k; Own = IsLiveRest; Env = SameBut gone; visits = λ k. PassesSame; gotos = λ k. JumpsSame }
+  comparison = record { places = λ k. place_if (dead k); swap = λ k. k; Own = IsLiveRest; Env = SameBut deleted; visits = λ k. PassesSame; gotos = λ k. JumpsSame }
 
   live_rest : (k : ℕ) (rest : List ℕ) → IsLiveRest (k ∷ rest) → IsLiveRest rest
   live_rest k rest (inl e) = let f : rest ≡ [] = cc in inr (inl f)
@@ -71,12 +71,12 @@ module _ (m : Meaning) (t t' : Tree) (dead dead_block : ℕ → Bool) (w : IsTre
   enters_swept None (Some y) ds es s q own = s
   enters_swept (Some x) None ds es s q own = s
   enters_swept (Some x) (Some y) ds es s q own =
-      (s.0 ∙ sym (placed_swept dead x.operations), own x refl, λ env env' e. subst (λ vs. EnvsTied (SameBut gone) (bind env x.arguments ds) (bind env' vs es)) (sym s.1) (subst (λ z. EnvsTied (SameBut gone) (bind env x.arguments ds) (bind env' x.arguments z)) (sym q) (bind_same gone x.arguments env env' ds e)))
+      (s.0 ∙ sym (placed_swept dead x.operations), own x refl, λ env env' e. subst (λ vs. EnvsTied (SameBut deleted) (bind env x.arguments ds) (bind env' vs es)) (sym s.1) (subst (λ z. EnvsTied (SameBut deleted) (bind env x.arguments ds) (bind env' x.arguments z)) (sym q) (bind_same deleted x.arguments env env' ds e)))
 
   own_entry : (k i r : ℕ) → dead k ≡ false → slice_get (regions_of t k) i ≡ Some r → (x : Block) → entry_block t r ≡ Some x → IsLiveRest x.operations
   own_entry k i r l e x f =
       let s = entry_shows t r x f in
-      inr (inr (s.key, [], (block_shows t s.key x s.stands).operations, h.entries k r s.key l (in_slice (regions_of t k) i r e) s.entry))
+      inr (inr (s.key, [], (block_shows t s.key x s.liveness).operations, h.entries k r s.key l (in_slice (regions_of t k) i r e) s.entry))
 
   own_target : (b : ℕ) → dead_block b ≡ false → (x : Block) → block_at t b ≡ Some x → IsLiveRest x.operations
   own_target b l x f = inr (inr (b, [], (block_shows t b x f).operations, l))
@@ -86,7 +86,7 @@ module _ (m : Meaning) (t t' : Tree) (dead dead_block : ℕ → Bool) (w : IsTre
     own_rest = live_rest;
     absent = λ k l e. op_same t t' dead dead_block w w' h k (stays_live (dead k) l) ∙ e;
     other = λ k o l e. (o, op_same t t' dead dead_block w w' h k (stays_live (dead k) l) ∙ e);
-    results = λ k o o' l oe oe' env env' ds e. subst (λ z. EnvsTied (SameBut gone) (bind env o.results ds) (bind env' z.results ds)) (sym (one k o o' (stays_live (dead k) l) oe oe')) (bind_same gone o.results env env' ds e);
+    results = λ k o o' l oe oe' env env' ds e. subst (λ z. EnvsTied (SameBut deleted) (bind env o.results ds) (bind env' z.results ds)) (sym (one k o o' (stays_live (dead k) l) oe oe')) (bind_same deleted o.results env env' ds e);
     entries = λ k o o' l oe oe' i ds es v. subst (λ z. Enters m t t' comparison (entry_in t (slice_get o.regions i)) (entry_in t' (slice_get z.regions i)) ds es) (sym (one k o o' (stays_live (dead k) l) oe oe')) (entry k o (stays_live (dead k) l) oe i ds es v (slice_get o.regions i) refl);
     targets = λ k o o' l oe oe' i j ds es v. subst (λ z. Enters m t t' comparison (block_in t (slice_get o.successors i)) (block_in t' (slice_get z.successors j)) ds es) (sym (one k o o' (stays_live (dead k) l) oe oe')) (subst (λ n. Enters m t t' comparison (block_in t (slice_get o.successors i)) (block_in t' (slice_get o.successors n)) ds es) (sym v.0) (target k o (stays_live (dead k) l) oe i ds es v.1 (slice_get o.successors i) refl));
   }
@@ -120,10 +120,10 @@ module _ (m : Meaning) (t t' : Tree) (dead dead_block : ℕ → Bool) (w : IsTre
       let lk = stays_live (dead k) l in
       let same = same_op t t' k o o' (op_same t t' dead dead_block w w' h k lk) oe oe' in
       first_alike k o o' (shapes k o o' lk oe oe') (data_of s.environment o.operands) (data_of s'.environment o'.operands)
-      (data_same gone s.environment s'.environment r.environment o.operands (λ v q. h.values k v lk (subst (In v) (sym (op_shows t k o oe).operands) q)) ∙ ap (λ z. data_of s'.environment z.operands) (sym same))
+      (data_same deleted s.environment s'.environment r.environment o.operands (λ v q. h.values k v lk (subst (In v) (sym (op_shows t k o oe).operands) q)) ∙ ap (λ z. data_of s'.environment z.operands) (sym same))
 
   module _ (edges : EdgesLast t root) (well : WellDefined m t root) (gives : DeadGive m t dead dead_block root) (left : dead root ≡ false) where
-    dead_step : (s s' : State) → IsOnWay t w root m edges well s → Tied (ties m t t' comparison) s s' → (k : ℕ) (rest : List ℕ) → s.rest ≡ k ∷ rest → dead k ≡ true → (b : ℕ) → parent_of t k ≡ Some b → dead_block b ≡ false → (a : State) × (step m t s ≡ Goes a) × Tied (ties m t t' comparison) a s' × (taken (λ z. place_if (dead z)) a.rest < taken (λ z. place_if (dead z)) s.rest)
+    dead_step : (s s' : State) → IsOnWay t w root m edges well s → Tied (ties m t t' comparison) s s' → (k : ℕ) (rest : List ℕ) → s.rest ≡ k ∷ rest → dead k ≡ true → (b : ℕ) → parent_of t k ≡ Some b → dead_block b ≡ false → (a : State) × (step m t s ≡ Continues a) × Tied (ties m t t' comparison) a s' × (taken (λ z. place_if (dead z)) a.rest < taken (λ z. place_if (dead z)) s.rest)
     unfolding step
     dead_step s s' on r k rest e d b pe lb = (a, steps, tied, shorter)
       where
@@ -134,7 +134,7 @@ module _ (m : Meaning) (t t' : Tree) (dead dead_block : ℕ → Bool) (w : IsTre
         y = ready t w root m edges well s on k rest e fr.1
 
         hd : (x : Head) × (head_of t k ≡ Some x)
-        hd = some_of (head_of t k) (w.joined.standing k b pe).0
+        hd = some_of (head_of t k) (w.joined.all_in_place k b pe).0
 
         o : Operation
         o = operation_of t k hd.0
@@ -145,13 +145,13 @@ module _ (m : Meaning) (t t' : Tree) (dead dead_block : ℕ → Bool) (w : IsTre
         gv : (x : List Datum) × (m.act (shape_of m t o) Empty y.input ≡ Give x) × (length x ≡ length o.results)
         gv = gives k b y.inside d pe lb o oe y.input (data_long s.environment (operands_of t k) y.input y.has_data)
 
-        bg : (env1 : Environment) × (bind s.environment o.results gv.0 ≡ Some env1) × SameBut gone env1 s'.environment
-        bg = bind_gone gone o.results gv.0 s.environment s'.environment gv.2 (λ v i. let j = slice_in o.results v i in ap (is_maker_dead dead dead_block) (w.joined.results k j.0 v j.1) ∙ d) r.environment
+        bg : (env1 : Environment) × (bind s.environment o.results gv.0 ≡ Some env1) × SameBut deleted env1 s'.environment
+        bg = bind_gone deleted o.results gv.0 s.environment s'.environment gv.2 (λ v i. let j = slice_in o.results v i in ap (is_maker_dead dead dead_block) (w.joined.results k j.0 v j.1) ∙ d) r.environment
 
         a : State
         a = at_rest s bg.0 rest (y.inner ∷ y.others)
 
-        steps : step m t s ≡ Goes a
+        steps : step m t s ≡ Continues a
         steps =
             ap (step_at m t s) e
             ∙ ap (turn m t s k rest) oe
@@ -182,7 +182,7 @@ module _ (m : Meaning) (t t' : Tree) (dead dead_block : ℕ → Bool) (w : IsTre
         d : dead k ≡ true
         d = taken_dead (dead k) l q
 
-        go : IsLiveRest (k ∷ rest) → (a : State) × (step m t s ≡ Goes a) × Tied (ties m t t' comparison) a s' × (taken (λ z. place_if (dead z)) a.rest < taken (λ z. place_if (dead z)) s.rest)
+        go : IsLiveRest (k ∷ rest) → (a : State) × (step m t s ≡ Continues a) × Tied (ties m t t' comparison) a s' × (taken (λ z. place_if (dead z)) a.rest < taken (λ z. place_if (dead z)) s.rest)
         go (inl f) = let g : k ≡ root = cc in absurd (true≢false (sym d ∙ ap dead g ∙ left))
         go (inr (inl f)) = grind arith
         go (inr (inr x)) = dead_step s s' on r k rest e d x.0 (w.bodies.owned k x.0 (subst (In k) (sym x.2) (In-right k x.1 (k ∷ rest) (inl refl)))) x.3

@@ -12,14 +12,14 @@ use Rattle.pliron_laws.specs.Acting.{Begins}
 use Rattle.pliron_laws.specs.Laws.{Admitted, CountsFit, KeepsCounts, IsGive, GivesAtOnce}
 use Rattle.pliron_laws.specs.Linked.{IsAdmitted}
 use Rattle.pliron_theory.specs.Keeps.{IsFit, KeepsRuns}
-use Rattle.pliron_theory.specs.Sweeping.{is_maker_dead, IsSwept, AreGone, GivesNow, DeadGive}
+use Rattle.pliron_theory.specs.Sweeping.{is_maker_dead, IsSwept, AreNotLive, GivesNow, DeadGive}
 use Rattle.pliron_laws.proofs.Records.{op_shows}
 use Rattle.pliron_theory.proofs.SweptLists.{swept_all}
 use Rattle.pliron_theory.proofs.SweptParts.{lives, gone_away}
 use Rattle.pliron_theory.proofs.SweptStays.{swept_fit}
 use Rattle.pliron_theory.proofs.SweptAgree.{swept_agree}
 
-pub swept_keeps : (m : Meaning) (t t' : Tree) (dead dead_block : ℕ → Bool) → IsTree t → IsTree t' → IsSwept t t' dead dead_block → AreGone t' dead dead_block → length t.operations ≤ length t'.operations → ((root : ℕ) → IsFit m t root → DeadGive m t dead dead_block root) → KeepsRuns m t t'
+pub swept_keeps : (m : Meaning) (t t' : Tree) (dead dead_block : ℕ → Bool) → IsTree t → IsTree t' → IsSwept t t' dead dead_block → AreNotLive t' dead dead_block → length t.operations ≤ length t'.operations → ((root : ℕ) → IsFit m t root → DeadGive m t dead dead_block root) → KeepsRuns m t t'
 swept_keeps m t t' dead dead_block w w' h g longer gives = record {
   agrees = λ root f l. swept_agree m t t' dead dead_block w w' h root f.linked.edges f.defined (gives root f) (lives t' dead dead_block w' g root l) f.live;
   heads = λ root f l. ap (λ z. z.head) (h.rows root (lives t' dead dead_block w' g root l));

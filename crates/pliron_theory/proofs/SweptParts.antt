@@ -8,7 +8,7 @@ use Rattle.pliron_core.specs.Invariant.{IsTree}
 use Rattle.pliron_core.proofs.HoldingLemmas.{some_is, in_slice, slot_is, maker_is}
 use Rattle.pliron_core.proofs.WithinLemmas.{block_steps}
 use Rattle.pliron_core.proofs.WalkLemmas.{place_of}
-use Rattle.pliron_theory.specs.Sweeping.{is_maker_dead, IsSwept, AreGone, AreAway}
+use Rattle.pliron_theory.specs.Sweeping.{is_maker_dead, IsSwept, AreNotLive, AreAway}
 
 -- where a block stands that an operation holds
 pub record HasBlockPlace (t : Tree) (b k : ℕ) : Type 0 where
@@ -131,7 +131,7 @@ module _ (t t' : Tree) (dead dead_block : ℕ → Bool) (w : IsTree t) (w' : IsT
     made_back root (Some (Argument b j)) i = (i.0, (block_place_back b i.0 i.1).0, within_back root i.0 i.2)
 
 -- what is gone stands nowhere
-module _ (t' : Tree) (dead dead_block : ℕ → Bool) (w' : IsTree t') (g : AreGone t' dead dead_block) where
+module _ (t' : Tree) (dead dead_block : ℕ → Bool) (w' : IsTree t') (g : AreNotLive t' dead dead_block) where
   pub lives : (k : ℕ) → IsLive t' k → dead k ≡ false
   lives k l = go (dead k) refl
     where
@@ -150,4 +150,4 @@ module _ (t' : Tree) (dead dead_block : ℕ → Bool) (w' : IsTree t') (g : AreG
     where
       no_parent : (k : ℕ) → head_of t' k ≡ None → (o : Option ℕ) → parent_of t' k ≡ o → o ≡ None
       no_parent k e None f = refl
-      no_parent k e (Some b) f = absurd (true≢false (sym (w'.joined.standing k b f).0 ∙ ap is_some e))
+      no_parent k e (Some b) f = absurd (true≢false (sym (w'.joined.all_in_place k b f).0 ∙ ap is_some e))

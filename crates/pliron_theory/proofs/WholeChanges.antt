@@ -20,19 +20,19 @@ all_trans m t u v a b = λ chosen. keeps_trans (with_roots m chosen) t u v (a ch
 pub whole_refl : (m : Meaning) (t : Tree) (op : ℕ) → IsLive t op → IsWellLinked m t op → IsWholeChange m t t op
 whole_refl m t op live linked =
     let c = change_refl m t op live linked in
-    record { stands = c.stands; linked = c.linked; inside = c.inside; runs = all_refl m t }
+    record { liveness = c.liveness; linked = c.linked; inside = c.inside; runs = all_refl m t }
 
 pub whole_trans : (m : Meaning) (t u v : Tree) (op : ℕ) → IsWholeChange m t u op → IsWholeChange m u v op → IsWholeChange m t v op
 whole_trans m t u v op a b =
     let c = change_trans m t u v op (whole_passes m t u op a) (whole_passes m u v op b) in
-    record { stands = c.stands; linked = c.linked; inside = c.inside; runs = all_trans m t u v a.runs b.runs }
+    record { liveness = c.liveness; linked = c.linked; inside = c.inside; runs = all_trans m t u v a.runs b.runs }
 
 pub same_whole : (m : Meaning) (t u : Tree) (op : ℕ) → IsTree t → IsTree u → IsSameTree t u → length t.operations ≤ length u.operations → IsLive t op → IsWellLinked m t op → IsWholeChange m t u op
 same_whole m t u op wt wu s longer live linked =
     let c = same_passes m t u op wt wu s longer live linked in
-    record { stands = c.stands; linked = c.linked; inside = c.inside; runs = λ chosen. same_keeps (with_roots m chosen) t u wt wu s longer }
+    record { liveness = c.liveness; linked = c.linked; inside = c.inside; runs = λ chosen. same_keeps (with_roots m chosen) t u wt wu s longer }
 
 pub whole_widen : (m : Meaning) (t u : Tree) (op b : ℕ) → IsTree t → IsTree u → parent_operation_of t b ≡ Some op → IsWellLinked m t op → IsWholeChange m t u b → IsWholeChange m t u op
 whole_widen m t u op b wt wu up linked whole =
     let c = change_widen m t u op b wt wu up linked (whole_passes m t u b whole) in
-    record { stands = c.stands; linked = c.linked; inside = c.inside; runs = whole.runs }
+    record { liveness = c.liveness; linked = c.linked; inside = c.inside; runs = whole.runs }

@@ -14,7 +14,7 @@ pub record IsAnswered (m : Meaning) (can_fold : Head → Bool) (constants : Cons
   pub maker : ℕ
   pub index : ℕ
   pub operation : Operation
-  pub stands : op_at t maker ≡ Some operation
+  pub liveness : op_at t maker ≡ Some operation
   pub result : slice_get operation.results index ≡ Some v
   pub folds : IsTrue (can_fold operation.head)
   pub answers : slice_get (constants (shape_of m t operation) (replicate (length operation.operands) None)) index ≡ Some (Some c)

@@ -10,7 +10,7 @@ use Rattle.pliron_laws.specs.Linked.{IsWellLinked}
 -- what a pass on op does to the tree, whatever it answers
 pub record IsPassChange (m : Meaning) (t u : Tree) (op : ℕ) : Type 0 where
   -- op is live and well linked
-  pub stands : IsLive u op
+  pub liveness : IsLive u op
   pub linked : IsWellLinked m u op
   -- outside it only operands change that named a value defined inside it
   pub inside : IsInsideChange t u op
@@ -19,7 +19,7 @@ pub record IsPassChange (m : Meaning) (t u : Tree) (op : ℕ) : Type 0 where
 
 -- the same of a pass that keeps the runs of all roots, whatever their heads
 pub record IsWholeChange (m : Meaning) (t u : Tree) (op : ℕ) : Type 0 where
-  pub stands : IsLive u op
+  pub liveness : IsLive u op
   pub linked : IsWellLinked m u op
   pub inside : IsInsideChange t u op
   pub runs : KeepsAllRuns m t u

@@ -17,7 +17,7 @@ pub record IsArgumentDropped (t t' : Tree) (block index v : ℕ) (kept : ℕ →
   pub dropped : arguments_of t' block ≡ remove (arguments_of t block) index
   pub unused : (k : ℕ) → In v (operands_of t' k) → ⊥
   pub left : (k : ℕ) → In block (successors_of t k) → map Some (operands_of t' k) ≡ pick (kept k) (operands_of t k)
-  pub standing : (k : ℕ) → In block (successors_of t k) → IsLive t' k
+  pub all_in_place : (k : ℕ) → In block (successors_of t k) → IsLive t' k
   pub rows : (k : ℕ) → (In block (successors_of t k) → ⊥) → row_of t' k ≡ row_of t k
   pub operands : (k : ℕ) → (In block (successors_of t k) → ⊥) → operands_of t' k ≡ operands_of t k
   pub results : (k : ℕ) → results_of t' k ≡ results_of t k
@@ -84,5 +84,5 @@ abbrev pub AreOfBranches : Meaning → Tree → List Use → Type 0
 AreOfBranches m t edges = (n : ℕ) (e : Use) → slice_get edges n ≡ Some e → IsAdmitted m t e.user × HeadPasses m.is_branch t e.user
 
 -- for each edge, whether it forwards an operand at place j
-abbrev pub TellPlaces : Meaning → Tree → ℕ → List Use → List Bool → Type 0
-TellPlaces m t j edges places = (n : ℕ) (e : Use) (b : Bool) (o : Operation) → slice_get edges n ≡ Some e → slice_get places n ≡ Some b → op_at t e.user ≡ Some o → IsTrue b ↔ (j < length (m.forwarded (shape_of m t o) e.place))
+abbrev pub GivePlaces : Meaning → Tree → ℕ → List Use → List Bool → Type 0
+GivePlaces m t j edges places = (n : ℕ) (e : Use) (b : Bool) (o : Operation) → slice_get edges n ≡ Some e → slice_get places n ≡ Some b → op_at t e.user ≡ Some o → IsTrue b ↔ (j < length (m.forwarded (shape_of m t o) e.place))

@@ -15,9 +15,9 @@ use Rattle.pliron_theory.specs.LatticeValues.{LatticeValue, Constant, LatticeVal
 use Rattle.pliron_theory.specs.Sound.{AreSound, read_of}
 
 -- an operation of the first tree is as it was, but for operands, about which the same is known
-pub record StandsAsBefore (x : Says) (t₀ t : Tree) (f₀ f : LatticeValues) (k : ℕ) (o₀ : Operation) : Type 0 where
+pub record IsAsBefore (x : Says) (t₀ t : Tree) (f₀ f : LatticeValues) (k : ℕ) (o₀ : Operation) : Type 0 where
   pub operation : Operation
-  pub stands : op_at t k ≡ Some operation
+  pub liveness : op_at t k ≡ Some operation
   pub head : operation.head ≡ o₀.head
   pub results : operation.results ≡ o₀.results
   pub successors : operation.successors ≡ o₀.successors
@@ -41,7 +41,7 @@ pub record Follows (x : Says) (t₀ : Tree) (root : ℕ) (f₀ : LatticeValues) 
   pub parents : (k : ℕ) → IsLive t₀ k → parent_of t k ≡ parent_of t₀ k
   pub block_parents : (b : ℕ) → block_parent_of t b ≡ block_parent_of t₀ b
   pub arguments : (b : ℕ) → arguments_of t b ≡ arguments_of t₀ b
-  pub operations : (k : ℕ) (o₀ : Operation) → op_at t₀ k ≡ Some o₀ → StandsAsBefore x t₀ t f₀ facts k o₀
+  pub operations : (k : ℕ) (o₀ : Operation) → op_at t₀ k ≡ Some o₀ → IsAsBefore x t₀ t f₀ facts k o₀
   pub read_results : (k v : ℕ) → In v (results_of t₀ k) → read v ≡ read_of x t₀ f₀ v
   pub read_arguments : (b v : ℕ) → In v (arguments_of t₀ b) → read v ≡ f₀.lattice_value v
 

@@ -15,7 +15,7 @@ pub record IsRebranched (t t' : Tree) (a op new : ℕ) (front : List ℕ) : Type
   pub split : body_of t a ≡ front ++ op ∷ []
   pub put : body_of t' a ≡ front ++ new ∷ []
   pub fresh : head_of t new ≡ None
-  pub gone : head_of t' op ≡ None
+  pub deleted : head_of t' op ≡ None
   pub childless : regions_of t op ≡ []
   pub new_childless : regions_of t' new ≡ []
   pub no_results : results_of t op ≡ []

@@ -20,7 +20,7 @@ AreReadAs m t op known = (root j v : ℕ) (c : AttrObj) → IsFit m t root → s
 pub record IsRefolded (m : Meaning) (t t' : Tree) (a op new : ℕ) (front : List ℕ) (known : List (Option AttrObj)) : Type 0 where
   pub placed : IsRebranched t t' a op new front
   pub operation : Operation
-  pub stands : op_at t op ≡ Some operation
+  pub liveness : op_at t op ≡ Some operation
   pub head : Head
   pub places : List ℕ
   pub edges : List ℕ

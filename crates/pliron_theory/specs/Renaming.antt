@@ -4,7 +4,7 @@ use Rattle.pliron_core.specs.Changes.{IsDefiningOperationInside}
 use Rattle.pliron_core.specs.Tree.{Tree, In, IsInside, row_of, operands_of, successors_of, results_of, regions_of, parent_of, body_of, arguments_of, block_parent_of, layout_of, slot_of, definition_of}
 use Rattle.pliron_laws.specs.Datum.{Datum, Empty, Meaning, Give}
 use Rattle.pliron_laws.specs.Tree.{Operation, op_at, shape_of}
-use Rattle.pliron_laws.specs.Machine.{State, Goes, run}
+use Rattle.pliron_laws.specs.Machine.{State, Continues, run}
 use Rattle.pliron_laws.specs.Root.{IsDominated}
 
 -- each operand is renamed, and all else is as before
@@ -28,7 +28,7 @@ pub record MayUse (t : Tree) (root user v : ℕ) : Type 0 where
 
 -- some run of the root comes to this state
 abbrev pub RunReaches : Meaning → Tree → ℕ → State → Type 0
-RunReaches m t root s = (inputs world : List Datum) × (n : ℕ) × (run m t root inputs world n ≡ Goes s)
+RunReaches m t root s = (inputs world : List Datum) × (n : ℕ) × (run m t root inputs world n ≡ Continues s)
 
 -- wherever an operation reads its operands, each has the same datum as the value that it is renamed to
 abbrev pub HaveSameData : Meaning → (t t' : Tree) → (ℕ → ℕ) → ℕ → Type 0

@@ -14,7 +14,7 @@ use Rattle.pliron_laws.specs.Laws.{KeepsCounts, GivesAtOnce}
 use Rattle.pliron_laws.specs.Folding.{MakesConstant}
 use Rattle.pliron_laws.specs.Answers.{HeadPasses, ReadsPlace}
 use Rattle.pliron_theory.specs.Keeps.{IsFit, KeepsRuns, with_roots}
-use Rattle.pliron_theory.specs.Sweeping.{IsSwept, AreGone, AreAway, ArePut, GivesNow, DeadGive}
+use Rattle.pliron_theory.specs.Sweeping.{IsSwept, AreNotLive, AreAway, ArePut, GivesNow, DeadGive}
 use Rattle.pliron_theory.specs.Splicing.{IsSpliced, JumpsNow}
 use Rattle.pliron_theory.specs.Rebranching.{IsRebranched, ActsInPlace, FitsInPlace}
 use Rattle.pliron_theory.specs.Dropping.{IsArgumentDropped, LeadsWithout, HoldsWithout, AreEdgesTo, EdgesLose}
@@ -36,7 +36,7 @@ OperandsHaveData = (m : Meaning) (t : Tree) (root : ℕ) → IsTree t → IsFit 
 
 -- operations that give at once, and blocks that no run comes to, may be erased where nothing names them
 pub record SweepingLaws : Type 0 where
-  pub swept : (m : Meaning) (t t' : Tree) (dead dead_block : ℕ → Bool) → IsTree t → IsTree t' → IsSwept t t' dead dead_block → AreGone t' dead dead_block → length t.operations ≤ length t'.operations → ((root : ℕ) → IsFit m t root → DeadGive m t dead dead_block root) → KeepsRuns m t t'
+  pub swept : (m : Meaning) (t t' : Tree) (dead dead_block : ℕ → Bool) → IsTree t → IsTree t' → IsSwept t t' dead dead_block → AreNotLive t' dead dead_block → length t.operations ≤ length t'.operations → ((root : ℕ) → IsFit m t root → DeadGive m t dead dead_block root) → KeepsRuns m t t'
   -- an operation without side effects is erased with its contents
   pub erased : (m : Meaning) (side_effects : Head → Option Bool) (t : Tree) (op : ℕ) → KeepsCounts m → GivesAtOnce m side_effects → IsTree t → IsTree (after_erasing t op) → IsLive t op → IsSelfContained t op → ((h : Head) → head_of t op ≡ Some h → side_effects h ≡ Some false) → KeepsRuns m t (after_erasing t op)
 

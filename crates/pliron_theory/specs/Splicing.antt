@@ -26,8 +26,8 @@ pub record IsSpliced (t t' : Tree) (a b jump : ℕ) (front : List ℕ) : Type 0 
   pub moved : (k : ℕ) → parent_of t k ≡ Some b → parent_of t' k ≡ Some a
   pub parents : (k : ℕ) → k ≢ jump → parent_of t k ≢ Some b → parent_of t' k ≡ parent_of t k
   pub layouts : (r : ℕ) → layout_of t' r ≡ without b (layout_of t r)
-  pub gone : head_of t' jump ≡ None
-  pub gone_block : block_parent_of t' b ≡ None
+  pub deleted : head_of t' jump ≡ None
+  pub detached_block : block_parent_of t' b ≡ None
 
 -- the operation jumps to its only successor at once, with as many values as the block has arguments
 abbrev pub JumpsNow : Meaning → Tree → (jump b : ℕ) → Type 0

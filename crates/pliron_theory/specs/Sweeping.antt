@@ -42,7 +42,7 @@ pub record IsSwept (t t' : Tree) (dead dead_block : ℕ → Bool) : Type 0 where
   pub targets : (k b : ℕ) → dead k ≡ false → In b (successors_of t k) → dead_block b ≡ false
 
 -- what is dead is erased
-pub record AreGone (t' : Tree) (dead dead_block : ℕ → Bool) : Type 0 where
+pub record AreNotLive (t' : Tree) (dead dead_block : ℕ → Bool) : Type 0 where
   pub operations : (k : ℕ) → dead k ≡ true → head_of t' k ≡ None
   pub blocks : (b : ℕ) → dead_block b ≡ true → block_parent_of t' b ≡ None
 

@@ -1,7 +1,7 @@
 //! Operands that are removed with an argument of a block.
 ghost use Rattle.std.specs.Prelude.{◌≡◌, length};
 ghost use Rattle.pliron_core.specs.Tree.{IsBlock, uses_of};
-ghost use Rattle.pliron_theory.specs.Dropping.{EdgesLose, AreOfBranches, TellPlaces};
+ghost use Rattle.pliron_theory.specs.Dropping.{EdgesLose, AreOfBranches, GivePlaces};
 
 use pliron_core::{BasicBlock, Context, Ptr};
 use pliron_laws::Dialect;
@@ -21,7 +21,7 @@ pub fn lose_forwarded<D: Dialect>(
     requires block { IsBlock ctx.old.tree block }
     requires count { length forwards.now ≡ length (uses_of ctx.old.block_uses block) }
     requires branches { AreOfBranches D.meaning ctx.old.tree (uses_of ctx.old.block_uses block) }
-    requires places { TellPlaces D.meaning ctx.old.tree j (uses_of ctx.old.block_uses block) forwards.now }
+    requires places { GivePlaces D.meaning ctx.old.tree j (uses_of ctx.old.block_uses block) forwards.now }
     ensures lost { EdgesLose D.meaning D.shortened j (uses_of ctx.old.block_uses block) ctx.old.tree ctx.new.tree }
     ensures block_uses { ctx.new.block_uses ≡ ctx.old.block_uses }
 {

@@ -166,5 +166,5 @@ edges_within t root op within edges k s i held =
     wider x (inr u) = inr (inside_within t root op x within u)
 
 pub lawful_within : (t : Tree) → IsTree t → (root r p : ℕ) → IsRegion t r → region_parent_of t r ≡ Some p → IsWithin t root p → EdgesLast t root → IsLawfulRegion t r
-lawful_within t w root r p stands held within edges =
-    record { tree = w; stands = stands; holder = p; held = held; edges = edges_within t root p within edges }
+lawful_within t w root r p liveness held within edges =
+    record { tree = w; liveness = liveness; holder = p; held = held; edges = edges_within t root p within edges }

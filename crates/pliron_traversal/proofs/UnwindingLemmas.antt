@@ -112,7 +112,7 @@ module _ {N : Type 0} (eq : N → N → Bool) (g : Digraph N) where
         → IsStep eq g (es ++ (v, i) ∷ []) p q (es ++ (v, i + 1) ∷ []) p q
     step_skipped es v w i p q at seen = record {
       rest = λ pe qe u. skipped es v w i p q pe qe at seen u;
-      falls = falls_skipped eq g es v i p (slice_get_within (g.succ v) i w at);
+      descends = falls_skipped eq g es v i p (slice_get_within (g.succ v) i w at);
       nodes = λ all. all_pushed es (v, i) (v, i + 1) all (all_last es (v, i) all);
     }
 
@@ -124,7 +124,7 @@ module _ {N : Type 0} (eq : N → N → Bool) (g : Digraph N) where
         let there : Contains g.nodes w = closed v w member is in
         record {
           rest = λ pe qe u. visited es v w i p q pe qe at unseen u;
-          falls = falls_visited eq g es v w i p within there unseen (reflexive w);
+          descends = falls_visited eq g es v w i p within there unseen (reflexive w);
           nodes = λ all. All-push (λ x. Contains g.nodes x.0) (es ++ (v, i + 1) ∷ []) (w, 0) (all_pushed es (v, i) (v, i + 1) all (all_last es (v, i) all)) there;
         }
 
@@ -132,7 +132,7 @@ module _ {N : Type 0} (eq : N → N → Bool) (g : Digraph N) where
         → IsStep eq g (es ++ (v, i) ∷ []) p q es p (q ++ v ∷ [])
     step_left es v i p q past = record {
       rest = λ pe qe u. left es v i p q pe qe past u;
-      falls = falls_left eq g es v i p;
+      descends = falls_left eq g es v i p;
       nodes = λ all. (All-pop (λ (x : N × ℕ). Contains g.nodes x.0) (es ++ (v, i) ∷ []) es (Some (v, i)) refl all).0;
     }
 

@@ -19,7 +19,7 @@ graph_of_region t region = record {
 -- the region is live, and edges are last in the blocks inside its parent operation
 pub record IsLawfulRegion (t : Tree) (region : ℕ) : Type 0 where
   pub tree : IsTree t
-  pub stands : IsRegion t region
+  pub liveness : IsRegion t region
   pub holder : ℕ
   pub held : region_parent_of t region ≡ Some holder
   pub edges : EdgesLast t holder

@@ -64,8 +64,8 @@ abbrev pub IsListed : {N : Type 0} → (N → N → Bool) → List N → N → T
 IsListed eq xs v = IsTrue (list_any (eq v) xs)
 
 -- u is before v in an order
-abbrev pub StandsBefore : {N : Type 0} → (N → N → Bool) → List N → N → N → Type 0
-StandsBefore eq xs u v = number_in eq xs u < number_in eq xs v
+abbrev pub ComesBefore : {N : Type 0} → (N → N → Bool) → List N → N → N → Type 0
+ComesBefore eq xs u v = number_in eq xs u < number_in eq xs v
 
 -- the two orders list what the roots reach, each node once, by search number
 pub record IsSearch {N : Type 0} (eq : N → N → Bool) (g : Digraph N) (roots : List N) (o : Orders N) : Type 0 where

@@ -2,7 +2,7 @@
 ghost use Rattle.std.specs.Prelude.{◌≡◌, ◌<◌, IfOk, IfSome, IsOkUnless, get_or, is_some, length, position};
 ghost use Rattle.std.specs.List.{IsDistinct, list_any};
 ghost use Rattle.pliron_traversal.specs.Search.{number_in};
-ghost use Rattle.pliron_traversal.specs.Internal.Numbers.{TellsPlaces, number_hashed, number_in_bytes};
+ghost use Rattle.pliron_traversal.specs.Internal.Numbers.{GivesPlaces, number_hashed, number_in_bytes};
 
 use crate::traversal::index_nodes;
 use indexmap::IndexSet;
@@ -69,13 +69,13 @@ pub struct NodeSet<N: Eq + Hash> {
 
 impl<N: Eq + Hash> Model for NodeSet<N> {
     ghost use Rattle.std.specs.Prelude.{List};
-    ghost use Rattle.pliron_traversal.specs.Internal.Numbers.{nodes_of, AreTold};
+    ghost use Rattle.pliron_traversal.specs.Internal.Numbers.{nodes_of, AreGiven};
 
     ghost Value = { List N };
 
     ghost view = { λ s. nodes_of s.places };
 
-    ghost invariant = { λ s. AreTold N.hash_input s.places };
+    ghost invariant = { λ s. AreGiven N.hash_input s.places };
 }
 
 impl<N: Eq + Hash + Copy> NodeSet<N> {
@@ -154,7 +154,7 @@ fn marks_of<N: Eq + Hash>(
     nodes: &[N],
     bound: usize,
 ) -> Result<Option<Vec<u32>>, OptError>
-    ensures told { IfOk result (λ found. IfSome found (λ marks. TellsPlaces N.hash_input nodes.now marks.items)) }
+    ensures reported { IfOk result (λ found. IfSome found (λ marks. GivesPlaces N.hash_input nodes.now marks.items)) }
     ensures memory { IsOkUnless result OptError.Memory }
 {
     if nodes.len() > u32::MAX as usize {
@@ -184,7 +184,7 @@ fn mark_at(marks: &[u32], number: usize) -> usize
 
 // The place of a node, by these marks.
 fn marked_place<N: Eq + Hash>(nodes: &[N], marks: &[u32], node: &N) -> Option<usize>
-    requires { TellsPlaces N.hash_input nodes.now marks.now }
+    requires { GivesPlaces N.hash_input nodes.now marks.now }
     ensures { result ≡ position (N.eq node.now) nodes.now }
 {
     let number = number_of(node);

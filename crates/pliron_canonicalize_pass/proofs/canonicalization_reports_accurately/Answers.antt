@@ -1,4 +1,4 @@
-use Rattle.pliron_pipeline.proofs.HonestLemmas.{optimisation_same}
+use Rattle.pliron_pipeline.proofs.ReportLemmas.{optimisation_same}
 use Rattle.pliron_canonicalize_pass.proofs.canonicalization_reports_accurately.Goals as goal
 
 pub returns : goal.returns

@@ -11,7 +11,7 @@ use Rattle.pliron_cfg.specs.Visited.{Start, IsCutOff, IsUnreachable}
 use Rattle.pliron_cfg.specs.Visits.{AreVisits}
 use Rattle.pliron_cfg.specs.declared.removal.scope.RemovalScope.{RemovalScope}
 use Rattle.pliron_cfg.specs.Removed.{RemovesSome, IsWithout}
-use Rattle.pliron_cfg.specs.Internal.Scopes.{start_of, ScopeStands, IsHolder}
+use Rattle.pliron_cfg.specs.Internal.Scopes.{start_of, IsScopeLive, IsHolder}
 
 -- the status after one more part of the work
 abbrev pub status_after : (more status : IRStatus) → IRStatus
@@ -28,7 +28,7 @@ Went start t u b = IsUnreachable start t b × (IsUnreachable start u b → ⊥)
 
 -- of the regions rs those in `left` are still to be done, and the others have lost their unreachable blocks
 pub record AreCleared (m : Meaning) (t u : Tree) (scope : RemovalScope) (root : ℕ) (rs ks left : List ℕ) (status : IRStatus) : Type 0 where
-  pub stands : ScopeStands u scope
+  pub liveness : IsScopeLive u scope
   pub holder : IsHolder u scope root
   pub first : IsTree t
   pub some : RemovesSome (start_of scope) t u
@@ -39,4 +39,4 @@ pub record AreCleared (m : Meaning) (t u : Tree) (scope : RemovalScope) (root : 
   pub links : KeepsLinks m t u
   pub among : (r : ℕ) → In r left → In r rs
   pub cleared : (r : ℕ) → In r rs → In r left ⊎ ((b : ℕ) → IsCutOff u r b → ⊥)
-  pub tells : ReportsLoss (start_of scope) t u status
+  pub accurate : ReportsLoss (start_of scope) t u status

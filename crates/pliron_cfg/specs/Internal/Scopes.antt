@@ -12,10 +12,10 @@ start_of (Block block) = OfBlock block
 start_of (Region region) = OfRegion region
 
 -- what it visits is live
-abbrev pub ScopeStands : Tree → RemovalScope → Type 0
-ScopeStands t (Operation op) = IsLive t op
-ScopeStands t (Block block) = IsBlock t block
-ScopeStands t (Region region) = IsRegion t region
+abbrev pub IsScopeLive : Tree → RemovalScope → Type 0
+IsScopeLive t (Operation op) = IsLive t op
+IsScopeLive t (Block block) = IsBlock t block
+IsScopeLive t (Region region) = IsRegion t region
 
 -- the operation itself, or the parent operation of the block or the region
 abbrev pub IsHolder : Tree → RemovalScope → ℕ → Type 0

@@ -2,7 +2,7 @@
 ghost use Rattle.std.specs.Prelude.{ℕ, IfOk, IsOkUnless};
 ghost use Rattle.pliron_laws.specs.Linked.{EdgesLast};
 ghost use Rattle.pliron_cfg.specs.Visits.{AreVisits};
-ghost use Rattle.pliron_cfg.specs.Internal.Scopes.{start_of, ScopeStands, IsHolder};
+ghost use Rattle.pliron_cfg.specs.Internal.Scopes.{start_of, IsScopeLive, IsHolder};
 
 use crate::visits::{Visits, visits_inside_block, visits_inside_op, visits_inside_region};
 use pliron_core::{BasicBlock, Context, Operation, Ptr, Region};
@@ -20,7 +20,7 @@ pub(crate) enum RemovalScope {
 impl RemovalScope {
     // The regions and blocks that a call visits there.
     pub(crate) fn visits(&self, alloc: Global, ctx: &Context) -> Result<Visits, OptError>
-        requires stands { ScopeStands ctx.now.tree self.now }
+        requires liveness { IsScopeLive ctx.now.tree self.now }
         requires edges { (holder : ℕ) → IsHolder ctx.now.tree self.now holder → EdgesLast ctx.now.tree holder }
         ensures visits { IfOk result (λ v. AreVisits ctx.now.tree (start_of self.now ctx.now.tree) v.regions.items
             v.blocks.items) }

@@ -11,9 +11,9 @@ fn expect_fault(rt: &impl Abort, alloc: Global, text: &str, wanted: &str) {
         .expect(rt, "memory")
         .expect(rt, "a fault");
     let place = position_of(lines.as_bytes(), fault.span.start);
-    let told = format!(in alloc; "{}:{} {}", place.line, place.column, fault.expected);
-    let told = told.expect(rt, "memory");
-    assert!(rt; told.as_str() == wanted, "{text} => {told}");
+    let reported = format!(in alloc; "{}:{} {}", place.line, place.column, fault.expected);
+    let reported = reported.expect(rt, "memory");
+    assert!(rt; reported.as_str() == wanted, "{text} => {reported}");
 }
 
 /// Broken texts, and line, column and what was expected there.
@@ -67,7 +67,7 @@ fn broken_texts(rt: HostRuntime) {
 }
 
 /// What is reported of a broken text.
-static TOLD: &str = "error: unreadable text
+static REPORTED: &str = "error: unreadable text
  --> in.plir:2:19
   |
 2 | b0(): x = const 1 ret x
@@ -78,10 +78,10 @@ static TOLD: &str = "error: unreadable text
 fn faults_are_marked(rt: HostRuntime) {
     let alloc = rt.alloc();
     let text = b"func {\nb0(): x = const 1 ret x\n}\n";
-    let told = text_fault(alloc, "in.plir", text)
+    let reported = text_fault(alloc, "in.plir", text)
         .expect(&rt, "memory")
         .expect(&rt, "a fault");
-    assert!(rt; told.as_str() == TOLD, "{told}");
+    assert!(rt; reported.as_str() == REPORTED, "{reported}");
     let read = text_fault(alloc, "in.plir", b"func { b0(): ret }").expect(&rt, "memory");
     assert!(rt; read.is_none());
 }

@@ -71,7 +71,7 @@ fn expect_part(rt: &impl Abort, alloc: Global, path: &str, wanted: &str) {
 }
 
 #[test]
-fn parts_stand_at_paths(rt: HostRuntime) {
+fn parts_are_at_paths(rt: HostRuntime) {
     for case in PARTS.lines() {
         let (path, wanted) = case.split_once(" => ").expect(&rt, "a case");
         expect_part(&rt, rt.alloc(), path, wanted);

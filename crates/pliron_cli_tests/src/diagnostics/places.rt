@@ -7,14 +7,14 @@ use std::process::Abort;
 fn expect_places(rt: &impl Abort, alloc: Global, text: &str, wanted: &str) {
     let lines = with_lines(alloc, text).expect(rt, "memory");
     let places = operation_places(alloc, lines.as_bytes()).expect(rt, "memory");
-    let mut told = String::new(alloc);
+    let mut reported = String::new(alloc);
     for place in &places {
         let place = *place;
         let (line, column, len) = (place.line, place.column, place.len);
         let one = format!(in alloc; "{line}:{column}+{len} ").expect(rt, "memory");
-        told.push_str(one.as_str()).expect(rt, "memory");
+        reported.push_str(one.as_str()).expect(rt, "memory");
     }
-    assert!(rt; told.trim_end() == wanted, "{text} => {told}");
+    assert!(rt; reported.trim_end() == wanted, "{text} => {reported}");
 }
 
 /// Texts, and line, column and length of each operation.

@@ -11,13 +11,13 @@ fn expect_run(rt: &impl Abort, alloc: Global, text: &str, wanted: &str, options:
         name: "in.plir",
         text: text.as_bytes(),
     };
-    let told = run_text(alloc, &source, options)
+    let reported = run_text(alloc, &source, options)
         .expect(rt, "memory")
         .expect(rt, "a readable text");
     assert!(rt;
-        told.seen.as_str() == wanted.as_str(),
+        reported.seen.as_str() == wanted.as_str(),
         "{text} => {}",
-        told.seen
+        reported.seen
     );
 }
 
@@ -67,25 +67,25 @@ fn expect_last_move(rt: &impl Abort, alloc: Global, text: &str, wanted: &str) {
         steps: 20,
         trace: false,
     };
-    let told = run_text(alloc, &source, &options)
+    let reported = run_text(alloc, &source, &options)
         .expect(rt, "memory")
         .expect(rt, "a readable text");
     assert!(rt;
-        told.report.is_empty() == wanted.is_empty(),
+        reported.report.is_empty() == wanted.is_empty(),
         "{text} => {}",
-        told.report
+        reported.report
     );
     for part in wanted.split('|') {
         assert!(rt;
-            told.report.as_str().contains(part),
+            reported.report.as_str().contains(part),
             "{text} => {}",
-            told.report
+            reported.report
         );
     }
 }
 
 #[test]
-fn last_moves_are_told(rt: HostRuntime) {
+fn last_moves_are_reported(rt: HostRuntime) {
     for case in LAST_MOVES.lines() {
         let (text, wanted) = case.split_once(" =>").expect(&rt, "a case");
         expect_last_move(&rt, rt.alloc(), text, wanted.trim());
@@ -105,7 +105,7 @@ b1(n):
 ";
 
 /// What is reported of its run on 1.
-static TURNS_TOLD: &str = "1:1 func <- 1
+static TURNS_REPORTED: &str = "1:1 func <- 1
 3:3 one = const -1
 4:3 br b1(x) <- 1
 6:3 q = div x n <- 1 1
@@ -120,7 +120,7 @@ error: the run trapped
 ";
 
 #[test]
-fn moves_and_traps_are_told(rt: HostRuntime) {
+fn moves_and_traps_are_reported(rt: HostRuntime) {
     let source = Source {
         name: "in.plir",
         text: TURNS.as_bytes(),
@@ -131,22 +131,26 @@ fn moves_and_traps_are_told(rt: HostRuntime) {
         steps: 100,
         trace: true,
     };
-    let told = run_text(rt.alloc(), &source, &options)
+    let reported = run_text(rt.alloc(), &source, &options)
         .expect(&rt, "memory")
         .expect(&rt, "a readable text");
-    assert!(rt; told.report.as_str() == TURNS_TOLD, "{}", told.report);
-    assert!(rt; told.end == End::Trapped);
+    assert!(rt;
+        reported.report.as_str() == TURNS_REPORTED,
+        "{}",
+        reported.report
+    );
+    assert!(rt; reported.end == End::Trapped);
 }
 
 /// What the sink was given, and how often.
 #[derive(Drop)]
-struct Told {
+struct Recorded {
     text: Vec<u8>,
     times: usize,
 }
 
-impl EffectSink for Told {
-    fn tell(&mut self, lines: &[u8]) -> bool {
+impl EffectSink for Recorded {
+    fn accept(&mut self, lines: &[u8]) -> bool {
         self.times = self.times.saturating_add(1);
         self.text.extend_from_slice(lines).is_ok()
     }
@@ -161,20 +165,21 @@ fn expect_streamed(rt: &impl Abort, alloc: Global, text: &str, options: &RunOpti
     let whole = run_text(alloc, &source, options)
         .expect(rt, "memory")
         .expect(rt, "a readable text");
-    let mut told = Told {
+    let mut reported = Recorded {
         text: Vec::new(alloc),
         times: 0,
     };
-    let streamed = run_text_streamed(alloc, &source, options, &mut told)
+    let streamed = run_text_streamed(alloc, &source, options, &mut reported)
         .expect(rt, "memory")
         .expect(rt, "a readable text");
-    told.text
+    reported
+        .text
         .extend_from_slice(streamed.seen.as_bytes())
         .expect(rt, "memory");
-    assert!(rt; told.text.as_slice() == whole.seen.as_bytes(), "{text}");
+    assert!(rt; reported.text.as_slice() == whole.seen.as_bytes(), "{text}");
     assert!(rt; streamed.report.as_str() == whole.report.as_str(), "{text}");
     assert!(rt; streamed.end == whole.end, "{text}");
-    told.times
+    reported.times
 }
 
 /// A text that prints, runs 2500 times round, and prints again.
@@ -182,7 +187,7 @@ static LONG: &str =
     "func { b0(x): print x; n = const 2500; o = const -1; br b1(n); b1(m): l = add m o; cbr l b1(l) b2(); b2(): print n; ret }";
 
 #[test]
-fn effects_come_while_a_run_goes_on(rt: HostRuntime) {
+fn effects_come_while_a_run_continues(rt: HostRuntime) {
     for steps in [3, 4100, 100_000] {
         let options = RunOptions {
             inputs: &[3],

@@ -32,7 +32,7 @@ impl Ptr<BasicBlock> {
         requires live { IsBlock ctx.now.tree self }
         requires index { i < length (arguments_of ctx.now.tree self) }
         ensures argument { slice_get (arguments_of ctx.now.tree self) i ≡ Some result }
-        ensures stands { IsDefined ctx.now.tree result }
+        ensures liveness { IsDefined ctx.now.tree result }
     {
         ctx.well_formed();
         ctx.arguments.get(self, i)
@@ -43,7 +43,7 @@ impl Ptr<BasicBlock> {
     pub fn get_parent_region(self, ctx: &Context) -> Option<Ptr<Region>>
         requires { IsBlock ctx.now.tree self }
         ensures region { result ≡ block_parent_of ctx.now.tree self }
-        ensures stands { IfSome result (λ r. IsRegion ctx.now.tree r) }
+        ensures liveness { IfSome result (λ r. IsRegion ctx.now.tree r) }
     {
         ctx.well_formed();
         ctx.layout.owner(self.index()).map(|key| Ptr::new(key))
@@ -54,7 +54,7 @@ impl Ptr<BasicBlock> {
     pub fn get_head(self, ctx: &Context) -> Option<Ptr<Operation>>
         requires { IsBlock ctx.now.tree self }
         ensures first { result ≡ first_of (body_of ctx.now.tree self) None }
-        ensures stands { IfSome result (λ op. IsLive ctx.now.tree op) }
+        ensures liveness { IfSome result (λ op. IsLive ctx.now.tree op) }
     {
         ctx.well_formed();
         ctx.order.head(self.index()).map(|key| Ptr::new(key))
@@ -65,7 +65,7 @@ impl Ptr<BasicBlock> {
     pub fn get_tail(self, ctx: &Context) -> Option<Ptr<Operation>>
         requires { IsBlock ctx.now.tree self }
         ensures last { result ≡ last_of None (body_of ctx.now.tree self) }
-        ensures stands { IfSome result (λ op. IsLive ctx.now.tree op) }
+        ensures liveness { IfSome result (λ op. IsLive ctx.now.tree op) }
     {
         ctx.well_formed();
         ctx.order.tail(self.index()).map(|key| Ptr::new(key))
@@ -76,7 +76,7 @@ impl Ptr<BasicBlock> {
     pub fn get_prev(self, ctx: &Context) -> Option<Ptr<BasicBlock>>
         requires { IsBlock ctx.now.tree self }
         ensures prev { result ≡ prev_block_of ctx.now.tree self }
-        ensures stands { IfSome result (λ b. IsBlock ctx.now.tree b) }
+        ensures liveness { IfSome result (λ b. IsBlock ctx.now.tree b) }
     {
         ctx.well_formed();
         ctx.layout.prev(self.index()).map(|key| Ptr::new(key))
@@ -87,7 +87,7 @@ impl Ptr<BasicBlock> {
     pub fn get_next(self, ctx: &Context) -> Option<Ptr<BasicBlock>>
         requires { IsBlock ctx.now.tree self }
         ensures next { result ≡ next_block_of ctx.now.tree self }
-        ensures stands { IfSome result (λ b. IsBlock ctx.now.tree b) }
+        ensures liveness { IfSome result (λ b. IsBlock ctx.now.tree b) }
     {
         ctx.well_formed();
         ctx.layout.next(self.index()).map(|key| Ptr::new(key))

@@ -2,7 +2,7 @@
 //! outside it. Takes no memory.
 ghost use Rattle.std.specs.Prelude.{◌≡◌, Some, IsTrue, ◌↔◌};
 ghost use Rattle.pliron_core.specs.Tree.{IsLive, IsBlock, IsRegion, IsDefined, IsWithin, HoldsBlock, block_parent_operation_of};
-ghost use Rattle.pliron_core.specs.Erased.{IsSelfContained, StandsIn, IsSelfContainedBlock};
+ghost use Rattle.pliron_core.specs.Erased.{IsSelfContained, IsInOperation, IsSelfContainedBlock};
 ghost use Rattle.pliron_core.specs.Contained.{IsInScope, IsValueKept, IsTargetKept, IsBlockKept, IsRegionKept, IsOperationKept, IsPreorderKept, IsBodyKept};
 
 use super::Context;
@@ -30,9 +30,9 @@ fn is_within(ctx: &Context, root: Ptr<Operation>, op: Ptr<Operation>) -> bool
 }
 
 // Whether the operation is in the block, at any depth. The cost is the depth of the operation.
-fn stands_in(ctx: &Context, block: Ptr<BasicBlock>, op: Ptr<Operation>) -> bool
+fn is_in_operation(ctx: &Context, block: Ptr<BasicBlock>, op: Ptr<Operation>) -> bool
     requires { IsLive ctx.now.tree op }
-    ensures { IsTrue result ↔ StandsIn ctx.now.tree block op }
+    ensures { IsTrue result ↔ IsInOperation ctx.now.tree block op }
 {
     ctx.well_formed();
     let mut at = Some(op);
@@ -63,7 +63,7 @@ impl Scope {
     {
         match *self {
             Scope::Inside(root) => is_within(ctx, root, op),
-            Scope::InBlock(block) => stands_in(ctx, block, op),
+            Scope::InBlock(block) => is_in_operation(ctx, block, op),
         }
     }
 

@@ -29,7 +29,7 @@ impl Value {
         requires index { i < length (uses_of ctx.now.value_uses self) }
         ensures listed { slice_get (uses_of ctx.now.value_uses self) i ≡ Some
             (record { user = result.0; place = result.1 }) }
-        ensures stands { IsLive ctx.now.tree result.0 }
+        ensures liveness { IsLive ctx.now.tree result.0 }
     {
         ctx.well_formed();
         let Use { user, place } = ctx.operands.get_use(self.index(), i);
@@ -53,7 +53,7 @@ impl Ptr<BasicBlock> {
         requires index { i < length (uses_of ctx.now.block_uses self) }
         ensures listed { slice_get (uses_of ctx.now.block_uses self) i ≡ Some
             (record { user = result.0; place = result.1 }) }
-        ensures stands { IsLive ctx.now.tree result.0 }
+        ensures liveness { IsLive ctx.now.tree result.0 }
     {
         ctx.well_formed();
         let Use { user, place } = ctx.successors.get_use(self.index(), i);
@@ -78,7 +78,7 @@ impl Ptr<BasicBlock> {
         requires live { IsBlock ctx.now.tree self }
         requires index { i < length (succs_of ctx.now.tree self) }
         ensures successor { slice_get (succs_of ctx.now.tree self) i ≡ Some result }
-        ensures stands { IsBlock ctx.now.tree result }
+        ensures liveness { IsBlock ctx.now.tree result }
     {
         match self.get_tail(ctx) {
             Some(op) => op.get_successor(ctx, i),
@@ -109,7 +109,7 @@ impl Ptr<BasicBlock> {
         requires live { IsBlock ctx.now.tree self }
         requires index { i < length (preds_of ctx.now.tree self) }
         ensures predecessor { slice_get (preds_of ctx.now.tree self) i ≡ Some result }
-        ensures stands { IsBlock ctx.now.tree result }
+        ensures liveness { IsBlock ctx.now.tree result }
     {
         ctx.well_formed();
         let mut low = 0;

@@ -44,7 +44,7 @@ impl Ptr<Operation> {
         requires live { IsLive ctx.now.tree self }
         requires index { i < length (operands_of ctx.now.tree self) }
         ensures operand { slice_get (operands_of ctx.now.tree self) i ≡ Some result }
-        ensures stands { IsDefined ctx.now.tree result }
+        ensures liveness { IsDefined ctx.now.tree result }
     {
         ctx.well_formed();
         Value::new(ctx.operands.target(self.index(), i))
@@ -65,7 +65,7 @@ impl Ptr<Operation> {
         requires live { IsLive ctx.now.tree self }
         requires index { i < length (results_of ctx.now.tree self) }
         ensures value { slice_get (results_of ctx.now.tree self) i ≡ Some result }
-        ensures stands { IsDefined ctx.now.tree result }
+        ensures liveness { IsDefined ctx.now.tree result }
     {
         ctx.well_formed();
         ctx.operations[self.index() as usize].results.get(i)
@@ -86,7 +86,7 @@ impl Ptr<Operation> {
         requires live { IsLive ctx.now.tree self }
         requires index { i < length (successors_of ctx.now.tree self) }
         ensures successor { slice_get (successors_of ctx.now.tree self) i ≡ Some result }
-        ensures stands { IsBlock ctx.now.tree result }
+        ensures liveness { IsBlock ctx.now.tree result }
     {
         ctx.well_formed();
         Ptr::new(ctx.successors.target(self.index(), i))
@@ -107,7 +107,7 @@ impl Ptr<Operation> {
         requires live { IsLive ctx.now.tree self }
         requires index { i < length (regions_of ctx.now.tree self) }
         ensures region { slice_get (regions_of ctx.now.tree self) i ≡ Some result }
-        ensures stands { IsRegion ctx.now.tree result }
+        ensures liveness { IsRegion ctx.now.tree result }
     {
         ctx.well_formed();
         ctx.operations[self.index() as usize].regions.get(i)
@@ -118,7 +118,7 @@ impl Ptr<Operation> {
     pub fn get_parent_block(self, ctx: &Context) -> Option<Ptr<BasicBlock>>
         requires { IsLive ctx.now.tree self }
         ensures block { result ≡ parent_of ctx.now.tree self }
-        ensures stands { IfSome result (λ b. IsBlock ctx.now.tree b) }
+        ensures liveness { IfSome result (λ b. IsBlock ctx.now.tree b) }
     {
         ctx.well_formed();
         ctx.order.owner(self.index()).map(|key| Ptr::new(key))
@@ -129,7 +129,7 @@ impl Ptr<Operation> {
     pub fn get_prev(self, ctx: &Context) -> Option<Ptr<Operation>>
         requires { IsLive ctx.now.tree self }
         ensures prev { result ≡ prev_of ctx.now.tree self }
-        ensures stands { IfSome result (λ op. IsLive ctx.now.tree op) }
+        ensures liveness { IfSome result (λ op. IsLive ctx.now.tree op) }
     {
         ctx.well_formed();
         ctx.order.prev(self.index()).map(|key| Ptr::new(key))
@@ -140,7 +140,7 @@ impl Ptr<Operation> {
     pub fn get_next(self, ctx: &Context) -> Option<Ptr<Operation>>
         requires { IsLive ctx.now.tree self }
         ensures next { result ≡ next_of ctx.now.tree self }
-        ensures stands { IfSome result (λ op. IsLive ctx.now.tree op) }
+        ensures liveness { IfSome result (λ op. IsLive ctx.now.tree op) }
     {
         ctx.well_formed();
         ctx.order.next(self.index()).map(|key| Ptr::new(key))

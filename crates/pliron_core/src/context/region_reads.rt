@@ -36,7 +36,7 @@ impl Ptr<Region> {
     pub fn get_parent_op(self, ctx: &Context) -> Ptr<Operation>
         requires { IsRegion ctx.now.tree self }
         ensures parent { region_parent_of ctx.now.tree self ≡ Some result }
-        ensures stands { IsLive ctx.now.tree result }
+        ensures liveness { IsLive ctx.now.tree result }
     {
         ctx.well_formed();
         ctx.slots[self.index() as usize].op
@@ -47,7 +47,7 @@ impl Ptr<Region> {
     pub fn get_head(self, ctx: &Context) -> Option<Ptr<BasicBlock>>
         requires { IsRegion ctx.now.tree self }
         ensures first { result ≡ first_of (layout_of ctx.now.tree self) None }
-        ensures stands { IfSome result (λ b. IsBlock ctx.now.tree b) }
+        ensures liveness { IfSome result (λ b. IsBlock ctx.now.tree b) }
     {
         ctx.well_formed();
         ctx.layout.head(self.index()).map(|key| Ptr::new(key))
@@ -58,7 +58,7 @@ impl Ptr<Region> {
     pub fn get_tail(self, ctx: &Context) -> Option<Ptr<BasicBlock>>
         requires { IsRegion ctx.now.tree self }
         ensures last { result ≡ last_of None (layout_of ctx.now.tree self) }
-        ensures stands { IfSome result (λ b. IsBlock ctx.now.tree b) }
+        ensures liveness { IfSome result (λ b. IsBlock ctx.now.tree b) }
     {
         ctx.well_formed();
         ctx.layout.tail(self.index()).map(|key| Ptr::new(key))

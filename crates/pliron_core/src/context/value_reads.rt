@@ -40,7 +40,7 @@ impl Value {
     pub fn def(self, ctx: &Context) -> Def
         requires { IsDefined ctx.now.tree self }
         ensures definition { definition_of ctx.now.tree self ≡ Some result }
-        ensures stands { IsDefinitionLive ctx.now.tree result }
+        ensures liveness { IsDefinitionLive ctx.now.tree result }
     {
         ctx.well_formed();
         match ctx.arguments.definition(self) {

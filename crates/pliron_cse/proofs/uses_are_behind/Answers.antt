@@ -1,6 +1,6 @@
 use Rattle.pliron_core.specs.Tree.{results_of}
 use Rattle.pliron_core.proofs.HoldingLemmas.{slice_in}
-use Rattle.pliron_equivalence.proofs.Standing.{dominated_stands}
+use Rattle.pliron_equivalence.proofs.OperationDominance.{dominated_stands}
 use Rattle.pliron_order.proofs.SeenLemmas.{seen_inside}
 use Rattle.pliron_cse.proofs.uses_are_behind.Goals as goal
 

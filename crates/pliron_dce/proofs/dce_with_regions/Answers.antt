@@ -7,15 +7,15 @@ sweep-requires-clause-all g c = all_ready g.D.HasMeaning.meaning g.D.SideEffects
 
 pub returns-clause-status : goal.returns-clause-status
 returns-clause-status g c =
-    let way = c.sweep.ensures.gone in
+    let way = c.sweep.ensures.deleted in
     ok_weaker c.sweep.result _ _ (λ a end. tells_dead _ _ _ _ g.met.D.Dialect.forwards_operands (λ h h' s. s.branch) g.met.D.Dialect.keeps_counts g.D.SideEffects.side_effects g.met.D.Dialect.gives_at_once g.D.BlockArgRemoval.removable g.met.D.Dialect.acts_without_argument c.args.ctx.now.tree c.sweep.new.ctx.tree c.args.op way.0 a.0 way.1 end.0 end.1) way.2
 
-pub returns-clause-tells : goal.returns-clause-tells
-returns-clause-tells g c =
-    let way = c.sweep.ensures.gone in
+pub returns-clause-accurate : goal.returns-clause-accurate
+returns-clause-accurate g c =
+    let way = c.sweep.ensures.deleted in
     ok_weaker c.sweep.result _ _ (λ a end. tells_same _ _ _ _ g.met.D.Dialect.forwards_operands (λ h h' s. s.branch) g.met.D.Dialect.keeps_counts g.D.SideEffects.side_effects g.met.D.Dialect.gives_at_once g.D.BlockArgRemoval.removable g.met.D.Dialect.acts_without_argument c.args.ctx.now.tree c.sweep.new.ctx.tree c.args.op way.0 a.0 way.1 end.0 end.1) way.2
 
-pub returns-clause-gone : goal.returns-clause-gone
-returns-clause-gone g c =
-    let way = c.sweep.ensures.gone in
+pub returns-clause-deleted : goal.returns-clause-deleted
+returns-clause-deleted g c =
+    let way = c.sweep.ensures.deleted in
     (way.0, way.1.went, way.1.dead, ok_weaker c.sweep.result _ _ (λ a end. end.2) way.2)

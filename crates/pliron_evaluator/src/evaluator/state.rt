@@ -39,7 +39,7 @@ pub(super) struct State {
 /// What a step comes to.
 #[derive(Drop)]
 pub(super) enum Next {
-    Goes(State),
+    Continues(State),
     Over(Sight),
 }
 
@@ -67,7 +67,7 @@ fn leave(mut state: State, values: Vec<Datum>) -> Next
         (map datum_of_value values.items) }
 {
     match take_first(&mut state.waiting) {
-        Some(waiting) => Next::Goes(State {
+        Some(waiting) => Next::Continues(State {
             rest: waiting.rest,
             memo: waiting.memo,
             answer: Some(values),
@@ -104,7 +104,7 @@ fn give(
         return Ok(Next::Over(Sight::Ended(values, Vec::from(state.effects))));
     }
     state.rest.pop_front();
-    Ok(Next::Goes(at_rest(state)))
+    Ok(Next::Continues(at_rest(state)))
 }
 
 // The block, if there is one, begins with these values as its arguments.
@@ -132,14 +132,14 @@ fn enter(
         return Ok(trap(state));
     }
     state.rest = VecDeque::from(all_operations(alloc, block, ctx)?);
-    Ok(Next::Goes(at_rest(state)))
+    Ok(Next::Continues(at_rest(state)))
 }
 
 // The block at which a visit of the operation's region with this index begins.
 fn entry(ctx: &Context, op: Ptr<Operation>, i: usize) -> Option<Ptr<BasicBlock>>
     requires { IsLive ctx.now.tree op }
     ensures block { and_block ctx.now.tree result ≡ entry_in ctx.now.tree (slice_get (regions_of ctx.now.tree op) i) }
-    ensures stands { IfSome result (λ b. IsBlock ctx.now.tree b) }
+    ensures liveness { IfSome result (λ b. IsBlock ctx.now.tree b) }
 {
     if i < op.num_region(ctx) {
         op.get_region(ctx, i).get_head(ctx)
@@ -152,7 +152,7 @@ fn entry(ctx: &Context, op: Ptr<Operation>, i: usize) -> Option<Ptr<BasicBlock>>
 fn successor(ctx: &Context, op: Ptr<Operation>, i: usize) -> Option<Ptr<BasicBlock>>
     requires { IsLive ctx.now.tree op }
     ensures block { result ≡ slice_get (successors_of ctx.now.tree op) i }
-    ensures stands { IfSome result (λ b. IsBlock ctx.now.tree b) }
+    ensures liveness { IfSome result (λ b. IsBlock ctx.now.tree b) }
 {
     if i < op.num_successor(ctx) {
         Some(op.get_successor(ctx, i))
@@ -209,7 +209,7 @@ fn emit(alloc: Global, mut state: State, effect: Datum, memo: Datum) -> Result<N
     match take_first(&mut state.world) {
         Some(answer) => {
             let answer = Some(one(alloc, answer)?);
-            Ok(Next::Goes(State {
+            Ok(Next::Continues(State {
                 memo,
                 answer,
                 ..state

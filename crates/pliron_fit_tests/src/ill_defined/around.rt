@@ -116,7 +116,7 @@ fn check(rt: &impl Abort, alloc: Global, case: &str) {
 }
 
 #[test]
-fn what_stands_around(rt: HostRuntime) {
+fn what_is_around(rt: HostRuntime) {
     for case in TEXTS.lines() {
         check(&rt, rt.alloc(), case);
     }

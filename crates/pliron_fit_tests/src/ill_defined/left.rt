@@ -14,8 +14,8 @@ pub fn whole_line(rt: &impl Abort, alloc: Global, whole: Ptr<Operation>, ctx: &C
 }
 
 /// The answer; none where the call gave up since a value of an unreachable block is used.
-pub fn answer_if_any(rt: &impl Abort, told: Result<IRStatus, OptError>) -> Option<IRStatus> {
-    match told {
+pub fn answer_if_any(rt: &impl Abort, reported: Result<IRStatus, OptError>) -> Option<IRStatus> {
+    match reported {
         Ok(status) => Some(status),
         Err(error) => {
             assert!(rt; error == OptError::LiveUse, "{error}");
@@ -44,11 +44,11 @@ pub fn check_left(
     whole: Ptr<Operation>,
     ctx: &Context,
     before: &str,
-    told: Option<IRStatus>,
+    reported: Option<IRStatus>,
 ) {
     let after = whole_line(rt, alloc, whole, ctx);
     check_readable(rt, alloc, &after);
-    if let Some(status) = told {
+    if let Some(status) = reported {
         let has_changed = after.as_str() != before;
         assert!(rt; (status == IRStatus::Changed) == has_changed, "{before}");
     }

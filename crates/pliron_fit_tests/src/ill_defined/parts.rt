@@ -108,7 +108,7 @@ fn answer(
     call: Call,
 ) -> Option<IRStatus> {
     let mut rewriter = Counting::new();
-    let told = match target {
+    let reported = match target {
         Target::Region(holder) => {
             assert_callable(rt, *holder, ctx);
             in_region(rt, alloc, *holder, ctx, call, &mut rewriter)
@@ -119,7 +119,7 @@ fn answer(
         }
     };
     assert!(rt; rewriter.had_room());
-    answer_if_any(rt, told)
+    answer_if_any(rt, reported)
 }
 
 // Calls it once, tests its answer and the whole, and says whether it answered.
@@ -132,9 +132,9 @@ fn check_once(
     call: Call,
 ) -> bool {
     let before = whole_line(rt, alloc, whole, ctx);
-    let told = answer(rt, alloc, target, ctx, call);
-    check_left(rt, alloc, whole, ctx, &before, told);
-    told.is_some()
+    let reported = answer(rt, alloc, target, ctx, call);
+    check_left(rt, alloc, whole, ctx, &before, reported);
+    reported.is_some()
 }
 
 // A further call finds nothing more to do.

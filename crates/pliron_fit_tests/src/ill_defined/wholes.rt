@@ -82,7 +82,7 @@ fn answer(
     assert!(rt; root.is_live(ctx));
     assert!(rt; is_well_linked::<Bench>(root, ctx));
     let mut rewriter = Counting::new();
-    let told = match call {
+    let reported = match call {
         Call::Propagate => sccp::<Bench>(alloc, root, ctx),
         Call::PropagateCounted => {
             let (status, _) = sccp_counted::<Bench>(alloc, root, ctx)?;
@@ -97,7 +97,7 @@ fn answer(
         Call::Checked(name) => run_pass(rt, alloc, root, ctx, name),
     };
     assert!(rt; rewriter.had_room());
-    told
+    reported
 }
 
 // Calls it on the operation with regions that has this index, if there is one.
@@ -115,9 +115,9 @@ fn check_in(
         return false;
     };
     let before = whole_line(rt, alloc, whole, ctx);
-    let told = answer_if_any(rt, answer(rt, alloc, root, ctx, call));
-    check_left(rt, alloc, whole, ctx, &before, told);
-    if told.is_some() && settles(call) {
+    let reported = answer_if_any(rt, answer(rt, alloc, root, ctx, call));
+    check_left(rt, alloc, whole, ctx, &before, reported);
+    if reported.is_some() && settles(call) {
         let again = answer_if_any(rt, answer(rt, alloc, root, ctx, call));
         assert!(rt; again == Some(IRStatus::Unchanged), "{call:?} {name}");
     }

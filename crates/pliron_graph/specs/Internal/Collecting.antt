@@ -3,7 +3,7 @@ use Rattle.std.specs.Prelude.{◌≡◌, Bool, IsTrue, List, [], ◌∷◌, ◌+
 use Rattle.std.specs.List.{IsDistinct}
 use Rattle.pliron_traversal.specs.Digraph.{Digraph}
 use Rattle.pliron_traversal.specs.Search.{number_in}
-use Rattle.pliron_graph.specs.Components.{Falls, IsCyclic, AreComponents, entry_then_nodes}
+use Rattle.pliron_graph.specs.Components.{Descends, IsCyclic, AreComponents, entry_then_nodes}
 use Rattle.pliron_graph.specs.declared.components.Scc.{Scc}
 use Rattle.pliron_traversal.specs.Internal.Forest.{Grew}
 use Rattle.pliron_traversal.specs.Internal.Membership.{HasMember}
@@ -38,7 +38,7 @@ module _ {N : Type 0} (g : Digraph N) where
   pub record IsTaken (eq : N → N → Bool) (pre : List N) (root : N) (old new : List N) (c : Scc N) : Type 0 where
     pub collects : Collects eq root old new
     pub same : (x : N) → (Contains c.nodes.items x ↔ HasMember collects.added x)
-    pub falls : Falls (number_in eq pre) c.nodes.items
+    pub descends : Descends (number_in eq pre) c.nodes.items
     pub cyclic : IsTrue c.is_cyclic ↔ IsCyclic g c.nodes.items
 
 -- components, with the search whose numbers they have

@@ -3,5 +3,5 @@ use Rattle.std.specs.Prelude.{ℕ, ◌<◌, ◌≤◌, Bool, List, length}
 use Rattle.pliron_traversal.specs.Search.{number_in}
 
 -- v is at the place `first` or behind it
-abbrev pub StandsFrom : {N : Type 0} → (N → N → Bool) → List N → ℕ → N → Type 0
-StandsFrom eq xs first v = (first ≤ number_in eq xs v) × (number_in eq xs v < length xs)
+abbrev pub IsListedFrom : {N : Type 0} → (N → N → Bool) → List N → ℕ → N → Type 0
+IsListedFrom eq xs first v = (first ≤ number_in eq xs v) × (number_in eq xs v < length xs)

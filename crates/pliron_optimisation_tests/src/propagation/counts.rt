@@ -76,7 +76,7 @@ fn made_texts_are_counted(rt: HostRuntime) {
 }
 
 #[test]
-fn what_is_put_aside_is_counted(rt: HostRuntime) {
+fn what_is_deferred_is_counted(rt: HostRuntime) {
     count_each(&rt, rt.alloc(), DEFERRED, DEFERRED_COUNTS)
 }
 

@@ -155,8 +155,8 @@ fn case_in(rt: &impl Abort, alloc: Global, ctx: &mut Context, case: &str) {
     propagate_operation::<Tiny>(rt, alloc, ctx, called);
     let asked = entry_answers(rt, alloc, ctx, &made.operations);
     let after = sight_of_root(rt, alloc, ctx, root);
-    let told = sight_text(rt, alloc, &before);
-    let got = format!(in alloc; "{asked}/{told}").expect(rt, "memory");
+    let reported = sight_text(rt, alloc, &before);
+    let got = format!(in alloc; "{asked}/{reported}").expect(rt, "memory");
     assert_eq!(rt; got.as_str(), want, "{name}");
     assert!(rt; before == after, "{name}");
 }

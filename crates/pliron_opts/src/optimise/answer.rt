@@ -28,7 +28,7 @@ fn run_schedule<D: Dialect>(
     requires live { IsLive ctx.old.tree root }
     requires linked { IsWellLinked D.meaning ctx.old.tree root }
     ensures same { DoAsBefore D.meaning ctx.old.tree ctx.new.tree }
-    ensures stands { IsLive ctx.new.tree root }
+    ensures liveness { IsLive ctx.new.tree root }
     ensures links { IsWellLinked D.meaning ctx.new.tree root }
     ensures inside { IsInsideChange ctx.old.tree ctx.new.tree root }
     ensures ran { IfOk result (λ status. RunsAlone ⟦<BenchFactKind as PartialEq>⟧.eq

@@ -34,7 +34,7 @@ pub trait Notation {
         ctx: &mut Context,
     ) -> Result<Option<Ptr<Operation>>, OptError>
         requires { ctx.old.tree ≡ no_tree }
-        ensures stands { IfOk result (λ found. IfSome found (λ root. IsLive ctx.new.tree root)) }
+        ensures liveness { IfOk result (λ found. IfSome found (λ root. IsLive ctx.new.tree root)) }
         ensures linked { IfOk result (λ found. IfSome found (λ root. IsWellLinked Self.D.meaning ctx.new.tree root)) }
         ensures text { IfOk result (λ found. IfSome found (λ root. reads text.now ctx.new.tree root)) };
 

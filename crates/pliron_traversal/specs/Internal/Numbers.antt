@@ -18,13 +18,13 @@ abbrev pub number_hashed : List (List ℕ) → ℕ
 number_hashed writes = (fold after_write (record { number = 0 }) writes).number
 
 -- at the number of each node one more than its place
-abbrev pub TellsPlaces : {N : Type 0} → (N → List (List ℕ)) → List N → List ℕ → Type 0
-TellsPlaces {N} input nodes marks = (k : ℕ) (d : N) → k < length nodes → get_or marks (number_hashed (input (get_or nodes k d))) 0 ≡ k + 1
+abbrev pub GivesPlaces : {N : Type 0} → (N → List (List ℕ)) → List N → List ℕ → Type 0
+GivesPlaces {N} input nodes marks = (k : ℕ) (d : N) → k < length nodes → get_or marks (number_hashed (input (get_or nodes k d))) 0 ≡ k + 1
 
 abbrev pub nodes_of : {N : Type 0} → NodePlaces N → List N
 nodes_of (Numbered nodes marks) = nodes.items
 nodes_of (Hashed set) = set.keys
 
-abbrev pub AreTold : {N : Type 0} → (N → List (List ℕ)) → NodePlaces N → Type 0
-AreTold input (Numbered nodes marks) = TellsPlaces input nodes.items marks.items
-AreTold input (Hashed set) = ⊤
+abbrev pub AreGiven : {N : Type 0} → (N → List (List ℕ)) → NodePlaces N → Type 0
+AreGiven input (Numbered nodes marks) = GivesPlaces input nodes.items marks.items
+AreGiven input (Hashed set) = ⊤

@@ -57,8 +57,8 @@ module _ (t : Tree) (r : ℕ) (h : IsLawfulRegion t r) where
   owned b c = h.tree.layouts.owned b r (in_keys (layout_of t r) b c)
 
   -- a node is a live block
-  pub node_stands : (b : ℕ) → Contains (layout_of t r) b → IsBlock t b
-  node_stands b c = In-block t h.tree r b (in_keys (layout_of t r) b c)
+  pub node_is_live : (b : ℕ) → Contains (layout_of t r) b → IsBlock t b
+  node_is_live b c = In-block t h.tree r b (in_keys (layout_of t r) b c)
 
   -- the successors of a block of the region are blocks of the region
   succ_owned : (u v : ℕ) → block_parent_of t u ≡ Some r → In v (succs_of t u) → block_parent_of t v ≡ Some r

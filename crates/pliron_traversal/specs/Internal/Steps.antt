@@ -29,5 +29,5 @@ module _ {N : Type 0} (eq : N → N → Bool) (g : Digraph N) where
   pub record IsStep (es : List (N × ℕ)) (p q : List N) (es' : List (N × ℕ)) (p' q' : List N) : Type 0 where
     -- whatever the rest of the search answers is the answer from before the step
     pub rest : (pe qe : List N) → Unwinds es' p' q' pe qe → Unwinds es p q pe qe
-    pub falls : work es' p' < work es p
+    pub descends : work es' p' < work es p
     pub nodes : All (λ e. Contains g.nodes e.0) es → All (λ e. Contains g.nodes e.0) es'

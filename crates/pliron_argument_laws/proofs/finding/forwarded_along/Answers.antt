@@ -12,7 +12,7 @@ use Rattle.pliron_argument_laws.proofs.finding.forwarded_along.Goals as goal
 pub returns-then-not-is_branch-clause-none : goal.returns-then-not-is_branch-clause-none
 returns-then-not-is_branch-clause-none g c = λ e v at f.
     let same : c.get_use-branch.result.0 ≡ e.user = ap (λ z. z.user) (some_is (sym c.get_use-branch.ensures.listed ∙ at)) in
-    no_branch g.D.HasMeaning.meaning c.args.ctx.now.tree c.get_use-branch.result.0 c.is_branch.result c.get_use-branch.ensures.stands c.is_branch.ensures c.if-not-is_branch.true
+    no_branch g.D.HasMeaning.meaning c.args.ctx.now.tree c.get_use-branch.result.0 c.is_branch.result c.get_use-branch.ensures.liveness c.is_branch.ensures c.if-not-is_branch.true
     (subst (HeadPasses g.D.HasMeaning.meaning.is_branch c.args.ctx.now.tree) (sym same) f.0)
 
 pub successor_operand-requires-clause-edge : goal.successor_operand-requires-clause-edge

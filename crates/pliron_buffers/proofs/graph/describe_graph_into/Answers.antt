@@ -3,4 +3,4 @@ use Rattle.pliron_buffers.proofs.graph.describe_graph_into.Goals as goal
 
 pub returns : goal.returns
 returns c =
-    fills_by _ _ _ _ c.fill.ensures (λ answer told. tt) (of_err _ c.answer_of_graph.result c.answer_of_graph.ensures)
+    fills_by _ _ _ _ c.fill.ensures (λ answer reported. tt) (of_err _ c.answer_of_graph.result c.answer_of_graph.ensures)

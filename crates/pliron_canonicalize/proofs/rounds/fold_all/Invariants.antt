@@ -3,8 +3,8 @@ use Rattle.pliron_canonicalize.specs.Steps.{IsFolding}
 use Rattle.pliron_canonicalize.proofs.Doing.{folds_left}
 use Rattle.pliron_canonicalize.proofs.rounds.fold_all.Given as goal
 
-abbrev pub invariant-loop-going : goal.invariant-loop-going
-invariant-loop-going g l = IsFolding (folding g.D.HasMeaning.meaning g.D.SideEffects.side_effects g.D.ConstFoldInterface.can_fold g.D.ConstFoldInterface.constants g.D.ConstFoldInterface.accepts g.D.ConstFoldInterface.constant_head g.D.OperandFoldInterface.operand_folds) l.fn.ctx.tree l.ctx.tree l.fn.root l.sites l.status l.going
+abbrev pub invariant-loop-folds_again : goal.invariant-loop-folds_again
+invariant-loop-folds_again g l = IsFolding (folding g.D.HasMeaning.meaning g.D.SideEffects.side_effects g.D.ConstFoldInterface.can_fold g.D.ConstFoldInterface.constants g.D.ConstFoldInterface.accepts g.D.ConstFoldInterface.constant_head g.D.OperandFoldInterface.operand_folds) l.fn.ctx.tree l.ctx.tree l.fn.root l.sites l.status l.folds_again
 
-abbrev pub decreases-loop-going : goal.decreases-loop-going
-decreases-loop-going g l = folds_left l.ctx.tree l.going
+abbrev pub decreases-loop-folds_again : goal.decreases-loop-folds_again
+decreases-loop-folds_again g l = folds_left l.ctx.tree l.folds_again

@@ -12,7 +12,7 @@ loop-i-init g c =
     done_start x c.args.root c.args.ctx.now.tree c.requires.live c.requires.linked (λ f. ⊥) (λ f u never fold. never)
 
 pub fold_at-requires-clause-live : goal.fold_at-requires-clause-live
-fold_at-requires-clause-live g c = c.loop-i.invariant.way.change.stands
+fold_at-requires-clause-live g c = c.loop-i.invariant.way.change.liveness
 
 pub fold_at-requires-clause-linked : goal.fold_at-requires-clause-linked
 fold_at-requires-clause-linked g c = c.loop-i.invariant.way.links c.args.root c.requires.linked

@@ -12,7 +12,7 @@ rounds-init g c =
     done_start x c.args.root c.args.ctx.now.tree c.requires.live c.requires.linked (λ f. ⊥) (λ f u never fold. never)
 
 pub fold_round-requires-clause-live : goal.fold_round-requires-clause-live
-fold_round-requires-clause-live g c = c.rounds.invariant.way.change.stands
+fold_round-requires-clause-live g c = c.rounds.invariant.way.change.liveness
 
 pub fold_round-requires-clause-linked : goal.fold_round-requires-clause-linked
 fold_round-requires-clause-linked g c = c.rounds.invariant.way.links c.args.root c.requires.linked

@@ -5,7 +5,7 @@ use Rattle.pliron_canonicalize.proofs.Doing.{done_behind, done_partly, same_list
 use Rattle.pliron_canonicalize.proofs.rounds.sweep_in_rounds.Goals as goal
 
 pub fold_rounds-requires-clause-live : goal.fold_rounds-requires-clause-live
-fold_rounds-requires-clause-live g c = c.in_ok-swept.ensures.ok.way.change.stands
+fold_rounds-requires-clause-live g c = c.in_ok-swept.ensures.ok.way.change.liveness
 
 pub fold_rounds-requires-clause-linked : goal.fold_rounds-requires-clause-linked
 fold_rounds-requires-clause-linked g c = c.in_ok-swept.ensures.ok.way.links c.args.root c.requires.linked

@@ -16,7 +16,7 @@ loop-index-init g c =
     done_start x c.args.root c.args.ctx.now.tree c.requires.live c.requires.linked (λ f. (site_of f ≡ c.args.site.now) × (index_of f < 0)) (λ f u at fold. let lt = at.1 in omega (arith, lt))
 
 pub fold_value-requires-clause-live : goal.fold_value-requires-clause-live
-fold_value-requires-clause-live g c = c.loop-index.invariant.way.change.stands
+fold_value-requires-clause-live g c = c.loop-index.invariant.way.change.liveness
 
 pub fold_value-requires-clause-linked : goal.fold_value-requires-clause-linked
 fold_value-requires-clause-linked g c = c.loop-index.invariant.way.links c.args.root c.requires.linked

@@ -13,7 +13,7 @@ loop-place-init g c =
     done_start x c.args.root c.args.ctx.now.tree c.requires.live c.requires.linked (λ f. IsAmong c.args.sites.now 0 (site_of f)) (λ f u at fold. none_among c.args.sites.now (site_of f) at)
 
 pub fold_site-requires-clause-live : goal.fold_site-requires-clause-live
-fold_site-requires-clause-live g c = c.loop-place.invariant.way.change.stands
+fold_site-requires-clause-live g c = c.loop-place.invariant.way.change.liveness
 
 pub fold_site-requires-clause-linked : goal.fold_site-requires-clause-linked
 fold_site-requires-clause-linked g c = c.loop-place.invariant.way.links c.args.root c.requires.linked

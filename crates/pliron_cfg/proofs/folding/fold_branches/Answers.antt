@@ -47,15 +47,15 @@ loop-i-preserved g c =
     let can = folding_can _ _ _ _ _ _ _ w _ _ _ _ c.loop-i.invariant c.index.result.now at in
     let step = c.in_ok-fold_one.ensures.step c.args.root can.0 can.1 in
     subst (λ z. IsFoldingBranches _ _ _ _ _ c.args.root c.args.ctx.now.tree c.in_ok-branches.branches.items (c.loop-i.i + 1) z c.fold_one.new.ctx.tree) (sym c.bitor_assign.ensures.after)
-    (folding_next _ _ _ _ _ _ _ w _ _ _ _ c.loop-i.invariant c.index.result.now at c.fold_one.new.ctx.tree c.in_ok-fold_one.field-0 c.in_ok-fold_one.ensures.ok c.in_ok-fold_one.ensures.told step)
+    (folding_next _ _ _ _ _ _ _ w _ _ _ _ c.loop-i.invariant c.index.result.now at c.fold_one.new.ctx.tree c.in_ok-fold_one.field-0 c.in_ok-fold_one.ensures.ok c.in_ok-fold_one.ensures.reported step)
 
 pub returns-clause-folds : goal.returns-clause-folds
 returns-clause-folds g c =
     let t = c.args.ctx.now.tree in
     subst (λ z. FoldsAll _ _ _ _ z t c.loop-i.ctx.tree c.loop-i.status) c.in_ok-branches.ensures.ok (folding_end _ _ _ _ _ _ _ c.well_formed-2.ensures.tree _ _ _ _ c.loop-i.invariant (drop_all c.loop-i.i c.in_ok-branches.branches.items (omega arith)))
 
-pub returns-clause-tells : goal.returns-clause-tells
-returns-clause-tells g c = told_honestly _ _ _ c.loop-i.invariant.told
+pub returns-clause-accurate : goal.returns-clause-accurate
+returns-clause-accurate g c = told_honestly _ _ _ c.loop-i.invariant.reported
 
 pub returns-clause-change : goal.returns-clause-change
 returns-clause-change g c = c.loop-i.invariant.change
@@ -63,8 +63,8 @@ returns-clause-change g c = c.loop-i.invariant.change
 pub returns-clause-links : goal.returns-clause-links
 returns-clause-links g c = linked_still _ _ _ c.args.root c.well_formed-2.ensures.tree c.loop-i.invariant.tree c.loop-i.invariant.change
 
-pub returns-clause-told : goal.returns-clause-told
-returns-clause-told g c = c.loop-i.invariant.told
+pub returns-clause-reported : goal.returns-clause-reported
+returns-clause-reported g c = c.loop-i.invariant.reported
 
 pub returns-clause-blocks : goal.returns-clause-blocks
 returns-clause-blocks g c = c.loop-i.invariant.blocks

@@ -6,7 +6,7 @@ use Rattle.pliron_core.proofs.UsedLemmas.{length_map}
 use Rattle.pliron_theory.proofs.ChosenRoots.{chosen_roots}
 use Rattle.pliron_theory.proofs.FoldedBranches.{branch_links, branch_outcomes}
 use Rattle.pliron_cfg.specs.Folded.{known_of}
-use Rattle.pliron_cfg.proofs.FoldLemmas.{stands_in_block, either, told, step}
+use Rattle.pliron_cfg.proofs.FoldLemmas.{stands_in_block, either, reported, step}
 use Rattle.pliron_cfg.proofs.folding.fold_known.Goals as goal
 
 pub fold_in_place-done-requires-clause-live : goal.fold_in_place-done-requires-clause-live
@@ -33,15 +33,15 @@ returns-clause-refused g c =
     let t = c.args.ctx.now.tree in
     on_err_weaker c.fold_in_place-done.result (λ is. subst (λ z. g.D.BranchOpFoldInterface.outcome t c.fold_in_place-done.new.ctx.tree c.args.op z None) c.requires.known is) c.fold_in_place-done.ensures.refused
 
-pub returns-clause-told : goal.returns-clause-told
-returns-clause-told g c =
+pub returns-clause-reported : goal.returns-clause-reported
+returns-clause-reported g c =
     let d = g.met.D.Dialect in
     let t = c.args.ctx.now.tree in
     let u = c.fold_in_place-done.new.ctx.tree in
     let b = c.requires.branch in
     let w = c.well_formed-2.ensures.tree in
     let wu = c.well_formed-3.ensures.tree in
-    IfOk-weaker c.fold_in_place-done.result _ _ (λ status is. told g.D.HasMeaning.meaning g.D.ConstFoldInterface.can_fold g.D.BranchOpFoldInterface.can_fold_branch g.D.ConstFoldInterface.constants g.D.BranchOpFoldInterface.outcome t u b.0 c.args.op w wu b.1 b.2
+    IfOk-weaker c.fold_in_place-done.result _ _ (λ status is. reported g.D.HasMeaning.meaning g.D.ConstFoldInterface.can_fold g.D.BranchOpFoldInterface.can_fold_branch g.D.ConstFoldInterface.constants g.D.BranchOpFoldInterface.outcome t u b.0 c.args.op w wu b.1 b.2
     (branch_outcomes _ _ _ _ _ _ d.forwards_operands d.answers_jumps _ _ _ _ _ d.folds_in_place t u b.0 c.args.op c.args.known.now (Some status) w wu b.1 b.2.0 b.2.1 is)
     status (d.folds_in_place.branch t u c.args.op c.args.known.now (Some status) is).1) c.fold_in_place-done.ensures.ok
 

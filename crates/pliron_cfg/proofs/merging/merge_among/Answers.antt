@@ -14,7 +14,7 @@ add_suc : (n : ℕ) → suc n ≡ n + 1
 add_suc n = omega arith
 
 pub loop-block-init : goal.loop-block-init
-loop-block-init g c = record { way = Nothing; tells = refl; none = λ a b jump values i q. nowhere c.args.blocks.now a i }
+loop-block-init g c = record { way = Nothing; accurate = refl; none = λ a b jump values i q. nowhere c.args.blocks.now a i }
   where
     nowhere : (xs : List ℕ) (a : ℕ) → In a (take 0 xs) → ⊥
     nowhere [] a i = i
@@ -46,14 +46,14 @@ loop-block-preserved g c =
     let wu = c.well_formed-in-loop-block.ensures.tree in
     let d : IsDone m blocks n t c.if-is_live.ctx.tree c.if-is_live.status = elim c.if-is_live.branch [
       | then-is_live+in_ok-merged k ↦
-          let done = done_more m _ _ _ g.met.D.Dialect.forwards_operands blocks n c.block-item.result t c.loop-block.ctx.tree k.merge_at.new.ctx.tree c.loop-block.status k.in_ok-merged.merged c.well_formed-2.ensures.tree c.requires.linked wu at i inv.way inv.tells inv.none k.in_ok-merged.ensures.ok.0 k.in_ok-merged.ensures.ok.1 k.in_ok-merged.ensures.ok.2 in
+          let done = done_more m _ _ _ g.met.D.Dialect.forwards_operands blocks n c.block-item.result t c.loop-block.ctx.tree k.merge_at.new.ctx.tree c.loop-block.status k.in_ok-merged.merged c.well_formed-2.ensures.tree c.requires.linked wu at i inv.way inv.accurate inv.none k.in_ok-merged.ensures.ok.0 k.in_ok-merged.ensures.ok.1 k.in_ok-merged.ensures.ok.2 in
           moved_to m blocks n t k.merge_at.new.ctx.tree c.if-is_live.ctx.tree _ c.if-is_live.status done (ap (λ z. z.tree) k.ctx-is) (k.status-is ∙ k.bitor_assign.ensures.after)
-      | else-is_live k ↦ moved_to m blocks n t c.loop-block.ctx.tree c.if-is_live.ctx.tree c.loop-block.status c.if-is_live.status (done_dead m blocks n c.block-item.result t c.loop-block.ctx.tree c.loop-block.status wu at (λ is. false≢true (sym k.if-is_live.false ∙ c.is_live.ensures.1 is)) inv.way inv.tells inv.none) (ap (λ z. z.tree) k.ctx-is) k.status-is
+      | else-is_live k ↦ moved_to m blocks n t c.loop-block.ctx.tree c.if-is_live.ctx.tree c.loop-block.status c.if-is_live.status (done_dead m blocks n c.block-item.result t c.loop-block.ctx.tree c.loop-block.status wu at (λ is. false≢true (sym k.if-is_live.false ∙ c.is_live.ensures.1 is)) inv.way inv.accurate inv.none) (ap (λ z. z.tree) k.ctx-is) k.status-is
     ] in
-    record { way = d.way; tells = d.tells; none = subst (λ z. HasNoPairAmong m (take z blocks) c.if-is_live.ctx.tree) (add_suc n) d.none }
+    record { way = d.way; accurate = d.accurate; none = subst (λ z. HasNoPairAmong m (take z blocks) c.if-is_live.ctx.tree) (add_suc n) d.none }
 
 pub returns-clause-ok : goal.returns-clause-ok
 returns-clause-ok g c =
     let blocks = c.args.blocks.now in
     let le : length blocks ≤ c.loop-block.block-index = omega arith in
-    (c.loop-block.invariant.way, subst (λ xs. HasNoPairAmong g.D.HasMeaning.meaning xs c.loop-block.ctx.tree) (take_all blocks c.loop-block.block-index le) c.loop-block.invariant.none, c.loop-block.invariant.tells)
+    (c.loop-block.invariant.way, subst (λ xs. HasNoPairAmong g.D.HasMeaning.meaning xs c.loop-block.ctx.tree) (take_all blocks c.loop-block.block-index le) c.loop-block.invariant.none, c.loop-block.invariant.accurate)

@@ -5,6 +5,6 @@ use Rattle.pliron_cfg.proofs.merging.merge_among.Given as goal
 abbrev pub invariant-loop-block : goal.invariant-loop-block
 invariant-loop-block g l = record {
   way : MergesAmong g.D.HasMeaning.meaning l.blocks l.fn.ctx.tree l.ctx.tree;
-  tells : ReportsMerged g.D.HasMeaning.meaning l.blocks l.fn.ctx.tree l.ctx.tree l.status;
+  accurate : ReportsMerged g.D.HasMeaning.meaning l.blocks l.fn.ctx.tree l.ctx.tree l.status;
   none : HasNoPairAmong g.D.HasMeaning.meaning (take l.block-index l.blocks) l.ctx.tree;
 }

@@ -8,7 +8,7 @@ use Rattle.pliron_cfg.proofs.merging.merge_at.Given as goal
 abbrev pub invariant-loop-pair : goal.invariant-loop-pair
 invariant-loop-pair g l = record {
   way : MergesAmong g.D.HasMeaning.meaning (l.first ∷ []) l.fn.ctx.tree l.ctx.tree;
-  tells : ReportsMerged g.D.HasMeaning.meaning (l.first ∷ []) l.fn.ctx.tree l.ctx.tree l.status;
+  accurate : ReportsMerged g.D.HasMeaning.meaning (l.first ∷ []) l.fn.ctx.tree l.ctx.tree l.status;
   block : IsBlock l.ctx.tree l.first;
   linked : (holder : ℕ) → block_parent_operation_of l.ctx.tree l.first ≡ Some holder → IsWellLinked g.D.HasMeaning.meaning l.ctx.tree holder;
 }

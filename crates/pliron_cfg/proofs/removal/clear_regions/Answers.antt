@@ -11,8 +11,8 @@ pub loop-region-init : goal.loop-region-init
 loop-region-init g c =
     let t = c.args.ctx.now.tree in
     let s = c.args.scope.now in
-    let x = holder_is t c.well_formed-2.ensures.tree s c.requires.stands in
-    (x.0, x.1, none_cleared g.D.HasMeaning.meaning t s x.0 c.args.regions.items c.args.reached.now.keys c.whole_passes_compose.ensures c.well_formed-2.ensures.tree c.requires.stands x.1 x.2 (c.requires.linked x.0 x.1) c.requires.visits)
+    let x = holder_is t c.well_formed-2.ensures.tree s c.requires.liveness in
+    (x.0, x.1, none_cleared g.D.HasMeaning.meaning t s x.0 c.args.regions.items c.args.reached.now.keys c.whole_passes_compose.ensures c.well_formed-2.ensures.tree c.requires.liveness x.1 x.2 (c.requires.linked x.0 x.1) c.requires.visits)
 
 pub clear_region-cleared-requires-clause-lawful : goal.clear_region-cleared-requires-clause-lawful
 clear_region-cleared-requires-clause-lawful g c =

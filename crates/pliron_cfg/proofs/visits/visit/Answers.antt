@@ -3,7 +3,7 @@ use Rattle.pliron_core.specs.Tree.{In}
 use Rattle.pliron_core.specs.Reads.{has_ssa}
 use Rattle.pliron_core.proofs.ListLemmas.{In-right}
 use Rattle.pliron_traversal.specs.Regions.{IsLawfulRegion}
-use Rattle.pliron_cfg.specs.Visited.{IsLookedIntoIf}
+use Rattle.pliron_cfg.specs.Visited.{IsVisitedBlockIf}
 use Rattle.pliron_cfg.specs.Internal.Seen.{HasGrown, blocks_postponed}
 use Rattle.pliron_cfg.proofs.Lawful.{visited_lawful, entered_stands, seen_few, fewer_left}
 use Rattle.pliron_cfg.proofs.ListLemmas.{in_permuted}
@@ -35,7 +35,7 @@ pub has_ssa_dominance-listed-requires : goal.has_ssa_dominance-listed-requires
 has_ssa_dominance-listed-requires c =
     let e : c.loop-region.worklist.waiting.items ≡ c.pop.new.self.items ++ c.in-Some.region ∷ [] = search (rules, c.in-Some.ensures) in
     let i : In c.in-Some.region c.loop-region.worklist.waiting.items = subst (In c.in-Some.region) (sym e) (In-right c.in-Some.region c.pop.new.self.items (c.in-Some.region ∷ []) (inl refl)) in
-    (visited_lawful c.args.ctx.now.tree c.well_formed-2.ensures.tree (λ r. In r c.args.starts.now) c.requires.lawful c.in-Some.region (c.loop-region.invariant.visited c.in-Some.region (c.loop-region.invariant.waits c.in-Some.region i))).stands
+    (visited_lawful c.args.ctx.now.tree c.well_formed-2.ensures.tree (λ r. In r c.args.starts.now) c.requires.lawful c.in-Some.region (c.loop-region.invariant.visited c.in-Some.region (c.loop-region.invariant.waits c.in-Some.region i))).liveness
 
 pub loop-region-preserved : goal.loop-region-preserved
 loop-region-preserved c =
@@ -60,7 +60,7 @@ loop-region-preserved c =
           let regions : c.if-listed.regions.items ≡ c.loop-region.regions.items ++ r ∷ [] = ap (λ z. z.items) w.regions-is ∙ w.in_ok-push.ensures.items in
           let more : blocks ++ postponed' ≡ (blocks ++ blocks_postponed c.loop-region.postponed.items) ++ entered = ap (λ z. blocks ++ z) (c.in_ok-enter.ensures.listed w.if-listed.true ∙ ap (λ z. blocks_postponed c.loop-region.postponed.items ++ z) c.deref.ensures.value) ∙ sym (append_assoc blocks (blocks_postponed c.loop-region.postponed.items) entered) in
           rw (more, regions) (visiting_searched t c.well_formed-2.ensures.tree Start c.loop-region.worklist.seen.keys c.pop.new.self.items c.loop-region.regions.items (blocks ++ blocks_postponed c.loop-region.postponed.items) r h entered seen' waiting' sound complete g ssa
-          (λ b i. subst (λ z. IsLookedIntoIf z t r b) ssa (sound b i)) (λ b i. complete b (subst (λ z. IsLookedIntoIf z t r b) (sym ssa) i)))
+          (λ b i. subst (λ z. IsVisitedBlockIf z t r b) ssa (sound b i)) (λ b i. complete b (subst (λ z. IsVisitedBlockIf z t r b) (sym ssa) i)))
       | else-listed w ↦
           let none : IsTrue c.has_ssa_dominance-listed.result → ⊥ = λ y. true≢false (sym y ∙ w.if-listed.false) in
           let same : c.enter.new.postponed.items ≡ c.loop-region.postponed.items = c.in_ok-enter.ensures.other none in

@@ -23,8 +23,8 @@ take_at-outcome-requires-clause-ordered g c = (c.args.root, c.loop-place.invaria
 pub returns-clause-way : goal.returns-clause-way
 returns-clause-way g c = c.loop-place.invariant.way
 
-pub returns-clause-tells : goal.returns-clause-tells
-returns-clause-tells g c = c.loop-place.invariant.tells
+pub returns-clause-accurate : goal.returns-clause-accurate
+returns-clause-accurate g c = c.loop-place.invariant.accurate
 
 pub returns-clause-taken : goal.returns-clause-taken
 returns-clause-taken g c =

@@ -27,6 +27,6 @@ returns-clause-live g c = λ few v i.
     let w = c.well_formed-2.ensures.tree in
     let live = op_live g.D.HasMeaning.meaning g.D.SideEffects.side_effects t c.args.root c.args.op w c.requires.linked g.met.D.Dialect.keeps_counts g.D.BlockArgRemoval.removable g.met.D.Dialect.gives_at_once c.requires.ready in
     let contained = op_contained g.D.HasMeaning.meaning g.D.SideEffects.side_effects t c.args.root c.args.op w c.requires.linked g.met.D.Dialect.keeps_counts g.D.BlockArgRemoval.removable g.met.D.Dialect.gives_at_once c.requires.ready in
-    let gone = c.erase_operation.ensures.erased in
-    subst (λ z. IsDefined z v) (sym gone)
-    (operand_lives t w c.args.op (subst IsTree gone c.well_formed-3.ensures.tree) live contained (ready_unused g.D.HasMeaning.meaning g.D.SideEffects.side_effects t c.args.root c.args.op c.requires.ready) few v (c.in_ok-list_operands_within.ensures.leaf few v i))
+    let deleted = c.erase_operation.ensures.erased in
+    subst (λ z. IsDefined z v) (sym deleted)
+    (operand_lives t w c.args.op (subst IsTree deleted c.well_formed-3.ensures.tree) live contained (ready_unused g.D.HasMeaning.meaning g.D.SideEffects.side_effects t c.args.root c.args.op c.requires.ready) few v (c.in_ok-list_operands_within.ensures.leaf few v i))

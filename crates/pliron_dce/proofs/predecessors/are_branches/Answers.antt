@@ -11,7 +11,7 @@ pub returns-then-not-is_branch : goal.returns-then-not-is_branch
 returns-then-not-is_branch g c = no (BranchesLead g.D.HasMeaning.meaning c.args.ctx.now.tree c.args.block) (λ l.
     let listed = c.well_formed-2.ensures.uses.block_uses.listed c.args.block c.loop-i.i _ c.get_use-user.ensures.listed in
     let i = in_slice (successors_of c.args.ctx.now.tree c.get_use-user.result.0) c.get_use-user.result.1 c.args.block listed in
-    refuted c.is_branch.result c.if-not-is_branch.true (head_told g.D.HasMeaning.meaning.is_branch c.args.ctx.now.tree c.get_use-user.result.0 c.is_branch.result c.get_use-user.ensures.stands c.is_branch.ensures (l c.get_use-user.result.0 i)))
+    refuted c.is_branch.result c.if-not-is_branch.true (head_told g.D.HasMeaning.meaning.is_branch c.args.ctx.now.tree c.get_use-user.result.0 c.is_branch.result c.get_use-user.ensures.liveness c.is_branch.ensures (l c.get_use-user.result.0 i)))
 
 pub returns : goal.returns
 returns g c =

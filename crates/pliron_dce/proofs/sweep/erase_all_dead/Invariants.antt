@@ -10,7 +10,7 @@ use Rattle.pliron_dce.proofs.sweep.erase_all_dead.Given as goal
 
 abbrev pub invariant-loop-next : goal.invariant-loop-next
 invariant-loop-next g l = record {
-  way : (gone : List Item) × IsSweptSoFar g.D.HasMeaning.meaning g.D.Dialect.shortened g.D.SideEffects.side_effects g.D.BlockArgRemoval.removable l.fn.ctx.tree l.ctx.tree l.root gone × ReportsErased gone l.status × (IsTrue l.regions ↔ SomeHasRegions l.fn.ctx.tree gone);
+  way : (deleted : List Item) × IsSweptSoFar g.D.HasMeaning.meaning g.D.Dialect.shortened g.D.SideEffects.side_effects g.D.BlockArgRemoval.removable l.fn.ctx.tree l.ctx.tree l.root deleted × ReportsErased deleted l.status × (IsTrue l.regions ↔ SomeHasRegions l.fn.ctx.tree deleted);
   edges : (IsTrue l.regions → ⊥) → KeepsEdges l.fn.ctx.tree l.ctx.tree;
   all : HasReady g.D.HasMeaning.meaning g.D.SideEffects.side_effects g.D.BlockArgRemoval.removable l.ctx.tree l.root (pending_candidates l.state.worklist);
   closed : AreClosed l.ctx.tree l.state.worklist.around.ops.items;

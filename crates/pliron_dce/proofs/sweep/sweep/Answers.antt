@@ -4,14 +4,14 @@ use Rattle.pliron_dce.specs.Dead.{Item}
 use Rattle.pliron_dce.specs.Erasing.{IsSweptSoFar, LeavesNoDead, SomeHasRegions, ReportsErased}
 use Rattle.pliron_dce.proofs.sweep.sweep.Goals as goal
 
-pub returns-clause-gone : goal.returns-clause-gone
-returns-clause-gone g c =
+pub returns-clause-deleted : goal.returns-clause-deleted
+returns-clause-deleted g c =
     let m = g.D.HasMeaning.meaning in
     let effects = g.D.SideEffects.side_effects in
     let removable = g.D.BlockArgRemoval.removable in
     let t = c.args.ctx.now.tree in
-    subst (λ z. (gone : List Item) × IsSweptSoFar m g.D.Dialect.shortened effects removable t z.tree c.args.root gone × IfOk c.erase_all_dead-swept.result (λ a. LeavesNoDead m effects removable t z.tree c.args.root × ReportsErased gone a.0 × (IsTrue a.1 ↔ SomeHasRegions t gone)))
-    (sym c.settle.ensures) c.erase_all_dead-swept.ensures.gone
+    subst (λ z. (deleted : List Item) × IsSweptSoFar m g.D.Dialect.shortened effects removable t z.tree c.args.root deleted × IfOk c.erase_all_dead-swept.result (λ a. LeavesNoDead m effects removable t z.tree c.args.root × ReportsErased deleted a.0 × (IsTrue a.1 ↔ SomeHasRegions t deleted)))
+    (sym c.settle.ensures) c.erase_all_dead-swept.ensures.deleted
 
 pub returns-clause-edges : goal.returns-clause-edges
 returns-clause-edges g c = subst (λ z. IfOk c.erase_all_dead-swept.result (λ a. (IsTrue a.1 → ⊥) → KeepsEdges c.args.ctx.now.tree z.tree)) (sym c.settle.ensures) c.erase_all_dead-swept.ensures.edges

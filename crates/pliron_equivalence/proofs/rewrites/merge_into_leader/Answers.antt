@@ -4,7 +4,7 @@ use Rattle.pliron_core.specs.Invariant.{IsTree}
 use Rattle.pliron_core.specs.Erased.{after_erasing, IsSelfContained}
 use Rattle.pliron_theory.specs.Keeps.{KeepsRuns, with_roots}
 use Rattle.pliron_equivalence.specs.Merging.{after_merging}
-use Rattle.pliron_equivalence.proofs.Merging.{redundant_lives, merged_lives, contained_all, part_keeps, gone}
+use Rattle.pliron_equivalence.proofs.Merging.{redundant_lives, merged_lives, contained_all, part_keeps, deleted}
 use Rattle.pliron_equivalence.proofs.rewrites.merge_into_leader.Goals as goal
 
 pub num_result-requires : goal.num_result-requires
@@ -22,4 +22,4 @@ erase_operation-requires-clause-contained g c = subst (λ z. IsSelfContained z c
 pub returns-clause-runs : goal.returns-clause-runs
 returns-clause-runs g c = λ chosen.
     let e : c.erase_operation.new.ctx.tree ≡ after_merging c.args.ctx.now.tree c.args.leader c.args.redundant = c.erase_operation.ensures.erased ∙ ap (λ z. after_erasing z c.args.redundant) c.in_ok-hand_over.ensures.ok in
-    subst (λ z. KeepsRuns (with_roots g.D.HasMeaning.meaning chosen) c.args.ctx.now.tree z) (sym e) (gone g.D.HasMeaning.meaning g.D.SideEffects.side_effects g.met.D.Dialect.keeps_counts g.met.D.Dialect.gives_at_once c.args.ctx.now.tree c.args.leader c.args.redundant c.well_formed-2.ensures.tree (subst IsTree e c.well_formed-4.ensures.tree) c.requires.leads chosen)
+    subst (λ z. KeepsRuns (with_roots g.D.HasMeaning.meaning chosen) c.args.ctx.now.tree z) (sym e) (deleted g.D.HasMeaning.meaning g.D.SideEffects.side_effects g.met.D.Dialect.keeps_counts g.met.D.Dialect.gives_at_once c.args.ctx.now.tree c.args.leader c.args.redundant c.well_formed-2.ensures.tree (subst IsTree e c.well_formed-4.ensures.tree) c.requires.leads chosen)

@@ -8,7 +8,7 @@ pub loop-init : goal.loop-init
 loop-init g c = run_starts (step g.D.HasMeaning.meaning c.args.ctx.now.tree) c.args.given.fuel c.in_ok-state.state _ c.in_ok-state.ensures
 
 pub loop-preserved : goal.loop-preserved
-loop-preserved g c = run_goes (step g.D.HasMeaning.meaning c.args.ctx.now.tree) c.args.given.fuel c.loop.counter c.loop.state _ c.loop-test.true c.loop.invariant c.in_ok-next.field-0 c.in-Goes.next c.in_ok-next.ensures c.in-Goes.is
+loop-preserved g c = run_goes (step g.D.HasMeaning.meaning c.args.ctx.now.tree) c.args.given.fuel c.loop.counter c.loop.state _ c.loop-test.true c.loop.invariant c.in_ok-next.field-0 c.in-Continues.next c.in_ok-next.ensures c.in-Continues.is
 
 pub returns-in-Over : goal.returns-in-Over
 returns-in-Over g c = run_over (step g.D.HasMeaning.meaning c.args.ctx.now.tree) c.args.given.fuel c.loop.counter c.loop.state _ c.loop-test.true c.loop.invariant c.in_ok-next.field-0 c.in-Over.sight c.in_ok-next.ensures c.in-Over.is

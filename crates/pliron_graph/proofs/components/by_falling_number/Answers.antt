@@ -13,8 +13,8 @@ returns-clause-same_nodes g c =
     let perm : IsPermutation c.args.nodes.now c.sort_unstable_by_key.new.self.items = subst (λ xs. IsPermutation xs c.sort_unstable_by_key.new.self.items) items c.sort_unstable_by_key.ensures.permutation in
     rw c.reverse.ensures.items (reversed_same eq g.met.N.Eq.laws c.requires.same order c.args.nodes.now c.sort_unstable_by_key.new.self.items perm)
 
-pub returns-clause-falls : goal.returns-clause-falls
-returns-clause-falls g c =
+pub returns-clause-descends : goal.returns-clause-descends
+returns-clause-descends g c =
     let eq = g.N.PartialEq.eq in
     let order = g.S.ListedSet.listed c.args.order.now in
     let items : c.extend_from_slice.new.self.items ≡ c.args.nodes.now = search rules in

@@ -1,6 +1,6 @@
 use Rattle.std.proofs.Common.{◌≡◌, take}
 use Rattle.pliron_traversal.specs.Search.{number_in}
-use Rattle.pliron_graph.specs.Internal.Picking.{StandsFrom}
+use Rattle.pliron_graph.specs.Internal.Picking.{IsListedFrom}
 use Rattle.pliron_graph.proofs.PickLemmas.{IsPicked}
 use Rattle.pliron_graph.proofs.components.pick_by_falling_number.Given as goal
 
@@ -10,5 +10,5 @@ invariant-loop-node g l =
     let order = g.S.ListedSet.listed l.order in
     record {
       items : l.node-items ≡ order;
-      picked : IsPicked (number_in eq order) (StandsFrom eq (g.S.ListedSet.listed l.held) l.first) (take l.node-index order) l.nodes.items;
+      picked : IsPicked (number_in eq order) (IsListedFrom eq (g.S.ListedSet.listed l.held) l.first) (take l.node-index order) l.nodes.items;
     }

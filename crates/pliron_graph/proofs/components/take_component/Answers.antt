@@ -28,4 +28,4 @@ pub returns-clause-taken : goal.returns-clause-taken
 returns-clause-taken g c =
     let graph = g.G.ControlFlowGraph.graph c.args.graph.now c.args.ctx.now in
     let lawful = g.met.G.ControlFlowGraph.laws c.args.graph.now c.args.ctx.now c.requires.lawful in
-    taken g.G.Node.PartialEq.eq g.met.G.Node.Eq.laws lawful.same graph c.args.root (g.S.ListedSet.listed c.args.held.now) (g.S.ListedSet.listed c.collect.new.held) c.in_ok-collect.ensures.collected c.len-first.result c.len-first.ensures.len (g.S.ListedSet.listed c.args.pre.now) (record { nodes = c.last_by_falling_number.new.nodes; is_cyclic = c.is_cyclic.result }) c.deref.result.now c.deref.ensures.value c.in_ok-last_by_falling_number.ensures.same_nodes c.in_ok-last_by_falling_number.ensures.falls c.is_cyclic.ensures
+    taken g.G.Node.PartialEq.eq g.met.G.Node.Eq.laws lawful.same graph c.args.root (g.S.ListedSet.listed c.args.held.now) (g.S.ListedSet.listed c.collect.new.held) c.in_ok-collect.ensures.collected c.len-first.result c.len-first.ensures.len (g.S.ListedSet.listed c.args.pre.now) (record { nodes = c.last_by_falling_number.new.nodes; is_cyclic = c.is_cyclic.result }) c.deref.result.now c.deref.ensures.value c.in_ok-last_by_falling_number.ensures.same_nodes c.in_ok-last_by_falling_number.ensures.descends c.is_cyclic.ensures

@@ -13,7 +13,7 @@ loop-root-init g c =
     let graph = g.G.ControlFlowGraph.graph c.args.graph.now c.args.ctx.now in
     let lawful = g.met.G.ControlFlowGraph.laws c.args.graph.now c.args.ctx.now c.requires.lawful in
     record {
-      gone = [];
+      deleted = [];
       left = sym (append-nil c.args.post.items);
       taken = rw (c.empty-held.ensures.empty, c.new-components.ensures.items) (start eq graph lawful g.met.G.Node.Eq.laws (g.S.ListedSet.listed c.args.pre.now) c.args.post.items (search_from_growth g.G.Node.PartialEq.eq lawful.same g.met.G.Node.Eq.laws.refl graph (entry_then_nodes graph) (g.S.ListedSet.listed c.args.pre.now) c.args.post.items c.requires.grew));
     }
@@ -25,9 +25,9 @@ loop-root-preserved-then-contains g c =
     let lawful = g.met.G.ControlFlowGraph.laws c.args.graph.now c.args.ctx.now c.requires.lawful in
     let there : list_any (eq c.in-Some.root) (g.S.ListedSet.listed c.loop-root.held) ≡ true = sym c.contains.ensures ∙ c.if-contains.true in
     record {
-      gone = c.in-Some.root ∷ c.loop-root.invariant.gone;
-      left = c.loop-root.invariant.left ∙ ap (λ xs. xs ++ c.loop-root.invariant.gone) c.in-Some.ensures.items ∙ append_assoc c.pop.new.self.items (c.in-Some.root ∷ []) c.loop-root.invariant.gone;
-      taken = over eq graph lawful g.met.G.Node.Eq.laws (g.S.ListedSet.listed c.args.pre.now) c.args.post.items (search_from_growth g.G.Node.PartialEq.eq lawful.same g.met.G.Node.Eq.laws.refl graph (entry_then_nodes graph) (g.S.ListedSet.listed c.args.pre.now) c.args.post.items c.requires.grew) c.pop.new.self.items c.loop-root.invariant.gone c.loop-root.post.items c.in-Some.root c.in-Some.ensures.items c.loop-root.invariant.left (g.S.ListedSet.listed c.loop-root.held) c.loop-root.components.items there c.loop-root.invariant.taken;
+      deleted = c.in-Some.root ∷ c.loop-root.invariant.deleted;
+      left = c.loop-root.invariant.left ∙ ap (λ xs. xs ++ c.loop-root.invariant.deleted) c.in-Some.ensures.items ∙ append_assoc c.pop.new.self.items (c.in-Some.root ∷ []) c.loop-root.invariant.deleted;
+      taken = over eq graph lawful g.met.G.Node.Eq.laws (g.S.ListedSet.listed c.args.pre.now) c.args.post.items (search_from_growth g.G.Node.PartialEq.eq lawful.same g.met.G.Node.Eq.laws.refl graph (entry_then_nodes graph) (g.S.ListedSet.listed c.args.pre.now) c.args.post.items c.requires.grew) c.pop.new.self.items c.loop-root.invariant.deleted c.loop-root.post.items c.in-Some.root c.in-Some.ensures.items c.loop-root.invariant.left (g.S.ListedSet.listed c.loop-root.held) c.loop-root.components.items there c.loop-root.invariant.taken;
     }
 
 pub take_component-requires-clause-member : goal.take_component-requires-clause-member
@@ -35,7 +35,7 @@ take_component-requires-clause-member g c =
     let eq = g.G.Node.PartialEq.eq in
     let graph = g.G.ControlFlowGraph.graph c.args.graph.now c.args.ctx.now in
     let lawful = g.met.G.ControlFlowGraph.laws c.args.graph.now c.args.ctx.now c.requires.lawful in
-    root_member eq graph lawful g.met.G.Node.Eq.laws (g.S.ListedSet.listed c.args.pre.now) c.args.post.items (search_from_growth g.G.Node.PartialEq.eq lawful.same g.met.G.Node.Eq.laws.refl graph (entry_then_nodes graph) (g.S.ListedSet.listed c.args.pre.now) c.args.post.items c.requires.grew) c.pop.new.self.items c.loop-root.invariant.gone c.loop-root.post.items c.in-Some.root c.in-Some.ensures.items c.loop-root.invariant.left
+    root_member eq graph lawful g.met.G.Node.Eq.laws (g.S.ListedSet.listed c.args.pre.now) c.args.post.items (search_from_growth g.G.Node.PartialEq.eq lawful.same g.met.G.Node.Eq.laws.refl graph (entry_then_nodes graph) (g.S.ListedSet.listed c.args.pre.now) c.args.post.items c.requires.grew) c.pop.new.self.items c.loop-root.invariant.deleted c.loop-root.post.items c.in-Some.root c.in-Some.ensures.items c.loop-root.invariant.left
 
 pub take_component-requires-clause-listed : goal.take_component-requires-clause-listed
 take_component-requires-clause-listed g c =
@@ -56,9 +56,9 @@ loop-root-preserved g c =
     let lawful = g.met.G.ControlFlowGraph.laws c.args.graph.now c.args.ctx.now c.requires.lawful in
     let unheld : list_any (eq c.in-Some.root) (g.S.ListedSet.listed c.loop-root.held) ≡ false = sym c.contains.ensures ∙ c.if-contains.false in
     record {
-      gone = c.in-Some.root ∷ c.loop-root.invariant.gone;
-      left = c.loop-root.invariant.left ∙ ap (λ xs. xs ++ c.loop-root.invariant.gone) c.in-Some.ensures.items ∙ append_assoc c.pop.new.self.items (c.in-Some.root ∷ []) c.loop-root.invariant.gone;
-      taken = rw c.in_ok-push.ensures.items (more eq graph lawful g.met.G.Node.Eq.laws (g.S.ListedSet.listed c.args.pre.now) c.args.post.items (search_from_growth g.G.Node.PartialEq.eq lawful.same g.met.G.Node.Eq.laws.refl graph (entry_then_nodes graph) (g.S.ListedSet.listed c.args.pre.now) c.args.post.items c.requires.grew) c.pop.new.self.items c.loop-root.invariant.gone c.loop-root.post.items c.in-Some.root c.in-Some.ensures.items c.loop-root.invariant.left (g.S.ListedSet.listed c.loop-root.held) (g.S.ListedSet.listed c.take_component.new.held) c.loop-root.components.items _ unheld c.in_ok-is_cyclic.ensures.taken c.loop-root.invariant.taken);
+      deleted = c.in-Some.root ∷ c.loop-root.invariant.deleted;
+      left = c.loop-root.invariant.left ∙ ap (λ xs. xs ++ c.loop-root.invariant.deleted) c.in-Some.ensures.items ∙ append_assoc c.pop.new.self.items (c.in-Some.root ∷ []) c.loop-root.invariant.deleted;
+      taken = rw c.in_ok-push.ensures.items (more eq graph lawful g.met.G.Node.Eq.laws (g.S.ListedSet.listed c.args.pre.now) c.args.post.items (search_from_growth g.G.Node.PartialEq.eq lawful.same g.met.G.Node.Eq.laws.refl graph (entry_then_nodes graph) (g.S.ListedSet.listed c.args.pre.now) c.args.post.items c.requires.grew) c.pop.new.self.items c.loop-root.invariant.deleted c.loop-root.post.items c.in-Some.root c.in-Some.ensures.items c.loop-root.invariant.left (g.S.ListedSet.listed c.loop-root.held) (g.S.ListedSet.listed c.take_component.new.held) c.loop-root.components.items _ unheld c.in_ok-is_cyclic.ensures.taken c.loop-root.invariant.taken);
     }
 
 pub returns-clause-found : goal.returns-clause-found

@@ -9,8 +9,8 @@ invariant-loop-root g l =
     let graph = g.G.ControlFlowGraph.graph l.graph l.ctx in
     let eq = g.G.Node.PartialEq.eq in
     record {
-      gone : List g.row.G-Node.Denot;
-      left : l.initial.post.items ≡ l.post.items ++ gone;
+      deleted : List g.row.G-Node.Denot;
+      left : l.initial.post.items ≡ l.post.items ++ deleted;
       taken : AreTaken graph (entry_then_nodes graph) (number_in eq (g.S.ListedSet.listed l.pre)) (number_in eq l.initial.post.items) (g.S.ListedSet.listed l.held) l.components.items (length l.post.items);
     }
 

@@ -17,7 +17,7 @@ loop-root-init g c =
     let graph = graph_of c.args.graph.now in
     let lawful = adjacency_lawful c.args.graph.now c.requires.lawful in
     record {
-      gone = [];
+      deleted = [];
       numbered = [];
       left = sym (append-nil c.args.post.items);
       taken = rw c.empty-held.ensures.empty (start nat_eq graph lawful nat_laws c.args.pre.now c.args.post.items (search_from_growth nat_eq lawful.same nat_laws.refl graph (entry_then_nodes graph) c.args.pre.now c.args.post.items c.requires.grew));
@@ -30,10 +30,10 @@ loop-root-preserved-then-contains g c =
     let lawful = adjacency_lawful c.args.graph.now c.requires.lawful in
     let there : list_any (nat_eq c.in-Some.root) c.loop-root.held ≡ true = sym c.contains.ensures ∙ c.if-contains.true in
     record {
-      gone = c.in-Some.root ∷ c.loop-root.invariant.gone;
+      deleted = c.in-Some.root ∷ c.loop-root.invariant.deleted;
       numbered = c.loop-root.invariant.numbered;
-      left = c.loop-root.invariant.left ∙ ap (λ xs. xs ++ c.loop-root.invariant.gone) c.in-Some.ensures.items ∙ append_assoc c.pop.new.self.items (c.in-Some.root ∷ []) c.loop-root.invariant.gone;
-      taken = over nat_eq graph lawful nat_laws c.args.pre.now c.args.post.items (search_from_growth nat_eq lawful.same nat_laws.refl graph (entry_then_nodes graph) c.args.pre.now c.args.post.items c.requires.grew) c.pop.new.self.items c.loop-root.invariant.gone c.loop-root.post.items c.in-Some.root c.in-Some.ensures.items c.loop-root.invariant.left c.loop-root.held c.loop-root.invariant.numbered there c.loop-root.invariant.taken;
+      left = c.loop-root.invariant.left ∙ ap (λ xs. xs ++ c.loop-root.invariant.deleted) c.in-Some.ensures.items ∙ append_assoc c.pop.new.self.items (c.in-Some.root ∷ []) c.loop-root.invariant.deleted;
+      taken = over nat_eq graph lawful nat_laws c.args.pre.now c.args.post.items (search_from_growth nat_eq lawful.same nat_laws.refl graph (entry_then_nodes graph) c.args.pre.now c.args.post.items c.requires.grew) c.pop.new.self.items c.loop-root.invariant.deleted c.loop-root.post.items c.in-Some.root c.in-Some.ensures.items c.loop-root.invariant.left c.loop-root.held c.loop-root.invariant.numbered there c.loop-root.invariant.taken;
       named = c.loop-root.invariant.named;
     }
 
@@ -41,7 +41,7 @@ pub take_component-requires-clause-member : goal.take_component-requires-clause-
 take_component-requires-clause-member g c =
     let graph = graph_of c.args.graph.now in
     let lawful = adjacency_lawful c.args.graph.now c.requires.lawful in
-    root_member nat_eq graph lawful nat_laws c.args.pre.now c.args.post.items (search_from_growth nat_eq lawful.same nat_laws.refl graph (entry_then_nodes graph) c.args.pre.now c.args.post.items c.requires.grew) c.pop.new.self.items c.loop-root.invariant.gone c.loop-root.post.items c.in-Some.root c.in-Some.ensures.items c.loop-root.invariant.left
+    root_member nat_eq graph lawful nat_laws c.args.pre.now c.args.post.items (search_from_growth nat_eq lawful.same nat_laws.refl graph (entry_then_nodes graph) c.args.pre.now c.args.post.items c.requires.grew) c.pop.new.self.items c.loop-root.invariant.deleted c.loop-root.post.items c.in-Some.root c.in-Some.ensures.items c.loop-root.invariant.left
 
 pub take_component-requires-clause-listed : goal.take_component-requires-clause-listed
 take_component-requires-clause-listed g c =
@@ -69,10 +69,10 @@ loop-root-preserved g c =
     let scc : Scc ℕ = record { nodes = c.take_component.new.nodes; is_cyclic = c.in_ok-is_cyclic.is_cyclic } in
     let items : map Some c.in_ok-named.named.items ≡ map (λ k. slice_get c.args.nodes.now k) c.take_component.new.nodes.items = subst (λ ks. map Some c.in_ok-named.named.items ≡ map (λ k. slice_get c.args.nodes.now k) ks) c.deref.ensures.value c.in_ok-named.ensures.named in
     record {
-      gone = c.in-Some.root ∷ c.loop-root.invariant.gone;
+      deleted = c.in-Some.root ∷ c.loop-root.invariant.deleted;
       numbered = c.loop-root.invariant.numbered ++ scc ∷ [];
-      left = c.loop-root.invariant.left ∙ ap (λ xs. xs ++ c.loop-root.invariant.gone) c.in-Some.ensures.items ∙ append_assoc c.pop.new.self.items (c.in-Some.root ∷ []) c.loop-root.invariant.gone;
-      taken = more nat_eq graph lawful nat_laws c.args.pre.now c.args.post.items (search_from_growth nat_eq lawful.same nat_laws.refl graph (entry_then_nodes graph) c.args.pre.now c.args.post.items c.requires.grew) c.pop.new.self.items c.loop-root.invariant.gone c.loop-root.post.items c.in-Some.root c.in-Some.ensures.items c.loop-root.invariant.left c.loop-root.held c.take_component.new.held c.loop-root.invariant.numbered scc unheld c.in_ok-is_cyclic.ensures.taken c.loop-root.invariant.taken;
+      left = c.loop-root.invariant.left ∙ ap (λ xs. xs ++ c.loop-root.invariant.deleted) c.in-Some.ensures.items ∙ append_assoc c.pop.new.self.items (c.in-Some.root ∷ []) c.loop-root.invariant.deleted;
+      taken = more nat_eq graph lawful nat_laws c.args.pre.now c.args.post.items (search_from_growth nat_eq lawful.same nat_laws.refl graph (entry_then_nodes graph) c.args.pre.now c.args.post.items c.requires.grew) c.pop.new.self.items c.loop-root.invariant.deleted c.loop-root.post.items c.in-Some.root c.in-Some.ensures.items c.loop-root.invariant.left c.loop-root.held c.take_component.new.held c.loop-root.invariant.numbered scc unheld c.in_ok-is_cyclic.ensures.taken c.loop-root.invariant.taken;
       named = rw c.in_ok-push.ensures.items (named_push c.args.nodes.now c.loop-root.invariant.numbered c.loop-root.all.items scc _ (record { members = items; cyclic = refl }) c.loop-root.invariant.named);
     }
 

@@ -11,9 +11,9 @@ abbrev pub invariant-loop-root : goal.invariant-loop-root
 invariant-loop-root g l =
     let graph = graph_of l.graph in
     record {
-      gone : List ℕ;
+      deleted : List ℕ;
       numbered : List (Scc ℕ);
-      left : l.initial.post.items ≡ l.post.items ++ gone;
+      left : l.initial.post.items ≡ l.post.items ++ deleted;
       taken : AreTaken graph (entry_then_nodes graph) (number_in nat_eq l.pre) (number_in nat_eq l.initial.post.items) l.held numbered (length l.post.items);
       named : AreNamed l.nodes numbered l.all.items;
     }

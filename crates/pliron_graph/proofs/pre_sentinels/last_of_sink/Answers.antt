@@ -1,5 +1,5 @@
 use Rattle.std.proofs.Common.{◌≡◌, Some, sym, ◌∙◌, ap, subst, true≢false}
-use Rattle.pliron_graph.specs.Internal.Picking.{StandsFrom}
+use Rattle.pliron_graph.specs.Internal.Picking.{IsListedFrom}
 use Rattle.pliron_graph.specs.Reverse.{IsLastListed}
 use Rattle.pliron_graph.proofs.StayLemmas.{sink_by_test, last_in_graph}
 use Rattle.pliron_graph.proofs.PreSentinelLemmas.{last_once}
@@ -10,7 +10,7 @@ returns-then-not-is_sink g c =
     let eq = g.G.Node.PartialEq.eq in
     let graph = g.G.ControlFlowGraph.graph c.args.graph.now c.args.ctx.now in
     let lawful = g.met.G.ControlFlowGraph.laws c.args.graph.now c.args.ctx.now c.requires.lawful in
-    let sink = sink_by_test eq graph lawful (StandsFrom g.G.Node.PartialEq.eq (g.S.ListedSet.listed c.args.held.now) c.args.first) c.args.members.now c.requires.nodes c.requires.stand in
+    let sink = sink_by_test eq graph lawful (IsListedFrom g.G.Node.PartialEq.eq (g.S.ListedSet.listed c.args.held.now) c.args.first) c.args.members.now c.requires.nodes c.requires.stand in
     λ v. ((λ e. absurd (cc e)), (λ h. absurd (true≢false (sym (c.is_sink.ensures.1 (sink.1 h.0)) ∙ c.if-not-is_sink.true))))
 
 pub returns : goal.returns
@@ -20,7 +20,7 @@ returns g c =
     let lawful = g.met.G.ControlFlowGraph.laws c.args.graph.now c.args.ctx.now c.requires.lawful in
     let members = c.args.members.now in
     let last = c.last_listed.result in
-    let sink = (sink_by_test eq graph lawful (StandsFrom g.G.Node.PartialEq.eq (g.S.ListedSet.listed c.args.held.now) c.args.first) members c.requires.nodes c.requires.stand).0 (c.is_sink.ensures.0 c.if-not-is_sink.false) in
+    let sink = (sink_by_test eq graph lawful (IsListedFrom g.G.Node.PartialEq.eq (g.S.ListedSet.listed c.args.held.now) c.args.first) members c.requires.nodes c.requires.stand).0 (c.is_sink.ensures.0 c.if-not-is_sink.false) in
     let is_last : IsLastListed g.G.Node.PartialEq.eq (g.G.ControlFlowGraph.graph c.args.graph.now c.args.ctx.now) c.args.members.now c.last_listed.result =
     last_in_graph eq graph lawful (g.S.ListedSet.listed c.args.places.now) c.requires.places members last c.last_listed.ensures.among c.last_listed.ensures.last in
     λ v. (

@@ -18,7 +18,7 @@ loop-root-init g c =
     let graph = g.G.ControlFlowGraph.graph c.args.graph.now c.args.ctx.now in
     let lawful = g.met.G.ControlFlowGraph.laws c.args.graph.now c.args.ctx.now c.requires.lawful in
     record {
-      gone = [];
+      deleted = [];
       components = [];
       left = sym (append-nil c.args.post.items);
       taken = rw (c.empty-held.ensures.empty) (start eq graph lawful g.met.G.Node.Eq.laws (g.S.ListedSet.listed c.args.pre.now) c.args.post.items (search_from_growth g.G.Node.PartialEq.eq lawful.same g.met.G.Node.Eq.laws.refl graph (entry_then_nodes graph) (g.S.ListedSet.listed c.args.pre.now) c.args.post.items c.requires.grew));
@@ -32,10 +32,10 @@ loop-root-preserved-then-contains g c =
     let lawful = g.met.G.ControlFlowGraph.laws c.args.graph.now c.args.ctx.now c.requires.lawful in
     let there : list_any (eq c.in-Some.root) (g.S.ListedSet.listed c.loop-root.held) ≡ true = sym c.contains.ensures ∙ c.if-contains.true in
     record {
-      gone = c.in-Some.root ∷ c.loop-root.invariant.gone;
+      deleted = c.in-Some.root ∷ c.loop-root.invariant.deleted;
       components = c.loop-root.invariant.components;
-      left = c.loop-root.invariant.left ∙ ap (λ xs. xs ++ c.loop-root.invariant.gone) c.in-Some.ensures.items ∙ append_assoc c.pop.new.self.items (c.in-Some.root ∷ []) c.loop-root.invariant.gone;
-      taken = over eq graph lawful g.met.G.Node.Eq.laws (g.S.ListedSet.listed c.args.pre.now) c.args.post.items (search_from_growth g.G.Node.PartialEq.eq lawful.same g.met.G.Node.Eq.laws.refl graph (entry_then_nodes graph) (g.S.ListedSet.listed c.args.pre.now) c.args.post.items c.requires.grew) c.pop.new.self.items c.loop-root.invariant.gone c.loop-root.post.items c.in-Some.root c.in-Some.ensures.items c.loop-root.invariant.left (g.S.ListedSet.listed c.loop-root.held) c.loop-root.invariant.components there c.loop-root.invariant.taken;
+      left = c.loop-root.invariant.left ∙ ap (λ xs. xs ++ c.loop-root.invariant.deleted) c.in-Some.ensures.items ∙ append_assoc c.pop.new.self.items (c.in-Some.root ∷ []) c.loop-root.invariant.deleted;
+      taken = over eq graph lawful g.met.G.Node.Eq.laws (g.S.ListedSet.listed c.args.pre.now) c.args.post.items (search_from_growth g.G.Node.PartialEq.eq lawful.same g.met.G.Node.Eq.laws.refl graph (entry_then_nodes graph) (g.S.ListedSet.listed c.args.pre.now) c.args.post.items c.requires.grew) c.pop.new.self.items c.loop-root.invariant.deleted c.loop-root.post.items c.in-Some.root c.in-Some.ensures.items c.loop-root.invariant.left (g.S.ListedSet.listed c.loop-root.held) c.loop-root.invariant.components there c.loop-root.invariant.taken;
       last = c.loop-root.invariant.last;
     }
 
@@ -44,7 +44,7 @@ take_component-requires-clause-member g c =
     let eq = g.G.Node.PartialEq.eq in
     let graph = g.G.ControlFlowGraph.graph c.args.graph.now c.args.ctx.now in
     let lawful = g.met.G.ControlFlowGraph.laws c.args.graph.now c.args.ctx.now c.requires.lawful in
-    root_member eq graph lawful g.met.G.Node.Eq.laws (g.S.ListedSet.listed c.args.pre.now) c.args.post.items (search_from_growth g.G.Node.PartialEq.eq lawful.same g.met.G.Node.Eq.laws.refl graph (entry_then_nodes graph) (g.S.ListedSet.listed c.args.pre.now) c.args.post.items c.requires.grew) c.pop.new.self.items c.loop-root.invariant.gone c.loop-root.post.items c.in-Some.root c.in-Some.ensures.items c.loop-root.invariant.left
+    root_member eq graph lawful g.met.G.Node.Eq.laws (g.S.ListedSet.listed c.args.pre.now) c.args.post.items (search_from_growth g.G.Node.PartialEq.eq lawful.same g.met.G.Node.Eq.laws.refl graph (entry_then_nodes graph) (g.S.ListedSet.listed c.args.pre.now) c.args.post.items c.requires.grew) c.pop.new.self.items c.loop-root.invariant.deleted c.loop-root.post.items c.in-Some.root c.in-Some.ensures.items c.loop-root.invariant.left
 
 pub take_component-requires-clause-listed : goal.take_component-requires-clause-listed
 take_component-requires-clause-listed g c =
@@ -73,7 +73,7 @@ last_of_sink-requires-clause-not_empty g c =
     let lawful = g.met.G.ControlFlowGraph.laws c.args.graph.now c.args.ctx.now c.requires.lawful in
     let unheld : list_any (eq c.in-Some.root) (g.S.ListedSet.listed c.loop-root.held) ≡ false = sym c.contains.ensures ∙ c.if-contains.false in
     let scc : Scc g.row.G-Node.Denot = record { nodes = c.take_component.new.nodes; is_cyclic = c.in_ok-take_component.field-0 } in
-    rw c.deref.ensures.value (taken_filled eq g.met.G.Node.Eq.laws lawful.same graph (g.S.ListedSet.listed c.args.pre.now) c.in-Some.root (g.S.ListedSet.listed c.loop-root.held) (g.S.ListedSet.listed c.take_component.new.held) scc c.in_ok-take_component.ensures.taken (root_member eq graph lawful g.met.G.Node.Eq.laws (g.S.ListedSet.listed c.args.pre.now) c.args.post.items (search_from_growth g.G.Node.PartialEq.eq lawful.same g.met.G.Node.Eq.laws.refl graph (entry_then_nodes graph) (g.S.ListedSet.listed c.args.pre.now) c.args.post.items c.requires.grew) c.pop.new.self.items c.loop-root.invariant.gone c.loop-root.post.items c.in-Some.root c.in-Some.ensures.items c.loop-root.invariant.left) (not_in_from_any eq lawful.same g.met.G.Node.Eq.laws.refl (g.S.ListedSet.listed c.loop-root.held) c.in-Some.root unheld))
+    rw c.deref.ensures.value (taken_filled eq g.met.G.Node.Eq.laws lawful.same graph (g.S.ListedSet.listed c.args.pre.now) c.in-Some.root (g.S.ListedSet.listed c.loop-root.held) (g.S.ListedSet.listed c.take_component.new.held) scc c.in_ok-take_component.ensures.taken (root_member eq graph lawful g.met.G.Node.Eq.laws (g.S.ListedSet.listed c.args.pre.now) c.args.post.items (search_from_growth g.G.Node.PartialEq.eq lawful.same g.met.G.Node.Eq.laws.refl graph (entry_then_nodes graph) (g.S.ListedSet.listed c.args.pre.now) c.args.post.items c.requires.grew) c.pop.new.self.items c.loop-root.invariant.deleted c.loop-root.post.items c.in-Some.root c.in-Some.ensures.items c.loop-root.invariant.left) (not_in_from_any eq lawful.same g.met.G.Node.Eq.laws.refl (g.S.ListedSet.listed c.loop-root.held) c.in-Some.root unheld))
 
 pub last_of_sink-requires-clause-nodes : goal.last_of_sink-requires-clause-nodes
 last_of_sink-requires-clause-nodes g c =
@@ -91,10 +91,10 @@ loop-root-preserved-in_default-last_of_sink g c =
     let unheld : list_any (eq c.in-Some.root) (g.S.ListedSet.listed c.loop-root.held) ≡ false = sym c.contains.ensures ∙ c.if-contains.false in
     let scc : Scc g.row.G-Node.Denot = record { nodes = c.take_component.new.nodes; is_cyclic = c.in_ok-take_component.field-0 } in
     record {
-      gone = c.in-Some.root ∷ c.loop-root.invariant.gone;
+      deleted = c.in-Some.root ∷ c.loop-root.invariant.deleted;
       components = c.loop-root.invariant.components ++ scc ∷ [];
-      left = c.loop-root.invariant.left ∙ ap (λ xs. xs ++ c.loop-root.invariant.gone) c.in-Some.ensures.items ∙ append_assoc c.pop.new.self.items (c.in-Some.root ∷ []) c.loop-root.invariant.gone;
-      taken = more eq graph lawful g.met.G.Node.Eq.laws (g.S.ListedSet.listed c.args.pre.now) c.args.post.items (search_from_growth g.G.Node.PartialEq.eq lawful.same g.met.G.Node.Eq.laws.refl graph (entry_then_nodes graph) (g.S.ListedSet.listed c.args.pre.now) c.args.post.items c.requires.grew) c.pop.new.self.items c.loop-root.invariant.gone c.loop-root.post.items c.in-Some.root c.in-Some.ensures.items c.loop-root.invariant.left (g.S.ListedSet.listed c.loop-root.held) (g.S.ListedSet.listed c.take_component.new.held) c.loop-root.invariant.components scc unheld c.in_ok-take_component.ensures.taken c.loop-root.invariant.taken;
+      left = c.loop-root.invariant.left ∙ ap (λ xs. xs ++ c.loop-root.invariant.deleted) c.in-Some.ensures.items ∙ append_assoc c.pop.new.self.items (c.in-Some.root ∷ []) c.loop-root.invariant.deleted;
+      taken = more eq graph lawful g.met.G.Node.Eq.laws (g.S.ListedSet.listed c.args.pre.now) c.args.post.items (search_from_growth g.G.Node.PartialEq.eq lawful.same g.met.G.Node.Eq.laws.refl graph (entry_then_nodes graph) (g.S.ListedSet.listed c.args.pre.now) c.args.post.items c.requires.grew) c.pop.new.self.items c.loop-root.invariant.deleted c.loop-root.post.items c.in-Some.root c.in-Some.ensures.items c.loop-root.invariant.left (g.S.ListedSet.listed c.loop-root.held) (g.S.ListedSet.listed c.take_component.new.held) c.loop-root.invariant.components scc unheld c.in_ok-take_component.ensures.taken c.loop-root.invariant.taken;
       last = passed_over eq lawful.same g.met.G.Node.Eq.laws.refl graph c.loop-root.invariant.components scc c.loop-root.found.items
           (λ v sink is_last. c.in_default-last_of_sink.not-Some v ((c.last_of_sink.ensures v).1 (subst (IsSink graph) (sym c.deref.ensures.value) sink, subst (λ nodes. IsLastListed eq graph nodes v) (sym c.deref.ensures.value) is_last)))
           c.loop-root.invariant.last;
@@ -113,10 +113,10 @@ loop-root-preserved g c =
     let sink = subst (IsSink graph) c.deref.ensures.value fact.0 in
     let is_last = subst (λ nodes. IsLastListed eq graph nodes node) c.deref.ensures.value fact.1 in
     record {
-      gone = c.in-Some.root ∷ c.loop-root.invariant.gone;
+      deleted = c.in-Some.root ∷ c.loop-root.invariant.deleted;
       components = c.loop-root.invariant.components ++ scc ∷ [];
-      left = c.loop-root.invariant.left ∙ ap (λ xs. xs ++ c.loop-root.invariant.gone) c.in-Some.ensures.items ∙ append_assoc c.pop.new.self.items (c.in-Some.root ∷ []) c.loop-root.invariant.gone;
-      taken = more eq graph lawful g.met.G.Node.Eq.laws (g.S.ListedSet.listed c.args.pre.now) c.args.post.items (search_from_growth g.G.Node.PartialEq.eq lawful.same g.met.G.Node.Eq.laws.refl graph (entry_then_nodes graph) (g.S.ListedSet.listed c.args.pre.now) c.args.post.items c.requires.grew) c.pop.new.self.items c.loop-root.invariant.gone c.loop-root.post.items c.in-Some.root c.in-Some.ensures.items c.loop-root.invariant.left (g.S.ListedSet.listed c.loop-root.held) (g.S.ListedSet.listed c.take_component.new.held) c.loop-root.invariant.components scc unheld c.in_ok-take_component.ensures.taken c.loop-root.invariant.taken;
+      left = c.loop-root.invariant.left ∙ ap (λ xs. xs ++ c.loop-root.invariant.deleted) c.in-Some.ensures.items ∙ append_assoc c.pop.new.self.items (c.in-Some.root ∷ []) c.loop-root.invariant.deleted;
+      taken = more eq graph lawful g.met.G.Node.Eq.laws (g.S.ListedSet.listed c.args.pre.now) c.args.post.items (search_from_growth g.G.Node.PartialEq.eq lawful.same g.met.G.Node.Eq.laws.refl graph (entry_then_nodes graph) (g.S.ListedSet.listed c.args.pre.now) c.args.post.items c.requires.grew) c.pop.new.self.items c.loop-root.invariant.deleted c.loop-root.post.items c.in-Some.root c.in-Some.ensures.items c.loop-root.invariant.left (g.S.ListedSet.listed c.loop-root.held) (g.S.ListedSet.listed c.take_component.new.held) c.loop-root.invariant.components scc unheld c.in_ok-take_component.ensures.taken c.loop-root.invariant.taken;
       last = rw c.in_ok-push.ensures.items (one_added eq lawful.same g.met.G.Node.Eq.laws.refl graph c.loop-root.invariant.components scc c.loop-root.found.items node sink is_last
           (λ v h. last_once eq lawful.same g.met.G.Node.Eq.laws.refl graph scc.nodes.items node v inside is_last h) c.loop-root.invariant.last);
     }

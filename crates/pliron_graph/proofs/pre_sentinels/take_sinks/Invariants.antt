@@ -11,9 +11,9 @@ invariant-loop-root g l =
     let graph = g.G.ControlFlowGraph.graph l.graph l.ctx in
     let eq = g.G.Node.PartialEq.eq in
     record {
-      gone : List g.row.G-Node.Denot;
+      deleted : List g.row.G-Node.Denot;
       components : List (Scc g.row.G-Node.Denot);
-      left : l.initial.post.items ≡ l.post.items ++ gone;
+      left : l.initial.post.items ≡ l.post.items ++ deleted;
       taken : AreTaken graph (entry_then_nodes graph) (number_in eq (g.S.ListedSet.listed l.pre)) (number_in eq l.initial.post.items) (g.S.ListedSet.listed l.held) components (length l.post.items);
       last : AreLastOfSinks eq graph components l.found.items;
     }

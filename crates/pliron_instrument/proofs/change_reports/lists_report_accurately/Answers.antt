@@ -1,4 +1,4 @@
-use Rattle.pliron_pipeline.proofs.HonestLemmas.{plain_honest, passes_same}
+use Rattle.pliron_pipeline.proofs.ReportLemmas.{plain_honest, passes_same}
 use Rattle.pliron_instrument.proofs.change_reports.lists_report_accurately.Goals as goal
 
 pub returns : goal.returns

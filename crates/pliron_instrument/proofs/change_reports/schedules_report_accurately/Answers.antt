@@ -1,4 +1,4 @@
-use Rattle.pliron_pipeline.proofs.HonestLemmas.{side_cases, repeat_same, run_honest}
+use Rattle.pliron_pipeline.proofs.ReportLemmas.{side_cases, repeat_same, run_honest}
 use Rattle.pliron_instrument.proofs.change_reports.schedules_report_accurately.Goals as goal
 
 pub returns : goal.returns

@@ -1,4 +1,4 @@
-use Rattle.pliron_pipeline.proofs.HonestLemmas.{step_cases, optimisation_same}
+use Rattle.pliron_pipeline.proofs.ReportLemmas.{step_cases, optimisation_same}
 use Rattle.pliron_instrument.proofs.change_reports.shared_steps_report_accurately.Goals as goal
 
 pub returns : goal.returns

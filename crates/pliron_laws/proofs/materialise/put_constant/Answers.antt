@@ -18,7 +18,7 @@ pub hand_over-requires-clause-old : goal.hand_over-requires-clause-old
 hand_over-requires-clause-old g c = let f = c.requires.fresh in put_defined c.args.ctx.now.tree c.insert_or_erase.new.ctx.tree _ c.args.constant c.args.old c.in_ok-insert_or_erase.ensures.ok (made_defined f.0 c.args.ctx.now.tree c.args.old f.1 f.2.made f.2.value)
 
 pub hand_over-requires-clause-new : goal.hand_over-requires-clause-new
-hand_over-requires-clause-new g c = put_defined c.args.ctx.now.tree c.insert_or_erase.new.ctx.tree _ c.args.constant c.get_result-new.result c.in_ok-insert_or_erase.ensures.ok c.get_result-new.ensures.stands
+hand_over-requires-clause-new g c = put_defined c.args.ctx.now.tree c.insert_or_erase.new.ctx.tree _ c.args.constant c.get_result-new.result c.in_ok-insert_or_erase.ensures.ok c.get_result-new.ensures.liveness
 
 pub hand_over-requires-clause-unused : goal.hand_over-requires-clause-unused
 hand_over-requires-clause-unused g c = λ k i. let f = c.requires.fresh in put_unused f.0 c.args.ctx.now.tree c.insert_or_erase.new.ctx.tree c.args.constant c.get_result-new.result k f.1 _ f.2.tree f.2.made f.2.key c.get_result-new.ensures.value c.in_ok-insert_or_erase.ensures.ok i

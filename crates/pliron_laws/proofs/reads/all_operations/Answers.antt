@@ -16,7 +16,7 @@ loop-at-init c =
     }
 
 pub get_next-at-requires : goal.get_next-at-requires
-get_next-at-requires c = (c.well_formed-2.ensures.tree.joined.standing c.in-Some.op c.args.block (c.loop-at.invariant.placed c.in-Some.op c.in-Some.is)).0
+get_next-at-requires c = (c.well_formed-2.ensures.tree.joined.all_in_place c.in-Some.op c.args.block (c.loop-at.invariant.placed c.in-Some.op c.in-Some.is)).0
 
 pub loop-at-smaller : goal.loop-at-smaller
 loop-at-smaller c =

@@ -5,14 +5,14 @@ use Rattle.std.proofs.lemmas.Result.{on_ok_weaker}
 use Rattle.pliron_notation.specs.declared.build.Built.{Built}
 use Rattle.pliron_notation.specs.Laid.{IsLaid}
 use Rattle.pliron_notation.proofs.LaidLemmas.{laid-block}
-use Rattle.pliron_notation.proofs.BuildLemmas.{in-read, adds-last, adds-none, created-arguments, goes-block, standing-block}
+use Rattle.pliron_notation.proofs.BuildLemmas.{in-read, adds-last, adds-none, created-arguments, goes-block, all_in_place-block}
 use Rattle.pliron_notation.proofs.build.add_block.Goals as goal
 
 pub create-requires : goal.create-requires
-create-requires c = c.requires.standing.regions c.index-region.result.now (in-read c.args.built.now.regions.items c.args.text.now.region c.index-region.result.now c.requires.region c.index-region.ensures)
+create-requires c = c.requires.all_in_place.regions c.index-region.result.now (in-read c.args.built.now.regions.items c.args.text.now.region c.index-region.result.now c.requires.region c.index-region.ensures)
 
-pub returns-in_err-remember-clause-goes_on : goal.returns-in_err-remember-clause-goes_on
-returns-in_err-remember-clause-goes_on c =
+pub returns-in_err-remember-clause-continues : goal.returns-in_err-remember-clause-continues
+returns-in_err-remember-clause-continues c =
     let u = c.args.ctx.now.tree in
     let built = c.args.built.now in
     let region = c.index-region.result.now in
@@ -20,17 +20,17 @@ returns-in_err-remember-clause-goes_on c =
     (in-read built.regions.items c.args.text.now.region region c.requires.region c.index-region.ensures)
     refl (adds-none built.blocks.items c.remember.new.table.items (length u.bodies ∷ []) c.in_err-remember.ensures.err) refl
 
-pub returns-in_err-remember-clause-standing : goal.returns-in_err-remember-clause-standing
-returns-in_err-remember-clause-standing c =
+pub returns-in_err-remember-clause-all_in_place : goal.returns-in_err-remember-clause-all_in_place
+returns-in_err-remember-clause-all_in_place c =
     let u = c.args.ctx.now.tree in
     let v = c.create.new.ctx.tree in
     let built = c.args.built.now in
-    standing-block u c.index-region.result.now c.args.text.now.arguments c.well_formed-2.ensures.tree v built (record { operations = built.operations; blocks = c.remember.new.table; regions = built.regions; values = built.values }) c.in_ok-block.ensures.ok c.well_formed-3.ensures.tree c.requires.standing
+    all_in_place-block u c.index-region.result.now c.args.text.now.arguments c.well_formed-2.ensures.tree v built (record { operations = built.operations; blocks = c.remember.new.table; regions = built.regions; values = built.values }) c.in_ok-block.ensures.ok c.well_formed-3.ensures.tree c.requires.all_in_place
     refl (adds-none built.blocks.items c.remember.new.table.items (length u.bodies ∷ []) c.in_err-remember.ensures.err) refl
     (adds-none built.values.items built.values.items (arguments_of v (length u.bodies)) refl)
 
-pub returns-clause-goes_on : goal.returns-clause-goes_on
-returns-clause-goes_on c =
+pub returns-clause-continues : goal.returns-clause-continues
+returns-clause-continues c =
     let u = c.args.ctx.now.tree in
     let built = c.args.built.now in
     let region = c.index-region.result.now in
@@ -40,12 +40,12 @@ returns-clause-goes_on c =
     (subst (λ k. AddsOnly built.blocks.items c.remember.new.table.items (k ∷ [])) c.in_ok-block.ensures.key (adds-last built.blocks.items c.remember.new.table.items c.in_ok-block.block c.in_ok-remember.ensures.ok))
     refl
 
-pub returns-clause-standing : goal.returns-clause-standing
-returns-clause-standing c =
+pub returns-clause-all_in_place : goal.returns-clause-all_in_place
+returns-clause-all_in_place c =
     let u = c.args.ctx.now.tree in
     let v = c.create.new.ctx.tree in
     let built = c.args.built.now in
-    standing-block u c.index-region.result.now c.args.text.now.arguments c.well_formed-2.ensures.tree v built (record { operations = built.operations; blocks = c.remember.new.table; regions = built.regions; values = c.remember_arguments.new.values }) c.in_ok-block.ensures.ok c.well_formed-3.ensures.tree c.requires.standing
+    all_in_place-block u c.index-region.result.now c.args.text.now.arguments c.well_formed-2.ensures.tree v built (record { operations = built.operations; blocks = c.remember.new.table; regions = built.regions; values = c.remember_arguments.new.values }) c.in_ok-block.ensures.ok c.well_formed-3.ensures.tree c.requires.all_in_place
     refl
     (subst (λ k. AddsOnly built.blocks.items c.remember.new.table.items (k ∷ [])) c.in_ok-block.ensures.key (adds-last built.blocks.items c.remember.new.table.items c.in_ok-block.block c.in_ok-remember.ensures.ok))
     refl

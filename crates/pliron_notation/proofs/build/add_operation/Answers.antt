@@ -6,14 +6,14 @@ use Rattle.pliron_bench.specs.Bench.{head_with, result_count, region_count}
 use Rattle.pliron_notation.specs.Building.{after_appending}
 use Rattle.pliron_notation.specs.Laid.{IsLaid}
 use Rattle.pliron_notation.proofs.LaidLemmas.{laid-operation}
-use Rattle.pliron_notation.proofs.BuildLemmas.{in-read, goes-appended, standing-appended}
+use Rattle.pliron_notation.proofs.BuildLemmas.{in-read, goes-appended, all_in_place-appended}
 use Rattle.pliron_notation.proofs.build.add_operation.Goals as goal
 
 pub append_operation-requires : goal.append_operation-requires
-append_operation-requires c = c.requires.standing.blocks c.index-block.result.now (in-read c.args.built.now.blocks.items c.args.text.now.block c.index-block.result.now c.requires.block c.index-block.ensures)
+append_operation-requires c = c.requires.all_in_place.blocks c.index-block.result.now (in-read c.args.built.now.blocks.items c.args.text.now.block c.index-block.result.now c.requires.block c.index-block.ensures)
 
-pub returns-clause-goes_on : goal.returns-clause-goes_on
-returns-clause-goes_on c =
+pub returns-clause-continues : goal.returns-clause-continues
+returns-clause-continues c =
     let w = c.append_operation.new.ctx.tree in
     let built = c.args.built.now in
     let more = c.remember_operation.new.built in
@@ -24,12 +24,12 @@ returns-clause-goes_on c =
     c.remember_operation.ensures.blocks
     (subst (λ k. AddsOnly built.regions.items more.regions.items (regions_of w k)) c.in_ok-op.ensures.key c.remember_operation.ensures.regions)
 
-pub returns-clause-standing : goal.returns-clause-standing
-returns-clause-standing c =
+pub returns-clause-all_in_place : goal.returns-clause-all_in_place
+returns-clause-all_in_place c =
     let w = c.append_operation.new.ctx.tree in
     let built = c.args.built.now in
     let more = c.remember_operation.new.built in
-    standing-appended c.args.ctx.now.tree c.in_ok-head.head c.result_count-results.result c.region_count-regions.result c.index-block.result.now c.well_formed-2.ensures.tree w built more c.in_ok-op.ensures.ok c.well_formed-3.ensures.tree c.requires.standing
+    all_in_place-appended c.args.ctx.now.tree c.in_ok-head.head c.result_count-results.result c.region_count-regions.result c.index-block.result.now c.well_formed-2.ensures.tree w built more c.in_ok-op.ensures.ok c.well_formed-3.ensures.tree c.requires.all_in_place
     (subst (λ k. AddsOnly built.operations.items more.operations.items (k ∷ [])) c.in_ok-op.ensures.key c.remember_operation.ensures.operations)
     c.remember_operation.ensures.blocks
     (subst (λ k. AddsOnly built.regions.items more.regions.items (regions_of w k)) c.in_ok-op.ensures.key c.remember_operation.ensures.regions)

@@ -17,10 +17,10 @@ add_successors-requires-clause-op c = in-read c.args.built.now.operations.items 
 pub add_successors-requires-clause-successors : goal.add_successors-requires-clause-successors
 add_successors-requires-clause-successors c = λ x i. c.requires.successors x (subst (In x) c.deref.ensures.value i)
 
-pub returns-clause-goes_on : goal.returns-clause-goes_on
-returns-clause-goes_on c =
+pub returns-clause-continues : goal.returns-clause-continues
+returns-clause-continues c =
     let built = c.args.built.now in
-    goes-trans c.args.ctx.now.tree c.add_operands.new.ctx.tree c.add_successors.new.ctx.tree built built built c.in_ok-add_operands.ensures.goes_on c.add_successors.ensures.goes_on
+    goes-trans c.args.ctx.now.tree c.add_operands.new.ctx.tree c.add_successors.new.ctx.tree built built built c.in_ok-add_operands.ensures.continues c.add_successors.ensures.continues
 
 pub returns-clause-wired : goal.returns-clause-wired
 returns-clause-wired c = on_ok_weaker c.add_successors.result

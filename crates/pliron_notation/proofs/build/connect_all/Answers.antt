@@ -20,16 +20,16 @@ connect-requires-clause-successors c =
     let sound = c.requires.sound c.loop-number.number c.index.result.now (slice_get_read ops (length ops) c.loop-number.number c.index.result.now refl lt c.index.ensures) in
     subst (λ n. AllBelow n c.index.result.now.successors.items) (sym c.requires.made.blocks) (region-below c.args.syntax.now sound.block.region c.index.result.now.successors.items sound.own_region)
 
-pub returns-in_err-connect-clause-goes_on : goal.returns-in_err-connect-clause-goes_on
-returns-in_err-connect-clause-goes_on c =
+pub returns-in_err-connect-clause-continues : goal.returns-in_err-connect-clause-continues
+returns-in_err-connect-clause-continues c =
     let built = c.args.built.now in
-    goes-trans c.args.ctx.now.tree c.loop-number.ctx.tree c.connect.new.ctx.tree built built built c.loop-number.invariant.0 c.in_err-connect.ensures.goes_on
+    goes-trans c.args.ctx.now.tree c.loop-number.ctx.tree c.connect.new.ctx.tree built built built c.loop-number.invariant.0 c.in_err-connect.ensures.continues
 
 pub loop-number-preserved : goal.loop-number-preserved
 loop-number-preserved c =
     let built = c.args.built.now in (
-      goes-trans c.args.ctx.now.tree c.loop-number.ctx.tree c.connect.new.ctx.tree built built built c.loop-number.invariant.0 c.in_ok-connect.ensures.goes_on,
-      c.in_ok-connect.ensures.standing,
+      goes-trans c.args.ctx.now.tree c.loop-number.ctx.tree c.connect.new.ctx.tree built built built c.loop-number.invariant.0 c.in_ok-connect.ensures.continues,
+      c.in_ok-connect.ensures.all_in_place,
       λ root base l.
           let ops = c.args.syntax.now.operations.items in
           let lt : c.loop-number.number < length ops = search (rules, c.loop-number-test.true) in
@@ -37,7 +37,7 @@ loop-number-preserved c =
     )
 
 pub loop-number-init : goal.loop-number-init
-loop-number-init c = (goes-refl c.args.ctx.now.tree c.args.built.now, c.requires.standing, λ root base l. l)
+loop-number-init c = (goes-refl c.args.ctx.now.tree c.args.built.now, c.requires.all_in_place, λ root base l. l)
 
 pub returns-clause-wired : goal.returns-clause-wired
 returns-clause-wired c = subst (λ n. Wires c.args.syntax.now 0 n c.args.ctx.now.tree c.loop-number.ctx.tree c.args.built.now) (search rules) c.loop-number.invariant.2

@@ -1,5 +1,5 @@
 use Rattle.std.proofs.Common.{rules, ◌≡◌, ◌+◌, ◌<◌, length, get_or, drop, sym, ap, ◌∙◌, subst}
-use Rattle.pliron_notation.specs.Building.{AreStanding, BuildingGoesOn, HasMade}
+use Rattle.pliron_notation.specs.Building.{AreLive, BuildingContinues, HasMade}
 use Rattle.std.proofs.lemmas.Option.{slice_get_within, get_or_from_slice_get}
 use Rattle.pliron_notation.specs.declared.syntax.SyntaxStep.TheVariants.{Operation}
 use Rattle.pliron_notation.specs.declared.syntax.Made.{Made}
@@ -34,9 +34,9 @@ add_operation-requires-clause-block c =
     let same : c.index.result.now ≡ at.0 = c.index.ensures ∙ get_or_from_slice_get s.operations.items c.in-Operation.number at.0 c.index.result.now at.1 in
     subst (λ t. t.block < length c.loop-step.built.blocks.items) (sym same) (subst (λ n. at.0.block < n) (sym inv.1.blocks) at.3)
 
-pub returns-in_err-add_operation-in-Operation-clause-goes_on : goal.returns-in_err-add_operation-in-Operation-clause-goes_on
-returns-in_err-add_operation-in-Operation-clause-goes_on c =
-    goes-trans c.args.ctx.now.tree c.loop-step.ctx.tree c.add_operation.new.ctx.tree c.args.built.now c.loop-step.built c.add_operation.new.built c.loop-step.invariant.0 c.in_err-add_operation-in-Operation.ensures.goes_on
+pub returns-in_err-add_operation-in-Operation-clause-continues : goal.returns-in_err-add_operation-in-Operation-clause-continues
+returns-in_err-add_operation-in-Operation-clause-continues c =
+    goes-trans c.args.ctx.now.tree c.loop-step.ctx.tree c.add_operation.new.ctx.tree c.args.built.now c.loop-step.built c.add_operation.new.built c.loop-step.invariant.0 c.in_err-add_operation-in-Operation.ensures.continues
 
 pub index-requires-in-Block : goal.index-requires-in-Block
 index-requires-in-Block c =
@@ -60,9 +60,9 @@ add_block-requires-clause-region c =
     let same : c.index-in-Block.result.now ≡ at.0 = c.index-in-Block.ensures ∙ get_or_from_slice_get s.blocks.items c.in-Block.number at.0 c.index-in-Block.result.now at.1 in
     subst (λ t. t.region < length c.loop-step.built.regions.items) (sym same) (subst (λ n. at.0.region < n) (sym inv.1.regions) at.3)
 
-pub returns-in_err-add_block-in-Block-clause-goes_on : goal.returns-in_err-add_block-in-Block-clause-goes_on
-returns-in_err-add_block-in-Block-clause-goes_on c =
-    goes-trans c.args.ctx.now.tree c.loop-step.ctx.tree c.add_block.new.ctx.tree c.args.built.now c.loop-step.built c.add_block.new.built c.loop-step.invariant.0 c.in_err-add_block-in-Block.ensures.goes_on
+pub returns-in_err-add_block-in-Block-clause-continues : goal.returns-in_err-add_block-in-Block-clause-continues
+returns-in_err-add_block-in-Block-clause-continues c =
+    goes-trans c.args.ctx.now.tree c.loop-step.ctx.tree c.add_block.new.ctx.tree c.args.built.now c.loop-step.built c.add_block.new.built c.loop-step.invariant.0 c.in_err-add_block-in-Block.ensures.continues
 
 pub loop-step-preserved : goal.loop-step-preserved
 loop-step-preserved c =
@@ -81,10 +81,10 @@ loop-step-preserved c =
           let at = operation-at s inv.0 next.0 (get_or steps i (Operation 0)) w.in-Operation.number next.1 (sym (ap (λ z. get_or z i (Operation 0)) c.deref-step-items.ensures.value) ∙ w.in-Operation.is) in
           let same : w.index.result.now ≡ at.0 = w.index.ensures ∙ get_or_from_slice_get s.operations.items w.in-Operation.number at.0 w.index.result.now at.1 in
           let made = made-operation old more inv.0 at.0 inv.1 e.operations e.blocks (e.regions ∙ ap (λ t. length old.regions.items + region_count t.kind) same) (e.values ∙ ap (λ t. length old.values.items + result_count t.kind) same) in
-          subst (λ z. BuildingGoesOn c.args.ctx.now.tree c.args.built.now z.tree c.match-step.built × AreStanding z.tree c.match-step.built × ((m : Made) × HasMade c.match-step.built m × IsOrdered s m rest) × LaysOn s c.args.ctx.now.tree c.args.built.now z.tree c.match-step.built) (sym w.ctx-is)
-          (subst (λ z. BuildingGoesOn c.args.ctx.now.tree c.args.built.now w.add_operation.new.ctx.tree z × AreStanding w.add_operation.new.ctx.tree z × ((m : Made) × HasMade z m × IsOrdered s m rest) × LaysOn s c.args.ctx.now.tree c.args.built.now w.add_operation.new.ctx.tree z) (sym w.built-is) (
-            goes-trans c.args.ctx.now.tree c.loop-step.ctx.tree w.add_operation.new.ctx.tree c.args.built.now old more c.loop-step.invariant.0 e.goes_on,
-            e.standing,
+          subst (λ z. BuildingContinues c.args.ctx.now.tree c.args.built.now z.tree c.match-step.built × AreLive z.tree c.match-step.built × ((m : Made) × HasMade c.match-step.built m × IsOrdered s m rest) × LaysOn s c.args.ctx.now.tree c.args.built.now z.tree c.match-step.built) (sym w.ctx-is)
+          (subst (λ z. BuildingContinues c.args.ctx.now.tree c.args.built.now w.add_operation.new.ctx.tree z × AreLive w.add_operation.new.ctx.tree z × ((m : Made) × HasMade z m × IsOrdered s m rest) × LaysOn s c.args.ctx.now.tree c.args.built.now w.add_operation.new.ctx.tree z) (sym w.built-is) (
+            goes-trans c.args.ctx.now.tree c.loop-step.ctx.tree w.add_operation.new.ctx.tree c.args.built.now old more c.loop-step.invariant.0 e.continues,
+            e.all_in_place,
             (next.0, subst (HasMade more) (sym at.4) made, next.2),
             lays-operation s c.args.ctx.now.tree c.loop-step.ctx.tree w.add_operation.new.ctx.tree c.args.built.now old more inv.0 w.in-Operation.number at.0 w.index.result.now c.loop-step.invariant.3 inv.1 at.2 at.1 same e.laid,
           ))
@@ -94,10 +94,10 @@ loop-step-preserved c =
           let at = block-at s inv.0 next.0 (get_or steps i (Operation 0)) w.in-Block.number next.1 (sym (ap (λ z. get_or z i (Operation 0)) c.deref-step-items.ensures.value) ∙ w.in-Block.is) in
           let same : w.index-in-Block.result.now ≡ at.0 = w.index-in-Block.ensures ∙ get_or_from_slice_get s.blocks.items w.in-Block.number at.0 w.index-in-Block.result.now at.1 in
           let made = made-block old more inv.0 at.0 inv.1 e.operations e.blocks e.regions (e.values ∙ ap (λ t. length old.values.items + t.arguments) same) in
-          subst (λ z. BuildingGoesOn c.args.ctx.now.tree c.args.built.now z.tree c.match-step.built × AreStanding z.tree c.match-step.built × ((m : Made) × HasMade c.match-step.built m × IsOrdered s m rest) × LaysOn s c.args.ctx.now.tree c.args.built.now z.tree c.match-step.built) (sym w.ctx-is)
-          (subst (λ z. BuildingGoesOn c.args.ctx.now.tree c.args.built.now w.add_block.new.ctx.tree z × AreStanding w.add_block.new.ctx.tree z × ((m : Made) × HasMade z m × IsOrdered s m rest) × LaysOn s c.args.ctx.now.tree c.args.built.now w.add_block.new.ctx.tree z) (sym w.built-is) (
-            goes-trans c.args.ctx.now.tree c.loop-step.ctx.tree w.add_block.new.ctx.tree c.args.built.now old more c.loop-step.invariant.0 e.goes_on,
-            e.standing,
+          subst (λ z. BuildingContinues c.args.ctx.now.tree c.args.built.now z.tree c.match-step.built × AreLive z.tree c.match-step.built × ((m : Made) × HasMade c.match-step.built m × IsOrdered s m rest) × LaysOn s c.args.ctx.now.tree c.args.built.now z.tree c.match-step.built) (sym w.ctx-is)
+          (subst (λ z. BuildingContinues c.args.ctx.now.tree c.args.built.now w.add_block.new.ctx.tree z × AreLive w.add_block.new.ctx.tree z × ((m : Made) × HasMade z m × IsOrdered s m rest) × LaysOn s c.args.ctx.now.tree c.args.built.now w.add_block.new.ctx.tree z) (sym w.built-is) (
+            goes-trans c.args.ctx.now.tree c.loop-step.ctx.tree w.add_block.new.ctx.tree c.args.built.now old more c.loop-step.invariant.0 e.continues,
+            e.all_in_place,
             (next.0, subst (HasMade more) (sym at.4) made, next.2),
             lays-block s c.args.ctx.now.tree c.loop-step.ctx.tree w.add_block.new.ctx.tree c.args.built.now old more inv.0 w.in-Block.number at.0 w.index-in-Block.result.now c.loop-step.invariant.3 inv.1 at.2 at.1 same e.laid,
           ))

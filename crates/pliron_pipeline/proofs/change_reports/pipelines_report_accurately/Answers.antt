@@ -1,4 +1,4 @@
-use Rattle.pliron_pipeline.proofs.HonestLemmas.{side_cases, nested_same}
+use Rattle.pliron_pipeline.proofs.ReportLemmas.{side_cases, nested_same}
 use Rattle.pliron_pipeline.proofs.change_reports.pipelines_report_accurately.Goals as goal
 
 pub returns : goal.returns

@@ -1,4 +1,4 @@
-use Rattle.pliron_pipeline.proofs.HonestLemmas.{step_cases, optimisation_same}
+use Rattle.pliron_pipeline.proofs.ReportLemmas.{step_cases, optimisation_same}
 use Rattle.pliron_pipeline.proofs.change_reports.steps_report_accurately.Goals as goal
 
 pub returns : goal.returns

@@ -19,14 +19,14 @@ loop-answer-preserved c =
     let next = c.pop.new.self.items in
     let a = c.in-Some.answer in
     let items : rest ≡ next ++ a ∷ [] = c.in-Some.ensures.items in
-    let gone = c.loop-answer.invariant.1.0 in
-    let whole : answers ≡ (next ++ a ∷ []) ++ gone = c.loop-answer.invariant.1.1 ∙ ap (λ z. z ++ gone) items in
+    let deleted = c.loop-answer.invariant.1.0 in
+    let whole : answers ≡ (next ++ a ∷ []) ++ deleted = c.loop-answer.invariant.1.1 ∙ ap (λ z. z ++ deleted) items in
     let size : length rest ≡ length next + 1 = ap length items ∙ length_one next a in
     let len : c.len.result ≡ length next = grind (arith, common_steps) in
-    let at : slice_get answers (length next) ≡ Some a = ap (λ z. slice_get z (length next)) whole ∙ get_amid next a gone in (
+    let at : slice_get answers (length next) ≡ Some a = ap (λ z. slice_get z (length next)) whole ∙ get_amid next a deleted in (
       λ constants. answers_next constants results answers (length next) (length rest) a c.args.constraints.now.items c.loop-answer.constraints.items c.constrain_answer.new.constraints.items size at (c.loop-answer.invariant.0 constants)
           (subst (λ i. Adds constants c.loop-answer.constraints.items c.constrain_answer.new.constraints.items (λ now. (w : ℕ) → slice_get results i ≡ Some w → AtMost (now.lattice_value w) (value_of_answer a))) len (c.in_ok-constrain_answer.ensures.ok constants)),
-      (a ∷ gone, whole ∙ append_assoc next (a ∷ []) gone),
+      (a ∷ deleted, whole ∙ append_assoc next (a ∷ []) deleted),
     )
 
 pub returns-clause-ok : goal.returns-clause-ok

@@ -10,7 +10,7 @@ loop-at-init c = walk_start (λ ks p q. Unit {0}) (body_of c.args.ctx.now.tree c
 pub num_result-requires : goal.num_result-requires
 num_result-requires c =
     let w = c.well_formed-2.ensures.tree in
-    (w.joined.standing c.in-Some.op c.args.block (w.bodies.owned c.in-Some.op c.args.block (c.loop-at.invariant.within c.in-Some.op c.in-Some.is))).0
+    (w.joined.all_in_place c.in-Some.op c.args.block (w.bodies.owned c.in-Some.op c.args.block (c.loop-at.invariant.within c.in-Some.op c.in-Some.is))).0
 
 pub loop-at-preserved : goal.loop-at-preserved
 loop-at-preserved c =

@@ -11,7 +11,7 @@ loop-at-init c = listing_start (λ k. blocks_directly_in c.args.ctx.now.tree k) 
 pub list_regions-requires : goal.list_regions-requires
 list_regions-requires c =
     let w = c.well_formed-2.ensures.tree in
-    (w.joined.standing c.in-Some.op c.args.block (w.bodies.owned c.in-Some.op c.args.block (c.loop-at.invariant.within c.in-Some.op c.in-Some.is))).0
+    (w.joined.all_in_place c.in-Some.op c.args.block (w.bodies.owned c.in-Some.op c.args.block (c.loop-at.invariant.within c.in-Some.op c.in-Some.is))).0
 
 pub loop-at-preserved : goal.loop-at-preserved
 loop-at-preserved c =

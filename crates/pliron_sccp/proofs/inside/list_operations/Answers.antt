@@ -12,7 +12,7 @@ loop-at-init c = walk_start (AddsParts (λ k. Operation k)) (body_of c.args.ctx.
 pub get_next-at-requires : goal.get_next-at-requires
 get_next-at-requires c =
     let w = c.well_formed-2.ensures.tree in
-    (w.joined.standing c.in-Some.op c.args.block (w.bodies.owned c.in-Some.op c.args.block (c.loop-at.invariant.within c.in-Some.op c.in-Some.is))).0
+    (w.joined.all_in_place c.in-Some.op c.args.block (w.bodies.owned c.in-Some.op c.args.block (c.loop-at.invariant.within c.in-Some.op c.in-Some.is))).0
 
 pub loop-at-preserved : goal.loop-at-preserved
 loop-at-preserved c =

@@ -40,7 +40,7 @@ returns g c =
         };
         partly = tt;
         change = found_change x t c.args.op c.in_ok-found.found c.in_ok-found.pops h u c.requires.live c.requires.linked follows;
-        tells = c.in_ok-status.ensures.told;
+        accurate = c.in_ok-status.ensures.reported;
         edges = follows.edges;
         links = follows.links;
         memory = tt;

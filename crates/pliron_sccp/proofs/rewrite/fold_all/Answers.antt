@@ -65,7 +65,7 @@ loop-i-preserved g c =
     let here = c.loop-i.ctx.tree in
     let next = c.fold_one.new.ctx.tree in
     let is = subst (λ z. outcome here next fold.op z (Some c.in_ok-fold_one.field-0)) c.known_of-known.ensures c.in_ok-fold_one.ensures.ok in
-    let done = folding_next x outcome c.args.ctx.now.tree folds c.loop-i.i c.loop-i.status here c.loop-i.invariant fold at next c.in_ok-fold_one.field-0 is c.in_ok-fold_one.ensures.told c.fold_one.ensures.stays (λ t₀ root f₀ s. c.fold_one.ensures.follows t₀ root f₀ (subst (λ z. IsFoldStep x t₀ root f₀ here fold.op z) (sym c.known_of-known.ensures) s)) in
+    let done = folding_next x outcome c.args.ctx.now.tree folds c.loop-i.i c.loop-i.status here c.loop-i.invariant fold at next c.in_ok-fold_one.field-0 is c.in_ok-fold_one.ensures.reported c.fold_one.ensures.stays (λ t₀ root f₀ s. c.fold_one.ensures.follows t₀ root f₀ (subst (λ z. IsFoldStep x t₀ root f₀ here fold.op z) (sym c.known_of-known.ensures) s)) in
     subst (λ z. IsFoldingOn x outcome c.args.ctx.now.tree folds (c.loop-i.i + 1) z next) (sym c.bitor_assign.ensures.after) done
 
 pub returns-clause-folded : goal.returns-clause-folded
@@ -73,8 +73,8 @@ returns-clause-folded g c =
     let folds = c.args.folds.now in
     λ t₀ root f₀ s. folding_end _ _ _ folds c.loop-i.i c.loop-i.status c.loop-i.ctx.tree c.loop-i.invariant (drop_all c.loop-i.i folds.rows.items (omega arith)) t₀ root f₀ s
 
-pub returns-clause-told : goal.returns-clause-told
-returns-clause-told g c = c.loop-i.invariant.told
+pub returns-clause-reported : goal.returns-clause-reported
+returns-clause-reported g c = c.loop-i.invariant.reported
 
 pub returns-clause-follows : goal.returns-clause-follows
 returns-clause-follows g c = c.loop-i.invariant.follows

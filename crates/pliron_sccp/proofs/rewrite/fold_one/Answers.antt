@@ -17,8 +17,8 @@ pub fold_in_place-done-requires-clause-entries : goal.fold_in_place-done-require
 fold_in_place-done-requires-clause-entries g c =
     let s = c.requires.step in step_entries _ s.0 s.1 s.2 _ _ _ s.3
 
-pub returns-clause-told : goal.returns-clause-told
-returns-clause-told g c =
+pub returns-clause-reported : goal.returns-clause-reported
+returns-clause-reported g c =
     let s = c.requires.step in
     let d = g.met.D.Dialect in
     let t = c.args.ctx.now.tree in

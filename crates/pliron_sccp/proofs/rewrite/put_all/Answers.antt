@@ -28,7 +28,7 @@ loop-i-preserved g c =
     let at : slice_get all c.loop-i.i ≡ Some c.index-arguments-i.result = slice_get_read all (length all) c.loop-i.i c.index-arguments-i.result refl c.loop-i-test.true c.index-arguments-i.is in
     let x : Says = record { meaning = g.D.HasMeaning.meaning; can_fold = g.D.ConstFoldInterface.can_fold; can_fold_branch = g.D.BranchOpFoldInterface.can_fold_branch; constants = g.D.ConstFoldInterface.constants; feasible = g.D.BranchOpFoldInterface.feasible; entry_operands = g.D.RegionBranchOpInterface.entry_operands } in
     let d = g.D.ConstFoldInterface in
-    let done = putting_next x d.accepts d.constant_head c.args.ctx.now.tree all c.loop-i.i c.loop-i.status c.loop-i.ctx.tree c.loop-i.invariant c.index-arguments-i.result at c.put_argument.new.ctx.tree c.in_ok-put_argument.field-0 c.in_ok-put_argument.ensures.ok c.in_ok-put_argument.ensures.told c.put_argument.ensures.stays c.put_argument.ensures.follows in
+    let done = putting_next x d.accepts d.constant_head c.args.ctx.now.tree all c.loop-i.i c.loop-i.status c.loop-i.ctx.tree c.loop-i.invariant c.index-arguments-i.result at c.put_argument.new.ctx.tree c.in_ok-put_argument.field-0 c.in_ok-put_argument.ensures.ok c.in_ok-put_argument.ensures.reported c.put_argument.ensures.stays c.put_argument.ensures.follows in
     subst (λ z. IsPuttingOn x d.accepts d.constant_head c.args.ctx.now.tree all (c.loop-i.i + 1) z c.put_argument.new.ctx.tree) (sym c.bitor_assign.ensures.after) done
 
 pub returns-clause-puts : goal.returns-clause-puts
@@ -36,8 +36,8 @@ returns-clause-puts g c =
     let all = c.args.arguments.now in
     λ t₀ root f₀ s known each. putting_end _ _ _ _ all c.loop-i.i c.loop-i.status c.loop-i.ctx.tree c.loop-i.invariant (omega arith) t₀ root f₀ s known each
 
-pub returns-clause-told : goal.returns-clause-told
-returns-clause-told g c = c.loop-i.invariant.told
+pub returns-clause-reported : goal.returns-clause-reported
+returns-clause-reported g c = c.loop-i.invariant.reported
 
 pub returns-clause-follows : goal.returns-clause-follows
 returns-clause-follows g c = c.loop-i.invariant.follows

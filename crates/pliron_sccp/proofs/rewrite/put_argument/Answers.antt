@@ -11,8 +11,8 @@ replace_argument_by_constant-done-requires-clause-constant g c =
     let d = g.met.D.Dialect in
     step_constant _ s.0 s.1 s.2 _ _ s.3 d.answers_true d.answers_jumps d.forwards_operands.passes (names_well _ _ d.names_operands d.roots) _ _ d.makes_constants (constants_plain _ _ _ _ _ _ d.forwards_operands d.makes_constants)
 
-pub returns-clause-told : goal.returns-clause-told
-returns-clause-told g c =
+pub returns-clause-reported : goal.returns-clause-reported
+returns-clause-reported g c =
     let s = c.requires.step in
     let d = g.D.ConstFoldInterface in
     let t = c.args.ctx.now.tree in

@@ -57,13 +57,13 @@ returns-clause-rewritten g c = λ root f i.
     let follows = c.fold_all.ensures.follows t root f steps in
     all_rewritten _ _ t root f c.args.found.now w i d.accepts d.constant_head d.outcome _ refl c.fold_all.new.ctx.tree (c.in_ok-status.ensures.folded t root f steps) _ c.deref.ensures.value c.put_all.new.ctx.tree (c.in_ok-put_all.ensures.puts t root f (found_arguments _ _ t root f c.args.found.now w i c.fold_all.new.ctx.tree follows _ c.deref.ensures.value))
 
-pub returns-clause-told : goal.returns-clause-told
-returns-clause-told g c =
+pub returns-clause-reported : goal.returns-clause-reported
+returns-clause-reported g c =
     let t = c.args.ctx.now.tree in
     let u = c.fold_all.new.ctx.tree in
     let v = c.put_all.new.ctx.tree in
-    let told = told_then t u v c.in_ok-status.status c.in_ok-put_all.field-0 c.put_all.ensures.stays c.in_ok-status.ensures.told c.in_ok-put_all.ensures.told in
-    told_change t v _ (subst (λ z. ReportsCreated z t v) (sym c.bitor_assign.ensures.after) told)
+    let reported = told_then t u v c.in_ok-status.status c.in_ok-put_all.field-0 c.put_all.ensures.stays c.in_ok-status.ensures.reported c.in_ok-put_all.ensures.reported in
+    told_change t v _ (subst (λ z. ReportsCreated z t v) (sym c.bitor_assign.ensures.after) reported)
 
 pub returns-clause-follows : goal.returns-clause-follows
 returns-clause-follows g c = λ root f i.

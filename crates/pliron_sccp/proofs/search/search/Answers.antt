@@ -55,7 +55,7 @@ visit_deferred-requires-clause-placed g c =
     let x : Says = record { meaning = g.D.HasMeaning.meaning; can_fold = g.D.ConstFoldInterface.can_fold; can_fold_branch = g.D.BranchOpFoldInterface.can_fold_branch; constants = g.D.ConstFoldInterface.constants; feasible = g.D.BranchOpFoldInterface.feasible; entry_operands = g.D.RegionBranchOpInterface.entry_operands } in
     let d = g.met.D.Dialect in
     let s = next_search x c.args.ctx.now.tree c.args.root c.well_formed-2.ensures.tree c.requires.live c.requires.linked d.answers_true (record { forwarded = d.forwards_operands.places; named = d.names_operands.there }) c.loop-scratch.tables c.step.new.tables c.loop-scratch.delays c.step.new.delays c.loop-scratch.edges c.step.new.edges c.loop-scratch.pops c.in_ok-taken.taken c.in_ok-taken.ensures.ok c.loop-scratch.invariant.0 in
-    λ k i. (s.way.aside k i).looked
+    λ k i. (s.way.deferral k i).was_visited
 
 pub visit_deferred-requires-clause-targets : goal.visit_deferred-requires-clause-targets
 visit_deferred-requires-clause-targets g c =

@@ -16,7 +16,7 @@ loop-at-init g c =
 pub visit_and_keep-requires-clause-live : goal.visit_and_keep-requires-clause-live
 visit_and_keep-requires-clause-live g c =
     let w = c.well_formed-2.ensures.tree in
-    (w.joined.standing c.in-Some.op c.args.block (w.bodies.owned c.in-Some.op c.args.block (c.loop-at.invariant.0.within c.in-Some.op c.in-Some.is))).0
+    (w.joined.all_in_place c.in-Some.op c.args.block (w.bodies.owned c.in-Some.op c.args.block (c.loop-at.invariant.0.within c.in-Some.op c.in-Some.is))).0
 
 pub visit_and_keep-requires-clause-targets : goal.visit_and_keep-requires-clause-targets
 visit_and_keep-requires-clause-targets g c = targets_same c.args.ctx.now.tree c.args.tables.now c.loop-at.tables c.loop-at.invariant.1 c.in-Some.op (c.requires.targets c.in-Some.op (c.loop-at.invariant.0.within c.in-Some.op c.in-Some.is))

@@ -16,7 +16,7 @@ satisfy_all-requires g c =
 pub visit_or_defer_all-requires-clause-live : goal.visit_or_defer_all-requires-clause-live
 visit_or_defer_all-requires-clause-live g c = λ k i.
     let v = (c.in_ok-scheduled.ensures.ok.calls.only k (subst (In k) c.as_slice.ensures.keys i)).0 in
-    (c.well_formed-2.ensures.tree.joined.standing k v.block v.in_block).0
+    (c.well_formed-2.ensures.tree.joined.all_in_place k v.block v.in_block).0
 
 pub visit_or_defer_all-requires-clause-targets : goal.visit_or_defer_all-requires-clause-targets
 visit_or_defer_all-requires-clause-targets g c = λ k i.

@@ -33,8 +33,8 @@ replace_value_uses_with-requires-clause-new g c =
     let p = c.args.pair.now in
     let lt : c.loop-i.i < length p.values.items = omega (arith, p.values.ok.0, c.loop-i-test.true, c.len-i-end.ensures) in
     let at = slice_get-get_or p.values.items c.loop-i.i c.index.result.now lt ∙ ap Some (sym c.index.ensures) in
-    let stands = values_defined m t c.well_formed-2.ensures.tree p.first p.second p.jump p.values.items (way_of_pair m t p.first p.second p.jump p.values.items c.requires.pair) c.requires.pair.forwarded c.index.result.now (in_slice p.values.items c.loop-i.i c.index.result.now at) in
-    subst (λ (z : Tree). IsDefined z c.index.result.now) (sym c.loop-i.invariant) (forwarded_defined t (take c.loop-i.i (arguments_of t p.second)) p.values.items c.index.result.now stands)
+    let liveness = values_defined m t c.well_formed-2.ensures.tree p.first p.second p.jump p.values.items (way_of_pair m t p.first p.second p.jump p.values.items c.requires.pair) c.requires.pair.forwarded c.index.result.now (in_slice p.values.items c.loop-i.i c.index.result.now at) in
+    subst (λ (z : Tree). IsDefined z c.index.result.now) (sym c.loop-i.invariant) (forwarded_defined t (take c.loop-i.i (arguments_of t p.second)) p.values.items c.index.result.now liveness)
 
 pub loop-i-preserved : goal.loop-i-preserved
 loop-i-preserved g c =

@@ -11,7 +11,7 @@ returns-then-num_successor-ne1 g c = λ b j h.
     let x = way_jump g.D.HasMeaning.meaning c.args.ctx.now.tree c.args.first b j c.in-Some.jump h c.in-Some.ensures.last in
     elim c.then-num_successor-ne1.branch [
       | then-num_successor-ne1-via-then-num_successor-ne1 w ↦ w.if-num_successor-ne1.true (c.num_successor.ensures ∙ ap length x.1)
-      | then-num_successor-ne1-via-else-num_successor-ne1+then-not-is_branch w ↦ not_branch g.D.HasMeaning.meaning c.args.ctx.now.tree c.args.first b j c.in-Some.jump w.is_branch.result h c.in-Some.ensures.last c.in-Some.ensures.stands w.is_branch.ensures w.if-not-is_branch.true
+      | then-num_successor-ne1-via-else-num_successor-ne1+then-not-is_branch w ↦ not_branch g.D.HasMeaning.meaning c.args.ctx.now.tree c.args.first b j c.in-Some.jump w.is_branch.result h c.in-Some.ensures.last c.in-Some.ensures.liveness w.is_branch.ensures w.if-not-is_branch.true
     ]
 
 pub has_no_other_way-requires-clause-goes : goal.has_no_other_way-requires-clause-goes

@@ -6,7 +6,7 @@ use Rattle.pliron_core.proofs.context.Context.first_from_block.Given as goal
 
 abbrev pub invariant-loop-at : goal.invariant-loop-at
 invariant-loop-at l = record {
-  stands : ForSome l.at (λ b. IsBlock l.self.tree b);
+  liveness : ForSome l.at (λ b. IsBlock l.self.tree b);
   first : first_in_blocks l.self.tree l.fn.from ≡ first_in_blocks l.self.tree l.at;
 }
 

@@ -16,8 +16,8 @@ dropped : (c : After-well_formed-in-Some) → c.drop_names_within.new.ctx.tree �
 dropped c = c.drop_names_within.ensures ∙ ap (λ z. names_dropped c.loop-at.ctx.tree (nat_eq z)) c.new.ensures
 
 -- the operation stands in the block still
-stands : (c : After-well_formed-in-Some) → IsBlockPass c.args.ctx.now.tree c.args.block (Some c.in-Some.op) c.loop-at.ctx.tree → IsLive (view_of c.ctx-in-Some.inside).tree c.in-Some.op × (parent_of (view_of c.ctx-in-Some.inside).tree c.in-Some.op ≡ Some c.args.block)
-stands c d =
+liveness : (c : After-well_formed-in-Some) → IsBlockPass c.args.ctx.now.tree c.args.block (Some c.in-Some.op) c.loop-at.ctx.tree → IsLive (view_of c.ctx-in-Some.inside).tree c.in-Some.op × (parent_of (view_of c.ctx-in-Some.inside).tree c.in-Some.op ≡ Some c.args.block)
+liveness c d =
     let s = pass_live c.args.ctx.now.tree c.args.block c.in-Some.op c.loop-at.ctx.tree c.well_formed-2.ensures.tree d in
     let e = ap (λ (v : View). v.tree) c.ctx-in-Some.view_is ∙ dropped c in
     (subst (λ z. IsLive z c.in-Some.op) (sym e) s.0, ap (λ z. parent_of z c.in-Some.op) e ∙ s.1)
@@ -30,17 +30,17 @@ next c at =
 
 pub next-at-requires : goal.next-at-requires
 next-at-requires c =
-    let h = live-within (view_of c.ctx-in-Some.inside).tree c.in-Some.op (stands (goal.at.next-at-requires c).After-well_formed-in-Some (here (goal.at.next-at-requires c).In-Some)).0 in
+    let h = live-within (view_of c.ctx-in-Some.inside).tree c.in-Some.op (liveness (goal.at.next-at-requires c).After-well_formed-in-Some (here (goal.at.next-at-requires c).In-Some)).0 in
     let k = c.ctx-in-Some.invariant.keys.parents in
     omega (arith, h, k)
 
 pub loop-at-smaller : goal.loop-at-smaller
 loop-at-smaller c =
-    let less : length (rest_from c.next-at.result (body_of c.args.ctx.now.tree c.args.block)) < length (rest_from (Some c.in-Some.op) (body_of c.args.ctx.now.tree c.args.block)) = pass_falls c.args.ctx.now.tree c.args.block c.in-Some.op c.loop-at.ctx.tree c.drop_names_within.new.ctx.tree c.next-at.result c.well_formed-2.ensures.tree (here (goal.at.loop-at-smaller c).In-Some) (dropped (goal.at.loop-at-smaller c).After-well_formed-in-Some) (next (goal.at.loop-at-smaller c).After-next-at (stands (goal.at.loop-at-smaller c).After-well_formed-in-Some (here (goal.at.loop-at-smaller c).In-Some)).1) in
+    let less : length (rest_from c.next-at.result (body_of c.args.ctx.now.tree c.args.block)) < length (rest_from (Some c.in-Some.op) (body_of c.args.ctx.now.tree c.args.block)) = pass_falls c.args.ctx.now.tree c.args.block c.in-Some.op c.loop-at.ctx.tree c.drop_names_within.new.ctx.tree c.next-at.result c.well_formed-2.ensures.tree (here (goal.at.loop-at-smaller c).In-Some) (dropped (goal.at.loop-at-smaller c).After-well_formed-in-Some) (next (goal.at.loop-at-smaller c).After-next-at (liveness (goal.at.loop-at-smaller c).After-well_formed-in-Some (here (goal.at.loop-at-smaller c).In-Some)).1) in
     subst (λ o. length (rest_from c.next-at.result (body_of c.args.ctx.now.tree c.args.block)) < length (rest_from o (body_of c.args.ctx.now.tree c.args.block))) (sym c.in-Some.is) less
 
 pub loop-at-preserved : goal.loop-at-preserved
-loop-at-preserved c = pass_next c.args.ctx.now.tree c.args.block c.in-Some.op c.loop-at.ctx.tree c.drop_names_within.new.ctx.tree c.next-at.result c.well_formed-2.ensures.tree (here (goal.at.loop-at-preserved c).In-Some) (dropped (goal.at.loop-at-preserved c).After-well_formed-in-Some) (next (goal.at.loop-at-preserved c).After-next-at (stands (goal.at.loop-at-preserved c).After-well_formed-in-Some (here (goal.at.loop-at-preserved c).In-Some)).1)
+loop-at-preserved c = pass_next c.args.ctx.now.tree c.args.block c.in-Some.op c.loop-at.ctx.tree c.drop_names_within.new.ctx.tree c.next-at.result c.well_formed-2.ensures.tree (here (goal.at.loop-at-preserved c).In-Some) (dropped (goal.at.loop-at-preserved c).After-well_formed-in-Some) (next (goal.at.loop-at-preserved c).After-next-at (liveness (goal.at.loop-at-preserved c).After-well_formed-in-Some (here (goal.at.loop-at-preserved c).In-Some)).1)
 
 pub returns : goal.returns
 returns c = pass_end c.args.ctx.now.tree c.args.block c.loop-at.ctx.tree c.well_formed-2.ensures.tree (subst (λ o. IsBlockPass c.args.ctx.now.tree c.args.block o c.loop-at.ctx.tree) c.in_default.is c.loop-at.invariant)

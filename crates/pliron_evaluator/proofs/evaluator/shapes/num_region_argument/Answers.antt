@@ -6,7 +6,7 @@ use Rattle.pliron_evaluator.proofs.evaluator.shapes.num_region_argument.Goals as
 pub returns-in-Some : goal.returns-in-Some
 returns-in-Some c =
     let t = c.args.ctx.now.tree in
-    c.num_argument.ensures ∙ block_count t c.in-Some.block c.in-Some.ensures.stands ∙ ap (λ o. count_arguments (and_block t o)) (sym c.in-Some.is) ∙ ap count_arguments (begins t c.args.region c.get_head.result c.requires c.get_head.ensures.first)
+    c.num_argument.ensures ∙ block_count t c.in-Some.block c.in-Some.ensures.liveness ∙ ap (λ o. count_arguments (and_block t o)) (sym c.in-Some.is) ∙ ap count_arguments (begins t c.args.region c.get_head.result c.requires c.get_head.ensures.first)
 
 pub returns-in-None : goal.returns-in-None
 returns-in-None c =

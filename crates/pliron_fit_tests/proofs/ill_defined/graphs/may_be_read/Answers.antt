@@ -3,7 +3,7 @@ use Rattle.pliron_fit_tests.proofs.ill_defined.graphs.may_be_read.Goals as goal
 pub returns : goal.returns
 returns c = λ e. record {
   tree = c.well_formed-2.ensures.tree;
-  stands = c.requires;
+  liveness = c.requires;
   holder = c.get_parent_op.result;
   held = c.get_parent_op.ensures.parent;
   edges = c.edges_last.ensures.0 e;

@@ -17,7 +17,7 @@ swept t u es kept Unchanged e same f = subst (λ z. IsFreshIn z es) (sym (same r
 swept t u es kept Changed e same f = subst (λ ks. IsFreshIn u (retained nat_eq Changed ks es)) (sym e) (fresh_emptied {K = ℕ} {E = Fact} nat_eq (λ e. e.kind) (λ e o u. Unit {0}) u es)
 
 pub returns-clause-fresh : goal.returns-clause-fresh
-returns-clause-fresh c = swept c.args.ctx.now.tree c.dce.new.ctx.tree c.args._analyses.now.cache.entries c.new-answer.result.preserved.keys c.in_ok-changed.changed c.new-answer.ensures.1 c.in_ok-changed.ensures.tells.0
+returns-clause-fresh c = swept c.args.ctx.now.tree c.dce.new.ctx.tree c.args._analyses.now.cache.entries c.new-answer.result.preserved.keys c.in_ok-changed.changed c.new-answer.ensures.1 c.in_ok-changed.ensures.accurate.0
 
 pub returns-clause-change : goal.returns-clause-change
 returns-clause-change c = whole_passes bench c.args.ctx.now.tree c.dce.new.ctx.tree c.args.op c.dce.ensures.change

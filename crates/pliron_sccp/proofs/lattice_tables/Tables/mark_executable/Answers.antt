@@ -32,8 +32,8 @@ invariant_of-self c =
     let lt : n < length s.marks.items = grind (arith, common_steps, s.marked) in
     record {
       marked = length-set s.marks.items n Waiting ∙ s.marked;
-      told = s.told;
-      fallen = s.fallen;
+      reported = s.reported;
+      queued = s.queued;
       block_numbers = s.block_numbers;
       value_numbers = s.value_numbers;
       blocks_wait = λ q. ap (λ w. list_any (nat_eq q) w) c.push_reserved.ensures.items ∙ pushed_waits is_waiting NotExecutable Waiting s.marks.items s.block_worklist.items n lt refl s.blocks_wait q;
@@ -45,7 +45,7 @@ invariant_of-self c =
       values_few = s.values_few;
       known = s.known;
       constants_room = s.constants_room;
-      looked = s.looked;
+      was_visited = s.was_visited;
       stamped = s.stamped;
       past = s.past;
     }

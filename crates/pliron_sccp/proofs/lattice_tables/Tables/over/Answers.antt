@@ -33,8 +33,8 @@ invariant_of-result c =
     let most = count_most cells in
     record {
       marked = ml ∙ bl;
-      told = el ∙ vl;
-      fallen = fl ∙ vl;
+      reported = el ∙ vl;
+      queued = fl ∙ vl;
       block_numbers = λ n b at. numbered_at blocks (distinct_by (λ x y. and_true (nat_eq x y)) blocks c.len-block_count.ensures.unique) n b at;
       value_numbers = λ n v at. numbered_at values (distinct_by (λ x y. refl) values c.len-value_count.ensures.unique) n v at;
       blocks_wait = λ n. ap (list_any (nat_eq n)) c.in_ok-block_worklist.ensures.items ∙ sym (ap is_waiting (fresh_at NotExecutable c.len-block_count.result marks m ml n));
@@ -46,7 +46,7 @@ invariant_of-result c =
       values_few = omega (arith, vl, c.len-value_count.ensures.small);
       known = λ n k at. absurd (none_known cells (λ i. fresh_at Unknown c.len-value_count.result cells e el i) n k at);
       constants_room = omega (arith, none, most, el, c.in_ok-constants.ensures.capacity);
-      looked = kl ∙ vl;
+      was_visited = kl ∙ vl;
       stamped = gl ∙ vl;
       past = λ n. let z = fresh_at 0 c.len-value_count.result visit_stamps k kl n in omega (arith, z);
     }

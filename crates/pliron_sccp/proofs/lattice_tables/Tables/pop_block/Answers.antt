@@ -25,8 +25,8 @@ invariant_of-self-2 c =
     let once = subst AreOnce items s.blocks_once in
     record {
       marked = length-set s.marks.items n Visited ∙ s.marked;
-      told = s.told;
-      fallen = s.fallen;
+      reported = s.reported;
+      queued = s.queued;
       block_numbers = s.block_numbers;
       value_numbers = s.value_numbers;
       blocks_wait = popped_waits is_waiting NotExecutable Visited s.marks.items c.pop.new.self.items n lt refl once (λ q. ap (list_any (nat_eq q)) (sym items) ∙ s.blocks_wait q);
@@ -38,7 +38,7 @@ invariant_of-self-2 c =
       values_few = s.values_few;
       known = s.known;
       constants_room = s.constants_room;
-      looked = s.looked;
+      was_visited = s.was_visited;
       stamped = s.stamped;
       past = s.past;
     }

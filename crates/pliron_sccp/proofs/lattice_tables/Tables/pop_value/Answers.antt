@@ -23,8 +23,8 @@ invariant_of-self-2 c =
     let once = subst AreOnce items s.values_once in
     record {
       marked = s.marked;
-      told = s.told;
-      fallen = length-set s.values_on_worklist.items n false ∙ s.fallen;
+      reported = s.reported;
+      queued = length-set s.values_on_worklist.items n false ∙ s.queued;
       block_numbers = s.block_numbers;
       value_numbers = s.value_numbers;
       blocks_wait = s.blocks_wait;
@@ -36,7 +36,7 @@ invariant_of-self-2 c =
       values_few = s.values_few;
       known = s.known;
       constants_room = s.constants_room;
-      looked = s.looked;
+      was_visited = s.was_visited;
       stamped = s.stamped;
       past = s.past;
     }
@@ -49,7 +49,7 @@ returns-clause-taken c =
     let waited = sym (s.values_wait n) ∙ ap (list_any (nat_eq n)) items ∙ last_in n c.pop.new.self.items in
     let lt = within (λ z. z) false refl s.values_on_worklist.items n waited in
     let value = c.index-as_slice-n.result in
-    let inside : n < length s.values.keys = subst (λ z. n < z) s.fallen lt in
+    let inside : n < length s.values.keys = subst (λ z. n < z) s.queued lt in
     let first = get_at s.values.keys n value inside in
     let is = c.index-as_slice-n.is in
     let keys = c.as_slice.ensures.keys in
@@ -66,5 +66,5 @@ returns-clause-taken c =
       constants = refl;
       stamps = record { visit_stamps = λ v. refl; values_on_worklist = λ v. refl };
       fewer = ap length items ∙ length_one c.pop.new.self.items n;
-      few = omega (arith, s.values_few, s.fallen, most);
+      few = omega (arith, s.values_few, s.queued, most);
     }

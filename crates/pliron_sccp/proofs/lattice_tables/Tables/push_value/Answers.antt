@@ -11,20 +11,20 @@ push_reserved-requires c =
     let s = c.args.self.now in
     let n = c.args.n in
     let none : slice_index_or s.values_on_worklist.items n false ≡ false = grind (arith, common_steps) in
-    let lt : n < length s.values_on_worklist.items = grind (arith, common_steps, s.fallen, c.requires) in
+    let lt : n < length s.values_on_worklist.items = grind (arith, common_steps, s.queued, c.requires) in
     let left = room_left s.value_worklist.items (length s.values_on_worklist.items) n s.values_once (λ q e. within (λ z. z) false refl s.values_on_worklist.items q (sym (s.values_wait q) ∙ e)) (s.values_wait n ∙ none) lt in
-    grind (arith, common_steps, left, s.fallen, s.values_room)
+    grind (arith, common_steps, left, s.queued, s.values_room)
 
 pub invariant_of-self : goal.invariant_of-self
 invariant_of-self c =
     let s = c.args.self.now in
     let n = c.args.n in
     let none : slice_index_or s.values_on_worklist.items n false ≡ false = grind (arith, common_steps) in
-    let lt : n < length s.values_on_worklist.items = grind (arith, common_steps, s.fallen, c.requires) in
+    let lt : n < length s.values_on_worklist.items = grind (arith, common_steps, s.queued, c.requires) in
     record {
       marked = s.marked;
-      told = s.told;
-      fallen = length-set s.values_on_worklist.items n true ∙ s.fallen;
+      reported = s.reported;
+      queued = length-set s.values_on_worklist.items n true ∙ s.queued;
       block_numbers = s.block_numbers;
       value_numbers = s.value_numbers;
       blocks_wait = s.blocks_wait;
@@ -36,7 +36,7 @@ invariant_of-self c =
       values_few = s.values_few;
       known = s.known;
       constants_room = s.constants_room;
-      looked = s.looked;
+      was_visited = s.was_visited;
       stamped = length-set s.lowered_stamps.items n s.clock ∙ s.stamped;
       past = s.past;
     }

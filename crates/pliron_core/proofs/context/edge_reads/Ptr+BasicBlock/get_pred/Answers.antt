@@ -25,6 +25,6 @@ returns-clause-predecessor c =
     let above : c.args.i < length (filter (λ a. nat_lt a (suc c.loop-high.low)) (preds_of c.args.ctx.now.tree c.args.self)) = rw next at c.loop-high.invariant.above in
     rising_at _ (preds-rising c.args.ctx.now.tree c.well_formed-2.ensures.tree c.args.self) c.args.i c.loop-high.low c.loop-high.invariant.below above ∙ ap Some (sym c.new.ensures)
 
-pub returns-clause-stands : goal.returns-clause-stands
-returns-clause-stands c =
+pub returns-clause-liveness : goal.returns-clause-liveness
+returns-clause-liveness c =
     pred-block c.args.ctx.now.tree c.well_formed-2.ensures.tree c.args.self c.new.result (In-at _ c.args.i c.new.result (returns-clause-predecessor c))

@@ -4,7 +4,7 @@ use Rattle.pliron_core.specs.Tree.{operands_of}
 use Rattle.pliron_core.proofs.MemberLemmas.{in_slice}
 use Rattle.pliron_core.proofs.context.operation_reads.Ptr+Operation.get_operand.Goals as goal
 
-pub returns-clause-stands : goal.returns-clause-stands
-returns-clause-stands c =
+pub returns-clause-liveness : goal.returns-clause-liveness
+returns-clause-liveness c =
     let is : slice_get (operands_of c.args.ctx.now.tree c.args.self) c.args.i ≡ Some c.new.result = search rules in
     c.well_formed-2.ensures.tree.joined.operands c.args.self c.new.result (in_slice _ _ _ is)

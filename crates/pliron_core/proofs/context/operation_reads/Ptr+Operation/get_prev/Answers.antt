@@ -1,9 +1,9 @@
 use Rattle.std.proofs.Common.{◌≡◌, rules}
 use Rattle.pliron_core.specs.Reads.{prev_of}
-use Rattle.pliron_core.proofs.ReadLemmas.{prev-stands}
+use Rattle.pliron_core.proofs.ReadLemmas.{prev-liveness}
 use Rattle.pliron_core.proofs.context.operation_reads.Ptr+Operation.get_prev.Goals as goal
 
-pub returns-clause-stands : goal.returns-clause-stands
-returns-clause-stands c =
+pub returns-clause-liveness : goal.returns-clause-liveness
+returns-clause-liveness c =
     let is : c.map.result ≡ prev_of c.args.ctx.now.tree c.args.self = search rules in
-    prev-stands c.args.ctx.now.tree c.well_formed-2.ensures.tree c.args.self _ is
+    prev-liveness c.args.ctx.now.tree c.well_formed-2.ensures.tree c.args.self _ is

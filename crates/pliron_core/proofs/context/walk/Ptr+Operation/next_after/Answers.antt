@@ -7,7 +7,7 @@ use Rattle.pliron_core.specs.Walks.{children, contents, preorder}
 use Rattle.pliron_core.specs.WalkSteps.{IsFollowedBy}
 use Rattle.pliron_core.proofs.WalkLemmas.{within_live, inside_up, contents-shorter, length-contents}
 use Rattle.pliron_core.proofs.NextLemmas.{keys_unequal, keys_same}
-use Rattle.pliron_core.proofs.WalkStepLemmas.{found_beside, found_above, goes_on-root}
+use Rattle.pliron_core.proofs.WalkStepLemmas.{found_beside, found_above, continues-root}
 use Rattle.pliron_core.proofs.context.walk.Ptr+Operation.next_after.Goals as goal
 use Rattle.pliron_core.proofs.context.walk.Ptr+Operation.next_after.Goals.{After-index, After-next_sibling}
 
@@ -59,4 +59,4 @@ loop-root-preserved c =
 pub returns : goal.returns
 returns c =
     let t = c.args.ctx.now.tree in
-    c.loop-root.invariant.same None (subst (λ k. IsFollowedBy (preorder t c.args.root) (preorder t k) None) (sym (keys_same c.loop-root.at c.args.root c.loop-root-test.ensures)) (goes_on-root t c.well_formed-2.ensures.tree c.args.root))
+    c.loop-root.invariant.same None (subst (λ k. IsFollowedBy (preorder t c.args.root) (preorder t k) None) (sym (keys_same c.loop-root.at c.args.root c.loop-root-test.ensures)) (continues-root t c.well_formed-2.ensures.tree c.args.root))

@@ -5,7 +5,7 @@ use Rattle.pliron_core.specs.Tree.{IsLive}
 use Rattle.pliron_core.specs.Walks.{children, preorder}
 use Rattle.pliron_core.proofs.WalkLemmas.{within_live}
 use Rattle.pliron_core.proofs.NextLemmas.{or_found, or_passed}
-use Rattle.pliron_core.proofs.WalkStepLemmas.{goes_on, next_walked, next_inside-if, next_live-if}
+use Rattle.pliron_core.proofs.WalkStepLemmas.{continues, next_walked, next_inside-if, next_live-if}
 use Rattle.pliron_core.proofs.context.walk.Ptr+Operation.next_in_preorder.Goals as goal
 use Rattle.pliron_core.proofs.context.walk.Ptr+Operation.next_in_preorder.Goals.{After-first_from_region, After-new, After-next_after}
 
@@ -19,7 +19,7 @@ child c = c.first_from_region.ensures ∙ ap (λ k. first_of (children c.args.ct
 -- the first child is the next, and without one what follows
 down : (c : After-new) → c.first_from_region.result ≡ first_of (children c.args.ctx.now.tree c.args.self) None → Some c.new.result ≡ next_in c.args.self (preorder c.args.ctx.now.tree c.args.root)
 down c first =
-    let g = goes_on c.args.ctx.now.tree c.well_formed-2.ensures.tree c.args.root c.args.self c.requires.within in
+    let g = continues c.args.ctx.now.tree c.well_formed-2.ensures.tree c.args.root c.args.self c.requires.within in
     sym (next_walked c.args.ctx.now.tree c.well_formed-2.ensures.tree c.args.root c.args.self g.0 g.1 ∙ or_found c.first_from_region.result _ g.0 first (ap is_some c.in-Some.is) ∙ c.in-Some.is ∙ ap Some (sym c.new.ensures))
 
 on : (c : After-next_after) → c.first_from_region.result ≡ first_of (children c.args.ctx.now.tree c.args.self) None → c.next_after.result ≡ next_in c.args.self (preorder c.args.ctx.now.tree c.args.root)
