@@ -1,6 +1,6 @@
 -- What stays where the uses of an argument go to its one value.
 use Rattle.std.proofs.Common.{◌≢◌, ℕ, Bool, map, if◌then◌else◌, ⊎_elim, refl, sym, ap, ◌∙◌, subst, arith}
-use Rattle.std.proofs.lemmas.Bool.Decides.{eqb_decides}
+use Rattle.std.proofs.lemmas.Bool.Decides.{eqb_tells}
 use Rattle.pliron_core.specs.Tree.{Tree, In, operands_of}
 use Rattle.pliron_core.specs.Uses.{replace_target}
 use Rattle.pliron_core.specs.Writes.{after_replacing}
@@ -19,7 +19,7 @@ old_unused t old new ne k i =
     ⊎_elim
     (λ y. ne (x.2 ∙ ap (λ b. if b then new else x.0) y.0))
     (λ y. y.1 (sym (x.2 ∙ ap (λ b. if b then new else x.0) y.0)))
-    (eqb_decides x.0 old)
+    (eqb_tells x.0 old)
 
 pub one_value_changes : (m : Meaning) (can_fold : Head → Bool) (SameTests : Head → Head → Type 0) (shortened : Shape → ℕ → ℕ → Head) → ForwardsOperands m can_fold SameTests shortened → OneValueChanges m
 one_value_changes m can_fold SameTests shortened law = record {

@@ -1,6 +1,6 @@
 -- Where no branch to a block uses a value that is replaced, its arguments are one value as before.
 use Rattle.std.proofs.Common.{◌≡◌, inl, inr, ⊎_elim, ℕ, List, [], ◌∷◌, map, Option, Some, None, if◌then◌else◌, slice_get, refl, sym, ap, ap₂, ◌∙◌}
-use Rattle.std.proofs.lemmas.Bool.Decides.{eqb_decides}
+use Rattle.std.proofs.lemmas.Bool.Decides.{eqb_tells}
 use Rattle.pliron_core.specs.Tree.{Tree, In, head_of, operands_of, successors_of, results_of, regions_of, parent_of}
 use Rattle.pliron_core.specs.Uses.{replace_target}
 use Rattle.pliron_core.specs.Writes.{after_replacing}
@@ -15,7 +15,7 @@ use Rattle.pliron_argument_laws.specs.ArgumentLaws.{OneValueStays}
 
 kept_list : (old new : ℕ) (xs : List ℕ) → (In old xs → ⊥) → map (replace_target old new) xs ≡ xs
 kept_list old new [] out = refl
-kept_list old new (x ∷ xs) out = ap₂ (λ y ys. y ∷ ys) (⊎_elim (λ y. absurd (out (inl (sym y.1)))) (λ n. ap (λ b. if b then new else x) n.0) (eqb_decides x old)) (kept_list old new xs (λ i. out (inr i)))
+kept_list old new (x ∷ xs) out = ap₂ (λ y ys. y ∷ ys) (⊎_elim (λ y. absurd (out (inl (sym y.1)))) (λ n. ap (λ b. if b then new else x) n.0) (eqb_tells x old)) (kept_list old new xs (λ i. out (inr i)))
 
 module _ (m : Meaning) (t : Tree) (old new : ℕ) where
   abbrev u : Tree

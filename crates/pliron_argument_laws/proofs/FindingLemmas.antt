@@ -1,6 +1,6 @@
 -- Edges that all forward one value, or an argument itself.
 use Rattle.std.proofs.Common.{◌≡◌, ◌≢◌, ◌⊎◌, ◌<◌, ◌≤◌, ◌+◌, inl, inr, ⊎_elim, ℕ, zero, suc, List, [], ◌∷◌, Bool, true, false, nat_eq, Option, Some, None, IfSome, IfNone, length, slice_get, true≢false, refl, sym, ap, ◌∙◌, subst, arith}
-use Rattle.std.proofs.lemmas.Bool.Decides.{eqb_decides}
+use Rattle.std.proofs.lemmas.Bool.Decides.{eqb_tells}
 use Rattle.std.specs.Option.{option_map}
 use Rattle.pliron_core.specs.declared.uses.Use.{Use}
 use Rattle.pliron_core.specs.Tree.{Tree, View, In, IsLive, first_of, head_of, uses_of, successors_of, arguments_of, block_parent_of, layout_of}
@@ -42,10 +42,10 @@ some_there (x ∷ xs) zero l = (x, refl)
 some_there (x ∷ xs) (suc n) l = some_there xs n (omega (arith, l))
 
 pub told_same : (a b : ℕ) (r : Bool) → r ≡ nat_eq a b → r ≡ true → a ≡ b
-told_same a b r is e = ⊎_elim (λ y. y.1) (λ y. absurd (true≢false (sym e ∙ is ∙ y.0))) (eqb_decides a b)
+told_same a b r is e = ⊎_elim (λ y. y.1) (λ y. absurd (true≢false (sym e ∙ is ∙ y.0))) (eqb_tells a b)
 
 pub told_apart : (a b : ℕ) (r : Bool) → r ≡ nat_eq a b → r ≡ false → b ≢ a
-told_apart a b r is e = ⊎_elim (λ y. absurd (true≢false (sym y.0 ∙ sym is ∙ e))) (λ y. λ s. y.1 (sym s)) (eqb_decides a b)
+told_apart a b r is e = ⊎_elim (λ y. absurd (true≢false (sym y.0 ∙ sym is ∙ e))) (λ y. λ s. y.1 (sym s)) (eqb_tells a b)
 
 -- what was found is not the value
 pub other_found : (found : Option ℕ) (v : ℕ) → (((first : ℕ) → found ≡ Some first → first ≡ v) → ⊥) → (first : ℕ) × (found ≡ Some first) × (first ≢ v)

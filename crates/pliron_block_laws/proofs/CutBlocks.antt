@@ -1,7 +1,7 @@
 -- Erasing blocks one after the other.
 use Rattle.std.proofs.Common.{◌≡◌, ◌⊎◌, inl, inr, ⊎_elim, ℕ, zero, suc, Bool, true, false, true≢false, nat_eq, if◌then◌else◌, List, [], ◌∷◌, length, get_or, Option, Some, None, is_some, slice_get, slice_set, refl, sym, ap, ◌∙◌, subst}
 use Rattle.std.proofs.lemmas.Bool.{cases_eq, eq-eqb, false_from_ne_true}
-use Rattle.std.proofs.lemmas.Bool.Decides.{eqb_decides}
+use Rattle.std.proofs.lemmas.Bool.Decides.{eqb_tells}
 use Rattle.std.proofs.lemmas.List.{get_or-set_other, length-set}
 use Rattle.pliron_core.specs.Tree.{Tree, In, IsLive, IsRegion, IsInside, IsInside.Directly, IsInside.Deeper, IsWithin, no_entry, head_of, parent_of, block_parent_of, region_parent_of, block_parent_operation_of, parent_operation_of, op_of_slot}
 use Rattle.pliron_core.specs.Invariant.{IsTree}
@@ -21,11 +21,11 @@ or_true false = refl
 pub listed : (bs : List ℕ) (b : ℕ) → In b bs → is_listed bs b ≡ true
 listed [] b i = absurd i
 listed (x ∷ bs) b (inl e) = ap (λ z. if z then true else is_listed bs b) (eq-eqb x b (sym e))
-listed (x ∷ bs) b (inr i) = ⊎_elim (λ y. ap (λ z. if z then true else is_listed bs b) y.0) (λ n. ap (λ z. if z then true else is_listed bs b) n.0 ∙ listed bs b i) (eqb_decides x b)
+listed (x ∷ bs) b (inr i) = ⊎_elim (λ y. ap (λ z. if z then true else is_listed bs b) y.0) (λ n. ap (λ z. if z then true else is_listed bs b) n.0 ∙ listed bs b i) (eqb_tells x b)
 
 pub is_listed_in : (xs : List ℕ) (c : ℕ) → is_listed xs c ≡ true → In c xs
 is_listed_in [] c e = absurd (true≢false (sym e))
-is_listed_in (x ∷ xs) c e = ⊎_elim (λ y. inl (sym y.1)) (λ n. inr (is_listed_in xs c (sym (ap (λ z. if z then true else is_listed xs c) n.0) ∙ e))) (eqb_decides x c)
+is_listed_in (x ∷ xs) c e = ⊎_elim (λ y. inl (sym y.1)) (λ n. inr (is_listed_in xs c (sym (ap (λ z. if z then true else is_listed xs c) n.0) ∙ e))) (eqb_tells x c)
 
 pub stands_one : (t : Tree) (bs : List ℕ) (b x : ℕ) → In b bs → parent_of t x ≡ Some b → is_in_one_of t bs x ≡ true
 stands_one t [] b x i e = absurd i
@@ -282,7 +282,7 @@ module _ (t : Tree) (w : IsTree t) (region : ℕ) (bs : List ℕ) (own : (b : �
     }
       where
         other : (r : ℕ) → (r ≡ region → ⊥) → is_met_above t (is_in_one_of t bs) (region_parent_of t r) ≡ false → (z : Bool) → nat_eq region r ≡ z → (if z then true else is_met_above t (is_in_one_of t bs) (region_parent_of t r)) ≡ true → ⊥
-        other r ne m true e g = ⊎_elim (λ y. ne (sym y.1)) (λ n. true≢false (sym e ∙ n.0)) (eqb_decides region r)
+        other r ne m true e g = ⊎_elim (λ y. ne (sym y.1)) (λ n. true≢false (sym e ∙ n.0)) (eqb_tells region r)
         other r ne m false e g = true≢false (sym g ∙ m)
 
 pub cut_all : CuttingLaw

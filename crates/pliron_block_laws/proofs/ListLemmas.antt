@@ -1,6 +1,6 @@
 -- Lists of blocks and of operations.
 use Rattle.std.proofs.Common.{◌≡◌, ◌≢◌, inl, inr, ⊎_elim, ℕ, ◌<◌, Bool, true, false, if◌then◌else◌, List, [], ◌∷◌, ◌++◌, length, Option, Some, None, refl, sym, ap, ◌∙◌, arith}
-use Rattle.std.proofs.lemmas.Bool.Decides.{eqb_decides}
+use Rattle.std.proofs.lemmas.Bool.Decides.{eqb_tells}
 use Rattle.pliron_core.specs.Lists.{without}
 use Rattle.pliron_core.specs.Tree.{In, IsRising, first_of, last_of}
 use Rattle.pliron_core.proofs.HoldingLemmas.{some_is, not_none}
@@ -27,7 +27,7 @@ first_without b d [] ne e = absurd (not_none e)
 first_without b d (x ∷ xs) ne e = ⊎_elim
     (λ y. absurd (ne (sym (some_is e) ∙ sym y.1)))
     (λ n. ap (λ z. first_of (if z then xs else x ∷ without b xs) None) n.0 ∙ e)
-    (eqb_decides b x)
+    (eqb_tells b x)
 
 pub last_some : (o : Option ℕ) (xs : List ℕ) (k : ℕ) → last_of None xs ≡ Some k → last_of o xs ≡ Some k
 last_some o [] k e = absurd (not_none e)

@@ -1,7 +1,7 @@
 -- Merging makes no new pair.
 use Rattle.std.proofs.Common.{◌≡◌, ◌≢◌, ◌⊎◌, inl, inr, ⊎_elim, ℕ, zero, suc, List, [], ◌∷◌, length, map, Option, Some, None, slice_get, refl, sym, ap, ◌∙◌, subst, arith, if◌then◌else◌}
 use Rattle.std.proofs.lemmas.Bool.{cases_eq}
-use Rattle.std.proofs.lemmas.Bool.Decides.{eqb_decides}
+use Rattle.std.proofs.lemmas.Bool.Decides.{eqb_tells}
 use Rattle.pliron_core.specs.declared.context.Def.TheVariants.{Argument}
 use Rattle.pliron_core.specs.Uses.{replace_target}
 use Rattle.pliron_core.specs.Tree.{Tree, In, first_of, last_of, IsBlock, head_of, operands_of, successors_of, parent_of, body_of, arguments_of, block_parent_of, block_parent_operation_of, layout_of}
@@ -158,7 +158,7 @@ module _ (m : Meaning) (t : Tree) (holder a b jump i p v c d j : ℕ) (values ot
   old_at = make_op t j shown.0 shown.1
 
   target_other : (x : ℕ) → (x ≡ p → ⊥) → replace_target p v x ≡ x
-  target_other x nt = ⊎_elim (λ y. absurd (nt y.1)) (λ n. ap (λ z. if z then v else x) n.0) (eqb_decides x p)
+  target_other x nt = ⊎_elim (λ y. absurd (nt y.1)) (λ n. ap (λ z. if z then v else x) n.0) (eqb_tells x p)
 
   -- what was forwarded before
   unpicked : (places operands vs : List ℕ) → map Some vs ≡ pick places (map (replace_target p v) operands) → (us : List ℕ) × (map Some us ≡ pick places operands) × (map (replace_target p v) us ≡ vs)

@@ -1,6 +1,6 @@
 -- What a mergeable pair says of the edges, and how replacing an argument keeps it.
 use Rattle.std.proofs.Common.{◌≡◌, ◌≢◌, ◌⊎◌, inl, inr, ⊎_elim, ℕ, zero, suc, Bool, List, [], ◌∷◌, map, Some, None, slice_get, refl, sym, ap, ◌∙◌, subst, arith, if◌then◌else◌}
-use Rattle.std.proofs.lemmas.Bool.Decides.{eqb_decides}
+use Rattle.std.proofs.lemmas.Bool.Decides.{eqb_tells}
 use Rattle.pliron_core.specs.Uses.{replace_target}
 use Rattle.pliron_core.specs.Tree.{Tree, In, last_of, HoldsBlock, IsInside, IsInside.Directly, IsBlock, head_of, operands_of, successors_of, parent_of, body_of, arguments_of, block_parent_of, block_parent_operation_of, region_parent_of, up_from}
 use Rattle.pliron_core.specs.Invariant.{IsTree}
@@ -79,13 +79,13 @@ module _ (m : Meaning) (t : Tree) (holder a b jump : ℕ) (values : List ℕ) (w
     apart_pv e = h.no_argument v v_in (subst (λ z. In z (arguments_of t b)) (sym e) p_in)
 
     target_of : (x : ℕ) → (x ≡ p → ⊥) → replace_target p v x ≡ x
-    target_of x ne = ⊎_elim (λ y. absurd (ne y.1)) (λ n. ap (λ z. if z then v else x) n.0) (eqb_decides x p)
+    target_of x ne = ⊎_elim (λ y. absurd (ne y.1)) (λ n. ap (λ z. if z then v else x) n.0) (eqb_tells x p)
 
     target_p : (x : ℕ) → x ≡ p → replace_target p v x ≡ v
-    target_p x e = ⊎_elim (λ y. ap (λ z. if z then v else x) y.0) (λ n. absurd (n.1 e)) (eqb_decides x p)
+    target_p x e = ⊎_elim (λ y. ap (λ z. if z then v else x) y.0) (λ n. absurd (n.1 e)) (eqb_tells x p)
 
     reported : (x : ℕ) → (x ≡ p) ⊎ (x ≡ p → ⊥)
-    reported x = ⊎_elim (λ y. inl y.1) (λ n. inr n.1) (eqb_decides x p)
+    reported x = ⊎_elim (λ y. inl y.1) (λ n. inr n.1) (eqb_tells x p)
 
     -- the forwarded values stay
     all_kept : (xs : List ℕ) → ((x : ℕ) → In x xs → x ≡ p → ⊥) → map (replace_target p v) xs ≡ xs

@@ -1,7 +1,7 @@
 -- Which regions are visited and which blocks are reached, before and after two blocks were joined.
 use Rattle.std.proofs.Common.{◌≡◌, ◌≢◌, inl, ⊎_elim, ℕ, Bool, true, false, List, [], ◌∷◌, Option, Some, None, slice_get, refl, sym, ap, ◌∙◌, subst}
 use Rattle.std.proofs.lemmas.Bool.{cases_eq, false≢true}
-use Rattle.std.proofs.lemmas.Bool.Decides.{eqb_decides}
+use Rattle.std.proofs.lemmas.Bool.Decides.{eqb_tells}
 use Rattle.std.proofs.Common.{if◌then◌else◌}
 use Rattle.pliron_core.specs.Tree.{Tree, In, first_of, last_of, without, IsLive, IsRegion, regions_of, parent_of, body_of, block_parent_of, block_parent_operation_of, region_parent_of, slot_of, layout_of, op_of_slot}
 use Rattle.pliron_core.specs.Invariant.{IsTree}
@@ -30,7 +30,7 @@ visited_same t operands S R more r (Nested outer b k v e at i) = Nested outer b 
 
 first_same : (b : ℕ) (xs : List ℕ) → first_of xs None ≢ Some b → first_of (without b xs) None ≡ first_of xs None
 first_same b [] ne = refl
-first_same b (x ∷ xs) ne = ⊎_elim (λ y. absurd (ne (ap Some (sym y.1)))) (λ n. ap (λ z. first_of (if z then xs else x ∷ without b xs) None) n.0) (eqb_decides b x)
+first_same b (x ∷ xs) ne = ⊎_elim (λ y. absurd (ne (ap Some (sym y.1)))) (λ n. ap (λ z. first_of (if z then xs else x ∷ without b xs) None) n.0) (eqb_tells b x)
 
 -- the jump has no regions, and neither has what is gone
 pub spliced_regions : (u v : Tree) → IsTree v → (a b jump : ℕ) (front : List ℕ) → IsSpliced u v a b jump front → (k : ℕ) → regions_of v k ≡ regions_of u k

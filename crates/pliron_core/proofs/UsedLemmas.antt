@@ -1,7 +1,7 @@
 -- The invariant of a tree is kept where only operands and successors change.
 use Rattle.std.proofs.Common.{◌≡◌, ◌⊎◌, ℕ, zero, suc, ◌<◌, ◌≤◌, List, [], ◌∷◌, ◌++◌, length, map, get_or, None, refl, sym, ap, ◌∙◌, subst, inl, inr, ⊎_elim, arith, slice_set, if◌then◌else◌, remove}
 use Rattle.std.proofs.lemmas.Bool.{cases_eq, eq-eqb, ne_eqb}
-use Rattle.std.proofs.lemmas.Bool.Decides.{eqb_decides}
+use Rattle.std.proofs.lemmas.Bool.Decides.{eqb_tells}
 use Rattle.std.proofs.lemmas.List.{get_or-set_other, get_or-set_same}
 use Rattle.pliron_core.specs.Uses.{replace_target}
 use Rattle.pliron_core.specs.Tree.{Tree, In, IsLive, IsBlock, IsDefined, head_of, operands_of, successors_of}
@@ -62,7 +62,7 @@ get_map f e (x ∷ xs) zero = refl
 get_map f e (x ∷ xs) (suc i) = get_map f e xs i
 
 replace_cases : (old new x : ℕ) → (replace_target old new x ≡ new) ⊎ (replace_target old new x ≡ x)
-replace_cases old new x = ⊎_elim (λ y. inl (ap (λ b. if b then new else x) y.0)) (λ n. inr (ap (λ b. if b then new else x) n.0)) (eqb_decides x old)
+replace_cases old new x = ⊎_elim (λ y. inl (ap (λ b. if b then new else x) y.0)) (λ n. inr (ap (λ b. if b then new else x) n.0)) (eqb_tells x old)
 
 pub length_map : {A B : Type 0} (f : A → B) (xs : List A) → length (map f xs) ≡ length xs
 length_map f [] = refl

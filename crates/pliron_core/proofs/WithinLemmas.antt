@@ -1,6 +1,6 @@
 -- What stands inside an operation, by tests and by steps up.
 use Rattle.std.proofs.Common.{◌≡◌, ◌≢◌, ℕ, zero, suc, ◌<◌, Bool, true, false, nat_eq, length, Option, Some, None, is_some, refl, sym, ap, ◌∙◌, subst, inl, inr, if◌then◌else◌, true≢false}
-use Rattle.std.proofs.lemmas.Bool.Decides.{eqb_decides}
+use Rattle.std.proofs.lemmas.Bool.Decides.{eqb_tells}
 use Rattle.std.proofs.lemmas.Bool.{eq-eqb}
 use Rattle.pliron_core.specs.Tree.{Tree, IsLive, IsRegion, IsInside, Directly, Deeper, IsWithin, climb, up_from, op_of_slot, parent_operation_of, block_parent_operation_of, region_parent_of, parent_of, block_parent_of}
 use Rattle.pliron_core.specs.Invariant.{IsJoined}
@@ -115,7 +115,7 @@ met_within t p (suc n) k e = go (p k) refl e (parent_operation_of t k) refl (λ 
     go false f g o h rest = up (parent_operation_of t k) refl g rest
 
 pub equal_from : (op x : ℕ) → nat_eq op x ≡ true → x ≡ op
-equal_from op x e = elim (eqb_decides op x) [ inl y ↦ sym y.1 | inr n ↦ absurd (true≢false (sym e ∙ n.0)) ]
+equal_from op x e = elim (eqb_tells op x) [ inl y ↦ sym y.1 | inr n ↦ absurd (true≢false (sym e ∙ n.0)) ]
 
 pub is_listed_from : (t : Tree) (block x : ℕ) → is_in_operation t block x ≡ true → parent_of t x ≡ Some block
 is_listed_from t block x e = go (parent_of t x) refl e

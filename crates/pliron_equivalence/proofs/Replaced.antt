@@ -1,6 +1,6 @@
 -- What stays where the uses of a result go to another value.
 use Rattle.std.proofs.Common.{◌≡◌, ◌≢◌, ◌⊎◌, ℕ, Bool, List, [], ◌∷◌, map, Option, Some, None, inl, inr, ⊎_elim, slice_get, if◌then◌else◌, refl, sym, ap, ◌∙◌, subst, arith}
-use Rattle.std.proofs.lemmas.Bool.Decides.{eqb_decides}
+use Rattle.std.proofs.lemmas.Bool.Decides.{eqb_tells}
 use Rattle.pliron_core.specs.declared.context.Def.{Def}
 use Rattle.pliron_core.specs.declared.context.Def.TheVariants.{Result, Argument}
 use Rattle.pliron_core.specs.Changes.{IsDefiningOperationInside}
@@ -31,7 +31,7 @@ none_mapped f (x ∷ xs) e = grind arith
 
 -- a value is replaced, or stays
 pub target_cases : (old new x : ℕ) → ((x ≡ old) × (replace_target old new x ≡ new)) ⊎ ((x ≢ old) × (replace_target old new x ≡ x))
-target_cases old new x = ⊎_elim (λ y. inl (y.1, ap (λ b. if b then new else x) y.0)) (λ n. inr (n.1, ap (λ b. if b then new else x) n.0)) (eqb_decides x old)
+target_cases old new x = ⊎_elim (λ y. inl (y.1, ap (λ b. if b then new else x) y.0)) (λ n. inr (n.1, ap (λ b. if b then new else x) n.0)) (eqb_tells x old)
 
 module _ (t : Tree) (old new : ℕ) where
   pub operands_replaced : (k : ℕ) → operands_of (after_replacing t old new) k ≡ map (replace_target old new) (operands_of t k)

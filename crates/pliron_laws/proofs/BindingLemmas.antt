@@ -1,6 +1,6 @@
 -- What binding values does to an environment.
 use Rattle.std.proofs.Common.{◌≡◌, ℕ, zero, suc, List, [], ◌∷◌, Option, Some, None, inl, inr, ⊎_elim, slice_get, refl, sym, ap, ◌∙◌, arith, if◌then◌else◌}
-use Rattle.std.proofs.lemmas.Bool.Decides.{eqb_decides}
+use Rattle.std.proofs.lemmas.Bool.Decides.{eqb_tells}
 use Rattle.pliron_core.specs.Tree.{In}
 use Rattle.pliron_core.proofs.HoldingLemmas.{some_is, not_none, slice_in}
 use Rattle.pliron_laws.specs.Datum.{Datum}
@@ -8,11 +8,11 @@ use Rattle.pliron_laws.specs.States.{Environment, environment_with, bind, prepen
 
 bound_other : (env : Environment) (w : ℕ) (d : Datum) (v : ℕ) → (v ≡ w → ⊥) → environment_with env w d v ≡ env v
 unfolding environment_with
-bound_other env w d v ne = ⊎_elim (λ y. absurd (ne y.1)) (λ n. ap (λ b. if b then Some d else env v) n.0) (eqb_decides v w)
+bound_other env w d v ne = ⊎_elim (λ y. absurd (ne y.1)) (λ n. ap (λ b. if b then Some d else env v) n.0) (eqb_tells v w)
 
 pub bound_it : (env : Environment) (w : ℕ) (d : Datum) (v : ℕ) → v ≡ w → environment_with env w d v ≡ Some d
 unfolding environment_with
-bound_it env w d v e = ⊎_elim (λ y. ap (λ b. if b then Some d else env v) y.0) (λ n. absurd (n.1 e)) (eqb_decides v w)
+bound_it env w d v e = ⊎_elim (λ y. ap (λ b. if b then Some d else env v) y.0) (λ n. absurd (n.1 e)) (eqb_tells v w)
 
 -- what is not bound stays
 pub bind_other : (vs : List ℕ) (ds : List Datum) (env env1 : Environment) → bind env vs ds ≡ Some env1 → (v : ℕ) → (In v vs → ⊥) → env1 v ≡ env v

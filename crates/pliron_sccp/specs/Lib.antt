@@ -1,3 +1,4 @@
+pub mod EmptyTables
 pub mod Precise
 pub mod Chain
 pub mod Propagated

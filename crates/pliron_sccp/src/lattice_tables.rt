@@ -8,13 +8,15 @@
 //! with each visit: a value keeps the stamp of its last lowering, and an operation with results that of its
 //! last visit, by the number of its first result; a user visited since the value was last lowered is not
 //! revisited. The clock stops at its greatest number, where nothing counts as visited.
-ghost use Rattle.std.specs.Prelude.{◌≡◌, ◌≤◌, ◌+◌, ◌<◌, ◌^◌, ℕ, nat_eq, Some, length, slice_get, vec_capacity, IsOkUnless};
+ghost use Rattle.std.specs.Prelude.{◌≡◌, ◌≤◌, ◌+◌, ◌<◌, ◌^◌, ℕ, nat_eq, false, [], Some, IfOk, length, replicate, slice_get, vec_capacity, IsOkUnless};
 ghost use Rattle.std.specs.List.{list_any};
 ghost use Rattle.indexmap.specs.IndexSet.{index_of};
-ghost use Rattle.pliron_sccp.specs.declared.lattice_tables.LatticeCell.TheVariants.{Constant as Known};
+ghost use Rattle.pliron_sccp.specs.declared.lattice_tables.LatticeCell.TheVariants.{Constant as Known, Undetermined as IsUndetermined};
+ghost use Rattle.pliron_core.specs.Lists.{IsDistinct};
+ghost use Rattle.pliron_sccp.specs.EmptyTables.{AreEmpty};
 ghost use Rattle.pliron_sccp.specs.LatticeCells.{AreOnce, is_lowered_at, is_waiting, mark_at, stamp_at, unknown_count};
 
-use crate::direct_mapped_index::DirectMappedIndex;
+use crate::direct_mapped_index::{DirectMappedIndex, HasKey};
 use indexmap::IndexSet;
 use pliron_core::{AttrObj, BasicBlock, Ptr, Value};
 use pliron_laws::OptError;
@@ -34,6 +36,104 @@ pub enum LatticeCell {
     Undetermined,
     Constant(usize),
     NotAConstant,
+}
+
+// The numbers that some handles most likely have, and room for each of them on a worklist, which is empty.
+#[derive(Drop)]
+struct Numbers {
+    index: DirectMappedIndex,
+    worklist: Vec<usize>,
+}
+
+// What is known of some values at the start: nothing. There is room for a constant for each.
+#[derive(Drop)]
+struct EmptyLattice {
+    cells: Vec<LatticeCell>,
+    on_worklist: Vec<bool>,
+    constants: Vec<AttrObj>,
+}
+
+// Stamps of some values: none was visited or lowered.
+#[derive(Drop)]
+struct Stamps {
+    visits: Vec<u64>,
+    lowered: Vec<u64>,
+}
+
+// All tables but the lists of blocks and values themselves. Each part is made by a function of its own, so that few
+// exits drop much.
+#[derive(Drop)]
+struct EmptyTables {
+    block_numbers: Numbers,
+    marks: Vec<BlockState>,
+    value_numbers: Numbers,
+    lattice: EmptyLattice,
+    stamps: Stamps,
+}
+
+// Errors: allocation failure. Cost: one step for each handle.
+fn number<T: HasKey>(alloc: Global, listed: &[T]) -> Result<Numbers, OptError>
+    ensures empty { IfOk result (λ numbers. numbers.worklist.items ≡ []) }
+    ensures room { IfOk result (λ numbers. length listed.now ≤ vec_capacity numbers.worklist) }
+    ensures memory { IsOkUnless result OptError.Memory }
+{
+    let index = DirectMappedIndex::over(alloc, listed)?;
+    let worklist = Vec::with_capacity(alloc, listed.len())?;
+    Ok(Numbers { index, worklist })
+}
+
+// Errors: allocation failure. Cost: one step for each value.
+fn empty_lattice(alloc: Global, count: usize) -> Result<EmptyLattice, OptError>
+    ensures cells { IfOk result (λ lattice. lattice.cells.items ≡ replicate count IsUndetermined) }
+    ensures none_waits { IfOk result (λ lattice. lattice.on_worklist.items ≡ replicate count false) }
+    ensures no_constants { IfOk result (λ lattice. lattice.constants.items ≡ []) }
+    ensures room { IfOk result (λ lattice. count ≤ vec_capacity lattice.constants) }
+    ensures memory { IsOkUnless result OptError.Memory }
+{
+    let cells = Vec::from_elem(alloc, LatticeCell::Undetermined, count)?;
+    let on_worklist = Vec::from_elem(alloc, false, count)?;
+    let constants = Vec::with_capacity(alloc, count)?;
+    Ok(EmptyLattice {
+        cells,
+        on_worklist,
+        constants,
+    })
+}
+
+// Errors: allocation failure. Cost: one step for each value.
+fn zero_stamps(alloc: Global, count: usize) -> Result<Stamps, OptError>
+    ensures visits { IfOk result (λ stamps. stamps.visits.items ≡ replicate count 0) }
+    ensures lowered { IfOk result (λ stamps. stamps.lowered.items ≡ replicate count 0) }
+    ensures memory { IsOkUnless result OptError.Memory }
+{
+    let visits = Vec::from_elem(alloc, 0, count)?;
+    let lowered = Vec::from_elem(alloc, 0, count)?;
+    Ok(Stamps { visits, lowered })
+}
+
+// Errors: allocation failure. Cost: one step for each block and value.
+fn empty_tables(
+    alloc: Global,
+    blocks: &IndexSet<Ptr<BasicBlock>>,
+    values: &IndexSet<Value>,
+) -> Result<EmptyTables, OptError>
+    ensures ok { IfOk result (λ tables. AreEmpty (length blocks.now.keys) (length values.now.keys) tables) }
+    ensures blocks { IfOk result (λ made. IsDistinct blocks.now.keys) }
+    ensures values { IfOk result (λ made. IsDistinct values.now.keys × (length values.now.keys < 2 ^ 63)) }
+    ensures memory { IsOkUnless result OptError.Memory }
+{
+    let block_numbers = number(alloc, blocks.as_slice())?;
+    let marks = Vec::from_elem(alloc, BlockState::NotExecutable, blocks.len())?;
+    let value_numbers = number(alloc, values.as_slice())?;
+    let lattice = empty_lattice(alloc, values.len())?;
+    let stamps = zero_stamps(alloc, values.len())?;
+    Ok(EmptyTables {
+        block_numbers,
+        marks,
+        value_numbers,
+        lattice,
+        stamps,
+    })
 }
 
 /// The lattice values so far, and the worklists. A value without a number is not a constant.
@@ -104,32 +204,27 @@ impl Tables {
         ensures ok { IfOk result (λ s. AreNew blocks.keys values.keys s) }
         ensures memory { IsOkUnless result OptError.Memory }
     {
-        let block_count = blocks.len();
-        let value_count = values.len();
-        let block_index = DirectMappedIndex::over(alloc, blocks.as_slice())?;
-        let value_index = DirectMappedIndex::over(alloc, values.as_slice())?;
-        let marks = Vec::from_elem(alloc, BlockState::NotExecutable, block_count)?;
-        let cells = Vec::from_elem(alloc, LatticeCell::Undetermined, value_count)?;
-        let values_on_worklist = Vec::from_elem(alloc, false, value_count)?;
-        let constants = Vec::with_capacity(alloc, value_count)?;
-        let block_worklist = Vec::with_capacity(alloc, block_count)?;
-        let value_worklist = Vec::with_capacity(alloc, value_count)?;
-        let visit_stamps = Vec::from_elem(alloc, 0, value_count)?;
-        let lowered_stamps = Vec::from_elem(alloc, 0, value_count)?;
+        let EmptyTables {
+            block_numbers,
+            marks,
+            value_numbers,
+            lattice,
+            stamps,
+        } = empty_tables(alloc, &blocks, &values)?;
         Ok(Tables {
             blocks,
             values,
-            block_index,
-            value_index,
+            block_index: block_numbers.index,
+            value_index: value_numbers.index,
             marks,
-            cells,
-            values_on_worklist,
-            constants,
-            block_worklist,
-            value_worklist,
+            cells: lattice.cells,
+            values_on_worklist: lattice.on_worklist,
+            constants: lattice.constants,
+            block_worklist: block_numbers.worklist,
+            value_worklist: value_numbers.worklist,
             clock: 0,
-            visit_stamps,
-            lowered_stamps,
+            visit_stamps: stamps.visits,
+            lowered_stamps: stamps.lowered,
         })
     }
 

@@ -1,7 +1,7 @@
 -- A result that folding answers with no operand known is read as that constant.
 use Rattle.std.proofs.Common.{◌≡◌, inl, inr, ⊎_elim, ℕ, Bool, List, [], ◌∷◌, length, Option, Some, None, slice_get, refl, sym, ap, ◌∙◌, subst, IsTrue, if◌then◌else◌, nat_eq}
 use Rattle.std.specs.Prelude.{replicate}
-use Rattle.std.proofs.lemmas.Bool.Decides.{eqb_decides}
+use Rattle.std.proofs.lemmas.Bool.Decides.{eqb_tells}
 use Rattle.pliron_core.specs.declared.attrs.AttrObj.{AttrObj}
 use Rattle.pliron_core.specs.declared.context.Def.TheVariants.{Result, Argument}
 use Rattle.pliron_core.specs.Tree.{Tree, In, results_of, arguments_of, definition_of}
@@ -24,16 +24,16 @@ abbrev pub only_fact : ℕ → AttrObj → ℕ → Option AttrObj
 only_fact v c x = if nat_eq x v then Some c else None
 
 pub fact_here : (v : ℕ) (c : AttrObj) → only_fact v c v ≡ Some c
-fact_here v c = ⊎_elim (λ y. ap (λ b. if b then Some c else None) y.0) (λ n. absurd (n.1 refl)) (eqb_decides v v)
+fact_here v c = ⊎_elim (λ y. ap (λ b. if b then Some c else None) y.0) (λ n. absurd (n.1 refl)) (eqb_tells v v)
 
 pub fact_there : (v : ℕ) (c : AttrObj) (x : ℕ) (d : AttrObj) → only_fact v c x ≡ Some d → (x ≡ v) × (c ≡ d)
 fact_there v c x d e = ⊎_elim
     (λ y. (y.1, some_is (ap (λ b. if b then Some c else None) (sym y.0) ∙ e)))
     (λ n. absurd (not_none (ap (λ b. if b then Some c else None) (sym n.0) ∙ e)))
-    (eqb_decides x v)
+    (eqb_tells x v)
 
 no_fact : (v : ℕ) (c : AttrObj) (x : ℕ) → (x ≡ v → ⊥) → only_fact v c x ≡ None
-no_fact v c x ne = ⊎_elim (λ y. absurd (ne y.1)) (λ n. ap (λ b. if b then Some c else None) n.0) (eqb_decides x v)
+no_fact v c x ne = ⊎_elim (λ y. absurd (ne y.1)) (λ n. ap (λ b. if b then Some c else None) n.0) (eqb_tells x v)
 
 -- folds are handed nothing
 abbrev nothing : LatticeValues

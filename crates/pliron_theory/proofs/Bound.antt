@@ -1,7 +1,7 @@
 -- In a well-defined root each operand has a datum when it is read.
 use Rattle.std.proofs.Common.{◌≡◌, ◌≢◌, ◌⊎◌, inl, inr, ⊎_elim, ℕ, List, [], ◌∷◌, ◌++◌, Option, Some, None, IsSome, refl, sym, ap, ap₂, ◌∙◌, subst, arith, slice_get, if◌then◌else◌, append_assoc}
 use Rattle.std.proofs.lemmas.Bool.{cases_eq}
-use Rattle.std.proofs.lemmas.Bool.Decides.{eqb_decides}
+use Rattle.std.proofs.lemmas.Bool.Decides.{eqb_tells}
 use Rattle.pliron_core.specs.declared.context.Def.{Def}
 use Rattle.pliron_core.specs.declared.context.Def.TheVariants.{Result, Argument}
 use Rattle.pliron_core.specs.Lists.{In, IsDistinct, first_of, last_of}
@@ -32,14 +32,14 @@ unfolding IsBound environment_with
 bound_more env w d v b = ⊎_elim
     (λ y. (d, ap (λ x. if x then Some d else env v) y.0))
     (λ n. (b.0, ap (λ x. if x then Some d else env v) n.0 ∙ b.1))
-    (eqb_decides v w)
+    (eqb_tells v w)
 
 bound_it : (env : Environment) (w : ℕ) (d : Datum) (v : ℕ) → v ≡ w → IsBound (environment_with env w d) v
 unfolding IsBound environment_with
 bound_it env w d v e = ⊎_elim
     (λ y. (d, ap (λ x. if x then Some d else env v) y.0))
     (λ n. absurd (n.1 e))
-    (eqb_decides v w)
+    (eqb_tells v w)
 
 pub bind_more : (vs : List ℕ) (ds : List Datum) (env env1 : Environment) → bind env vs ds ≡ Some env1 → (v : ℕ) → IsBound env v → IsBound env1 v
 bind_more [] [] env env1 e v b = let f : env ≡ env1 = cc in subst (λ x. IsBound x v) f b

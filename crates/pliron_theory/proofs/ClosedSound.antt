@@ -1,7 +1,7 @@
 -- Closed facts are sound on the tree that they are about.
 use Rattle.std.proofs.Common.{◌≡◌, ◌⊎◌, inl, inr, ⊎_elim, ℕ, Bool, true, false, true≢false, if◌then◌else◌, Option, Some, None, slice_get, refl, sym, ap, ◌∙◌, subst, IsTrue}
 use Rattle.std.proofs.lemmas.Bool.{eq-eqb}
-use Rattle.std.proofs.lemmas.Bool.Decides.{eqb_decides}
+use Rattle.std.proofs.lemmas.Bool.Decides.{eqb_tells}
 use Rattle.pliron_core.specs.declared.attrs.AttrObj.{AttrObj}
 use Rattle.pliron_core.specs.declared.context.Def.{Def}
 use Rattle.pliron_core.specs.declared.context.Def.TheVariants.{Result, Argument}
@@ -32,7 +32,7 @@ module _ (x : Says) (t : Tree) (f : LatticeValues) where
 
   is_there : (v : ℕ) (o : Option ℕ) → is_it v o ≡ true → o ≡ Some v
   is_there v None e = absurd (true≢false (sym e))
-  is_there v (Some w) e = ⊎_elim (λ y. ap Some (sym y.1)) (λ n. absurd (true≢false (sym e ∙ n.0))) (eqb_decides v w)
+  is_there v (Some w) e = ⊎_elim (λ y. ap Some (sym y.1)) (λ n. absurd (true≢false (sym e ∙ n.0))) (eqb_tells v w)
 
   pub read_cases : (v : ℕ) → IsFold v ⊎ (read_of x t f v ≡ f.lattice_value v)
   unfolding read_of

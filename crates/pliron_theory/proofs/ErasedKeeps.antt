@@ -1,7 +1,7 @@
 -- Erasing an operation that gives at once, with its contents, keeps what roots do.
 use Rattle.std.proofs.Common.{◌≡◌, ◌≢◌, ◌⊎◌, inl, inr, ⊎_elim, ℕ, ◌<◌, ◌≤◌, Bool, true, false, true≢false, nat_eq, if◌then◌else◌, List, [], ◌∷◌, length, get_or, Option, Some, None, slice_set, refl, sym, ap, ◌∙◌, subst, arith}
 use Rattle.std.proofs.lemmas.Bool.{cases_eq}
-use Rattle.std.proofs.lemmas.Bool.Decides.{eqb_decides}
+use Rattle.std.proofs.lemmas.Bool.Decides.{eqb_tells}
 use Rattle.std.proofs.lemmas.List.{get_or-set_other, get_or-set_same, get_or_past}
 use Rattle.pliron_core.specs.declared.context.Def.{Def}
 use Rattle.pliron_core.specs.declared.context.Def.TheVariants.{Result, Argument}
@@ -34,7 +34,7 @@ without_swept dead op [] d e only = refl
 without_swept dead op (x ∷ xs) d e only = ⊎_elim
     (λ y. ap (λ b. if b then xs else x ∷ without op xs) y.0 ∙ sym (swept_all dead xs (λ k i. lives k i y.1)) ∙ ap (λ b. keep b x (swept dead xs)) (sym (ap dead (sym y.1) ∙ e)))
     (λ n. ap (λ b. if b then xs else x ∷ without op xs) n.0 ∙ ap (λ l. x ∷ l) (without_swept dead op xs d.1 e (λ k i f. only k (inr i) f)) ∙ ap (λ b. keep b x (swept dead xs)) (sym (live (λ f. n.1 (sym f)))))
-    (eqb_decides op x)
+    (eqb_tells op x)
   where
     reported : (k : ℕ) → (dead k ≡ true → ⊥) → (b : Bool) → dead k ≡ b → dead k ≡ false
     reported k never true f = absurd (never f)

@@ -1,6 +1,6 @@
 -- Facts, and the data that confirm them.
 use Rattle.std.proofs.Common.{◌≡◌, inl, inr, ⊎_elim, ℕ, zero, suc, List, [], ◌∷◌, length, map, Option, Some, None, slice_get, refl, sym, ap, ◌∙◌, subst, arith, if◌then◌else◌}
-use Rattle.std.proofs.lemmas.Bool.Decides.{eqb_decides}
+use Rattle.std.proofs.lemmas.Bool.Decides.{eqb_tells}
 use Rattle.pliron_core.specs.declared.attrs.AttrObj.{AttrObj}
 use Rattle.pliron_core.proofs.HoldingLemmas.{some_is, not_none}
 use Rattle.pliron_laws.specs.Datum.{Datum, datum_of}
@@ -52,7 +52,7 @@ module _ (read : ℕ → LatticeValue) where
   bound_agrees env x y here so v d e = ⊎_elim
       (λ s. subst (λ z. Fits (read z) d) (sym s.1) (subst (Fits (read x)) (some_is (ap (λ b. if b then Some y else env v) (sym s.0) ∙ e)) here))
       (λ n. so v d (ap (λ b. if b then Some y else env v) (sym n.0) ∙ e))
-      (eqb_decides v x)
+      (eqb_tells v x)
 
   pub bind_agrees : (vs : List ℕ) (ds : List Datum) (env env1 : Environment) → ((i v : ℕ) (d : Datum) → slice_get vs i ≡ Some v → slice_get ds i ≡ Some d → Fits (read v) d) → bind env vs ds ≡ Some env1 → Agrees env → Agrees env1
   bind_agrees [] [] env env1 h e so = let f : env ≡ env1 = cc in subst Agrees f so

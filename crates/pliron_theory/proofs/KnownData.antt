@@ -1,6 +1,6 @@
 -- Environments in which values have the data that are known of them.
 use Rattle.std.proofs.Common.{◌≡◌, ℕ, zero, suc, List, [], ◌∷◌, map, Option, Some, None, ⊎_elim, slice_get, refl, sym, ap, ◌∙◌, subst, arith, if◌then◌else◌}
-use Rattle.std.proofs.lemmas.Bool.Decides.{eqb_decides}
+use Rattle.std.proofs.lemmas.Bool.Decides.{eqb_tells}
 use Rattle.pliron_core.specs.declared.attrs.AttrObj.{AttrObj}
 use Rattle.pliron_core.proofs.HoldingLemmas.{some_is, not_none}
 use Rattle.pliron_laws.specs.Datum.{Datum, datum_of}
@@ -42,7 +42,7 @@ module _ (facts : ℕ → Option AttrObj) where
   bound_confirms env x y here so v c d f e = ⊎_elim
       (λ s. here c (ap facts (sym s.1) ∙ f) ∙ some_is (ap (λ b. if b then Some y else env v) (sym s.0) ∙ e))
       (λ n. so v c d f (ap (λ b. if b then Some y else env v) (sym n.0) ∙ e))
-      (eqb_decides v x)
+      (eqb_tells v x)
 
   pub bind_confirms : (vs : List ℕ) (ds : List Datum) (env env1 : Environment) → ((i v : ℕ) (c : AttrObj) (d : Datum) → slice_get vs i ≡ Some v → facts v ≡ Some c → slice_get ds i ≡ Some d → datum_of c ≡ d) → bind env vs ds ≡ Some env1 → Confirms env → Confirms env1
   bind_confirms [] [] env env1 h e so = let f : env ≡ env1 = cc in subst Confirms f so

@@ -1,7 +1,7 @@
 -- Making an operation that gives at once and putting it into a block keeps what roots do.
 use Rattle.std.proofs.Common.{◌≡◌, ◌≢◌, inl, inr, ⊎_elim, ℕ, ◌<◌, ◌≤◌, true, false, true≢false, nat_eq, if◌then◌else◌, List, [], ◌∷◌, length, Option, Some, None, IsSome, is_some, refl, sym, ap, ◌∙◌, subst}
 use Rattle.std.proofs.lemmas.Bool.{cases_eq, eq-eqb, ne_eqb}
-use Rattle.std.proofs.lemmas.Bool.Decides.{eqb_decides}
+use Rattle.std.proofs.lemmas.Bool.Decides.{eqb_tells}
 use Rattle.std.proofs.lemmas.List.{get_or-set_other, get_or-set_same}
 use Rattle.pliron_core.specs.declared.context.Def.{Def}
 use Rattle.pliron_core.specs.declared.context.Def.TheVariants.{Result, Argument}
@@ -23,13 +23,13 @@ use Rattle.pliron_theory.proofs.PutStays.{no_block_dead}
 use Rattle.pliron_theory.proofs.PutKeeps.{KeepsReads, put_keeps, put_reads}
 
 pub it_is : (n k : ℕ) → nat_eq n k ≡ true → k ≡ n
-it_is n k e = ⊎_elim (λ y. sym y.1) (λ x. absurd (true≢false (sym e ∙ x.0))) (eqb_decides n k)
+it_is n k e = ⊎_elim (λ y. sym y.1) (λ x. absurd (true≢false (sym e ∙ x.0))) (eqb_tells n k)
 
 pub it_is_not : (n k : ℕ) → nat_eq n k ≡ false → k ≢ n
 it_is_not n k e f = absurd (true≢false (sym (eq-eqb n k (sym f)) ∙ e))
 
 pub not_it : (n k : ℕ) → k ≢ n → nat_eq n k ≡ false
-not_it n k ne = ⊎_elim (λ y. absurd (ne (sym y.1))) (λ x. x.0) (eqb_decides n k)
+not_it n k ne = ⊎_elim (λ y. absurd (ne (sym y.1))) (λ x. x.0) (eqb_tells n k)
 
 -- what is put before `at` comes before it, so it stands last only where nothing stood
 pub swept_put : (at n : ℕ) (xs : List ℕ) → (In n xs → ⊥) → In at xs → swept (nat_eq n) (put_before at n xs) ≡ xs
@@ -37,14 +37,14 @@ swept_put at n [] f i = refl
 swept_put at n (x ∷ xs) f i = ⊎_elim
     (λ y. ap (λ b. swept (nat_eq n) (if b then n ∷ x ∷ xs else x ∷ put_before at n xs)) y.0 ∙ ap (λ b. keep b n (swept (nat_eq n) (x ∷ xs))) (eq-eqb n n refl) ∙ swept_all (nat_eq n) (x ∷ xs) (λ k j. not_it n k (λ e. f (subst (λ z. In z (x ∷ xs)) e j))))
     (λ u. ap (λ b. swept (nat_eq n) (if b then n ∷ x ∷ xs else x ∷ put_before at n xs)) u.0 ∙ ap (λ b. keep b x (swept (nat_eq n) (put_before at n xs))) (ne_eqb n x (λ e. f (inl e))) ∙ ap (λ l. x ∷ l) (swept_put at n xs (λ j. f (inr j)) (⊎_elim (λ e. absurd (u.1 e)) (λ j. j) i)))
-    (eqb_decides at x)
+    (eqb_tells at x)
 
 pub put_not_last : (at n : ℕ) (xs : List ℕ) (before : Option ℕ) → (In n xs → ⊥) → (before ≡ Some n → ⊥) → last_of before (put_before at n xs) ≡ Some n → ⊥
 put_not_last at n [] before f b e = b e
 put_not_last at n (x ∷ xs) before f b e = ⊎_elim
     (λ y. f (last_member (x ∷ xs) (Some n) (ap (λ z. last_of before (if z then n ∷ x ∷ xs else x ∷ put_before at n xs)) (sym y.0) ∙ e)))
     (λ u. put_not_last at n xs (Some x) (λ i. f (inr i)) (λ g. f (inl (sym (some_is g)))) (ap (λ z. last_of before (if z then n ∷ x ∷ xs else x ∷ put_before at n xs)) (sym u.0) ∙ e))
-    (eqb_decides at x)
+    (eqb_tells at x)
   where
     last_member : (ys : List ℕ) (o : Option ℕ) → last_of o (x ∷ xs) ≡ Some n → In n (x ∷ xs)
     last_member ys o g = last_of-In n (x ∷ xs) g

@@ -1,7 +1,7 @@
 -- Facts while one constant is put for a value.
 use Rattle.std.proofs.Common.{◌≡◌, ◌≢◌, inr, ⊎_elim, ℕ, false, nat_eq, if◌then◌else◌, List, [], ◌∷◌, map, length, Some, None, refl, sym, ap, ◌∙◌, subst, arith, IsTrue}
 use Rattle.std.proofs.lemmas.Bool.{cases_eq, eq-eqb}
-use Rattle.std.proofs.lemmas.Bool.Decides.{eqb_decides}
+use Rattle.std.proofs.lemmas.Bool.Decides.{eqb_tells}
 use Rattle.std.proofs.lemmas.List.{get_or-set_other, get_or-set_same}
 use Rattle.std.proofs.lemmas.Option.{slice_get_within}
 use Rattle.pliron_core.specs.declared.attrs.AttrObj.{AttrObj}
@@ -35,7 +35,7 @@ pub instead_other : {A : Type 0} (n : ℕ) (a : A) (g : ℕ → A) (v : ℕ) →
 instead_other n a g v ne = ⊎_elim
     (λ y. absurd (ne y.1))
     (λ u. ap (λ b. if b then a else g v) u.0)
-    (eqb_decides v n)
+    (eqb_tells v n)
 
 -- the facts with the new value
 abbrev pub facts_with : LatticeValues → (old new : ℕ) → LatticeValues
@@ -98,13 +98,13 @@ module _ (x : Says) (t : Tree) (f : LatticeValues) (read : ℕ → LatticeValue)
         ap (λ b. instead new (f.lattice_value old) f.lattice_value (if b then new else v)) z.0 ∙ instead_other new (f.lattice_value old) f.lattice_value v (used_old k v i),
         ap (λ b. instead new (Constant attr) read (if b then new else v)) z.0 ∙ instead_other new (Constant attr) read v (used_old k v i),
       ))
-      (eqb_decides v old)
+      (eqb_tells v old)
 
   finer_too : (v : ℕ) → AtMost ((facts_with f old new).lattice_value v) (read_with read new attr v)
   finer_too v = ⊎_elim
       (λ y. subst (λ b. AtMost (if b then f.lattice_value old else f.lattice_value v) (if b then Constant attr else read v)) (sym y.0) (subst (AtMost (f.lattice_value old)) is (finer old)))
       (λ z. subst (λ b. AtMost (if b then f.lattice_value old else f.lattice_value v) (if b then Constant attr else read v)) (sym z.0) (finer v))
-      (eqb_decides v new)
+      (eqb_tells v new)
 
   pub put_carried : IsCarried x t u f (facts_with f old new) read (read_with read new attr) (replace_target old new) (λ k. k ≡ n)
   put_carried = record {

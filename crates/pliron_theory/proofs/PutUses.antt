@@ -1,6 +1,6 @@
 -- Users of a value may use the result of an operation that was put before what defines the value.
 use Rattle.std.proofs.Common.{◌≡◌, ◌≢◌, inl, inr, ⊎_elim, ℕ, List, [], ◌∷◌, ◌++◌, if◌then◌else◌, Option, Some, None, slice_get, refl, sym, ap, ◌∙◌, subst, arith}
-use Rattle.std.proofs.lemmas.Bool.Decides.{eqb_decides}
+use Rattle.std.proofs.lemmas.Bool.Decides.{eqb_tells}
 use Rattle.pliron_core.specs.declared.context.Def.{Def}
 use Rattle.pliron_core.specs.declared.context.Def.TheVariants.{Result, Argument}
 use Rattle.pliron_core.specs.Lists.{In, put_before}
@@ -20,7 +20,7 @@ pub put_passed : (at n u : ℕ) (xs done rest : List ℕ) → put_before at n xs
 put_passed at n u [] [] rest e i = absurd i
 put_passed at n u [] (d ∷ done) rest e i = grind arith
 put_passed at n u (x ∷ xs) [] rest e i = absurd i
-put_passed at n u (x ∷ xs) (d ∷ done) rest e i = ⊎_elim (λ y. here (ap (λ b. if b then n ∷ x ∷ xs else x ∷ put_before at n xs) (sym y.0) ∙ e)) (λ y. there y.1 (ap (λ b. if b then n ∷ x ∷ xs else x ∷ put_before at n xs) (sym y.0) ∙ e) (λ f j. put_passed at n u xs done rest f j) i) (eqb_decides at x)
+put_passed at n u (x ∷ xs) (d ∷ done) rest e i = ⊎_elim (λ y. here (ap (λ b. if b then n ∷ x ∷ xs else x ∷ put_before at n xs) (sym y.0) ∙ e)) (λ y. there y.1 (ap (λ b. if b then n ∷ x ∷ xs else x ∷ put_before at n xs) (sym y.0) ∙ e) (λ f j. put_passed at n u xs done rest f j) i) (eqb_tells at x)
   where
     here : n ∷ x ∷ xs ≡ d ∷ done ++ u ∷ rest → In n (d ∷ done)
     here f = let g : n ≡ d = cc in inl g

@@ -1,6 +1,6 @@
 -- Replacing the uses of a value by one of the same datum keeps what roots do.
 use Rattle.std.proofs.Common.{◌≢◌, inl, inr, ℕ, List, [], ◌∷◌, map, if◌then◌else◌, ⊎_elim, refl, sym, ap, ◌∙◌, subst, arith}
-use Rattle.std.proofs.lemmas.Bool.Decides.{eqb_decides}
+use Rattle.std.proofs.lemmas.Bool.Decides.{eqb_tells}
 use Rattle.pliron_core.specs.Uses.{replace_target}
 use Rattle.pliron_core.specs.Tree.{Tree, In, operands_of}
 use Rattle.pliron_core.specs.Writes.{after_replacing}
@@ -30,7 +30,7 @@ unreplaced old new v ne [] i = absurd i
 unreplaced old new v ne (x ∷ xs) (inl e) = ⊎_elim
     (λ y. absurd (ne (e ∙ ap (λ b. if b then new else x) y.0)))
     (λ n. inl (e ∙ ap (λ b. if b then new else x) n.0))
-    (eqb_decides x old)
+    (eqb_tells x old)
 unreplaced old new v ne (x ∷ xs) (inr i) = inr (unreplaced old new v ne xs i)
 
 module _ (m : Meaning) (t : Tree) (old new root : ℕ) where
@@ -38,13 +38,13 @@ module _ (m : Meaning) (t : Tree) (old new root : ℕ) where
   uses_replaced f uses user v i = ⊎_elim
       (λ y. subst (λ z. MayUse t root user z) (sym (ap (λ b. if b then new else v) y.0)) (uses user (subst (λ z. In z (operands_of t user)) y.1 i)))
       (λ n. subst (λ z. MayUse t root user z) (sym (ap (λ b. if b then new else v) n.0)) (may_use_own m t root user v f i))
-      (eqb_decides v old)
+      (eqb_tells v old)
 
   pub data_replaced : HasSameDatum m t (after_replacing t old new) old new root → HaveSameData m t (after_replacing t old new) (replace_target old new) root
   data_replaced same s s' k v rest i j e q q' none none' u = ⊎_elim
       (λ y. ap s.environment y.1 ∙ same s s' k rest i j e q q' none none' (subst (λ z. In z (operands_of t k)) y.1 u) ∙ ap (λ b. s.environment (if b then new else v)) (sym y.0))
       (λ n. ap (λ b. s.environment (if b then new else v)) (sym n.0))
-      (eqb_decides v old)
+      (eqb_tells v old)
 
   -- one root stays fit, and does the same
   pub replaced_fit : IsFit m t root → ((user : ℕ) → In old (operands_of t user) → MayUse t root user new) → IsFit m (after_replacing t old new) root

@@ -1,7 +1,7 @@
 -- A root does the same once a block joined the end of its only predecessor.
 use Rattle.std.proofs.Common.{◌≡◌, ◌≢◌, ◌⊎◌, inl, inr, ⊎_elim, ℕ, ◌+◌, ◌<◌, Bool, true, false, true≢false, nat_eq, List, [], ◌∷◌, ◌++◌, length, Option, Some, None, slice_get, refl, sym, ap, ap₂, ◌∙◌, subst, arith, append_assoc, append-nil, if◌then◌else◌}
 use Rattle.std.proofs.lemmas.Bool.{cases_eq, eq-eqb}
-use Rattle.std.proofs.lemmas.Bool.Decides.{eqb_decides}
+use Rattle.std.proofs.lemmas.Bool.Decides.{eqb_tells}
 use Rattle.pliron_core.specs.declared.context.Def.{Def}
 use Rattle.pliron_core.specs.declared.context.Def.TheVariants.{Result, Argument}
 use Rattle.pliron_core.specs.Tree.{Tree, In, IsDistinct, without, first_of, last_of, IsLive, IsInside, IsMadeBy, head_of, operands_of, successors_of, results_of, regions_of, parent_of, body_of, arguments_of, block_parent_of, layout_of, region_parent_of, definition_of, op_of_slot}
@@ -222,7 +222,7 @@ module _ (m : Meaning) (t t' : Tree) (a b jump : ℕ) (front : List ℕ) (w : Is
         d = is_taken (nat_eq jump k) (body_of t b) l q
 
         same : k ≡ jump
-        same = ⊎_elim (λ y. sym y.1) (λ z. absurd (true≢false (sym d ∙ z.0))) (eqb_decides jump k)
+        same = ⊎_elim (λ y. sym y.1) (λ z. absurd (true≢false (sym d ∙ z.0))) (eqb_tells jump k)
 
         fr : (s.memo ≡ Empty) × (s.answer ≡ None)
         fr = subst (λ z. HeadAt m t t' comparison (taking z (body_of t b)) k s.memo s.answer) d (subst (λ z. PlaceAt m t t' comparison z s.memo s.answer) e r.place.1)

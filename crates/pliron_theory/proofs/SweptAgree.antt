@@ -1,6 +1,6 @@
 -- A root does the same without operations that give at once and blocks that no run comes to.
 use Rattle.std.proofs.Common.{◌≡◌, ◌⊎◌, inl, inr, ⊎_elim, ℕ, ◌+◌, ◌<◌, Bool, true, false, true≢false, List, [], ◌∷◌, ◌++◌, length, Option, Some, None, slice_get, refl, sym, ap, ap₂, ◌∙◌, subst, arith, append_assoc, if◌then◌else◌}
-use Rattle.std.proofs.lemmas.Bool.Decides.{eqb_decides}
+use Rattle.std.proofs.lemmas.Bool.Decides.{eqb_tells}
 use Rattle.pliron_core.specs.Tree.{Tree, In, IsLive, head_of, operands_of, regions_of, parent_of, body_of, definition_of}
 use Rattle.pliron_core.specs.Invariant.{IsTree}
 use Rattle.pliron_core.proofs.ListLemmas.{In-right}
@@ -41,7 +41,7 @@ module _ (deleted : ℕ → Bool) where
   bound_gone env env' e v d g w l = ⊎_elim
       (λ y. absurd (true≢false (sym g ∙ ap deleted (sym y.1) ∙ l)))
       (λ n. ap (λ b. if b then Some d else env w) n.0 ∙ e w l)
-      (eqb_decides w v)
+      (eqb_tells w v)
 
   -- binding values that are gone changes nothing else
   pub bind_gone : (vs : List ℕ) (ds : List Datum) (env env' : Environment) → length ds ≡ length vs → ((v : ℕ) → In v vs → deleted v ≡ true) → SameBut deleted env env' → (env1 : Environment) × (bind env vs ds ≡ Some env1) × SameBut deleted env1 env'

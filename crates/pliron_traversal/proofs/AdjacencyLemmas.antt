@@ -7,7 +7,7 @@ use Rattle.std.proofs.lemmas.List.Elements.{All-nil, All-replicate, All-get_or, 
 use Rattle.std.proofs.lemmas.Option.{slice_get-get_or}
 use Rattle.std.proofs.Math.ListN.{get_or-append}
 use Rattle.std.proofs.Math.Seq.{get_or-append_seam}
-use Rattle.std.proofs.lemmas.Bool.Decides.{eqb_decides, nat_tests}
+use Rattle.std.proofs.lemmas.Bool.Decides.{eqb_tells, nat_tests}
 use Rattle.pliron_traversal.specs.Internal.Membership.{any_append}
 use Rattle.pliron_traversal.specs.Internal.AdjacencyLawful.{node_below}
 use Rattle.pliron_traversal.specs.Adjacency.{row, count_from, AreBelow, AreInverse}
@@ -64,7 +64,7 @@ pub adds_edge : (rows : List (List ℕ)) (u w : ℕ) (r : List ℕ) → w < leng
     → ((r ≡ row rows w ++ u ∷ []) × (slice_get (row rows w) (length (row rows w) - 1) ≡ Some u → ⊥)) ⊎ ((r ≡ row rows w) × (list_any (nat_eq u) (row rows w) ≡ true)) → AddsEdges rows (set rows w r) u (w ∷ [])
 adds_edge rows u w r l cases = record {
   same_length = length-set rows w r;
-  listed = λ x v m. elim (eqb_decides v w) [
+  listed = λ x v m. elim (eqb_tells v w) [
     | inl t ↦
         let here : row (set rows w r) v ≡ r = subst (λ z. row (set rows w r) z ≡ r) (sym t.1) (get_or-set_same rows w r [] l) in
         let old : row rows v ≡ row rows w = ap (row rows) t.1 in
@@ -93,7 +93,7 @@ adds_edge rows u w r l cases = record {
         unchanged_at : (a : Bool) → a ≡ a || (false && (true || false))
         unchanged_at true = refl
         unchanged_at false = refl
-    kept x true e h = elim (eqb_decides x u) [
+    kept x true e h = elim (eqb_tells x u) [
       | inl t ↦ let there : list_any (nat_eq x) (row rows w) ≡ true = subst (λ z. list_any (nat_eq z) (row rows w) ≡ true) (sym t.1) h in rw there refl
       | inr t ↦ absurd (true≢false (sym e ∙ t.0))
     ]
@@ -157,7 +157,7 @@ adds_row succ pred pred' i within rows edges = record {
 }
   where
     taken : (x v : ℕ) → (nat_lt x i && list_any (nat_eq v) (row succ x)) || (nat_eq x i && list_any (nat_eq v) (row succ i)) ≡ nat_lt x (i + 1) && list_any (nat_eq v) (row succ x)
-    taken x v = elim (eqb_decides x i) [
+    taken x v = elim (eqb_tells x i) [
       | inl t ↦ elim (lt_tells x i) [
         | inl s ↦ absurd (omega (arith, s.1, t.1))
         | inr s ↦ elim (lt_tells x (i + 1)) [

@@ -2,7 +2,7 @@
 use Rattle.std.proofs.Common.{◌≡◌, ℕ, zero, suc, ◌+◌, ◌-◌, ◌<◌, Bool, true, false, not, cond, ◌||◌, List, [], ◌∷◌, ◌++◌, length, set, get_or, refl, sym, ◌∙◌, ap, subst, arith, inl, inr, true≢false, nat_eq, if◌then◌else◌}
 use Rattle.std.specs.List.{list_any, IsDistinct, AllByRecursion}
 use Rattle.std.proofs.lemmas.List.{get_or-set_same, get_or-set_other}
-use Rattle.std.proofs.lemmas.Bool.Decides.{eqb_decides}
+use Rattle.std.proofs.lemmas.Bool.Decides.{eqb_tells}
 use Rattle.indexmap.specs.IndexSet.{insert_key}
 use Rattle.pliron_traversal.specs.Search.{number_in}
 use Rattle.pliron_traversal.specs.Internal.AdjacencyLawful.{reflexive}
@@ -50,7 +50,7 @@ distinct_push [] v h e = (tt, tt)
 distinct_push (x ∷ xs) v h e = (apart xs h.0, distinct_push xs v h.1 (none_past x xs v e))
   where
     other : nat_eq x v ≡ false
-    other = elim (eqb_decides x v) [
+    other = elim (eqb_tells x v) [
       | inl t ↦ absurd (true≢false (sym (subst (λ z. nat_eq z x ≡ true) t.1 (reflexive x)) ∙ none_here x xs v e))
       | inr t ↦ t.0
     ]
@@ -70,7 +70,7 @@ module _ (members marks : List ℕ) (h : AreMarks members marks) where
 
   pub marks_pushed : (v : ℕ) (mark : ℕ) → v < length marks → mark ≡ length members + 1 → mark_of members v ≡ 0 → AreMarks (members ++ v ∷ []) (set marks v mark)
   marks_pushed v mark within is none = record {
-    at = λ u. elim (eqb_decides u v) [ inl t ↦ new u t.1 | inr t ↦ old u t.0 t.1 ];
+    at = λ u. elim (eqb_tells u v) [ inl t ↦ new u t.1 | inr t ↦ old u t.0 t.1 ];
     distinct = distinct_push members v h.distinct unlisted;
   }
     where

@@ -2,7 +2,7 @@
 use Rattle.std.proofs.Common.{◌≡◌, ℕ, zero, suc, ◌+◌, ◌<◌, Bool, true, false, true≢false, ◌||◌, Option, None, is_some, List, [], ◌∷◌, ◌++◌, length, drop, map, get_or, slice_get, Some, refl, sym, ◌∙◌, ap, subst, arith, inl, inr, ◌⊎◌, nat_eq}
 use Rattle.std.specs.Cmp.{IsEquivalence}
 use Rattle.std.specs.List.{All, AllByRecursion, list_any}
-use Rattle.std.proofs.lemmas.Bool.Decides.{eqb_decides}
+use Rattle.std.proofs.lemmas.Bool.Decides.{eqb_tells}
 use Rattle.std.proofs.lemmas.List.{drop_more, drop_all, map-append, map_push}
 use Rattle.std.proofs.lemmas.List.Elements.{All-contains, All-get_or, All-from_recursion, Contains-get_or}
 use Rattle.std.proofs.lemmas.Option.{same_Some, slice_get-get_or, slice_get_within, get_or_from_slice_get}
@@ -108,7 +108,7 @@ module _ {N : Type 0} (eq : N → N → Bool) (laws : IsEquivalence eq) (g : Dig
   ]
 
   same_test : (k j : ℕ) → k < length lists.succ → j < length lists.succ → eq (node k) (node j) ≡ nat_eq k j
-  same_test k j lk lj = elim (eqb_decides k j) [
+  same_test k j lk lj = elim (eqb_tells k j) [
     | inl t ↦ ap (λ z. eq (node k) (node z)) (sym t.1) ∙ laws.refl (node k) ∙ sym t.0
     | inr t ↦ apart (eq (node k) (node j)) refl t.1 ∙ sym t.0
   ]

@@ -3,7 +3,7 @@ use Rattle.std.proofs.Common.{◌≡◌, ℕ, zero, suc, ◌+◌, ◌<◌, ◌�
 use Rattle.std.specs.List.{All, slice_index_or, IsDistinct, AllByRecursion}
 use Rattle.std.proofs.lemmas.List.Elements.{All-get_or, All-contains}
 use Rattle.std.proofs.lemmas.Bool.{eqb-true, eq-eqb}
-use Rattle.std.proofs.lemmas.Bool.Decides.{eqb_decides}
+use Rattle.std.proofs.lemmas.Bool.Decides.{eqb_tells}
 use Rattle.std.proofs.lemmas.Option.{slice_get_within, same_Some}
 use Rattle.pliron_traversal.specs.Digraph.{IsLawful}
 use Rattle.pliron_traversal.specs.Adjacency.{Adjacency, graph_of, count_from, first_listed, row, AreInverse}
@@ -27,11 +27,11 @@ count_has i (suc n) v l h = by (nat_eq i v) refl (λ m. count_has (i + 1) n v m 
   where
     by : (b : Bool) → nat_eq i v ≡ b → (i + 1 ≤ v → HasMember (count_from (i + 1) n) v) → (i ≡ v) ⊎ HasMember (count_from (i + 1) n) v
     by true e rest = inl (same i v e)
-    by false e rest = inr (rest (elim (eqb_decides i v) [ inl t ↦ absurd (true≢false (sym t.0 ∙ e)) | inr t ↦ omega (arith, l, t.1) ]))
+    by false e rest = inr (rest (elim (eqb_tells i v) [ inl t ↦ absurd (true≢false (sym t.0 ∙ e)) | inr t ↦ omega (arith, l, t.1) ]))
 
 apart : (i j n : ℕ) → i < j → AllByRecursion (λ y. nat_eq i y ≡ false) (count_from j n)
 apart i j zero l = tt
-apart i j (suc n) l = ((elim (eqb_decides i j) [ inl t ↦ absurd (omega (arith, l, t.1)) | inr t ↦ t.0 ]), apart i (j + 1) n (omega arith))
+apart i j (suc n) l = ((elim (eqb_tells i j) [ inl t ↦ absurd (omega (arith, l, t.1)) | inr t ↦ t.0 ]), apart i (j + 1) n (omega arith))
 
 distinct : (i n : ℕ) → IsDistinct nat_eq (count_from i n)
 unfolding IsDistinct
