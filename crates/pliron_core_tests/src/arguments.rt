@@ -1,6 +1,6 @@
 //! Arguments that are removed one after the other, at places in any order.
 
-use crate::steps::{CONST, block, head, in_new_context, operation};
+use crate::steps::{CONST, block, head, in_new_context, number, operation};
 use pliron_core::{BasicBlock, Context, Def, Ptr, Value};
 use std::alloc::Global;
 use std::process::Abort;
@@ -21,10 +21,6 @@ eight of nine -- 9 2 1 3 2 1 0 2 0 => 7
 six of ten -- 10 7 2 0 6 4 0 => 3 4 5 8
 three of six, two at one place -- 6 1 1 0 => 3 4 5
 ten of twelve -- 12 5 7 9 3 3 5 2 3 0 2 => 1 6";
-
-fn number(rt: &impl Abort, word: &str) -> usize {
-    word.parse::<usize>().ok().expect(rt, "a number")
-}
 
 fn argument_of(rt: &impl Abort, ctx: &Context, block: Ptr<BasicBlock>, i: usize) -> Value {
     assert!(rt; block.is_live(ctx));

@@ -1,6 +1,8 @@
 //! Operands that are removed one after the other, at places in any order, with others pushed in between.
 
-use crate::steps::{CONST, add_operand, head, in_new_context, operand_of, operation, result_of};
+use crate::steps::{
+    CONST, add_operand, head, in_new_context, number, operand_of, operation, result_of,
+};
 use pliron_core::{Context, Operation, Ptr, Value};
 use std::alloc::Global;
 use std::process::Abort;
@@ -30,10 +32,6 @@ three pushed in between, one left -- 7 +2 4 1 5 0 2 0 0 0 +4 0 +6 => 6
 the first two of three -- 3 0 0 => 2
 one pushed in between, of nine -- 9 1 +5 6 4 5 3 => 0 2 3 6 5
 three pushed in between, of seven -- 7 3 0 4 +3 1 3 +5 +2 => 1 4 5 5 2";
-
-fn number(rt: &impl Abort, word: &str) -> usize {
-    word.parse::<usize>().ok().expect(rt, "a number")
-}
 
 // So many operations with one result each, and their results.
 pub fn make_values(

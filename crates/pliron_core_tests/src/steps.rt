@@ -101,6 +101,11 @@ pub fn operand_of(rt: &impl Abort, ctx: &Context, op: Ptr<Operation>, i: usize) 
     op.get_operand(ctx, i)
 }
 
+// The number that the word of a case is.
+pub fn number(rt: &impl Abort, word: &str) -> usize {
+    word.parse::<usize>().ok().expect(rt, "a number")
+}
+
 // The operation is moved to the end of the block.
 pub fn append(
     rt: &impl Abort,
