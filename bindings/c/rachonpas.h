@@ -22,8 +22,8 @@
 extern "C" {
 #endif
 
-/* The interface that this header declares. A program may ask that `plir_version() == PLIR_VERSION`. It is 2 since the two
- * calls on modules of MLIR are there; the four of interface 1 are as they were. */
+/* The interface that this header declares. A program may ask that `plir_version() == PLIR_VERSION`. Interface 1 lacks the
+ * two calls on modules of MLIR. */
 #define PLIR_VERSION 2
 
 /* The most bytes of a text, and of a module of MLIR. */
