@@ -25,6 +25,8 @@ int main(int count, char **words) {
             fprintf(stderr, "%zu:%zu: expected %.*s\n", place.line, place.column, (int)needed, expected);
     } else if (status == PLIR_ANSWERED) {
         fwrite(answer, 1, needed, stdout);
+    } else {
+        fprintf(stderr, "%s\n", plir_status_text(status));
     }
     free(answer);
     return status == PLIR_ANSWERED ? 0 : status == PLIR_REFUSED || status == PLIR_MEMORY ? 1 : 2;

@@ -1,10 +1,12 @@
-/* Rachonpas for C: optimisations whose proofs say that the program behaves as before.
+/* Rachonpas for C: optimisations whose proofs say that the program behaves as before. The names of its calls begin with
+ * `plir_`, as those of its programs; the library is librachonpas, and `pkg-config rachonpas` says how to link it.
  *
  * Each call takes texts as a pointer and a length, and puts its answer into a buffer of the caller. It keeps nothing
  * between calls, starts no thread, and frees what it takes, by malloc, realloc and free of the program.
  *
  * What a caller owes, which nothing tests:
- *   - each pointer is that of so many bytes as the length beside it says, also where that is 0: none is NULL;
+ *   - each pointer is that of so many bytes as the length beside it says, also where that is 0: none is NULL. Of what may
+ *     have a NULL pointer where it is empty, as a std::string_view, pass `plir_or_empty(it.data())`;
  *   - `output`, `*needed`, `*changed` and `*place` overlap nothing else that is passed to the same call, and no other
  *     thread touches them while it runs; the texts may be shared, and aren't written;
  *   - a length is below 2^63;
@@ -37,12 +39,28 @@ enum {
     PLIR_ANSWERED = 0,  /* The whole answer is at the start of `output`; `*needed` is its length. */
     PLIR_REFUSED = 1,   /* The passes gave up: a value of an unreachable block is used. */
     PLIR_TEXT = 2,      /* The text is outside the notation, or longer than PLIR_MAX_TEXT or PLIR_MAX_MODULE. */
-    PLIR_ARGUMENTS = 3, /* The pipeline isn't a list of passes. */
+    PLIR_ARGUMENTS = 3, /* The pipeline isn't a list of passes; the only argument that has words of its own. */
     PLIR_TOO_SMALL = 4, /* The answer has `*needed` bytes, which are more than `output_capacity`. */
     PLIR_MEMORY = 5     /* Memory was refused. */
 };
 /* With each status but PLIR_ANSWERED nothing is written to `output`; with each but that and PLIR_TOO_SMALL `*needed`
  * is 0. Behind an answer, `output` keeps what it held: no zero byte is put there. */
+
+/* What a status means, for people; a text for any number. */
+static inline const char *plir_status_text(plir_status status) {
+    switch (status) {
+    case PLIR_ANSWERED: return "answered";
+    case PLIR_REFUSED: return "the passes gave up: a value of an unreachable block is used";
+    case PLIR_TEXT: return "the text is outside the notation, or too long";
+    case PLIR_ARGUMENTS: return "the pipeline isn't a list of passes";
+    case PLIR_TOO_SMALL: return "the answer is longer than the buffer";
+    case PLIR_MEMORY: return "memory was refused";
+    default: return "no status of this interface";
+    }
+}
+
+/* The text, or an empty one where the pointer is NULL. */
+static inline const char *plir_or_empty(const char *text) { return text != NULL ? text : ""; }
 
 /* A part of a text: it begins after `start` bytes and has `length`; its first byte is in this line and column,
  * counted from 1, columns by bytes. All are 0 where no part is meant. */

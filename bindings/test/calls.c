@@ -246,6 +246,8 @@ static void try_edges(void) {
     char bytes[256], *long_text = padded(PLIR_MAX_TEXT + 1), *full_text = full(PLIR_MAX_TEXT);
     for (int i = 0; i < 256; i++) bytes[i] = (char)i;
     if (plir_version() != PLIR_VERSION) fault(NULL, "version");
+    if (strcmp(plir_status_text(PLIR_MEMORY), "memory was refused") != 0 || plir_status_text(99)[0] == 0) fault(NULL, "the text of a status");
+    if (plir_or_empty(NULL)[0] != 0 || plir_or_empty(bytes) != bytes) fault(NULL, "a text that is NULL");
     expect("an empty text", "sccp", "", 0, PLIR_TEXT, 0);
     expect("bytes that are no text", "sccp", bytes, 256, PLIR_TEXT, 0);
     for (int i = 0; i < 256; i++) expect("one byte", "dce", bytes + i, 1, PLIR_TEXT, 0);

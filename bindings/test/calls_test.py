@@ -2,6 +2,7 @@
 """Tests of the module for Python: the worked rows, edges, and threads. `RACHONPAS_LIBRARY` names another library."""
 import doctest
 import os
+import subprocess
 import sys
 import threading
 import unittest
@@ -113,6 +114,23 @@ class Edges(unittest.TestCase):
         answer = rachonpas.optimise_mlir("dce", module)
         self.assertEqual(answer.text.encode(errors="surrogateescape"), module)
         self.assertEqual(rachonpas.optimise_mlir("dce", answer.text), answer)
+
+    def test_texts_that_are_neither_str_nor_bytes(self):
+        for text in (5, None, ["func"]):
+            self.assertRaises(TypeError, rachonpas.optimise, "dce", text)
+            self.assertRaises(TypeError, rachonpas.find_fault_mlir, text)
+        self.assertEqual(rachonpas.optimise("sccp,dce", bytearray(SUM.encode())), rachonpas.optimise("sccp,dce", SUM))
+
+    def test_a_library_that_is_missing(self):
+        for library in ("/nowhere/librachonpas.so", rachonpas.__file__):
+            env = {**os.environ, "RACHONPAS_LIBRARY": library, "PYTHONPATH": f"{HERE}/../python"}
+            ran = subprocess.run([sys.executable, "-c", "import rachonpas"], env=env, capture_output=True, text=True)
+            self.assertIn("ImportError: rachonpas: the shared library isn't there", ran.stderr)
+            self.assertIn("make -C bindings/c", ran.stderr)
+
+    def test_the_version(self):
+        with open(f"{HERE}/../../VERSION", encoding="ascii") as it:
+            self.assertEqual(rachonpas.__version__, it.read().strip())
 
     def test_errors(self):
         error = rachonpas.TextError(rachonpas.find_fault(BROKEN))

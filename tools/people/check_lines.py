@@ -162,10 +162,12 @@ def shown(name, text, check, why, output, at):
 
 def test(plir, name, prefix):
     """What is wrong with the text's lines; nothing where all is right."""
-    text = program.read(name)
+    text = Path(name).read_text()
     runs, checks = lines_of(text, prefix)
     if not runs:
         return f"error: {name} has no line `// RUN: ..`\n"
+    if not checks and not any(words_of(run, name)[1] for run, _ in runs):
+        return f"error: {name} has no line `// {prefix}: ..`, so it tests nothing but statuses\n"
     with tempfile.TemporaryDirectory(prefix="plir-") as folder:
         file = f"{folder}/{Path(name).name}"
         Path(file).write_text(notation.without_comments(text))
@@ -190,16 +192,28 @@ def tested(plir, name, file, text, runs, checks):
     return ""
 
 
-def main():
+def words():
     about = argparse.ArgumentParser(
         prog="plir test", description=__doc__, formatter_class=argparse.RawDescriptionHelpFormatter
     )
     about.add_argument("files", metavar="FILE", nargs="+", help="a text with RUN and CHECK lines")
     about.add_argument("--check-prefix", metavar="WORD", default="CHECK", help="what stands for CHECK")
-    asked = about.parse_args()
+    return about
+
+
+def tried(plir, name, prefix):
+    """What is wrong with the file, also where it can't be read."""
+    try:
+        return test(plir, name, prefix)
+    except (OSError, UnicodeDecodeError) as error:
+        return f"error: cannot read {name}: {getattr(error, 'strerror', None) or error}\n"
+
+
+def main():
+    asked = words().parse_args()
     plir, failed = program.Plir(), 0
     for name in asked.files:
-        wrong = test(plir, name, asked.check_prefix)
+        wrong = tried(plir, name, asked.check_prefix)
         print(f"{'FAIL' if wrong else 'PASS'}: {name}")
         sys.stderr.write(wrong)
         failed += bool(wrong)

@@ -36,6 +36,8 @@ span.went { color: #b3261e; } span.came { color: #116329; }
 .place { color: #6e7781; font: 13px ui-monospace, monospace; }
 """
 
+NO_PICTURES = "The command `dot` of Graphviz isn't on the path, so its input stands here in place of pictures."
+
 # The width of a picture, in points, from which on it takes a row of its own and keeps its size.
 WIDE = 640
 
@@ -62,7 +64,7 @@ def sides(before, after):
 
 
 def picture(plir, text, title, region):
-    """The control flow as SVG, where Graphviz is there, and else in its language."""
+    """The control flow as SVG where Graphviz is there, and else in its language."""
     status, dot, _ = plir.run("dot", "--region", region, text=text)
     if status:
         return ""
@@ -78,9 +80,11 @@ def picture(plir, text, title, region):
 
 
 def pictures(plir, before, after):
+    """The pictures of all regions, and a word where they are none."""
     regions = re.findall(r"\{ ((?:\d+\.)+\d+) \}", plir.run("dot", text=before)[1])
     shown = "".join(picture(plir, text, title, "0") for text, title in ((before, "before"), (after, "after")))
-    parts = [f'<div class="pictures">{shown}</div>']
+    parts = [] if shutil.which("dot") else [f"<p>{html.escape(NO_PICTURES)}</p>"]
+    parts.append(f'<div class="pictures">{shown}</div>')
     for region in regions[:40]:
         shown = "".join(
             picture(plir, text, f"{title}, region {region}", region) for text, title in ((before, "before"), (after, "after"))
@@ -114,17 +118,19 @@ def page(asked, plir, text):
     if status:
         sys.stderr.write(told.replace("standard input", asked.file))
         return status, ""
+    # All that cites lines is asked of the text as it is laid out here, so that places are those of the left column.
     before = notation.written(notation.read(text))
-    stats = plir.run("opt", "--stats", asked.pipeline, text=text)[2]
-    changed = plir.run("opt", "--print-changed", asked.pipeline, text=text)[2]
-    why = plir.run("explain", "--missed", asked.pipeline, text=text)[1]
-    unfit, said, wrong = plir.run("check", text=text)
+    stats = plir.run("opt", "--stats", asked.pipeline, text=before)[2]
+    changed = plir.run("opt", "--print-changed", asked.pipeline, text=before)[2]
+    why = plir.run("explain", "--missed", asked.pipeline, text=before)[1]
+    unfit, said, wrong = plir.run("check", text=before)
     wrong = wrong.replace("standard input", Path(asked.file).name)
     title = f"{Path(asked.file).name}: {asked.pipeline}"
     parts = [
         f"<h1>{html.escape(title)}</h1>",
         f"<p>{html.escape(said.strip())}</p>" if not unfit else f"<pre>{html.escape(wrong)}</pre>",
         "<h2>Before and after</h2>",
+        "<p>Lines on this page are those of the left column, where the text is laid out anew.</p>" if before != text else "",
         sides(before.rstrip("\n").split("\n"), after.rstrip("\n").split("\n")),
         "<h2>Control flow</h2>",
         pictures(plir, before, after),
@@ -139,16 +145,22 @@ def page(asked, plir, text):
     return 0, f"{head}<body>{''.join(parts)}</body></html>\n"
 
 
-def main():
+def words():
     about = argparse.ArgumentParser(prog="plir report", description=__doc__.split("\n\n")[1])
     about.add_argument("file", metavar="FILE", help="the text")
     about.add_argument("pipeline", metavar="PIPELINE", help="the passes, as for `plir opt`")
     about.add_argument("-o", "--output", metavar="FILE", help="where to write; standard output, if left out")
-    asked = about.parse_args()
+    return about
+
+
+def main():
+    asked = words().parse_args()
     plir = program.Plir()
     status, text = page(asked, plir, program.read(asked.file))
     if not status:
         program.write(asked.output, text)
+        if not shutil.which("dot"):
+            print(f"note: {NO_PICTURES}", file=sys.stderr)
     return status
 
 

@@ -24,6 +24,15 @@ pub struct Answer {
     pub is_changed: bool,
 }
 
+/// What passes left of a module that may be no UTF-8.
+#[derive(Clone, Debug, PartialEq, Eq)]
+pub struct AnswerBytes {
+    /// The module.
+    pub bytes: Vec<u8>,
+    /// Whether the passes changed it.
+    pub is_changed: bool,
+}
+
 /// Where a text is unreadable.
 #[derive(Clone, Debug, PartialEq, Eq)]
 pub struct Fault {
@@ -63,6 +72,8 @@ pub enum Error {
     Memory,
     /// The library that is linked has another interface than this crate.
     Interface,
+    /// The answer has bytes that are no UTF-8, as the module has: [`optimise_mlir_bytes`] answers them.
+    NotUtf8,
 }
 
 impl fmt::Display for Error {
@@ -74,6 +85,7 @@ impl fmt::Display for Error {
             Error::Refused => f.write_str("refused: a value of an unreachable block is used"),
             Error::Memory => f.write_str("refused: want of memory"),
             Error::Interface => f.write_str("the library has another interface"),
+            Error::NotUtf8 => f.write_str("the answer is no UTF-8, as the module"),
         }
     }
 }
@@ -151,10 +163,25 @@ fn fault_of(place: PlirPlace, expected: String) -> Option<Fault> {
 ///
 /// # Errors
 ///
-/// Those of [`optimise`]; the fault of a module has no length, unless it is too long.
-pub fn optimise_mlir(pipeline: &str, module: &str) -> Result<Answer, Error> {
-    match library::optimise_mlir(pipeline.as_bytes(), module.as_bytes()) {
-        Ok((text, is_changed)) => Ok(Answer { text, is_changed }),
+/// Those of [`optimise`]; the fault of a module has no length, unless it is too long. [`Error::NotUtf8`] for a module
+/// that is no UTF-8.
+pub fn optimise_mlir(pipeline: &str, module: impl AsRef<[u8]>) -> Result<Answer, Error> {
+    let answer = optimise_mlir_bytes(pipeline, module)?;
+    Ok(Answer {
+        text: String::from_utf8(answer.bytes).map_err(|_| Error::NotUtf8)?,
+        is_changed: answer.is_changed,
+    })
+}
+
+/// As [`optimise_mlir`], for a module that may have bytes that are no UTF-8: they are kept.
+///
+/// # Errors
+///
+/// Those of [`optimise`].
+pub fn optimise_mlir_bytes(pipeline: &str, module: impl AsRef<[u8]>) -> Result<AnswerBytes, Error> {
+    let module = module.as_ref();
+    match library::optimise_mlir(pipeline.as_bytes(), module) {
+        Ok((bytes, is_changed)) => Ok(AnswerBytes { bytes, is_changed }),
         Err(Error::Text(_)) => Err(Error::Text(find_fault_mlir(module)?)),
         Err(error) => Err(error),
     }

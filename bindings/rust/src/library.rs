@@ -11,7 +11,7 @@ pub struct PlirPlace {
     pub column: usize,
 }
 
-unsafe extern "C" {
+extern "C" {
     fn plir_version() -> u32;
     fn plir_optimise(
         pipeline: *const u8,
@@ -62,7 +62,10 @@ const VERSION: u32 = 2;
 
 /// The answer of a call, for which a buffer is made, and a larger one where the answer doesn't fit. `call` is given the
 /// buffer and where the answer's length goes, and answers a status.
-fn fill(first: usize, mut call: impl FnMut(&mut [u8], &mut usize) -> u32) -> Result<String, Error> {
+fn fill(
+    first: usize,
+    mut call: impl FnMut(&mut [u8], &mut usize) -> u32,
+) -> Result<Vec<u8>, Error> {
     // SAFETY: it takes nothing, and asks for nothing.
     if unsafe { plir_version() } != VERSION {
         return Err(Error::Interface);
@@ -85,8 +88,12 @@ fn fill(first: usize, mut call: impl FnMut(&mut [u8], &mut usize) -> u32) -> Res
         }
     }
     buffer.truncate(length);
-    // Answers are text. Nothing here rests on that.
-    String::from_utf8(buffer).map_err(|_| Error::Interface)
+    Ok(buffer)
+}
+
+/// The answer as text.
+fn text_of(answer: Vec<u8>) -> Result<String, Error> {
+    String::from_utf8(answer).map_err(|_| Error::NotUtf8)
 }
 
 /// As much as most answers need. Where one is longer, the call is made again.
@@ -95,7 +102,7 @@ fn first_room(text: &[u8]) -> usize {
 }
 
 pub fn optimise(pipeline: &[u8], text: &[u8]) -> Result<String, Error> {
-    fill(first_room(text), |output, needed| {
+    let answer = fill(first_room(text), |output, needed| {
         // SAFETY: the declaration fits the header. The pointers and lengths are those of slices, which are never null and
         // are borrowed for the call; `output` and `needed` are borrowed alone, so nothing overlaps them.
         unsafe {
@@ -109,11 +116,12 @@ pub fn optimise(pipeline: &[u8], text: &[u8]) -> Result<String, Error> {
                 needed,
             )
         }
-    })
+    })?;
+    text_of(answer)
 }
 
 pub fn graph(text: &[u8]) -> Result<String, Error> {
-    fill(8 * text.len() + 256, |output, needed| {
+    let answer = fill(8 * text.len() + 256, |output, needed| {
         // SAFETY: as in `optimise`.
         unsafe {
             plir_graph(
@@ -124,11 +132,12 @@ pub fn graph(text: &[u8]) -> Result<String, Error> {
                 needed,
             )
         }
-    })
+    })?;
+    text_of(answer)
 }
 
 pub fn find_fault(text: &[u8], place: &mut PlirPlace) -> Result<String, Error> {
-    fill(128, |output, needed| {
+    let answer = fill(128, |output, needed| {
         // SAFETY: as in `optimise`; `place` is borrowed alone too.
         unsafe {
             plir_find_fault(
@@ -140,11 +149,12 @@ pub fn find_fault(text: &[u8], place: &mut PlirPlace) -> Result<String, Error> {
                 place,
             )
         }
-    })
+    })?;
+    text_of(answer)
 }
 
 /// The module, and whether it changed.
-pub fn optimise_mlir(pipeline: &[u8], text: &[u8]) -> Result<(String, bool), Error> {
+pub fn optimise_mlir(pipeline: &[u8], text: &[u8]) -> Result<(Vec<u8>, bool), Error> {
     let mut changed = 0;
     let module = fill(first_room(text), |output, needed| {
         // SAFETY: as in `optimise`; `changed` is borrowed alone too.
@@ -165,7 +175,7 @@ pub fn optimise_mlir(pipeline: &[u8], text: &[u8]) -> Result<(String, bool), Err
 }
 
 pub fn find_fault_mlir(text: &[u8], place: &mut PlirPlace) -> Result<String, Error> {
-    fill(128, |output, needed| {
+    let answer = fill(128, |output, needed| {
         // SAFETY: as in `find_fault`.
         unsafe {
             plir_find_fault_mlir(
@@ -177,5 +187,6 @@ pub fn find_fault_mlir(text: &[u8], place: &mut PlirPlace) -> Result<String, Err
                 place,
             )
         }
-    })
+    })?;
+    text_of(answer)
 }

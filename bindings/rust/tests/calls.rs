@@ -1,7 +1,7 @@
 //! The worked rows, edges, and threads. `RACHONPAS_ROWS` names the file that `bindings/test/rows.py` writes.
 use rachonpas::{
-    Answer, Error, Fault, MAX_TEXT, describe_graph, find_fault, find_fault_mlir, optimise,
-    optimise_mlir,
+    describe_graph, find_fault, find_fault_mlir, optimise, optimise_mlir, Answer, Error, Fault,
+    MAX_TEXT,
 };
 use std::{env, fs, thread};
 
@@ -58,9 +58,7 @@ fn text_of(bytes: &[u8]) -> &str {
 }
 
 fn optimised(row: &Row) {
-    let [pipeline, text, answer] = &row.fields[..] else {
-        panic!("three fields")
-    };
+    let (pipeline, text, answer) = (&row.fields[0], &row.fields[1], &row.fields[2]);
     let found = optimise(text_of(pipeline), text);
     match row.word.as_str() {
         "0" => {
@@ -89,9 +87,7 @@ fn described(row: &Row) {
 }
 
 fn optimised_module(row: &Row) {
-    let [pipeline, text, answer] = &row.fields[..] else {
-        panic!("three fields")
-    };
+    let (pipeline, text, answer) = (&row.fields[0], &row.fields[1], &row.fields[2]);
     let found = optimise_mlir(text_of(pipeline), text_of(text));
     match row.word.split_at(1) {
         ("0", changed) => {
@@ -194,7 +190,7 @@ fn modules_that_are_none() {
         assert_eq!(optimise_mlir(pipeline, "none"), Err(Error::Pipeline));
     }
     assert_eq!(find_fault_mlir(MODULE), Ok(None));
-    assert!(find_fault_mlir([0xff, 0xfe]).is_ok_and(|fault| fault.is_some()));
+    assert!(matches!(find_fault_mlir([0xff, 0xfe]), Ok(Some(_))));
 }
 
 #[test]
@@ -218,11 +214,22 @@ fn two_threads() {
     let calls = || {
         thread::spawn(|| {
             (0..2000).all(|_| {
-                optimise("sccp,dce", SUM).is_ok_and(|answer| answer.text == LEFT)
-                    && optimise_mlir("sccp,dce", MODULE).is_ok_and(|answer| answer.text == TWO)
+                matches!(optimise("sccp,dce", SUM), Ok(answer) if answer.text == LEFT)
+                    && matches!(optimise_mlir("sccp,dce", MODULE), Ok(answer) if answer.text == TWO)
             })
         })
     };
     let (one, other) = (calls(), calls());
     assert!(one.join().expect("a thread") && other.join().expect("a thread"));
+}
+
+#[test]
+fn modules_that_are_no_utf8() {
+    let module = b"\"m\"() {a = \"\xff\"} : () -> ()\n";
+    assert_eq!(optimise_mlir("dce", module), Err(Error::NotUtf8));
+    let answer = rachonpas::optimise_mlir_bytes("dce", module).expect("an answer");
+    assert_eq!(
+        (answer.bytes.as_slice(), answer.is_changed),
+        (&module[..], false)
+    );
 }

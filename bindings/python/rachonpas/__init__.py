@@ -8,15 +8,18 @@
     >>> rachonpas.optimise_mlir("dce", '"m"() ({ %0 = "arith.constant"() <{value = 1 : i32}> : () -> i32 }) : () -> ()')
     Answer(text='"m"() ({\\n^bb0:\\n}) : () -> ()\\n', is_changed=True)
 
-The calls are those of the proved static library `plir_c`, in the shared library that `make -C bindings/c` builds, or in the
-one that the environment names by RACHONPAS_LIBRARY. They keep nothing between calls, start no thread, and let other threads
-of Python run meanwhile. Each needs at most 256 KiB of stack.
+The calls are those of the static library `plir_c`, in a shared library: the file that the environment names by RACHONPAS_LIBRARY; else
+the one that was there when the package was installed; else that of `make -C bindings/c`, or of the system. They keep nothing
+between calls, start no thread, and let other threads of Python run meanwhile. Each needs at most 256 KiB of stack.
 """
 
 import ctypes
+import ctypes.util
 import os
 from ctypes import POINTER, byref, c_char_p, c_size_t, c_uint32
-from typing import Callable, NamedTuple, Optional, Union
+from typing import Callable, List, NamedTuple, Optional, Union
+
+__version__ = "0.1.0"
 
 __all__ = ["Answer", "Fault", "Error", "PipelineError", "TextError", "RefusedError", "WantOfMemory", "MAX_TEXT",
            "MAX_MODULE", "optimise", "find_fault", "describe_graph", "optimise_mlir", "find_fault_mlir"]
@@ -27,7 +30,7 @@ MAX_TEXT = 1_048_576
 #: The most bytes of a module of MLIR.
 MAX_MODULE = 268_435_456
 
-Text = Union[str, bytes]
+Text = Union[str, bytes, bytearray, memoryview]
 
 
 class Answer(NamedTuple):
@@ -85,18 +88,45 @@ _TEXT = [c_char_p, c_size_t]
 _BUFFER = [c_char_p, c_size_t, POINTER(c_size_t)]
 
 
+_INTERFACE = 2
+
+
+def _places() -> List[str]:
+    """Where the shared library may be, the first place first."""
+    given = os.environ.get("RACHONPAS_LIBRARY")
+    if given:
+        return [given]
+    here = os.path.dirname(os.path.abspath(__file__))
+    inside, built = os.path.join(here, "librachonpas.so"), os.path.join(here, "..", "..", "c", "out", "librachonpas.so")
+    return [it for it in (inside, built) if os.path.exists(it)] + [ctypes.util.find_library("rachonpas") or "librachonpas.so"]
+
+
+def _loaded() -> ctypes.CDLL:
+    """The shared library."""
+    place = _places()[0]
+    try:
+        return ctypes.CDLL(place)
+    except OSError as error:
+        raise ImportError(
+            f"rachonpas: the shared library isn't there ({error}): build it by `make -C bindings/c` in the repository, and install "
+            "this package again, or name its file by the environment's RACHONPAS_LIBRARY"
+        ) from None
+
+
 def _opened() -> ctypes.CDLL:
     """The shared library, with the types of its calls, once its interface is known to be the one that is used here."""
-    beside = os.path.join(os.path.dirname(os.path.abspath(__file__)), "..", "c", "out", "librachonpas.so")
-    library = ctypes.CDLL(os.environ.get("RACHONPAS_LIBRARY", beside))
+    library = _loaded()
     for name, words in [("version", []), ("optimise", _TEXT + _TEXT + _BUFFER), ("graph", _TEXT + _BUFFER),
                         ("find_fault", _TEXT + _BUFFER + [POINTER(_Place)]),
                         ("optimise_mlir", _TEXT + _TEXT + _BUFFER + [POINTER(c_uint32)]),
                         ("find_fault_mlir", _TEXT + _BUFFER + [POINTER(_Place)])]:
-        call = getattr(library, f"plir_{name}")
+        call = getattr(library, f"plir_{name}", None)
+        if call is None:
+            raise ImportError(f"rachonpas: the library {library._name} has no call plir_{name}")
         call.argtypes, call.restype = words, c_uint32
-    if library.plir_version() != 2:
-        raise ImportError("rachonpas: the library has another interface")
+    found = library.plir_version()
+    if found != _INTERFACE:
+        raise ImportError(f"rachonpas: the library {library._name} has interface {found}, and not {_INTERFACE}")
     return library
 
 
@@ -104,7 +134,11 @@ _LIBRARY = _opened()
 
 
 def _bytes(text: Text) -> bytes:
-    return text.encode(errors="surrogateescape") if isinstance(text, str) else bytes(text)
+    if isinstance(text, str):
+        return text.encode(errors="surrogateescape")
+    if isinstance(text, (bytes, bytearray, memoryview)):
+        return bytes(text)
+    raise TypeError(f"a text is a str or bytes, and not {type(text).__name__}")
 
 
 def _filled(room: int, call: Callable[..., int]) -> str:
