@@ -269,7 +269,7 @@ def main():
         "plir.1": manual(top.split("\n")[0], commands),
         "plir_opt.1": PLIR_OPT,
     }
-    if os.environ.get("PLIR_MLIR_PROGRAM"):
+    if os.path.exists(os.environ.get("PLIR_MLIR_PROGRAM", "")):
         made["plir_mlir.1"] = manual_of_mlir(program.Plir("plir_mlir").run("--help", env=wide)[1])
     for name, text in made.items():
         (folder / name).write_text(text)

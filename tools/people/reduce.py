@@ -7,6 +7,7 @@ become jumps and ends, and numbers go towards 0. Each text that is tried reads.
 import argparse
 import copy
 import sys
+import time
 from pathlib import Path
 
 sys.path.insert(0, str(Path(__file__).resolve().parent))
@@ -26,7 +27,14 @@ class Reduction:
     def __init__(self, op, keeps):
         self.best, self.keeps = op, keeps
         self.text = notation.written(op)
-        self.tries, self.seen = 0, {self.text}
+        self.tries, self.seen, self.told = 0, {self.text}, time.monotonic()
+
+    def tell(self):
+        """Says at most once a second how far it is."""
+        if time.monotonic() - self.told > 1:
+            self.told = time.monotonic()
+            left = sum(1 for _ in notation.walk(self.best))
+            print(f"{self.tries} tries, {left} operations are left", file=sys.stderr)
 
     def attempt(self, op):
         """Whether the text of the operation keeps what was asked for; then it is the best so far."""
@@ -37,6 +45,7 @@ class Reduction:
             return False
         self.seen.add(text)
         self.tries += 1
+        self.tell()
         if not self.keeps(text):
             return False
         self.best, self.text = op, text
