@@ -20,8 +20,13 @@ import program
 import reduce
 import report
 
-# the commands that stand beside the program
-BESIDE = {"reduce": reduce, "bisect": first_run, "test": check_lines, "report": report}
+# the commands that stand beside the program, and what they do
+BESIDE = {
+    "reduce": (reduce, "Makes a text as small as can be that keeps what it does"),
+    "bisect": (first_run, "Finds the first run of a pass after which something is another"),
+    "test": (check_lines, "Runs the RUN lines of texts, and looks for their CHECK lines"),
+    "report": (report, "Writes a page that shows what passes made of a text"),
+}
 OPTION = re.compile(r"^  (?:(-\w), |    )(--[\w-]+)(?: <([^>]+)>)?(?:  +(.*))?$")
 OPERAND = re.compile(r"^  ([<\[][A-Z][^>\]]*[>\]](?:\.\.\.)?)(?:  +(.*))?$")
 PLIR_OPT = """.TH PLIR_OPT 1
@@ -103,7 +108,7 @@ def command_of_help(about, text):
     return Command(about, operands, options)
 
 
-def command_of_parser(parser):
+def command_of_parser(about, parser):
     """A command beside the program, from the parser of its words."""
     operands, options = [], []
     for action in parser._actions:
@@ -114,7 +119,7 @@ def command_of_parser(parser):
             long = [it for it in action.option_strings if it.startswith("--")]
             short = [it for it in action.option_strings if not it.startswith("--")]
             options.append(Option(short[0] if short else None, long[0], action.metavar if action.nargs != 0 else None, told))
-    return Command(" ".join(parser.description.split("\n\n")[0].split()), operands, options)
+    return Command(about, operands, options)
 
 
 def shape(name, command):
@@ -260,7 +265,7 @@ def main():
     wide = {"COLUMNS": "100000"}
     top = plir.run("--help", env=wide)[1]
     commands = {name: command_of_help(about, plir.run(name, "--help", env=wide)[1]) for name, about in commands_of(top).items()}
-    commands.update((name, command_of_parser(module.words())) for name, module in BESIDE.items())
+    commands.update((name, command_of_parser(about, module.words())) for name, (module, about) in BESIDE.items())
     passes = [line.split()[0] for line in plir.run("opt", "--list-passes")[1].splitlines()]
     made = {
         "plir.bash": bash(commands, passes),
