@@ -5,8 +5,9 @@
 #     make dist                          rachonpas-VERSION.tar.gz, which builds with the Rattle kit alone
 #     make check                         the gate, .ci/run
 #
-# What `rt ci` or `rt run` has proved and built from the sources that stand here is installed; else an unproved build of them, which takes a
-# minute or a few for each program. PREFIX/share/doc/rachonpas/BUILT says which is which, and an unproved program says so whenever it runs.
+# Programs that `rt ci` or `rt run` has proved and built from the sources that stand here are installed; else an unproved build of them, which takes
+# a minute or a few for each. PREFIX/share/doc/rachonpas/BUILT says which is which, and an unproved program says so whenever it runs. The library
+# is of proved code alone: `make install` leaves it out where `make -C bindings/c` hasn't built it, and says so. LIBRARY=FILE names another.
 PREFIX ?= /usr/local
 DESTDIR ?=
 VERSION := $(shell cat VERSION)
@@ -18,7 +19,9 @@ DOC := $(AT)/share/doc/rachonpas
 all:
 	@sed -n 's/^# \{0,1\}//p' Makefile
 
-install: install-programs install-library
+install: install-programs
+	@if [ -n "$(LIBRARY)" ] || [ -e crates/plir_c/out/libplir_c.a ]; then $(MAKE) install-library; \
+	else echo "the library for C isn't built, and left out: make -C bindings/c, then make install-library"; fi
 
 install-programs:
 	install -d "$(AT)/bin" "$(LIBEXEC)/people" "$(DOC)" "$(AT)/share/man/man1"
