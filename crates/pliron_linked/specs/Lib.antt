@@ -1,0 +1,5 @@
+pub mod Calls
+pub mod LinkedRuns
+pub mod LinkedAgree
+pub mod KeepsLinked
+pub mod LinkedLaws
