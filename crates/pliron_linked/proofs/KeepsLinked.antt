@@ -1,16 +1,16 @@
 -- Changes that keep linked runs, one after the other, and of one module after the other.
-use Rattle.std.proofs.Common.{◌≡◌, ◌<◌, ℕ, length, if◌then◌else◌, ⊎_elim, refl, sym, ◌∙◌, subst, arith}
+use Rattle.std.proofs.Common.{◌<◌, ℕ, length, if◌then◌else◌, ⊎_elim, refl, sym, ap, ◌∙◌, subst, arith}
 use Rattle.std.proofs.lemmas.Bool.Decides.{eqb_tells}
 use Rattle.pliron_core.specs.Tree.{Tree}
 use Rattle.pliron_core.proofs.HoldingLemmas.{past_live}
-use Rattle.pliron_laws.specs.Datum.{Datum, Meaning}
+use Rattle.pliron_laws.specs.Datum.{Meaning}
 use Rattle.pliron_theory.specs.Keeps.{KeepsRuns}
 use Rattle.pliron_theory.specs.Change.{IsPassChange}
 use Rattle.pliron_theory.proofs.Keeping.{keeps_refl}
 use Rattle.pliron_linked.specs.Calls.{CallingConvention}
 use Rattle.pliron_linked.specs.LinkedRuns.{Program, Function, Linker}
 use Rattle.pliron_linked.specs.LinkedAgree.{LinkedAgree}
-use Rattle.pliron_linked.specs.KeepsLinked.{IsLiveIn, IsFitIn, IsLinker, AllLive, KeepsLinkedRuns, with_module}
+use Rattle.pliron_linked.specs.KeepsLinked.{IsLiveIn, IsFitIn, IsLinker, AllLive, KeepsLinkedRuns, KeepsPrograms, with_module}
 use Rattle.pliron_linked.specs.LinkedLaws.{LinkedKeepingLaws}
 use Rattle.pliron_linked.proofs.LinkedAgree.{linked_agree}
 
@@ -64,15 +64,19 @@ linked_modules m c p q k = record {
   fewer = λ f lt now. (k f.in_module).fewer f.root lt now;
 }
 
-linked_module : (m : Meaning) (c : CallingConvention) (p : Program) (n : ℕ) (u : Tree) → KeepsRuns m (p n) u → KeepsLinkedRuns m c p (with_module p n u)
+linked_module : (m : Meaning) (t u : Tree) → KeepsRuns m t u → KeepsPrograms m t u
 unfolding with_module
-linked_module m c p n u k = linked_modules m c p (with_module p n u) each
+linked_module m t u keeps c p n is = linked_modules m c p (with_module p n u) each
   where
     each : (i : ℕ) → KeepsRuns m (p i) (with_module p n u i)
     each i = ⊎_elim
-        (λ y. subst (λ o. KeepsRuns m (p i) (if o then u else p i)) (sym y.0) (subst (λ j. KeepsRuns m (p j) u) (sym y.1) k))
+        (λ y. subst (λ o. KeepsRuns m (p i) (if o then u else p i)) (sym y.0) (subst (λ x. KeepsRuns m x u) (sym (ap p y.1 ∙ is)) keeps))
         (λ y. subst (λ o. KeepsRuns m (p i) (if o then u else p i)) (sym y.0) (keeps_refl m (p i)))
         (eqb_tells i n)
+
+-- whatever a pass does to an operation of a module
+pub pass_keeps : (m : Meaning) (t u : Tree) (op : ℕ) → IsPassChange m t u op → KeepsPrograms m t u
+pass_keeps m t u op change = linked_module m t u change.runs
 
 pub keeping_laws : LinkedKeepingLaws
 keeping_laws = record {
@@ -81,5 +85,5 @@ keeping_laws = record {
   links = linked_links;
   modules = linked_modules;
   one_module = linked_module;
-  passed = λ m c p n u op change. linked_module m c p n u change.runs;
+  passed = pass_keeps;
 }

@@ -1,10 +1,10 @@
 -- Linked runs of two programs whose functions agree on the inputs that they are called on.
-use Rattle.std.proofs.Common.{◌≡◌, ℕ, zero, suc, List, [], ◌∷◌, Option, Some, refl, sym, ap, ◌∙◌, subst, IsTrue, Bool}
+use Rattle.std.proofs.Common.{◌≡◌, ℕ, zero, suc, List, [], ◌∷◌, refl, sym, ap, ◌∙◌, subst, IsTrue}
 use Rattle.pliron_laws.specs.Datum.{Datum, Meaning}
 use Rattle.pliron_laws.specs.Machine.{State, Sight, Reached, Next, Continues, Over, step, run_from, onward, start}
 use Rattle.pliron_linked.specs.Calls.{CallingConvention}
 use Rattle.pliron_linked.specs.LinkedRuns.{Program, Function, Linker, Reply, Answer, Callback, World, LinkedState, LinkedNext, Goes, Stops, after_sight, after_step, with_state, linked_step, goes_on, linked_from, linked_start, linked_sight}
-use Rattle.pliron_linked.specs.LinkedAgree.{LinkedShows, LinkedSeenAlike, LinkedAgree, AgreesAlone, CallsBackOnly, AgreeOnInputs}
+use Rattle.pliron_linked.specs.LinkedAgree.{LinkedShows, LinkedSeenAlike, AgreesAlone, CallsBackOnly, AgreeOnInputs}
 use Rattle.pliron_linked.specs.LinkedLaws.{LinkedRunsAgree, LinkedRunsAgreeOnInputs}
 use Rattle.pliron_linked.proofs.Meeting.{goes_same, not_over, one_more, IsMet}
 use Rattle.pliron_linked.proofs.Linking.{Related, NextRelated, follows, begun_alike, sight_related}

@@ -1,8 +1,8 @@
 -- Linked states of two programs whose functions agree on the inputs that they are called on, side by side.
-use Rattle.std.proofs.Common.{◌≡◌, ℕ, zero, suc, ◌+◌, List, [], ◌∷◌, ◌++◌, Option, Some, None, refl, sym, ap, ◌∙◌, subst, arith}
+use Rattle.std.proofs.Common.{◌≡◌, ℕ, zero, suc, List, [], ◌∷◌, ◌++◌, Option, Some, None, refl, sym, ap, ◌∙◌, subst, arith}
 use Rattle.pliron_laws.specs.Datum.{Datum, Meaning}
 use Rattle.pliron_laws.specs.Tree.{Tree}
-use Rattle.pliron_laws.specs.Machine.{State, Sight, Ended, Trapped, Reached, Next, Continues, Over, step, run_from, onward, sight_after, start}
+use Rattle.pliron_laws.specs.Machine.{State, Sight, Ended, Trapped, Reached, Next, Continues, Over, step, run_from, sight_after, start}
 use Rattle.pliron_laws.specs.Agree.{Shows}
 use Rattle.pliron_linked.specs.Calls.{Call, CallingConvention}
 use Rattle.pliron_linked.specs.LinkedRuns.{Program, Function, Linker, Reply, Answer, Callback, Caller, Below, World, Frame, LinkedState, LinkedNext, Goes, Stops, frame_of, with_answer, with_frame, after_callback, after_reply, show_world, after_return, after_call, after_effect, after_sight}

@@ -35,6 +35,11 @@ pub record KeepsLinkedRuns (m : Meaning) (c : CallingConvention) (p q : Program)
   pub grows : (n : ℕ) → length (p n).operations ≤ length (q n).operations
   pub fewer : (f : Function) → f.root < length (p f.in_module).operations → IsLiveIn q f → IsLiveIn p f
 
--- the program with this tree for the module with this number
+-- the program whose module with this number has this tree
 unfoldable pub with_module : Program → ℕ → Tree → Program
 with_module p n t = λ k. if nat_eq k n then t else p k
+
+-- in each program that has the tree t for a module, the module may become u: linked runs are kept, whatever the calling
+-- convention
+abbrev pub KeepsPrograms : Meaning → (t u : Tree) → Type 0
+KeepsPrograms m t u = (c : CallingConvention) (p : Program) (n : ℕ) → p n ≡ t → KeepsLinkedRuns m c p (with_module p n u)

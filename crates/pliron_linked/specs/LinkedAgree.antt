@@ -1,5 +1,5 @@
 -- When linked runs of two programs show the same.
-use Rattle.std.specs.Prelude.{◌≡◌, ◌↔◌, ℕ, Bool, List, [], ◌∷◌, Option, Some, IsTrue}
+use Rattle.std.specs.Prelude.{◌≡◌, ◌↔◌, ℕ, List, [], ◌∷◌, Some}
 use Rattle.pliron_laws.specs.Datum.{Datum, Meaning}
 use Rattle.pliron_laws.specs.Machine.{Sight, Reached, step, start}
 use Rattle.pliron_laws.specs.Agree.{Agree, Shows, SeenAlike}

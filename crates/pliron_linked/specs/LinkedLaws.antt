@@ -1,5 +1,5 @@
 -- The main statements on linked runs.
-use Rattle.std.specs.Prelude.{◌≡◌, ℕ, Bool, List, Option, Some, IsTrue}
+use Rattle.std.specs.Prelude.{◌≡◌, ℕ, Bool, List, Some, IsTrue}
 use Rattle.pliron_core.specs.Tree.{Tree}
 use Rattle.pliron_laws.specs.Datum.{Datum, Meaning}
 use Rattle.pliron_theory.specs.Keeps.{KeepsRuns}
@@ -7,7 +7,7 @@ use Rattle.pliron_theory.specs.Change.{IsPassChange}
 use Rattle.pliron_linked.specs.Calls.{CallingConvention}
 use Rattle.pliron_linked.specs.LinkedRuns.{Program, Function, Linker, Reply}
 use Rattle.pliron_linked.specs.LinkedAgree.{LinkedSeenAlike, LinkedAgree, AgreesAlone, CallsBackOnly, AgreeOnInputs}
-use Rattle.pliron_linked.specs.KeepsLinked.{IsLinker, AllLive, KeepsLinkedRuns, with_module}
+use Rattle.pliron_linked.specs.KeepsLinked.{IsLinker, AllLive, KeepsLinkedRuns, KeepsPrograms}
 
 -- where each function that a name stands for does the same alone, so do linked runs of any function that does
 abbrev pub LinkedRunsAgree : Type 0
@@ -24,6 +24,6 @@ pub record LinkedKeepingLaws : Type 0 where
   -- what links the first program links the second one
   pub links : (m : Meaning) (c : CallingConvention) (p q : Program) (link : Linker) → KeepsLinkedRuns m c p q → IsLinker m c p link → AllLive q link → IsLinker m c q link
   pub modules : (m : Meaning) (c : CallingConvention) (p q : Program) → ((n : ℕ) → KeepsRuns m (p n) (q n)) → KeepsLinkedRuns m c p q
-  pub one_module : (m : Meaning) (c : CallingConvention) (p : Program) (n : ℕ) (u : Tree) → KeepsRuns m (p n) u → KeepsLinkedRuns m c p (with_module p n u)
-  -- whatever a pass does to an operation of the module
-  pub passed : (m : Meaning) (c : CallingConvention) (p : Program) (n : ℕ) (u : Tree) (op : ℕ) → IsPassChange m (p n) u op → KeepsLinkedRuns m c p (with_module p n u)
+  -- where one module keeps its runs, each program that has it does, as after any pass on an operation of the module
+  pub one_module : (m : Meaning) (t u : Tree) → KeepsRuns m t u → KeepsPrograms m t u
+  pub passed : (m : Meaning) (t u : Tree) (op : ℕ) → IsPassChange m t u op → KeepsPrograms m t u

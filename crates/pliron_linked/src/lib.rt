@@ -2,10 +2,14 @@
 //!
 //! As in the theory of runs, a call here does nothing when it runs: its contract is a law, for every meaning.
 //!
-//! It knows the theory of runs, and no dialect: a calling convention says which effects are calls.
+//! It knows the theory of runs and passes, and no dialect: a calling convention says which effects are calls.
 #![tactic(auto)]
 
+mod passes;
+
 ghost use Rattle.pliron_linked.specs.LinkedLaws.{LinkedKeepingLaws, LinkedRunsAgree, LinkedRunsAgreeOnInputs};
+
+pub use passes::run_pipeline_in_program;
 
 /// Where each function that is called by a name does the same by itself, whatever answers its calls, linked runs
 /// do: with recursion, and with callbacks by the world.
