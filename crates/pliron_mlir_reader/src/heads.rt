@@ -1,16 +1,21 @@
 //! The head of an operation: its class, what the class reads of it, and its form.
-ghost use Rattle.std.specs.Prelude.{◌≡◌, ◌≤◌, true, sum, None, IfOk, IfSome};
-ghost use Rattle.pliron_mlir_reader.specs.Classes.{ActsOnWorld, AreCounts};
+ghost use Rattle.std.specs.Prelude.{◌≡◌, ◌≤◌, length, true, sum, set, IfOk, IfSome};
+ghost use Rattle.pliron_mlir.specs.ClassNumbers.{number_of_class};
+ghost use Rattle.pliron_mlir.specs.declared.kind.Class.TheVariants.{Constant, Branch, Switch, Fork};
+ghost use Rattle.pliron_mlir_reader.specs.Classes.{AreCounts};
+ghost use Rattle.pliron_mlir_reader.specs.Taken.{HasClass, IsTakenFor};
 
+use crate::owned::Owned;
 use crate::reader::{Entry, Pending, Reader};
-use pliron_bits::{Cast, Flags, Predicate};
-use pliron_core::Head;
-use pliron_mlir::{
-    Class, binary_head, branch_head, cast_head, compare_head, constant_head, number,
-    other_constant, plain_head, switch_head,
+use crate::taken::{
+    Entries, Overflow, Shape, bits_owned, branch_taken, class_taken, flags_owned, head_taken,
+    number_head, predicate_said, spread,
 };
+use pliron_bits::{Flags, Predicate};
+use pliron_core::Head;
+use pliron_mlir::{Class, constant_head, other_constant, plain_head, switch_head};
 use pliron_mlir_syntax::{
-    Fault, Form, Span, array_of, bits_of, dense_of, number_of, trim_blanks, typed_number_of,
+    Expected, Fault, Form, Span, array_of, bits_of, dense_of, trim_blanks, typed_number_of,
     width_of_type,
 };
 
@@ -24,12 +29,21 @@ const MAX_EDGES: usize = 1024;
 /// The entries that say how many operands each edge has.
 static SEGMENTS: [&[u8]; 2] = [b"operandSegmentSizes", b"case_operand_segments"];
 
+/// An older name of the first of them, which MLIR takes too.
+static OLD_SEGMENTS: &[u8] = b"operand_segment_sizes";
+
+/// How lists of flags begin.
+static LLVM_OVERFLOW: &[u8] = b"#llvm.overflow<";
+
+static ARITH_OVERFLOW: &[u8] = b"#arith.overflow<";
+
 /// What the text says of an operation behind its regions.
 #[derive(Clone, Copy)]
 pub struct Tail {
     pub attributes: Option<Span>,
     pub results: Span,
     pub location: Option<usize>,
+    pub shape: Shape,
 }
 
 // The part without quotes.
@@ -40,8 +54,43 @@ fn without_quotes(name: &[u8]) -> &[u8] {
     }
 }
 
-fn contains_word(text: &[u8], word: &[u8]) -> bool {
-    text.windows(word.len().max(1)).any(|part| part == word)
+// Whether the word is in the list `PREFIX<word, word>`.
+fn lists_word(text: &[u8], prefix: &[u8], word: &[u8]) -> bool {
+    let rest = text.strip_prefix(prefix).unwrap_or(&[]);
+    let inner = rest.strip_suffix(b">".as_slice()).unwrap_or(rest);
+    for part in inner.split(|byte| *byte == b',') {
+        if trim_blanks(part) == word {
+            return true;
+        }
+    }
+    false
+}
+
+// What the list behind the prefix says.
+fn overflow_listed(text: &[u8], prefix: &[u8]) -> Overflow {
+    Overflow {
+        signed: lists_word(text, prefix, b"nsw"),
+        unsigned: lists_word(text, prefix, b"nuw"),
+    }
+}
+
+// What `overflowFlags` says: a list, or a number of two bits. Where it is neither, as an alias, a result may be without
+// either.
+fn overflow_said(text: &[u8]) -> Overflow {
+    if text.starts_with(LLVM_OVERFLOW) {
+        return overflow_listed(text, LLVM_OVERFLOW);
+    }
+    if text.starts_with(ARITH_OVERFLOW) {
+        return overflow_listed(text, ARITH_OVERFLOW);
+    }
+    let number = match typed_number_of(text) {
+        Some((number, _)) => number.magnitude,
+        None => 3,
+    };
+    Overflow {
+        signed: number % 2 == 1,
+        unsigned: number / 2 % 2 == 1,
+    }
 }
 
 // How many operands these edges have together.
@@ -69,8 +118,8 @@ fn fits(counts: &[usize], pending: &Pending) -> bool
 
 impl Reader<'_> {
     // The value of the entry with this name, empty for one without a value.
-    fn value_of(&self, name: &[u8]) -> Option<&[u8]> {
-        for entry in self.properties.iter().chain(self.attributes.iter()) {
+    fn value_in(&self, entries: &[Entry], name: &[u8]) -> Option<&[u8]> {
+        for entry in entries {
             if without_quotes(self.cursor.bytes(entry.name)) == name {
                 return Some(match entry.value {
                     Some(span) => trim_blanks(self.cursor.bytes(span)),
@@ -79,6 +128,15 @@ impl Reader<'_> {
             }
         }
         None
+    }
+
+    // The value of an attribute that the operation owns: in the property list, or where that lacks it in the attribute
+    // dictionary.
+    fn value_of(&self, name: &[u8]) -> Option<&[u8]> {
+        match self.value_in(&self.properties, name) {
+            Some(value) => Some(value),
+            None => self.value_in(&self.attributes, name),
+        }
     }
 
     // The width of the operand with this index.
@@ -100,79 +158,66 @@ impl Reader<'_> {
         }
     }
 
-    // Whether the class has so many operands, results, successors and regions.
-    fn has_counts(&self, class: Class, pending: &Pending) -> bool {
-        let operands = pending.operands.1;
-        let results = self.types.len();
-        let edges = pending.successors;
-        let is_plain = edges == 0 && pending.regions == 0;
-        match class {
-            Class::Constant => operands == 0 && results == 1 && is_plain,
-            Class::Binary(_) | Class::Compare => operands == 2 && results == 1 && is_plain,
-            Class::Cast(_) => operands == 1 && results == 1 && is_plain,
-            Class::Select => operands == 3 && results == 1 && is_plain,
-            Class::Opaque | Class::Effect => is_plain,
-            Class::Leave | Class::Unreachable => results == 0 && is_plain,
-            Class::Jump => results == 0 && edges == 1 && pending.regions == 0,
-            Class::Branch => results == 0 && edges == 2 && pending.regions == 0,
-            Class::Switch => results == 0 && edges > 1 && pending.regions == 0,
-            Class::Root => operands == 0 && results == 0 && edges == 0 && pending.regions == 1,
-            Class::Module => operands == 0 && results == 0 && edges == 0 && pending.regions == 1,
-            Class::Regions => edges == 0,
-            Class::Fork => edges > 0,
-        }
-    }
-
-    // The class by the name, where the widths of operands and results are those that it is for.
-    fn class_by_widths(&self, class: Class, pending: &Pending) -> Class {
-        let from = self.operand_width(pending, 0);
-        let to = self.result_width();
-        match class {
-            Class::Binary(_) | Class::Compare if from == 0 => Class::Opaque,
-            Class::Cast(_) if from == 0 || to == 0 => Class::Opaque,
-            Class::Select if from != 1 => Class::Opaque,
-            Class::Branch if from != 1 => Class::Fork,
-            Class::Cast(Cast::SignExtend | Cast::ZeroExtend) if to.min(64) < from.min(64) =>
-                Class::Cast(Cast::Truncate),
-            class => class,
-        }
-    }
-
-    // The class of the operation. One whose name isn't known acts on the world.
-    fn class(&self, pending: &Pending) -> Class
-        ensures { pending.now.known.class ≡ None → ActsOnWorld result }
+    /// What its class depends on beside its name. Cost: constant.
+    pub fn shape(&self, pending: &Pending) -> Shape
+        ensures operands { result.operands ≡ pending.now.operands.1 }
+        ensures results { result.results ≡ length self.now.types.items }
+        ensures successors { result.successors ≡ pending.now.successors }
+        ensures regions { result.regions ≡ pending.now.regions }
     {
-        match pending.known.class {
-            Some(class) if self.has_counts(class, pending) => self.class_by_widths(class, pending),
-            _ if pending.successors > 0 => Class::Fork,
-            _ if pending.regions > 0 => Class::Regions,
-            _ => Class::Effect,
+        Shape {
+            operands: pending.operands.1,
+            results: self.types.len(),
+            successors: pending.successors,
+            regions: pending.regions,
+            from: self.operand_width(pending, 0),
+            to: self.result_width(),
         }
     }
 
-    fn flags(&self) -> Flags {
-        let mut flags = Flags::NONE;
-        if let Some(text) = self.value_of(b"overflowFlags") {
-            let number = match typed_number_of(text) {
-                Some((number, _)) => number.magnitude,
-                None => 0,
-            };
-            flags.no_signed_wrap = number % 2 == 1 || contains_word(text, b"nsw");
-            flags.no_unsigned_wrap = number / 2 % 2 == 1 || contains_word(text, b"nuw");
+    // The flags that a property list or an attribute dictionary has.
+    fn entries_of(&self, entries: &[Entry]) -> Entries {
+        let overflow = match self.value_in(entries, b"overflowFlags") {
+            Some(text) => Some(overflow_said(text)),
+            None => None,
+        };
+        Entries {
+            overflow,
+            exact: self.value_in(entries, b"isExact").is_some(),
+            disjoint: self.value_in(entries, b"isDisjoint").is_some(),
+            nonnegative: self.value_in(entries, b"nonNeg").is_some(),
         }
-        flags.exact = self.value_of(b"isExact").is_some();
-        flags.disjoint = self.value_of(b"isDisjoint").is_some();
-        flags.nonnegative = self.value_of(b"nonNeg").is_some();
-        flags
     }
 
-    fn predicate(&self) -> Option<Predicate> {
-        let (number, _) = typed_number_of(self.value_of(b"predicate")?)?;
-        Predicate::from_number(u32::try_from(number.magnitude).ok()?)
+    // The flags of an operation that owns this.
+    fn flags(&self, owned: Owned) -> Flags {
+        match owned {
+            Owned::LlvmOverflow
+            | Owned::ArithOverflow
+            | Owned::Exact
+            | Owned::Disjoint
+            | Owned::NonNegative => {
+                let properties = self.entries_of(&self.properties);
+                let attributes = self.entries_of(&self.attributes);
+                flags_owned(owned, &properties, &attributes)
+            }
+            _ => Flags::NONE,
+        }
     }
 
-    // The bits of a constant of this width, where its value is a number of the type of the result.
-    fn constant_bits(&self, width: u32) -> Option<u64> {
+    // The predicate of an operation that owns this.
+    fn predicate(&self, owned: Owned) -> Option<Predicate> {
+        match owned {
+            Owned::Predicate => {
+                let (number, written) = typed_number_of(self.value_of(b"predicate")?)?;
+                predicate_said(number, written == b"i64".as_slice())
+            }
+            _ => None,
+        }
+    }
+
+    // The bits of a `value` of this width, where it is a number of the type of the result.
+    fn value_bits(&self, width: u32) -> Option<u64> {
         let (number, written) = typed_number_of(self.value_of(b"value")?)?;
         let span = self.types.first()?;
         if written != self.cursor.bytes(*span) {
@@ -182,34 +227,36 @@ impl Reader<'_> {
     }
 
     // The operands of each edge of a branch or switch, where the text says them so that they are all but the first.
-    fn counts(&self, class: Class, pending: &Pending) -> Result<Option<Vec<usize>>, Fault>
+    fn counts(&self, is_switch: bool, pending: &Pending) -> Result<Option<Vec<usize>>, Fault>
         ensures { IfOk result (λ found. IfSome found (λ counts. AreCounts pending.now counts.items)) }
     {
-        let Some(text) = self.value_of(SEGMENTS[0]) else {
+        let Some(counts) = self.written_counts(is_switch)? else {
             return Ok(None);
         };
-        let Some(segments) = array_of(self.alloc, text)? else {
-            return Ok(None);
-        };
-        let [1, first, others] = segments.as_slice() else {
-            return Ok(None);
-        };
-        let mut counts = Vec::new(self.alloc);
-        counts.push(*first)?;
-        if class == Class::Branch {
-            counts.push(*others)?;
-        } else {
-            let text = self.value_of(SEGMENTS[1]).unwrap_or(&[]);
-            let Some(cases) = array_of(self.alloc, text)? else {
-                return Ok(None);
-            };
-            counts.extend_from_slice(&cases)?;
-        }
         if fits(&counts, pending) {
             Ok(Some(counts))
         } else {
             Ok(None)
         }
+    }
+
+    // The operands of each edge as the text says them. An older name of the first entry isn't read.
+    fn written_counts(&self, is_switch: bool) -> Result<Option<Vec<usize>>, Fault> {
+        if self.value_of(OLD_SEGMENTS).is_some() {
+            return Ok(None);
+        }
+        let text = self.value_of(SEGMENTS[0]).unwrap_or(&[]);
+        let Some(segments) = array_of(self.alloc, text)? else {
+            return Ok(None);
+        };
+        if !is_switch {
+            return spread(self.alloc, &segments, false, &[]);
+        }
+        let text = self.value_of(SEGMENTS[1]).unwrap_or(&[]);
+        let Some(cases) = array_of(self.alloc, text)? else {
+            return Ok(None);
+        };
+        spread(self.alloc, &segments, true, &cases)
     }
 
     // The width and the cases of a switch; none of them where they aren't understood.
@@ -276,8 +323,7 @@ impl Reader<'_> {
         }
     }
 
-    fn form(&mut self, class: Class, pending: &Pending, tail: &Tail) -> Result<Form, Fault> {
-        let is_branch = matches!(class, Class::Branch | Class::Switch);
+    fn form(&mut self, is_branch: bool, pending: &Pending, tail: &Tail) -> Result<Form, Fault> {
         Ok(Form {
             name: self.sheet.number(self.cursor.bytes(pending.name))?,
             properties: self.list(pending.properties, is_branch, true)?,
@@ -288,13 +334,25 @@ impl Reader<'_> {
         })
     }
 
-    // The head of a constant. The head of a long one doesn't say that it is a constant.
-    fn constant(&mut self, form: Form, pending: &Pending) -> Result<Head, Fault> {
-        let number_of_form = self.sheet.form_number(form)?;
-        let width = self.result_width();
-        if let Some(bits) = self.constant_bits(width) {
-            return Ok(constant_head(self.alloc, number(width, bits), number_of_form)?);
-        }
+    fn form_number(
+        &mut self,
+        is_branch: bool,
+        pending: &Pending,
+        tail: &Tail,
+    ) -> Result<usize, Fault> {
+        let form = self.form(is_branch, pending, tail)?;
+        Ok(self.sheet.form_number(form)?)
+    }
+
+    // The head of a constant that is no integer of a width. That of a long one doesn't say that it is a constant.
+    fn other_constant(
+        &mut self,
+        form: Form,
+        number_of_form: usize,
+        pending: &Pending,
+    ) -> Result<Head, Fault>
+        ensures { IfOk result (λ head. HasClass Constant head) }
+    {
         let length = match pending.properties {
             Some(span) => span.end.saturating_sub(span.start),
             None => 0,
@@ -308,74 +366,95 @@ impl Reader<'_> {
         Ok(constant_head(self.alloc, datum, number_of_form)?)
     }
 
-    // The head of a branch or a switch whose edges have so many operands.
-    fn branch(
-        &mut self,
-        class: Class,
-        counts: &[usize],
-        pending: &Pending,
-        form: usize,
-    ) -> Result<Head, Fault> {
-        match (class, counts) {
-            (Class::Branch, [first, second]) => Ok(branch_head(self.alloc, *first, *second, form)?),
-            _ => {
+    // The head of a constant.
+    fn constant(&mut self, pending: &Pending, tail: &Tail) -> Result<Head, Fault>
+        ensures { IfOk result (λ head. HasClass Constant head) }
+    {
+        let form = self.form(false, pending, tail)?;
+        let number_of_form = self.sheet.form_number(form)?;
+        let width = self.result_width();
+        match bits_owned(pending.known.owned, width, self.value_bits(width)) {
+            Some(bits) => Ok(number_head(self.alloc, width, bits, number_of_form)?),
+            None => self.other_constant(form, number_of_form, pending),
+        }
+    }
+
+    // The head of a terminator of which nothing is known.
+    fn fork(&mut self, pending: &Pending, tail: &Tail) -> Result<Head, Fault>
+        ensures { IfOk result (λ head. head.kind ≡ number_of_class Fork) }
+    {
+        let form = self.form_number(false, pending, tail)?;
+        Ok(plain_head(self.alloc, Class::Fork, form)?)
+    }
+
+    // The head of a branch.
+    fn branch(&mut self, pending: &Pending, tail: &Tail) -> Result<Head, Fault>
+        ensures { IfOk result (λ head. HasClass Branch head) }
+    {
+        match self.counts(false, pending)? {
+            Some(counts) => {
+                let form = self.form_number(true, pending, tail)?;
+                Ok(branch_taken(self.alloc, &counts, form)?)
+            }
+            None => self.fork(pending, tail),
+        }
+    }
+
+    // The head of a switch.
+    fn switch(&mut self, pending: &Pending, tail: &Tail) -> Result<Head, Fault>
+        ensures { IfOk result (λ head. HasClass Switch head) }
+    {
+        match self.counts(true, pending)? {
+            Some(counts) => {
+                let form = self.form_number(true, pending, tail)?;
                 let (width, cases) = self.cases(pending)?;
-                Ok(switch_head(self.alloc, counts, width, &cases, form)?)
+                Ok(switch_head(self.alloc, &counts, width, &cases, form)?)
             }
+            None => self.fork(pending, tail),
         }
     }
 
-    // The head of an operation of the class, which isn't a constant, with the number of its form.
-    fn head(&mut self, class: Class, pending: &Pending, form: usize) -> Result<Head, Fault> {
-        let alloc = self.alloc;
-        let width = self.operand_width(pending, 0);
+    // The head of an operation of the class, which isn't a constant, a branch or a switch.
+    fn head(&mut self, class: Class, pending: &Pending, tail: &Tail) -> Result<Head, Fault>
+        ensures { IfOk result (λ head. HasClass class head) }
+    {
+        let form = self.form_number(false, pending, tail)?;
+        let flags = self.flags(pending.known.owned);
+        let predicate = self.predicate(pending.known.owned);
+        Ok(head_taken(self.alloc, class, &tail.shape, flags, predicate, form)?)
+    }
+
+    // Refuses a terminator that isn't known and has regions: none of the classes visits these. The function around is
+    // kept as it is written, if the text is read so.
+    fn serve(&self, class: Class, pending: &Pending) -> Result<(), Fault> {
+        if !matches!(class, Class::Fork) || pending.regions == 0 {
+            Ok(())
+        } else if self.keeps {
+            Err(Fault::Expected(pending.place, Expected::Admitted))
+        } else {
+            Err(Fault::KeptAsText)
+        }
+    }
+
+    /// The head of an operation that is known whole. Errors: it has successors and regions, and isn't known; allocation
+    /// failure. Cost: linear in its text.
+    pub fn finish(&mut self, pending: &Pending, tail: &Tail) -> Result<Head, Fault>
+        ensures { IfOk result (λ head. IsTakenFor pending.now.known.class tail.now.shape head) }
+    {
+        let class = class_taken(pending.known.class, &tail.shape);
+        self.serve(class, pending)?;
         match class {
-            Class::Binary(operator) => Ok(binary_head(alloc, operator, width, self.flags(), form)?),
-            Class::Cast(cast) => Ok(cast_head(
-                alloc,
-                cast,
-                width,
-                self.result_width(),
-                self.flags(),
-                form,
-            )?),
-            Class::Compare => match self.predicate() {
-                Some(predicate) => Ok(compare_head(alloc, width, predicate, form)?),
-                None => Ok(plain_head(alloc, Class::Opaque, form)?),
-            },
-            class => Ok(plain_head(alloc, class, form)?),
+            Class::Constant => self.constant(pending, tail),
+            Class::Branch => self.branch(pending, tail),
+            Class::Switch => self.switch(pending, tail),
+            class => self.head(class, pending, tail),
         }
-    }
-
-    /// The operation is known whole, and gets its head. Errors: allocation failure. Cost: linear in its text.
-    pub fn finish(&mut self, pending: &Pending, tail: &Tail) -> Result<(), Fault> {
-        let class = self.class(pending);
-        let counts = match class {
-            Class::Branch | Class::Switch => self.counts(class, pending)?,
-            _ => None,
-        };
-        let class = match class {
-            Class::Branch | Class::Switch if counts.is_none() => Class::Fork,
-            class => class,
-        };
-        let form = self.form(class, pending, tail)?;
-        let head = match (class, counts) {
-            (Class::Constant, _) => self.constant(form, pending)?,
-            (class, Some(counts)) => {
-                let form = self.sheet.form_number(form)?;
-                self.branch(class, &counts, pending, form)?
-            }
-            (class, None) => {
-                let form = self.sheet.form_number(form)?;
-                self.head(class, pending, form)?
-            }
-        };
-        self.set_head(pending.number, head);
-        Ok(())
     }
 
     /// The operation of this number has this head. Cost: constant.
-    pub fn set_head(&mut self, number: usize, head: Head) {
+    pub fn set_head(&mut self, number: usize, head: Head)
+        ensures { self.new.syntax.heads.items ≡ set self.old.syntax.heads.items number (Some head) }
+    {
         if let Some(place) = self.syntax.heads.get_mut(number) {
             *place = Some(head);
         }

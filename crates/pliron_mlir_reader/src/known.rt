@@ -1,4 +1,5 @@
 //! What is known of operations by their names.
+use crate::owned::{Owned, owned_by};
 use pliron_mlir::{Class, class_named};
 use pliron_mlir_syntax::{Fault, Texts};
 use std::alloc::Global;
@@ -7,6 +8,8 @@ use std::alloc::Global;
 #[derive(Clone, Copy, Debug)]
 pub struct Known {
     pub class: Option<Class>,
+    /// What is read of the properties that it owns.
+    pub owned: Owned,
     /// Whether it is a tag of a block, by which other operations name the block.
     pub is_tag: bool,
 }
@@ -26,6 +29,7 @@ fn look_up(name: &[u8]) -> Known {
     };
     Known {
         class: class_named(inner),
+        owned: owned_by(inner),
         is_tag: inner == b"llvm.blocktag".as_slice(),
     }
 }

@@ -4,7 +4,9 @@
 mod heads;
 mod known;
 mod operations;
+mod owned;
 mod parse;
 mod reader;
+mod taken;
 
 pub use parse::parse_text;

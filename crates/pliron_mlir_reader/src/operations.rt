@@ -7,6 +7,25 @@ use pliron_mlir_syntax::{Expected, Fault, Form, MAX_DEPTH, OperationText, Span};
 /// How deeply brackets are nested where a function has too many regions in one another.
 const MAX_BRACKETS: usize = 2 * MAX_DEPTH - 8;
 
+// Whether the second text follows the first one somewhere, behind blanks.
+fn is_followed(text: &[u8], first: &[u8], second: &[u8]) -> bool {
+    for i in 0..text.len() {
+        let rest = text.get(i..).unwrap_or(&[]);
+        if let Some(behind) = rest.strip_prefix(first) {
+            if behind.trim_ascii_start().starts_with(second) {
+                return true;
+            }
+        }
+    }
+    false
+}
+
+// Whether an operation of the text may have both successors and regions. They are apart but for properties.
+fn may_fork_into_regions(text: &[u8]) -> bool {
+    is_followed(text, b"]", b"({")
+        || (is_followed(text, b"]", b"<{") && is_followed(text, b"}>", b"({"))
+}
+
 impl Reader<'_> {
     // The names of the results, up to `=`; how many results there are.
     fn results(&mut self) -> Result<usize, Fault> {
@@ -120,11 +139,15 @@ impl Reader<'_> {
 
     fn entry(&mut self, is_property: bool) -> Result<(), Fault> {
         self.cursor.skip();
+        let place = self.cursor.place();
         let name = if self.cursor.peek() == Some(b'"') {
             self.cursor.string(Expected::Name)?
         } else {
             self.cursor.word(Expected::Name)?
         };
+        if self.cursor.bytes(name).contains(&b'\\') {
+            return Err(Fault::Expected(place, Expected::Name));
+        }
         let value = if self.cursor.accept(b'=') {
             let value = self.cursor.raw(self.alloc)?;
             if value.start >= value.end {
@@ -166,6 +189,9 @@ impl Reader<'_> {
         self.cursor.skip();
         let start = self.cursor.place();
         let name = self.cursor.string(Expected::Operation)?;
+        if self.cursor.bytes(name).contains(&b'\\') {
+            return Err(Fault::Expected(start, Expected::Operation));
+        }
         let known = self.names.get(self.cursor.bytes(name))?;
         if known.is_tag && !self.keeps {
             return Err(Fault::KeptAsText);
@@ -226,8 +252,8 @@ impl Reader<'_> {
         }
     }
 
-    // Whether the function that begins here can't be served: its regions are nested too deeply, or it has block tags.
-    // The cursor stays.
+    // Whether the function that begins here can't be served: its regions are nested too deeply, or it has block tags,
+    // or an operation that may have both successors and regions. The cursor stays.
     fn is_kept(&mut self, start: usize) -> Result<bool, Fault> {
         let before = self.cursor;
         let depth = self.whole_operation()?;
@@ -236,7 +262,7 @@ impl Reader<'_> {
             .windows(13)
             .any(|part| part == b"llvm.blocktag".as_slice());
         self.cursor = before;
-        Ok(depth > MAX_BRACKETS || has_tags)
+        Ok(depth > MAX_BRACKETS || has_tags || may_fork_into_regions(text))
     }
 
     // Scans what follows the name of an operation as raw text, and answers how deeply brackets are nested there.
@@ -302,14 +328,16 @@ impl Reader<'_> {
         self.cursor.step();
         let results = self.result_types(pending)?;
         let location = self.location()?;
-        self.finish(
-            pending,
-            &Tail {
-                attributes,
-                results,
-                location,
-            },
-        )
+        let shape = self.shape(pending);
+        let tail = Tail {
+            attributes,
+            results,
+            location,
+            shape,
+        };
+        let head = self.finish(pending, &tail)?;
+        self.set_head(pending.number, head);
+        Ok(())
     }
 
     fn operand_types(&mut self, pending: &Pending) -> Result<(), Fault> {

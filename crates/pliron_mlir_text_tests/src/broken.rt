@@ -88,7 +88,12 @@ an alias without an equals sign -- #a 1|\"m\"() : () -> () => 1:4 `=`
 an operand from a region inside -- \"m\"() ({|  \"r\"() ({|    %0 = \"a\"() : () -> i32|  }) : () -> \
     ()|  \"b\"(%0) : (i32) -> ()|}) : () -> () => 5:7 a value that is defined here or around
 a block outside the region -- \"m\"() ({|^a:|  \"r\"() ({|    \"b\"()[^a] : () -> ()|  }) : () -> ()|}) : () -> () \
-    => 4:11 a block of this region";
+    => 4:11 a block of this region
+an escape in the name of an attribute -- \"m\"() {\"a\\62\" = 1} : () -> () => 1:8 a name
+an escape in the name of an operation -- \"m\\6d\"() : () -> () => 1:1 the name of an operation in quotes; print with \
+    --mlir-print-op-generic
+successors and regions outside a function -- \"m\"() ({|^a:|  \"b\"()[^a] ({|}) : () -> ()|}) : () -> () => 3:3 an \
+    operation that fits its name";
 
 #[test]
 fn reports_where_modules_are_broken(rt: HostRuntime) {

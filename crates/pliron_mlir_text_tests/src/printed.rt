@@ -36,6 +36,10 @@ a branch with values along one edge -- \"m\"() ({|^x(%c: i1, %a: i32):|  \"llvm.
 an operation that is kept as text -- \"builtin.module\"() ({|  \"llvm.func\"() <{f}> ({|    \"llvm.blocktag\"() \
     <{id = 1}> : () -> () // words|  }) : () -> ()|}) : () -> () => \"builtin.module\"() ({|  \"llvm.func\"() \
     <{f}> ({|    \"llvm.blocktag\"() <{id = 1}> : () -> () // words|  }) : () -> ()|}) : () -> ()|
+a function that is kept as text for successors and regions -- \"builtin.module\"() ({|  \"func.func\"() <{f}> ({|  \
+    ^a:|    \"x.each\"()[^a] <{k}> ({|      \"llvm.unreachable\"() : () -> ()|    }) : () -> () // words|  }) : () -> \
+    ()|}) : () -> () => \"builtin.module\"() ({|  \"func.func\"() <{f}> ({|  ^a:|    \"x.each\"()[^a] <{k}> \
+    ({|      \"llvm.unreachable\"() : () -> ()|    }) : () -> () // words|  }) : () -> ()|}) : () -> ()|
 aliases and resources -- #a = \"x\"|!b = i32|\"m\"() {v = #a} : () -> ()|{-# r: {} #-} => #a = \"x\"|!b = \
     i32|\"m\"() {v = #a} : () -> ()|{-# r: {} #-}";
 
