@@ -1,0 +1,20 @@
+//! The laws on linked runs and on rewrite rules.
+use pliron_bench::Bench;
+use pliron_linked::{linked_runs_agree, linked_runs_agree_on_inputs, linked_runs_kept};
+use pliron_rules::{
+    equal_values_replace_one_another, leaves_replace_results, results_before_replace_results,
+};
+
+#[test]
+fn laws_of_linked_runs(_rt: HostRuntime) {
+    linked_runs_agree();
+    linked_runs_agree_on_inputs();
+    linked_runs_kept();
+}
+
+#[test]
+fn laws_of_rules(_rt: HostRuntime) {
+    equal_values_replace_one_another::<Bench>();
+    leaves_replace_results::<Bench>();
+    results_before_replace_results::<Bench>();
+}
