@@ -1,4 +1,6 @@
 //! The properties that operations own, by their names, as far as passes read them.
+ghost use Rattle.std.specs.Prelude.{◌≡◌};
+ghost use Rattle.pliron_mlir_reader.specs.Owners.{is_named, owned_named, value_owners, predicate_owners, llvm_overflow_owners, arith_overflow_owners, exact_owners, edges_owners};
 
 /// What is read of the properties of an operation. Every other entry of its property list and attribute dictionary is
 /// text alone.
@@ -25,21 +27,83 @@ pub enum Owned {
     Edges,
 }
 
+fn owns_value(name: &[u8]) -> bool
+    ensures { result ≡ is_named value_owners name.now }
+{
+    name == b"llvm.mlir.constant".as_slice() || name == b"arith.constant".as_slice()
+}
+
+fn owns_predicate(name: &[u8]) -> bool
+    ensures { result ≡ is_named predicate_owners name.now }
+{
+    name == b"llvm.icmp".as_slice() || name == b"arith.cmpi".as_slice()
+}
+
+fn owns_llvm_overflow(name: &[u8]) -> bool
+    ensures { result ≡ is_named llvm_overflow_owners name.now }
+{
+    name == b"llvm.add".as_slice()
+        || name == b"llvm.sub".as_slice()
+        || name == b"llvm.mul".as_slice()
+        || name == b"llvm.shl".as_slice()
+        || name == b"llvm.trunc".as_slice()
+}
+
+fn owns_arith_overflow(name: &[u8]) -> bool
+    ensures { result ≡ is_named arith_overflow_owners name.now }
+{
+    name == b"arith.addi".as_slice()
+        || name == b"arith.subi".as_slice()
+        || name == b"arith.muli".as_slice()
+        || name == b"arith.shli".as_slice()
+        || name == b"arith.trunci".as_slice()
+}
+
+fn owns_exact(name: &[u8]) -> bool
+    ensures { result ≡ is_named exact_owners name.now }
+{
+    name == b"llvm.udiv".as_slice()
+        || name == b"llvm.sdiv".as_slice()
+        || name == b"llvm.lshr".as_slice()
+        || name == b"llvm.ashr".as_slice()
+        || name == b"arith.divui".as_slice()
+        || name == b"arith.divsi".as_slice()
+        || name == b"arith.shrui".as_slice()
+        || name == b"arith.shrsi".as_slice()
+}
+
+fn owns_edges(name: &[u8]) -> bool
+    ensures { result ≡ is_named edges_owners name.now }
+{
+    name == b"llvm.cond_br".as_slice()
+        || name == b"cf.cond_br".as_slice()
+        || name == b"llvm.switch".as_slice()
+        || name == b"cf.switch".as_slice()
+}
+
 /// What is read of the properties of operations of this name, without quotes. Cost: constant.
-pub fn owned_by(name: &[u8]) -> Owned {
-    match name {
-        b"llvm.mlir.constant" | b"arith.constant" => Owned::Value,
-        b"llvm.mlir.zero" => Owned::Zero,
-        b"llvm.icmp" | b"arith.cmpi" => Owned::Predicate,
-        b"llvm.add" | b"llvm.sub" | b"llvm.mul" | b"llvm.shl" | b"llvm.trunc" =>
-            Owned::LlvmOverflow,
-        b"arith.addi" | b"arith.subi" | b"arith.muli" | b"arith.shli" | b"arith.trunci" =>
-            Owned::ArithOverflow,
-        b"llvm.udiv" | b"llvm.sdiv" | b"llvm.lshr" | b"llvm.ashr" => Owned::Exact,
-        b"arith.divui" | b"arith.divsi" | b"arith.shrui" | b"arith.shrsi" => Owned::Exact,
-        b"llvm.or" => Owned::Disjoint,
-        b"llvm.zext" => Owned::NonNegative,
-        b"llvm.cond_br" | b"cf.cond_br" | b"llvm.switch" | b"cf.switch" => Owned::Edges,
-        _ => Owned::Nothing,
+pub fn owned_by(name: &[u8]) -> Owned
+    ensures { result ≡ owned_named name.now }
+{
+    if owns_value(name) {
+        Owned::Value
+    } else if name == b"llvm.mlir.zero".as_slice() {
+        Owned::Zero
+    } else if owns_predicate(name) {
+        Owned::Predicate
+    } else if owns_llvm_overflow(name) {
+        Owned::LlvmOverflow
+    } else if owns_arith_overflow(name) {
+        Owned::ArithOverflow
+    } else if owns_exact(name) {
+        Owned::Exact
+    } else if name == b"llvm.or".as_slice() {
+        Owned::Disjoint
+    } else if name == b"llvm.zext".as_slice() {
+        Owned::NonNegative
+    } else if owns_edges(name) {
+        Owned::Edges
+    } else {
+        Owned::Nothing
     }
 }
