@@ -7,6 +7,7 @@ ghost use Rattle.std.specs.Prelude.{◌≡◌, ◌≢◌, ⊤, []};
 ghost use Rattle.pliron_bench.specs.BenchMoves.{bench};
 ghost use Rattle.pliron_opts.specs.Ran.{RunsAlone};
 ghost use Rattle.pliron_opts.specs.Read.{ReadsBench, PrintsBench, ReadsKinds, PrintsKinds};
+ghost use Rattle.pliron_mlir_opt.specs.Closed.{closed_reads, closed_prints};
 ghost use Rattle.pliron_buffers.specs.Faults.{nowhere, IsFaultPlace};
 ghost use Rattle.pliron_buffers.specs.Fills.{FillsBy};
 ghost use Rattle.pliron_buffers.specs.Optimises.{Optimises, IsListed, Explains};
@@ -19,7 +20,7 @@ use pliron_buffers::{
 };
 use pliron_laws::HasMeaning;
 use pliron_mlir::{AnyMeaning, Mlir};
-use pliron_mlir_opt::GenericForm;
+use pliron_mlir_opt::{Closed, GenericForm};
 use pliron_opts::Schedule;
 use pliron_pass::{BenchFactKind, BenchFacts, Pass};
 use std::alloc::Global;
@@ -27,8 +28,11 @@ use std::alloc::Global;
 /// The number of this interface. It is incremented with each change of a signature, a status or what a call asks for.
 const VERSION: u32 = 2;
 
-/// The notation of modules.
-type Form = GenericForm<Mlir<AnyMeaning>>;
+/// The notation of texts, and that of modules: proofs here have what a text says only from reading that very text, and
+/// what is printed only from printing.
+type Text = Closed<BenchNotation>;
+
+type Form = Closed<GenericForm<Mlir<AnyMeaning>>>;
 
 /// The number of this interface. Cost: constant.
 #[unsafe(no_mangle)]
@@ -51,11 +55,11 @@ pub extern "C" fn plir_optimise(
     output: &mut [u8],
     needed: &mut usize,
 ) -> u32
-    ensures { FillsBy (Optimises ReadsBench PrintsBench bench
+    ensures { FillsBy (Optimises (closed_reads ReadsBench) (closed_prints PrintsBench) bench
         (RunsAlone ⟦<BenchFactKind as PartialEq>⟧.eq ⟦<Schedule<Bench, BenchFacts> as Pass>⟧.outcome)
         pipeline.now text.now) (Explains (IsListed pipeline.now)) output.old output.new needed.new result }
 {
-    optimise_into::<BenchNotation>(alloc, pipeline, text, output, needed).number()
+    optimise_into::<Text>(alloc, pipeline, text, output, needed).number()
 }
 
 /// Puts what `plir_opt graph` writes for a graph into the buffer: its orders, its search numbers, the kinds of its
@@ -110,7 +114,8 @@ pub extern "C" fn plir_optimise_mlir(
     changed: &mut u32,
 ) -> u32
     ensures { FillsBy (OptimisesModule ⟦<ModulePass<Form> as Pass>⟧.name
-        (ReadsKinds ⟦<Mlir<AnyMeaning> as HasMeaning>⟧.meaning) PrintsKinds ⟦<Mlir<AnyMeaning> as HasMeaning>⟧.meaning
+        (closed_reads (ReadsKinds ⟦<Mlir<AnyMeaning> as HasMeaning>⟧.meaning)) (closed_prints PrintsKinds)
+        ⟦<Mlir<AnyMeaning> as HasMeaning>⟧.meaning
         (RunsAlone ⟦<BenchFactKind as PartialEq>⟧.eq ⟦<ModuleSchedule<Form> as Pass>⟧.outcome)
         pipeline.now text.now changed.new) (λ failure. Explains (IsWord pipeline.now) failure × (changed.new ≡ 0))
         output.old output.new needed.new result }

@@ -3,48 +3,33 @@
 //! It knows words, files, streams and an exit status. What the program does with texts is in `pliron_mlir_opt`.
 #![tactic(auto)]
 
-ghost use Rattle.std.specs.Prelude.{◌≤◌, map, IfOk};
+ghost use Rattle.std.specs.Prelude.{None, ◌≤◌, ◌⊎◌, ◌≡◌};
+ghost use Rattle.pliron_laws.specs.Linked.{IsWellLinked};
 ghost use Rattle.pliron_opts.specs.Ran.{RunsAlone};
-ghost use Rattle.pliron_mlir_opt.specs.Outcomes.{EndsOptimised, EndsByPlan, EndsByWord};
+ghost use Rattle.pliron_opts.specs.Read.{ReadsKinds, PrintsKinds};
+ghost use Rattle.pliron_mlir_opt.specs.Closed.{closed_reads, closed_prints};
+ghost use Rattle.pliron_mlir_opt.specs.Outcomes.{EndsOptimised, EndsByWord};
+ghost use Rattle.pliron_mlir_opt.specs.Streams.{EndsOnStreams};
 
 mod command;
+mod target;
 
 use clap::{ArgMatches, Error};
 use command::parse_arguments;
-use pliron_instrument::{Instrumented, InstrumentedSchedule, PipelineText, PlanError, Progress};
+use pliron_instrument::{Instrumented, InstrumentedSchedule, Progress};
+use pliron_laws::HasMeaning;
 use pliron_mlir::{AnyMeaning, Mlir};
-use pliron_mlir_opt::{
-    GenericForm, ModuleNotation, ModuleOptions, Outcome, Source, misspelling_outcome,
-    print_after_each, read_plan, run_passes, unusable_outcome,
-};
+use pliron_mlir_opt::{Closed, GenericForm, MAX_TEXT, ModuleOptions, Request, run_on};
 use pliron_pass::{BenchFactKind, Pass};
-use std::alloc::Global;
 use std::env;
-use std::fs::{self, File};
-use std::io::{self, ErrorKind, Read, Write};
+use std::fs::File;
+use std::io::{self, ErrorKind, Read};
 use std::process::ExitCode;
 use std::time::{Clock, Duration};
+use target::Target;
 
-/// The most bytes of a text.
-const MAX_TEXT: usize = 268_435_456;
-
-// The text of the file, or of standard input where it is called `-`; of one that is too long, a byte more than the
-// most.
-fn text_of(rt: &HostRuntime, name: &str) -> io::Result<Vec<u8>> {
-    let mut text = Vec::new(rt.alloc());
-    let most = MAX_TEXT as u64 + 1;
-    let _ = if name == "-" {
-        rt.stdin().take(most).read_to_end(&mut text)?
-    } else {
-        File::open(rt, name)?.take(most).read_to_end(&mut text)?
-    };
-    Ok(text)
-}
-
-// What users call the input.
-fn input_name(name: &str) -> &str {
-    if name == "-" { "standard input" } else { name }
-}
+/// The notation of modules, of which proofs know texts by reading and printing alone.
+type Form = Closed<GenericForm<Mlir<AnyMeaning>>>;
 
 /// The clock of the process.
 #[derive(Clone, Copy, Drop)]
@@ -66,124 +51,98 @@ impl Progress for Terminal<'_> {
     fn pass_ended(&self, _: usize, _: &str) {}
 }
 
-// Runs the passes of the plan on the text, after writing the module as it is after each pass, where that is asked for.
-fn run_plan<'r, N: ModuleNotation>(
-    rt: &'r HostRuntime,
-    matches: &ArgMatches,
-    source: &Source,
-    plan: &PipelineText,
-) -> io::Result<Outcome>
-    ensures { IfOk result (EndsByPlan ⟦<Instrumented<N, Terminal<'r>> as Pass>⟧.name
-        (λ schedule. EndsOptimised N.reads N.prints N.D.meaning (RunsAlone ⟦<BenchFactKind as PartialEq>⟧.eq
-        ⟦<InstrumentedSchedule<N, Terminal<'r>> as Pass>⟧.outcome schedule) source.now.text.now)
-        plan.now.runs plan.now.nested (map (λ name. name.now) plan.now.names.items)) }
-{
-    let alloc = rt.alloc();
-    if matches.get_flag("print-after-all") {
-        let printed = print_after_each::<N>(alloc, source.text, plan)?;
-        let _ = rt.stderr().write_all(&printed);
-    }
-    let options = ModuleOptions {
-        counts: matches.get_flag("stats"),
-        verifies: matches.get_flag("verify-each"),
-        times: matches.get_flag("time"),
-        checks: matches.get_flag("check"),
-    };
-    Ok(run_passes::<N, Terminal>(alloc, source, &options, plan, Terminal { rt })?)
-}
-
-// Runs the passes that the word asks for on the text.
-#[tactic(auto, using(crate::proofs::WordLemmas::ends_by_word, crate::proofs::WordLemmas::ends_without_word))]
-fn run_word<'r, N: ModuleNotation>(
-    rt: &'r HostRuntime,
-    matches: &ArgMatches,
-    source: &Source,
-    word: &str,
-) -> io::Result<Outcome>
-    ensures { IfOk result (EndsByWord ⟦<Instrumented<N, Terminal<'r>> as Pass>⟧.name
-        (λ schedule. EndsOptimised N.reads N.prints N.D.meaning (RunsAlone ⟦<BenchFactKind as PartialEq>⟧.eq
-        ⟦<InstrumentedSchedule<N, Terminal<'r>> as Pass>⟧.outcome schedule) source.now.text.now)
-        word.now) }
-{
-    match read_plan(rt.alloc(), word) {
-        Ok(plan) => run_plan::<N>(rt, matches, source, &plan),
-        Err(PlanError::Word(fault)) => Ok(misspelling_outcome(rt.alloc(), word, &fault)?),
-        Err(PlanError::Memory) => Err(io::Error::from(ErrorKind::OutOfMemory)),
-    }
-}
-
-// What becomes of the input.
-fn outcome(rt: &HostRuntime, matches: &ArgMatches) -> io::Result<Outcome> {
-    let alloc = rt.alloc();
+// What the words ask for.
+//
+// No clause speaks of what words were parsed to: this is read.
+fn request_of<'w>(matches: &'w ArgMatches) -> Request<'w> {
     let name = matches.get_str("file").unwrap_or("-");
-    let text = match text_of(rt, name) {
-        Ok(text) => text,
-        Err(error) if error.kind() == ErrorKind::OutOfMemory => return Err(error),
-        Err(error) => {
-            let name = input_name(name);
-            let report = format!(in alloc; "error: cannot read {name}: {error}\n")?;
-            return Ok(unusable_outcome(alloc, report));
-        }
-    };
-    let name = input_name(name);
-    if text.len() > MAX_TEXT {
-        let report = format!(in alloc; "{name}: expected a text of at most 256 MiB\n")?;
-        return Ok(unusable_outcome(alloc, report));
-    }
-    let source = Source { name, text: &text };
-    let word = matches.get_str("pipeline").unwrap_or("");
-    run_word::<GenericForm<Mlir<AnyMeaning>>>(rt, matches, &source, word)
-}
-
-// Writes what the program leaves: to the file that is named, where there is an answer, or to standard output, where a
-// pipe that nobody reads any more ends the answer quietly.
-fn write(rt: &HostRuntime, outcome: &Outcome, file: Option<&str>) -> io::Result<()> {
-    let _ = eprint!(rt; "{}", outcome.report);
-    if outcome.status != 0 {
-        return Ok(());
-    }
-    let written = match file {
-        Some(file) => fs::write(rt, file, &outcome.output),
-        None => rt.stdout().write_all(&outcome.output),
-    };
-    match written {
-        Err(error) if error.kind() == ErrorKind::BrokenPipe => Ok(()),
-        written => written,
+    Request {
+        pipeline: matches.get_str("pipeline").unwrap_or(""),
+        name: if name == "-" { "standard input" } else { name },
+        options: ModuleOptions {
+            counts: matches.get_flag("stats"),
+            verifies: matches.get_flag("verify-each"),
+            times: matches.get_flag("time"),
+            checks: matches.get_flag("check"),
+        },
+        prints_all: matches.get_flag("print-after-all"),
     }
 }
 
-// Does what the words ask for, and answers its status.
-fn act(rt: &HostRuntime, matches: &ArgMatches) -> io::Result<u8> {
-    let outcome = outcome(rt, matches)?;
-    write(rt, &outcome, matches.get_str("output"))?;
-    Ok(outcome.status)
+// Runs the program on what is asked for, a reader and the file that is named, or standard output, and answers its
+// status.
+fn run_to<'r, R: Read>(
+    rt: &'r HostRuntime,
+    request: &Request,
+    input: &mut R,
+    file: Option<&str>,
+) -> u8
+    ensures { EndsOnStreams (λ text. EndsByWord ⟦<Instrumented<Form, Terminal<'r>> as Pass>⟧.name
+        (λ schedule. EndsOptimised (closed_reads (ReadsKinds ⟦<Mlir<AnyMeaning> as HasMeaning>⟧.meaning))
+        (closed_prints PrintsKinds) ⟦<Mlir<AnyMeaning> as HasMeaning>⟧.meaning
+        (RunsAlone ⟦<BenchFactKind as PartialEq>⟧.eq ⟦<InstrumentedSchedule<Form, Terminal<'r>> as Pass>⟧.outcome
+        schedule) text) request.now.pipeline.now) (R.remaining input.old) None None result }
+{
+    let mut target = Target::new(rt, file);
+    let clock = Terminal { rt };
+    run_on::<Form, R, Target, _, Terminal>(
+        rt.alloc(),
+        request,
+        input,
+        &mut target,
+        &mut rt.stderr(),
+        clock,
+    )
 }
 
-// Writes why there is no answer, and answers the status: 1 on allocation failure.
+// Opens the input, of which no more is read than a byte past the longest text, and runs the program on it.
+fn act(rt: &HostRuntime, matches: &ArgMatches) -> u8 {
+    let request = request_of(matches);
+    let most = MAX_TEXT as u64 + 1;
+    let file = matches.get_str("output");
+    match matches.get_str("file") {
+        Some(name) if name != "-" => match File::open(rt, name) {
+            Ok(opened) => run_to(rt, &request, &mut opened.take(most), file),
+            Err(error) => unopened_status(rt, name, &error),
+        },
+        _ => run_to(rt, &request, &mut rt.stdin().take(most), file),
+    }
+}
+
+// Writes that the input can't be read, and answers the status.
+fn unopened_status(rt: &HostRuntime, name: &str, error: &io::Error) -> u8
+    ensures { 1 ≤ result }
+{
+    if error.kind() == ErrorKind::OutOfMemory {
+        return refused_status(rt);
+    }
+    let _ = eprintln!(rt; "error: cannot read {name}: {error}");
+    2
+}
+
+// Writes that memory was refused, and answers the status.
+fn refused_status(rt: &HostRuntime) -> u8
+    ensures { result ≡ 1 }
+{
+    let _ = eprintln!(rt; "error: refused: want of memory");
+    1
+}
+
+// Writes why there are no words, and answers the status: 1 on allocation failure.
 fn failure_status(rt: &HostRuntime, error: &io::Error) -> u8
     ensures { 1 ≤ result }
 {
     if error.kind() == ErrorKind::OutOfMemory {
-        let _ = eprintln!(rt; "error: refused: want of memory");
-        1
-    } else {
-        let _ = eprintln!(rt; "error: {error}");
-        2
+        return refused_status(rt);
     }
-}
-
-// The status of what the words ask for.
-fn act_on(rt: &HostRuntime, matches: &ArgMatches) -> u8 {
-    match act(rt, matches) {
-        Ok(status) => status,
-        Err(error) => failure_status(rt, &error),
-    }
+    let _ = eprintln!(rt; "error: {error}");
+    2
 }
 
 // Writes what is wrong with the words, or the help that they ask for, and answers the status.
 fn write_usage(rt: &HostRuntime, error: &Error) -> u8 {
     if error.kind() == clap::error::ErrorKind::OutOfMemory {
-        return failure_status(rt, &io::Error::from(ErrorKind::OutOfMemory));
+        return refused_status(rt);
     }
     let _ = error.print(rt);
     if error.exit_code() == 0 { 0 } else { 2 }
@@ -204,7 +163,7 @@ fn main(rt: HostRuntime) -> ExitCode {
         Err(error) => return ExitCode::from(failure_status(&rt, &error)),
     };
     match parse_arguments(rt.alloc(), words.as_slice()) {
-        Ok(matches) => ExitCode::from(act_on(&rt, &matches)),
+        Ok(matches) => ExitCode::from(act(&rt, &matches)),
         Err(error) => ExitCode::from(write_usage(&rt, &error)),
     }
 }

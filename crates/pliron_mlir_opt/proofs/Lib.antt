@@ -1,2 +1,4 @@
+mod ClosedLemmas
 mod OutcomeLemmas
 mod PlanLemmas
+mod StreamLemmas

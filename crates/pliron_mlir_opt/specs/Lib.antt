@@ -1,1 +1,3 @@
+pub mod Closed
 pub mod Outcomes
+pub mod Streams

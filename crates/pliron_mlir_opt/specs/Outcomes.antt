@@ -1,4 +1,4 @@
--- How a run of the program ends.
+-- How a run ends.
 use Rattle.std.specs.Prelude.{◌≡◌, ◌≤◌, ◌⊎◌, ℕ, Bool, true, false, List, [], ◌++◌, Option, None}
 use Rattle.pliron_core.specs.Tree.{Tree}
 use Rattle.pliron_core.specs.declared.attrs.IRStatus.{IRStatus}
@@ -8,9 +8,9 @@ use Rattle.pliron_opts.specs.PipelineTexts.{Plans}
 use Rattle.pliron_instrument.specs.Schedules.{ScheduleOf, IsPlanned}
 use Rattle.pliron_mlir_opt.specs.declared.outcome.Outcome.{Outcome}
 
--- nothing is to be written, and the status isn't 0
+-- nothing is to be written, and the status is 1, 2 or 3
 abbrev pub EndsWithout : Outcome → Type 0
-EndsWithout o = (o.output.items ≡ []) × (1 ≤ o.status)
+EndsWithout o = (o.output.items ≡ []) × (1 ≤ o.status) × (o.status ≤ 3)
 
 -- this is written, with 0, or nothing
 abbrev pub Writes : (printed : List ℕ) → Outcome → Type 0

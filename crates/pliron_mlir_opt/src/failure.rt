@@ -40,7 +40,8 @@ impl ModuleFailure {
     /// The status that a program ends with: 1 where something was refused, 2 where the text can't be used. Cost:
     /// constant.
     pub fn status(self) -> u8
-        ensures { 1 ≤ result }
+        ensures least { 1 ≤ result }
+        ensures most { result ≤ 2 }
     {
         match self {
             ModuleFailure::Refused(_) => 1,

@@ -1,8 +1,9 @@
 //! Modules of MLIR through passes: what the program `plir_mlir` does with texts.
 //!
-//! It knows texts, passes and what is reported about them; of words, files and streams it knows nothing.
+//! It knows texts, passes, what is reported about them, and streams; of words and files it knows nothing.
 #![tactic(auto)]
 
+mod closed;
 mod each_pass;
 mod failure;
 mod fitness;
@@ -10,14 +11,17 @@ mod notation;
 mod optimise_module;
 mod outcome;
 mod plans;
+mod program;
 mod report;
 mod tally;
 
+pub use closed::Closed;
 pub use each_pass::print_after_each;
 pub use failure::ModuleFailure;
 pub use fitness::{Fitness, Unfit};
 pub use notation::{GenericForm, ModuleNotation};
 pub use optimise_module::{Counts, ModuleOptions, Optimised, optimise};
-pub use outcome::{Outcome, Source, misspelling_outcome, run_passes, unusable_outcome};
+pub use outcome::{Outcome, Source, misspelling_outcome, run_passes};
 pub use plans::read_plan;
+pub use program::{MAX_TEXT, Request, run_on};
 pub use tally::Tally;

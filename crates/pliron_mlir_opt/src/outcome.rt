@@ -36,7 +36,7 @@ pub struct Source<'s> {
 }
 
 /// The outcome of words or an input that can't be used, with this report: nothing is to be written. Cost: constant.
-pub fn unusable_outcome(alloc: Global, report: String) -> Outcome
+pub(crate) fn unusable_outcome(alloc: Global, report: String) -> Outcome
     ensures { EndsWithout result }
 {
     Outcome {
@@ -137,6 +137,9 @@ fn run_schedule<N: ModuleNotation, C: Progress + Copy + Drop>(
 }
 
 /// Runs the passes that the plan asks for on the module that the text says, and answers the module that they leave.
+///
+/// It is proved for each dialect and notation, and so for each interpretation of what no table of MLIR's operations knows.
+/// The programs call it at one, which no code reads.
 ///
 /// Statuses: 0; 1 where memory or the passes were refused; 2 for a text that can't be used; 3 where verifying or
 /// reading again found a fault. With all but 0 nothing is to be written to the output. Errors: allocation failure for

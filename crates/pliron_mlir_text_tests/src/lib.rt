@@ -19,4 +19,6 @@ mod printed;
 #[cfg(test)]
 mod properties;
 #[cfg(test)]
+mod streams;
+#[cfg(test)]
 mod traces;

@@ -1,0 +1,54 @@
+//! Notations whose texts proofs know by name alone.
+ghost use Rattle.std.specs.Prelude.{◌≡◌, IfOk, IfSome, string_bytes};
+ghost use Rattle.pliron_core.specs.Tree.{IsLive};
+ghost use Rattle.pliron_core.specs.Writes.{no_tree};
+ghost use Rattle.pliron_laws.specs.Linked.{IsWellLinked};
+ghost use Rattle.pliron_mlir_opt.specs.Closed.{closed_reads, closed_prints};
+
+use crate::notation::ModuleNotation;
+use pliron_core::{Context, Operation, Ptr};
+use pliron_laws::OptError;
+use pliron_mlir_text::{Fault, Module};
+use pliron_opts::Notation;
+use std::alloc::{AllocError, Global};
+use std::marker::PhantomData;
+
+/// The notation, closed to proofs: one that runs over it has what a text says only from reading that very text, and what
+/// is printed of a tree only from printing that tree.
+///
+/// A notation of which it is open what its texts say would else allow any text in the place of the one that was given.
+pub struct Closed<N>(PhantomData<N>);
+
+impl<N: Notation> Notation for Closed<N> {
+    type D = N::D;
+
+    ghost reads = { closed_reads N.reads };
+
+    ghost prints = { closed_prints N.prints };
+
+    #[tactic(auto, using(crate::proofs::ClosedLemmas::text_read))]
+    fn read(
+        alloc: Global,
+        text: &[u8],
+        ctx: &mut Context,
+    ) -> Result<Option<Ptr<Operation>>, OptError> {
+        N::read(alloc, text, ctx)
+    }
+
+    #[tactic(auto, using(crate::proofs::ClosedLemmas::operation_printed))]
+    fn print(alloc: Global, root: Ptr<Operation>, ctx: &Context) -> Result<String, OptError> {
+        N::print(alloc, root, ctx)
+    }
+}
+
+impl<N: ModuleNotation> ModuleNotation for Closed<N> {
+    #[tactic(auto, using(crate::proofs::ClosedLemmas::module_read))]
+    fn read_module(alloc: Global, text: &[u8], ctx: &mut Context) -> Result<Module, Fault> {
+        N::read_module(alloc, text, ctx)
+    }
+
+    #[tactic(auto, using(crate::proofs::ClosedLemmas::operation_printed))]
+    fn print_module(alloc: Global, loaded: &Module, ctx: &Context) -> Result<Vec<u8>, AllocError> {
+        N::print_module(alloc, loaded, ctx)
+    }
+}
