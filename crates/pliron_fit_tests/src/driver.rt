@@ -1,4 +1,4 @@
-//! docs/PASSES.md: a driver that makes a tree by calls, checks it, optimises and prints.
+//! docs/DRIVERS.md: a driver that makes a tree by calls, checks it, optimises and prints.
 ghost use Rattle.pliron_core.specs.Tree.{IsLive};
 
 use pliron_bench::heads::{attribute_head, plain_head};

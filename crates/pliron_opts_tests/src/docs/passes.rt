@@ -1,4 +1,4 @@
-//! docs/PASSES.md: a pass, and a list of different passes.
+//! docs/PASSES.md and docs/DRIVERS.md: a pass, and a list of different passes.
 ghost use Rattle.std.specs.Prelude.{◌≡◌, ◌+◌, ◌-◌, ◌^◌, false, min};
 ghost use Rattle.pliron_opts_tests.specs.declared.docs.passes.TheConstants.{TALLY};
 

@@ -1,4 +1,4 @@
-//! A driver, as docs/PASSES.md shows it.
+//! A driver, as docs/DRIVERS.md shows it.
 use pliron_bench::Bench;
 use pliron_core::Context;
 use pliron_notation::{print_text, read_text};
