@@ -35,19 +35,16 @@ impl<N: Notation> Notation for Closed<N> {
         N::read(alloc, text, ctx)
     }
 
-    #[tactic(auto, using(crate::proofs::ClosedLemmas::operation_printed))]
     fn print(alloc: Global, root: Ptr<Operation>, ctx: &Context) -> Result<String, OptError> {
         N::print(alloc, root, ctx)
     }
 }
 
 impl<N: ModuleNotation> ModuleNotation for Closed<N> {
-    #[tactic(auto, using(crate::proofs::ClosedLemmas::module_read))]
     fn read_module(alloc: Global, text: &[u8], ctx: &mut Context) -> Result<Module, Fault> {
         N::read_module(alloc, text, ctx)
     }
 
-    #[tactic(auto, using(crate::proofs::ClosedLemmas::operation_printed))]
     fn print_module(alloc: Global, loaded: &Module, ctx: &Context) -> Result<Vec<u8>, AllocError> {
         N::print_module(alloc, loaded, ctx)
     }
