@@ -54,7 +54,7 @@ impl Progress for Terminal<'_> {
 // What the words ask for.
 //
 // No clause speaks of what words were parsed to: this is read.
-fn request_of<'w>(matches: &'w ArgMatches) -> Request<'w> {
+fn request_of<'w>(matches: &ArgMatches<'w>) -> Request<'w> {
     let name = matches.get_str("file").unwrap_or("-");
     Request {
         pipeline: matches.get_str("pipeline").unwrap_or(""),
