@@ -28,11 +28,12 @@ use std::alloc::Global;
 /// The number of this interface. It is incremented with each change of a signature, a status or what a call asks for.
 const VERSION: u32 = 2;
 
-/// The notation of texts, and that of modules: proofs here have what a text says only from reading that very text, and
-/// what is printed only from printing.
+/// The notation of texts: proofs here have what a text says only from reading that very text, and what is printed only
+/// from printing.
 type Text = Closed<BenchNotation>;
 
-type Form = Closed<GenericForm<Mlir<AnyMeaning>>>;
+/// The notation of modules.
+type Form = GenericForm<Mlir<AnyMeaning>>;
 
 /// The number of this interface. Cost: constant.
 #[unsafe(no_mangle)]
@@ -114,8 +115,7 @@ pub extern "C" fn plir_optimise_mlir(
     changed: &mut u32,
 ) -> u32
     ensures { FillsBy (OptimisesModule ⟦<ModulePass<Form> as Pass>⟧.name
-        (closed_reads (ReadsKinds ⟦<Mlir<AnyMeaning> as HasMeaning>⟧.meaning)) (closed_prints PrintsKinds)
-        ⟦<Mlir<AnyMeaning> as HasMeaning>⟧.meaning
+        (ReadsKinds ⟦<Mlir<AnyMeaning> as HasMeaning>⟧.meaning) PrintsKinds ⟦<Mlir<AnyMeaning> as HasMeaning>⟧.meaning
         (RunsAlone ⟦<BenchFactKind as PartialEq>⟧.eq ⟦<ModuleSchedule<Form> as Pass>⟧.outcome)
         pipeline.now text.now changed.new) (λ failure. Explains (IsWord pipeline.now) failure × (changed.new ≡ 0))
         output.old output.new needed.new result }
