@@ -1,5 +1,5 @@
 -- The role of each class.
-use Rattle.std.proofs.Common.{◌≡◌, ℕ, zero, suc, ◌&&◌, nat_eq, if◌then◌else◌, Bool, true, false, List, [], ◌∷◌, Option, Some, None, refl, ap, ◌∙◌}
+use Rattle.std.proofs.Common.{◌≡◌, ℕ, zero, suc, ◌&&◌, nat_eq, if◌then◌else◌, Bool, true, false, List, [], ◌∷◌, Option, Some, None, IsTrue, refl, ap, sym, subst, ◌∙◌}
 use Rattle.std.specs.Prelude.{ℤ, pos, negsuc, slice_index_or}
 use Rattle.std.specs.Option.{option_map}
 use Rattle.pliron_core.specs.declared.attrs.Head.{Head}
@@ -16,8 +16,10 @@ use Rattle.pliron_mlir.specs.declared.kind.Class.TheVariants.{Constant as Consta
 use Rattle.pliron_branches.specs.Counts.{counted_by}
 use Rattle.pliron_roles.specs.declared.identity.Identity.{Identity}
 use Rattle.pliron_mlir.specs.IntegerIdentities.{of_cast, of_compare, identity_at}
-use Rattle.pliron_roles.specs.Roles.{Interpretation, Role, Constant, Folds, Picks, Opaque, Jumps, Chooses, Leaves, Stops, Acts, Forks, Tables, KeepsTables, ActsFit, effect_act, region_act, fit_data, has_some}
-use Rattle.pliron_roles.specs.CountLaws.{effect_fits, region_fits, at_fits, length-fitted}
+use Rattle.pliron_roles.specs.declared.form.Counting.TheVariants.{OfEach}
+use Rattle.pliron_roles.specs.declared.form.Otherwise.TheVariants.{Says}
+use Rattle.pliron_roles.specs.Roles.{Interpretation, Role, Constant, Folds, Picks, Opaque, Jumps, Chooses, Leaves, Stops, Acts, Forks, Tables, KeepsTables, RoleFits, effect_act, region_act, fork_act, fit_data, has_some, head_of_kind, constant_head_of}
+use Rattle.pliron_roles.specs.CountLaws.{effect_fits, region_fits, fork_fits, at_fits, length-fitted}
 use Rattle.pliron_mlir.specs.ClassNumbers.{number_of_class, class_of_number, numbered}
 use Rattle.pliron_mlir.specs.Data.{is_width, bits_of_width, number, bits_at, truth, bit}
 use Rattle.pliron_mlir.specs.Heads.{attribute_at, width_at, flags_at}
@@ -34,8 +36,8 @@ of_one f (Some a) = f a
 of_one f None = None
 
 -- the attributes of what computes are the width, the flags and the form
-abbrev pub computed_by : BinaryOperator → Head → List ℤ → Option ℤ
-computed_by operator h (a ∷ b ∷ []) =
+abbrev pub computed_by : BinaryOperator → Head → List (Option ℤ) → Option ℤ
+computed_by operator h (Some a ∷ Some b ∷ []) =
     option_map (number (width_at h.attrs 0)) (of_two (binary operator (flags_at h.attrs 1) (bits_of_width (width_at h.attrs 0))) (bits_at (width_at h.attrs 0) a) (bits_at (width_at h.attrs 0) b))
 computed_by operator h _ = None
 
@@ -44,8 +46,8 @@ abbrev pub truth_of_two : Option Predicate → (width a b : ℕ) → Option ℕ
 truth_of_two None width a b = None
 truth_of_two (Some predicate) width a b = Some (bit (comparison predicate width a b))
 
-abbrev pub compared_by : Head → List ℤ → Option ℤ
-compared_by h (a ∷ b ∷ []) =
+abbrev pub compared_by : Head → List (Option ℤ) → Option ℤ
+compared_by h (Some a ∷ Some b ∷ []) =
     option_map (number 1) (of_two (truth_of_two (predicate_of_number (attribute_at h.attrs 1)) (bits_of_width (width_at h.attrs 0))) (bits_at (width_at h.attrs 0) a) (bits_at (width_at h.attrs 0) b))
 compared_by h _ = None
 
@@ -53,8 +55,8 @@ compared_by h _ = None
 abbrev pub cast_of : Cast → Flags → (width to a : ℕ) → Option ℕ
 cast_of cast flags width to a = if is_width to then cast_to cast flags (bits_of_width width) (bits_of_width to) a else None
 
-abbrev pub cast_by : Cast → Head → List ℤ → Option ℤ
-cast_by cast h (a ∷ []) = option_map (number (width_at h.attrs 1)) (of_one (cast_of cast (flags_at h.attrs 2) (width_at h.attrs 0) (width_at h.attrs 1)) (bits_at (width_at h.attrs 0) a))
+abbrev pub cast_by : Cast → Head → List (Option ℤ) → Option ℤ
+cast_by cast h (Some a ∷ []) = option_map (number (width_at h.attrs 1)) (of_one (cast_of cast (flags_at h.attrs 2) (width_at h.attrs 0) (width_at h.attrs 1)) (bits_at (width_at h.attrs 0) a))
 cast_by cast h _ = None
 
 -- what leaves an operand as it is or gives one number, by what the attributes say
@@ -89,14 +91,12 @@ switch_edge kind (width ∷ cases) c = option_map (edge_of_case 1 cases) (bits_a
 
 -- ---- what acts by itself
 
-abbrev pub any_regions : Head → ℕ → ℕ → ℕ → Bool
-any_regions h a b d = true
-
-abbrev pub no_regions : Head → ℕ → ℕ → ℕ → Bool
-no_regions h a b d = nat_eq d 0
-
-abbrev pub one_region : Head → ℕ → ℕ → ℕ → Bool
-one_region h a b d = nat_eq a 0 && (nat_eq b 0 && nat_eq d 1)
+-- how many parts of each sort it has: any number, no regions, or nothing but one region
+abbrev pub allows_of_class : Class → Head → (a b c d : ℕ) → Bool
+allows_of_class Effect h a b c d = nat_eq d 0
+allows_of_class Root h a b c d = nat_eq a 0 && (nat_eq b 0 && nat_eq d 1)
+allows_of_class Module h a b c d = nat_eq a 0 && (nat_eq b 0 && nat_eq d 1)
+allows_of_class _ h a b c d = true
 
 -- a function visits its region once
 abbrev pub root_act : Shape → Datum → List Datum → Move
@@ -122,36 +122,36 @@ role_of_class ConstantClass = Constant
 role_of_class Select = Picks truth
 role_of_class OpaqueClass = Opaque
 role_of_class Jump = Jumps
-role_of_class Branch = Chooses branch_edge
-role_of_class Switch = Chooses switch_edge
+role_of_class Branch = Chooses OfEach branch_edge
+role_of_class Switch = Chooses OfEach switch_edge
 role_of_class LeaveClass = Leaves
 role_of_class Unreachable = Stops
-role_of_class Effect = Acts no_regions effect_act
-role_of_class Regions = Acts any_regions region_act
-role_of_class Root = Acts one_region root_act
-role_of_class Module = Acts one_region module_act
-role_of_class Fork = Forks
-role_of_class Compare = Folds 2 compared_by compare_identity
-role_of_class (CastClass cast) = Folds 1 (cast_by cast) cast_identity
-role_of_class (Binary operator) = Folds 2 (computed_by operator) (identity_by operator)
+role_of_class Effect = Acts true effect_act
+role_of_class Regions = Acts true region_act
+role_of_class Root = Acts true root_act
+role_of_class Module = Acts true module_act
+role_of_class Fork = Forks true fork_act
+role_of_class Compare = Folds 2 compared_by compare_identity Says
+role_of_class (CastClass cast) = Folds 1 (cast_by cast) cast_identity Says
+role_of_class (Binary operator) = Folds 2 (computed_by operator) (identity_by operator) Says
 
-acts : (c : Class) → ActsFit (role_of_class c)
-acts ConstantClass = tt
-acts Select = tt
-acts OpaqueClass = tt
-acts Jump = tt
-acts Branch = tt
-acts Switch = tt
-acts LeaveClass = tt
-acts Unreachable = tt
-acts Effect = λ s h memo input. effect_fits false s memo input
-acts Regions = λ s h memo input. region_fits false s memo input
-acts Root = λ s h memo input. root_fits s memo input
-acts Module = λ s h memo input. length-fitted s.results []
-acts Fork = tt
-acts Compare = tt
-acts (CastClass cast) = tt
-acts (Binary operator) = tt
+role_fits : (c : Class) (s : Shape) → RoleFits (allows_of_class c) (role_of_class c) s
+role_fits ConstantClass s = tt
+role_fits Select s = tt
+role_fits OpaqueClass s = tt
+role_fits Jump s = λ lt h. refl
+role_fits Branch s = λ i lt some h. refl
+role_fits Switch s = λ i lt some h. refl
+role_fits LeaveClass s = tt
+role_fits Unreachable s = tt
+role_fits Effect s = λ h memo input. effect_fits false s memo input
+role_fits Regions s = λ h memo input. region_fits false s memo input
+role_fits Root s = λ h memo input. root_fits s memo input
+role_fits Module s = λ h memo input. length-fitted s.results []
+role_fits Fork s = λ h memo input. fork_fits false s memo input
+role_fits Compare s = tt
+role_fits (CastClass cast) s = tt
+role_fits (Binary operator) s = tt
 
 -- the tables of kinds that are classes
 abbrev pub mlir : {K : Type 0} → (K → Class) → (Class → K) → Interpretation → Tables K
@@ -162,6 +162,10 @@ mlir class_of kind value = record {
   constant = kind ConstantClass;
   jump = kind Jump;
   value = value;
+  allows = λ k. allows_of_class (class_of k);
+  is_ssa = λ k. true;
+  accepts = λ attr. true;
+  checks_edges = λ k. false;
 }
 
 pub keeps_mlir : {K : Type 0} (class_of : K → Class) (kind : Class → K) (value : Interpretation) → ((k : K) → kind (class_of k) ≡ k) → ((c : Class) → class_of (kind c) ≡ c) → KeepsTables (mlir class_of kind value)
@@ -169,5 +173,7 @@ keeps_mlir class_of kind value back forth = record {
   numbered = λ k. ap (option_map kind) (numbered (class_of k)) ∙ ap Some (back k);
   constant = ap role_of_class (forth ConstantClass);
   jump = ap role_of_class (forth Jump);
-  acts = λ k. acts (class_of k);
+  constants_allowed = λ attr p. subst (λ c. IsTrue (allows_of_class c (constant_head_of (number_of_class c) true attr) 0 1 0 0)) (sym (forth ConstantClass)) refl;
+  jumps_allowed = λ n. subst (λ c. IsTrue (allows_of_class c (head_of_kind (number_of_class c) true) n 0 1 0)) (sym (forth Jump)) refl;
+  roles = λ k s. role_fits (class_of k) s;
 }

@@ -9,7 +9,7 @@ use crate::data::bits_at;
 use crate::kind::{Class, numbered_class};
 use pliron_core::{Attrs, Head};
 
-/// The class of an operation with this head, if it has one. Cost: constant.
+/// The class that a head says, if there is one. Cost: constant.
 pub fn class_of_head(head: &Head) -> Option<Class>
     ensures { result ≡ class_of_number head.now.kind }
 {
@@ -47,7 +47,7 @@ pub fn form_of(head: &Head) -> Option<u128>
     }
 }
 
-/// How many operands a branch with this head passes on the edge with this index. Cost: constant.
+/// How many operands a branch passes on this edge. Cost: constant.
 pub fn count_of_edge(head: &Head, edge: usize) -> u128
     ensures { result ≡ attribute_in head.now.attrs edge }
 {
@@ -71,7 +71,7 @@ pub fn integer_of(datum: i128) -> Option<(u32, u64)>
     }
 }
 
-/// The datum of a constant that is no integer of a width, by the form of its text. Cost: constant.
+/// The datum of a constant that is no integer, by the form of its text. Cost: constant.
 pub fn other_constant(form: usize) -> i128
     ensures { result ≡ other_constant_of form }
 {

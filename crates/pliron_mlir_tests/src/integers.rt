@@ -64,7 +64,7 @@ pub fn kind(class: Class) -> MlirKind<AnyMeaning> {
 
 // What the table says of two operands.
 fn of_two(class: Class, head: &Head, width: u32, a: &str, b: &str) -> Option<Option<i128>> {
-    let numbers = [datum(width, a)?, datum(width, b)?];
+    let numbers = [Some(datum(width, a)?), Some(datum(width, b)?)];
     Some(kind(class).fold_numbers(head, &numbers))
 }
 
@@ -86,7 +86,7 @@ fn fold_row(alloc: Global, words: &[&str]) -> Option<Option<i128>> {
         }
         Class::Cast(cast) => {
             let head = cast_head(alloc, cast, width_from, width(a)?, flags(how), 3).ok()?;
-            Some(kind(class).fold_numbers(&head, &[datum(width_from, b)?]))
+            Some(kind(class).fold_numbers(&head, &[Some(datum(width_from, b)?)]))
         }
         _ => None,
     }

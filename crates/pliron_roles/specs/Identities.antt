@@ -1,14 +1,15 @@
 -- What leaves an operand as it is. It may also give one number, whatever the other data are.
-use Rattle.std.specs.Prelude.{ℕ, nat_eq, if◌then◌else◌, Bool, true, false, not, ◌&&◌, ◌||◌, List, [], ◌∷◌, Option, Some, None, ℤ, option_map}
+use Rattle.std.specs.Prelude.{◌≡◌, IsTrue, ℕ, nat_eq, if◌then◌else◌, Bool, true, false, not, ◌&&◌, ◌||◌, List, [], ◌∷◌, Option, Some, None, is_some, ℤ, option_map}
 use Rattle.std.specs.Ordering.{int_eq}
 use Rattle.std.specs.Cmp.Lexicographic.{pointwise}
 use Rattle.pliron_core.specs.declared.attrs.AttrObj.{AttrObj}
 use Rattle.pliron_laws.specs.Datum.{Datum, Empty, Number, Text, Join, datum_of}
 use Rattle.pliron_roles.specs.declared.identity.Absorption.{Absorption}
+use Rattle.pliron_roles.specs.declared.identity.Annihilator.{Annihilator}
 use Rattle.pliron_roles.specs.declared.identity.Identity.{Identity}
 
 abbrev pub no_identity : Identity
-no_identity = record { neutral = None; either_side = false; idempotent = false; only = false; equal = None; absorbing = None }
+no_identity = record { neutral = None; either_side = false; idempotent = false; only = false; equal = None; absorbing = None; annihilator = None }
 
 -- whether two data are one
 abbrev pub same_datum : Datum → Datum → Bool
@@ -59,6 +60,11 @@ is_known_as n (Some a) = is_this n (datum_of a)
 abbrev pub are_same : List ℕ → Bool
 are_same (v ∷ w ∷ []) = nat_eq v w
 are_same _ = false
+
+-- the place of the one of two operands that is known to be itself the result
+abbrev pub annihilating_place : Option Annihilator → Option AttrObj → Option AttrObj → Option ℕ
+annihilating_place None p q = None
+annihilating_place (Some n) p q = if is_known_as (Some n.operand) p then Some 0 else if n.either_side && is_known_as (Some n.operand) q then Some 1 else None
 
 abbrev pub identity_operand : Identity → List (Option AttrObj) → List ℕ → Option ℕ
 identity_operand i (p ∷ []) operands = place_of_one i.only
@@ -118,3 +124,36 @@ given_known i _ = None
 abbrev pub identity_constant : Identity → List (Option AttrObj) → List ℕ → Option ℤ
 identity_constant i (p ∷ q ∷ []) operands = given_by i (is_known_as (absorber_of i) q) (i.either_side && is_known_as (absorber_of i) p) (are_same operands)
 identity_constant i _ operands = None
+
+-- ---- an identity as a fact about what is computed: no operand is left but one that is itself the result, and equal
+-- numbers give one number
+
+-- the place of the operand that is itself the result, and the number that is given of both being the same value
+abbrev pub operand_by_fact : Identity → List (Option AttrObj) → Option ℕ
+operand_by_fact i (p ∷ q ∷ []) = annihilating_place i.annihilator p q
+operand_by_fact i _ = None
+
+abbrev pub constant_by_fact : Identity → List (Option AttrObj) → List ℕ → Option ℤ
+constant_by_fact i (p ∷ q ∷ []) operands = if are_same operands then i.equal else None
+constant_by_fact i _ operands = None
+
+abbrev pub is_bare : Identity → Bool
+is_bare i = not (is_some i.neutral) && (not i.idempotent && (not i.only && not (is_some i.absorbing)))
+
+-- if a number is computed at all, it is this one
+abbrev pub IfAnyIs : Option ℤ → ℤ → Type 0
+IfAnyIs None n = Unit {0}
+IfAnyIs (Some m) n = m ≡ n
+
+abbrev pub Annihilates : Option Annihilator → (List ℤ → Option ℤ) → Type 0
+Annihilates None result = Unit {0}
+Annihilates (Some n) result = ((b : ℤ) → IfAnyIs (result (n.operand ∷ b ∷ [])) n.operand) × ((a : ℤ) → IsTrue n.either_side → IfAnyIs (result (a ∷ n.operand ∷ [])) n.operand)
+
+abbrev pub EqualGives : Option ℤ → (List ℤ → Option ℤ) → Type 0
+EqualGives None result = Unit {0}
+EqualGives (Some k) result = (a : ℤ) → IfAnyIs (result (a ∷ a ∷ [])) k
+
+pub record IdentityHolds (i : Identity) (result : List ℤ → Option ℤ) : Type 0 where
+  pub bare : IsTrue (is_bare i)
+  pub annihilates : Annihilates i.annihilator result
+  pub equal : EqualGives i.equal result

@@ -15,11 +15,13 @@ use Rattle.pliron_operand_folding.specs.declared.OpFoldResult.TheVariants.{Opera
 use Rattle.pliron_operand_folding.specs.OperandFolding.{AreSameData, datum_by, IsWithin, AnswersOperand, AnswersOperands}
 use Rattle.pliron_roles.specs.declared.identity.Absorption.{Absorption}
 use Rattle.pliron_roles.specs.declared.identity.Identity.{Identity}
-use Rattle.pliron_roles.specs.Identities.{same_datum, is_this, place_of_one, place_by, place_between, place_in, is_known_as, are_same, identity_operand, agrees_with, absorption_if, absorption_of, absorber_of, absorbed_of, equal_if, equal_of, given_by, given_between, given_in, identity_constant}
-use Rattle.pliron_roles.specs.Roles.{Interpretation, Role, Constant, Folds, Picks, Opaque, Jumps, Chooses, Leaves, Stops, Acts, Forks, numbers_of, first_number, results_given, operands_picked, operand_left, nth_datum, truth_of, known_number_at, by_role, by_form, form_of, act_of, no_act, meaning_by, folds_of}
-use Rattle.pliron_roles.specs.Parts.{Admits, IsQuiet, comes_first, three, same}
+use Rattle.pliron_roles.specs.Identities.{same_datum, is_this, place_of_one, place_by, place_between, place_in, is_known_as, are_same, identity_operand, agrees_with, absorption_if, absorption_of, absorber_of, absorbed_of, equal_if, equal_of, given_by, given_between, given_in, identity_constant, IdentityHolds, operand_by_fact, constant_by_fact}
+use Rattle.pliron_roles.specs.Roles.{Interpretation, Allows, Role, Constant, Folds, Picks, Opaque, Jumps, Chooses, Leaves, Stops, Acts, Names, Forks, Holds, RoleFits, RolesFit, ComputesFacts, complete, give_or_trap, numbers_of, first_number, results_given, operands_picked, operand_left, nth_datum, truth_of, known_number_at, by_role, by_form, form_of, act_of, no_act, meaning_by, folds_of}
+use Rattle.pliron_roles.specs.declared.form.Otherwise.TheVariants.{Says, Never, Traps}
+use Rattle.pliron_roles.specs.Parts.{Admits, AdmitsAll, IsQuiet, comes_first, three, same, both_parts}
 use Rattle.pliron_roles.specs.FoldLaws.{Agrees, first_agrees, role_quiet}
-use Rattle.pliron_roles.specs.OperandFolds.{place_picked, answer_at, operands_by, operand_folds_by}
+use Rattle.pliron_roles.specs.OperandFolds.{place_picked, answer_at, fold_by_identity, operands_by, operand_folds_by}
+use Rattle.pliron_roles.specs.OperandFacts.{GivesAnswered, facts_answer, fact_within}
 
 -- ---- equal data
 
@@ -376,15 +378,6 @@ picked_place value h (Some false) t first p l f e =
 abbrev GivesFirst : OpFoldResult → List Datum → List Datum → Type 0
 GivesFirst answer first ds = slice_get ds 0 ≡ datum_by answer first
 
--- where the move gives results, the first is what the answer says
-abbrev MovesFirst : OpFoldResult → List Datum → Move → Type 0
-MovesFirst answer first (Give ds) = GivesFirst answer first ds
-MovesFirst answer first (Visit i ds memo) = Unit {0}
-MovesFirst answer first (Goto i ds) = Unit {0}
-MovesFirst answer first (Leave ds) = Unit {0}
-MovesFirst answer first (Emit e memo) = Unit {0}
-MovesFirst answer first Trap = Unit {0}
-
 -- the answer is of the first result, which the operation gives
 record Left (value : Interpretation) (r : Role) (s : Shape) (known : List (Option AttrObj)) (operands : List ℕ) (i : ℕ) (answer : OpFoldResult) : Type 0 where
   first_result : i ≡ 0
@@ -392,7 +385,7 @@ record Left (value : Interpretation) (r : Role) (s : Shape) (known : List (Optio
   no_successors : s.successors ≡ 0
   folds : IsTrue (folds_of (form_of r))
   within : IsWithin s answer
-  gives : (memo : Datum) (first : List Datum) → length first ≡ s.operands → Known known first → AreSameData operands first → MovesFirst answer first (act_of value r s memo first)
+  gives : (memo : Datum) (first : List Datum) → length first ≡ s.operands → Known known first → AreSameData operands first → GivesAnswered answer first (act_of value r s memo first)
 
 answered : (o : Option OpFoldResult) (i : ℕ) (answer : OpFoldResult) → slice_get (o ∷ []) i ≡ Some (Some answer) → (i ≡ 0) × (o ≡ Some answer)
 answered o (suc i) answer e = grind arith
@@ -421,13 +414,39 @@ identity_answer_given value h computed i known operands answer first k s e = by_
     by_case (inl c) = subst (λ a. GivesFirst a first given) (sym c.2) (folded_left i known operands first (results_given value h first (option_or (given_in i first) computed)) c.0 k s c.1)
     by_case (inr c) = subst (λ a. GivesFirst a first given) (sym c.3) (number_given_by value h first computed i known operands first c.0 k s c.1 c.2)
 
+-- by a fact about what is computed
+fact_answer_within : (i : Identity) (s : Shape) (known : List (Option AttrObj)) (operands : List ℕ) (answer : OpFoldResult) → length known ≡ s.operands → answer_at (operand_by_fact i known) (constant_by_fact i known operands) ≡ Some answer → IsWithin s answer
+fact_answer_within i s known operands answer l e = by_case (is_answer (operand_by_fact i known) (constant_by_fact i known operands) answer e)
+  where
+    by_case : ((p : ℕ) × (operand_by_fact i known ≡ Some p) × (answer ≡ Operand p)) ⊎ ((m : ℤ) × (operand_by_fact i known ≡ None) × (constant_by_fact i known operands ≡ Some m) × (answer ≡ ConstantFold (Int m))) → IsWithin s answer
+    by_case (inl c) = subst (IsWithin s) (sym c.2) (omega (arith, fact_within i known c.0 c.1, l))
+    by_case (inr c) = subst (IsWithin s) (sym c.3) tt
+
 picked_answer : (o : Option Bool) (answer : OpFoldResult) → answer_at (place_picked o) None ≡ Some answer → (p : ℕ) × (place_picked o ≡ Some p) × (answer ≡ Operand p)
 picked_answer None answer e = grind arith
 picked_answer (Some true) answer e = (1, refl, sym (same_Some (Operand 1) answer e))
 picked_answer (Some false) answer e = (2, refl, sym (same_Some (Operand 2) answer e))
 
-role_left : (value : Interpretation) (r : Role) (s : Shape) (known : List (Option AttrObj)) (operands : List ℕ) (i : ℕ) (answer : OpFoldResult) → Admits (Some r) s → length known ≡ s.operands → slice_get (operands_by s.head known operands r) i ≡ Some (Some answer) → Left value r s known operands i answer
-role_left value (Folds n result identity) s known operands i answer h l e =
+-- what computes a fact
+fact_left : (value : Interpretation) (n : ℕ) (knows : Head → List (Option ℤ) → Option ℤ) (identity : Head → Identity) (r : Role) (s : Shape) (known : List (Option AttrObj)) (operands : List ℕ) (i : ℕ) (answer : OpFoldResult) → ComputesFacts knows identity → IsTrue (folds_of (form_of r)) → ((memo : Datum) (first : List Datum) → act_of value r s memo first ≡ give_or_trap (complete knows s.head (numbers_of first))) → IsTrue (nat_eq s.operands n && (nat_eq s.results 1 && (nat_eq s.successors 0 && nat_eq (length s.entry_arguments) 0))) → length known ≡ s.operands → slice_get (answer_at (operand_by_fact (identity s.head) known) (constant_by_fact (identity s.head) known operands) ∷ []) i ≡ Some (Some answer) → Left value r s known operands i answer
+fact_left value n knows identity r s known operands i answer own folds acts h l e =
+    let at = answered (answer_at (operand_by_fact (identity s.head) known) (constant_by_fact (identity s.head) known operands)) i answer e in
+    let q = three s.operands n _ h in
+    let u = three s.results 1 _ q.1 in
+    let v = three s.successors 0 _ u.1 in
+    record {
+      first_result = at.0;
+      one_result = u.0;
+      no_successors = v.0;
+      folds = folds;
+      within = fact_answer_within (identity s.head) s known operands answer l at.1;
+      gives = λ memo first k known_first same_data. subst (GivesAnswered answer first) (sym (acts memo first)) (facts_answer (identity s.head) (complete knows s.head) (own.identity_holds s.head) known operands first answer known_first same_data at.1);
+    }
+
+role_left : (value : Interpretation) (allows : Allows) (r : Role) (s : Shape) (known : List (Option AttrObj)) (operands : List ℕ) (i : ℕ) (answer : OpFoldResult) → RoleFits allows r s → Admits (Some r) s → length known ≡ s.operands → slice_get (operands_by s.head known operands r) i ≡ Some (Some answer) → Left value r s known operands i answer
+role_left value allows (Folds n knows identity Never) s known operands i answer own h l e = fact_left value n knows identity (Folds n knows identity Never) s known operands i answer own.0 refl (λ memo first. refl) h l e
+role_left value allows (Folds n knows identity Traps) s known operands i answer own h l e = fact_left value n knows identity (Folds n knows identity Traps) s known operands i answer own refl (λ memo first. refl) h l e
+role_left value allows (Folds n knows identity Says) s known operands i answer own h l e =
     let at = answered (answer_at (identity_operand (identity s.head) known operands) (identity_constant (identity s.head) known operands)) i answer e in
     let q = three s.operands n _ h in
     let u = three s.results 1 _ q.1 in
@@ -438,9 +457,9 @@ role_left value (Folds n result identity) s known operands i answer h l e =
       no_successors = v.0;
       folds = refl;
       within = identity_answer_within (identity s.head) s known operands answer l at.1;
-      gives = λ memo first k known_first same_data. identity_answer_given value s.head (result s.head (numbers_of first)) (identity s.head) known operands answer first known_first same_data at.1;
+      gives = λ memo first k known_first same_data. identity_answer_given value s.head (complete knows s.head (numbers_of first)) (identity s.head) known operands answer first known_first same_data at.1;
     }
-role_left value (Picks truth) s known operands i answer h l e =
+role_left value allows (Picks truth) s known operands i answer own h l e =
     let at = answered (answer_at (place_picked (truth_of truth (known_number_at known 0))) None) i answer e in
     let c = picked_answer (truth_of truth (known_number_at known 0)) answer at.1 in
     let q = three s.operands 3 _ h in
@@ -454,23 +473,25 @@ role_left value (Picks truth) s known operands i answer h l e =
       within = subst (IsWithin s) (sym c.2) (omega (arith, picked_within (truth_of truth (known_number_at known 0)) c.0 c.1, q.0));
       gives = λ memo first k known_first same_data. subst (λ a. GivesFirst a first (operands_picked value s.head first (truth (first_number first)))) (sym c.2) (picked_place value s.head (truth_of truth (known_number_at known 0)) (truth (first_number first)) first c.0 (k ∙ q.0) (λ b. truth_agrees truth (known_number_at known 0) (first_number first) b (first_agrees known first known_first)) c.1);
     }
-role_left value Constant s known operands i answer h l e = grind arith
-role_left value Opaque s known operands i answer h l e = grind arith
-role_left value Jumps s known operands i answer h l e = grind arith
-role_left value (Chooses choose) s known operands i answer h l e = grind arith
-role_left value Leaves s known operands i answer h l e = grind arith
-role_left value Stops s known operands i answer h l e = grind arith
-role_left value (Acts takes act) s known operands i answer h l e = grind arith
-role_left value Forks s known operands i answer h l e = grind arith
+role_left value allows Constant s known operands i answer own h l e = grind arith
+role_left value allows Opaque s known operands i answer own h l e = grind arith
+role_left value allows Jumps s known operands i answer own h l e = grind arith
+role_left value allows (Chooses counting choose) s known operands i answer own h l e = grind arith
+role_left value allows Leaves s known operands i answer own h l e = grind arith
+role_left value allows Stops s known operands i answer own h l e = grind arith
+role_left value allows (Acts says act) s known operands i answer own h l e = grind arith
+role_left value allows (Names act named) s known operands i answer own h l e = grind arith
+role_left value allows (Forks says act) s known operands i answer own h l e = grind arith
+role_left value allows (Holds says) s known operands i answer own h l e = grind arith
 
-moves_to : (value : Interpretation) (r : Role) (s : Shape) (memo : Datum) (input first ds : List Datum) (answer : OpFoldResult) → input ≡ first → act_of value r s memo input ≡ Give ds → MovesFirst answer first (act_of value r s memo first) → slice_get ds 0 ≡ datum_by answer first
-moves_to value r s memo input first ds answer e f g = subst (MovesFirst answer first) (ap (act_of value r s memo) (sym e) ∙ f) g
+moves_to : (value : Interpretation) (r : Role) (s : Shape) (memo : Datum) (input first ds : List Datum) (answer : OpFoldResult) → input ≡ first → act_of value r s memo input ≡ Give ds → GivesAnswered answer first (act_of value r s memo first) → slice_get ds 0 ≡ datum_by answer first
+moves_to value r s memo input first ds answer e f g = subst (GivesAnswered answer first) (ap (act_of value r s memo) (sym e) ∙ f) g
 
-answers_of : (value : Interpretation) (roles : ℕ → Option Role) (o : Option Role) (s : Shape) (known : List (Option AttrObj)) (operands : List ℕ) (i : ℕ) (answer : OpFoldResult) → roles s.head.kind ≡ o → Admits o s → length known ≡ s.operands → slice_get (by_role [] (operands_by s.head known operands) o) i ≡ Some (Some answer) → AnswersOperand (meaning_by value roles) s known operands i answer
+answers_of : (value : Interpretation) (roles : ℕ → Option Role) (allows : Allows) (o : Option Role) (s : Shape) (known : List (Option AttrObj)) (operands : List ℕ) (i : ℕ) (answer : OpFoldResult) → roles s.head.kind ≡ o → ((r : Role) → o ≡ Some r → RoleFits allows r s) → Admits o s → length known ≡ s.operands → slice_get (by_role [] (operands_by s.head known operands) o) i ≡ Some (Some answer) → AnswersOperand (meaning_by value roles allows) s known operands i answer
 unfolding meaning_by
-answers_of value roles None s known operands i answer is h l e = grind arith
-answers_of value roles (Some r) s known operands i answer is h l e =
-    let left = role_left value r s known operands i answer h l e in
+answers_of value roles allows None s known operands i answer is own h l e = grind arith
+answers_of value roles allows (Some r) s known operands i answer is own h l e =
+    let left = role_left value allows r s known operands i answer (own r refl) h l e in
     let acts : (memo : Datum) (input : List Datum) → by_role no_act (act_of value) (roles s.head.kind) s memo input ≡ act_of value r s memo input = λ memo input. ap (λ o. by_role no_act (act_of value) o s memo input) is in
     record {
       result = omega (arith, left.first_result, left.one_result);
@@ -482,6 +503,6 @@ answers_of value roles (Some r) s known operands i answer is h l e =
           ap (slice_get ds) left.first_result ∙ moves_to value r s memo input first ds answer at.same_input (sym (acts memo input) ∙ g) (left.gives memo first len known_first same_data);
     }
 
-pub answers_operands : (value : Interpretation) (roles : ℕ → Option Role) → AnswersOperands (meaning_by value roles) (operand_folds_by roles)
+pub answers_operands : (value : Interpretation) (roles : ℕ → Option Role) (allows : Allows) → RolesFit allows roles → AnswersOperands (meaning_by value roles allows) (operand_folds_by roles)
 unfolding meaning_by operand_folds_by
-answers_operands value roles = λ s h known operands l k i answer e. answers_of value roles (roles s.head.kind) s known operands i answer refl h l e
+answers_operands value roles allows own = λ s h known operands l k i answer e. answers_of value roles allows (roles s.head.kind) s known operands i answer refl (own s) (both_parts _ _ h).0 l e

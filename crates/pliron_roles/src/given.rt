@@ -3,7 +3,7 @@ ghost use Rattle.std.specs.Prelude.{◌≡◌, ◌&&◌};
 ghost use Rattle.pliron_core.specs.Tree.{IsLive, operands_of};
 ghost use Rattle.pliron_laws.specs.Datum.{datum_of};
 ghost use Rattle.pliron_roles.specs.Identities.{agrees_with as agrees_with_of, absorption_if as absorption_if_of, absorption_of, absorber_of, absorbed_of, equal_if as equal_if_of, equal_of};
-ghost use Rattle.pliron_roles.specs.Identities.{is_known_as as is_known_as_of, given_by as given_by_of, given_between as given_between_of, given_of_two as given_of_two_of, given_known, identity_constant};
+ghost use Rattle.pliron_roles.specs.Identities.{is_known_as as is_known_as_of, given_by as given_by_of, given_between as given_between_of, given_of_two as given_of_two_of, given_known, identity_constant, constant_by_fact as constant_by_fact_of};
 
 use crate::identity::{
     Absorption, Identity, has_same_datum, has_same_operands, is_known_as, is_this,
@@ -156,6 +156,29 @@ pub fn constant_by_identity(
 {
     match operand_attrs {
         [a, b] => constant_of_two(identity, a, b, has_same_operands(op, ctx)),
+        _ => None,
+    }
+}
+
+/// The number that two operands give that are the same value. Asks that the operation is live (`is_live` tests it).
+/// Cost: constant.
+pub fn constant_by_fact(
+    identity: Identity,
+    op: Ptr<Operation>,
+    ctx: &Context,
+    operand_attrs: &[Option<AttrObj>],
+) -> Option<i128>
+    requires { IsLive ctx.now.tree op }
+    ensures { result ≡ constant_by_fact_of identity operand_attrs.now (operands_of ctx.now.tree op) }
+{
+    match operand_attrs {
+        [_, _] => {
+            if has_same_operands(op, ctx) {
+                identity.equal
+            } else {
+                None
+            }
+        }
         _ => None,
     }
 }

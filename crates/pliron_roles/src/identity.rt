@@ -3,6 +3,7 @@ ghost use Rattle.std.specs.Prelude.{◌≡◌, ◌&&◌};
 ghost use Rattle.pliron_core.specs.Tree.{IsLive, operands_of};
 ghost use Rattle.pliron_laws.specs.Datum.{datum_of};
 ghost use Rattle.pliron_roles.specs.Identities.{no_identity, is_this as is_this_of, is_known_as as is_known_as_of, same_datum, are_same, place_by as place_by_of, place_of_one as place_of_one_of, place_between as place_between_of, place_of_two as place_of_two_of, place_known, identity_operand};
+ghost use Rattle.pliron_roles.specs.Identities.{annihilating_place as annihilating_place_of, operand_by_fact as operand_by_fact_of};
 
 use pliron_core::{AttrObj, Context, Operation, Ptr};
 
@@ -11,6 +12,13 @@ use pliron_core::{AttrObj, Context, Operation, Ptr};
 pub struct Absorption {
     pub operand: i128,
     pub result: i128,
+}
+
+/// An operand that is itself the result. It is the first one, on either side also the second one.
+#[derive(Clone, Copy, Debug, PartialEq, Eq)]
+pub struct Annihilator {
+    pub operand: i128,
+    pub either_side: bool,
 }
 
 /// What leaves an operand. It may also give one number, whatever the other data are.
@@ -28,6 +36,9 @@ pub struct Identity {
     pub equal: Option<i128>,
     /// What absorbs as the second operand. Where `either_side` or `idempotent` is so, it counts if it gives itself.
     pub absorbing: Option<Absorption>,
+    /// The operand that is itself the result. It counts where nothing is left to the interpretation; there nothing else
+    /// but `equal` does.
+    pub annihilator: Option<Annihilator>,
 }
 
 impl Identity {
@@ -42,6 +53,7 @@ impl Identity {
             only: false,
             equal: None,
             absorbing: None,
+            annihilator: None,
         }
     }
 }
@@ -181,6 +193,39 @@ pub fn operand_by_identity(
     match operand_attrs {
         [_] => place_of_one(identity.only),
         [a, b] => operand_of_two(identity, a, b, has_same_operands(op, ctx)),
+        _ => None,
+    }
+}
+
+// The place of the one of two operands that is known to be itself the result.
+fn annihilating_place(
+    annihilator: Option<Annihilator>,
+    a: &Option<AttrObj>,
+    b: &Option<AttrObj>,
+) -> Option<usize>
+    ensures { result ≡ annihilating_place_of annihilator a.now b.now }
+{
+    match annihilator {
+        Some(annihilator) => {
+            if is_known_as(Some(annihilator.operand), a) {
+                Some(0)
+            } else if annihilator.either_side && is_known_as(Some(annihilator.operand), b) {
+                Some(1)
+            } else {
+                None
+            }
+        }
+        None => None,
+    }
+}
+
+/// The place of the operand that is itself the result, where there are two operands, and that follows from what is
+/// known of one of them. Cost: constant.
+pub fn operand_by_fact(identity: Identity, operand_attrs: &[Option<AttrObj>]) -> Option<usize>
+    ensures { result ≡ operand_by_fact_of identity operand_attrs.now }
+{
+    match operand_attrs {
+        [a, b] => annihilating_place(identity.annihilator, a, b),
         _ => None,
     }
 }

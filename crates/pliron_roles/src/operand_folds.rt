@@ -4,15 +4,16 @@ ghost use Rattle.pliron_core.specs.Tree.{IsLive, operands_of};
 ghost use Rattle.pliron_laws.specs.declared.fault.OptError.{OptError as FaultName};
 ghost use Rattle.pliron_operand_folding.specs.declared.OpFoldResult.TheVariants.{Operand};
 ghost use Rattle.pliron_roles.specs.Identities.{identity_operand};
-ghost use Rattle.pliron_roles.specs.Roles.{role_at, meaning_by, identity_in, truth_in, truth_of, known_number_at};
-ghost use Rattle.pliron_roles.specs.OperandFolds.{place_picked as place_picked_of, answer_at as answer_at_of, answers_at as answers_at_of, operand_folds_by};
+ghost use Rattle.pliron_roles.specs.Roles.{role_at, allows_at, meaning_by, identity_in, truth_in, truth_of, known_number_at};
+ghost use Rattle.pliron_roles.specs.Parts.{roles_fit};
+ghost use Rattle.pliron_roles.specs.OperandFolds.{place_picked as place_picked_of, answer_at as answer_at_of, fold_by_identity as fold_by_identity_of, fold_by_form as fold_by_form_of, answers_at as answers_at_of, operand_folds_by};
 ghost use Rattle.pliron_roles.specs.OperandLaws.{answers_operands};
 
 use crate::by_roles::ByRoles;
 use crate::folds::known_truth;
-use crate::form::Form;
-use crate::given::constant_by_identity;
-use crate::identity::operand_by_identity;
+use crate::form::{Form, Otherwise};
+use crate::given::{constant_by_fact, constant_by_identity};
+use crate::identity::{Identity, operand_by_fact, operand_by_identity};
 use crate::roles::Roles;
 use crate::tables::kind_at;
 use pliron_core::{AttrObj, Context, Operation, Ptr};
@@ -44,21 +45,60 @@ fn answer_at(place: Option<usize>, number: Option<i128>) -> Option<OpFoldResult>
     }
 }
 
-// The answer of an operation of the form, of the place that is left, the number that is given, and the place that is
-// picked.
+// The operand or the number that the identity says, where what isn't computed is left to the interpretation; else what
+// it says as a fact about what is computed.
+fn fold_by_identity(
+    otherwise: Otherwise,
+    identity: Identity,
+    op: Ptr<Operation>,
+    ctx: &Context,
+    operand_attrs: &[Option<AttrObj>],
+) -> Option<OpFoldResult>
+    requires { IsLive ctx.now.tree op }
+    ensures { result ≡ fold_by_identity_of otherwise identity operand_attrs.now (operands_of ctx.now.tree op) }
+{
+    match otherwise {
+        Otherwise::Says => answer_at(
+            operand_by_identity(identity, op, ctx, operand_attrs),
+            constant_by_identity(identity, op, ctx, operand_attrs),
+        ),
+        Otherwise::Never | Otherwise::Traps => answer_at(
+            operand_by_fact(identity, operand_attrs),
+            constant_by_fact(identity, op, ctx, operand_attrs),
+        ),
+    }
+}
+
+// The operand or the number that the identity says of what computes.
+fn fold_by_form(
+    form: Form,
+    identity: Identity,
+    op: Ptr<Operation>,
+    ctx: &Context,
+    operand_attrs: &[Option<AttrObj>],
+) -> Option<OpFoldResult>
+    requires { IsLive ctx.now.tree op }
+    ensures { result ≡ fold_by_form_of form identity operand_attrs.now (operands_of ctx.now.tree op) }
+{
+    match form {
+        Form::Folds(_, otherwise) => fold_by_identity(otherwise, identity, op, ctx, operand_attrs),
+        _ => None,
+    }
+}
+
+// The answer of an operation of the form, of what it folds to and of what it picks.
 fn answers_at(
     alloc: Global,
     form: Form,
-    left: Option<usize>,
-    given: Option<i128>,
-    picked: Option<usize>,
+    folded: Option<OpFoldResult>,
+    picked: Option<OpFoldResult>,
 ) -> Result<Vec<Option<OpFoldResult>>, AllocFailed<Option<OpFoldResult>>>
-    ensures { IfOk result (λ answers. answers.items ≡ answers_at_of form left given picked) }
+    ensures { IfOk result (λ answers. answers.items ≡ answers_at_of form folded picked) }
 {
     let mut answers = Vec::new(alloc);
     match form {
-        Form::Folds(_) => answers.push(answer_at(left, given))?,
-        Form::Picks => answers.push(answer_at(picked, None))?,
+        Form::Folds(_, _) => answers.push(folded)?,
+        Form::Picks => answers.push(picked)?,
         _ => {}
     }
     Ok(answers)
@@ -79,16 +119,17 @@ impl<K: Roles> OperandFoldInterface for ByRoles<K> {
     ) -> Result<Vec<Option<OpFoldResult>>, OptError> {
         match kind_at::<K>(op, ctx) {
             Some(kind) => {
+                let form = kind.form();
                 let identity = kind.identity(op.head(ctx));
-                let left = operand_by_identity(identity, op, ctx, operand_attrs);
-                let given = constant_by_identity(identity, op, ctx, operand_attrs);
-                let picked = place_picked(known_truth(kind, operand_attrs));
-                let answers = answers_at(alloc, kind.form(), left, given, picked)?;
+                let folded = fold_by_form(form, identity, op, ctx, operand_attrs);
+                let picked = answer_at(place_picked(known_truth(kind, operand_attrs)), None);
+                let answers = answers_at(alloc, form, folded, picked)?;
                 Ok(answers)
             }
             None => Ok(Vec::new(alloc)),
         }
     }
 
-    ghost answers_operands = { answers_operands K.tables.value (role_at K.tables) };
+    ghost answers_operands = { answers_operands K.tables.value (role_at K.tables) (allows_at K.tables)
+        (roles_fit K.tables K.keeps_tables) };
 }

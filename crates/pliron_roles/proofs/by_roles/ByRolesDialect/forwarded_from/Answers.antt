@@ -6,4 +6,4 @@ use Rattle.pliron_roles.proofs.by_roles.ByRolesDialect.forwarded_from.Goals as g
 pub returns-in-Some : goal.returns-in-Some
 returns-in-Some g c =
     let within : c.edge_near-edge.result < length (successors_of c.args.ctx.now.tree c.args.op) = omega arith in
-    forwarded_once _ _ c.args.ctx.now.tree c.args.op c.args.place c.edge_near-edge.result c.in-Some.index c.places_at.result.first c.places_at.result.count c.places_at.ensures.places c.requires.branch within c.in-Some.ensures.0 c.in-Some.ensures.1
+    forwarded_once _ _ _ c.args.ctx.now.tree c.args.op c.args.place c.edge_near-edge.result c.in-Some.index c.places_at.result.first c.places_at.result.count c.places_at.ensures.places c.requires.branch within c.in-Some.ensures.0 c.in-Some.ensures.1

@@ -1,6 +1,6 @@
 use Rattle.std.proofs.Common.{◌<◌, ◌≤◌, arith, tests}
 use Rattle.pliron_roles.proofs.EdgeLemmas.{counts_are, counts_differ}
-use Rattle.pliron_roles.proofs.edge_ranges.counts_all.Goals as goal
+use Rattle.pliron_roles.proofs.edge_ranges.each_fits.Goals as goal
 
 pub returns-then-all-operands : goal.returns-then-all-operands
 returns-then-all-operands c =
