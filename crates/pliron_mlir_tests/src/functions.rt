@@ -13,7 +13,7 @@ use pliron_pipeline::{DCEPass, PassStep, SCCPPass, SimplifyCFGPass, run_pipeline
 use std::alloc::Global;
 use std::process::Abort;
 
-fn append(
+pub fn append(
     ctx: &mut Context,
     block: Ptr<BasicBlock>,
     head: Head,
@@ -55,7 +55,7 @@ fn value(
     Some(op.get_result(ctx, 0))
 }
 
-fn argument(block: Ptr<BasicBlock>, ctx: &Context) -> Option<Value> {
+pub fn argument(block: Ptr<BasicBlock>, ctx: &Context) -> Option<Value> {
     if !block.is_live(ctx) || block.num_argument(ctx) == 0 {
         return None;
     }

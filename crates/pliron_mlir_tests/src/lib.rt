@@ -5,11 +5,14 @@
 mod edges;
 #[cfg(test)]
 mod functions;
+pub mod gates;
 #[cfg(test)]
 mod identities;
 #[cfg(test)]
 mod integers;
 #[cfg(test)]
 mod names;
+#[cfg(test)]
+mod roles;
 #[cfg(test)]
 mod rows;
