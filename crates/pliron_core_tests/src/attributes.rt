@@ -5,7 +5,6 @@ use crate::straight::build_sum;
 use pliron_core::{AttrObj, Context, IRStatus, Operation, Ptr, Text};
 use std::alloc::Global;
 use std::process::Abort;
-use std::test::Fail;
 
 // The operation is a constant with this number.
 fn check_constant(rt: &impl Abort, ctx: &Context, op: Ptr<Operation>, number: i128) {
@@ -23,31 +22,30 @@ fn set_number(rt: &impl Abort, ctx: &mut Context, op: Ptr<Operation>, number: i1
     Operation::set_attribute(ctx, op, 0, AttrObj::Int(number));
 }
 
-fn read_and_set(rt: &impl Abort, alloc: Global, ctx: &mut Context) -> Result<(), Fail> {
-    let sum = build_sum(rt, alloc, ctx)?;
+fn read_and_set(rt: &impl Abort, alloc: Global, ctx: &mut Context) {
+    let sum = build_sum(rt, alloc, ctx);
     check_constant(rt, ctx, sum.two, 2);
     set_number(rt, ctx, sum.two, 7);
     check_constant(rt, ctx, sum.two, 7);
     check_constant(rt, ctx, sum.one, 1);
-    Ok(())
 }
 
 #[test]
-fn reads_and_sets_attributes(rt: HostRuntime) -> Result<(), Fail> {
+fn reads_and_sets_attributes(rt: HostRuntime) {
     in_new_context(&rt, rt.alloc(), read_and_set)
 }
 
 #[test]
-fn copies_attributes(rt: HostRuntime) -> Result<(), Fail> {
+fn copies_attributes(rt: HostRuntime) {
     let alloc = rt.alloc();
-    let text = AttrObj::Text(Text::new(String::from_str(alloc, "seven")?));
-    let copy = text.copy(alloc)?;
+    let text = String::from_str(alloc, "seven").expect(&rt, "memory");
+    let text = AttrObj::Text(Text::new(text));
+    let copy = text.copy(alloc).expect(&rt, "memory");
     assert!(rt; copy.is_same(&text));
     assert!(rt; !copy.is_same(&AttrObj::Int(7)));
     if let AttrObj::Text(text) = copy {
         assert_eq!(rt; text.as_str(), "seven");
     }
-    Ok(())
 }
 
 #[test]

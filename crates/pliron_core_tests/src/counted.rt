@@ -1,13 +1,12 @@
 //! Long lists of operands and of arguments that get an index, lose items at many places, get others in between,
 //! and lose the index again. What is read is compared with a plain `Vec` after each step.
 
-use crate::arguments::{arguments_of, check_argument, remove_argument};
-use crate::removals::{is_used_at, make_values};
-use crate::steps::{CONST, add_operand, block, head, in_new_context, operand_of, operation};
+use crate::arguments::{arguments_of, remove_argument};
+use crate::removals::{make_values, operands_of, remove_operand};
+use crate::steps::{CONST, add_operand, block, in_new_context, operation};
 use pliron_core::{BasicBlock, Context, Operation, Ptr, Value};
 use std::alloc::Global;
 use std::process::Abort;
-use std::test::Fail;
 
 // Which item is removed next: one of each end in turn, each third, one behind the last removed one, or as the
 // list says.
@@ -33,45 +32,6 @@ fn place_at(rt: &impl Abort, order: Order, k: usize, len: usize) -> usize {
         Order::Front => 0,
         Order::Listed => PLACES[k % 24] % len,
     }
-}
-
-fn check_operands(rt: &impl Abort, ctx: &Context, op: Ptr<Operation>, want: &Vec<Value>) {
-    assert!(rt; op.is_live(ctx));
-    assert_eq!(rt; op.num_operand(ctx), want.len());
-    for i in 0..want.len() {
-        assert!(rt; operand_of(rt, ctx, op, i) == want[i]);
-        assert!(rt; is_used_at(rt, ctx, want[i], op, i));
-    }
-}
-
-fn index_operands(rt: &impl Abort, ctx: &mut Context, op: Ptr<Operation>) -> Result<(), Fail> {
-    assert!(rt; op.is_live(ctx));
-    Operation::index_operands(ctx, op)?;
-    Ok(())
-}
-
-fn settle_operands(rt: &impl Abort, ctx: &mut Context, op: Ptr<Operation>) {
-    assert!(rt; op.is_live(ctx));
-    Operation::settle_operands(ctx, op);
-}
-
-// The operand that is removed next, here and in the list.
-fn lose_operand(
-    rt: &impl Abort,
-    ctx: &mut Context,
-    op: Ptr<Operation>,
-    want: &mut Vec<Value>,
-    order: Order,
-    k: usize,
-) {
-    let place = place_at(rt, order, k, want.len());
-    assert!(rt; place < want.len());
-    assert!(rt; op.is_live(ctx));
-    assert!(rt; place < op.num_operand(ctx));
-    let deleted = Operation::remove_operand(ctx, op, place);
-    assert!(rt; deleted == want[place]);
-    want.remove(place);
-    check_operands(rt, ctx, op, want);
 }
 
 // So many operands, of which each fourth names a value again that the one before it has; `lost` of them go, in this
@@ -135,81 +95,138 @@ static OPERAND_ROWS: [Losses; 8] = [
     },
 ];
 
-fn check_operand_row(
+/// An operation, and the operands that it should have.
+#[derive(Drop)]
+struct Listed {
+    op: Ptr<Operation>,
+    want: Vec<Value>,
+}
+
+fn check_operands(rt: &impl Abort, alloc: Global, ctx: &Context, listed: &Listed) {
+    let operands = operands_of(rt, alloc, ctx, listed.op);
+    assert!(rt; operands == listed.want);
+}
+
+fn index_operands(rt: &impl Abort, ctx: &mut Context, op: Ptr<Operation>) {
+    assert!(rt; op.is_live(ctx));
+    Operation::index_operands(ctx, op).expect(rt, "memory");
+}
+
+fn settle_operands(rt: &impl Abort, ctx: &mut Context, op: Ptr<Operation>) {
+    assert!(rt; op.is_live(ctx));
+    Operation::settle_operands(ctx, op);
+}
+
+// One more operand at the end, here and in the list.
+fn gain_operand(rt: &impl Abort, ctx: &mut Context, listed: &mut Listed, value: Value) {
+    add_operand(rt, ctx, listed.op, value);
+    listed.want.push(value).expect(rt, "memory");
+}
+
+// The operand that is removed next, here and in the list.
+fn lose_operand(rt: &impl Abort, ctx: &mut Context, listed: &mut Listed, order: Order, k: usize) {
+    let place = place_at(rt, order, k, listed.want.len());
+    let deleted = remove_operand(rt, ctx, listed.op, place);
+    assert!(rt; place < listed.want.len());
+    assert!(rt; listed.want.remove(place) == deleted);
+}
+
+// Each of these, but that each fourth is the one before it again.
+fn gain_operands(rt: &impl Abort, ctx: &mut Context, listed: &mut Listed, values: &[Value]) {
+    for i in 0..values.len() {
+        let named = if i % 4 == 3 { i - 1 } else { i };
+        assert!(rt; named < values.len());
+        gain_operand(rt, ctx, listed, values[named]);
+    }
+}
+
+fn lose_operands(
     rt: &impl Abort,
     alloc: Global,
     ctx: &mut Context,
+    listed: &mut Listed,
+    values: &[Value],
     losses: &Losses,
-) -> Result<(), Fail> {
-    let count = losses.count;
+) {
     let every = losses.every;
-    let values = make_values(rt, alloc, ctx, count)?;
-    let op = operation(rt, ctx, head(alloc, CONST, None)?, 0, 0)?;
-    let mut want = Vec::new(alloc);
-    for i in 0..count {
-        let named = if i % 4 == 3 { i - 1 } else { i };
-        assert!(rt; named < values.len());
-        add_operand(rt, ctx, op, values[named])?;
-        want.push(values[named])?;
-    }
-    index_operands(rt, ctx, op)?;
-    check_operands(rt, ctx, op, &want);
     for k in 0..losses.lost {
-        lose_operand(rt, ctx, op, &mut want, losses.order, k);
+        lose_operand(rt, ctx, listed, losses.order, k);
+        check_operands(rt, alloc, ctx, listed);
         if every > 0 && k % every == every - 1 {
             assert!(rt; k < values.len());
-            add_operand(rt, ctx, op, values[k])?;
-            want.push(values[k])?;
-            check_operands(rt, ctx, op, &want);
-            index_operands(rt, ctx, op)?;
+            gain_operand(rt, ctx, listed, values[k]);
+            check_operands(rt, alloc, ctx, listed);
+            index_operands(rt, ctx, listed.op);
         }
     }
-    settle_operands(rt, ctx, op);
-    check_operands(rt, ctx, op, &want);
-    end_operand_row(rt, ctx, op, &mut want)
 }
 
 // What is left is removed without an index, and one more comes.
-fn end_operand_row(
-    rt: &impl Abort,
-    ctx: &mut Context,
-    op: Ptr<Operation>,
-    want: &mut Vec<Value>,
-) -> Result<(), Fail> {
-    if want.len() > 0 {
-        let again = want[0];
-        lose_operand(rt, ctx, op, want, Order::Ends, 1);
-        add_operand(rt, ctx, op, again)?;
-        want.push(again)?;
+fn end_operand_row(rt: &impl Abort, alloc: Global, ctx: &mut Context, listed: &mut Listed) {
+    if listed.want.len() > 0 {
+        let again = listed.want[0];
+        lose_operand(rt, ctx, listed, Order::Ends, 1);
+        check_operands(rt, alloc, ctx, listed);
+        gain_operand(rt, ctx, listed, again);
     }
-    check_operands(rt, ctx, op, want);
-    Ok(())
 }
 
-fn check_operand_rows(rt: &impl Abort, alloc: Global, ctx: &mut Context) -> Result<(), Fail> {
+fn check_operand_row(rt: &impl Abort, alloc: Global, ctx: &mut Context, losses: &Losses) {
+    let values = make_values(rt, alloc, ctx, losses.count);
+    let mut listed = Listed {
+        op: operation(rt, alloc, ctx, CONST, 0, 0),
+        want: Vec::new(alloc),
+    };
+    gain_operands(rt, ctx, &mut listed, &values);
+    index_operands(rt, ctx, listed.op);
+    check_operands(rt, alloc, ctx, &listed);
+    lose_operands(rt, alloc, ctx, &mut listed, &values, losses);
+    settle_operands(rt, ctx, listed.op);
+    check_operands(rt, alloc, ctx, &listed);
+    end_operand_row(rt, alloc, ctx, &mut listed);
+    check_operands(rt, alloc, ctx, &listed);
+}
+
+fn check_operand_rows(rt: &impl Abort, alloc: Global, ctx: &mut Context) {
     for losses in &OPERAND_ROWS {
-        check_operand_row(rt, alloc, ctx, losses)?;
-    }
-    Ok(())
-}
-
-fn check_arguments(rt: &impl Abort, ctx: &Context, block: Ptr<BasicBlock>, want: &Vec<Value>) {
-    assert!(rt; block.is_live(ctx));
-    assert_eq!(rt; block.num_argument(ctx), want.len());
-    for i in 0..want.len() {
-        check_argument(rt, ctx, block, i, want[i]);
+        check_operand_row(rt, alloc, ctx, losses);
     }
 }
 
-fn index_arguments(rt: &impl Abort, ctx: &mut Context, block: Ptr<BasicBlock>) -> Result<(), Fail> {
+fn check_arguments(
+    rt: &impl Abort,
+    alloc: Global,
+    ctx: &Context,
+    block: Ptr<BasicBlock>,
+    want: &Vec<Value>,
+) {
+    let arguments = arguments_of(rt, alloc, ctx, block);
+    assert!(rt; arguments == *want);
+}
+
+fn index_arguments(rt: &impl Abort, ctx: &mut Context, block: Ptr<BasicBlock>) {
     assert!(rt; block.is_live(ctx));
-    BasicBlock::index_arguments(ctx, block)?;
-    Ok(())
+    BasicBlock::index_arguments(ctx, block).expect(rt, "memory");
 }
 
 fn settle_arguments(rt: &impl Abort, ctx: &mut Context, block: Ptr<BasicBlock>) {
     assert!(rt; block.is_live(ctx));
     BasicBlock::settle_arguments(ctx, block);
+}
+
+// The argument that is removed next, here and in the list.
+fn lose_argument(
+    rt: &impl Abort,
+    ctx: &mut Context,
+    block: Ptr<BasicBlock>,
+    want: &mut Vec<Value>,
+    order: Order,
+    k: usize,
+) {
+    let place = place_at(rt, order, k, want.len());
+    assert!(rt; place < want.len());
+    remove_argument(rt, ctx, block, place);
+    want.remove(place);
 }
 
 // So many arguments, of which `lost` go; after half of these the index is settled and asked for again.
@@ -220,43 +237,38 @@ fn check_argument_row(
     count: usize,
     order: Order,
     lost: usize,
-) -> Result<(), Fail> {
-    let op = operation(rt, ctx, head(alloc, CONST, None)?, 0, 1)?;
-    let block = block(rt, ctx, op, 0, count)?;
-    let mut want = arguments_of(rt, alloc, ctx, block, count)?;
-    index_arguments(rt, ctx, block)?;
+) {
+    let op = operation(rt, alloc, ctx, CONST, 0, 1);
+    let block = block(rt, ctx, op, 0, count);
+    let mut want = arguments_of(rt, alloc, ctx, block);
+    index_arguments(rt, ctx, block);
     for k in 0..lost {
-        let place = place_at(rt, order, k, want.len());
-        assert!(rt; place < want.len());
-        remove_argument(rt, ctx, block, place);
-        want.remove(place);
-        check_arguments(rt, ctx, block, &want);
+        lose_argument(rt, ctx, block, &mut want, order, k);
+        check_arguments(rt, alloc, ctx, block, &want);
         if k == lost / 2 {
             settle_arguments(rt, ctx, block);
-            check_arguments(rt, ctx, block, &want);
-            index_arguments(rt, ctx, block)?;
+            check_arguments(rt, alloc, ctx, block, &want);
+            index_arguments(rt, ctx, block);
         }
     }
     settle_arguments(rt, ctx, block);
-    check_arguments(rt, ctx, block, &want);
-    Ok(())
+    check_arguments(rt, alloc, ctx, block, &want);
 }
 
-fn check_argument_rows(rt: &impl Abort, alloc: Global, ctx: &mut Context) -> Result<(), Fail> {
-    check_argument_row(rt, alloc, ctx, 100, Order::Ends, 100)?;
-    check_argument_row(rt, alloc, ctx, 100, Order::Thirds, 60)?;
-    check_argument_row(rt, alloc, ctx, 200, Order::Listed, 190)?;
-    check_argument_row(rt, alloc, ctx, 200, Order::Front, 50)?;
-    check_argument_row(rt, alloc, ctx, 64, Order::Listed, 20)?;
-    Ok(())
+fn check_argument_rows(rt: &impl Abort, alloc: Global, ctx: &mut Context) {
+    check_argument_row(rt, alloc, ctx, 100, Order::Ends, 100);
+    check_argument_row(rt, alloc, ctx, 100, Order::Thirds, 60);
+    check_argument_row(rt, alloc, ctx, 200, Order::Listed, 190);
+    check_argument_row(rt, alloc, ctx, 200, Order::Front, 50);
+    check_argument_row(rt, alloc, ctx, 64, Order::Listed, 20);
 }
 
 #[test]
-fn indexed_operands_are_those_of_a_list(rt: HostRuntime) -> Result<(), Fail> {
+fn indexed_operands_are_those_of_a_list(rt: HostRuntime) {
     in_new_context(&rt, rt.alloc(), check_operand_rows)
 }
 
 #[test]
-fn indexed_arguments_are_those_of_a_list(rt: HostRuntime) -> Result<(), Fail> {
+fn indexed_arguments_are_those_of_a_list(rt: HostRuntime) {
     in_new_context(&rt, rt.alloc(), check_argument_rows)
 }

@@ -3,12 +3,11 @@
 ghost use Rattle.pliron_core.specs.Tree.{IsLive};
 
 use crate::steps::{
-    FUNC, append, block, check_links, erase, head, in_new_context, move_to_end, operation,
+    FUNC, append, block, check_links, erase, in_new_context, move_to_end, operation,
 };
 use pliron_core::{Context, Operation, Ptr};
 use std::alloc::Global;
 use std::process::Abort;
-use std::test::Fail;
 
 const DEPTH: usize = 10_000;
 
@@ -22,13 +21,13 @@ struct Nest {
 }
 
 // From the inside out.
-fn build_nest(rt: &impl Abort, alloc: Global, ctx: &mut Context) -> Result<Nest, Fail> {
-    let inner = operation(rt, ctx, head(alloc, BOX, None)?, 0, 1)?;
+fn build_nest(rt: &impl Abort, alloc: Global, ctx: &mut Context) -> Nest {
+    let inner = operation(rt, alloc, ctx, BOX, 0, 1);
     let mut outer = inner;
     for _ in 1..DEPTH {
-        outer = box_operation(rt, alloc, ctx, outer)?;
+        outer = box_operation(rt, alloc, ctx, outer);
     }
-    Ok(Nest { outer, inner })
+    Nest { outer, inner }
 }
 
 // A new operation in no block, with this one in its block.
@@ -37,11 +36,11 @@ fn box_operation(
     alloc: Global,
     ctx: &mut Context,
     op: Ptr<Operation>,
-) -> Result<Ptr<Operation>, Fail> {
-    let outer = operation(rt, ctx, head(alloc, BOX, None)?, 0, 1)?;
-    let block = block(rt, ctx, outer, 0, 0)?;
-    append(rt, ctx, block, op)?;
-    Ok(outer)
+) -> Ptr<Operation> {
+    let outer = operation(rt, alloc, ctx, BOX, 0, 1);
+    let block = block(rt, ctx, outer, 0, 0);
+    append(rt, ctx, block, op);
+    outer
 }
 
 // How many operations the walk through this one meets.
@@ -66,16 +65,11 @@ fn check_nested(rt: &impl Abort, ctx: &Context, nest: &Nest) {
 }
 
 // The nest moves from a block to its neighbour, and is erased there.
-fn move_and_erase(
-    rt: &impl Abort,
-    alloc: Global,
-    ctx: &mut Context,
-    nest: &Nest,
-) -> Result<(), Fail> {
-    let root = operation(rt, ctx, head(alloc, FUNC, None)?, 0, 1)?;
-    let first = block(rt, ctx, root, 0, 0)?;
-    let second = block(rt, ctx, root, 0, 0)?;
-    append(rt, ctx, first, nest.outer)?;
+fn move_and_erase(rt: &impl Abort, alloc: Global, ctx: &mut Context, nest: &Nest) {
+    let root = operation(rt, alloc, ctx, FUNC, 0, 1);
+    let first = block(rt, ctx, root, 0, 0);
+    let second = block(rt, ctx, root, 0, 0);
+    append(rt, ctx, first, nest.outer);
     move_to_end(rt, ctx, nest.outer, second);
     let want = [nest.outer];
     check_links(rt, ctx, first, &want[..0]);
@@ -83,16 +77,15 @@ fn move_and_erase(
     erase(rt, ctx, nest.outer);
     assert!(rt; !nest.inner.is_live(ctx));
     check_links(rt, ctx, second, &want[..0]);
-    Ok(())
 }
 
-fn stand_deep(rt: &impl Abort, alloc: Global, ctx: &mut Context) -> Result<(), Fail> {
-    let nest = build_nest(rt, alloc, ctx)?;
+fn stand_deep(rt: &impl Abort, alloc: Global, ctx: &mut Context) {
+    let nest = build_nest(rt, alloc, ctx);
     check_nested(rt, ctx, &nest);
     move_and_erase(rt, alloc, ctx, &nest)
 }
 
 #[test]
-fn is_ten_thousand_deep(rt: HostRuntime) -> Result<(), Fail> {
+fn is_ten_thousand_deep(rt: HostRuntime) {
     in_new_context(&rt, rt.alloc(), stand_deep)
 }

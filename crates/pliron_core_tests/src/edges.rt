@@ -1,10 +1,9 @@
 //! Edges between blocks, and erasing of blocks.
 
-use crate::steps::{FUNC, add_successor, append, block, head, in_new_context, operation};
-use pliron_core::{BasicBlock, Context, Head, IRRewriter, Operation, Ptr, Rewriter};
+use crate::steps::{FUNC, add_successor, append_operation, block, in_new_context, operation};
+use pliron_core::{BasicBlock, Context, IRRewriter, Ptr, Rewriter};
 use std::alloc::Global;
 use std::process::Abort;
-use std::test::Fail;
 
 const BR: u32 = 12;
 
@@ -22,45 +21,44 @@ struct Diamond {
 // A new last operation of the block, with these successors.
 fn branch(
     rt: &impl Abort,
+    alloc: Global,
     ctx: &mut Context,
     from: Ptr<BasicBlock>,
-    head: Head,
+    kind: u32,
     targets: &[Ptr<BasicBlock>],
-) -> Result<(), Fail> {
-    let op = operation(rt, ctx, head, 0, 0)?;
-    append(rt, ctx, from, op)?;
+) {
+    let op = append_operation(rt, alloc, ctx, from, kind, 0);
     for target in targets {
-        add_successor(rt, ctx, op, *target)?;
+        add_successor(rt, ctx, op, *target);
     }
-    Ok(())
 }
 
-fn four_blocks(rt: &impl Abort, alloc: Global, ctx: &mut Context) -> Result<Diamond, Fail> {
-    let func = operation(rt, ctx, head(alloc, FUNC, None)?, 0, 1)?;
-    let entry = block(rt, ctx, func, 0, 0)?;
-    let left = block(rt, ctx, func, 0, 0)?;
-    let right = block(rt, ctx, func, 0, 0)?;
-    let join = block(rt, ctx, func, 0, 1)?;
-    Ok(Diamond {
+fn four_blocks(rt: &impl Abort, alloc: Global, ctx: &mut Context) -> Diamond {
+    let func = operation(rt, alloc, ctx, FUNC, 0, 1);
+    let entry = block(rt, ctx, func, 0, 0);
+    let left = block(rt, ctx, func, 0, 0);
+    let right = block(rt, ctx, func, 0, 0);
+    let join = block(rt, ctx, func, 0, 1);
+    Diamond {
         entry,
         left,
         right,
         join,
-    })
+    }
 }
 
-fn connect(rt: &impl Abort, alloc: Global, ctx: &mut Context, d: &Diamond) -> Result<(), Fail> {
+fn connect(rt: &impl Abort, alloc: Global, ctx: &mut Context, d: &Diamond) {
     let to_join = [d.join];
     let apart = [d.left, d.right, d.right];
-    branch(rt, ctx, d.right, head(alloc, BR, None)?, to_join.as_slice())?;
-    branch(rt, ctx, d.left, head(alloc, BR, None)?, to_join.as_slice())?;
-    branch(rt, ctx, d.entry, head(alloc, FORK, None)?, apart.as_slice())
+    branch(rt, alloc, ctx, d.right, BR, &to_join);
+    branch(rt, alloc, ctx, d.left, BR, &to_join);
+    branch(rt, alloc, ctx, d.entry, FORK, &apart)
 }
 
-fn build_diamond(rt: &impl Abort, alloc: Global, ctx: &mut Context) -> Result<Diamond, Fail> {
-    let d = four_blocks(rt, alloc, ctx)?;
-    connect(rt, alloc, ctx, &d)?;
-    Ok(d)
+fn build_diamond(rt: &impl Abort, alloc: Global, ctx: &mut Context) -> Diamond {
+    let d = four_blocks(rt, alloc, ctx);
+    connect(rt, alloc, ctx, &d);
+    d
 }
 
 fn check_preds(rt: &impl Abort, ctx: &Context, block: Ptr<BasicBlock>, want: &[Ptr<BasicBlock>]) {
@@ -82,34 +80,32 @@ fn check_succs(rt: &impl Abort, ctx: &Context, block: Ptr<BasicBlock>, want: &[P
     }
 }
 
-fn read_successors(rt: &impl Abort, alloc: Global, ctx: &mut Context) -> Result<(), Fail> {
-    let d = build_diamond(rt, alloc, ctx)?;
+fn read_successors(rt: &impl Abort, alloc: Global, ctx: &mut Context) {
+    let d = build_diamond(rt, alloc, ctx);
     let apart = [d.left, d.right, d.right];
     let to_join = [d.join];
     check_succs(rt, ctx, d.entry, apart.as_slice());
     check_succs(rt, ctx, d.left, to_join.as_slice());
     check_succs(rt, ctx, d.join, &apart[..0]);
-    Ok(())
 }
 
 #[test]
-fn reads_successors(rt: HostRuntime) -> Result<(), Fail> {
+fn reads_successors(rt: HostRuntime) {
     in_new_context(&rt, rt.alloc(), read_successors)
 }
 
-fn read_predecessors(rt: &impl Abort, alloc: Global, ctx: &mut Context) -> Result<(), Fail> {
-    let d = build_diamond(rt, alloc, ctx)?;
+fn read_predecessors(rt: &impl Abort, alloc: Global, ctx: &mut Context) {
+    let d = build_diamond(rt, alloc, ctx);
     let entry = [d.entry];
     let both = [d.left, d.right];
     check_preds(rt, ctx, d.entry, &entry[..0]);
     check_preds(rt, ctx, d.left, entry.as_slice());
     check_preds(rt, ctx, d.right, entry.as_slice());
     check_preds(rt, ctx, d.join, both.as_slice());
-    Ok(())
 }
 
 #[test]
-fn reads_predecessors(rt: HostRuntime) -> Result<(), Fail> {
+fn reads_predecessors(rt: HostRuntime) {
     in_new_context(&rt, rt.alloc(), read_predecessors)
 }
 
@@ -132,15 +128,14 @@ fn check_neighbours(rt: &impl Abort, ctx: &Context, d: &Diamond) {
     assert!(rt; d.right.num_use(ctx) == 2);
 }
 
-fn read_uses(rt: &impl Abort, alloc: Global, ctx: &mut Context) -> Result<(), Fail> {
-    let d = build_diamond(rt, alloc, ctx)?;
+fn read_uses(rt: &impl Abort, alloc: Global, ctx: &mut Context) {
+    let d = build_diamond(rt, alloc, ctx);
     check_use(rt, ctx, d.right, d.entry);
     check_neighbours(rt, ctx, &d);
-    Ok(())
 }
 
 #[test]
-fn reads_uses_and_neighbours(rt: HostRuntime) -> Result<(), Fail> {
+fn reads_uses_and_neighbours(rt: HostRuntime) {
     in_new_context(&rt, rt.alloc(), read_uses)
 }
 
@@ -161,18 +156,17 @@ fn check_used(rt: &impl Abort, ctx: &Context, block: Ptr<BasicBlock>) {
     assert!(rt; !block.is_self_contained(ctx));
 }
 
-fn erase_right(rt: &impl Abort, alloc: Global, ctx: &mut Context) -> Result<(), Fail> {
-    let d = build_diamond(rt, alloc, ctx)?;
+fn erase_right(rt: &impl Abort, alloc: Global, ctx: &mut Context) {
+    let d = build_diamond(rt, alloc, ctx);
     check_used(rt, ctx, d.right);
     drop_uses(rt, ctx, d.entry);
     let left = [d.left];
     erase_block(rt, ctx, d.right);
     check_preds(rt, ctx, d.join, left.as_slice());
     check_preds(rt, ctx, d.left, &left[..0]);
-    Ok(())
 }
 
 #[test]
-fn drops_uses_and_erases_a_block(rt: HostRuntime) -> Result<(), Fail> {
+fn drops_uses_and_erases_a_block(rt: HostRuntime) {
     in_new_context(&rt, rt.alloc(), erase_right)
 }

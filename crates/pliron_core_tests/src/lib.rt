@@ -27,4 +27,6 @@ mod steps;
 #[cfg(test)]
 mod straight;
 #[cfg(test)]
+mod tables;
+#[cfg(test)]
 mod writes;

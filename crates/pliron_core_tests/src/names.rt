@@ -7,7 +7,6 @@ use pliron_core::{
 };
 use std::alloc::Global;
 use std::process::Abort;
-use std::test::Fail;
 
 // A type has this name.
 fn is_type<T>() {}
@@ -22,10 +21,10 @@ fn names_and_laws(rt: HostRuntime) {
     assert!(rt; OpInsertionPoint::Unset == OpInsertionPoint::Unset);
 }
 
-fn fill_row(rt: &impl Abort, row: &mut InlineList<u32>) -> Result<(), Fail> {
+fn fill_row(rt: &impl Abort, row: &mut InlineList<u32>) {
     assert!(rt; row.is_empty());
-    row.push(3)?;
-    row.push(5)?;
+    row.push(3).expect(rt, "memory");
+    row.push(5).expect(rt, "memory");
     assert_eq!(rt; row.len(), 2);
     row.remove(0);
     row.set(0, 7);
@@ -33,26 +32,24 @@ fn fill_row(rt: &impl Abort, row: &mut InlineList<u32>) -> Result<(), Fail> {
     assert_eq!(rt; row.last(), Some(7));
     row.pop();
     assert_eq!(rt; row.last(), None);
-    Ok(())
 }
 
 #[test]
-fn items_of_a_row(rt: HostRuntime) -> Result<(), Fail> {
+fn items_of_a_row(rt: HostRuntime) {
     let mut row = InlineList::new(rt.alloc());
     fill_row(&rt, &mut row)
 }
 
 #[test]
-fn attributes_as_a_list(rt: HostRuntime) -> Result<(), Fail> {
+fn attributes_as_a_list(rt: HostRuntime) {
     let attrs = [AttrObj::Int(7)];
-    let list = Attrs::new(Vec::from_array(rt.alloc(), attrs)?);
+    let list = Attrs::new(Vec::from_array(rt.alloc(), attrs).expect(&rt, "memory"));
     assert_eq!(rt; list.into_vec().len(), 1);
-    Ok(())
 }
 
 // The operations directly inside the root, in turn, by their places.
-fn walk_inside(rt: &impl Abort, alloc: Global, ctx: &mut Context) -> Result<(), Fail> {
-    let sum = build_sum(rt, alloc, ctx)?;
+fn walk_inside(rt: &impl Abort, alloc: Global, ctx: &mut Context) {
+    let sum = build_sum(rt, alloc, ctx);
     ctx.well_formed();
     ctx.contents_agree();
     assert!(rt; sum.func.is_live(ctx));
@@ -61,10 +58,9 @@ fn walk_inside(rt: &impl Abort, alloc: Global, ctx: &mut Context) -> Result<(), 
     assert!(rt; sum.one.next_beside(ctx) == Some(sum.two));
     assert!(rt; sum.ret.is_live(ctx));
     assert!(rt; sum.ret.next_beside(ctx) == None);
-    Ok(())
 }
 
 #[test]
-fn walks_over_what_is_directly_inside(rt: HostRuntime) -> Result<(), Fail> {
+fn walks_over_what_is_directly_inside(rt: HostRuntime) {
     in_new_context(&rt, rt.alloc(), walk_inside)
 }

@@ -5,7 +5,6 @@ use crate::straight::{Sum, build_sum};
 use pliron_core::{Context, Def};
 use std::alloc::Global;
 use std::process::Abort;
-use std::test::Fail;
 
 fn check_region(rt: &impl Abort, ctx: &Context, sum: &Sum) {
     let region = region_of(rt, ctx, sum.func, 0);
@@ -39,27 +38,25 @@ fn check_contained(rt: &impl Abort, ctx: &Context, sum: &Sum) {
     assert!(rt; sum.ret.is_self_contained(ctx));
 }
 
-fn read_straight(rt: &impl Abort, alloc: Global, ctx: &mut Context) -> Result<(), Fail> {
-    let sum = build_sum(rt, alloc, ctx)?;
+fn read_straight(rt: &impl Abort, alloc: Global, ctx: &mut Context) {
+    let sum = build_sum(rt, alloc, ctx);
     let want = [sum.one, sum.two, sum.add, sum.ret];
     check_links(rt, ctx, sum.block, want.as_slice());
     check_region(rt, ctx, &sum);
     check_values(rt, ctx, &sum);
-    Ok(())
 }
 
 #[test]
-fn reads_the_straight_block(rt: HostRuntime) -> Result<(), Fail> {
+fn reads_the_straight_block(rt: HostRuntime) {
     in_new_context(&rt, rt.alloc(), read_straight)
 }
 
-fn used_outside(rt: &impl Abort, alloc: Global, ctx: &mut Context) -> Result<(), Fail> {
-    let sum = build_sum(rt, alloc, ctx)?;
+fn used_outside(rt: &impl Abort, alloc: Global, ctx: &mut Context) {
+    let sum = build_sum(rt, alloc, ctx);
     check_contained(rt, ctx, &sum);
-    Ok(())
 }
 
 #[test]
-fn reports_what_is_used_outside(rt: HostRuntime) -> Result<(), Fail> {
+fn reports_what_is_used_outside(rt: HostRuntime) {
     in_new_context(&rt, rt.alloc(), used_outside)
 }

@@ -1,12 +1,10 @@
 //! Operands that are removed one after the other, at places in any order, with others pushed in between.
 
-use crate::steps::{
-    CONST, add_operand, head, in_new_context, number, operand_of, operation, result_of,
-};
+use crate::steps::{CONST, add_operand, constant, operand_of, operation, result_of};
+use crate::tables::{Table, check_table, number, places};
 use pliron_core::{Context, Operation, Ptr, Value};
 use std::alloc::Global;
 use std::process::Abort;
-use std::test::Fail;
 
 // A name; how many values the operation uses at first, each once, in order; then the place of the operand that is
 // removed, or `+` and the value that is pushed; and the values that it uses in the end. Made by `tools/expected`
@@ -34,49 +32,46 @@ one pushed in between, of nine -- 9 1 +5 6 4 5 3 => 0 2 3 6 5
 three pushed in between, of seven -- 7 3 0 4 +3 1 3 +5 +2 => 1 4 5 5 2";
 
 // So many operations with one result each, and their results.
-pub fn make_values(
-    rt: &impl Abort,
-    alloc: Global,
-    ctx: &mut Context,
-    count: usize,
-) -> Result<Vec<Value>, Fail> {
+pub fn make_values(rt: &impl Abort, alloc: Global, ctx: &mut Context, count: usize) -> Vec<Value> {
     let mut values = Vec::new(alloc);
     for _ in 0..count {
-        let one = operation(rt, ctx, head(alloc, CONST, Some(1))?, 1, 0)?;
-        values.push(result_of(rt, ctx, one, 0))?;
+        let one = constant(rt, alloc, ctx, 1);
+        values.push(result_of(rt, ctx, one, 0)).expect(rt, "memory");
     }
-    Ok(values)
+    values
 }
 
-fn value_named(rt: &impl Abort, values: &[Value], word: &str) -> Value {
-    let i = number(rt, word);
-    assert!(rt; i < values.len());
-    values[i]
-}
-
-// One step of a case.
-fn step(
+// The operand of this index is removed, and answered.
+pub fn remove_operand(
     rt: &impl Abort,
     ctx: &mut Context,
     op: Ptr<Operation>,
-    values: &[Value],
-    word: &str,
-) -> Result<(), Fail> {
+    place: usize,
+) -> Value {
+    assert!(rt; op.is_live(ctx));
+    assert!(rt; place < op.num_operand(ctx));
+    let operand = op.get_operand(ctx, place);
+    let deleted = Operation::remove_operand(ctx, op, place);
+    assert!(rt; deleted == operand);
+    deleted
+}
+
+// One step of a case.
+fn step(rt: &impl Abort, ctx: &mut Context, op: Ptr<Operation>, values: &[Value], word: &str) {
     match word.strip_prefix("+") {
-        Some(name) => add_operand(rt, ctx, op, value_named(rt, values, name))?,
+        Some(name) => {
+            let i = number(rt, name);
+            assert!(rt; i < values.len());
+            add_operand(rt, ctx, op, values[i])
+        }
         None => {
-            let place = number(rt, word);
-            let deleted = operand_of(rt, ctx, op, place);
-            assert!(rt; op.is_live(ctx));
-            assert!(rt; place < op.num_operand(ctx));
-            assert!(rt; Operation::remove_operand(ctx, op, place) == deleted);
+            remove_operand(rt, ctx, op, number(rt, word));
         }
     }
-    Ok(())
 }
 
 // Whether a use of the value is the operand at this place.
-pub fn is_used_at(
+fn is_used_at(
     rt: &impl Abort,
     ctx: &Context,
     value: Value,
@@ -92,48 +87,64 @@ pub fn is_used_at(
     false
 }
 
-fn check_case(rt: &impl Abort, alloc: Global, ctx: &mut Context, case: &str) -> Result<(), Fail> {
-    let (name, row) = case.split_once(" -- ").expect(rt, "a name");
-    let (steps, want) = row.split_once(" =>").expect(rt, "a case");
-    let (count, steps) = steps.split_once(" ").expect(rt, "steps");
-    let values = make_values(rt, alloc, ctx, number(rt, count))?;
-    let op = operation(rt, ctx, head(alloc, CONST, None)?, 0, 0)?;
-    for value in &values {
-        add_operand(rt, ctx, op, *value)?;
-    }
-    for word in steps.split_whitespace() {
-        step(rt, ctx, op, &values, word)?;
-    }
-    let mut place = 0usize;
-    for word in want.split_whitespace() {
-        let value = value_named(rt, &values, word);
-        assert!(rt; operand_of(rt, ctx, op, place) == value, "{name}");
-        assert!(rt; is_used_at(rt, ctx, value, op, place), "{name}");
-        assert!(rt; place < 100);
-        place += 1;
-    }
+// The operands in order, each of which is a use of its value.
+pub fn operands_of(
+    rt: &impl Abort,
+    alloc: Global,
+    ctx: &Context,
+    op: Ptr<Operation>,
+) -> Vec<Value> {
+    let mut values = Vec::new(alloc);
     assert!(rt; op.is_live(ctx));
-    assert_eq!(rt; op.num_operand(ctx), place, "{name}");
-    let mut uses = 0usize;
-    for value in &values {
-        assert!(rt; value.is_live(ctx));
-        let more = value.num_use(ctx);
-        assert!(rt; more < 100);
-        assert!(rt; uses < 10_000);
-        uses += more;
+    for i in 0..op.num_operand(ctx) {
+        let value = operand_of(rt, ctx, op, i);
+        assert!(rt; is_used_at(rt, ctx, value, op, i));
+        values.push(value).expect(rt, "memory");
     }
-    assert_eq!(rt; uses, place, "{name}");
-    Ok(())
+    values
 }
 
-fn check_cases(rt: &impl Abort, alloc: Global, ctx: &mut Context) -> Result<(), Fail> {
-    for case in REMOVALS.lines() {
-        check_case(rt, alloc, ctx, case)?;
+// How often these are used.
+fn count_all_uses(rt: &impl Abort, ctx: &Context, values: &[Value]) -> usize {
+    let mut count: usize = 0;
+    for value in values {
+        assert!(rt; value.is_live(ctx));
+        count = count.saturating_add(value.num_use(ctx));
     }
-    Ok(())
+    count
+}
+
+fn add_operands(rt: &impl Abort, ctx: &mut Context, op: Ptr<Operation>, values: &[Value]) {
+    for value in values {
+        add_operand(rt, ctx, op, *value);
+    }
+}
+
+fn take_steps(
+    rt: &impl Abort,
+    ctx: &mut Context,
+    op: Ptr<Operation>,
+    values: &[Value],
+    words: &str,
+) {
+    for word in words.split_whitespace() {
+        step(rt, ctx, op, values, word);
+    }
+}
+
+// The operands that are left, by the first places of their values.
+pub fn left(rt: &impl Abort, alloc: Global, ctx: &mut Context, asked: &str) -> String {
+    let (count, words) = asked.split_once(" ").expect(rt, "steps");
+    let values = make_values(rt, alloc, ctx, number(rt, count));
+    let op = operation(rt, alloc, ctx, CONST, 0, 0);
+    add_operands(rt, ctx, op, &values);
+    take_steps(rt, ctx, op, &values, words);
+    let left = operands_of(rt, alloc, ctx, op);
+    assert_eq!(rt; count_all_uses(rt, ctx, &values), left.len());
+    places(rt, alloc, &left, &values)
 }
 
 #[test]
-fn removes_operands_in_any_order(rt: HostRuntime) -> Result<(), Fail> {
-    in_new_context(&rt, rt.alloc(), check_cases)
+fn removes_operands_in_any_order(rt: HostRuntime) {
+    check_table(&rt, rt.alloc(), Table::Operands, REMOVALS)
 }

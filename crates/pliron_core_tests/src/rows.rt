@@ -1,6 +1,7 @@
 //! Calls on lists of no, one, two, three and ten items.
 ghost use Rattle.std.specs.Prelude.{◌<◌, length};
 
+use crate::tables::{Table, check_table, number};
 use pliron_core::InlineList;
 use std::alloc::Global;
 use std::process::Abort;
@@ -50,14 +51,15 @@ two by two -- 5 6 extend:2 => 5 6 0 1
 three by one -- 5 6 7 extend:1 => 5 6 7 0
 three by two, then by ten -- 5 6 7 extend:2 extend:10 => 5 6 7 0 1 0 1 2 3 4 5 6 7 8 9";
 
-fn number(rt: &impl Abort, word: &str) -> u32 {
-    word.parse::<u32>().ok().expect(rt, "a number")
+// The item that a word is.
+fn item_of(rt: &impl Abort, word: &str) -> u32 {
+    u32::try_from(number(rt, word)).ok().expect(rt, "an item")
 }
 
 fn index(rt: &impl Abort, row: &InlineList<u32>, word: &str) -> usize
     ensures { result < length row.now }
 {
-    let i = number(rt, word) as usize;
+    let i = number(rt, word);
     assert!(rt; i < row.len());
     i
 }
@@ -65,7 +67,7 @@ fn index(rt: &impl Abort, row: &InlineList<u32>, word: &str) -> usize
 fn set(rt: &impl Abort, row: &mut InlineList<u32>, place: &str) {
     let (at, item) = place.split_once("=").expect(rt, "an index and an item");
     let i = index(rt, row, at);
-    row.set(i, number(rt, item));
+    row.set(i, item_of(rt, item));
 }
 
 fn remove(rt: &impl Abort, row: &mut InlineList<u32>, at: &str) {
@@ -73,10 +75,14 @@ fn remove(rt: &impl Abort, row: &mut InlineList<u32>, at: &str) {
     row.remove(i);
 }
 
+fn push(rt: &impl Abort, row: &mut InlineList<u32>, item: u32) {
+    row.push(item).expect(rt, "memory");
+}
+
 fn extend_by(rt: &impl Abort, alloc: Global, row: &mut InlineList<u32>, count: u32) {
     let mut more = InlineList::new(alloc);
     for item in 0..count {
-        more.push(item).expect(rt, "memory");
+        push(rt, &mut more, item);
     }
     row.extend(&more).expect(rt, "memory");
 }
@@ -85,36 +91,44 @@ fn call(rt: &impl Abort, alloc: Global, row: &mut InlineList<u32>, word: &str) {
     match word.split_once(":") {
         Some(("set", place)) => set(rt, row, place),
         Some(("remove", at)) => remove(rt, row, at),
-        Some(("extend", count)) => extend_by(rt, alloc, row, number(rt, count)),
-        _ if word == "pop" => row.pop(),
-        _ => row.push(number(rt, word)).expect(rt, "memory"),
+        Some((_, count)) => extend_by(rt, alloc, row, item_of(rt, count)),
+        None if word == "pop" => row.pop(),
+        None => push(rt, row, item_of(rt, word)),
     }
 }
 
-fn check_items(rt: &impl Abort, row: &InlineList<u32>, items: &str, name: &str) {
-    let mut count = 0;
-    let mut last = None;
-    for word in items.split_whitespace() {
-        let item = number(rt, word);
-        assert!(rt; count < row.len(), "{name}");
-        assert_eq!(rt; row.get(count), item, "{name}");
-        last = Some(item);
-        count += 1;
+// The last item, if there is one.
+fn check_last(rt: &impl Abort, row: &InlineList<u32>) {
+    let count = row.len();
+    assert_eq!(rt; row.is_empty(), count == 0);
+    let last = if count == 0 {
+        None
+    } else {
+        Some(row.get(count - 1))
+    };
+    assert_eq!(rt; row.last(), last);
+}
+
+// The items, a blank before each.
+fn items(rt: &impl Abort, alloc: Global, row: &InlineList<u32>) -> String {
+    let mut text = String::new(alloc);
+    for i in 0..row.len() {
+        write!(text, " {}", row.get(i)).expect(rt, "memory");
     }
-    assert_eq!(rt; row.len(), count, "{name}");
-    assert_eq!(rt; row.is_empty(), count == 0, "{name}");
-    assert_eq!(rt; row.last(), last, "{name}");
+    text
+}
+
+// The items in the end.
+pub fn left(rt: &impl Abort, alloc: Global, calls: &str) -> String {
+    let mut row = InlineList::new(alloc);
+    for word in calls.split_whitespace() {
+        call(rt, alloc, &mut row, word);
+    }
+    check_last(rt, &row);
+    items(rt, alloc, &row)
 }
 
 #[test]
 fn calls_on_rows(rt: HostRuntime) {
-    for line in CALLS.lines() {
-        let (name, case) = line.split_once(" -- ").expect(&rt, "a name");
-        let (calls, items) = case.split_once("=>").expect(&rt, "a case");
-        let mut row = InlineList::new(rt.alloc());
-        for word in calls.split_whitespace() {
-            call(&rt, rt.alloc(), &mut row, word);
-        }
-        check_items(&rt, &row, items, name);
-    }
+    check_table(&rt, rt.alloc(), Table::Rows, CALLS)
 }

@@ -1,5 +1,6 @@
 //! Calls on a tree, with what they ask asserted first.
 
+ghost use Rattle.std.specs.Prelude.{◌<◌, length};
 ghost use Rattle.pliron_core.specs.Tree.{IsRegion};
 
 use pliron_core::{
@@ -7,47 +8,57 @@ use pliron_core::{
 };
 use std::alloc::Global;
 use std::process::Abort;
-use std::test::Fail;
 
 pub const FUNC: u32 = 1;
 
 pub const CONST: u32 = 2;
 
 // The body is lent a new context, which ends here.
-pub fn in_new_context<R, F>(rt: &R, alloc: Global, body: F) -> Result<(), Fail>
+pub fn in_new_context<R, F>(rt: &R, alloc: Global, body: F)
 where
     R: Abort,
-    F: FnOnce(&R, Global, &mut Context) -> Result<(), Fail>,
+    F: FnOnce(&R, Global, &mut Context),
     requires { F.IsAlwaysCallable body }
 {
     let mut ctx = Context::new(alloc);
     body(rt, alloc, &mut ctx)
 }
 
-// A head with at most one number as its attribute.
-pub fn head(alloc: Global, kind: u32, number: Option<i128>) -> Result<Head, Fail> {
-    let mut attrs = Vec::new(alloc);
-    if let Some(number) = number {
-        attrs.push(AttrObj::Int(number))?;
-    }
-    Ok(Head {
+// A new operation with these attributes.
+fn create(
+    rt: &impl Abort,
+    ctx: &mut Context,
+    kind: u32,
+    attrs: Vec<AttrObj>,
+    results: usize,
+    regions: usize,
+) -> Ptr<Operation> {
+    let head = Head {
         kind,
         ssa: true,
         attrs: Attrs::new(attrs),
-    })
+    };
+    let op = Operation::create(ctx, head, results, regions).expect(rt, "memory");
+    check_new_operation(rt, ctx, op, results, regions);
+    op
 }
 
-// A new operation, which is live.
+// A new operation without attributes, which is live.
 pub fn operation(
     rt: &impl Abort,
+    alloc: Global,
     ctx: &mut Context,
-    head: Head,
+    kind: u32,
     results: usize,
     regions: usize,
-) -> Result<Ptr<Operation>, Fail> {
-    let op = Operation::create(ctx, head, results, regions)?;
-    check_new_operation(rt, ctx, op, results, regions);
-    Ok(op)
+) -> Ptr<Operation> {
+    create(rt, ctx, kind, Vec::new(alloc), results, regions)
+}
+
+// A new operation with one result and this number as its attribute.
+pub fn constant(rt: &impl Abort, alloc: Global, ctx: &mut Context, number: i128) -> Ptr<Operation> {
+    let attrs = Vec::from_array(alloc, [AttrObj::Int(number)]).expect(rt, "memory");
+    create(rt, ctx, CONST, attrs, 1, 0)
 }
 
 fn check_new_operation(
@@ -70,12 +81,12 @@ pub fn block(
     op: Ptr<Operation>,
     region: usize,
     arguments: usize,
-) -> Result<Ptr<BasicBlock>, Fail> {
+) -> Ptr<BasicBlock> {
     let region = region_of(rt, ctx, op, region);
-    let block = BasicBlock::create(ctx, region, arguments)?;
+    let block = BasicBlock::create(ctx, region, arguments).expect(rt, "memory");
     assert!(rt; block.is_live(ctx));
     assert_eq!(rt; block.num_argument(ctx), arguments);
-    Ok(block)
+    block
 }
 
 pub fn region_of(rt: &impl Abort, ctx: &Context, op: Ptr<Operation>, i: usize) -> Ptr<Region>
@@ -101,49 +112,46 @@ pub fn operand_of(rt: &impl Abort, ctx: &Context, op: Ptr<Operation>, i: usize) 
     op.get_operand(ctx, i)
 }
 
-// The number that the word of a case is.
-pub fn number(rt: &impl Abort, word: &str) -> usize {
-    word.parse::<usize>().ok().expect(rt, "a number")
-}
-
 // The operation is moved to the end of the block.
-pub fn append(
-    rt: &impl Abort,
-    ctx: &mut Context,
-    block: Ptr<BasicBlock>,
-    op: Ptr<Operation>,
-) -> Result<(), Fail> {
+pub fn append(rt: &impl Abort, ctx: &mut Context, block: Ptr<BasicBlock>, op: Ptr<Operation>) {
     assert!(rt; block.is_live(ctx));
     assert!(rt; op.is_live(ctx));
     assert!(rt; op.get_parent_block(ctx).is_none());
     assert!(rt; !op.holds_block(block, ctx));
-    BasicBlock::push_operation(ctx, block, op)?;
-    Ok(())
+    BasicBlock::push_operation(ctx, block, op).expect(rt, "memory");
 }
 
 // A new last operation of the block.
 pub fn append_operation(
     rt: &impl Abort,
+    alloc: Global,
     ctx: &mut Context,
     block: Ptr<BasicBlock>,
-    head: Head,
+    kind: u32,
     results: usize,
-) -> Result<Ptr<Operation>, Fail> {
-    let op = operation(rt, ctx, head, results, 0)?;
-    append(rt, ctx, block, op)?;
-    Ok(op)
+) -> Ptr<Operation> {
+    let op = operation(rt, alloc, ctx, kind, results, 0);
+    append(rt, ctx, block, op);
+    op
 }
 
-pub fn add_operand(
+// A new constant, last in the block.
+pub fn append_constant(
     rt: &impl Abort,
+    alloc: Global,
     ctx: &mut Context,
-    op: Ptr<Operation>,
-    value: Value,
-) -> Result<(), Fail> {
+    block: Ptr<BasicBlock>,
+    number: i128,
+) -> Ptr<Operation> {
+    let op = constant(rt, alloc, ctx, number);
+    append(rt, ctx, block, op);
+    op
+}
+
+pub fn add_operand(rt: &impl Abort, ctx: &mut Context, op: Ptr<Operation>, value: Value) {
     assert!(rt; op.is_live(ctx));
     assert!(rt; value.is_live(ctx));
-    Operation::push_operand(ctx, op, value)?;
-    Ok(())
+    Operation::push_operand(ctx, op, value).expect(rt, "memory");
 }
 
 pub fn add_successor(
@@ -151,11 +159,10 @@ pub fn add_successor(
     ctx: &mut Context,
     op: Ptr<Operation>,
     block: Ptr<BasicBlock>,
-) -> Result<(), Fail> {
+) {
     assert!(rt; op.is_live(ctx));
     assert!(rt; block.is_live(ctx));
-    Operation::push_successor(ctx, op, block)?;
-    Ok(())
+    Operation::push_successor(ctx, op, block).expect(rt, "memory");
 }
 
 // The operation becomes the last of the block.
@@ -194,32 +201,24 @@ pub fn check_links(
     assert!(rt; block.is_live(ctx));
     assert!(rt; block.get_head(ctx) == want.first().copied());
     assert!(rt; block.get_tail(ctx) == want.last().copied());
-    let mut before = None;
-    for op in want {
-        check_place(rt, ctx, *op, block, before);
-        before = Some(*op);
-    }
-    let mut after = None;
-    for op in want.iter().rev() {
-        check_next(rt, ctx, *op, after);
-        after = Some(*op);
+    for i in 0..want.len() {
+        check_place(rt, ctx, block, want, i);
     }
 }
 
-// The operation is in the block, directly after this one.
+// The operation with this index is in the block, between its neighbours.
 fn check_place(
     rt: &impl Abort,
     ctx: &Context,
-    op: Ptr<Operation>,
     block: Ptr<BasicBlock>,
-    prev: Option<Ptr<Operation>>,
-) {
+    want: &[Ptr<Operation>],
+    i: usize,
+)
+    requires { i < length want.now }
+{
+    let op = want[i];
     assert!(rt; op.is_live(ctx));
     assert!(rt; op.get_parent_block(ctx) == Some(block));
-    assert!(rt; op.get_prev(ctx) == prev);
-}
-
-fn check_next(rt: &impl Abort, ctx: &Context, op: Ptr<Operation>, next: Option<Ptr<Operation>>) {
-    assert!(rt; op.is_live(ctx));
-    assert!(rt; op.get_next(ctx) == next);
+    assert!(rt; op.get_prev(ctx) == want.get(i.wrapping_sub(1)).copied());
+    assert!(rt; op.get_next(ctx) == want.get(i.wrapping_add(1)).copied());
 }
