@@ -20,13 +20,19 @@ pub struct Asked {
 }
 
 // The case without so many words before its text.
-pub fn text_behind(case: Case<'_>, words: usize) -> Option<Case<'_>> {
+fn text_behind(case: Case<'_>, words: usize) -> Option<Case<'_>> {
     let mut text = case.text;
     for _ in 0..words {
         let (_, rest) = text.split_once(' ')?;
         text = rest;
     }
     Some(Case { text, ..case })
+}
+
+/// The case of the row, without so many words before its text.
+pub fn case_behind<'t>(rt: &impl Abort, row: &'t str, words: usize) -> Case<'t> {
+    let case = case_of(row).expect(rt, "a case");
+    text_behind(case, words).expect(rt, "a text")
 }
 
 // The operation at the place, which is the whole or inside it.
@@ -92,8 +98,6 @@ pub fn check(rt: &impl Abort, alloc: Global, asked: Asked, case: &Case) {
 // What is asked of each text is as its case says.
 pub fn check_all(rt: &impl Abort, alloc: Global, asked: Asked, cases: &str) {
     for row in cases.lines() {
-        let case = case_of(row).expect(rt, "a case");
-        let case = text_behind(case, asked.words).expect(rt, "a text");
-        check(rt, alloc, asked, &case);
+        check(rt, alloc, asked, &case_behind(rt, row, asked.words));
     }
 }

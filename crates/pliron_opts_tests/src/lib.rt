@@ -8,7 +8,9 @@ mod arithmetic;
 mod docs;
 #[cfg(test)]
 mod graphs;
-pub mod looped;
+#[cfg(test)]
+mod looped;
+pub mod looped_kind;
 #[cfg(test)]
 mod loops;
 #[cfg(test)]

@@ -1,11 +1,13 @@
 //! Counted loops, effects and a memo in a dialect by tables, before and after constant propagation, and their runs,
 //! worked by hand.
-use crate::looped::{Looped, LoopedKind};
+use crate::looped::Looped;
+use crate::looped_kind::LoopedKind;
 use pliron_core::{Context, Operation, Ptr};
 use pliron_evaluator::evaluator::{Datum, Sight, evaluate};
 use pliron_laws::is_well_linked;
 use pliron_sccp::sccp;
 use pliron_table_text::{print_text, read_text};
+use pliron_test_cases::cases;
 use std::alloc::Global;
 use std::process::Abort;
 
@@ -34,8 +36,7 @@ const ASK: i128 = 6;
 
 // The number that the word is.
 fn number(rt: &impl Abort, word: &str) -> Datum {
-    let number = word.parse::<i64>().ok().expect(rt, "a number");
-    Datum::Number(number as i128)
+    Datum::Number(cases::number(word).expect(rt, "a number") as i128)
 }
 
 // The numbers that the words are.

@@ -20,20 +20,33 @@ type Canonicalize = CanonicalizePass<Bench, BenchFacts>;
 type Step = Either<Canonicalize, PassStep<Bench, BenchFacts>>;
 
 // What the list of both passes answers.
-fn run(alloc: Global, root: Ptr<Operation>, ctx: &mut Context) -> Result<IRStatus, OptError>
+fn run(
+    rt: &impl Abort,
+    alloc: Global,
+    root: Ptr<Operation>,
+    ctx: &mut Context,
+) -> Result<IRStatus, OptError>
     requires live { IsLive ctx.old.tree root }
     requires linked { IsWellLinked bench ctx.old.tree root }
 {
     let mut passes = Passes::<Step>::new(alloc);
-    passes.add_pass(Either::Left(CanonicalizePass::new()))?;
-    passes.add_pass(Either::Right(PassStep::Dce(DCEPass::new())))?;
+    assert!(rt;
+        passes
+            .add_pass(Either::Left(CanonicalizePass::new()))
+            .is_ok()
+    );
+    assert!(rt;
+        passes
+            .add_pass(Either::Right(PassStep::Dce(DCEPass::new())))
+            .is_ok()
+    );
     let mut analyses = AnalysisManager::new(alloc);
     run_pipeline(&mut passes, alloc, root, ctx, &mut analyses)
 }
 
 fn run_in(rt: &impl Abort, alloc: Global, ctx: &mut Context) {
     let root = read(alloc, ctx, TEXT).expect(rt, "a text");
-    let status = run(alloc, root, ctx).expect(rt, "memory");
+    let status = run(rt, alloc, root, ctx).expect(rt, "memory");
     assert_eq!(rt; status, IRStatus::Changed);
     let text = line(alloc, ctx, root).expect(rt, "the root");
     assert_eq!(rt; text.as_str(), "func { b0(v0): v1 = const 0; ret v1 }");

@@ -161,10 +161,14 @@ fn case_in(rt: &impl Abort, alloc: Global, ctx: &mut Context, case: &str) {
     assert!(rt; before == after, "{name}");
 }
 
+fn check(rt: &impl Abort, alloc: Global, case: &str) {
+    let mut ctx = Context::new(alloc);
+    case_in(rt, alloc, &mut ctx, case);
+}
+
 fn cases(rt: &impl Abort, alloc: Global, lines: &str) {
     for case in lines.lines() {
-        let mut ctx = Context::new(alloc);
-        case_in(rt, alloc, &mut ctx, case);
+        check(rt, alloc, case);
     }
 }
 

@@ -5,7 +5,7 @@ use super::random_cases::MADE;
 use crate::optimisation::Optimisation;
 use crate::runs::keep_runs;
 use crate::texts::{Asked, check_all};
-use pliron_test_cases::cases::{Case, case_of};
+use pliron_test_cases::cases::{Case, case_of, number};
 use std::alloc::Global;
 use std::process::Abort;
 
@@ -24,8 +24,7 @@ fn number_before<'t>(text: &'t str, label: &str) -> Option<(u128, &'t str)> {
     if first != label {
         return None;
     }
-    let number = digits.parse::<u64>().ok()?;
-    Some((u128::from(number), rest))
+    Some((number(digits)? as u128, rest))
 }
 
 /// What the case says of its text.
@@ -50,23 +49,25 @@ fn facts_of<'t>(row: &'t str) -> Option<Facts<'t>> {
     })
 }
 
+// What propagation that counts makes of the text is as the row says.
+fn check_row(rt: &impl Abort, alloc: Global, row: &str) {
+    let facts = facts_of(row).expect(rt, "a case with its counts");
+    let case = facts.case;
+    let counted = count(rt, alloc, case.text);
+    assert_eq!(rt; counted.left.as_str(), case.after, "{}", case.name);
+    assert_eq!(rt; counted.answer, case.answer, "{}", case.name);
+    let least = facts
+        .blocks
+        .saturating_add(facts.constants)
+        .saturating_add(facts.others);
+    let most = least.saturating_add(facts.others);
+    let pops = counted.pops;
+    assert!(rt; least <= pops && pops <= most, "{}", case.name);
+}
+
 fn check_counted(rt: &impl Abort, alloc: Global, cases: &str) {
     for row in cases.lines() {
-        let facts = facts_of(row).expect(rt, "a case with its counts");
-        let case = facts.case;
-        let counted = count(rt, alloc, case.text);
-        assert_eq!(rt; counted.left.as_str(), case.after, "{}", case.name);
-        assert_eq!(rt; counted.answer, case.answer, "{}", case.name);
-        let least = facts
-            .blocks
-            .saturating_add(facts.constants)
-            .saturating_add(facts.others);
-        assert!(rt; least <= counted.pops, "{}", case.name);
-        assert!(rt;
-            counted.pops <= least.saturating_add(facts.others),
-            "{}",
-            case.name
-        );
+        check_row(rt, alloc, row);
     }
 }
 
