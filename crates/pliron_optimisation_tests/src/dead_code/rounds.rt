@@ -193,7 +193,7 @@ fn keeps(
     rt: &impl Abort,
     alloc: Global,
     dead: &[Thing],
-    thing: Thing,
+    thing: &Thing,
     user: Ptr<Operation>,
     ctx: &Context,
 ) -> bool
@@ -202,7 +202,7 @@ fn keeps(
     for place in 0..user.num_operand(ctx) {
         let value = user.get_operand(ctx, place);
         if value.is_live(ctx)
-            && is_kept_by(thing, user, value, ctx)
+            && is_kept_by(*thing, user, value, ctx)
             && !is_dead_use(rt, alloc, dead, user, place, ctx)
         {
             return true;
@@ -217,7 +217,7 @@ fn is_kept(
     alloc: Global,
     things: &[Thing],
     dead: &[Thing],
-    thing: Thing,
+    thing: &Thing,
     ctx: &Context,
 ) -> bool {
     for other in things {
@@ -290,7 +290,7 @@ fn one_round(
     for thing in things {
         if !dead.contains(thing)
             && may_go(things, root, *thing, ctx)
-            && !is_kept(rt, alloc, things, dead, *thing, ctx)
+            && !is_kept(rt, alloc, things, dead, thing, ctx)
         {
             dead.push(*thing).expect(rt, "memory");
         }
