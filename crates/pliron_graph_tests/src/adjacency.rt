@@ -1,6 +1,7 @@
 //! Worked graphs by adjacency lists, and their reverse. The answers were worked out by hand or by a recursive
 //! search in another language.
-use crate::cases::{case_of, graph_of, question_of, rows_of};
+use crate::cases::{case_of, check_answer, graph_of, question_of, rows_of};
+use crate::dominance::{lists, worked};
 use crate::texts::answer;
 use pliron_graph::AdjacencyList;
 use std::alloc::Global;
@@ -87,13 +88,19 @@ fn check_case(rt: &impl Abort, alloc: Global, line: &str) {
     let case = case_of(rt, line);
     let (what, rows) = question_of(rt, &case);
     let graph = graph_of(rt, alloc, rows_of(rt, alloc, rows));
-    let text = answer(rt, alloc, &(), &graph, what);
-    assert_eq!(rt; text.trim(), case.want, "{}", case.name);
+    check_answer(rt, &case, &answer(rt, alloc, &(), &graph, what));
 }
 
 #[test]
 fn worked_graphs(rt: HostRuntime) {
-    for table in [GRAPHS, REVERSED] {
+    for table in [
+        GRAPHS,
+        REVERSED,
+        worked::FORWARDS,
+        worked::BACKWARDS,
+        lists::FORWARDS,
+        lists::BACKWARDS,
+    ] {
         for line in table.lines() {
             check_case(&rt, rt.alloc(), line);
         }

@@ -82,10 +82,7 @@ fn check_kind(
     want: Option<Ptr<Operation>>,
 ) {
     assert!(rt; nest.print.is_live(ctx));
-    assert_eq!(rt;
-        find_ancestor_of_op_type::<Bench>(ctx, nest.print, kind),
-        want
-    );
+    assert!(rt; find_ancestor_of_op_type::<Bench>(ctx, nest.print, kind) == want);
 }
 
 fn check_interface(
@@ -96,10 +93,7 @@ fn check_interface(
     want: Option<Ptr<Operation>>,
 ) {
     assert!(rt; nest.print.is_live(ctx));
-    assert_eq!(rt;
-        find_ancestor_of_op_interface::<Bench>(ctx, nest.print, interface),
-        want
-    );
+    assert!(rt; find_ancestor_of_op_interface::<Bench>(ctx, nest.print, interface) == want);
 }
 
 fn check_kinds(rt: &impl Abort, ctx: &Context, nest: &Nest) {
@@ -119,18 +113,9 @@ fn check_above(
     above: Ptr<Operation>,
 ) {
     assert!(rt; op.is_live(ctx));
-    assert_eq!(rt;
-        find_ancestor_op_of_op_in_region(ctx, op, nest.outer),
-        Some(above)
-    );
-    assert_eq!(rt;
-        find_ancestor_op_of_op_in_block(ctx, op, nest.body),
-        Some(above)
-    );
-    assert_eq!(rt;
-        find_ancestor_block_of_op_in_region(ctx, op, nest.outer),
-        Some(nest.body)
-    );
+    assert!(rt; find_ancestor_op_of_op_in_region(ctx, op, nest.outer) == Some(above));
+    assert!(rt; find_ancestor_op_of_op_in_block(ctx, op, nest.body) == Some(above));
+    assert!(rt; find_ancestor_block_of_op_in_region(ctx, op, nest.outer) == Some(nest.body));
 }
 
 // What is outside the inner region has no ancestor there.
@@ -155,10 +140,7 @@ fn check_operations(rt: &impl Abort, ctx: &Context, nest: &Nest) {
 
 fn check_block_above(rt: &impl Abort, ctx: &Context, nest: &Nest, block: Ptr<BasicBlock>) {
     assert!(rt; block.is_live(ctx));
-    assert_eq!(rt;
-        find_ancestor_block_of_block_in_region(ctx, block, nest.outer),
-        Some(nest.body)
-    );
+    assert!(rt; find_ancestor_block_of_block_in_region(ctx, block, nest.outer) == Some(nest.body));
 }
 
 fn check_precedes(
@@ -170,7 +152,7 @@ fn check_precedes(
 ) {
     assert!(rt; a.is_live(ctx));
     assert!(rt; b.is_live(ctx));
-    assert_eq!(rt; strictly_precedes_in_block(ctx, a, b), want);
+    assert!(rt; strictly_precedes_in_block(ctx, a, b) == want);
 }
 
 fn check_nest(rt: &impl Abort, ctx: &Context, nest: &Nest) {

@@ -27,6 +27,11 @@ pub fn case_of<'t>(rt: &impl Abort, line: &'t str) -> Case<'t> {
     }
 }
 
+/// Fails with the name of the case where the answer is another than it wants.
+pub fn check_answer(rt: &impl Abort, case: &Case, answer: &str) {
+    assert_eq!(rt; answer.trim(), case.want, "{}", case.name);
+}
+
 /// What the case asks, and of which graph.
 pub fn question_of<'t>(rt: &impl Abort, case: &Case<'t>) -> (&'t str, &'t str) {
     case.asked.split_once(": ").expect(rt, "a question")

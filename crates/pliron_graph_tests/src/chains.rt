@@ -19,20 +19,20 @@ fn chain(rt: &impl Abort, alloc: Global) -> AdjacencyList
 }
 
 fn check_order(rt: &impl Abort, order: &[u32]) {
-    assert_eq!(rt; order.len(), 65_536);
-    assert_eq!(rt; order.first(), Some(&65_535));
-    assert_eq!(rt; order.last(), Some(&0));
+    assert!(rt; order.len() == 65_536);
+    assert!(rt; order.first() == Some(&65_535));
+    assert!(rt; order.last() == Some(&0));
 }
 
 fn check_numbers(rt: &impl Abort, search: &DFSTraversal<u32>) {
     assert!(rt; search.is_reached(&65_535));
-    assert_eq!(rt; search.pre_order_number(&65_535), 65_535);
-    assert_eq!(rt; search.post_order_number(&65_535), 0);
+    assert!(rt; search.pre_order_number(&65_535) == 65_535);
+    assert!(rt; search.post_order_number(&65_535) == 0);
 }
 
 fn check_components(rt: &impl Abort, components: &[Scc<u32>]) {
-    assert_eq!(rt; components.len(), 65_536);
-    assert_eq!(rt; components[65_535].nodes.first(), Some(&65_535));
+    assert!(rt; components.len() == 65_536);
+    assert!(rt; components[65_535].nodes.first() == Some(&65_535));
     assert!(rt; !components[0].is_cyclic);
 }
 

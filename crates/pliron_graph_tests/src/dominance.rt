@@ -1,10 +1,12 @@
 //! Tests of `pliron_dominance`: worked graphs, all small graphs against dominance by removal, shapes and
 //! reverse graphs. It has no function of its own.
 #[cfg(test)]
-mod lists;
+pub mod lists;
 #[cfg(test)]
 mod removal;
 #[cfg(test)]
 mod shapes;
 #[cfg(test)]
-mod worked;
+pub mod trees;
+#[cfg(test)]
+pub mod worked;

@@ -1,4 +1,4 @@
-//! Tests of `pliron_graph`: worked graphs, all graphs of three nodes against tables and another method,
+//! Tests of `pliron_graph` and `pliron_dominance`: worked graphs, all graphs of three nodes against tables,
 //! regions, reverse graphs and searches for ancestors. It has no function of its own.
 //!
 //! A case is a line: what is asked of a graph, the graph, ` => ` and the answer as text.
@@ -14,8 +14,6 @@ mod cases;
 mod chains;
 #[cfg(test)]
 mod component_table;
-#[cfg(test)]
-mod components_by_low_numbers;
 #[cfg(test)]
 mod dominance;
 #[cfg(test)]

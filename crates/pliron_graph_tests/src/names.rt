@@ -11,34 +11,34 @@ use std::alloc::Global;
 use std::process::Abort;
 
 fn check_first(rt: &impl Abort, nodes: OrderIter<'_, u32>, want: Option<u32>, count: usize) {
-    assert_eq!(rt; nodes.len(), count);
+    assert!(rt; nodes.len() == count);
     let mut rest = nodes;
-    assert_eq!(rt; rest.next(), want);
+    assert!(rt; rest.next() == want);
 }
 
 fn check_last(rt: &impl Abort, nodes: ReverseOrderIter<'_, u32>, want: Option<u32>, count: usize) {
-    assert_eq!(rt; nodes.len(), count);
+    assert!(rt; nodes.len() == count);
     let mut rest = nodes;
-    assert_eq!(rt; rest.next(), want);
+    assert!(rt; rest.next() == want);
 }
 
 fn check_orders(rt: &impl Abort, alloc: Global, graph: &AdjacencyList)
     requires { AreInverse graph.now }
 {
     let order = post_order(alloc, &(), graph).expect(rt, "memory");
-    assert_eq!(rt; order.as_slice(), [1, 0].as_slice());
+    assert!(rt; order.as_slice() == [1, 0].as_slice());
     let order = topological_order(alloc, &(), graph).expect(rt, "memory");
-    assert_eq!(rt; order.as_slice(), [0, 1].as_slice());
+    assert!(rt; order.as_slice() == [0, 1].as_slice());
     let walks = post_order_by_component(alloc, &(), graph).expect(rt, "memory");
-    assert_eq!(rt; walks.len(), 1);
+    assert!(rt; walks.len() == 1);
     let walks = topological_order_by_component(alloc, &(), graph).expect(rt, "memory");
-    assert_eq!(rt; walks.len(), 1);
+    assert!(rt; walks.len() == 1);
 }
 
 // The first component.
 fn check_component(rt: &impl Abort, components: &[Scc<u32>]) {
     let Scc { nodes, is_cyclic } = components.first().expect(rt, "a component");
-    assert_eq!(rt; nodes.as_slice(), [0].as_slice());
+    assert!(rt; nodes.as_slice() == [0].as_slice());
     assert!(rt; *is_cyclic);
 }
 
@@ -56,7 +56,7 @@ fn check_entry<C, G: ControlFlowGraph<C, Node = u32>>(
 )
     requires { G.is_lawful graph.now ctx.now }
 {
-    assert_eq!(rt; graph.entry_node(ctx), entry);
+    assert!(rt; graph.entry_node(ctx) == entry);
 }
 
 fn check_reverse(rt: &impl Abort, reverse: &ReverseGraph<'_, AdjacencyList, ()>)
@@ -89,7 +89,7 @@ fn calls_on_a_graph(rt: HostRuntime) {
 
 fn check_label(rt: &impl Abort, alloc: Global, node: ReverseNode<u32>, want: &str) {
     let label = node.label(alloc, &()).expect(rt, "memory");
-    assert_eq!(rt; label.as_str(), want);
+    assert!(rt; label.as_str() == want);
 }
 
 #[test]
@@ -102,11 +102,11 @@ fn labels_of_reverse_nodes(rt: HostRuntime) {
 fn nodes_behind_reverse_nodes(rt: HostRuntime) {
     let sentinel: ReverseNode<u32> = ReverseNode::Sentinel;
     assert!(rt; sentinel.is_sentinel());
-    assert_eq!(rt; sentinel.into_real(), None);
+    assert!(rt; sentinel.into_real() == None);
     let real = ReverseNode::Real(7u32);
     assert!(rt; !real.is_sentinel());
-    assert_eq!(rt; real.as_real(), Some(&7));
-    assert_eq!(rt; real.into_real(), Some(7));
+    assert!(rt; real.as_real() == Some(&7));
+    assert!(rt; real.into_real() == Some(7));
 }
 
 #[test]

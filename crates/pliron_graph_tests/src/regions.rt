@@ -2,7 +2,7 @@
 ghost use Rattle.pliron_core.specs.Tree.{IsRegion};
 ghost use Rattle.pliron_traversal.specs.Regions.{IsLawfulRegion};
 
-use crate::cases::{case_of, question_of, rows_of};
+use crate::cases::{case_of, check_answer, question_of, rows_of};
 use crate::texts::answer;
 use pliron_core::{Attrs, BasicBlock, Context, Head, Operation, Ptr, Region};
 use pliron_laws::edges_last;
@@ -154,8 +154,7 @@ fn check_in(rt: &impl Abort, alloc: Global, ctx: &mut Context, line: &str) {
     let case = case_of(rt, line);
     let (what, rows) = question_of(rt, &case);
     let region = region_with(rt, alloc, ctx, rows);
-    let text = answer(rt, alloc, ctx, &region, what);
-    assert_eq!(rt; text.trim(), case.want, "{}", case.name);
+    check_answer(rt, &case, &answer(rt, alloc, ctx, &region, what));
 }
 
 // Each case has a context of its own, since the labels of blocks are numbers of the context.

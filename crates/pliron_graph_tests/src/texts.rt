@@ -1,9 +1,10 @@
-//! What the calls of `pliron_graph` answer on any graph, as text.
+//! What the calls of `pliron_graph` and `pliron_dominance` answer on any graph, as text.
 ghost use Rattle.std.specs.Iterator.{IsFinite};
 ghost use Rattle.std.specs.Option.{option_to_list};
 ghost use Rattle.std.specs.Prelude.{Contains};
 ghost use Rattle.pliron_traversal.specs.Search.{IsListed, IsSearch};
 
+use crate::dominance::trees::push_dominators;
 use pliron_graph::{
     ControlFlowGraph, DFSEdgeKind, DFSTraversal, HasLabel, ReverseGraph, Scc, post_order,
     post_order_by_component, sccs_in_topological_order, topological_order,
@@ -79,6 +80,8 @@ fn push_plain<C, G: ControlFlowGraph<C>>(
         "components" => push_components(rt, alloc, ctx, graph, text),
         "indices" => push_indices(rt, alloc, ctx, graph, text),
         "entry" => push_entry(rt, alloc, ctx, graph, text),
+        "immediate dominators" => push_dominators(rt, alloc, ctx, graph, false, text),
+        "children and dominators" => push_dominators(rt, alloc, ctx, graph, true, text),
         _ => push_neighbours(rt, alloc, ctx, graph, text),
     }
 }
