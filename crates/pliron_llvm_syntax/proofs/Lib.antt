@@ -1,0 +1,4 @@
+pub mod PartLemmas
+pub mod FormLemmas
+pub mod LineLemmas
+pub mod FaultLemmas

@@ -1,0 +1,19 @@
+//! What a text in LLVM's textual IR is made of: tokens, brackets with all that is in them, and the parts of a module,
+//! which are functions and the raw text between these.
+#![tactic(auto)]
+
+mod brackets;
+mod fault;
+mod forms;
+mod functions;
+mod lines;
+mod parts;
+mod tokens;
+
+pub use brackets::token_tree_at;
+pub use fault::{Expected, Fault};
+pub use forms::{Hole, HoleKind, are_holes, cut, fill, is_mark, num_mark};
+pub use functions::{FunctionText, function_at};
+pub use lines::{Line, split_lines};
+pub use parts::{Part, join_parts, split_text};
+pub use tokens::{Bracket, Span, Token, TokenKind, bytes_of, is_blank, is_word_byte, token_at};
