@@ -1,0 +1,17 @@
+//! Tests of texts in LLVM's textual IR. It has no function of its own.
+#![tactic(auto)]
+
+#[cfg(test)]
+mod bodies;
+#[cfg(test)]
+mod broken;
+#[cfg(test)]
+mod forms;
+#[cfg(test)]
+mod hostile;
+#[cfg(test)]
+mod lines;
+#[cfg(test)]
+mod parts;
+#[cfg(test)]
+mod tokens;
