@@ -8,7 +8,7 @@ use Rattle.pliron_core.specs.Invariant.{IsTree}
 use Rattle.pliron_core.specs.Edges.{succs_from}
 use Rattle.pliron_core.specs.Erased.{is_met_above, is_in_operation, IsInOperation, IsBlockWithin, IsDefinedInBlock, uses_dropped, names_dropped}
 use Rattle.pliron_core.proofs.TreeLemmas.{live-within}
-use Rattle.pliron_core.proofs.ClearedLemmas.{reported}
+use Rattle.pliron_core.proofs.ClearedLemmas.{true_or_false}
 use Rattle.pliron_core.proofs.DropLemmas.{IsNamesOnly, IsBare, names_none, names_trans, names_of_dropped, dropped_gone, dropped_kept}
 use Rattle.pliron_core.proofs.WithinLemmas.{holder_from, within_met, met_within, met_below, in_block_is, is_in_block}
 use Rattle.pliron_core.proofs.HoldingLemmas.{within_inside, holder_by}
@@ -25,7 +25,7 @@ drops_names (b ∷ rest) t u (Then _ _ more) = names_trans t (uses_dropped t b) 
 
 -- what names nothing goes on naming nothing
 still_bare : (t : Tree) (p : ℕ → Bool) (k : ℕ) → IsBare t k → IsBare (names_dropped t p) k
-still_bare t p k bare = ⊎_elim (λ e. dropped_gone t p k e) (λ e. let s = dropped_kept t p k e in (s.0 ∙ bare.0, s.1 ∙ bare.1)) (reported (is_met_above t p (Some k)))
+still_bare t p k bare = ⊎_elim (λ e. dropped_gone t p k e) (λ e. let s = dropped_kept t p k e in (s.0 ∙ bare.0, s.1 ∙ bare.1)) (true_or_false (is_met_above t p (Some k)))
 
 bare_on : (rest : List ℕ) (z u : Tree) (k : ℕ) → DropsAll rest z u → IsBare z k → IsBare u k
 bare_on [] z u k Done bare = bare
@@ -39,7 +39,7 @@ names_were t k (b ∷ rest) z u (Then _ _ more) =
     ⊎_elim
     (λ e. let bare = dropped_gone z (is_in_operation z b) k e in ((λ v i. absurd (subst (In v) bare.0 (after.0 v i))), (λ v i. absurd (subst (In v) bare.1 (after.1 v i)))))
     (λ e. let s = dropped_kept z (is_in_operation z b) k e in ((λ v i. subst (In v) s.0 (after.0 v i)), (λ v i. subst (In v) s.1 (after.1 v i))))
-    (reported (is_met_above z (is_in_operation z b) (Some k)))
+    (true_or_false (is_met_above z (is_in_operation z b) (Some k)))
 
 bare_by : (t : Tree) (k c : ℕ) (rest : List ℕ) (z u : Tree) → IsNamesOnly t z → DropsAll rest z u → In c rest → is_met_above t (is_in_operation t c) (Some k) ≡ true → IsBare u k
 bare_by t k c [] z u n Done i e = absurd i

@@ -8,7 +8,7 @@ use Rattle.pliron_core.specs.Invariant.{IsTree}
 use Rattle.pliron_core.specs.Reads.{has_ssa, has_ssa_at, ssa_in}
 use Rattle.pliron_core.specs.Edges.{succs_of, succs_from}
 use Rattle.pliron_core.specs.Erased.{IsInOperation}
-use Rattle.pliron_core.proofs.ClearedLemmas.{reported}
+use Rattle.pliron_core.proofs.ClearedLemmas.{true_or_false}
 use Rattle.pliron_core.proofs.ReadLemmas.{In-last}
 use Rattle.pliron_core.proofs.NeighbourLemmas.{first_of-In}
 use Rattle.pliron_core.proofs.WithinLemmas.{block_holder_from, holder_from}
@@ -128,7 +128,7 @@ module _ (t v : Tree) (w : IsTree t) (wv : IsTree v) (r0 : ℕ) (bs : List ℕ) 
     ssa_same = ap (has_ssa_at v) parent_same ∙ ap (λ z. ssa_in z.head) row_same ∙ sym (ap (has_ssa_at t) l.held)
 
     placed_was : (c : ℕ) → block_parent_of v c ≡ Some r → block_parent_of t c ≡ Some r
-    placed_was c e = ⊎_elim (λ d. absurd (not_none (sym (cut.detached_blocks c d) ∙ e))) (λ d. sym (cut.block_parents c d) ∙ e) (reported (cut_block t bs c))
+    placed_was c e = ⊎_elim (λ d. absurd (not_none (sym (cut.detached_blocks c d) ∙ e))) (λ d. sym (cut.block_parents c d) ∙ e) (true_or_false (cut_block t bs c))
 
     -- the entry is the same
     pub first_kept : (e : ℕ) → first_of (layout_of t r) None ≡ Some e → first_of (layout_of v r) None ≡ Some e

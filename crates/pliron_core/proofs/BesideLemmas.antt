@@ -17,7 +17,7 @@ use Rattle.pliron_core.proofs.HoldingLemmas.{some_is, slot_is, maker_is, region_
 use Rattle.pliron_core.proofs.InsideLemmas.{AreKeptOutside, same_change, change_of_kept}
 use Rattle.pliron_core.proofs.WriteInsideLemmas.{same_block, same_operation, push_other, grown_front}
 use Rattle.pliron_core.proofs.BlankLemmas.{blanked_gone, blanked_kept}
-use Rattle.pliron_core.proofs.ClearedLemmas.{reported, met_above, met_itself}
+use Rattle.pliron_core.proofs.ClearedLemmas.{true_or_false, met_above, met_itself}
 
 -- d is t with one more operation, n, which stands in no block
 pub record IsBeside (t d : Tree) (n : ℕ) : Type 0 where
@@ -187,7 +187,7 @@ module _ (t d : Tree) (n : ℕ) (w : IsTree t) (s : IsBeside t d n) where
     bodies = λ b. blanked_kept block_gone [] d.bodies b (block_stays b) ∙ s.bodies b;
     arguments = λ b. blanked_kept block_gone [] d.arguments b (block_stays b) ∙ s.arguments b;
     block_parents = λ b. blanked_kept block_gone None d.block_parents b (block_stays b) ∙ s.block_parents b;
-    layouts = λ r. layout r (reported (region_gone r));
+    layouts = λ r. layout r (true_or_false (region_gone r));
   }
     where
       deleted : ℕ → Bool
@@ -200,7 +200,7 @@ module _ (t d : Tree) (n : ℕ) (w : IsTree t) (s : IsBeside t d n) where
       region_gone = λ r. is_met_above d (nat_eq n) (region_parent_of d r)
 
       row : {A : Type 0} (none : A) (xs ys : List A) → ((k : ℕ) → k ≢ n → get_or xs k none ≡ get_or ys k none) → get_or ys n none ≡ none → (k : ℕ) → get_or (blank_at deleted none xs) k none ≡ get_or ys k none
-      row none xs ys same empty k = go (reported (deleted k))
+      row none xs ys same empty k = go (true_or_false (deleted k))
         where
           go : (deleted k ≡ true) ⊎ (deleted k ≡ false) → get_or (blank_at deleted none xs) k none ≡ get_or ys k none
           go (inl e) =
@@ -210,7 +210,7 @@ module _ (t d : Tree) (n : ℕ) (w : IsTree t) (s : IsBeside t d n) where
           go (inr e) = blanked_kept deleted none xs k e ∙ same k (λ here. true≢false (sym (ap deleted here ∙ met_itself d n s.key) ∙ e))
 
       block_stays : (b : ℕ) → block_gone b ≡ false
-      block_stays b = go (reported (block_gone b))
+      block_stays b = go (true_or_false (block_gone b))
         where
           go : (block_gone b ≡ true) ⊎ (block_gone b ≡ false) → block_gone b ≡ false
           go (inl e) = let m = met_above d n (block_parent_operation_of d b) e in absurd (holds_no_block b (m.1 ∙ ap Some (within_new m.0 m.2)))

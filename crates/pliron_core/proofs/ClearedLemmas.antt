@@ -5,9 +5,9 @@ use Rattle.pliron_core.specs.Tree.{Tree, parent_operation_of, IsWithin}
 use Rattle.pliron_core.specs.Erased.{is_met, is_met_above, is_in_operation, IsInOperation}
 use Rattle.pliron_core.proofs.WithinLemmas.{within_is, in_block_is}
 
-pub reported : (b : Bool) → (b ≡ true) ⊎ (b ≡ false)
-reported true = inl refl
-reported false = inr refl
+pub true_or_false : (b : Bool) → (b ≡ true) ⊎ (b ≡ false)
+true_or_false true = inl refl
+true_or_false false = inr refl
 
 -- an entry that is blanked is blank
 pub blank_set : {A : Type 0} (none : A) (xs : List A) (k : ℕ) → get_or (slice_set xs k none) k none ≡ none

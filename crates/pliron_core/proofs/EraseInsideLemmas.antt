@@ -12,7 +12,7 @@ use Rattle.pliron_core.proofs.HoldingLemmas.{some_is, not_none, past_live, insid
 use Rattle.pliron_core.proofs.InsideLemmas.{AreKeptOutside, change_of_kept}
 use Rattle.pliron_core.proofs.WriteInsideLemmas.{same_block, same_operation}
 use Rattle.pliron_core.proofs.BlankLemmas.{blanked_gone, blanked_kept}
-use Rattle.pliron_core.proofs.ClearedLemmas.{reported, blank_set, met_above, met_block, met_itself}
+use Rattle.pliron_core.proofs.ClearedLemmas.{true_or_false, blank_set, met_above, met_block, met_itself}
 
 -- where rows and blocks are as before or gone, nothing comes to stand outside anything
 module _ (t u : Tree) (wu : IsJoined u)
@@ -109,14 +109,14 @@ module _ (t : Tree) (op x from : ℕ) (w : IsTree t) (there : parent_of t x ≡ 
   erased_change wu = change_of_kept t without_it op w.joined kept (fewer_operations t without_it wu rows blocks (λ r. refl) op) (fewer_blocks t without_it wu rows blocks (λ r. refl) op)
     where
       rows : (y : ℕ) → ((row_of without_it y ≡ row_of t y) × (parent_of without_it y ≡ parent_of t y)) ⊎ (row_of without_it y ≡ no_entry)
-      rows y = go (reported (deleted y))
+      rows y = go (true_or_false (deleted y))
         where
           go : (deleted y ≡ true) ⊎ (deleted y ≡ false) → ((row_of without_it y ≡ row_of t y) × (parent_of without_it y ≡ parent_of t y)) ⊎ (row_of without_it y ≡ no_entry)
           go (inl e) = inr (blanked_gone deleted no_entry t.operations y e)
           go (inr f) = inl (blanked_kept deleted no_entry t.operations y f, parent_stays y f)
 
       blocks : (b : ℕ) → (block_parent_of without_it b ≡ block_parent_of t b) ⊎ (block_parent_of without_it b ≡ None)
-      blocks b = go (reported (block_gone b))
+      blocks b = go (true_or_false (block_gone b))
         where
           go : (block_gone b ≡ true) ⊎ (block_gone b ≡ false) → (block_parent_of without_it b ≡ block_parent_of t b) ⊎ (block_parent_of without_it b ≡ None)
           go (inl e) = inr (blanked_gone block_gone None t.block_parents b e)
@@ -203,14 +203,14 @@ module _ (t : Tree) (op block region : ℕ) (w : IsTree t) (there : block_parent
   block_erased_change wu = change_of_kept t without_block op w.joined kept (fewer_operations t without_block wu rows blocks (λ r. refl) op) (fewer_blocks t without_block wu rows blocks (λ r. refl) op)
     where
       rows : (y : ℕ) → ((row_of without_block y ≡ row_of t y) × (parent_of without_block y ≡ parent_of t y)) ⊎ (row_of without_block y ≡ no_entry)
-      rows y = go (reported (inner y))
+      rows y = go (true_or_false (inner y))
         where
           go : (inner y ≡ true) ⊎ (inner y ≡ false) → ((row_of without_block y ≡ row_of t y) × (parent_of without_block y ≡ parent_of t y)) ⊎ (row_of without_block y ≡ no_entry)
           go (inl e) = inr (blanked_gone inner no_entry t.operations y e)
           go (inr f) = inl (blanked_kept inner no_entry t.operations y f, blanked_kept inner None t.parents y f)
 
       blocks : (b : ℕ) → (block_parent_of without_block b ≡ block_parent_of t b) ⊎ (block_parent_of without_block b ≡ None)
-      blocks b = go (cases_eq b block) (reported (inner_block b))
+      blocks b = go (cases_eq b block) (true_or_false (inner_block b))
         where
           go : (b ≡ block) ⊎ (b ≢ block) → (inner_block b ≡ true) ⊎ (inner_block b ≡ false) → (block_parent_of without_block b ≡ block_parent_of t b) ⊎ (block_parent_of without_block b ≡ None)
           go (inl s) d = inr (ap (block_parent_of without_block) s ∙ blank_set None (blank_at inner_block None t.block_parents) block)

@@ -15,7 +15,7 @@ pub record HaveSameKeys (t : Tree) : Type 0 where
   pub block_parents : length t.block_parents ≡ length t.bodies
   pub slots : length t.slots ≡ length t.layouts
 
--- there are fewer than 2 ^ 64 handles of each kind
+-- the handles of each kind that were ever given out are fewer than 2 ^ 64 (the limit of a context is key_limit)
 pub record HaveFewKeys (t : Tree) : Type 0 where
   pub operations : length t.operations < 2 ^ 64
   pub blocks : length t.bodies < 2 ^ 64

@@ -60,7 +60,9 @@ pub struct OperationEntry {
 
 /// Operations, blocks, regions and values, each named by its handle.
 ///
-/// A handle is an index into each table of its kind, and no handle is given out twice:
+/// A handle is an index into each table of its kind, and no handle is given out twice. A context gives out at most
+/// 4,294,967,295 handles of each kind in its life, those of what was erased among them; a call that needs one more
+/// answers `NoMemory`:
 ///
 /// ```text
 /// operation o   operations[o] = head, results, regions      operands:   o -> values, and back
@@ -132,7 +134,8 @@ impl Context {
     }
 
     /// The law of every context: its tables are those of a tree, its lists of uses have each use once, and
-    /// there are fewer than 2^64 handles of each kind. It changes nothing. Cost: constant.
+    /// the handles of each kind that were ever given out are fewer than 2^64 (at most 4,294,967,295, as `Context`
+    /// says). It changes nothing. Cost: constant.
     pub fn well_formed(&self)
         ensures tree { IsTree self.now.tree }
         ensures uses { HaveUses self.now }

@@ -10,7 +10,7 @@ use Rattle.pliron_core.specs.Changes.{IsSameTree}
 use Rattle.pliron_core.specs.Writes.{taken_from}
 use Rattle.pliron_core.specs.Erased.{is_met_above, blank_at, after_clearing, after_erasing, IsSelfContained}
 use Rattle.pliron_core.proofs.BlankLemmas.{blanked_gone, blanked_kept}
-use Rattle.pliron_core.proofs.ClearedLemmas.{reported, met_above}
+use Rattle.pliron_core.proofs.ClearedLemmas.{true_or_false, met_above}
 use Rattle.pliron_core.proofs.TreeLemmas.{cases_lt, block-within}
 use Rattle.pliron_core.proofs.HoldingLemmas.{some_is, not_none, past_live, region_live, result_live, argument_stands, slot_is, region_by, maker_is, region_parent_is, block_held, holder_live, inside_by}
 use Rattle.pliron_core.proofs.WithinLemmas.{is_within, within_is}
@@ -109,13 +109,13 @@ module _ (t u : Tree) (root : ℕ) (wt : IsTree t) (wu : IsTree u) (g : IsGrown 
   op_table d xs ys keeps count dead k = ⊎_elim old new (cases_lt k root)
     where
       old : k < root → get_or (blank_at (λ x. deleted (Some x)) d ys) k d ≡ get_or xs k d
-      old lt = ⊎_elim (λ e. absurd (old_not_within k lt (within_is u root k e))) (λ e. blanked_kept (λ x. deleted (Some x)) d ys k e ∙ keeps-old xs ys k d (subst (λ z. k < z) (sym count) lt) keeps) (reported (deleted (Some k)))
+      old lt = ⊎_elim (λ e. absurd (old_not_within k lt (within_is u root k e))) (λ e. blanked_kept (λ x. deleted (Some x)) d ys k e ∙ keeps-old xs ys k d (subst (λ z. k < z) (sym count) lt) keeps) (true_or_false (deleted (Some k)))
 
       nothing : deleted (Some k) ≡ false → root ≤ k → get_or ys k d ≡ d
       nothing e from = ⊎_elim (λ live. absurd (true≢false (sym (is_within u root k wu.joined g.live (new_within k live from)) ∙ e))) (λ no. dead k no) (live_or k)
 
       new : root ≤ k → get_or (blank_at (λ x. deleted (Some x)) d ys) k d ≡ get_or xs k d
-      new from = ⊎_elim (λ e. blanked_gone (λ x. deleted (Some x)) d ys k e) (λ e. blanked_kept (λ x. deleted (Some x)) d ys k e ∙ nothing e from) (reported (deleted (Some k))) ∙ sym (get_or_past xs k d (subst (λ z. z ≤ k) (sym count) from))
+      new from = ⊎_elim (λ e. blanked_gone (λ x. deleted (Some x)) d ys k e) (λ e. blanked_kept (λ x. deleted (Some x)) d ys k e ∙ nothing e from) (true_or_false (deleted (Some k))) ∙ sym (get_or_past xs k d (subst (λ z. z ≤ k) (sym count) from))
 
   dead_parent : (k : ℕ) → (IsLive u k → ⊥) → parent_of u k ≡ None
   dead_parent k dead = go (parent_of u k) refl
@@ -182,13 +182,13 @@ module _ (t u : Tree) (root : ℕ) (wt : IsTree t) (wu : IsTree u) (g : IsGrown 
   block_table d xs ys keeps count dead b = ⊎_elim old new (cases_lt b (length t.bodies))
     where
       old : b < length t.bodies → get_or (blank_at (λ x. deleted (block_parent_operation_of u x)) d ys) b d ≡ get_or xs b d
-      old lt = ⊎_elim (λ e. absurd (kept_block b lt e)) (λ e. blanked_kept (λ x. deleted (block_parent_operation_of u x)) d ys b e ∙ keeps-old xs ys b d (subst (λ z. b < z) (sym count) lt) keeps) (reported (deleted (block_parent_operation_of u b)))
+      old lt = ⊎_elim (λ e. absurd (kept_block b lt e)) (λ e. blanked_kept (λ x. deleted (block_parent_operation_of u x)) d ys b e ∙ keeps-old xs ys b d (subst (λ z. b < z) (sym count) lt) keeps) (true_or_false (deleted (block_parent_operation_of u b)))
 
       nothing : deleted (block_parent_operation_of u b) ≡ false → length t.bodies ≤ b → get_or ys b d ≡ d
       nothing e from = ⊎_elim (λ is. absurd (true≢false (sym (new_block b from is) ∙ e))) (λ no. dead b no) (block_or b)
 
       new : length t.bodies ≤ b → get_or (blank_at (λ x. deleted (block_parent_operation_of u x)) d ys) b d ≡ get_or xs b d
-      new from = ⊎_elim (λ e. blanked_gone (λ x. deleted (block_parent_operation_of u x)) d ys b e) (λ e. blanked_kept (λ x. deleted (block_parent_operation_of u x)) d ys b e ∙ nothing e from) (reported (deleted (block_parent_operation_of u b))) ∙ sym (get_or_past xs b d (subst (λ z. z ≤ b) (sym count) from))
+      new from = ⊎_elim (λ e. blanked_gone (λ x. deleted (block_parent_operation_of u x)) d ys b e) (λ e. blanked_kept (λ x. deleted (block_parent_operation_of u x)) d ys b e ∙ nothing e from) (true_or_false (deleted (block_parent_operation_of u b))) ∙ sym (get_or_past xs b d (subst (λ z. z ≤ b) (sym count) from))
 
   -- a region with a block stands
   filled : (w : Tree) → IsTree w → (r b : ℕ) (bs : List ℕ) → layout_of w r ≡ b ∷ bs → IsRegion w r
@@ -198,7 +198,7 @@ module _ (t u : Tree) (root : ℕ) (wt : IsTree t) (wu : IsTree u) (g : IsGrown 
   layout_table r = ⊎_elim old new (cases_lt r (length t.layouts))
     where
       both : (xs : List ℕ) → layout_of u r ≡ xs → (deleted (region_parent_of u r) ≡ true → xs ≡ []) → get_or (blank_at (λ x. deleted (region_parent_of u x)) [] u.layouts) r [] ≡ xs
-      both xs e none = ⊎_elim (λ h. blanked_gone (λ x. deleted (region_parent_of u x)) [] u.layouts r h ∙ sym (none h)) (λ h. blanked_kept (λ x. deleted (region_parent_of u x)) [] u.layouts r h ∙ e) (reported (deleted (region_parent_of u r)))
+      both xs e none = ⊎_elim (λ h. blanked_gone (λ x. deleted (region_parent_of u x)) [] u.layouts r h ∙ sym (none h)) (λ h. blanked_kept (λ x. deleted (region_parent_of u x)) [] u.layouts r h ∙ e) (true_or_false (deleted (region_parent_of u r)))
 
       not_gone : IsRegion t r → deleted (region_parent_of u r) ≡ true → ⊥
       not_gone is h =
@@ -219,7 +219,7 @@ module _ (t u : Tree) (root : ℕ) (wt : IsTree t) (wu : IsTree u) (g : IsGrown 
       empty h from (b ∷ bs) e = absurd (true≢false (sym (new_region r from (filled u wu r b bs e)) ∙ h))
 
       new : length t.layouts ≤ r → get_or (blank_at (λ x. deleted (region_parent_of u x)) [] u.layouts) r [] ≡ layout_of t r
-      new from = ⊎_elim (λ h. blanked_gone (λ x. deleted (region_parent_of u x)) [] u.layouts r h) (λ h. blanked_kept (λ x. deleted (region_parent_of u x)) [] u.layouts r h ∙ empty h from (layout_of u r) refl) (reported (deleted (region_parent_of u r))) ∙ sym (get_or_past t.layouts r [] from)
+      new from = ⊎_elim (λ h. blanked_gone (λ x. deleted (region_parent_of u x)) [] u.layouts r h) (λ h. blanked_kept (λ x. deleted (region_parent_of u x)) [] u.layouts r h ∙ empty h from (layout_of u r) refl) (true_or_false (deleted (region_parent_of u r))) ∙ sym (get_or_past t.layouts r [] from)
 
   cleared-same : IsSameTree t (after_clearing u (nat_eq root))
   cleared-same = record {
