@@ -5,8 +5,8 @@ use Rattle.pliron_core.specs.Tree.{Tree, operands_of}
 use Rattle.pliron_laws.specs.Tree.{shape_of}
 use Rattle.pliron_laws.specs.Answers.{ReadsHead}
 use Rattle.pliron_laws.proofs.ShapeLemmas.{head_at, operands_at}
-use Rattle.pliron_operand_folding.specs.declared.OpFoldResult.{OpFoldResult}
-use Rattle.pliron_operand_folding.specs.OperandFolding.{ReadsOperands}
+use Rattle.pliron_laws.specs.declared.operand_folds.OpFoldResult.{OpFoldResult}
+use Rattle.pliron_laws.specs.OperandFolding.{ReadsOperands}
 use Rattle.pliron_bench.specs.declared.kind.BenchKind.{BenchKind}
 use Rattle.pliron_bench.specs.Bench.{by_kind, kind_of}
 use Rattle.pliron_bench.specs.BenchMoves.{bench}

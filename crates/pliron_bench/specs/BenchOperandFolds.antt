@@ -2,9 +2,9 @@
 use Rattle.std.specs.Prelude.{ℕ, nat_eq, if◌then◌else◌, Bool, false, List, [], ◌∷◌, Option, Some, None, slice_index_or, pos}
 use Rattle.pliron_core.specs.declared.attrs.AttrObj.{AttrObj}
 use Rattle.pliron_core.specs.declared.attrs.AttrObj.TheVariants.{Int, Text as Words}
-use Rattle.pliron_operand_folding.specs.declared.OpFoldResult.{OpFoldResult}
-use Rattle.pliron_operand_folding.specs.declared.OpFoldResult.TheVariants.{Operand, Constant}
-use Rattle.pliron_operand_folding.specs.OperandFolding.{OperandFolds}
+use Rattle.pliron_laws.specs.declared.operand_folds.OpFoldResult.{OpFoldResult}
+use Rattle.pliron_laws.specs.declared.operand_folds.OpFoldResult.TheVariants.{Operand, Constant}
+use Rattle.pliron_laws.specs.OperandFolding.{OperandFolds}
 use Rattle.pliron_bench.specs.declared.kind.BenchKind.{BenchKind}
 use Rattle.pliron_bench.specs.declared.kind.BenchKind.TheVariants.{Mul, Div}
 use Rattle.pliron_bench.specs.Bench.{by_kind, kind_of}

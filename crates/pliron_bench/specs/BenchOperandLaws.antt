@@ -9,9 +9,9 @@ use Rattle.pliron_core.specs.declared.attrs.AttrObj.{AttrObj}
 use Rattle.pliron_core.specs.declared.attrs.AttrObj.TheVariants.{Int, Text as Words}
 use Rattle.pliron_laws.specs.Datum.{Datum, Number, datum_of, Shape, Move, Give, Visit, Goto, Leave, Emit, Trap}
 use Rattle.pliron_laws.specs.Acting.{Known}
-use Rattle.pliron_operand_folding.specs.declared.OpFoldResult.{OpFoldResult}
-use Rattle.pliron_operand_folding.specs.declared.OpFoldResult.TheVariants.{Operand, Constant}
-use Rattle.pliron_operand_folding.specs.OperandFolding.{AreSameData, datum_by, IsWithin, AnswersOperand, AnswersOperands}
+use Rattle.pliron_laws.specs.declared.operand_folds.OpFoldResult.{OpFoldResult}
+use Rattle.pliron_laws.specs.declared.operand_folds.OpFoldResult.TheVariants.{Operand, Constant}
+use Rattle.pliron_laws.specs.OperandFolding.{AreSameData, datum_by, IsWithin, AnswersOperand, AnswersOperands}
 use Rattle.pliron_bench.specs.declared.kind.BenchKind.{BenchKind}
 use Rattle.pliron_bench.specs.declared.kind.BenchKind.TheVariants.{Mul, Div}
 use Rattle.pliron_bench.specs.Bench.{by_kind, kind_of}

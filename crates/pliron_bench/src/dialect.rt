@@ -8,6 +8,7 @@ ghost use Rattle.pliron_bench.specs.BenchOutcomes.{bench_outcome, bench_branch_o
 ghost use Rattle.pliron_bench.specs.BenchLaws.{bench_counts, bench_effects, bench_arguments, bench_makes};
 ghost use Rattle.pliron_bench.specs.BenchEntries.{bench_names, bench_roots};
 ghost use Rattle.pliron_bench.specs.BenchFolds.{bench_answers, bench_jumps};
+ghost use Rattle.pliron_bench.specs.BenchOperandLaws.{bench_operands};
 ghost use Rattle.pliron_bench.specs.BenchRemoval.{bench_forwards};
 ghost use Rattle.pliron_bench.specs.BenchInPlace.{bench_in_place};
 
@@ -410,6 +411,8 @@ impl Dialect for Bench {
     ghost acts_without_argument = { bench_arguments };
 
     ghost answers_true = { bench_answers };
+
+    ghost answers_operands = { bench_operands };
 
     ghost answers_jumps = { bench_jumps };
 

@@ -6,14 +6,12 @@ ghost use Rattle.pliron_laws.specs.declared.fault.OptError.{OptError as FaultNam
 ghost use Rattle.pliron_bench.specs.Bench.{kind_of};
 ghost use Rattle.pliron_bench.specs.BenchMoves.{bench};
 ghost use Rattle.pliron_bench.specs.BenchOperandFolds.{is_known_zero, are_same, product_fold as product_fold_in, quotient_fold as quotient_fold_in, operand_folds_of, bench_operand_folds};
-ghost use Rattle.pliron_bench.specs.BenchOperandLaws.{bench_operands};
 
 use crate::dialect::Bench;
 use crate::kind::BenchKind;
 use crate::tables::kind_at;
 use pliron_core::{AttrObj, Context, Operation, Ptr};
-use pliron_laws::OptError;
-use pliron_operand_folding::{OpFoldResult, OperandFoldInterface};
+use pliron_laws::{OpFoldResult, OperandFoldInterface, OptError};
 use std::alloc::{AllocFailed, Global};
 
 // Whether the operand at this place is known to be the number 0.
@@ -120,6 +118,4 @@ impl OperandFoldInterface for Bench {
             None => Ok(Vec::new(alloc)),
         }
     }
-
-    ghost answers_operands = { bench_operands };
 }

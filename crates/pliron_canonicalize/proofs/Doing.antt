@@ -17,7 +17,7 @@ use Rattle.pliron_laws.specs.Folding.{AnswersTrue, Constants, MakesConstants}
 use Rattle.pliron_laws.specs.Laws.{ForwardsOperands, GivesAtOnce}
 use Rattle.pliron_laws.specs.Linked.{IsWellLinked}
 use Rattle.pliron_theory.proofs.FollowedFacts.{constants_plain}
-use Rattle.pliron_operand_folding.specs.OperandFolding.{AnswersOperands, OperandFolds}
+use Rattle.pliron_laws.specs.OperandFolding.{AnswersOperands, OperandFolds}
 use Rattle.pliron_canonicalize.proofs.Parts.{folding}
 use Rattle.pliron_laws.proofs.LinkedLemmas.{linked_same}
 use Rattle.pliron_block_laws.proofs.RewriteLinks.{replaced_links}
@@ -25,8 +25,8 @@ use Rattle.pliron_theory.specs.Change.{IsWholeChange}
 use Rattle.pliron_theory.specs.Edges.{has_entries}
 use Rattle.pliron_theory.proofs.EdgeLemmas.{edges_same, edges_transitive}
 use Rattle.pliron_theory.proofs.WholeChanges.{same_whole, whole_refl, whole_trans}
-use Rattle.pliron_operand_folding.specs.declared.OpFoldResult.{OpFoldResult}
-use Rattle.pliron_operand_folding.specs.declared.OpFoldResult.TheVariants.{Operand, Constant}
+use Rattle.pliron_laws.specs.declared.operand_folds.OpFoldResult.{OpFoldResult}
+use Rattle.pliron_laws.specs.declared.operand_folds.OpFoldResult.TheVariants.{Operand, Constant}
 use Rattle.pliron_operand_laws.specs.Answers.{Folding}
 use Rattle.pliron_operand_laws.specs.Answered.{after_folding}
 use Rattle.pliron_operand_laws.proofs.Answered.{AreLawful}

@@ -3,7 +3,7 @@ use Rattle.std.proofs.Common.{Bool, Option}
 use Rattle.pliron_core.specs.declared.attrs.AttrObj.{AttrObj}
 use Rattle.pliron_laws.specs.Datum.{Head, Meaning}
 use Rattle.pliron_laws.specs.Folding.{Constants}
-use Rattle.pliron_operand_folding.specs.OperandFolding.{OperandFolds}
+use Rattle.pliron_laws.specs.OperandFolding.{OperandFolds}
 use Rattle.pliron_operand_laws.specs.Answers.{Folding}
 
 abbrev pub folding : Meaning → (Head → Option Bool) → (Head → Bool) → Constants → (AttrObj → Bool) → (AttrObj → Head) → OperandFolds → Folding

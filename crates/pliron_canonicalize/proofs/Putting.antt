@@ -13,8 +13,8 @@ use Rattle.pliron_theory.specs.Rewrites.{ReplacesResult}
 use Rattle.pliron_laws.specs.Linked.{IsAdmitted}
 use Rattle.pliron_laws.specs.Tree.{Operation, op_at}
 use Rattle.pliron_laws.proofs.Records.{make_op, operation_of}
-use Rattle.pliron_operand_folding.specs.declared.OpFoldResult.{OpFoldResult}
-use Rattle.pliron_operand_folding.specs.declared.OpFoldResult.TheVariants.{Operand, Constant}
+use Rattle.pliron_laws.specs.declared.operand_folds.OpFoldResult.{OpFoldResult}
+use Rattle.pliron_laws.specs.declared.operand_folds.OpFoldResult.TheVariants.{Operand, Constant}
 use Rattle.pliron_operand_laws.specs.Answers.{Folding, IsAnswered, operand_answers, constant_answers}
 use Rattle.pliron_operand_laws.specs.Answered.{HasAnswer, IsMade, MayFold}
 use Rattle.pliron_operand_laws.proofs.Answered.{AreLawful}

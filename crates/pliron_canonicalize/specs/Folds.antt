@@ -6,7 +6,7 @@ use Rattle.pliron_core.specs.Changes.{IsSameTree}
 use Rattle.pliron_core.specs.Tree.{Tree, In, operands_of, parent_of}
 use Rattle.pliron_core.specs.Writes.{after_replacing}
 use Rattle.pliron_laws.specs.Datum.{Meaning}
-use Rattle.pliron_operand_folding.specs.declared.OpFoldResult.{OpFoldResult}
+use Rattle.pliron_laws.specs.declared.operand_folds.OpFoldResult.{OpFoldResult}
 use Rattle.pliron_operand_laws.specs.Answers.{Folding}
 use Rattle.pliron_operand_laws.specs.Answered.{HasAnswer, IsMade, after_folding}
 use Rattle.pliron_argument_laws.specs.OneValue.{IsOneValue}

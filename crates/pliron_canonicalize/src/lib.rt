@@ -23,8 +23,7 @@ mod sweep;
 use crate::rounds::fold_all;
 use crate::sites::visited_sites;
 use pliron_core::{Context, IRRewriter, IRStatus, Operation, Ptr, Rewriter};
-use pliron_laws::{OptError, Room};
-use pliron_operand_folding::OperandFoldInterface;
+use pliron_laws::{Dialect, OptError, Room};
 use pliron_operand_laws::HasOperandFolding;
 use std::alloc::Global;
 
@@ -52,7 +51,7 @@ use std::alloc::Global;
 /// to. What a fold changes is visited again, and nothing else, where the dialect's `forwarded_from` reports it: else
 /// all is, as often as that lessens the count of used values that may fold. A use is moved once for each value that it
 /// becomes a use of, so arguments of n nested loops, of which the inner ones fold first, take n squared moves.
-pub fn canonicalize<D: OperandFoldInterface>(
+pub fn canonicalize<D: Dialect>(
     alloc: Global,
     op: Ptr<Operation>,
     ctx: &mut Context,
@@ -80,7 +79,7 @@ pub fn canonicalize<D: OperandFoldInterface>(
 ///
 /// Asks that the operation is live and is well linked. Errors: as `canonicalize`, and where the rewriter has no room.
 /// Cost: as `canonicalize`, and what the rewriter does at each change.
-pub fn canonicalize_through<D: OperandFoldInterface, R: Rewriter + Room>(
+pub fn canonicalize_through<D: Dialect, R: Rewriter + Room>(
     alloc: Global,
     op: Ptr<Operation>,
     ctx: &mut Context,

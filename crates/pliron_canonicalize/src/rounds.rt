@@ -14,7 +14,6 @@ use crate::sweep::{fold_value, is_change, sweep, value_count};
 use indexmap::IndexSet;
 use pliron_core::{Context, IRStatus, Operation, Ptr, Rewriter};
 use pliron_laws::{Dialect, OptError, Room};
-use pliron_operand_folding::OperandFoldInterface;
 use pliron_operand_laws::HasOperandFolding;
 use std::alloc::Global;
 
@@ -108,7 +107,7 @@ fn next_round<D: Dialect>(
 }
 
 // The value at the site of this place with this index folds, if there is one and it is used.
-fn fold_at<D: OperandFoldInterface, R: Rewriter + Room>(
+fn fold_at<D: Dialect, R: Rewriter + Room>(
     moved: &mut MovedUses,
     root: Ptr<Operation>,
     sites: &[Site],
@@ -138,7 +137,7 @@ fn fold_at<D: OperandFoldInterface, R: Rewriter + Room>(
 }
 
 // The values of the round fold, one after the other.
-fn fold_round<D: OperandFoldInterface, R: Rewriter + Room>(
+fn fold_round<D: Dialect, R: Rewriter + Room>(
     moved: &mut MovedUses,
     root: Ptr<Operation>,
     sites: &[Site],
@@ -165,7 +164,7 @@ fn fold_round<D: OperandFoldInterface, R: Rewriter + Room>(
 }
 
 // Round after round over what the moved uses may make fold, until none of that does.
-fn fold_rounds<D: OperandFoldInterface, R: Rewriter + Room>(
+fn fold_rounds<D: Dialect, R: Rewriter + Room>(
     moved: &mut MovedUses,
     root: Ptr<Operation>,
     sites: &[Site],
@@ -200,7 +199,7 @@ fn fold_rounds<D: OperandFoldInterface, R: Rewriter + Room>(
 /// Asks that the root is live and is well linked, and that the sites are seen in it. Errors: allocation failure, after
 /// some whole folds. Cost: that of the sweep, and for each use that is moved that of visiting the results of its
 /// operation, or the argument to which that forwards it.
-pub fn sweep_in_rounds<D: OperandFoldInterface, R: Rewriter + Room>(
+pub fn sweep_in_rounds<D: Dialect, R: Rewriter + Room>(
     moved: &mut MovedUses,
     root: Ptr<Operation>,
     sites: &[Site],
@@ -230,7 +229,7 @@ pub fn sweep_in_rounds<D: OperandFoldInterface, R: Rewriter + Room>(
 /// operation that has operands. Errors: allocation failure, after some whole folds. Cost: that of as many sweeps in
 /// rounds as lessen the count of values that may fold, and one more: of two, where the dialect reports for each operand
 /// of a branch where it is forwarded to.
-pub fn fold_all<D: OperandFoldInterface, R: Rewriter + Room>(
+pub fn fold_all<D: Dialect, R: Rewriter + Room>(
     alloc: Global,
     root: Ptr<Operation>,
     sites: &[Site],

@@ -6,7 +6,7 @@ ghost use Rattle.pliron_core.specs.Tree.{In, IsDefined, IsLive, operands_of, res
 ghost use Rattle.pliron_core.specs.Writes.{after_replacing};
 ghost use Rattle.pliron_laws.specs.Linked.{IsWellLinked, IsAdmitted};
 ghost use Rattle.pliron_theory.specs.Rewrites.{IsConstant, ReplacesResult};
-ghost use Rattle.pliron_operand_folding.specs.declared.OpFoldResult.TheVariants.{Operand as OperandAnswer};
+ghost use Rattle.pliron_laws.specs.declared.operand_folds.OpFoldResult.TheVariants.{Operand as OperandAnswer};
 ghost use Rattle.pliron_operand_laws.specs.Answered.{HasAnswer, MayFold, UsesItself};
 ghost use Rattle.pliron_canonicalize.specs.Sites.{AreListed, IsAmong, IsLiveSite, IsSeenAt, index_of, site_of, values_at};
 ghost use Rattle.pliron_canonicalize.specs.Steps.{AreAnswers, PutsAnswer, FoldsResult, IsUndone, AreDone, AreDonePartly};
@@ -15,8 +15,7 @@ use crate::arguments::fold_argument;
 use crate::moved_uses::MovedUses;
 use crate::sites::Site;
 use pliron_core::{AttrObj, Context, Def, IRStatus, Operation, Ptr, Rewriter, Value};
-use pliron_laws::{OptError, Room};
-use pliron_operand_folding::{OpFoldResult, OperandFoldInterface};
+use pliron_laws::{Dialect, OpFoldResult, OptError, Room};
 use pliron_operand_laws::HasOperandFolding;
 use pliron_operand_laws::answers::{constant_answers, operand_answers};
 use pliron_operand_laws::rewrites::replace_result_by_operand;
@@ -70,7 +69,7 @@ pub fn is_change(status: IRStatus) -> bool
 }
 
 // The uses of the result with this index become uses of the operand at this place, and are noted.
-fn move_to_operand<D: OperandFoldInterface, R: Rewriter + Room>(
+fn move_to_operand<D: Dialect, R: Rewriter + Room>(
     moved: &mut MovedUses,
     op: Ptr<Operation>,
     index: usize,
@@ -95,7 +94,7 @@ fn move_to_operand<D: OperandFoldInterface, R: Rewriter + Room>(
 
 // The uses of the result with this index become uses of a new operation that makes the constant, where the dialect
 // makes it, and are noted.
-fn move_to_constant<D: OperandFoldInterface, R: Rewriter + Room>(
+fn move_to_constant<D: Dialect, R: Rewriter + Room>(
     moved: &mut MovedUses,
     op: Ptr<Operation>,
     index: usize,
@@ -123,7 +122,7 @@ fn move_to_constant<D: OperandFoldInterface, R: Rewriter + Room>(
 }
 
 // The uses of the result with this index become uses of what the answer for it says, where the dialect makes that.
-fn put_answer<D: OperandFoldInterface, R: Rewriter + Room>(
+fn put_answer<D: Dialect, R: Rewriter + Room>(
     moved: &mut MovedUses,
     op: Ptr<Operation>,
     index: usize,
@@ -157,7 +156,7 @@ fn put_answer<D: OperandFoldInterface, R: Rewriter + Room>(
 }
 
 // The result with this index folds, if it is used and the dialect answers what it is.
-fn fold_result<D: OperandFoldInterface, R: Rewriter + Room>(
+fn fold_result<D: Dialect, R: Rewriter + Room>(
     moved: &mut MovedUses,
     op: Ptr<Operation>,
     index: usize,
@@ -205,7 +204,7 @@ pub fn value_count(site: &Site, ctx: &Context) -> usize
 /// Asks that the root is live and is well linked, that the site is seen in it and has the value. Errors: allocation
 /// failure, after which some whole folds are made. Cost: that of the dialect's answers, or of what the edges forward,
 /// and a step for each use that is moved.
-pub fn fold_value<D: OperandFoldInterface, R: Rewriter + Room>(
+pub fn fold_value<D: Dialect, R: Rewriter + Room>(
     moved: &mut MovedUses,
     root: Ptr<Operation>,
     site: &Site,
@@ -239,7 +238,7 @@ pub fn fold_value<D: OperandFoldInterface, R: Rewriter + Room>(
 }
 
 // The values at the site fold, one after the other.
-fn fold_site<D: OperandFoldInterface, R: Rewriter + Room>(
+fn fold_site<D: Dialect, R: Rewriter + Room>(
     moved: &mut MovedUses,
     root: Ptr<Operation>,
     site: &Site,
@@ -268,7 +267,7 @@ fn fold_site<D: OperandFoldInterface, R: Rewriter + Room>(
 ///
 /// Asks that the root is live and is well linked, and that the sites are seen in it. Errors: allocation failure, after
 /// some whole folds. Cost: that of each of their values.
-pub fn sweep<D: OperandFoldInterface, R: Rewriter + Room>(
+pub fn sweep<D: Dialect, R: Rewriter + Room>(
     moved: &mut MovedUses,
     root: Ptr<Operation>,
     sites: &[Site],

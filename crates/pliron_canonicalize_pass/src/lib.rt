@@ -10,8 +10,7 @@ ghost use Rattle.pliron_pipeline.specs.PassNames.{canonicalize_name};
 
 use pliron_canonicalize::canonicalize;
 use pliron_core::{Context, Operation, Ptr};
-use pliron_laws::OptError;
-use pliron_operand_folding::OperandFoldInterface;
+use pliron_laws::{Dialect, OptError};
 use pliron_operand_laws::HasOperandFolding;
 use pliron_pass::{Analyses, Pass};
 use pliron_pipeline::{Effect, Optimisation, OptimisingPass};
@@ -20,11 +19,11 @@ use std::marker::PhantomData;
 
 /// Canonicalization of a dialect.
 #[derive(Drop)]
-pub struct Canonicalization<D: OperandFoldInterface> {
+pub struct Canonicalization<D: Dialect> {
     of: PhantomData<D>,
 }
 
-impl<D: OperandFoldInterface> Optimisation for Canonicalization<D> {
+impl<D: Dialect> Optimisation for Canonicalization<D> {
     type D = D;
 
     ghost name = { canonicalize_name };
@@ -52,6 +51,6 @@ pub type CanonicalizePass<D, E> = OptimisingPass<Canonicalization<D>, E>;
 
 /// The pass reports accurately: where it answers `Unchanged`, the tree is the same but for erased handles.
 /// A law: it does nothing. Cost: constant.
-pub fn canonicalization_reports_accurately<D: OperandFoldInterface, E: Analyses + Drop>()
+pub fn canonicalization_reports_accurately<D: Dialect, E: Analyses + Drop>()
     ensures { IsAccurate ⟦<CanonicalizePass<D, E> as Pass>⟧.outcome }
 {}

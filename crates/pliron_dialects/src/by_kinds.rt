@@ -1,6 +1,7 @@
 //! The dialect of some kinds.
 ghost use Rattle.std.specs.Prelude.{◌≡◌, Ok, ◌∷◌, [], Some, IfOk, IfErr, OnOk, OnErr, IsSome, length};
 ghost use Rattle.pliron_core.specs.Tree.{IsLive, operands_of};
+ghost use Rattle.pliron_laws.specs.OperandFolding.{none_answered};
 ghost use Rattle.pliron_dialects.specs.Roles.{role_at, meaning_by};
 ghost use Rattle.pliron_dialects.specs.RoleTables.{effects_by, removable_by, folds_by, constants_by, accepts_numbers, constant_head_of, branch_folds_by, feasible_by, entry_operands_by, is_of_number, interfaces_by, shortened_by};
 ghost use Rattle.pliron_dialects.specs.RoleOutcomes.{outcome_by, branch_outcome_by};
@@ -392,6 +393,8 @@ impl<K: Kinds> Dialect for ByKinds<K> {
     ghost acts_without_argument = { acts_without_argument (role_at K.tables) };
 
     ghost answers_true = { answers_true (role_at K.tables) };
+
+    ghost answers_operands = { none_answered (meaning_by (role_at K.tables)) };
 
     ghost answers_jumps = { answers_jumps (role_at K.tables) };
 

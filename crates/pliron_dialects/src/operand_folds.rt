@@ -2,14 +2,12 @@
 ghost use Rattle.std.specs.Prelude.{◌≡◌, IfOk, IsOkUnless, length};
 ghost use Rattle.pliron_core.specs.Tree.{IsLive, operands_of};
 ghost use Rattle.pliron_laws.specs.declared.fault.OptError.{OptError as FaultName};
-ghost use Rattle.pliron_operand_folding.specs.OperandFolding.{no_operand_folds, none_answered};
-ghost use Rattle.pliron_dialects.specs.Roles.{role_at, meaning_by};
+ghost use Rattle.pliron_laws.specs.OperandFolding.{no_operand_folds};
 
 use crate::by_kinds::ByKinds;
 use crate::kinds::Kinds;
 use pliron_core::{AttrObj, Context, Operation, Ptr};
-use pliron_laws::OptError;
-use pliron_operand_folding::{OpFoldResult, OperandFoldInterface};
+use pliron_laws::{OpFoldResult, OperandFoldInterface, OptError};
 use std::alloc::Global;
 
 impl<K: Kinds> OperandFoldInterface for ByKinds<K> {
@@ -24,6 +22,4 @@ impl<K: Kinds> OperandFoldInterface for ByKinds<K> {
     ) -> Result<Vec<Option<OpFoldResult>>, OptError> {
         Ok(Vec::new(alloc))
     }
-
-    ghost answers_operands = { none_answered (meaning_by (role_at K.tables)) };
 }

@@ -17,6 +17,7 @@
 ghost use Rattle.std.specs.Prelude.{◌≡◌, Ok, ℕ, Some, IfOk, slice_get};
 ghost use Rattle.pliron_core.specs.Tree.{IsLive, IsBlock, block_parent_of, operands_of};
 ghost use Rattle.pliron_laws.specs.Answers.{ReadsHead, is_entry};
+ghost use Rattle.pliron_laws.specs.OperandFolding.{no_operand_folds, none_answered};
 ghost use Rattle.pliron_evaluator.specs.Tiny.{tiny_number_of, kind_of, is_br, is_const, first_attribute, tiny, tiny_side_effects, tiny_removable, tiny_folds};
 ghost use Rattle.pliron_evaluator.specs.Tiny.{tiny_constants, tiny_accepts, tiny_constant, tiny_folds_branch, tiny_feasible, tiny_outcome, has_tiny_kind, has_tiny_interface, tiny_shortened, is_naming, first_entry_operand, tiny_entry_operands};
 ghost use Rattle.pliron_evaluator.specs.TinyLaws.{tiny_counts, tiny_effects, tiny_forwards, tiny_arguments, tiny_answers, tiny_jumps, tiny_in_place, tiny_makes};
@@ -28,7 +29,7 @@ use pliron_core::{
 use pliron_laws::reads::all_operands;
 use pliron_laws::{
     BlockArgRemoval, BranchOpFoldInterface, ConstFoldInterface, Dialect, HasMeaning, Interface,
-    OptError, RegionBranchOpInterface, Room, SideEffects,
+    OpFoldResult, OperandFoldInterface, OptError, RegionBranchOpInterface, Room, SideEffects,
 };
 use std::alloc::Global;
 
@@ -308,6 +309,19 @@ impl BranchOpFoldInterface for Tiny {
     }
 }
 
+impl OperandFoldInterface for Tiny {
+    ghost operand_folds = { no_operand_folds };
+
+    fn fold_to_operand(
+        alloc: Global,
+        _op: Ptr<Operation>,
+        _ctx: &Context,
+        _operand_attrs: &[Option<AttrObj>],
+    ) -> Result<Vec<Option<OpFoldResult>>, OptError> {
+        Ok(Vec::new(alloc))
+    }
+}
+
 impl RegionBranchOpInterface for Tiny {
     ghost verdict = { λ t op r. r ≡ Ok tt };
 
@@ -456,6 +470,8 @@ impl Dialect for Tiny {
     ghost acts_without_argument = { tiny_arguments };
 
     ghost answers_true = { tiny_answers };
+
+    ghost answers_operands = { none_answered tiny };
 
     ghost answers_jumps = { tiny_jumps };
 

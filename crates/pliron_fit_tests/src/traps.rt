@@ -3,13 +3,14 @@
 //! there. No table says so: by roles what traps has no successors, and each head may be that of a root.
 ghost use Rattle.std.specs.Prelude.{◌≡◌, Ok};
 ghost use Rattle.pliron_laws.specs.Entries.{names_none};
+ghost use Rattle.pliron_laws.specs.OperandFolding.{no_operand_folds, none_answered};
 ghost use Rattle.pliron_fit_tests.specs.Traps.{traps, no_fold, no_kind, nine_interface, no_side_effects, no_removal, no_constants, no_blocks, no_attribute, no_constant_head, no_outcome, same_head};
 ghost use Rattle.pliron_fit_tests.specs.Traps.{traps_counts, traps_effects, traps_forwards, traps_arguments, traps_answers, traps_jumps, traps_in_place, traps_makes, traps_names, traps_roots};
 
 use pliron_core::{AttrObj, BasicBlock, Context, IRStatus, Operation, Ptr, Rewriter, Value};
 use pliron_laws::{
     BlockArgRemoval, BranchOpFoldInterface, ConstFoldInterface, Dialect, HasMeaning, Interface,
-    OptError, RegionBranchOpInterface, Room, SideEffects,
+    OpFoldResult, OperandFoldInterface, OptError, RegionBranchOpInterface, Room, SideEffects,
 };
 use std::alloc::Global;
 
@@ -141,6 +142,19 @@ impl BranchOpFoldInterface for Traps {
     }
 }
 
+impl OperandFoldInterface for Traps {
+    ghost operand_folds = { no_operand_folds };
+
+    fn fold_to_operand(
+        alloc: Global,
+        _op: Ptr<Operation>,
+        _ctx: &Context,
+        _operand_attrs: &[Option<AttrObj>],
+    ) -> Result<Vec<Option<OpFoldResult>>, OptError> {
+        Ok(Vec::new(alloc))
+    }
+}
+
 impl RegionBranchOpInterface for Traps {
     ghost verdict = { λ t op r. r ≡ Ok tt };
 
@@ -229,6 +243,8 @@ impl Dialect for Traps {
     ghost acts_without_argument = { traps_arguments };
 
     ghost answers_true = { traps_answers };
+
+    ghost answers_operands = { none_answered traps };
 
     ghost answers_jumps = { traps_jumps };
 

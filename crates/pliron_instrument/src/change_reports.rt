@@ -7,7 +7,6 @@ use crate::progress::Progress;
 use crate::schedule::{InstrumentedPipeline, InstrumentedSchedule};
 use pliron_canonicalize_pass::canonicalization_reports_accurately;
 use pliron_laws::Dialect;
-use pliron_operand_folding::OperandFoldInterface;
 use pliron_pass::{Analyses, BenchFacts, Pass, Passes};
 use pliron_pipeline::PassStep;
 
@@ -17,7 +16,7 @@ fn shared_steps_report_accurately<D: Dialect, E: Analyses + Drop>()
 {}
 
 // Each of the passes reports accurately.
-fn steps_report_accurately<D: OperandFoldInterface>()
+fn steps_report_accurately<D: Dialect>()
     ensures { IsAccurate ⟦<ProgramStep<D> as Pass>⟧.outcome }
 {
     canonicalization_reports_accurately::<D, BenchFacts>();

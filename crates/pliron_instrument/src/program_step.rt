@@ -1,23 +1,23 @@
+use pliron_laws::Dialect;
 //! One of the passes of the programs for people, and the notations whose dialects can run each of them.
 ghost use Rattle.std.specs.Prelude.{◌≡◌, IfSome, IfNone};
 ghost use Rattle.pliron_pipeline.specs.PassNames.{IsNoPass};
 
 use pliron_canonicalize_pass::CanonicalizePass;
-use pliron_operand_folding::OperandFoldInterface;
 use pliron_opts::Notation;
 use pliron_pass::{BenchFacts, Either, Pass};
 use pliron_pipeline::{CSEPass, DCEPass, PassName, PassStep, SCCPPass, SimplifyCFGPass};
 
 /// A notation of a dialect that folds to operands, so that each of the passes can run on its texts.
-pub trait FoldingNotation: Notation<D: OperandFoldInterface> {}
+pub trait FoldingNotation: Notation<D: Dialect> {}
 
-impl<N: Notation<D: OperandFoldInterface>> FoldingNotation for N {}
+impl<N: Notation<D: Dialect>> FoldingNotation for N {}
 
 /// One of the passes: canonicalization (`Left`), or one that every dialect can run.
 pub type ProgramStep<D> = Either<CanonicalizePass<D, BenchFacts>, PassStep<D, BenchFacts>>;
 
 /// The pass of this name. Cost: constant.
-pub fn step_from_name<D: OperandFoldInterface>(name: &str) -> Option<ProgramStep<D>>
+pub fn step_from_name<D: Dialect>(name: &str) -> Option<ProgramStep<D>>
     ensures named { IfSome result (λ step. ⟦<ProgramStep<D> as Pass>⟧.name step ≡ name.now) }
     ensures unknown { IfNone result (IsNoPass name.now) }
 {

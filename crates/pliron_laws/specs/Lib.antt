@@ -10,6 +10,7 @@ pub mod Acting
 pub mod Laws
 pub mod Entries
 pub mod Folding
+pub mod OperandFolding
 pub mod Outcomes
 pub mod MaterialisedConstants
 pub mod Replacing

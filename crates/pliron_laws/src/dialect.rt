@@ -26,6 +26,7 @@ ghost use Rattle.pliron_laws.specs.Laws.{KeepsCounts, GivesAtOnce, ForwardsOpera
 ghost use Rattle.pliron_laws.specs.MaterialisedConstants.{ArePutBefore, IsRestored, FoldsByConstants};
 ghost use Rattle.pliron_laws.specs.InPlace.{Outcome, FoldsInPlace, PassSameTests, materialising_outcome};
 ghost use Rattle.pliron_laws.specs.Answers.{ReadsHead, ReadsCounts, ReadsShape, ReadsEdges, ReadsPlace, HasEntryArgument, HeadPasses, AreForwarded, IsForwardedAt, IsForwardedOnce, HasPlace, LosesForwarded, IsMaterialised};
+ghost use Rattle.pliron_laws.specs.OperandFolding.{AnswersOperands};
 ghost use Rattle.pliron_laws.specs.Entries.{EntryOperands, NamesOperands, RootsNameNone};
 ghost use Rattle.pliron_laws.specs.declared.dialect.Interface.{Interface as InterfaceName};
 ghost use Rattle.pliron_laws.specs.declared.dialect.Interface.TheVariants.{RegionBranch};
@@ -34,6 +35,7 @@ use crate::fault::OptError;
 use crate::materialised_constants::{
     MaterialisedConstant, erase_all, hand_over_all, insert_constant, take_room,
 };
+use crate::operand_folds::OperandFoldInterface;
 use crate::room::Room;
 use pliron_core::{AttrObj, BasicBlock, Context, IRStatus, Operation, Ptr, Rewriter, Value};
 use std::alloc::Global;
@@ -366,6 +368,7 @@ pub trait Dialect: SideEffects
     + BlockArgRemoval
     + ConstFoldInterface
     + BranchOpFoldInterface
+    + OperandFoldInterface
     + RegionBranchOpInterface {
     /// The kinds (opcodes) of its operations.
     type Kind: Copy + Eq;
@@ -491,6 +494,9 @@ pub trait Dialect: SideEffects
 
     // Each constant that folding answers is what the operation gives.
     ghost answers_true: { AnswersTrue Self.meaning Self.can_fold Self.constants };
+
+    // Each operand, and each constant by equal operands, that folding answers for a result is what the operation gives.
+    ghost answers_operands: { AnswersOperands Self.meaning Self.operand_folds };
 
     // A branch goes to one of the blocks that folding answers.
     ghost answers_jumps: { AnswersJumps Self.meaning Self.can_fold_branch Self.feasible };

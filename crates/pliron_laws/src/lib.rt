@@ -11,6 +11,7 @@ mod fault;
 mod linked;
 pub mod materialise;
 mod materialised_constants;
+mod operand_folds;
 pub mod reads;
 mod room;
 
@@ -22,4 +23,5 @@ pub use edges::edges_last;
 pub use fault::OptError;
 pub use linked::{is_admitted, is_well_linked};
 pub use materialised_constants::MaterialisedConstant;
+pub use operand_folds::{OpFoldResult, OperandFoldInterface};
 pub use room::Room;

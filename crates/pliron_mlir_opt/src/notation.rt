@@ -9,7 +9,6 @@ use pliron_core::{Context, Operation, Ptr};
 use pliron_instrument::FoldingNotation;
 use pliron_laws::{Dialect, OptError};
 use pliron_mlir_text::{Fault, Module, Sheet, print_module, read_module};
-use pliron_operand_folding::OperandFoldInterface;
 use pliron_opts::Notation;
 use std::alloc::{AllocError, Global};
 use std::marker::PhantomData;
@@ -66,7 +65,7 @@ impl<D: Dialect> Notation for GenericForm<D> {
     }
 }
 
-impl<D: OperandFoldInterface> ModuleNotation for GenericForm<D> {
+impl<D: Dialect> ModuleNotation for GenericForm<D> {
     fn read_module(alloc: Global, text: &[u8], ctx: &mut Context) -> Result<Module, Fault> {
         read_module::<D>(alloc, text, ctx)
     }

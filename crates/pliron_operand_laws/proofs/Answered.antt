@@ -33,9 +33,9 @@ use Rattle.pliron_equivalence.proofs.OperationDominance.{dominated_stands}
 use Rattle.pliron_equivalence.proofs.Given.{results_given}
 use Rattle.pliron_equivalence.proofs.Merging.{nothing_inside}
 use Rattle.pliron_equivalence.proofs.Passing.{dominated_behind}
-use Rattle.pliron_operand_folding.specs.declared.OpFoldResult.{OpFoldResult}
-use Rattle.pliron_operand_folding.specs.declared.OpFoldResult.TheVariants.{Operand, Constant}
-use Rattle.pliron_operand_folding.specs.OperandFolding.{AnswersOperands, AnswersOperand, AreSameData, datum_by}
+use Rattle.pliron_laws.specs.declared.operand_folds.OpFoldResult.{OpFoldResult}
+use Rattle.pliron_laws.specs.declared.operand_folds.OpFoldResult.TheVariants.{Operand, Constant}
+use Rattle.pliron_laws.specs.OperandFolding.{AnswersOperands, AnswersOperand, AreSameData, datum_by}
 use Rattle.pliron_operand_laws.specs.Answers.{Folding, answer_in, is_harmless, is_constant_like, constant_made, known_by, known_operands, operand_answers, constant_answers, IsAnswered}
 
 -- the laws of a dialect on which folding rests

@@ -10,9 +10,9 @@ use Rattle.pliron_laws.specs.Folding.{Constants}
 use Rattle.pliron_laws.proofs.Records.{operation_of, make_op, op_shows}
 use Rattle.pliron_core.proofs.ArgumentLemmas.{take_more}
 use Rattle.pliron_core.proofs.HoldingLemmas.{some_is, some_of}
-use Rattle.pliron_operand_folding.specs.declared.OpFoldResult.{OpFoldResult}
-use Rattle.pliron_operand_folding.specs.declared.OpFoldResult.TheVariants.{Constant}
-use Rattle.pliron_operand_folding.specs.OperandFolding.{OperandFolds, ReadsOperands}
+use Rattle.pliron_laws.specs.declared.operand_folds.OpFoldResult.{OpFoldResult}
+use Rattle.pliron_laws.specs.declared.operand_folds.OpFoldResult.TheVariants.{Constant}
+use Rattle.pliron_laws.specs.OperandFolding.{OperandFolds, ReadsOperands}
 use Rattle.pliron_core.proofs.UsedLemmas.{length_map}
 use Rattle.std.specs.Option.{option_map}
 use Rattle.pliron_operand_laws.specs.Answers.{Folding, answer_in, is_harmless, is_constant_like, constant_made, known_by, known_operands, operand_answers, constant_answers}

@@ -22,8 +22,8 @@ use Rattle.pliron_theory.specs.Keeps.{KeepsAllRuns, KeepsRuns, with_roots}
 use Rattle.pliron_theory.specs.Rewrites.{IsConstant}
 use Rattle.pliron_theory.proofs.MaterialisedKeeps.{result_keeps}
 use Rattle.pliron_theory.proofs.PutInside.{result_inside}
-use Rattle.pliron_operand_folding.specs.declared.OpFoldResult.{OpFoldResult}
-use Rattle.pliron_operand_folding.specs.declared.OpFoldResult.TheVariants.{Operand, Constant}
+use Rattle.pliron_laws.specs.declared.operand_folds.OpFoldResult.{OpFoldResult}
+use Rattle.pliron_laws.specs.declared.operand_folds.OpFoldResult.TheVariants.{Operand, Constant}
 use Rattle.pliron_operand_laws.specs.Answers.{Folding, IsAnswered}
 use Rattle.pliron_operand_laws.specs.Answered.{HasAnswer, IsMade, NamesOperand, after_folding}
 use Rattle.pliron_operand_laws.specs.AnswerLaws.{AnswerLaws}

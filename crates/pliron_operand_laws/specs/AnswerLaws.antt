@@ -3,7 +3,7 @@ use Rattle.std.specs.Prelude.{ℕ}
 use Rattle.pliron_core.specs.Invariant.{IsTree}
 use Rattle.pliron_core.specs.Tree.{Tree, IsInside, IsLive}
 use Rattle.pliron_laws.specs.Linked.{IsAdmitted, IsWellLinked}
-use Rattle.pliron_operand_folding.specs.declared.OpFoldResult.{OpFoldResult}
+use Rattle.pliron_laws.specs.declared.operand_folds.OpFoldResult.{OpFoldResult}
 use Rattle.pliron_theory.specs.Change.{IsWholeChange}
 use Rattle.pliron_operand_laws.specs.Answers.{Folding}
 use Rattle.pliron_operand_laws.specs.Answered.{HasAnswer, IsMade, NamesOperand, after_folding}

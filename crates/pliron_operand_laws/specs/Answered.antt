@@ -4,8 +4,8 @@ use Rattle.pliron_core.specs.Tree.{Tree, In, operands_of, successors_of, results
 use Rattle.pliron_core.specs.Writes.{after_replacing}
 use Rattle.pliron_laws.specs.Outcomes.{after_materialising}
 use Rattle.pliron_laws.specs.Tree.{Operation, op_at}
-use Rattle.pliron_operand_folding.specs.declared.OpFoldResult.{OpFoldResult}
-use Rattle.pliron_operand_folding.specs.declared.OpFoldResult.TheVariants.{Operand, Constant}
+use Rattle.pliron_laws.specs.declared.operand_folds.OpFoldResult.{OpFoldResult}
+use Rattle.pliron_laws.specs.declared.operand_folds.OpFoldResult.TheVariants.{Operand, Constant}
 use Rattle.pliron_operand_laws.specs.Answers.{Folding, IsAnswered}
 
 -- some operand of the operation is one of its results

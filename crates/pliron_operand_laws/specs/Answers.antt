@@ -8,9 +8,9 @@ use Rattle.pliron_core.specs.Tree.{Tree, definition_of}
 use Rattle.pliron_laws.specs.Datum.{Head, Meaning}
 use Rattle.pliron_laws.specs.Folding.{Constants}
 use Rattle.pliron_laws.specs.Tree.{Operation, op_at, shape_of}
-use Rattle.pliron_operand_folding.specs.declared.OpFoldResult.{OpFoldResult}
-use Rattle.pliron_operand_folding.specs.declared.OpFoldResult.TheVariants.{Constant}
-use Rattle.pliron_operand_folding.specs.OperandFolding.{OperandFolds}
+use Rattle.pliron_laws.specs.declared.operand_folds.OpFoldResult.{OpFoldResult}
+use Rattle.pliron_laws.specs.declared.operand_folds.OpFoldResult.TheVariants.{Constant}
+use Rattle.pliron_laws.specs.OperandFolding.{OperandFolds}
 
 -- what canonicalization asks of a dialect
 pub record Folding : Type 0 where

@@ -4,13 +4,12 @@ ghost use Rattle.std.specs.Option.{option_map};
 ghost use Rattle.pliron_core.specs.Tree.{IsLive, IsDefined, definition_of, operands_of};
 ghost use Rattle.pliron_laws.specs.Answers.{HeadPasses};
 ghost use Rattle.pliron_laws.specs.Tree.{Operation as OperationAt, op_at};
-ghost use Rattle.pliron_operand_folding.specs.declared.OpFoldResult.TheVariants.{Constant as ConstantAnswer};
+ghost use Rattle.pliron_laws.specs.declared.operand_folds.OpFoldResult.TheVariants.{Constant as ConstantAnswer};
 ghost use Rattle.pliron_operand_laws.specs.Answers.{is_harmless as is_harmless_answer, is_constant_like as is_constant_like_by, constant_made as constant_made_by, known_by, known_operands as known_operands_by, operand_answers as operand_answers_by, constant_answers as constant_answers_by};
 
 use crate::folding::HasOperandFolding;
 use pliron_core::{AttrObj, Context, Def, Operation, Ptr, Value};
-use pliron_laws::{ConstFoldInterface, OptError};
-use pliron_operand_folding::{OpFoldResult, OperandFoldInterface};
+use pliron_laws::{ConstFoldInterface, Dialect, OpFoldResult, OptError};
 use std::alloc::Global;
 
 // Whether the answer is that there are no side effects.
@@ -24,7 +23,7 @@ fn is_harmless(answer: Option<bool>) -> bool
 }
 
 // Whether the operation makes one value of nothing.
-fn is_constant_like<D: OperandFoldInterface>(op: Ptr<Operation>, ctx: &Context) -> bool
+fn is_constant_like<D: Dialect>(op: Ptr<Operation>, ctx: &Context) -> bool
     requires { IsLive ctx.now.tree op }
     ensures { (o : OperationAt) → op_at ctx.now.tree op ≡ Some o → result ≡ is_constant_like_by
         ⟦<D as HasOperandFolding>⟧.operand_folding o }
@@ -39,7 +38,7 @@ fn is_constant_like<D: OperandFoldInterface>(op: Ptr<Operation>, ctx: &Context) 
 }
 
 // The constant that the operation makes, if it is constant-like.
-fn constant_made<D: OperandFoldInterface>(
+fn constant_made<D: Dialect>(
     alloc: Global,
     op: Ptr<Operation>,
     ctx: &Context,
@@ -62,7 +61,7 @@ fn constant_made<D: OperandFoldInterface>(
 }
 
 // The constant that is known of the value.
-fn known_of<D: OperandFoldInterface>(
+fn known_of<D: Dialect>(
     alloc: Global,
     value: Value,
     ctx: &Context,
@@ -82,7 +81,7 @@ fn known_of<D: OperandFoldInterface>(
 // The constants that are known of the operation's operands.
 //
 // Errors: allocation failure. Cost: for each operand, what the dialect's answer for a constant costs.
-fn known_operands<D: OperandFoldInterface>(
+fn known_operands<D: Dialect>(
     alloc: Global,
     op: Ptr<Operation>,
     ctx: &Context,
@@ -129,7 +128,7 @@ fn as_answers(
 ///
 /// Asks that the operation is live. Errors: allocation failure. Cost: that of the answer, and for each operand that of the
 /// answer for a constant.
-pub fn operand_answers<D: OperandFoldInterface>(
+pub fn operand_answers<D: Dialect>(
     alloc: Global,
     op: Ptr<Operation>,
     ctx: &Context,
@@ -147,7 +146,7 @@ pub fn operand_answers<D: OperandFoldInterface>(
 ///
 /// Asks that the operation is live. Errors: allocation failure. Cost: that of the answer, and for each operand that of the
 /// answer for a constant.
-pub fn constant_answers<D: OperandFoldInterface>(
+pub fn constant_answers<D: Dialect>(
     alloc: Global,
     op: Ptr<Operation>,
     ctx: &Context,

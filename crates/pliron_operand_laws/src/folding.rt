@@ -1,7 +1,7 @@
+use pliron_laws::Dialect;
 //! What canonicalization asks of a dialect, under one name.
 ghost use Rattle.pliron_operand_laws.specs.Answers.{Folding};
 
-use pliron_operand_folding::OperandFoldInterface;
 
 /// What folding depends on in a dialect: its meaning, which heads have side effects, which fold by constants and what
 /// is answered then, which constants it makes, and what it answers of results that are operands. Each such dialect has
@@ -10,7 +10,7 @@ pub trait HasOperandFolding {
     ghost operand_folding: { Folding };
 }
 
-impl<D: OperandFoldInterface> HasOperandFolding for D {
+impl<D: Dialect> HasOperandFolding for D {
     ghost operand_folding = { record {
       meaning = D.meaning;
       side_effects = D.side_effects;

@@ -1,3 +1,4 @@
+use pliron_laws::Dialect;
 //! What the dialect answers of results that are operands of their operations, or constants; that the uses of a result
 //! may become uses of what is answered of it; and the whole rewrite that makes them uses of an operand.
 //!
@@ -12,10 +13,9 @@ mod folding;
 pub mod rewrites;
 
 pub use folding::HasOperandFolding;
-use pliron_operand_folding::OperandFoldInterface;
 
 /// The uses of a result may become uses of the operand, or of a new operation that makes the constant, that the
 /// dialect answers the result to be by what is known of the operands.
-pub fn answers_replace_results<D: OperandFoldInterface>()
+pub fn answers_replace_results<D: Dialect>()
     ensures { AnswerLaws ⟦<D as HasOperandFolding>⟧.operand_folding }
 {}

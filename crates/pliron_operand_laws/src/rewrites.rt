@@ -2,21 +2,20 @@
 ghost use Rattle.std.specs.Prelude.{◌≡◌, ◌<◌, ℕ, Some, OnOk, OnErr, IsOkUnless, length, get_or, slice_get};
 ghost use Rattle.pliron_core.specs.Tree.{operands_of, results_of};
 ghost use Rattle.pliron_core.specs.Writes.{after_replacing};
-ghost use Rattle.pliron_operand_folding.specs.declared.OpFoldResult.TheVariants.{Operand as OperandAnswer};
+ghost use Rattle.pliron_laws.specs.declared.operand_folds.OpFoldResult.TheVariants.{Operand as OperandAnswer};
 ghost use Rattle.pliron_theory.specs.Keeps.{KeepsAllRuns};
 ghost use Rattle.pliron_operand_laws.specs.Answered.{HasAnswer};
 
 use crate::folding::HasOperandFolding;
 use pliron_core::{Context, Operation, Ptr, Rewriter};
-use pliron_laws::{OptError, Room};
-use pliron_operand_folding::OperandFoldInterface;
+use pliron_laws::{Dialect, OptError, Room};
 use std::alloc::Global;
 
 /// Gives all uses of the result of `op` with this index to its operand at this place, also where it has none.
 ///
 /// Asks that the dialect answers so, by what is known of the operands. The rewriter inserts where it did.
 /// Errors: allocation failure, which changes nothing. Cost: one step for each use of the result.
-pub fn replace_result_by_operand<D: OperandFoldInterface, R: Rewriter + Room>(
+pub fn replace_result_by_operand<D: Dialect, R: Rewriter + Room>(
     alloc: Global,
     op: Ptr<Operation>,
     index: usize,

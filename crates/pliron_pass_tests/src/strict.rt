@@ -10,6 +10,8 @@ ghost use Rattle.pliron_bench.specs.BenchOutcomes.{bench_outcome, bench_branch_o
 ghost use Rattle.pliron_bench.specs.BenchLaws.{bench_counts, bench_effects, bench_arguments, bench_makes};
 ghost use Rattle.pliron_bench.specs.BenchEntries.{bench_names, bench_roots};
 ghost use Rattle.pliron_bench.specs.BenchFolds.{bench_answers, bench_jumps};
+ghost use Rattle.pliron_bench.specs.BenchOperandFolds.{bench_operand_folds};
+ghost use Rattle.pliron_bench.specs.BenchOperandLaws.{bench_operands};
 ghost use Rattle.pliron_bench.specs.BenchRemoval.{bench_forwards};
 ghost use Rattle.pliron_bench.specs.BenchInPlace.{bench_in_place};
 
@@ -17,7 +19,7 @@ use pliron_bench::{Bench, BenchKind};
 use pliron_core::{AttrObj, BasicBlock, Context, IRStatus, Operation, Ptr, Rewriter, Value};
 use pliron_laws::{
     BlockArgRemoval, BranchOpFoldInterface, ConstFoldInterface, Dialect, HasMeaning, Interface,
-    OptError, RegionBranchOpInterface, Room, SideEffects,
+    OpFoldResult, OperandFoldInterface, OptError, RegionBranchOpInterface, Room, SideEffects,
 };
 use std::alloc::Global;
 
@@ -162,6 +164,19 @@ impl BranchOpFoldInterface for Strict {
     }
 }
 
+impl OperandFoldInterface for Strict {
+    ghost operand_folds = { bench_operand_folds };
+
+    fn fold_to_operand(
+        alloc: Global,
+        op: Ptr<Operation>,
+        ctx: &Context,
+        operand_attrs: &[Option<AttrObj>],
+    ) -> Result<Vec<Option<OpFoldResult>>, OptError> {
+        Bench::fold_to_operand(alloc, op, ctx, operand_attrs)
+    }
+}
+
 impl RegionBranchOpInterface for Strict {
     ghost verdict = { λ t op r. MatchResult r (λ _. ⊤) (λ e. e ≡ Code 4) };
 
@@ -245,6 +260,8 @@ impl Dialect for Strict {
     ghost acts_without_argument = { bench_arguments };
 
     ghost answers_true = { bench_answers };
+
+    ghost answers_operands = { bench_operands };
 
     ghost answers_jumps = { bench_jumps };
 

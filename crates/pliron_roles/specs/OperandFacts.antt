@@ -10,9 +10,9 @@ use Rattle.pliron_core.specs.declared.attrs.AttrObj.{AttrObj}
 use Rattle.pliron_core.specs.declared.attrs.AttrObj.TheVariants.{Int}
 use Rattle.pliron_laws.specs.Datum.{Datum, Empty, Number, Text, Join, datum_of, Move, Give, Visit, Goto, Leave, Emit, Trap}
 use Rattle.pliron_laws.specs.Acting.{Known}
-use Rattle.pliron_operand_folding.specs.declared.OpFoldResult.{OpFoldResult}
-use Rattle.pliron_operand_folding.specs.declared.OpFoldResult.TheVariants.{Operand, Constant as ConstantFold}
-use Rattle.pliron_operand_folding.specs.OperandFolding.{AreSameData, datum_by}
+use Rattle.pliron_laws.specs.declared.operand_folds.OpFoldResult.{OpFoldResult}
+use Rattle.pliron_laws.specs.declared.operand_folds.OpFoldResult.TheVariants.{Operand, Constant as ConstantFold}
+use Rattle.pliron_laws.specs.OperandFolding.{AreSameData, datum_by}
 use Rattle.pliron_roles.specs.declared.identity.Annihilator.{Annihilator}
 use Rattle.pliron_roles.specs.declared.identity.Identity.{Identity}
 use Rattle.pliron_roles.specs.Identities.{is_this, is_known_as, are_same, annihilating_place, IdentityHolds, Annihilates, EqualGives, IfAnyIs, operand_by_fact, constant_by_fact}

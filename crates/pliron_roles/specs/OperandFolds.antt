@@ -3,9 +3,9 @@ use Rattle.std.specs.Prelude.{ℕ, Bool, true, false, List, [], ◌∷◌, Optio
 use Rattle.pliron_core.specs.declared.attrs.AttrObj.{AttrObj}
 use Rattle.pliron_core.specs.declared.attrs.AttrObj.TheVariants.{Int}
 use Rattle.pliron_laws.specs.Datum.{Head}
-use Rattle.pliron_operand_folding.specs.declared.OpFoldResult.{OpFoldResult}
-use Rattle.pliron_operand_folding.specs.declared.OpFoldResult.TheVariants.{Operand, Constant as ConstantFold}
-use Rattle.pliron_operand_folding.specs.OperandFolding.{OperandFolds}
+use Rattle.pliron_laws.specs.declared.operand_folds.OpFoldResult.{OpFoldResult}
+use Rattle.pliron_laws.specs.declared.operand_folds.OpFoldResult.TheVariants.{Operand, Constant as ConstantFold}
+use Rattle.pliron_laws.specs.OperandFolding.{OperandFolds}
 use Rattle.pliron_roles.specs.declared.form.Form.{Form}
 use Rattle.pliron_roles.specs.declared.form.Form.TheVariants.{Folds as FoldsForm, Picks as PicksForm}
 use Rattle.pliron_roles.specs.declared.form.Otherwise.{Otherwise}

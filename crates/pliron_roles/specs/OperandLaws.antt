@@ -10,9 +10,9 @@ use Rattle.pliron_core.specs.declared.attrs.AttrObj.{AttrObj}
 use Rattle.pliron_core.specs.declared.attrs.AttrObj.TheVariants.{Int}
 use Rattle.pliron_laws.specs.Datum.{Datum, Empty, Number, Text, Join, datum_of, Head, Shape, Move, Give, Visit, Goto, Leave, Emit, Trap}
 use Rattle.pliron_laws.specs.Acting.{Known}
-use Rattle.pliron_operand_folding.specs.declared.OpFoldResult.{OpFoldResult}
-use Rattle.pliron_operand_folding.specs.declared.OpFoldResult.TheVariants.{Operand, Constant as ConstantFold}
-use Rattle.pliron_operand_folding.specs.OperandFolding.{AreSameData, datum_by, IsWithin, AnswersOperand, AnswersOperands}
+use Rattle.pliron_laws.specs.declared.operand_folds.OpFoldResult.{OpFoldResult}
+use Rattle.pliron_laws.specs.declared.operand_folds.OpFoldResult.TheVariants.{Operand, Constant as ConstantFold}
+use Rattle.pliron_laws.specs.OperandFolding.{AreSameData, datum_by, IsWithin, AnswersOperand, AnswersOperands}
 use Rattle.pliron_roles.specs.declared.identity.Absorption.{Absorption}
 use Rattle.pliron_roles.specs.declared.identity.Identity.{Identity}
 use Rattle.pliron_roles.specs.Identities.{same_datum, is_this, place_of_one, place_by, place_between, place_in, is_known_as, are_same, identity_operand, agrees_with, absorption_if, absorption_of, absorber_of, absorbed_of, equal_if, equal_of, given_by, given_between, given_in, identity_constant, IdentityHolds, operand_by_fact, constant_by_fact}

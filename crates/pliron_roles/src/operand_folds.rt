@@ -2,12 +2,10 @@
 ghost use Rattle.std.specs.Prelude.{◌≡◌, IfOk, IsOkUnless, length, option_map};
 ghost use Rattle.pliron_core.specs.Tree.{IsLive, operands_of};
 ghost use Rattle.pliron_laws.specs.declared.fault.OptError.{OptError as FaultName};
-ghost use Rattle.pliron_operand_folding.specs.declared.OpFoldResult.TheVariants.{Operand};
+ghost use Rattle.pliron_laws.specs.declared.operand_folds.OpFoldResult.TheVariants.{Operand};
 ghost use Rattle.pliron_roles.specs.Identities.{identity_operand};
 ghost use Rattle.pliron_roles.specs.Roles.{role_at, allows_at, meaning_by, identity_in, truth_in, truth_of, known_number_at};
-ghost use Rattle.pliron_roles.specs.Parts.{roles_fit};
 ghost use Rattle.pliron_roles.specs.OperandFolds.{place_picked as place_picked_of, answer_at as answer_at_of, fold_by_identity as fold_by_identity_of, fold_by_form as fold_by_form_of, answers_at as answers_at_of, operand_folds_by};
-ghost use Rattle.pliron_roles.specs.OperandLaws.{answers_operands};
 
 use crate::by_roles::ByRoles;
 use crate::folds::known_truth;
@@ -17,8 +15,7 @@ use crate::identity::{Identity, operand_by_fact, operand_by_identity};
 use crate::roles::Roles;
 use crate::tables::kind_at;
 use pliron_core::{AttrObj, Context, Operation, Ptr};
-use pliron_laws::OptError;
-use pliron_operand_folding::{OpFoldResult, OperandFoldInterface};
+use pliron_laws::{OpFoldResult, OperandFoldInterface, OptError};
 use std::alloc::{AllocFailed, Global};
 
 // The place of the operand that is picked, where the truth is known.
@@ -129,7 +126,4 @@ impl<K: Roles> OperandFoldInterface for ByRoles<K> {
             None => Ok(Vec::new(alloc)),
         }
     }
-
-    ghost answers_operands = { answers_operands K.tables.value (role_at K.tables) (allows_at K.tables)
-        (roles_fit K.tables K.keeps_tables) };
 }

@@ -8,7 +8,7 @@ returns g c =
     answer_laws _ (record {
       at_once = d.gives_at_once;
       truly = d.answers_true;
-      operands = g.met.D.OperandFoldInterface.answers_operands;
+      operands = g.met.D.Dialect.answers_operands;
       makes = d.makes_constants;
       plain = constants_plain _ _ _ _ _ _ d.forwards_operands d.makes_constants;
     })

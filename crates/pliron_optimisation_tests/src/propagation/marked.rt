@@ -4,6 +4,7 @@
 ghost use Rattle.std.specs.Prelude.{◌≡◌, Ok};
 ghost use Rattle.pliron_core.specs.Tree.{IsLive};
 ghost use Rattle.pliron_laws.specs.Answers.{ReadsHead};
+ghost use Rattle.pliron_laws.specs.OperandFolding.{no_operand_folds, none_answered};
 ghost use Rattle.pliron_evaluator.specs.Tiny.{tiny, tiny_side_effects, tiny_removable, tiny_constants, tiny_accepts, tiny_constant, tiny_folds_branch, tiny_feasible, tiny_outcome, has_tiny_kind, has_tiny_interface, tiny_shortened, tiny_entry_operands};
 ghost use Rattle.pliron_evaluator.specs.TinyLaws.{tiny_counts, tiny_effects, tiny_arguments, tiny_jumps, tiny_in_place, tiny_makes};
 ghost use Rattle.pliron_evaluator.specs.TinyEntries.{tiny_names, tiny_roots};
@@ -17,7 +18,7 @@ use pliron_core::{AttrObj, BasicBlock, Context, IRStatus, Operation, Ptr, Rewrit
 use pliron_evaluator::{Tiny, TinyKind};
 use pliron_laws::{
     BlockArgRemoval, BranchOpFoldInterface, ConstFoldInterface, Dialect, HasMeaning, Interface,
-    OptError, RegionBranchOpInterface, Room, SideEffects,
+    OpFoldResult, OperandFoldInterface, OptError, RegionBranchOpInterface, Room, SideEffects,
 };
 use std::alloc::Global;
 use std::process::Abort;
@@ -149,6 +150,19 @@ impl BranchOpFoldInterface for Marked {
     }
 }
 
+impl OperandFoldInterface for Marked {
+    ghost operand_folds = { no_operand_folds };
+
+    fn fold_to_operand(
+        alloc: Global,
+        _op: Ptr<Operation>,
+        _ctx: &Context,
+        _operand_attrs: &[Option<AttrObj>],
+    ) -> Result<Vec<Option<OpFoldResult>>, OptError> {
+        Ok(Vec::new(alloc))
+    }
+}
+
 impl RegionBranchOpInterface for Marked {
     ghost verdict = { λ t op r. r ≡ Ok tt };
 
@@ -228,6 +242,8 @@ impl Dialect for Marked {
     ghost acts_without_argument = { tiny_arguments };
 
     ghost answers_true = { marked_answers };
+
+    ghost answers_operands = { none_answered tiny };
 
     ghost answers_jumps = { tiny_jumps };
 

@@ -38,7 +38,7 @@ returns-in-Arguments-clause-refused g c =
 pub returns-in-Results-clause-ok : goal.returns-in-Results-clause-ok
 returns-in-Results-clause-ok g c =
     let x : Folding = folding g.D.HasMeaning.meaning g.D.SideEffects.side_effects g.D.ConstFoldInterface.can_fold g.D.ConstFoldInterface.constants g.D.ConstFoldInterface.accepts g.D.ConstFoldInterface.constant_head g.D.OperandFoldInterface.operand_folds in
-    let laws : AreLawful x = lawful_folding _ _ _ _ _ _ _ _ _ g.met.D.Dialect.gives_at_once g.met.D.Dialect.answers_true g.met.D.OperandFoldInterface.answers_operands g.met.D.Dialect.makes_constants g.met.D.Dialect.forwards_operands in
+    let laws : AreLawful x = lawful_folding _ _ _ _ _ _ _ _ _ g.met.D.Dialect.gives_at_once g.met.D.Dialect.answers_true g.met.D.Dialect.answers_operands g.met.D.Dialect.makes_constants g.met.D.Dialect.forwards_operands in
     let t = c.args.ctx.now.tree in
     let t' = c.fold_result-outcome.new.ctx.tree in
     let root = c.args.root in

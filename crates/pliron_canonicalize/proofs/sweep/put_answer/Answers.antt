@@ -3,7 +3,7 @@ use Rattle.std.proofs.lemmas.Option.{slice_get-get_or}
 use Rattle.std.proofs.lemmas.Result.{IfOk-weaker}
 use Rattle.pliron_core.specs.Tree.{results_of}
 use Rattle.pliron_core.proofs.HoldingLemmas.{some_is}
-use Rattle.pliron_operand_folding.specs.declared.OpFoldResult.TheVariants.{Operand, Constant}
+use Rattle.pliron_laws.specs.declared.operand_folds.OpFoldResult.TheVariants.{Operand, Constant}
 use Rattle.pliron_operand_laws.specs.Answers.{Folding}
 use Rattle.pliron_operand_laws.proofs.Answered.{AreLawful}
 use Rattle.pliron_operand_laws.proofs.Whole.{constant_read_here}
@@ -28,7 +28,7 @@ move_to_operand-requires-clause-operand g c =
 pub move_to_constant-requires-clause-constant : goal.move_to_constant-requires-clause-constant
 move_to_constant-requires-clause-constant g c = λ v listed.
     let x : Folding = folding g.D.HasMeaning.meaning g.D.SideEffects.side_effects g.D.ConstFoldInterface.can_fold g.D.ConstFoldInterface.constants g.D.ConstFoldInterface.accepts g.D.ConstFoldInterface.constant_head g.D.OperandFoldInterface.operand_folds in
-    let laws : AreLawful x = lawful_folding _ _ _ _ _ _ _ _ _ g.met.D.Dialect.gives_at_once g.met.D.Dialect.answers_true g.met.D.OperandFoldInterface.answers_operands g.met.D.Dialect.makes_constants g.met.D.Dialect.forwards_operands in
+    let laws : AreLawful x = lawful_folding _ _ _ _ _ _ _ _ _ g.met.D.Dialect.gives_at_once g.met.D.Dialect.answers_true g.met.D.Dialect.answers_operands g.met.D.Dialect.makes_constants g.met.D.Dialect.forwards_operands in
     let here = read_answer c.args.answers.now c.args.index c.index-answers-index.result c.if-index-answers.false c.index-answers-index.is in
     let at : slice_get c.args.answers.now c.args.index ≡ Some (Some (Constant c.in-Some-Constant.attr)) = answer_there c.args.answers.now c.args.index c.index-answers-index.result c.in-Some-Constant.field-0 (Constant c.in-Some-Constant.attr) here c.in-Some-Constant.is (simp c.in-Some-Constant.is at c.in-Some-Constant.field-0-is) in
     let has = c.requires.answers.each (Constant c.in-Some-Constant.attr) at in

@@ -1,17 +1,13 @@
 //! Folding to operands: what an operation's results are, where they are one of its operands or where equal
 //! operands decide them.
-//!
-//! It is one more interface of a dialect, beside those of `pliron_laws`. It knows the tree and the laws of
-//! dialects, and no rewrite, no dialect and no optimisation.
-#![tactic(auto)]
-
 ghost use Rattle.std.specs.Prelude.{◌≡◌, IfOk, IsOkUnless, length};
 ghost use Rattle.pliron_core.specs.Tree.{IsLive, operands_of};
 ghost use Rattle.pliron_laws.specs.declared.fault.OptError.{OptError as FaultName};
-ghost use Rattle.pliron_operand_folding.specs.OperandFolding.{OperandFolds, ReadsOperands, AnswersOperands};
+ghost use Rattle.pliron_laws.specs.OperandFolding.{OperandFolds, ReadsOperands};
 
+use crate::dialect::HasMeaning;
+use crate::fault::OptError;
 use pliron_core::{AttrObj, Context, Operation, Ptr};
-use pliron_laws::{Dialect, OptError};
 use std::alloc::Global;
 
 /// What a result of an operation is.
@@ -25,7 +21,7 @@ pub enum OpFoldResult {
 
 /// Operations whose results are one of their operands, as `x + 0`, or constants that equal operands decide, as
 /// `x - x`.
-pub trait OperandFoldInterface: Dialect {
+pub trait OperandFoldInterface: HasMeaning {
     // what each result is, under known constants, where the operands are these values
     ghost operand_folds: { OperandFolds };
 
@@ -46,7 +42,4 @@ pub trait OperandFoldInterface: Dialect {
         ensures ok { IfOk result (λ answers. ReadsOperands Self.meaning operand_folds operand_attrs.now ctx.now.tree op
             answers.items) }
         ensures memory { IsOkUnless result OptError.Memory };
-
-    // Each answer is what the operation gives.
-    ghost answers_operands: { AnswersOperands Self.meaning Self.operand_folds };
 }

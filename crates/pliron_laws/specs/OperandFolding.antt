@@ -6,8 +6,8 @@ use Rattle.pliron_laws.specs.Datum.{Datum, datum_of, Shape, Give, Meaning}
 use Rattle.pliron_laws.specs.Acting.{Comes, Known}
 use Rattle.pliron_laws.specs.Laws.{Admitted}
 use Rattle.pliron_laws.specs.Tree.{Operation, op_at, shape_of}
-use Rattle.pliron_operand_folding.specs.declared.OpFoldResult.{OpFoldResult}
-use Rattle.pliron_operand_folding.specs.declared.OpFoldResult.TheVariants.{Operand, Constant}
+use Rattle.pliron_laws.specs.declared.operand_folds.OpFoldResult.{OpFoldResult}
+use Rattle.pliron_laws.specs.declared.operand_folds.OpFoldResult.TheVariants.{Operand, Constant}
 
 -- for the shape of an operation, the constants that are known of its operands and the values that they are, what
 -- is known of each result
