@@ -110,7 +110,7 @@ pub fn merge_inside_op<D: Dialect, R: Rewriter + Room>(
     requires live { IsLive ctx.old.tree op }
     requires linked { IsWellLinked D.meaning ctx.old.tree op }
     ensures ok { IfOk result (λ status. MergesAll (OfOperation op) D.meaning ctx.old.tree ctx.new.tree status) }
-    ensures reported { IfOk result (λ status. LosesOperation status ctx.old.tree ctx.new.tree) }
+    ensures loses_operation { IfOk result (λ status. LosesOperation status ctx.old.tree ctx.new.tree) }
     ensures unreachable { OnOk result ((b : ℕ) → IsUnreachable (OfOperation op) ctx.new.tree b → IsUnreachable
         (OfOperation op) ctx.old.tree b) }
     ensures blocks { OnOk result ((b : ℕ) → IsBlock ctx.new.tree b → IsBlock ctx.old.tree b) }
@@ -138,7 +138,7 @@ pub fn merge_inside_block<D: Dialect, R: Rewriter + Room>(
     requires linked { (holder : ℕ) → block_parent_operation_of ctx.old.tree block ≡ Some holder → IsWellLinked D.meaning
         ctx.old.tree holder }
     ensures ok { IfOk result (λ status. MergesAll (OfBlock block) D.meaning ctx.old.tree ctx.new.tree status) }
-    ensures reported { IfOk result (λ status. LosesOperation status ctx.old.tree ctx.new.tree) }
+    ensures loses_operation { IfOk result (λ status. LosesOperation status ctx.old.tree ctx.new.tree) }
     ensures unreachable { OnOk result ((b : ℕ) → IsUnreachable (OfBlock block) ctx.new.tree b → IsUnreachable
         (OfBlock block) ctx.old.tree b) }
     ensures blocks { OnOk result ((b : ℕ) → IsBlock ctx.new.tree b → IsBlock ctx.old.tree b) }
@@ -167,7 +167,7 @@ pub fn merge_inside_region<D: Dialect, R: Rewriter + Room>(
     requires linked { (holder : ℕ) → region_parent_of ctx.old.tree region ≡ Some holder → IsWellLinked D.meaning
         ctx.old.tree holder }
     ensures ok { IfOk result (λ status. MergesAll (OfRegion region) D.meaning ctx.old.tree ctx.new.tree status) }
-    ensures reported { IfOk result (λ status. LosesOperation status ctx.old.tree ctx.new.tree) }
+    ensures loses_operation { IfOk result (λ status. LosesOperation status ctx.old.tree ctx.new.tree) }
     ensures unreachable { OnOk result ((b : ℕ) → IsUnreachable (OfRegion region) ctx.new.tree b → IsUnreachable
         (OfRegion region) ctx.old.tree b) }
     ensures blocks { OnOk result ((b : ℕ) → IsBlock ctx.new.tree b → IsBlock ctx.old.tree b) }

@@ -57,7 +57,7 @@ pub decide_among : (x : Item) (items : List Item) → Among x items ⊎ (Among x
 decide_among x [] = inr (λ i. i)
 decide_among x (y ∷ ys) = ⊎_elim (λ e. inl (inl e)) (λ n. ⊎_elim (λ i. inl (inr i)) (λ m. inr (λ z. ⊎_elim n m z)) (decide_among x ys)) (same_item x y)
 
-module _ (m : Meaning) (side_effects : Head → Option Bool) (removable : Head → ℕ → Bool → Option Bool) (t t' : Tree) (root : ℕ) (w : IsTree t) (w' : IsTree t') (h : IsThinned m side_effects removable t t' root) (used : List ℕ) (noted : AreRecorded t t' used) (items : List Item) (was_visited : AreRevisited t' used items) where
+module _ (m : Meaning) (side_effects : Head → Option Bool) (removable : Head → ℕ → Bool → Option Bool) (t t' : Tree) (root : ℕ) (w : IsTree t) (w' : IsTree t') (h : IsThinned m side_effects removable t t' root) (used : List ℕ) (noted : AreRecorded t t' used) (items : List Item) (revisited : AreRevisited t' used items) where
   operation_before : (k : ℕ) → IsReadyOperation m side_effects t' root k → (Among (Op k) items → ⊥) → IsReadyOperation m side_effects t root k
   operation_before k r never = record { may = h.may_back k r.may; none = none }
     where
@@ -70,14 +70,14 @@ module _ (m : Meaning) (side_effects : Head → Option Bool) (removable : Head �
           let y = slice_in (results_of t' k) v there in
           let made = w'.joined.results k y.0 v y.1 in
           ⊎_elim
-          (λ x. never (was_visited.makers v k y.0 x (subst (IsMadeBy t' v) (sym made) y.1) made))
+          (λ x. never (revisited.makers v k y.0 x (subst (IsMadeBy t' v) (sym made) y.1) made))
           (λ j. let p = slice_in (operands_of t' user) v j in r.none user p.0 (OfResult v p.1 there))
           (noted user v (in_slice (operands_of t user) place v e))
       none user place (OfInside v e i out) =
           let j = in_slice (operands_of t user) place v e in
           let made = h.made_forth k v user live j i out in
           ⊎_elim
-          (λ x. never (was_visited.around v k x made.0 made.1))
+          (λ x. never (revisited.around v k x made.0 made.1))
           (λ y. let p = slice_in (operands_of t' user) v y in let q = h.operand_back user p.0 v p.1 in r.none user p.0 (OfInside v p.1 made.1 (λ z. out (h.within_back k user z))))
           (noted user v j)
 
@@ -88,7 +88,7 @@ module _ (m : Meaning) (side_effects : Head → Option Bool) (removable : Head �
       made = w'.joined.arguments r.may.block r.may.index v r.may.argument
 
       none : (user : ℕ) → In v (operands_of t user) → ⊥
-      none user i = ⊎_elim (λ x. never (was_visited.arguments v r.may.block r.may.index x (subst (IsMadeBy t' v) (sym made) r.may.argument) made)) (λ j. r.none user j) (noted user v i)
+      none user i = ⊎_elim (λ x. never (revisited.arguments v r.may.block r.may.index x (subst (IsMadeBy t' v) (sym made) r.may.argument) made)) (λ j. r.none user j) (noted user v i)
 
   pub ready_before : (x : Item) → IsReady m side_effects removable t' root x → IsReady m side_effects removable t root x ⊎ Among x items
   ready_before (Op k) r = ⊎_elim (λ i. inr i) (λ n. inl (operation_before k r n)) (decide_among (Op k) items)

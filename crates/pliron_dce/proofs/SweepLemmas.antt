@@ -23,12 +23,12 @@ use Rattle.pliron_dce.proofs.WorkLemmas.{among_split}
 
 module _ (m : Meaning) (can_fold : Head → Bool) (SameTests : Head → Head → Type 0) (shortened : Shape → ℕ → ℕ → Head) (law : ForwardsOperands m can_fold SameTests shortened) (tests : (h h' : Head) → SameTests h h' → m.is_branch h' ≡ m.is_branch h) (counts : KeepsCounts m) (side_effects : Head → Option Bool) (free : GivesAtOnce m side_effects) (removable : Head → ℕ → Bool → Option Bool) (without : ActsWithoutArgument m removable) where
   pub ready_all : (t t' : Tree) (root : ℕ) (c : DeadCandidate) (used : List ℕ) (old new : List DeadCandidate) → IsTree t → IsTree t' → IsWellLinked m t root → IsReady m side_effects removable t root (item_of c) → ErasesItem m shortened t t' (item_of c) → HasReady m side_effects removable t root (old ++ c ∷ []) → AreRecorded t t' used → AreRevisited t' used (items_of new) → ((x : Item) → Among x (items_of old) → Among x (items_of new)) → HasReady m side_effects removable t' root new
-  ready_all t t' root c used old new w w' linked r g all noted was_visited kept x rx =
+  ready_all t t' root c used old new w w' linked r g all noted revisited kept x rx =
       let s = step m can_fold SameTests shortened law tests counts side_effects free removable without t t' root (item_of c) w w' linked r g in
       ⊎_elim
       (λ before. ⊎_elim (λ i. kept x i) (λ e. absurd (gone_unready m can_fold SameTests shortened law tests counts side_effects free removable without t t' root (item_of c) w w' linked r g (subst (IsReady m side_effects removable t' root) e rx))) (among_split x old c (all x before)))
       (λ i. i)
-      (ready_before m side_effects removable t t' root w w' s.thins used noted (items_of new) was_visited x rx)
+      (ready_before m side_effects removable t t' root w w' s.thins used noted (items_of new) revisited x rx)
 
   -- those around an operation that stands are as before
   pub closed_after : (t t' : Tree) (root : ℕ) (x : Item) (ks : List ℕ) → IsTree t → IsTree t' → IsWellLinked m t root → IsReady m side_effects removable t root x → ErasesItem m shortened t t' x → AreClosed t ks → AreClosed t' ks

@@ -324,7 +324,7 @@ fn push_around(
     requires around { IsAroundMaker ctx.now.tree value first }
     requires live { IfSome first (λ op. IsLive ctx.now.tree op) }
     requires closed { AreClosed ctx.now.tree around.old.ops.items }
-    ensures scans { OnOk result (AddsParents ctx.now.tree value around.old.ops.items around.new.ops.items) }
+    ensures adds_parents { OnOk result (AddsParents ctx.now.tree value around.old.ops.items around.new.ops.items) }
     ensures closed { OnOk result (AreClosed ctx.now.tree around.new.ops.items) }
 {
     ctx.well_formed();
@@ -360,7 +360,7 @@ pub(crate) fn note(
     requires closed { AreClosed ctx.now.tree worklist.old.around.ops.items }
     ensures kept { OnOk result ((x : Item) → Among x (items_of (pending_candidates worklist.old)) → Among x
         (items_of (pending_candidates worklist.new))) }
-    ensures was_visited { OnOk result (AreRevisited ctx.now.tree used.now
+    ensures revisited { OnOk result (AreRevisited ctx.now.tree used.now
         (items_of (pending_candidates worklist.new))) }
     ensures closed { OnOk result (AreClosed ctx.now.tree worklist.new.around.ops.items) }
 {

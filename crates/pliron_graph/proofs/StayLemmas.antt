@@ -9,9 +9,9 @@ use Rattle.pliron_graph.specs.Reverse.{IsSink, IsLastListed}
 module _ {N : Type 0} (eq : N → N → Bool) (g : Digraph N) (lawful : IsLawful eq g) where
   -- nodes that are told from others are a sink exactly if all that is led to from them is told to be of them
   pub sink_by_test : (P : N → Type 0) (members : List N) → All (λ v. Contains g.nodes v) members → ((v : N) → Contains g.nodes v → (P v ↔ Contains members v)) → (All (λ u. All P (g.succ u)) members ↔ IsSink g members)
-  sink_by_test P members inside reported = (
-    λ h k d l m e n. (reported (get_or (g.succ (get_or members k d)) m e) (target k m d e l n)).0 (h k d l m e n),
-    λ h k d l m e n. (reported (get_or (g.succ (get_or members k d)) m e) (target k m d e l n)).1 (h k d l m e n),
+  sink_by_test P members inside decides = (
+    λ h k d l m e n. (decides (get_or (g.succ (get_or members k d)) m e) (target k m d e l n)).0 (h k d l m e n),
+    λ h k d l m e n. (decides (get_or (g.succ (get_or members k d)) m e) (target k m d e l n)).1 (h k d l m e n),
   )
     where
       target : (k m : ℕ) (d e : N) → k < length members → m < length (g.succ (get_or members k d)) → Contains g.nodes (get_or (g.succ (get_or members k d)) m e)

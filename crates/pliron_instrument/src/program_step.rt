@@ -1,9 +1,9 @@
-use pliron_laws::Dialect;
 //! One of the passes of the programs for people, and the notations whose dialects can run each of them.
 ghost use Rattle.std.specs.Prelude.{◌≡◌, IfSome, IfNone};
 ghost use Rattle.pliron_pipeline.specs.PassNames.{IsNoPass};
 
 use pliron_canonicalize_pass::CanonicalizePass;
+use pliron_laws::Dialect;
 use pliron_opts::Notation;
 use pliron_pass::{BenchFacts, Either, Pass};
 use pliron_pipeline::{CSEPass, DCEPass, PassName, PassStep, SCCPPass, SimplifyCFGPass};

@@ -1,7 +1,7 @@
-use pliron_laws::Dialect;
 //! What canonicalization asks of a dialect, under one name.
 ghost use Rattle.pliron_operand_laws.specs.Answers.{Folding};
 
+use pliron_laws::Dialect;
 
 /// What folding depends on in a dialect: its meaning, which heads have side effects, which fold by constants and what
 /// is answered then, which constants it makes, and what it answers of results that are operands. Each such dialect has

@@ -1,4 +1,3 @@
-use pliron_laws::Dialect;
 //! What the dialect answers of results that are operands of their operations, or constants; that the uses of a result
 //! may become uses of what is answered of it; and the whole rewrite that makes them uses of an operand.
 //!
@@ -13,6 +12,8 @@ mod folding;
 pub mod rewrites;
 
 pub use folding::HasOperandFolding;
+
+use pliron_laws::Dialect;
 
 /// The uses of a result may become uses of the operand, or of a new operation that makes the constant, that the
 /// dialect answers the result to be by what is known of the operands.

@@ -173,7 +173,7 @@ module _ (t : Tree) (root : ℕ) where
       let o = to_sums s pops a in
       let bl = sum_both (λ b. one_if (is_executable s' b)) (λ b. one_if (is_block_on_worklist s b)) (λ b. one_if (is_executable s b)) (λ b. one_if (is_block_on_worklist s' b)) (blocks_inside t root) (λ b i. block_least (is_executable s b) (is_executable s' b) (is_block_on_worklist s b) (is_block_on_worklist s' b) (λ y. (w.blocks b y).1) (f.blocks b) (f.entered b)) in
       let bm = sum_both (λ b. one_if (is_block_on_worklist s' b)) (λ b. one_if (is_executable s b)) (λ b. one_if (is_block_on_worklist s b)) (λ b. one_if (is_executable s' b)) (blocks_inside t root) (λ b i. block_most (is_executable s b) (is_executable s' b) (is_block_on_worklist s b) (is_block_on_worklist s' b) (f.below.is_executable b) (f.came b)) in
-      let vl = sum_both (λ v. least (lattice_value_in s' v)) (λ v. one_if (is_value_on_worklist s v)) (λ v. least (lattice_value_in s v)) (λ v. one_if (is_value_on_worklist s' v)) (values_inside t root) (λ v i. value_least (lattice_value_in s v) (lattice_value_in s' v) (is_value_on_worklist s v) (is_value_on_worklist s' v) (λ y. (w.values v y).1) (f.values v) (f.reported v)) in
+      let vl = sum_both (λ v. least (lattice_value_in s' v)) (λ v. one_if (is_value_on_worklist s v)) (λ v. least (lattice_value_in s v)) (λ v. one_if (is_value_on_worklist s' v)) (values_inside t root) (λ v i. value_least (lattice_value_in s v) (lattice_value_in s' v) (is_value_on_worklist s v) (is_value_on_worklist s' v) (λ y. (w.values v y).1) (f.values v) (f.waits_if_lowered v)) in
       let vm = sum_both (λ v. one_if (is_value_on_worklist s' v)) (λ v. most (lattice_value_in s v)) (λ v. one_if (is_value_on_worklist s v)) (λ v. most (lattice_value_in s' v)) (values_inside t root) (λ v i. value_most (lattice_value_in s v) (lattice_value_in s' v) (is_value_on_worklist s v) (is_value_on_worklist s' v) (f.below.lattice_value v) (f.lowered_stamps v)) in
       from_sums s' pops (record { least = omega (arith, o.least, bl, vl); most = omega (arith, o.most, bm, vm) })
 

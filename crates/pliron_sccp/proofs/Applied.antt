@@ -34,7 +34,7 @@ met_below constants f g (Lower v cell ∷ ds) below m = ((m.0.0, m.0.1, at_most_
 met_below constants f g (Answer v c ∷ ds) below m = (at_most_trans (g.lattice_value v) (f.lattice_value v) (Constant c) (below.lattice_value v) m.0, met_below constants f g ds below m.1)
 
 pub falls_refl : (s : Tables) → ValuesAreLowered s s
-falls_refl s = record { below = below_refl (lattice_values_of s); reported = λ v. inl refl; entered = λ b r. inl r; values = λ v w. w; blocks = λ b w. w; lowered_stamps = λ v w. inl w; came = λ b w. inl w; numbers = λ b. refl; keeps = λ k c e. e }
+falls_refl s = record { below = below_refl (lattice_values_of s); waits_if_lowered = λ v. inl refl; entered = λ b r. inl r; values = λ v w. w; blocks = λ b w. w; lowered_stamps = λ v w. inl w; came = λ b w. inl w; numbers = λ b. refl; keeps = λ k c e. e }
 
 pub at_most_both : (f g : LatticeValue) → AtMost f g → AtMost g f → f ≡ g
 at_most_both f g (inl u) (inl v) = v ∙ sym u
@@ -52,7 +52,7 @@ between f g h p q e = at_most_both g f p (subst (λ z. AtMost z g) e q)
 pub falls_trans : (s s1 s2 : Tables) → ValuesAreLowered s s1 → ValuesAreLowered s1 s2 → ValuesAreLowered s s2
 falls_trans s s1 s2 p q = record {
   below = below_trans (lattice_values_of s2) (lattice_values_of s1) (lattice_values_of s) q.below p.below;
-  reported = λ v. ⊎_elim (λ e. ⊎_elim (λ d. inl (e ∙ d)) (λ w. inr (q.values v w)) (p.reported v)) (λ w. inr w) (q.reported v);
+  waits_if_lowered = λ v. ⊎_elim (λ e. ⊎_elim (λ d. inl (e ∙ d)) (λ w. inr (q.values v w)) (p.waits_if_lowered v)) (λ w. inr w) (q.waits_if_lowered v);
   entered = λ b r. ⊎_elim (λ e. ⊎_elim (λ d. inl d) (λ w. inr (q.blocks b w)) (p.entered b e)) (λ w. inr w) (q.entered b r);
   values = λ v w. q.values v (p.values v w);
   blocks = λ b w. q.blocks b (p.blocks b w);
@@ -79,12 +79,12 @@ falls_trans s s1 s2 p q = record {
         by false e = e
 
 pub applied_none : (constants : List AttrObj) (s : Tables) → IsApplied constants [] s s
-applied_none constants s = record { values_on_worklist = falls_refl s; met = tt; least = λ g below m. below }
+applied_none constants s = record { lowered = falls_refl s; met = tt; least = λ g below m. below }
 
 pub applied_more : (constants : List AttrObj) (d : Constraint) (ds : List Constraint) (s s1 s2 : Tables) → IsApplied constants ds s s1 → IsApplied constants (d ∷ []) s1 s2 → IsApplied constants (d ∷ ds) s s2
 applied_more constants d ds s s1 s2 p q = record {
-  values_on_worklist = falls_trans s s1 s2 p.values_on_worklist q.values_on_worklist;
-  met = (q.met.0, met_below constants (lattice_values_of s1) (lattice_values_of s2) ds q.values_on_worklist.below p.met);
+  lowered = falls_trans s s1 s2 p.lowered q.lowered;
+  met = (q.met.0, met_below constants (lattice_values_of s1) (lattice_values_of s2) ds q.lowered.below p.met);
   least = λ g below m. q.least g (p.least g below m.1) (m.0, tt);
 }
 
@@ -93,7 +93,7 @@ module _ (t : Tree) (k : ℕ) (s u : Tables) (same : StampsIt t k s u) where
   same_falls : ValuesAreLowered s u
   same_falls = record {
     below = record { is_executable = λ b r. same.reached b ∙ r; lattice_value = λ v. same_below (lattice_value_in s v) (lattice_value_in u v) (same.facts v) };
-    reported = λ v. inl (same.facts v);
+    waits_if_lowered = λ v. inl (same.facts v);
     entered = λ b r. inl (sym (same.reached b) ∙ r);
     values = λ v w. same.values v ∙ w;
     blocks = λ b w. same.blocks b ∙ w;
@@ -109,7 +109,7 @@ module _ (t : Tree) (k : ℕ) (s u : Tables) (same : StampsIt t k s u) where
 
   pub applied_same : (constraints : List Constraint) (w : Tables) → IsApplied (known_constants u) constraints u w → IsApplied (known_constants s) constraints s w
   applied_same constraints w a = record {
-    values_on_worklist = falls_trans s u w same_falls a.values_on_worklist;
+    lowered = falls_trans s u w same_falls a.lowered;
     met = subst (λ z. SatisfiesAll z (lattice_values_of w) constraints) same.constants a.met;
     least = λ g below m. a.least g
         (record { is_executable = λ b r. below.is_executable b (sym (same.reached b) ∙ r); lattice_value = λ v. subst (AtMost (g.lattice_value v)) (sym (same.facts v)) (below.lattice_value v) })
@@ -119,8 +119,8 @@ module _ (t : Tree) (k : ℕ) (s u : Tables) (same : StampsIt t k s u) where
 -- one block is entered
 module _ (block : ℕ) (s s' : Tables) (e : Enters block s s') where
   -- it was reached already, or waits from now on
-  reported : ((is_executable s block ≡ true) × ((b : ℕ) → is_block_on_worklist s' b ≡ is_block_on_worklist s b)) ⊎ ((is_executable s block ≡ false) × ((b : ℕ) → is_block_on_worklist s' b ≡ (if nat_eq block b then true else is_block_on_worklist s b)))
-  reported = by (is_executable s block) refl
+  waits_if_entered : ((is_executable s block ≡ true) × ((b : ℕ) → is_block_on_worklist s' b ≡ is_block_on_worklist s b)) ⊎ ((is_executable s block ≡ false) × ((b : ℕ) → is_block_on_worklist s' b ≡ (if nat_eq block b then true else is_block_on_worklist s b)))
+  waits_if_entered = by (is_executable s block) refl
     where
       same : (b : ℕ) (q : Bool) → nat_eq block b ≡ q → (if q then is_block_on_worklist s block else is_block_on_worklist s b) ≡ is_block_on_worklist s b
       same b true is = ap (is_block_on_worklist s) (eqb-true block b is)
@@ -145,7 +145,7 @@ module _ (block : ℕ) (s s' : Tables) (e : Enters block s s') where
       by false other = inr (ap (λ c. if c then true else is_executable s b) (sym other) ∙ sym (e.reached b) ∙ r)
 
   waited_then : (b : ℕ) → is_block_on_worklist s b ≡ true → is_block_on_worklist s' b ≡ true
-  waited_then b w = ⊎_elim (λ p. p.1 b ∙ w) (λ p. p.1 b ∙ by (nat_eq block b)) reported
+  waited_then b w = ⊎_elim (λ p. p.1 b ∙ w) (λ p. p.1 b ∙ by (nat_eq block b)) waits_if_entered
     where
       by : (c : Bool) → (if c then true else is_block_on_worklist s b) ≡ true
       by true = refl
@@ -155,13 +155,13 @@ module _ (block : ℕ) (s s' : Tables) (e : Enters block s s') where
   waits_now b same r = ⊎_elim
       (λ p. inl (ap (is_executable s) (sym same) ∙ p.0))
       (λ p. inr (p.1 b ∙ ap (λ c. if c then true else is_block_on_worklist s b) (equal block b same)))
-      reported
+      waits_if_entered
     where
       equal : (x y : ℕ) → x ≡ y → nat_eq x y ≡ true
       equal x y s = eq-eqb x y s
 
   came_now : (b : ℕ) → is_block_on_worklist s' b ≡ true → (is_block_on_worklist s b ≡ true) ⊎ ((is_executable s b ≡ false) × (is_executable s' b ≡ true))
-  came_now b w = ⊎_elim (λ p. inl (sym (p.1 b) ∙ w)) (λ p. by (nat_eq block b) refl p.0 (p.1 b)) reported
+  came_now b w = ⊎_elim (λ p. inl (sym (p.1 b) ∙ w)) (λ p. by (nat_eq block b) refl p.0 (p.1 b)) waits_if_entered
     where
       by : (c : Bool) → nat_eq block b ≡ c → is_executable s block ≡ false → is_block_on_worklist s' b ≡ (if nat_eq block b then true else is_block_on_worklist s b) → (is_block_on_worklist s b ≡ true) ⊎ ((is_executable s b ≡ false) × (is_executable s' b ≡ true))
       by true same r is = inr (ap (is_executable s) (sym (eqb-true block b same)) ∙ r, e.reached b ∙ ap (λ c. if c then true else is_executable s b) same)
@@ -170,7 +170,7 @@ module _ (block : ℕ) (s s' : Tables) (e : Enters block s s') where
   entered_falls : ValuesAreLowered s s'
   entered_falls = record {
     below = record { is_executable = λ b r. reached_then b r; lattice_value = λ v. same_below (lattice_value_in s v) (lattice_value_in s' v) (e.facts v) };
-    reported = λ v. inl (e.facts v);
+    waits_if_lowered = λ v. inl (e.facts v);
     entered = λ b r. ⊎_elim (λ same. waits_now b same r) (λ old. inl old) (reached_before b r);
     values = λ v w. e.values v ∙ w;
     blocks = waited_then;
@@ -182,7 +182,7 @@ module _ (block : ℕ) (s s' : Tables) (e : Enters block s s') where
 
   pub enter_applied : (constants : List AttrObj) → IsApplied constants (Enter block ∷ []) s s'
   enter_applied constants = record {
-    values_on_worklist = entered_falls;
+    lowered = entered_falls;
     met = (e.reached block ∙ ap (λ c. if c then true else is_executable s block) (equal block), tt);
     least = λ g below m. record {
       is_executable = λ b r. ⊎_elim (λ same. subst (λ z. IsTrue (g.is_executable z)) same m.0) (λ old. below.is_executable b old) (reached_before b r);
@@ -206,18 +206,18 @@ module _ (value : ℕ) (to : LatticeValue) (s s' : Tables) (l : Lowers value to 
   fact_then v = ⊎_elim (λ same. subst (λ z. AtMost (lattice_value_in s' z) (lattice_value_in s z)) same l.met.first) (λ other. same_below (lattice_value_in s v) (lattice_value_in s' v) (l.others v other).0) (here_or v)
 
   told_here : (lattice_value_in s' value ≡ lattice_value_in s value) ⊎ (is_value_on_worklist s' value ≡ true)
-  told_here = ⊎_elim (λ p. inl p.0) (λ p. inr p.1) l.reported
+  told_here = ⊎_elim (λ p. inl p.0) (λ p. inr p.1) l.waits_if_lowered
 
   waits_here : is_value_on_worklist s value ≡ true → is_value_on_worklist s' value ≡ true
-  waits_here w = ⊎_elim (λ p. p.1 ∙ w) (λ p. p.1) l.reported
+  waits_here w = ⊎_elim (λ p. p.1 ∙ w) (λ p. p.1) l.waits_if_lowered
 
   fell_here : is_value_on_worklist s' value ≡ true → (is_value_on_worklist s value ≡ true) ⊎ (lattice_value_in s' value ≢ lattice_value_in s value)
-  fell_here w = ⊎_elim (λ p. inl (sym p.1 ∙ w)) (λ p. inr p.0) l.reported
+  fell_here w = ⊎_elim (λ p. inl (sym p.1 ∙ w)) (λ p. inr p.0) l.waits_if_lowered
 
   lowered_falls : ValuesAreLowered s s'
   lowered_falls = record {
     below = record { is_executable = λ b r. l.reached b ∙ r; lattice_value = fact_then };
-    reported = λ v. ⊎_elim (λ same. subst (λ z. (lattice_value_in s' z ≡ lattice_value_in s z) ⊎ (is_value_on_worklist s' z ≡ true)) same told_here) (λ other. inl (l.others v other).0) (here_or v);
+    waits_if_lowered = λ v. ⊎_elim (λ same. subst (λ z. (lattice_value_in s' z ≡ lattice_value_in s z) ⊎ (is_value_on_worklist s' z ≡ true)) same told_here) (λ other. inl (l.others v other).0) (here_or v);
     entered = λ b r. inl (sym (l.reached b) ∙ r);
     values = λ v w. ⊎_elim (λ same. subst (λ z. is_value_on_worklist s z ≡ true → is_value_on_worklist s' z ≡ true) same waits_here w) (λ other. (l.others v other).1 ∙ w) (here_or v);
     blocks = λ b w. l.blocks b ∙ w;
@@ -241,14 +241,14 @@ module _ (value : ℕ) (to : LatticeValue) (s s' : Tables) (l : Lowers value to 
 
   pub lower_applied : (constants : List AttrObj) (cell : LatticeCell) → Means constants cell to → IsApplied constants (Lower value cell ∷ []) s s'
   lower_applied constants cell means = record {
-    values_on_worklist = lowered_falls;
+    lowered = lowered_falls;
     met = ((to, means, l.met.second), tt);
     least = λ g below m. least_here g below (subst (AtMost (g.lattice_value value)) (means_same constants cell m.0.0 to m.0.1 means) m.0.2);
   }
 
 pub answer_applied : (value : ℕ) (c : AttrObj) (s s' : Tables) (l : Lowers value (Constant c) s s') (constants : List AttrObj) → IsApplied constants (Answer value c ∷ []) s s'
 answer_applied value c s s' l constants = record {
-  values_on_worklist = lowered_falls value (Constant c) s s' l;
+  lowered = lowered_falls value (Constant c) s s' l;
   met = (l.met.second, tt);
   least = λ g below m. least_here value (Constant c) s s' l g below m.0;
 }
@@ -265,7 +265,7 @@ module _ (old new : List AttrObj) (keeps : KeepsConstants old new) (low : Lattic
 
   applied_kept : (d : Constraint) (s s' : Tables) → Satisfies old low d → IsApplied new (d ∷ []) s s' → IsApplied old (d ∷ []) s s'
   applied_kept d s s' m a = record {
-    values_on_worklist = a.values_on_worklist;
+    lowered = a.lowered;
     met = ((meets_kept d m (lattice_values_of s')).1 a.met.0, tt);
     least = λ g below p. a.least g below ((meets_kept d m g).0 p.0, tt);
   }
@@ -292,10 +292,10 @@ module _ (all : List Constraint) (last : Constraint) (now next : List Constraint
   last_met = meets_amid (known_constants s) (lowest_lattice_values s) next last d.0 (subst (SatisfiesAll (known_constants s) (lowest_lattice_values s)) (d.1 ∙ ap (λ z. z ++ d.0) e) can)
 
   pub can_meet_last : CanSatisfy s1 (last ∷ [])
-  can_meet_last = (meets_then s s1 d.2.values_on_worklist last last_met, tt)
+  can_meet_last = (meets_then s s1 d.2.lowered last last_met, tt)
 
   pub next_done : (s2 : Tables) → IsApplied (known_constants s1) (last ∷ []) s1 s2 → IsDone all s next s2
-  next_done s2 a = (last ∷ d.0, d.1 ∙ ap (λ z. z ++ d.0) e ∙ append_assoc next (last ∷ []) d.0, applied_more (known_constants s) last d.0 s s1 s2 d.2 (applied_kept (known_constants s) (known_constants s1) d.2.values_on_worklist.keeps (lowest_lattice_values s) last s1 s2 last_met a))
+  next_done s2 a = (last ∷ d.0, d.1 ∙ ap (λ z. z ++ d.0) e ∙ append_assoc next (last ∷ []) d.0, applied_more (known_constants s) last d.0 s s1 s2 d.2 (applied_kept (known_constants s) (known_constants s1) d.2.lowered.keeps (lowest_lattice_values s) last s1 s2 last_met a))
 
 pub all_done : (all now : List Constraint) (s s1 : Tables) → now ≡ [] → IsDone all s now s1 → IsApplied (known_constants s) all s s1
 all_done all now s s1 e d = subst (λ z. IsApplied (known_constants s) z s s1) (sym (d.1 ∙ ap (λ z. z ++ d.0) e)) d.2

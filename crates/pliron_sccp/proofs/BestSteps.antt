@@ -60,24 +60,24 @@ module _ (s : Tables) (b : ℕ) where
   visited_reached : IsTrue (is_visited s b) → IsTrue (is_executable s b)
   visited_reached y = sym (ap (λ z. if z then false else is_executable s b) (visited_rests y)) ∙ y
 
-module _ (s u : Tables) (values_on_worklist : ValuesAreLowered s u) (b : ℕ) where
+module _ (s u : Tables) (lowered : ValuesAreLowered s u) (b : ℕ) where
   visited_still : IsTrue (is_visited s b) → IsTrue (is_visited u b)
-  visited_still y = make_visited u b (values_on_worklist.below.is_executable b (visited_reached s b y)) (by (is_block_on_worklist u b) refl)
+  visited_still y = make_visited u b (lowered.below.is_executable b (visited_reached s b y)) (by (is_block_on_worklist u b) refl)
     where
       by : (z : Bool) → is_block_on_worklist u b ≡ z → is_block_on_worklist u b ≡ false
       by true e = ⊎_elim
           (λ waited. absurd (true≢false (sym waited ∙ visited_rests s b y)))
           (λ new. absurd (true≢false (sym (visited_reached s b y) ∙ new.0)))
-          (values_on_worklist.came b e)
+          (lowered.came b e)
       by false e = e
 
   visited_before : IsTrue (is_visited u b) → IsTrue (is_visited s b)
   visited_before y = make_visited s b
-      (⊎_elim (λ r. r) (λ waits. absurd (true≢false (sym waits ∙ visited_rests u b y))) (values_on_worklist.entered b (visited_reached u b y)))
+      (⊎_elim (λ r. r) (λ waits. absurd (true≢false (sym waits ∙ visited_rests u b y))) (lowered.entered b (visited_reached u b y)))
       (by (is_block_on_worklist s b) refl)
     where
       by : (z : Bool) → is_block_on_worklist s b ≡ z → is_block_on_worklist s b ≡ false
-      by true e = absurd (true≢false (sym (values_on_worklist.blocks b e) ∙ visited_rests u b y))
+      by true e = absurd (true≢false (sym (lowered.blocks b e) ∙ visited_rests u b y))
       by false e = e
 
 wider_way : (t : Tree) (seen more : ℕ → Bool) → ((b : ℕ) → IsTrue (seen b) → IsTrue (more b)) → (b : ℕ) → HasWay t seen b → HasWay t more b
@@ -104,14 +104,14 @@ module _ (x : Says) (t : Tree) (root : ℕ) (w : IsTree t) (linked : IsWellLinke
       front : (q v : ℕ) → In q done → In v (results_of t q) → lattice_value_in s v ≢ Undetermined
 
     one_on : (k c : ℕ) (done rest : List ℕ) (s u : Tables) → VisitsOperation x t k s u → IsNext k c done rest s → IsOn x t root f seen (lattice_values_of u)
-    one_on k c done rest s u visit_stamps n =
+    one_on k c done rest s u visits n =
         let o = live_at t k (w.joined.all_in_place k c n.placed).0 in
-        resume_scan x t root w linked answers places owed f visited seen inside grounded ready more k c o.0 n.placed o.1 n.reached n.came done rest n.body (lattice_values_of s) n.on n.front s u refl visit_stamps
+        resume_scan x t root w linked answers places owed f visited seen inside grounded ready more k c o.0 n.placed o.1 n.reached n.came done rest n.body (lattice_values_of s) n.on n.front s u refl visits
 
     one_results : (k c : ℕ) (done rest : List ℕ) (s u : Tables) → VisitsOperation x t k s u → IsNext k c done rest s → (v : ℕ) → In v (results_of t k) → lattice_value_in u v ≢ Undetermined
-    one_results k c done rest s u visit_stamps n =
+    one_results k c done rest s u visits n =
         let o = live_at t k (w.joined.all_in_place k c n.placed).0 in
-        look_results x t root w linked answers places owed f visited seen inside grounded ready more k c o.0 n.placed o.1 n.reached n.came done rest n.body (lattice_values_of s) n.on n.front s u refl visit_stamps
+        look_results x t root w linked answers places owed f visited seen inside grounded ready more k c o.0 n.placed o.1 n.reached n.came done rest n.body (lattice_values_of s) n.on n.front s u refl visits
 
     one_kept : (k c : ℕ) (done rest : List ℕ) (s : Tables) (edges edges' : FeasibleEdges) → KeepsFeasible x t (lattice_values_of s) k edges edges' → IsNext k c done rest s → AreSurelyFeasible x t root edges → AreSurelyFeasible x t root edges'
     one_kept k c done rest s edges edges' keeps n sure j b led = ⊎_elim
@@ -133,7 +133,7 @@ module _ (x : Says) (t : Tree) (root : ℕ) (w : IsTree t) (linked : IsWellLinke
         let n : IsNext k c done ks s = record { placed = w.bodies.owned k c (subst (In k) (sym body) (In-right k done (k ∷ ks) (inl refl))); reached = reached; came = came; body = body; on = on; front = front } in
         through_block c reached came ks q u kept edges' d (done ++ k ∷ []) (body ∙ sym (append_assoc done (k ∷ []) ks)) (one_on k c done ks s q a n)
         (λ y v i j. ⊎_elim
-        (λ old. below_undetermined (lattice_value_in s v) (lattice_value_in q v) (a.applied.values_on_worklist.below.lattice_value v) (front y v old j))
+        (λ old. below_undetermined (lattice_value_in s v) (lattice_value_in q v) (a.applied.lowered.below.lattice_value v) (front y v old j))
         (λ last. ⊎_elim (λ e. one_results k c done ks s q a n v (subst (λ z. In v (results_of t z)) e j)) (λ none. absurd none) last)
         (In-cases y done (k ∷ []) i))
         (one_kept k c done ks s edges kept keeps n sure)
@@ -186,8 +186,8 @@ module _ (x : Says) (t : Tree) (root : ℕ) (w : IsTree t) (linked : IsWellLinke
     pub block_best : (c : ℕ) (u s' : Tables) (edges edges' : FeasibleEdges) → PopsBlock c s u → IsTrue (is_executable s c) → VisitsInTurnAndKeeps x t (body_of t c) u s' edges edges' → AreSurelyFeasible x t root edges → IsBest x t root s' × AreSurelyFeasible x t root edges'
     block_best c u s' edges edges' k reached d sure =
         let r = through_block (lattice_values_of s) (is_visited s) (is_visited u) inside best.grounded best.ready more c reached came (body_of t c) u s' edges edges' d [] refl (begin (is_visited u) more u k.facts k.reached) (λ q v i. absurd i) sure in
-        let values_on_worklist = through_falls x t (body_of t c) u s' (looks_only x t (body_of t c) u s' edges edges' d) in (
-          finish (lattice_values_of s) (is_visited s) (is_visited u) inside best.grounded best.ready more s' r.on (visited_still u s' values_on_worklist) (visited_before u s' values_on_worklist)
+        let lowered = through_falls x t (body_of t c) u s' (looks_only x t (body_of t c) u s' edges edges' d) in (
+          finish (lattice_values_of s) (is_visited s) (is_visited u) inside best.grounded best.ready more s' r.on (visited_still u s' lowered) (visited_before u s' lowered)
               (λ b q v y p i. ⊎_elim
               (λ same. r.results q v (w.bodies.listed q c (p ∙ ap Some (sym same))) i)
               (λ old. below_undetermined (lattice_value_in s v) (lattice_value_in s' v) (r.on.below.lattice_value v) (best.ready.results b q v old p i))
@@ -256,11 +256,11 @@ module _ (x : Says) (t : Tree) (root : ℕ) (w : IsTree t) (linked : IsWellLinke
 
       after : IsOn x t root (lattice_values_of s) (is_visited s) (lattice_values_of m)
       after = record {
-        below = below_trans (lattice_values_of m) (lattice_values_of u) (lattice_values_of s) a.values_on_worklist.below before.below;
+        below = below_trans (lattice_values_of m) (lattice_values_of u) (lattice_values_of s) a.lowered.below before.below;
         above = λ g closed. only_above t root g (lattice_values_of m) (a.least (only_inside t root g) (only_below t root g (lattice_values_of u) (before.above g closed)) (asked_closed g closed));
         ways = λ b r. before.ways b (back b r);
         held = λ b q r e. before.held b q (back b r) e;
-        arguments = λ b v r i. below_undetermined (lattice_value_in u v) (lattice_value_in m v) (a.values_on_worklist.below.lattice_value v) (before.arguments b v (back b r) i);
+        arguments = λ b v r i. below_undetermined (lattice_value_in u v) (lattice_value_in m v) (a.lowered.below.lattice_value v) (before.arguments b v (back b r) i);
       }
         where
           back : (b : ℕ) → IsTrue (is_executable m b) → IsTrue (is_executable u b)
@@ -269,10 +269,10 @@ module _ (x : Says) (t : Tree) (root : ℕ) (w : IsTree t) (linked : IsWellLinke
       pub values_best : IsBest x t root s'
       values_best =
           let r = through_users (lattice_values_of s) (is_visited s) (is_visited s) inside best.grounded best.ready (λ b y. y) short m s' d (λ q i. is_seen q (c.only q (among q i)).0) after in
-          let values_on_worklist = falls_trans u m s' a.values_on_worklist (through_falls x t short m s' d) in
+          let lowered = falls_trans u m s' a.lowered (through_falls x t short m s' d) in
           finish (lattice_values_of s) (is_visited s) (is_visited s) inside best.grounded best.ready (λ b y. y) s' r
-          (λ b y. visited_still u s' values_on_worklist b (make_visited u b (k.reached b ∙ visited_reached s b y) (k.blocks b ∙ visited_rests s b y)))
-          (λ b y. let z = visited_before u s' values_on_worklist b y in make_visited s b (sym (k.reached b) ∙ visited_reached u b z) (sym (k.blocks b) ∙ visited_rests u b z))
+          (λ b y. visited_still u s' lowered b (make_visited u b (k.reached b ∙ visited_reached s b y) (k.blocks b ∙ visited_rests s b y)))
+          (λ b y. let z = visited_before u s' lowered b y in make_visited s b (sym (k.reached b) ∙ visited_reached u b z) (sym (k.blocks b) ∙ visited_rests u b z))
           (λ b q v y p i. below_undetermined (lattice_value_in s v) (lattice_value_in s' v) (r.below.lattice_value v) (best.ready.results b q v y p i))
 
     -- one that was deferred was visited
@@ -285,16 +285,16 @@ module _ (x : Says) (t : Tree) (root : ℕ) (w : IsTree t) (linked : IsWellLinke
         sure
 
     pub aside_best : (k : ℕ) (s' : Tables) → WasVisited t s k → VisitsOperation x t k s s' → IsBest x t root s'
-    aside_best k s' l visit_stamps =
+    aside_best k s' l visits =
         let here : (b : ℕ) × (parent_of t k ≡ Some b) × IsTrue (is_visited s b) = (l.block, l.in_block, make_visited s l.block l.reached l.taken) in
-        let r = through_users (lattice_values_of s) (is_visited s) (is_visited s) inside best.grounded best.ready (λ b y. y) (k ∷ []) s s' (Then k s' visit_stamps Nothing) (λ q i. ⊎_elim (λ e. subst (λ z. (b : ℕ) × (parent_of t z ≡ Some b) × IsTrue (is_visited s b)) (sym e) here) (λ n. absurd n) i) (begin (is_visited s) (λ b y. y) s (λ v. refl) (λ b. refl)) in
-        finish (lattice_values_of s) (is_visited s) (is_visited s) inside best.grounded best.ready (λ b y. y) s' r (visited_still s s' visit_stamps.applied.values_on_worklist) (visited_before s s' visit_stamps.applied.values_on_worklist)
+        let r = through_users (lattice_values_of s) (is_visited s) (is_visited s) inside best.grounded best.ready (λ b y. y) (k ∷ []) s s' (Then k s' visits Nothing) (λ q i. ⊎_elim (λ e. subst (λ z. (b : ℕ) × (parent_of t z ≡ Some b) × IsTrue (is_visited s b)) (sym e) here) (λ n. absurd n) i) (begin (is_visited s) (λ b y. y) s (λ v. refl) (λ b. refl)) in
+        finish (lattice_values_of s) (is_visited s) (is_visited s) inside best.grounded best.ready (λ b y. y) s' r (visited_still s s' visits.applied.lowered) (visited_before s s' visits.applied.lowered)
         (λ b q v y p i. below_undetermined (lattice_value_in s v) (lattice_value_in s' v) (r.below.lattice_value v) (best.ready.results b q v y p i))
 
   pub step_best : (s s' : Tables) (z z' : DeferredOperations) (edges edges' : FeasibleEdges) (taken : ℕ) → TakesTurn x t s s' z z' edges edges' taken → IsSearchOnTheWay x t root s z → IsBest x t root s → AreSurelyFeasible x t root edges → IsBest x t root s' × AreSurelyFeasible x t root edges'
   step_best s s' z z' edges edges' taken (Block c u k d same e) o best sure = block_best s best o.started.inside c u s' edges edges' k (o.waits.blocks c k.waited).1 d sure
   step_best s s' z z' edges edges' taken (Values none v kept) o best sure = (
-    values_best s best o.started.inside v.takes.values v.users v.sees.short v.constraints v.between v.met s' v.takes.takes edges sure v.takes.calls v.applied v.sees.among v.sees.visit_stamps,
+    values_best s best o.started.inside v.takes.values v.users v.sees.short v.constraints v.between v.met s' v.takes.takes edges sure v.takes.calls v.applied v.sees.among v.sees.visits,
     subst (AreSurelyFeasible x t root) (sym kept) sure,
   )
 
@@ -320,7 +320,7 @@ module _ (x : Says) (t : Tree) (root : ℕ) (w : IsTree t) (linked : IsWellLinke
     is_entry : (b : ℕ) → IsTrue (is_executable s b) → (r : ℕ) × In r (regions_of t root) × (first_of (layout_of t r) None ≡ Some b)
     is_entry b y =
         let least = start.applied.least trial
-        (record { is_executable = λ c z. absurd (true≢false (sym z ∙ start.unsearched.reached c)); lattice_value = start.applied.values_on_worklist.below.lattice_value })
+        (record { is_executable = λ c z. absurd (true≢false (sym z ∙ start.unsearched.reached c)); lattice_value = start.applied.lowered.below.lattice_value })
         ((start.asks trial).1 (λ r c i e. (in_lists (entries_of t root) c (In-flat_map (λ r. first_blocks (layout_of t r)) (regions_of t root) r c i (first_in (layout_of t r) c e)), (entered r c i e).1))) in
         let r = flat_map-In (λ r. first_blocks (layout_of t r)) (regions_of t root) b (lists_in (entries_of t root) b (least.is_executable b y)) in
         (r.0, r.1, in_first (layout_of t r.0) b r.2)
@@ -329,7 +329,7 @@ module _ (x : Says) (t : Tree) (root : ℕ) (w : IsTree t) (linked : IsWellLinke
     unvisited b y = ⊎_elim
         (λ old. true≢false (sym old ∙ start.unsearched.reached b))
         (λ waits. true≢false (sym waits ∙ visited_rests s b y))
-        (start.applied.values_on_worklist.entered b (visited_reached s b y))
+        (start.applied.lowered.entered b (visited_reached s b y))
 
     pub start_best : IsBest x t root s
     start_best = record {

@@ -194,21 +194,21 @@ module _ (x : Says) (t : Tree) (root : ℕ) (w : IsTree t) (linked : IsWellLinke
         others = λ v none i. closed.others k v o liveness at none i;
       }
 
-    module _ (s s' : Tables) (same : now ≡ lattice_values_of s) (visit_stamps : VisitsOperation x t k s s') where
+    module _ (s s' : Tables) (same : now ≡ lattice_values_of s) (visits : VisitsOperation x t k s s') where
       abbrev pub new : LatticeValues
       new = lattice_values_of s'
 
-      asks : (g : LatticeValues) → AreAtMost g now → SatisfiesAll (known_constants s) g visit_stamps.constraints ↔ IsSatisfied x t now g k o
-      asks g below = subst (λ z. SatisfiesAll (known_constants s) g visit_stamps.constraints ↔ IsSatisfied x t z g k o) (sym same) (visit_stamps.asks o at g (subst (λ z. AreAtMost g z) same below))
+      asks : (g : LatticeValues) → AreAtMost g now → SatisfiesAll (known_constants s) g visits.constraints ↔ IsSatisfied x t now g k o
+      asks g below = subst (λ z. SatisfiesAll (known_constants s) g visits.constraints ↔ IsSatisfied x t z g k o) (sym same) (visits.asks o at g (subst (λ z. AreAtMost g z) same below))
 
-      values_on_worklist : AreAtMost new now
-      values_on_worklist = subst (λ z. AreAtMost new z) (sym same) visit_stamps.applied.values_on_worklist.below
+      lowered : AreAtMost new now
+      lowered = subst (λ z. AreAtMost new z) (sym same) visits.applied.lowered.below
 
       met : IsSatisfied x t now new k o
-      met = (asks new values_on_worklist).0 visit_stamps.applied.met
+      met = (asks new lowered).0 visits.applied.met
 
       least : (g : LatticeValues) → AreAtMost g now → IsSatisfied x t now g k o → AreAtMost g new
-      least g below m = visit_stamps.applied.least g (subst (λ z. AreAtMost g z) same below) ((asks g below).1 m)
+      least g below m = visits.applied.least g (subst (λ z. AreAtMost g z) same below) ((asks g below).1 m)
 
       above_still : (g : LatticeValues) → AreClosed x t root g → IsAbove t root new g
       above_still g closed =
@@ -284,7 +284,7 @@ module _ (x : Says) (t : Tree) (root : ℕ) (w : IsTree t) (linked : IsWellLinke
       }
 
       trial_below : AreAtMost trial now
-      trial_below = record { is_executable = λ b r. ap (λ a. reached_or a (lists (targets_of t k) b) (all_determined new.lattice_value (arguments_of t b))) r; lattice_value = values_on_worklist.lattice_value }
+      trial_below = record { is_executable = λ b r. ap (λ a. reached_or a (lists (targets_of t k) b) (all_determined new.lattice_value (arguments_of t b))) r; lattice_value = lowered.lattice_value }
 
       came_from : (b : ℕ) → IsTrue (new.is_executable b) → IsTrue (now.is_executable b) ⊎ IsTarget b
       came_from b r = tried b ((least trial trial_below trial_met).is_executable b r)
@@ -338,12 +338,12 @@ module _ (x : Says) (t : Tree) (root : ℕ) (w : IsTree t) (linked : IsWellLinke
 
       pub resume_scan : IsOn x t root f seen new
       resume_scan = record {
-        below = below_trans new now f values_on_worklist on.below;
+        below = below_trans new now f lowered on.below;
         above = above_still;
         ways = λ b r. ⊎_elim (λ before. on.ways b before) (λ y. target_way b (is_placed b y.0)) (came_from b r);
         held = λ b h r e. ⊎_elim (λ before. on.held b h before e) (λ y. target_held b h (is_placed b y.0) e) (came_from b r);
         arguments = λ b v r i. ⊎_elim
-            (λ before. below_undetermined (now.lattice_value v) (new.lattice_value v) (values_on_worklist.lattice_value v) (on.arguments b v before i))
+            (λ before. below_undetermined (now.lattice_value v) (new.lattice_value v) (lowered.lattice_value v) (on.arguments b v before i))
             (λ y. y.1 v i)
             (came_from b r);
       }

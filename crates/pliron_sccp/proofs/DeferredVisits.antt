@@ -55,7 +55,7 @@ module _ (x : Says) (t : Tree) where
   -- those of the list before index i were seen to
   pub record IsSeeing (ks : List ℕ) (i : ℕ) (s s' : Tables) (z z' : DeferredOperations) : Type 0 where
     pub short : List ℕ
-    pub visit_stamps : VisitsInTurn x t short s s'
+    pub visits : VisitsInTurn x t short s s'
     pub among : (k : ℕ) → In k short → In k ks
     pub seen : (j k : ℕ) → j < i → slice_get ks j ≡ Some k → In k short ⊎ In k (deferred_operations z')
     pub kept : (k : ℕ) → In k (deferred_operations z) → In k (deferred_operations z')
@@ -67,7 +67,7 @@ module _ (x : Says) (t : Tree) where
     pub seeing_start : IsSeeing ks 0 s s z z
     seeing_start = record {
       short = [];
-      visit_stamps = Nothing;
+      visits = Nothing;
       among = λ k i. absurd i;
       seen = λ j k l at. absurd (omega (arith, l));
       kept = λ k i. i;
@@ -86,7 +86,7 @@ module _ (x : Says) (t : Tree) where
       was_visited : VisitsOperation x t k q u → IsSeeing ks (i + 1) s u z y
       was_visited l = record {
         short = so_far.short ++ k ∷ [];
-        visit_stamps = looks_more so_far.short k s q u so_far.visit_stamps l;
+        visits = looks_more so_far.short k s q u so_far.visits l;
         among = λ g m. ⊎_elim (λ h. so_far.among g h) (λ h. ⊎_elim (λ e. subst (λ n. In n ks) (sym e) (in_slice ks i k at)) (λ n. absurd n) h) (In-cases g so_far.short (k ∷ []) m);
         seen = λ j g less here. ⊎_elim
             (λ before. ⊎_elim (λ m. inl (In-left g so_far.short (k ∷ []) m)) (λ m. inr m) (so_far.seen j g before here))
@@ -95,13 +95,13 @@ module _ (x : Says) (t : Tree) where
         kept = so_far.kept;
         only = so_far.only;
         grows = let g = so_far.grows in omega (arith, g);
-        numbers = λ b. l.applied.values_on_worklist.numbers b ∙ so_far.numbers b;
+        numbers = λ b. l.applied.lowered.numbers b ∙ so_far.numbers b;
       }
 
       put : Defers k (deferred_operations y) (deferred_operations y') → IsSeeing ks (i + 1) s q z y'
       put p = record {
         short = so_far.short;
-        visit_stamps = so_far.visit_stamps;
+        visits = so_far.visits;
         among = so_far.among;
         seen = λ j g less here. ⊎_elim
             (λ before. ⊎_elim (λ m. inl m) (λ m. inr ((p.members g).1 (inl m))) (so_far.seen j g before here))
@@ -120,7 +120,7 @@ module _ (x : Says) (t : Tree) where
     pub seeing_end : (i : ℕ) (u : Tables) (y : DeferredOperations) → length ks ≤ i → i < 2 ^ 64 → i ≤ length ks → IsSeeing ks i s u z y → VisitsOrDefersAll x t ks s u z y
     seeing_end i u y all few within g = record {
       short = g.short;
-      visit_stamps = g.visit_stamps;
+      visits = g.visits;
       among = g.among;
       seen = λ k m.
           let p = slice_get-In k ks m in

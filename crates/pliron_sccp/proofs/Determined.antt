@@ -25,7 +25,7 @@ in_front x u (d ∷ done) rest (inl e) = inl e
 in_front x u (d ∷ done) rest (inr i) = inr (in_front x u done rest i)
 
 -- `f` and `visited` are those from before the block of the operation was taken, `now` are the facts so far
-module _ (t : Tree) (root : ℕ) (w : IsTree t) (f now : LatticeValues) (visited : ℕ → Bool) (grounded : IsGrounded t root f visited) (ready : AreDetermined t f visited) (values_on_worklist : (v : ℕ) → f.lattice_value v ≢ Undetermined → now.lattice_value v ≢ Undetermined) where
+module _ (t : Tree) (root : ℕ) (w : IsTree t) (f now : LatticeValues) (visited : ℕ → Bool) (grounded : IsGrounded t root f visited) (ready : AreDetermined t f visited) (lowered : (v : ℕ) → f.lattice_value v ≢ Undetermined → now.lattice_value v ≢ Undetermined) where
   holder_up : (k c h : ℕ) → parent_of t k ≡ Some c → parent_operation_of t k ≡ Some h → block_parent_operation_of t c ≡ Some h
   holder_up k c h p e = sym (ap (λ o. up_from o (λ b. block_parent_operation_of t b)) p) ∙ e
 
@@ -43,12 +43,12 @@ module _ (t : Tree) (root : ℕ) (w : IsTree t) (f now : LatticeValues) (visited
   -- a definition that was passed is determined
   passed_determined : (v b : ℕ) (before done : List ℕ) (d : Def) → definition_of t v ≡ Some d → IsMadeBy t v (Some d) → IsTrue (f.is_executable b) → ((x : ℕ) → In x before → IsTrue (visited x)) → ((k : ℕ) → In k done → In v (results_of t k) → now.lattice_value v ≢ Undetermined) → HasPassed t (Some d) before b done → now.lattice_value v ≢ Undetermined
   passed_determined v b before done (Argument e i) def made reached all front (inl s) =
-      values_on_worklist v (ready.arguments e v (subst (λ z. IsTrue (f.is_executable z)) (sym s) reached) (in_slice (arguments_of t e) i v made))
+      lowered v (ready.arguments e v (subst (λ z. IsTrue (f.is_executable z)) (sym s) reached) (in_slice (arguments_of t e) i v made))
   passed_determined v b before done (Argument e i) def made reached all front (inr j) =
-      values_on_worklist v (ready.arguments e v (grounded.reached e (all e j)) (in_slice (arguments_of t e) i v made))
+      lowered v (ready.arguments e v (grounded.reached e (all e j)) (in_slice (arguments_of t e) i v made))
   passed_determined v b before done (Result k i) def made reached all front (inl j) = front k j (in_slice (results_of t k) i v made)
   passed_determined v b before done (Result k i) def made reached all front (inr (e, p, j)) =
-      values_on_worklist v (ready.results e k v (all e j) p (in_slice (results_of t k) i v made))
+      lowered v (ready.results e k v (all e j) p (in_slice (results_of t k) i v made))
 
   -- the operation k of a block c that is reached, behind the operations `done`, whose results are determined
   pub operand_determined : (k v c : ℕ) (done rest : List ℕ) → parent_of t k ≡ Some c → IsTrue (f.is_executable c) → body_of t c ≡ done ++ k ∷ rest → ((q : ℕ) → In q done → In v (results_of t q) → now.lattice_value v ≢ Undetermined) → In v (operands_of t k) → IsDefinedInside t root v → IsDominated t k v → now.lattice_value v ≢ Undetermined
@@ -80,4 +80,4 @@ module _ (t : Tree) (root : ℕ) (w : IsTree t) (f now : LatticeValues) (visited
           let seen : IsTrue (visited d.block) = subst (λ z. IsTrue (visited z)) same x.2 in
           let s = split_at d.around (body_of t d.block) (w.bodies.listed d.around d.block d.in_block) in
           from_way d.block refl (grounded.reached d.block seen) s.0 s.1 s.2
-          (λ q y z. values_on_worklist v (ready.results d.block q v seen (w.bodies.owned q d.block (subst (In q) (sym s.2) (in_front q d.around s.0 s.1 y))) z))
+          (λ q y z. lowered v (ready.results d.block q v seen (w.bodies.owned q d.block (subst (In q) (sym s.2) (in_front q d.around s.0 s.1 y))) z))

@@ -88,7 +88,7 @@ module _ (constants : List AttrObj) (f : LatticeValues) where
 
 -- where all that is asked is met
 pub entered_now : {S : Type 0} (constants : List AttrObj) (t : Tree) (s u : Tables) (constraints : List Constraint) (blocks : HashSet ℕ S) → AreEntriesExecutableWhere constants t (lattice_values_of s) constraints blocks → IsApplied constants constraints s u → AreEntriesExecutable t (lattice_values_of u) blocks
-entered_now constants t s u constraints blocks entered applied = entered (lattice_values_of u) applied.values_on_worklist.below applied.met
+entered_now constants t s u constraints blocks entered applied = entered (lattice_values_of u) applied.lowered.below applied.met
 
 -- the facts of other tables are the same, or fell
 pub entered_same : {S : Type 0} (t : Tree) (s u : Tables) (blocks : HashSet ℕ S) → ((v : ℕ) → lattice_value_in u v ≡ lattice_value_in s v) → ((b : ℕ) → is_executable u b ≡ is_executable s b) → AreEntriesExecutable t (lattice_values_of s) blocks → AreEntriesExecutable t (lattice_values_of u) blocks

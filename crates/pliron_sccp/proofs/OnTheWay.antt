@@ -117,7 +117,7 @@ module _ (x : Says) (t : Tree) (root : ℕ) (w : IsTree t) (live : IsLive t root
     start_laid = record {
       started = record {
         inside = λ b r. (root, entry_held t w root b (came b r), inl refl);
-        outside = λ v n. varies_still (lattice_value_in start.before v) (lattice_value_in s v) (start.applied.values_on_worklist.below.lattice_value v) (start.unsearched.outside v (λ i. n (listed_inside t w root v i)));
+        outside = λ v n. varies_still (lattice_value_in start.before v) (lattice_value_in s v) (start.applied.lowered.below.lattice_value v) (start.unsearched.outside v (λ i. n (listed_inside t w root v i)));
         entries = entered;
       };
       held = λ b k r e. inl (some_is (sym e ∙ entry_held t w root b (came b r)));
@@ -140,16 +140,16 @@ module _ (x : Says) (t : Tree) (root : ℕ) (w : IsTree t) (live : IsLive t root
     pub start_on_way : (z : DeferredOperations) → deferred_operations z ≡ [] → IsSearchOnTheWay x t root s z
     start_on_way z none = record {
       deferral = λ k i. absurd (subst (In k) none i);
-      numbered = λ b i. start.applied.values_on_worklist.numbers b ∙ start.unsearched.numbered b i;
-      settled = λ k b o p r at. ⊎_elim (λ old. absurd (true≢false (sym old ∙ start.unsearched.reached b))) (λ waits. inl waits) (start.applied.values_on_worklist.entered b r);
+      numbered = λ b i. start.applied.lowered.numbers b ∙ start.unsearched.numbered b i;
+      settled = λ k b o p r at. ⊎_elim (λ old. absurd (true≢false (sym old ∙ start.unsearched.reached b))) (λ waits. inl waits) (start.applied.lowered.entered b r);
       started = start_laid.started;
       held = start_laid.held;
       there = start_laid.there;
-      waits = falls_inside t root start.before s (unsearched_inside t root start.before start.unsearched) start.applied.values_on_worklist (reached_listed s start_laid.started);
+      waits = falls_inside t root start.before s (unsearched_inside t root start.before start.unsearched) start.applied.lowered (reached_listed s start_laid.started);
     }
 
     pub start_accounted : IsAccounted t root s 0
-    start_accounted = falls_accounted t root start.before s 0 (unsearched_inside t root start.before start.unsearched) start.applied.values_on_worklist (unsearched_accounted t root start.before start.unsearched)
+    start_accounted = falls_accounted t root start.before s 0 (unsearched_inside t root start.before start.unsearched) start.applied.lowered (unsearched_accounted t root start.before start.unsearched)
 
   -- where the tables say the same of facts
   laid_same : (s u : Tables) → ((v : ℕ) → lattice_value_in u v ≡ lattice_value_in s v) → ((b : ℕ) → is_executable u b ≡ is_executable s b) → IsLaidOut t root s → IsLaidOut t root u
@@ -169,7 +169,7 @@ module _ (x : Says) (t : Tree) (root : ℕ) (w : IsTree t) (live : IsLive t root
     through_laid (k ∷ ks) s u (Then _ q a d) placed l =
         let p = placed k (inl refl) in
         through_laid ks q u d
-        (λ j i. let y = placed j (inr i) in (y.0, y.1, a.applied.values_on_worklist.below.is_executable y.0 y.2))
+        (λ j i. let y = placed j (inr i) in (y.0, y.1, a.applied.lowered.below.is_executable y.0 y.2))
         (record {
           started = look_starts x t root w last k p.0 s q a p.1 p.2 l.started;
           held = look_holds x t root w last k p.0 s q a p.1 p.2 l.started l.held;
@@ -183,42 +183,42 @@ module _ (x : Says) (t : Tree) (root : ℕ) (w : IsTree t) (live : IsLive t root
     pub block_on_way : (c : ℕ) (s u s' : Tables) (z : DeferredOperations) → PopsBlock c s u → VisitsInTurn x t (body_of t c) u s' → IsSearchOnTheWay x t root s z → IsSearchOnTheWay x t root s' z
     block_on_way c s u s' z k d o =
         let l = through_laid (body_of t c) u s' d (λ j i. (c, w.bodies.owned j c i, k.reached c ∙ (o.waits.blocks c k.waited).1)) (laid_same s u k.facts k.reached (laid_of s z o)) in
-        let values_on_worklist = through_falls x t (body_of t c) u s' d in
+        let lowered = through_falls x t (body_of t c) u s' d in
         record {
-          numbered = λ b i. values_on_worklist.numbers b ∙ k.numbers b ∙ o.numbered b i;
+          numbered = λ b i. lowered.numbers b ∙ k.numbers b ∙ o.numbered b i;
           settled = through_settles x t (λ j. In j (deferred_operations z)) (body_of t c) u s' d (block_settles x t w (λ j. In j (deferred_operations z)) c s u k o.settled);
-          deferral = λ j i. aside_then x t u s' j values_on_worklist (aside_block x t c s u j k (o.deferral j i));
+          deferral = λ j i. aside_then x t u s' j lowered (aside_block x t c s u j k (o.deferral j i));
           started = l.started;
           held = l.held;
           there = l.there;
-          waits = falls_inside t root u s' (block_inside t root c s u o.waits k) values_on_worklist (reached_listed s' l.started);
+          waits = falls_inside t root u s' (block_inside t root c s u o.waits k) lowered (reached_listed s' l.started);
         }
 
     -- all values were taken, and what they call for was met
     module _ (values users : List ℕ) (constraints : List Constraint) (s u q s' : Tables) (z z' : DeferredOperations) (k : PopsValues values s u) (edges : FeasibleEdges) (c : AreReactions x t u edges values users constraints) (a : IsApplied (known_constants u) constraints u q) (v : VisitsOrDefersAll x t users q s' z z') where
       pub called_falls : ValuesAreLowered u s'
-      called_falls = falls_trans u q s' a.values_on_worklist (through_falls x t v.short q s' v.visit_stamps)
+      called_falls = falls_trans u q s' a.lowered (through_falls x t v.short q s' v.visits)
 
       called_laid : IsSearchOnTheWay x t root s z → IsLaidOut t root q
       called_laid o =
           let l = laid_same s u k.facts k.reached (laid_of s z o) in
           record {
             started = called_starts x t edges values users constraints s u q k c a root l.started;
-            held = λ b h r e. ⊎_elim (λ y. inl y) (λ y. inr (y.0, y.1, a.values_on_worklist.below.is_executable y.0 y.2)) (l.held b h (reached_before x t edges values users constraints s u q k c a b r) e);
+            held = λ b h r e. ⊎_elim (λ y. inl y) (λ y. inr (y.0, y.1, a.lowered.below.is_executable y.0 y.2)) (l.held b h (reached_before x t edges values users constraints s u q k c a b r) e);
             there = called_known x t edges values users constraints s u q k c a (λ j. In j (deferred_operations z)) o.settled o.deferral w root l.there;
           }
 
       -- users are visited or deferred
       users_settle : StampsEachLowered u q → IsSearchOnTheWay x t root s z → AreSettledIn x t s' (λ j. In j (deferred_operations z'))
       users_settle stamped o =
-          through_settles x t (λ j. In j (deferred_operations z')) v.short q s' v.visit_stamps
+          through_settles x t (λ j. In j (deferred_operations z')) v.short q s' v.visits
           (settled_wider x t (λ j. In j users ⊎ In j (deferred_operations z)) (λ j. In j v.short ⊎ In j (deferred_operations z')) q
           (λ j y. ⊎_elim (λ i. v.seen j i) (λ i. inr (v.kept j i)) y)
           (values_settle x t edges values users constraints s u q k c a stamped (λ j. In j (deferred_operations z)) o.settled))
 
       pub values_on_way : StampsEachLowered u q → IsSearchOnTheWay x t root s z → IsSearchOnTheWay x t root s' z'
       values_on_way stamped o =
-          let l = through_laid v.short q s' v.visit_stamps (λ j i. let y = (c.only j (v.among j i)).0 in (y.block, y.in_block, a.values_on_worklist.below.is_executable y.block y.reached)) (called_laid o) in
+          let l = through_laid v.short q s' v.visits (λ j i. let y = (c.only j (v.among j i)).0 in (y.block, y.in_block, a.lowered.below.is_executable y.block y.reached)) (called_laid o) in
           record {
             numbered = λ b i. called_falls.numbers b ∙ k.numbers b ∙ o.numbered b i;
             settled = users_settle stamped o;
@@ -246,21 +246,21 @@ module _ (x : Says) (t : Tree) (root : ℕ) (w : IsTree t) (live : IsLive t root
 
     -- one that was deferred was visited
     pub aside_on_way : (k : ℕ) (s s' : Tables) (z z' : DeferredOperations) → PopsDeferred k (deferred_operations z) (deferred_operations z') → VisitsOperation x t k s s' → IsSearchOnTheWay x t root s z → IsSearchOnTheWay x t root s' z'
-    aside_on_way k s s' z z' taken visit_stamps o =
+    aside_on_way k s s' z z' taken visits o =
         let p = (o.deferral k taken.was).was_visited in
         let here : (c : ℕ) × (parent_of t k ≡ Some c) × (is_executable s c ≡ true) = (p.block, p.in_block, p.reached) in
-        let values_on_worklist = visit_stamps.applied.values_on_worklist in
-        let l = through_laid (k ∷ []) s s' (Then k s' visit_stamps Nothing) (λ j i. ⊎_elim (λ e. subst (λ q. (c : ℕ) × (parent_of t q ≡ Some c) × (is_executable s c ≡ true)) (sym e) here) (λ n. absurd n) i) (laid_of s z o) in
+        let lowered = visits.applied.lowered in
+        let l = through_laid (k ∷ []) s s' (Then k s' visits Nothing) (λ j i. ⊎_elim (λ e. subst (λ q. (c : ℕ) × (parent_of t q ≡ Some c) × (is_executable s c ≡ true)) (sym e) here) (λ n. absurd n) i) (laid_of s z o) in
         record {
-          numbered = λ b i. values_on_worklist.numbers b ∙ o.numbered b i;
+          numbered = λ b i. lowered.numbers b ∙ o.numbered b i;
           settled =
-              through_settles x t (λ j. In j (deferred_operations z')) (k ∷ []) s s' (Then k s' visit_stamps Nothing)
+              through_settles x t (λ j. In j (deferred_operations z')) (k ∷ []) s s' (Then k s' visits Nothing)
               (settled_wider x t (λ j. In j (deferred_operations z)) (λ j. In j (k ∷ []) ⊎ In j (deferred_operations z')) s (λ j i. ⊎_elim (λ q. inr q) (λ e. inl (inl e)) (taken.others j i)) o.settled);
-          deferral = λ j i. aside_then x t s s' j values_on_worklist (o.deferral j (taken.only j i));
+          deferral = λ j i. aside_then x t s s' j lowered (o.deferral j (taken.only j i));
           started = l.started;
           held = l.held;
           there = l.there;
-          waits = falls_inside t root s s' o.waits values_on_worklist (reached_listed s' l.started);
+          waits = falls_inside t root s s' o.waits lowered (reached_listed s' l.started);
         }
 
   -- the blocks that an operation in a block that is reached may enter have numbers
@@ -302,7 +302,7 @@ module _ (x : Says) (t : Tree) (root : ℕ) (w : IsTree t) (live : IsLive t root
   nothing_waits s s' z z' edges edges' (Block c u k d same e) = absurd (one_is_none (sym e))
   nothing_waits s s' z z' edges edges' (Values none v kept) =
       let n = no_users s s' z z' edges v in
-      subst AreWorklistsEmpty (sym (same_tables v.sees.short s' v.sees.visit_stamps (λ k i. subst (In k) n.1 (v.sees.among k i)))) (nothing_called x t edges v.takes.values v.users v.constraints s v.between v.met v.takes.takes v.takes.calls v.applied n.0 none)
+      subst AreWorklistsEmpty (sym (same_tables v.sees.short s' v.sees.visits (λ k i. subst (In k) n.1 (v.sees.among k i)))) (nothing_called x t edges v.takes.values v.users v.constraints s v.between v.met v.takes.takes v.takes.calls v.applied n.0 none)
     where
       same_tables : (ks : List ℕ) (u : Tables) → VisitsInTurn x t ks v.met u → ((k : ℕ) → In k ks → ⊥) → u ≡ v.met
       same_tables [] u Nothing empty = refl
@@ -394,17 +394,17 @@ module _ (x : Says) (t : Tree) (root : ℕ) (w : IsTree t) (live : IsLive t root
       same_search = let e : pops + 0 ≡ pops = omega arith in subst (IsSearching x t root s' z' edges') e (next_search s s' z z' edges edges' pops 0 step so_far)
 
       -- one that was deferred is visited
-      module _ (u : Tables) (y : DeferredOperations) (kept : FeasibleEdges) (visit_stamps : VisitsDeferred x t s' u z' y edges' kept true) where
+      module _ (u : Tables) (y : DeferredOperations) (kept : FeasibleEdges) (visits : VisitsDeferred x t s' u z' y edges' kept true) where
         pub aside_search : IsSearching x t root u y kept pops
         aside_search = record {
-          way = aside_on_way linked.edges visit_stamps.0 s' u z' y visit_stamps.1 visit_stamps.2 same_search.way;
-          accounted = falls_accounted t root s' u pops same_search.way.waits visit_stamps.2.applied.values_on_worklist same_search.accounted;
-          best = λ owed. aside_best x t root w linked answers places owed s' (same_search.best owed) same_search.way.started.inside visit_stamps.0 u (same_search.way.deferral visit_stamps.0 visit_stamps.1.was).was_visited visit_stamps.2;
-          sure = λ owed. aside_kept x t root w linked answers places owed s' (same_search.best owed) same_search.way.started.inside visit_stamps.0 edges' kept (same_search.way.deferral visit_stamps.0 visit_stamps.1.was).was_visited visit_stamps.3 (same_search.sure owed);
+          way = aside_on_way linked.edges visits.0 s' u z' y visits.1 visits.2 same_search.way;
+          accounted = falls_accounted t root s' u pops same_search.way.waits visits.2.applied.lowered same_search.accounted;
+          best = λ owed. aside_best x t root w linked answers places owed s' (same_search.best owed) same_search.way.started.inside visits.0 u (same_search.way.deferral visits.0 visits.1.was).was_visited visits.2;
+          sure = λ owed. aside_kept x t root w linked answers places owed s' (same_search.best owed) same_search.way.started.inside visits.0 edges' kept (same_search.way.deferral visits.0 visits.1.was).was_visited visits.3 (same_search.sure owed);
         }
 
         pub fewer_aside : length (deferred_operations y) < length (deferred_operations z)
-        fewer_aside = let p = none_put s s' z z' edges edges' step in let f = visit_stamps.1.fewer in omega (arith, p, f)
+        fewer_aside = let p = none_put s s' z z' edges edges' step in let f = visits.1.fewer in omega (arith, p, f)
 
       -- nothing is deferred
       pub end_search : (u : Tables) (y : DeferredOperations) (kept : FeasibleEdges) → VisitsDeferred x t s' u z' y edges' kept false → IsSearched x t root u pops

@@ -293,7 +293,7 @@ module _ (x : Says) (t : Tree) (edges : FeasibleEdges) where
     counted = refl;
     left = omega arith;
     few = inl refl;
-    stamps = record { visit_stamps = λ f. refl; values_on_worklist = λ v. refl };
+    stamps = record { visit_stamps = λ f. refl; lowered = λ v. refl };
   }
 
   -- one value more is taken

@@ -52,8 +52,8 @@ module _ (x : Says) (t : Tree) (edges : FeasibleEdges) (values users : List ℕ)
 
     falls_to : AreAtMost (lattice_values_of w) (lattice_values_of s)
     falls_to = record {
-      is_executable = λ d r. a.values_on_worklist.below.is_executable d (k.reached d ∙ r);
-      lattice_value = λ v. subst (AtMost (lattice_value_in w v)) (k.facts v) (a.values_on_worklist.below.lattice_value v);
+      is_executable = λ d r. a.lowered.below.is_executable d (k.reached d ∙ r);
+      lattice_value = λ v. subst (AtMost (lattice_value_in w v)) (k.facts v) (a.lowered.below.lattice_value v);
     }
 
     still : IsSatisfied x t y.seen (lattice_values_of w) j o
@@ -63,7 +63,7 @@ module _ (x : Says) (t : Tree) (edges : FeasibleEdges) (values users : List ℕ)
     each v i = ⊎_elim (λ e. inl (k.facts v ∙ e)) (λ q. inr ((k.waited v).0 q.0, behind_same t s u k.stamps j v q.1)) (y.same v i)
 
     by_new : ((v : ℕ) × In v o.operands × (In v values × IsBehind t u j v)) → IsSettledIn x t w j o
-    by_new (v, i, taken) = record { seen = lattice_values_of u; met = met; same = λ q h. told_calls t u w a.values_on_worklist stamped.values_on_worklist j q }
+    by_new (v, i, taken) = record { seen = lattice_values_of u; met = met; same = λ q h. told_calls t u w a.lowered stamped.lowered j q }
       where
         first : IsConstrainedAt x t u constraints o (reads v i taken).0 v
         first = (reads v i taken).2
@@ -100,23 +100,23 @@ module _ (x : Says) (t : Tree) (edges : FeasibleEdges) (values users : List ℕ)
 
     pub rests_settled : IsSettledIn x t w j o
     rests_settled = ⊎_elim
-        (λ all. record { seen = y.seen; met = still; same = λ v i. ⊎_elim (λ e. inl (e ∙ all v i)) (λ q. inr q) (told_calls t u w a.values_on_worklist stamped.values_on_worklist j v) })
+        (λ all. record { seen = y.seen; met = still; same = λ v i. ⊎_elim (λ e. inl (e ∙ all v i)) (λ q. inr q) (told_calls t u w a.lowered stamped.lowered j v) })
         by_new
         (same_or o.operands each)
 
   -- all values are taken: the users that are visited again are still to be visited, beside what was before
   pub values_settle : StampsEachLowered u w → (rest : ℕ → Type 0) → AreSettledIn x t s rest → AreSettledIn x t w (λ j. In j users ⊎ rest j)
-  values_settle stamped rest settled j b o p r at = ⊎_elim (λ old. before old (settled j b o p (sym (k.reached b) ∙ old) at)) (λ new. inl new) (a.values_on_worklist.entered b r)
+  values_settle stamped rest settled j b o p r at = ⊎_elim (λ old. before old (settled j b o p (sym (k.reached b) ∙ old) at)) (λ new. inl new) (a.lowered.entered b r)
     where
       settles : is_executable u b ≡ true → (q : Bool) → is_block_on_worklist u b ≡ q → IsSettledIn x t s j o → (is_block_on_worklist w b ≡ true) ⊎ IsSettledIn x t w j o ⊎ In j users ⊎ rest j
-      settles old true e y = inl (a.values_on_worklist.blocks b e)
+      settles old true e y = inl (a.lowered.blocks b e)
       settles old false e y = ⊎_elim
           (λ i. inr (inr (inl i)))
           (λ n. inr (inl (rests_settled stamped j b o at (record { block = b; in_block = p; reached = old; taken = e }) n y)))
           (decide_in j users)
 
       before : is_executable u b ≡ true → (is_block_on_worklist s b ≡ true) ⊎ IsSettledIn x t s j o ⊎ rest j → (is_block_on_worklist w b ≡ true) ⊎ IsSettledIn x t w j o ⊎ In j users ⊎ rest j
-      before old (inl waits) = inl (a.values_on_worklist.blocks b (k.blocks b ∙ waits))
+      before old (inl waits) = inl (a.lowered.blocks b (k.blocks b ∙ waits))
       before old (inr (inl y)) = settles old (is_block_on_worklist u b) refl y
       before old (inr (inr h)) = inr (inr (inr h))
 
@@ -157,7 +157,7 @@ module _ (x : Says) (t : Tree) (edges : FeasibleEdges) (values users : List ℕ)
         unknown_but t tree u w b v listed none unknown still (a.least g (below_but t tree u w b v listed none unknown still) (c.owed g (λ q place d r o i is l at h. inr (inl (handed q place d o l at h)))))
       where
         still : (z : ℕ) → is_executable u z ≡ true → is_executable w z ≡ true
-        still z r = a.values_on_worklist.below.is_executable z r
+        still z r = a.lowered.below.is_executable z r
 
         unknown : lattice_value_in u v ≡ Undetermined
         unknown = known b v inside listed (not_yet u w b still none)
@@ -175,8 +175,8 @@ module _ (x : Says) (t : Tree) (edges : FeasibleEdges) (values users : List ℕ)
   pub called_starts : (root : ℕ) → AreStarted t root (lattice_values_of u) → AreStarted t root (lattice_values_of w)
   called_starts root started = record {
     inside = λ b r. started.inside b (reached_before b r);
-    outside = λ v n. varies_still (lattice_value_in u v) (lattice_value_in w v) (a.values_on_worklist.below.lattice_value v) (started.outside v n);
-    entries = λ r b i e. entered_still x t (lattice_values_of u) (lattice_values_of w) b a.values_on_worklist.below (started.entries r b i e);
+    outside = λ v n. varies_still (lattice_value_in u v) (lattice_value_in w v) (a.lowered.below.lattice_value v) (started.outside v n);
+    entries = λ r b i e. entered_still x t (lattice_values_of u) (lattice_values_of w) b a.lowered.below (started.entries r b i e);
   }
 
   -- where no value was taken nothing is called for
@@ -190,21 +190,21 @@ module _ (x : Says) (t : Tree) (edges : FeasibleEdges) (values users : List ℕ)
       least = a.least (lattice_values_of u) (below_refl (lattice_values_of u)) all_met
 
       same : (v : ℕ) → lattice_value_in w v ≡ lattice_value_in u v
-      same v = at_most_both (lattice_value_in w v) (lattice_value_in u v) (a.values_on_worklist.below.lattice_value v) (least.lattice_value v)
+      same v = at_most_both (lattice_value_in w v) (lattice_value_in u v) (a.lowered.below.lattice_value v) (least.lattice_value v)
 
       by : (v : ℕ) (q : Bool) → is_value_on_worklist w v ≡ q → is_value_on_worklist w v ≡ false
       by v false e = e
-      by v true e = absurd (⊎_elim (λ old. true≢false (sym old ∙ k.values v)) (λ n. n (same v)) (a.values_on_worklist.lowered_stamps v e))
+      by v true e = absurd (⊎_elim (λ old. true≢false (sym old ∙ k.values v)) (λ n. n (same v)) (a.lowered.lowered_stamps v e))
 
       blocks : (b : ℕ) → is_block_on_worklist w b ≡ false
       blocks b = of (is_block_on_worklist w b) refl
         where
           of : (q : Bool) → is_block_on_worklist w b ≡ q → is_block_on_worklist w b ≡ false
           of false e = e
-          of true e = absurd (⊎_elim (λ old. true≢false (sym old ∙ k.blocks b ∙ rests b)) (λ n. true≢false (sym (reached_before b n.1) ∙ n.0)) (a.values_on_worklist.came b e))
+          of true e = absurd (⊎_elim (λ old. true≢false (sym old ∙ k.blocks b ∙ rests b)) (λ n. true≢false (sym (reached_before b n.1) ∙ n.0)) (a.lowered.came b e))
 
 -- the blocks that users may enter have numbers
 pub targets_then : (x : Says) (t : Tree) (edges : FeasibleEdges) (values users : List ℕ) (constraints : List Constraint) (s u w : Tables) → PopsValues values s u → AreReactions x t u edges values users constraints → IsApplied (known_constants u) constraints u w → AreTargetsNumbered t s → (j : ℕ) → In j users → HasNumberedTargets t w j
 targets_then x t edges values users constraints s u w k c a numbered j i =
     let y = (c.only j i).0 in
-    targets_same t u w a.values_on_worklist.numbers j (targets_kept t s u k.numbers k.reached numbered j y.block y.in_block y.reached)
+    targets_same t u w a.lowered.numbers j (targets_kept t s u k.numbers k.reached numbered j y.block y.in_block y.reached)

@@ -11,22 +11,22 @@ use Rattle.pliron_sccp.specs.Lowering.{ValuesAreLowered}
 use Rattle.pliron_sccp.specs.OperationVisits.{stamp_of, CallsForVisit, IsBehind, IsStamped, StampsIt}
 
 pub kept_back : (s u : Tables) → KeepsStamps s u → KeepsStamps u s
-kept_back s u k = record { visit_stamps = λ f. sym (k.visit_stamps f); values_on_worklist = λ v. sym (k.values_on_worklist v) }
+kept_back s u k = record { visit_stamps = λ f. sym (k.visit_stamps f); lowered = λ v. sym (k.lowered v) }
 
 pub kept_both : (s u w : Tables) → KeepsStamps s u → KeepsStamps u w → KeepsStamps s w
-kept_both s u w k l = record { visit_stamps = λ f. l.visit_stamps f ∙ k.visit_stamps f; values_on_worklist = λ v. l.values_on_worklist v ∙ k.values_on_worklist v }
+kept_both s u w k l = record { visit_stamps = λ f. l.visit_stamps f ∙ k.visit_stamps f; lowered = λ v. l.lowered v ∙ k.lowered v }
 
 pub fallen_none : (s : Tables) → StampsEachLowered s s
-fallen_none s = record { visit_stamps = λ f. refl; values_on_worklist = λ v. inl (refl, refl) }
+fallen_none s = record { visit_stamps = λ f. refl; lowered = λ v. inl (refl, refl) }
 
 pub kept_fallen : (s u : Tables) → ((v : ℕ) → lattice_value_in u v ≡ lattice_value_in s v) → KeepsStamps s u → StampsEachLowered s u
-kept_fallen s u facts k = record { visit_stamps = k.visit_stamps; values_on_worklist = λ v. inl (facts v, k.values_on_worklist v) }
+kept_fallen s u facts k = record { visit_stamps = k.visit_stamps; lowered = λ v. inl (facts v, k.lowered v) }
 
 no_earlier : (l l' f f' : ℕ) → l' ≡ l → f' ≡ f → l ≤ f → l' ≤ f'
 no_earlier l l' f f' e d le = omega (arith, e, d, le)
 
 pub fallen_both : (s u w : Tables) → StampsEachLowered s u → StampsEachLowered u w → StampsEachLowered s w
-fallen_both s u w p q = record { visit_stamps = λ f. q.visit_stamps f ∙ p.visit_stamps f; values_on_worklist = λ v. by v (q.values_on_worklist v) (p.values_on_worklist v) }
+fallen_both s u w p q = record { visit_stamps = λ f. q.visit_stamps f ∙ p.visit_stamps f; lowered = λ v. by v (q.lowered v) (p.lowered v) }
   where
     by : (v : ℕ) → ((lattice_value_in w v ≡ lattice_value_in u v) × (lowered_stamp w v ≡ lowered_stamp u v)) ⊎ ((f : ℕ) → visit_stamp w f ≤ lowered_stamp w v) → ((lattice_value_in u v ≡ lattice_value_in s v) × (lowered_stamp u v ≡ lowered_stamp s v)) ⊎ ((f : ℕ) → visit_stamp u f ≤ lowered_stamp u v) → ((lattice_value_in w v ≡ lattice_value_in s v) × (lowered_stamp w v ≡ lowered_stamp s v)) ⊎ ((f : ℕ) → visit_stamp w f ≤ lowered_stamp w v)
     by v (inr all) before = inr all
@@ -50,14 +50,14 @@ module _ (t : Tree) where
   behind_then s u k v look fall b = no_earlier (stamp_of s (results_of t k)) (stamp_of u (results_of t k)) (lowered_stamp s v) (lowered_stamp u v) look fall b
 
   pub behind_same : (s u : Tables) → KeepsStamps s u → (k v : ℕ) → IsBehind t s k v → IsBehind t u k v
-  behind_same s u kept k v b = behind_then s u k v (of_same s u kept.visit_stamps (results_of t k)) (kept.values_on_worklist v) b
+  behind_same s u kept k v b = behind_then s u k v (of_same s u kept.visit_stamps (results_of t k)) (kept.lowered v) b
 
   -- what fell calls for every operation
   pub told_calls : (s u : Tables) → ValuesAreLowered s u → StampsLowered s u → (k v : ℕ) → (lattice_value_in u v ≡ lattice_value_in s v) ⊎ CallsForVisit t u k v
-  told_calls s u f p k v = by (p v) (f.reported v)
+  told_calls s u f p k v = by (p v) (f.waits_if_lowered v)
     where
       by : ((lattice_value_in u v ≡ lattice_value_in s v) × (lowered_stamp u v ≡ lowered_stamp s v)) ⊎ ((first : ℕ) → visit_stamp u first ≤ lowered_stamp u v) → (lattice_value_in u v ≡ lattice_value_in s v) ⊎ (is_value_on_worklist u v ≡ true) → (lattice_value_in u v ≡ lattice_value_in s v) ⊎ CallsForVisit t u k v
-      by (inl same) reported = inl same.0
+      by (inl same) waits_if_lowered = inl same.0
       by (inr all) (inl e) = inl e
       by (inr all) (inr w) = inr (w, behind_all u k v all)
 
@@ -73,7 +73,7 @@ module _ (t : Tree) where
   pub stamped_then : (k : ℕ) (s u w : Tables) → StampsIt t k s u → StampsEachLowered u w → IsStamped t k s w
   stamped_then k s u w it queued = record {
     others = λ j n. of_same u w queued.visit_stamps (results_of t j) ∙ it.visit_stamps j n;
-    values_on_worklist = λ v. ⊎_elim (λ same. inl (same.0 ∙ it.facts v, same.1 ∙ it.values_on_worklist v)) (λ all. inr all) (queued.values_on_worklist v);
+    lowered = λ v. ⊎_elim (λ same. inl (same.0 ∙ it.facts v, same.1 ∙ it.lowered v)) (λ all. inr all) (queued.lowered v);
   }
 
 made_by : {b c i j : ℕ} → Some (Result b i) ≡ Some (Result c j) → b ≡ c
@@ -104,7 +104,7 @@ module _ (t : Tree) (w : IsTree t) (k first : ℕ) (here : slice_get (results_of
     numbers = l.numbers;
     constants = l.constants;
     visit_stamps = others_keep;
-    values_on_worklist = l.values_on_worklist;
+    lowered = l.lowered;
   }
 
 -- a greater stamp of the look than of the fall: it came later

@@ -180,7 +180,7 @@ module _ (x : Says) (t : Tree) where
     look_settles k ks s u l settled j b o p r at = ⊎_elim (λ old. before (settled j b o p old at)) (λ new. inl new) (f.entered b r)
       where
         f : ValuesAreLowered s u
-        f = l.applied.values_on_worklist
+        f = l.applied.lowered
 
         here : j ≡ k → IsSatisfied x t (lattice_values_of s) (lattice_values_of u) j o
         here e = subst (λ z. IsSatisfied x t (lattice_values_of s) (lattice_values_of u) z o) (sym e) ((l.asks o (subst (λ z. op_at t z ≡ Some o) e at) (lattice_values_of u) f.below).0 l.applied.met)
@@ -190,9 +190,9 @@ module _ (x : Says) (t : Tree) where
         before (inr (inl y)) = inr (inl (again (nat_eq j k) refl))
           where
             again : (q : Bool) → nat_eq j k ≡ q → IsSettledIn u j o
-            again true e = settled_now s u j o f l.stamped.values_on_worklist (here (eqb-true j k e))
-            again false e = settled_then s u j o f l.stamped.values_on_worklist (l.stamped.others j (λ same. true≢false (sym (eq-eqb j k same) ∙ e))) y
-        before (inr (inr (inl (inl e)))) = inr (inl (settled_now s u j o f l.stamped.values_on_worklist (here e)))
+            again true e = settled_now s u j o f l.stamped.lowered (here (eqb-true j k e))
+            again false e = settled_then s u j o f l.stamped.lowered (l.stamped.others j (λ same. true≢false (sym (eq-eqb j k same) ∙ e))) y
+        before (inr (inr (inl (inl e)))) = inr (inl (settled_now s u j o f l.stamped.lowered (here e)))
         before (inr (inr (inl (inr i)))) = inr (inr (inl i))
         before (inr (inr (inr h))) = inr (inr (inr h))
 
@@ -202,7 +202,7 @@ module _ (x : Says) (t : Tree) where
 
   pub through_falls : (ks : List ℕ) (s u : Tables) → VisitsInTurn x t ks s u → ValuesAreLowered s u
   through_falls [] s u Nothing = falls_refl s
-  through_falls (k ∷ ks) s u (Then _ q l d) = falls_trans s q u l.applied.values_on_worklist (through_falls ks q u d)
+  through_falls (k ∷ ks) s u (Then _ q l d) = falls_trans s q u l.applied.lowered (through_falls ks q u d)
 
   -- whatever was kept
   pub looks_only : (ks : List ℕ) (s u : Tables) (edges edges' : FeasibleEdges) → VisitsInTurnAndKeeps x t ks s u edges edges' → VisitsInTurn x t ks s u
@@ -281,7 +281,7 @@ module _ (x : Says) (t : Tree) (root : ℕ) (w : IsTree t) (edges : EdgesLast t 
             ap (λ o. up_from o (λ r. region_parent_of t r)) (e.own_region b i ∙ ap (block_parent_of t) (some_is (sym e.in_block ∙ placed)))
 
     still : (b : ℕ) → is_executable s b ≡ true → is_executable u b ≡ true
-    still b r = l.applied.values_on_worklist.below.is_executable b r
+    still b r = l.applied.lowered.below.is_executable b r
 
     pub look_starts : AreStarted t root (lattice_values_of u)
     look_starts = record {
@@ -289,8 +289,8 @@ module _ (x : Says) (t : Tree) (root : ℕ) (w : IsTree t) (edges : EdgesLast t 
           (λ old. started.inside b old)
           (λ y. ⊎_elim (λ e. (k, e, inr within)) (λ e. let h = started.inside c here in (h.0, e ∙ h.1, h.2)) y)
           (held_near b r);
-      outside = λ v n. varies_still (lattice_value_in s v) (lattice_value_in u v) (l.applied.values_on_worklist.below.lattice_value v) (started.outside v n);
-      entries = λ r b i e. entered_still x t (lattice_values_of s) (lattice_values_of u) b l.applied.values_on_worklist.below (started.entries r b i e);
+      outside = λ v n. varies_still (lattice_value_in s v) (lattice_value_in u v) (l.applied.lowered.below.lattice_value v) (started.outside v n);
+      entries = λ r b i e. entered_still x t (lattice_values_of s) (lattice_values_of u) b l.applied.lowered.below (started.entries r b i e);
     }
 
     stands_still : (j : ℕ) → IsInExecutableBlock t (lattice_values_of s) j → IsInExecutableBlock t (lattice_values_of u) j
@@ -322,7 +322,7 @@ module _ (x : Says) (t : Tree) (root : ℕ) (w : IsTree t) (edges : EdgesLast t 
 
         met : IsSatisfied x t (lattice_values_of s) g k operation.0
         met =
-            let m = (l.asks operation.0 operation.1 (lattice_values_of u) l.applied.values_on_worklist.below).0 l.applied.met in
+            let m = (l.asks operation.0 operation.1 (lattice_values_of u) l.applied.lowered.below).0 l.applied.met in
             let shows = op_shows t k operation.0 operation.1 in
             let given : (z : ℕ) → In z operation.0.results → g.lattice_value z ≡ NotAConstant = λ z i. result z (subst (In z) (sym shows.results) i) in
             record {

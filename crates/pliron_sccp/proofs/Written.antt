@@ -134,12 +134,12 @@ said_kept old new keeps cell m = means_said new cell (value_of_cell old cell) (m
 pub stays_low : (value : ℕ) (to : LatticeValue) (s : Tables) → AtMost (lattice_value_in s value) to → Lowers value to s s
 stays_low value to s low = record {
   met = record { first = at_most_refl (lattice_value_in s value); second = low; greatest = λ l p q. p };
-  reported = inl (refl, refl);
+  waits_if_lowered = inl (refl, refl);
   others = λ v e. (refl, refl);
   reached = λ b. refl;
   blocks = λ b. refl;
   numbers = λ b. refl;
-  stamps = record { visit_stamps = λ f. refl; values_on_worklist = λ v. inl (refl, refl) };
+  stamps = record { visit_stamps = λ f. refl; lowered = λ v. inl (refl, refl) };
   keeps = λ k c e. e;
 }
 
@@ -147,9 +147,9 @@ stays_low value to s low = record {
 pub falls_then : {u : Tables} (s s' : Tables) (value n : ℕ) (to m : LatticeValue) → JoinsWorklist n u s' → position (nat_eq value) s.values.keys ≡ Some n → u.values.keys ≡ s.values.keys → lattice_value_in u value ≡ m → ((v : ℕ) → nat_eq value v ≡ false → lattice_value_in u v ≡ lattice_value_in s v) → ((v : ℕ) → is_value_on_worklist u v ≡ is_value_on_worklist s v) → ((b : ℕ) → is_executable u b ≡ is_executable s b) → ((b : ℕ) → is_block_on_worklist u b ≡ is_block_on_worklist s b) → ((b : ℕ) → is_numbered u b ≡ is_numbered s b) → KeepsStamps s u → KeepsConstants (known_constants s) (known_constants u) → LowersTo (lattice_value_in s value) to m → Lowers value to s s'
 falls_then {u} s s' value n to m w at keys here others waiting reached blocks numbers stamps keeps fall = record {
   met = subst (IsMeet (lattice_value_in s value) to) (sym is) fall.0;
-  reported = inr ((λ e. fall.1 (sym is ∙ e)), w.waits value at_u);
+  waits_if_lowered = inr ((λ e. fall.1 (sym is ∙ e)), w.waits value at_u);
   others = λ v e. (w.facts v ∙ others v e, w.others v (apart v e) ∙ waiting v);
-  stamps = record { visit_stamps = λ f. w.visit_stamps f ∙ stamps.visit_stamps f; values_on_worklist = λ v. stamped v (nat_eq value v) refl };
+  stamps = record { visit_stamps = λ f. w.visit_stamps f ∙ stamps.visit_stamps f; lowered = λ v. stamped v (nat_eq value v) refl };
   reached = λ b. w.reached b ∙ reached b;
   blocks = λ b. w.blocks b ∙ blocks b;
   numbers = λ b. w.numbers b ∙ numbers b;
@@ -164,7 +164,7 @@ falls_then {u} s s' value n to m w at keys here others waiting reached blocks nu
 
     stamped : (v : ℕ) (q : Bool) → nat_eq value v ≡ q → ((lattice_value_in s' v ≡ lattice_value_in s v) × (lowered_stamp s' v ≡ lowered_stamp s v)) ⊎ ((f : ℕ) → visit_stamp s' f ≤ lowered_stamp s' v)
     stamped v true e = inr (λ f. w.stamped v f (ap (λ z. position (nat_eq z) u.values.keys) (sym (eqb-true value v e)) ∙ at_u))
-    stamped v false e = inl (w.facts v ∙ others v e, w.unstamped v (apart v e) ∙ stamps.values_on_worklist v)
+    stamped v false e = inl (w.facts v ∙ others v e, w.unstamped v (apart v e) ∙ stamps.lowered v)
 
     is : lattice_value_in s' value ≡ m
     is = w.facts value ∙ here

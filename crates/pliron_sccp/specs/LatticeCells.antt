@@ -35,7 +35,7 @@ abbrev pub cell_at : List LatticeCell → Option ℕ → LatticeCell
 cell_at cells o = table_at Varying cells o
 
 abbrev pub is_lowered_at : List Bool → Option ℕ → Bool
-is_lowered_at values_on_worklist o = table_at false values_on_worklist o
+is_lowered_at lowered o = table_at false lowered o
 
 -- what has no number has no stamp
 abbrev pub stamp_at : List ℕ → Option ℕ → ℕ

@@ -60,7 +60,7 @@ LowersTo f g m = IsMeet f g m × (m ≢ f)
 -- all stamps stay
 pub record KeepsStamps (s s' : Tables) : Type 0 where
   pub visit_stamps : (first : ℕ) → visit_stamp s' first ≡ visit_stamp s first
-  pub values_on_worklist : (v : ℕ) → lowered_stamp s' v ≡ lowered_stamp s v
+  pub lowered : (v : ℕ) → lowered_stamp s' v ≡ lowered_stamp s v
 
 -- a value keeps its lattice value and its stamp, or is stamped no earlier than any visit
 abbrev pub StampsLowered : (s s' : Tables) → Type 0
@@ -69,7 +69,7 @@ StampsLowered s s' = (v : ℕ) → ((lattice_value_in s' v ≡ lattice_value_in 
 -- it is so for each value, and the stamps of visits stay
 pub record StampsEachLowered (s s' : Tables) : Type 0 where
   pub visit_stamps : (first : ℕ) → visit_stamp s' first ≡ visit_stamp s first
-  pub values_on_worklist : StampsLowered s s'
+  pub lowered : StampsLowered s s'
 
 -- over these blocks and values: no block is executable, nothing is known of a value, and the worklists are
 -- empty
@@ -93,7 +93,7 @@ pub record Enters (block : ℕ) (s s' : Tables) : Type 0 where
 -- the value is lowered to the meet of both, and is put on the worklist and stamped if that is another one
 pub record Lowers (value : ℕ) (to : LatticeValue) (s s' : Tables) : Type 0 where
   pub met : IsMeet (lattice_value_in s value) to (lattice_value_in s' value)
-  pub reported : ((lattice_value_in s' value ≡ lattice_value_in s value) × (is_value_on_worklist s' value ≡ is_value_on_worklist s value)) ⊎ ((lattice_value_in s' value ≢ lattice_value_in s value) × (is_value_on_worklist s' value ≡ true))
+  pub waits_if_lowered : ((lattice_value_in s' value ≡ lattice_value_in s value) × (is_value_on_worklist s' value ≡ is_value_on_worklist s value)) ⊎ ((lattice_value_in s' value ≢ lattice_value_in s value) × (is_value_on_worklist s' value ≡ true))
   pub others : (v : ℕ) → nat_eq value v ≡ false → (lattice_value_in s' v ≡ lattice_value_in s v) × (is_value_on_worklist s' v ≡ is_value_on_worklist s v)
   pub reached : (b : ℕ) → is_executable s' b ≡ is_executable s b
   pub blocks : (b : ℕ) → is_block_on_worklist s' b ≡ is_block_on_worklist s b
@@ -156,7 +156,7 @@ pub record StampsVisit (first : ℕ) (s s' : Tables) : Type 0 where
   pub numbers : (b : ℕ) → is_numbered s' b ≡ is_numbered s b
   pub constants : known_constants s' ≡ known_constants s
   pub visit_stamps : (other : ℕ) → nat_eq first other ≡ false → visit_stamp s' other ≡ visit_stamp s other
-  pub values_on_worklist : (v : ℕ) → lowered_stamp s' v ≡ lowered_stamp s v
+  pub lowered : (v : ℕ) → lowered_stamp s' v ≡ lowered_stamp s v
 
 abbrev pub IsBlockWorklistEmpty : Tables → Tables → Type 0
 IsBlockWorklistEmpty s s' = SaysSame s s' × ((b : ℕ) → is_block_on_worklist s b ≡ false)

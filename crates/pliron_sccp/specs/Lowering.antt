@@ -13,7 +13,7 @@ use Rattle.pliron_sccp.specs.Settling.{AreAtMost}
 -- stays there, and nothing else is
 pub record ValuesAreLowered (s s' : Tables) : Type 0 where
   pub below : AreAtMost (lattice_values_of s') (lattice_values_of s)
-  pub reported : (v : ℕ) → (lattice_value_in s' v ≡ lattice_value_in s v) ⊎ (is_value_on_worklist s' v ≡ true)
+  pub waits_if_lowered : (v : ℕ) → (lattice_value_in s' v ≡ lattice_value_in s v) ⊎ (is_value_on_worklist s' v ≡ true)
   pub entered : (b : ℕ) → is_executable s' b ≡ true → (is_executable s b ≡ true) ⊎ (is_block_on_worklist s' b ≡ true)
   pub values : (v : ℕ) → is_value_on_worklist s v ≡ true → is_value_on_worklist s' v ≡ true
   pub blocks : (b : ℕ) → is_block_on_worklist s b ≡ true → is_block_on_worklist s' b ≡ true
@@ -25,6 +25,6 @@ pub record ValuesAreLowered (s s' : Tables) : Type 0 where
 -- all constraints by these constants are satisfied, and nothing else was done: lattice values at or below the
 -- old ones that satisfy them are at or below the new ones
 pub record IsApplied (constants : List AttrObj) (constraints : List Constraint) (s s' : Tables) : Type 0 where
-  pub values_on_worklist : ValuesAreLowered s s'
+  pub lowered : ValuesAreLowered s s'
   pub met : SatisfiesAll constants (lattice_values_of s') constraints
   pub least : (g : LatticeValues) → AreAtMost g (lattice_values_of s) → SatisfiesAll constants g constraints → AreAtMost g (lattice_values_of s')

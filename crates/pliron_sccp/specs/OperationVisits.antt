@@ -40,12 +40,12 @@ pub record StampsIt (t : Tree) (k : ℕ) (s s' : Tables) : Type 0 where
   pub numbers : (b : ℕ) → is_numbered s' b ≡ is_numbered s b
   pub constants : known_constants s' ≡ known_constants s
   pub visit_stamps : (j : ℕ) → (j ≡ k → ⊥) → stamp_of s' (results_of t j) ≡ stamp_of s (results_of t j)
-  pub values_on_worklist : (v : ℕ) → lowered_stamp s' v ≡ lowered_stamp s v
+  pub lowered : (v : ℕ) → lowered_stamp s' v ≡ lowered_stamp s v
 
 -- the visit of the operation was stamped, and no other, and so was what it lowered
 pub record IsStamped (t : Tree) (k : ℕ) (s s' : Tables) : Type 0 where
   pub others : (j : ℕ) → (j ≡ k → ⊥) → stamp_of s' (results_of t j) ≡ stamp_of s (results_of t j)
-  pub values_on_worklist : StampsLowered s s'
+  pub lowered : StampsLowered s s'
 
 -- one operation was visited: its constraints under the lattice values before are satisfied, and nothing else
 -- was done

@@ -24,7 +24,7 @@ IsVisitedOrDeferred x t k s s' d d' = (VisitsOperation x t k s s' × (d' ≡ d))
 -- each of these operations was visited, one after the other, or deferred
 pub record VisitsOrDefersAll (x : Says) (t : Tree) (ks : List ℕ) (s s' : Tables) (d d' : DeferredOperations) : Type 0 where
   pub short : List ℕ
-  pub visit_stamps : VisitsInTurn x t short s s'
+  pub visits : VisitsInTurn x t short s s'
   pub among : (k : ℕ) → In k short → In k ks
   pub seen : (k : ℕ) → In k ks → In k short ⊎ In k (deferred_operations d')
   pub kept : (k : ℕ) → In k (deferred_operations d) → In k (deferred_operations d')

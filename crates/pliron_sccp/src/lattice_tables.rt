@@ -1,7 +1,7 @@
 //! The state of the search, in tables by number: the lattice value of each value, the executable blocks, and
 //! the worklists.
 //!
-//! Everything above speaks of the words of `specs/Tables` alone, so that other tables can be behind the same
+//! Everything above speaks of the words of `specs/LatticeTables` alone, so that other tables can be behind the same
 //! contracts.
 //!
 //! All room is taken when the tables are made, so marking, lowering and popping can't fail. A clock advances
@@ -167,7 +167,7 @@ pub struct Tables {
     visit_stamps: Vec<u64>,
     lowered_stamps: Vec<u64>,
     ghost marked: { length marks.items ≡ length blocks.keys },
-    ghost reported: { length cells.items ≡ length values.keys },
+    ghost has_cells: { length cells.items ≡ length values.keys },
     ghost queued: { length values_on_worklist.items ≡ length values.keys },
     ghost block_numbers: { (n b : ℕ) → slice_get blocks.keys n ≡ Some b → index_of nat_eq blocks b ≡ Some n },
     ghost value_numbers: { (n v : ℕ) → slice_get values.keys n ≡ Some v → index_of nat_eq values v ≡ Some n },
@@ -182,7 +182,7 @@ pub struct Tables {
     ghost values_few: { length values.keys < 2 ^ 63 },
     ghost known: { (n k : ℕ) → slice_get cells.items n ≡ Some (Known k) → k < length constants.items },
     ghost constants_room: { length constants.items + unknown_count cells.items ≤ vec_capacity constants },
-    ghost was_visited: { length visit_stamps.items ≡ length values.keys },
+    ghost has_visit_stamps: { length visit_stamps.items ≡ length values.keys },
     ghost stamped: { length lowered_stamps.items ≡ length values.keys },
     ghost past: { (n : ℕ) → stamp_at visit_stamps.items (Some n) ≤ clock },
 }
@@ -385,7 +385,7 @@ impl Tables {
     fn lowered_value(&self, old: LatticeCell, to: LatticeCell) -> Option<LatticeCell>
         requires old { (f : LatticeValue) × Means (known_constants self.now) old f }
         requires to { (g : LatticeValue) × Means (known_constants self.now) to g }
-        ensures values_on_worklist { IfSome result (λ new. (f g : LatticeValue) → Means (known_constants self.now) old f
+        ensures lowered { IfSome result (λ new. (f g : LatticeValue) → Means (known_constants self.now) old f
             → Means (known_constants self.now) to g → (m : LatticeValue) × Means (known_constants self.now) new m
             × LowersTo f g m) }
         ensures stays { IfNone result ((f g : LatticeValue) → Means (known_constants self.now) old f → Means

@@ -228,7 +228,7 @@ fn visit_wide<D: Dialect>(
     requires live { IsLive ctx.now.tree op }
     requires targets { HasNumberedTargets ctx.now.tree tables.old op }
     requires entered { AreEntriesExecutable ctx.now.tree (lattice_values_of tables.old) scratch.old.entered }
-    ensures visit_stamps { OnOk result (VisitsOperation ⟦<D as HasFolding>⟧.folding ctx.now.tree op tables.old
+    ensures visits { OnOk result (VisitsOperation ⟦<D as HasFolding>⟧.folding ctx.now.tree op tables.old
         tables.new) }
     ensures keeps { OnOk result (KeepsFeasible ⟦<D as HasFolding>⟧.folding ctx.now.tree (lattice_values_of tables.old)
         op edges.old edges.new) }
@@ -256,7 +256,7 @@ fn visit_and_keep<D: Dialect>(
     requires live { IsLive ctx.now.tree op }
     requires targets { HasNumberedTargets ctx.now.tree tables.old op }
     requires entered { AreEntriesExecutable ctx.now.tree (lattice_values_of tables.old) scratch.old.entered }
-    ensures visit_stamps { OnOk result (VisitsOperation ⟦<D as HasFolding>⟧.folding ctx.now.tree op tables.old
+    ensures visits { OnOk result (VisitsOperation ⟦<D as HasFolding>⟧.folding ctx.now.tree op tables.old
         tables.new) }
     ensures keeps { OnOk result (KeepsFeasible ⟦<D as HasFolding>⟧.folding ctx.now.tree (lattice_values_of tables.old)
         op edges.old edges.new) }

@@ -18,7 +18,7 @@ use Rattle.pliron_theory.proofs.FactLattice.{picked_in}
 -- the second tree is the first one with operands renamed and with new operations that give constants, and the facts
 -- about it say the same
 pub record IsCarried (x : Says) (t t' : Tree) (f f' : LatticeValues) (read read' : ℕ → LatticeValue) (rename : ℕ → ℕ) (New : ℕ → Type 0) : Type 0 where
-  pub reported : (k : ℕ) → New k ⊎ (New k → ⊥)
+  pub decides : (k : ℕ) → New k ⊎ (New k → ⊥)
   pub rows : (k : ℕ) → (New k → ⊥) → row_of t' k ≡ row_of t k
   pub operands : (k : ℕ) → (New k → ⊥) → operands_of t' k ≡ map rename (operands_of t k)
   pub successors : (k : ℕ) → (New k → ⊥) → successors_of t' k ≡ successors_of t k
@@ -69,7 +69,7 @@ module _ (x : Says) (t t' : Tree) (root : ℕ) (f f' : LatticeValues) (read read
   old_slot r k i e = ⊎_elim
       (λ n. absurd (no_item i r (regions_of t k) (ap (λ z. z.regions) (c.fresh k n).0) e))
       (λ n. ap (λ z. slice_get z.regions i) (c.rows k n) ∙ e)
-      (c.reported k)
+      (c.decides k)
 
   pub block_holders : (b : ℕ) → block_parent_operation_of t' b ≡ block_parent_operation_of t b
   block_holders b = ap (λ o. up_from o (λ r. region_parent_of t' r)) (c.block_parents b) ∙ go (block_parent_of t b) refl
@@ -185,7 +185,7 @@ module _ (x : Says) (t t' : Tree) (root : ℕ) (f f' : LatticeValues) (read read
   no_results k v never i = ⊎_elim
       (λ n. let p = c.placed k n in absurd (never (inside_block p.0 p.1 (holds_too root p.0 (sound.inside p.0 (sym (c.is_executable p.0) ∙ p.2))))))
       (λ n. let j = subst (In v) (ap (λ z. z.results) (c.rows k n)) i in c.listed_results k v j ∙ sound.no_results k v (λ inside. never (inside_too root k inside)) j)
-      (c.reported k)
+      (c.decides k)
 
   no_arguments : (b v : ℕ) → (HoldsBlock t' root b → ⊥) → In v (arguments_of t' b) → read' v ≡ NotAConstant
   no_arguments b v never i = let j = subst (In v) (c.arguments b) i in c.listed_arguments b v j ∙ sound.no_arguments b v (λ h. never (holds_too root b h)) j
@@ -199,10 +199,10 @@ module _ (x : Says) (t t' : Tree) (root : ℕ) (f f' : LatticeValues) (read read
       (λ n.
       let y = sound.root_entries r b (subst (In r) (ap (λ z. z.regions) (c.rows root n)) i) (ap (λ z. first_of z None) (sym (c.layouts r)) ∙ e) in
       (c.is_executable b ∙ y.0, λ v j. let u = subst (In v) (c.arguments b) j in c.listed_arguments b v u ∙ y.1 v u))
-      (c.reported root)
+      (c.decides root)
 
   entries : (k i r b : ℕ) (o : Operation) → IsInExecutableBlock t' f' k → op_at t' k ≡ Some o → slice_get o.regions i ≡ Some r → first_of (layout_of t' r) None ≡ Some b → IsTrue (f'.is_executable b) × AreBelowNamed x t' read' read' o i b
-  entries k i r b o' liveness at there e = by (c.reported k)
+  entries k i r b o' liveness at there e = by (c.decides k)
     where
       by : New k ⊎ (New k → ⊥) → IsTrue (f'.is_executable b) × AreBelowNamed x t' read' read' o' i b
       by (inl n) = absurd (no_item i r o'.regions (sym (op_shows t' k o' at).regions ∙ c.childless k n) there)
@@ -229,7 +229,7 @@ module _ (x : Says) (t t' : Tree) (root : ℕ) (f f' : LatticeValues) (read read
               (below v same (x.entry_operands (shape_of x.meaning t b4.operation) i j) (old.1 j v at_old))
 
   jumps : (k i b : ℕ) (o : Operation) → IsInExecutableBlock t' f' k → op_at t' k ≡ Some o → IsFeasibleEdge x t' f' o i b → IsTrue (f'.is_executable b) × ((j v : ℕ) → slice_get (arguments_of t' b) j ≡ Some v → (read' v ≡ NotAConstant) ⊎ (IsTrue (x.meaning.is_branch o.head) × ((y : ℕ) → Forwards x t' o i j y → AtMost (read' v) (read' y))))
-  jumps k i b o' liveness at go = by (c.reported k)
+  jumps k i b o' liveness at go = by (c.decides k)
     where
       by : New k ⊎ (New k → ⊥) → IsTrue (f'.is_executable b) × ((j v : ℕ) → slice_get (arguments_of t' b) j ≡ Some v → (read' v ≡ NotAConstant) ⊎ (IsTrue (x.meaning.is_branch o'.head) × ((y : ℕ) → Forwards x t' o' i j y → AtMost (read' v) (read' y))))
       by (inl n) = absurd (no_item i b o'.successors (sym (op_shows t' k o' at).successors ∙ c.edgeless k n) go.0)
@@ -268,7 +268,7 @@ module _ (x : Says) (t t' : Tree) (root : ℕ) (f f' : LatticeValues) (read read
               same = c.listed_arguments b v (in_slice (arguments_of t b) j v at_old)
 
   results : (k i v : ℕ) (o : Operation) → IsInExecutableBlock t' f' k → op_at t' k ≡ Some o → slice_get o.results i ≡ Some v → IsRightResult x t' f' read' k i v o
-  results k i v o' liveness at listed = by (c.reported k)
+  results k i v o' liveness at listed = by (c.decides k)
     where
       by : New k ⊎ (New k → ⊥) → IsRightResult x t' f' read' k i v o'
       by (inl n) =

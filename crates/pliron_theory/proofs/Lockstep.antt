@@ -114,7 +114,7 @@ goes_tied T t t' s s' r b b' ds es h (v ∷ vs) (v' ∷ vs') w = enters_tied T s
 pub record AlikeMoves (T : Ties) (t t' : Tree) (s s' : State) (k k' : ℕ) (rest rest' : List ℕ) (o o' : Operation) (a : Move) (visits : ℕ → List Datum → List Datum → Type 0) (gotos : ℕ → List Datum → ℕ → List Datum → Type 0) : Type 0 where
   pub after : T.At rest rest' Empty None
   pub wait : (i : ℕ) (ds : List Datum) (memo : Datum) → a ≡ Visit i ds memo → T.Wait (k ∷ rest) (k' ∷ rest') memo
-  pub reported : (e memo answer : Datum) → a ≡ Emit e memo → T.At s.rest s'.rest memo (Some (answer ∷ []))
+  pub answered : (e memo answer : Datum) → a ≡ Emit e memo → T.At s.rest s'.rest memo (Some (answer ∷ []))
   pub results : (env env' : Environment) (ds : List Datum) → T.Env env env' → EnvsTied T.Env (bind env o.results ds) (bind env' o'.results ds)
   pub entries : (i : ℕ) (ds es : List Datum) → visits i ds es → EntersTied T (entry_in t (slice_get o.regions i)) (entry_in t' (slice_get o'.regions i)) ds es
   pub targets : (i j : ℕ) (ds es : List Datum) → gotos i ds j es → EntersTied T (block_in t (slice_get o.successors i)) (block_in t' (slice_get o'.successors j)) ds es
@@ -148,5 +148,5 @@ alike_tied T t t' s s' r k k' rest rest' o o' visits gotos (Goto i ds) b m h =
     let v = m.goto i ds refl in
     subst (λ x. NextAlike (Tied T) (perform t s o k rest (Goto i ds)) (perform t' s' o' k' rest' x)) (sym v.2) (goes_tied T t t' s s' r _ _ ds v.1 (h.targets i v.0 ds v.1 v.3) s.waiting s'.waiting r.waiting)
 alike_tied T t t' s s' r k k' rest rest' o o' visits gotos (Leave ds) b m h = subst (λ x. NextAlike (Tied T) (leave s s.waiting ds) (perform t' s' o' k' rest' x)) (sym (m.leave ds refl)) (leave_tied T s s' r s.waiting s'.waiting r.waiting ds)
-alike_tied T t t' s s' r k k' rest rest' o o' visits gotos (Emit e memo) b m h = subst (λ x. NextAlike (Tied T) (emit s e memo s.world) (perform t' s' o' k' rest' x)) (sym (m.emit e memo refl)) (emits_tied T s s' r e memo (λ answer. h.reported e memo answer refl) s.world s'.world r.world)
+alike_tied T t t' s s' r k k' rest rest' o o' visits gotos (Emit e memo) b m h = subst (λ x. NextAlike (Tied T) (emit s e memo s.world) (perform t' s' o' k' rest' x)) (sym (m.emit e memo refl)) (emits_tied T s s' r e memo (λ answer. h.answered e memo answer refl) s.world s'.world r.world)
 alike_tied T t t' s s' r k k' rest rest' o o' visits gotos Trap b m h = subst (λ x. NextAlike (Tied T) (trap s) (perform t' s' o' k' rest' x)) (sym (m.traps refl)) (trap_tied T s s' r)

@@ -108,7 +108,7 @@ module _ (x : Says) (t : Tree) (f : LatticeValues) (read : ℕ → LatticeValue)
 
   pub put_carried : IsCarried x t u f (facts_with f old new) read (read_with read new attr) (replace_target old new) (λ k. k ≡ n)
   put_carried = record {
-    reported = λ k. cases_eq k n;
+    decides = λ k. cases_eq k n;
     rows = λ k ne. beside.operations k ne;
     operands = λ k ne. get_map (map (replace_target old new)) refl (after_creating t head 1 0).operands k ∙ ap (map (replace_target old new)) (beside.operands k ne);
     successors = λ k ne. beside.successors k ne;
@@ -135,7 +135,7 @@ map_id (x ∷ xs) = ap (λ ys. x ∷ ys) (map_id xs)
 -- nothing changes where the trees are the same but for erased handles
 pub same_carried : (x : Says) (t u : Tree) (f : LatticeValues) (read : ℕ → LatticeValue) → ((v : ℕ) → AtMost (f.lattice_value v) (read v)) → IsSameTree t u → IsCarried x t u f f read read (λ v. v) (λ k. ⊥)
 same_carried x t u f read finer s = record {
-  reported = λ k. inr (λ z. z);
+  decides = λ k. inr (λ z. z);
   rows = λ k ne. s.operations k;
   operands = λ k ne. s.operands k ∙ sym (map_id (operands_of t k));
   successors = λ k ne. s.successors k;

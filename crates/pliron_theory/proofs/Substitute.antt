@@ -129,7 +129,7 @@ module _ (m : Meaning) (t t' : Tree) (c : Comparison) where
         alike_tied ties t t' s s' r k (c.swap k) rest rest' o o' (c.visits k) (c.gotos k) (m.act (shape_of m t o) s.memo input) b same (record {
           after = (q, fresh rest, own);
           wait = λ i ds memo f. (ap (λ z. c.swap k ∷ z) q ∙ ap (λ z. put_one c.swap z k (placed_all c.places c.swap rest)) (sym l), (l, λ answer. GoesOn o o' oe oe' first first' alike (Answered i ds memo answer comes f)), subst c.Own e r.place.2);
-          reported = λ x memo answer f. (r.place.0, reported memo answer (GoesOn o o' oe oe' first first' alike (AnsweredByWorld x memo answer comes f)), r.place.2);
+          answered = λ x memo answer f. (r.place.0, answered memo answer (GoesOn o o' oe oe' first first' alike (AnsweredByWorld x memo answer comes f)), r.place.2);
           results = λ env env' ds tied. h.results k o o' l oe oe' env env' ds tied;
           entries = λ i ds es v. enters _ _ ds es (h.entries k o o' l oe oe' i ds es v);
           targets = λ i j ds es v. enters _ _ ds es (h.targets k o o' l oe oe' i j ds es v);
@@ -138,8 +138,8 @@ module _ (m : Meaning) (t t' : Tree) (c : Comparison) where
         own : c.Own rest
         own = h.own_rest k rest (subst c.Own e r.place.2)
 
-        reported : (memo answer : Datum) → Begun k memo (answer ∷ []) → PlaceAt s.rest memo (Some (answer ∷ []))
-        reported memo answer g = subst (λ z. PlaceAt z memo (Some (answer ∷ []))) (sym e) (subst (λ z. HeadAt z k memo (Some (answer ∷ []))) (sym l) g)
+        answered : (memo answer : Datum) → Begun k memo (answer ∷ []) → PlaceAt s.rest memo (Some (answer ∷ []))
+        answered memo answer g = subst (λ z. PlaceAt z memo (Some (answer ∷ []))) (sym e) (subst (λ z. HeadAt z k memo (Some (answer ∷ []))) (sym l) g)
 
     turn_stays : (s s' : State) → Tied ties s s' → (k : ℕ) (rest rest' : List ℕ) → s.rest ≡ k ∷ rest → rest' ≡ placed_all c.places c.swap rest → c.places k ≡ None → (o o' : Operation) → op_at t k ≡ Some o → op_at t' (c.swap k) ≡ Some o' → (s.answer ≡ None → FirstAlike k o o' (data_of s.environment o.operands) (data_of s'.environment o'.operands)) → NextAlike (Tied ties) (turn m t s k rest (Some o)) (turn m t' s' (c.swap k) rest' (Some o'))
     turn_stays s s' r k rest rest' e q l o o' oe oe' reads = go s.answer refl (subst (λ z. HeadAt z k s.memo s.answer) l (subst (λ z. PlaceAt z s.memo s.answer) e r.place.1))

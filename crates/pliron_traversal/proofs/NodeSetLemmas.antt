@@ -33,11 +33,11 @@ place_tells p (x ∷ xs) = by (list_any p (x ∷ xs)) refl
         let nowhere : position_or_len p (x ∷ xs) < length (x ∷ xs) → ⊥ = λ l. true≢false (sym (list_any_at p (x ∷ xs) (position_or_len p (x ∷ xs)) x l (passes_at_first p (x ∷ xs) x l)) ∙ e) in
         ap is_some (position_past p (x ∷ xs) nowhere) ∙ sym e
 
-module _ {N : Type 0} (eq : N → N → Bool) (number : N → ℕ) (alike : (x y : N) → eq x y ≡ true → number x ≡ number y) (nodes : List N) (marks : List ℕ) (reported : (k : ℕ) (d : N) → k < length nodes → get_or marks (number (get_or nodes k d)) 0 ≡ k + 1) where
+module _ {N : Type 0} (eq : N → N → Bool) (number : N → ℕ) (alike : (x y : N) → eq x y ≡ true → number x ≡ number y) (nodes : List N) (marks : List ℕ) (gives : (k : ℕ) (d : N) → k < length nodes → get_or marks (number (get_or nodes k d)) 0 ≡ k + 1) where
   -- the mark of what is listed
   mark_of_listed : (v : N) → position_or_len (eq v) nodes < length nodes → get_or marks (number v) 0 ≡ position_or_len (eq v) nodes + 1
   mark_of_listed v l =
-      ap (λ n. get_or marks n 0) (alike v (get_or nodes (position_or_len (eq v) nodes) v) (passes_at_first (eq v) nodes v l)) ∙ reported (position_or_len (eq v) nodes) v l
+      ap (λ n. get_or marks n 0) (alike v (get_or nodes (position_or_len (eq v) nodes) v) (passes_at_first (eq v) nodes v l)) ∙ gives (position_or_len (eq v) nodes) v l
 
   -- an equal node stands where the mark says
   pub place_marked : (v : N) (k : ℕ) (d : N) → k < length nodes → get_or marks (number v) 0 ≡ k + 1 → eq v (get_or nodes k d) ≡ true → position (eq v) nodes ≡ Some k
@@ -61,12 +61,12 @@ module _ {N : Type 0} (number : N → ℕ) (nodes : List N) (marks : List ℕ) (
   pub one_mark_more : k < length nodes → v ≡ get_or nodes k v → number v < length marks → get_or marks (number v) 0 ≡ 0
       → ((j : ℕ) (d : N) → j < k → get_or marks (number (get_or nodes j d)) 0 ≡ j + 1)
       → (j : ℕ) (d : N) → j < k + 1 → get_or (set marks (number v) (k + 1)) (number (get_or nodes j d)) 0 ≡ j + 1
-  one_mark_more low at within free reported j d l = elim (last_order j l) [
+  one_mark_more low at within free gives j d l = elim (last_order j l) [
     | inl less ↦
         let apart : number (get_or nodes j d) ≡ number v → ⊥ = λ e.
         let here : get_or marks (number (get_or nodes j d)) 0 ≡ 0 = ap (λ n. get_or marks n 0) e ∙ free in
-        omega (arith, here, reported j d less) in
-        get_or-set_other marks (number v) (number (get_or nodes j d)) (k + 1) 0 apart ∙ reported j d less
+        omega (arith, here, gives j d less) in
+        get_or-set_other marks (number v) (number (get_or nodes j d)) (k + 1) 0 apart ∙ gives j d less
     | inr equal ↦
         let one : get_or nodes j d ≡ v = ap (λ i. get_or nodes i d) equal ∙ sym (at ∙ get_or_default nodes k v d low) in
         ap (λ w. get_or (set marks (number v) (k + 1)) (number w) 0) one ∙ get_or-set_same marks (number v) (k + 1) 0 within ∙ ap (λ i. i + 1) (sym equal)

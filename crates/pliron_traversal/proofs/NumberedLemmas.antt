@@ -267,7 +267,7 @@ module _ {N : Type 0} (eq : N → N → Bool) (laws : IsEquivalence eq) (g : Dig
     -- places by numbers are those of the nodes
     pub places_of_nodes : (ps qs : List N) → map Some ps ≡ map (λ k. slice_get g.nodes k) p → map Some qs ≡ map (λ k. slice_get g.nodes k) q → (places : List ℕ)
         → All (λ k. get_or places (number_in nat_eq p k) 0 ≡ number_in nat_eq q k) q → (v : N) → HasMember qs v → get_or places (number_in eq ps v) 0 ≡ number_in eq qs v
-    places_of_nodes ps qs is_p is_q places reported v h =
+    places_of_nodes ps qs is_p is_q places gives v h =
         let pre : ps ≡ map (λ k. get_or g.nodes k e) p = named_items g.nodes e ps p is_p (λ k i. omega (arith, p_low k i, by.same_count)) in
         let post : qs ≡ map (λ k. get_or g.nodes k e) q = named_items g.nodes e qs q is_q (λ k i. omega (arith, q_low k i, by.same_count)) in
         let m = of_map (λ k. get_or g.nodes k e) q v (subst (λ z. HasMember z v) post h) in
@@ -275,7 +275,7 @@ module _ {N : Type 0} (eq : N → N → Bool) (laws : IsEquivalence eq) (g : Dig
         let in_pre : number_in eq ps v ≡ number_in nat_eq p m.0 = ap (λ z. number_in eq z v) pre ∙ ap (number_in eq (map (λ k. get_or g.nodes k e) p)) (sym m.2) ∙ place_named eq laws g lists lawful by e p m.0 low p_low in
         let in_post : number_in eq qs v ≡ number_in nat_eq q m.0 = ap (λ z. number_in eq z v) post ∙ ap (number_in eq (map (λ k. get_or g.nodes k e) q)) (sym m.2) ∙ place_named eq laws g lists lawful by e q m.0 low q_low in
         let at = contains_from q m.0 m.1 in
-        let here : get_or places (number_in nat_eq p m.0) 0 ≡ number_in nat_eq q m.0 = subst (λ k. get_or places (number_in nat_eq p k) 0 ≡ number_in nat_eq q k) at.2 (reported at.0 m.0 at.1) in
+        let here : get_or places (number_in nat_eq p m.0) 0 ≡ number_in nat_eq q m.0 = subst (λ k. get_or places (number_in nat_eq p k) 0 ≡ number_in nat_eq q k) at.2 (gives at.0 m.0 at.1) in
         ap (λ n. get_or places n 0) in_pre ∙ here ∙ sym in_post
 
     pub all_pre_low : (n : ℕ) → n ≡ length g.nodes → All (λ k. k < n) p

@@ -18,14 +18,14 @@ module _ {N : Type 0} (eq : N → N → Bool) (laws : IsEquivalence eq) (same : 
   pub one_more : (listed : All (IsListed eq pre) post) (places : List ℕ) (k : ℕ) (v : N) → length places ≡ length pre → k < length post → v ≡ get_or post k v
       → ((j : ℕ) (d : N) → j < k → get_or places (number_in eq pre (get_or post j d)) 0 ≡ j)
       → (j : ℕ) (d : N) → j < k + 1 → get_or (set places (number_in eq pre v) k) (number_in eq pre (get_or post j d)) 0 ≡ j
-  one_more listed places k v counted low at reported j d l = elim (order j k l) [
+  one_more listed places k v counted low at gives j d l = elim (order j k l) [
     | inl less ↦
         let apart : number_in eq pre v ≡ number_in eq pre (get_or post j d) → ⊥ = λ e.
         let one : v ≡ get_or post j d = same v (get_or post j d) (equal_at_place eq laws pre v (get_or post j d) within e) in
         let here : number_in eq post v ≡ k = ap (number_in eq post) at ∙ place_at eq laws post k v distinct low in
         let there : number_in eq post v ≡ j = ap (number_in eq post) one ∙ place_at eq laws post j d distinct (omega (arith, less, low)) in
         omega (arith, here, there, less) in
-        get_or-set_other places (number_in eq pre v) (number_in eq pre (get_or post j d)) k 0 (λ e. apart (sym e)) ∙ reported j d less
+        get_or-set_other places (number_in eq pre v) (number_in eq pre (get_or post j d)) k 0 (λ e. apart (sym e)) ∙ gives j d less
     | inr equal ↦
         let one : get_or post j d ≡ v = ap (λ i. get_or post i d) equal ∙ sym (at ∙ get_or_default post k v d low) in
         ap (λ w. get_or (set places (number_in eq pre v) k) (number_in eq pre w) 0) one ∙ get_or-set_same places (number_in eq pre v) k 0 (omega (arith, counted, within)) ∙ sym equal
@@ -35,7 +35,7 @@ module _ {N : Type 0} (eq : N → N → Bool) (laws : IsEquivalence eq) (same : 
       within = listed_within (eq v) pre (subst (IsListed eq pre) (sym at) (listed k v low))
 
   pub all_told : (places : List ℕ) → ((j : ℕ) (d : N) → j < length post → get_or places (number_in eq pre (get_or post j d)) 0 ≡ j) → All (λ v. get_or places (number_in eq pre v) 0 ≡ number_in eq post v) post
-  all_told places reported = λ k d l. reported k d l ∙ sym (place_at eq laws post k d distinct l)
+  all_told places gives = λ k d l. gives k d l ∙ sym (place_at eq laws post k d distinct l)
 
   -- so it is of whatever stands there
   pub told_of : (places : List ℕ) → All (λ v. get_or places (number_in eq pre v) 0 ≡ number_in eq post v) post → (v : N) → IsListed eq post v → get_or places (number_in eq pre v) 0 ≡ number_in eq post v

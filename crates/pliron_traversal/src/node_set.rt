@@ -154,7 +154,7 @@ fn marks_of<N: Eq + Hash>(
     nodes: &[N],
     bound: usize,
 ) -> Result<Option<Vec<u32>>, OptError>
-    ensures reported { IfOk result (λ found. IfSome found (λ marks. GivesPlaces N.hash_input nodes.now marks.items)) }
+    ensures gives { IfOk result (λ found. IfSome found (λ marks. GivesPlaces N.hash_input nodes.now marks.items)) }
     ensures memory { IsOkUnless result OptError.Memory }
 {
     if nodes.len() > u32::MAX as usize {

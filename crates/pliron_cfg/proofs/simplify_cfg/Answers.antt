@@ -28,7 +28,7 @@ returns-in_err-merge_inside_op-clause-change g c =
 pub returns-clause-ok : goal.returns-clause-ok
 returns-clause-ok g c =
     simplified g.D.HasMeaning.meaning c.args.op c.args.ctx.now.tree c.fold_branches.new.ctx.tree c.remove_blocks_inside_op.new.ctx.tree c.merge_inside_op.new.ctx.tree c.in_ok-status.ensures.change c.in_ok-remove_blocks_inside_op.ensures.change c.in_ok-merge_inside_op.ensures.change c.in_ok-status.ensures.blocks c.in_ok-merge_inside_op.ensures.blocks c.in_ok-merge_inside_op.ensures.unreachable
-    g.D.ConstFoldInterface.can_fold g.D.BranchOpFoldInterface.can_fold_branch g.D.ConstFoldInterface.constants g.D.BranchOpFoldInterface.outcome c.in_ok-status.status c.in_ok-remove_blocks_inside_op.field-0 c.in_ok-merge_inside_op.field-0 c.bitor_assign-2.new.self c.in_ok-status.ensures.folds c.in_ok-status.ensures.reported c.in_ok-remove_blocks_inside_op.ensures.ok c.in_ok-merge_inside_op.ensures.ok c.in_ok-merge_inside_op.ensures.reported
+    g.D.ConstFoldInterface.can_fold g.D.BranchOpFoldInterface.can_fold_branch g.D.ConstFoldInterface.constants g.D.BranchOpFoldInterface.outcome c.in_ok-status.status c.in_ok-remove_blocks_inside_op.field-0 c.in_ok-merge_inside_op.field-0 c.bitor_assign-2.new.self c.in_ok-status.ensures.folds c.in_ok-status.ensures.reported c.in_ok-remove_blocks_inside_op.ensures.ok c.in_ok-merge_inside_op.ensures.ok c.in_ok-merge_inside_op.ensures.loses_operation
     (c.bitor_assign-2.ensures.after ∙ ap (λ z. changed_by_either z c.in_ok-merge_inside_op.field-0) c.bitor_assign.ensures.after)
 
 pub returns-clause-change : goal.returns-clause-change

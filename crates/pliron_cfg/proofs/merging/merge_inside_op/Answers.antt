@@ -54,8 +54,8 @@ returns-in_err-visits-clause-change g c = whole_refl g.D.HasMeaning.meaning c.ar
 pub returns-in_err-visits-clause-refused : goal.returns-in_err-visits-clause-refused
 returns-in_err-visits-clause-refused g c = on_err _ c.from_residual.result (inl Nothing)
 
-pub returns-clause-reported : goal.returns-clause-reported
-returns-clause-reported g c =
+pub returns-clause-loses_operation : goal.returns-clause-loses_operation
+returns-clause-loses_operation g c =
     let t = c.args.ctx.now.tree in
     let op = c.args.op in
     let w = c.well_formed-2.ensures.tree in

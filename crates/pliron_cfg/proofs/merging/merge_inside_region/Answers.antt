@@ -76,8 +76,8 @@ returns-in_err-visits-clause-refused g c = on_err _ c.from_residual.result (inl 
 pub visits_inside_region-requires-clause-edges : goal.visits_inside_region-requires-clause-edges
 visits_inside_region-requires-clause-edges g c = λ holder e. (c.requires.linked holder e).edges
 
-pub returns-clause-reported : goal.returns-clause-reported
-returns-clause-reported g c =
+pub returns-clause-loses_operation : goal.returns-clause-loses_operation
+returns-clause-loses_operation g c =
     let t = c.args.ctx.now.tree in
     let w = c.well_formed-2.ensures.tree in
     let x = region_has t c.args.region c.requires.region in

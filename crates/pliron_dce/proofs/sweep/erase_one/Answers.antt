@@ -35,7 +35,7 @@ returns-in_ok-note-in-Operation-clause-all g c =
     let ready = subst (λ z. IsReady g.D.HasMeaning.meaning g.D.SideEffects.side_effects g.D.BlockArgRemoval.removable c.args.ctx.now.tree c.args.root (item_of z)) c.in-Operation.is c.requires.ready in
     let all = subst (λ z. HasReady g.D.HasMeaning.meaning g.D.SideEffects.side_effects g.D.BlockArgRemoval.removable c.args.ctx.now.tree c.args.root ((pending_candidates c.args.state.now.worklist) ++ z ∷ [])) c.in-Operation.is c.requires.all in
     let live = op_live g.D.HasMeaning.meaning g.D.SideEffects.side_effects c.args.ctx.now.tree c.args.root c.in-Operation.op c.well_formed-2.ensures.tree c.requires.linked g.met.D.Dialect.keeps_counts g.D.BlockArgRemoval.removable g.met.D.Dialect.gives_at_once ready in
-    ready_all _ _ _ _ g.met.D.Dialect.forwards_operands (λ h h' s. s.branch) g.met.D.Dialect.keeps_counts g.D.SideEffects.side_effects g.met.D.Dialect.gives_at_once g.D.BlockArgRemoval.removable g.met.D.Dialect.acts_without_argument c.args.ctx.now.tree c.erase_dead_operation.new.ctx.tree c.args.root (Operation c.in-Operation.op) c.erase_dead_operation.new.used.items (pending_candidates c.args.state.now.worklist) (pending_candidates c.note.new.worklist) c.well_formed-2.ensures.tree c.well_formed-in-Operation.ensures.tree c.requires.linked ready (live, c.in_ok-erase_dead_operation-in-Operation.ensures.deleted) all c.in_ok-erase_dead_operation-in-Operation.ensures.noted (search (rules, c.in_ok-note-in-Operation.ensures.was_visited)) c.in_ok-note-in-Operation.ensures.kept
+    ready_all _ _ _ _ g.met.D.Dialect.forwards_operands (λ h h' s. s.branch) g.met.D.Dialect.keeps_counts g.D.SideEffects.side_effects g.met.D.Dialect.gives_at_once g.D.BlockArgRemoval.removable g.met.D.Dialect.acts_without_argument c.args.ctx.now.tree c.erase_dead_operation.new.ctx.tree c.args.root (Operation c.in-Operation.op) c.erase_dead_operation.new.used.items (pending_candidates c.args.state.now.worklist) (pending_candidates c.note.new.worklist) c.well_formed-2.ensures.tree c.well_formed-in-Operation.ensures.tree c.requires.linked ready (live, c.in_ok-erase_dead_operation-in-Operation.ensures.deleted) all c.in_ok-erase_dead_operation-in-Operation.ensures.noted (search (rules, c.in_ok-note-in-Operation.ensures.revisited)) c.in_ok-note-in-Operation.ensures.kept
 
 pub erase_dead_argument-requires-clause-index : goal.erase_dead_argument-requires-clause-index
 erase_dead_argument-requires-clause-index g c =
@@ -56,7 +56,7 @@ returns-in_ok-note-in-Argument-def-clause-all g c =
     let at = argument_listed g.D.HasMeaning.meaning g.D.BlockArgRemoval.removable c.args.ctx.now.tree c.args.root c.in-Argument.value c.in-Argument-def.block c.in-Argument-def.index c.well_formed-2.ensures.tree ready c.in-Argument-def.ensures.definition in
     let deleted = subst (λ z. Removes g.D.HasMeaning.meaning g.D.Dialect.shortened z.tree c.erase_dead_argument.new.ctx.tree c.in-Argument.value) c.add.ensures.same (c.in_ok-lost-in-Argument-def.ensures.deleted c.in-Argument.value (subst (λ z. slice_get (arguments_of z.tree c.in-Argument-def.block) c.in-Argument-def.index ≡ Some c.in-Argument.value) (sym c.add.ensures.same) at)) in
     let all = subst (λ z. HasReady g.D.HasMeaning.meaning g.D.SideEffects.side_effects g.D.BlockArgRemoval.removable c.args.ctx.now.tree c.args.root ((pending_candidates c.args.state.now.worklist) ++ z ∷ [])) c.in-Argument.is c.requires.all in
-    ready_all _ _ _ _ g.met.D.Dialect.forwards_operands (λ h h' s. s.branch) g.met.D.Dialect.keeps_counts g.D.SideEffects.side_effects g.met.D.Dialect.gives_at_once g.D.BlockArgRemoval.removable g.met.D.Dialect.acts_without_argument c.args.ctx.now.tree c.erase_dead_argument.new.ctx.tree c.args.root (Argument c.in-Argument.value) c.in_ok-lost-in-Argument-def.lost.items (pending_candidates c.args.state.now.worklist) (pending_candidates c.note-in-Argument-def.new.worklist) c.well_formed-2.ensures.tree c.well_formed-in-Argument-def.ensures.tree c.requires.linked ready deleted all (subst (λ z. AreRecorded z.tree c.erase_dead_argument.new.ctx.tree c.in_ok-lost-in-Argument-def.lost.items) c.add.ensures.same c.in_ok-lost-in-Argument-def.ensures.noted) (search (rules, c.in_ok-note-in-Argument-def.ensures.was_visited)) c.in_ok-note-in-Argument-def.ensures.kept
+    ready_all _ _ _ _ g.met.D.Dialect.forwards_operands (λ h h' s. s.branch) g.met.D.Dialect.keeps_counts g.D.SideEffects.side_effects g.met.D.Dialect.gives_at_once g.D.BlockArgRemoval.removable g.met.D.Dialect.acts_without_argument c.args.ctx.now.tree c.erase_dead_argument.new.ctx.tree c.args.root (Argument c.in-Argument.value) c.in_ok-lost-in-Argument-def.lost.items (pending_candidates c.args.state.now.worklist) (pending_candidates c.note-in-Argument-def.new.worklist) c.well_formed-2.ensures.tree c.well_formed-in-Argument-def.ensures.tree c.requires.linked ready deleted all (subst (λ z. AreRecorded z.tree c.erase_dead_argument.new.ctx.tree c.in_ok-lost-in-Argument-def.lost.items) c.add.ensures.same c.in_ok-lost-in-Argument-def.ensures.noted) (search (rules, c.in_ok-note-in-Argument-def.ensures.revisited)) c.in_ok-note-in-Argument-def.ensures.kept
 
 pub returns-in_err-note-in-Operation-clause-refused : goal.returns-in_err-note-in-Operation-clause-refused
 returns-in_err-note-in-Operation-clause-refused g c =

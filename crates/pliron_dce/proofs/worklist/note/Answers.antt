@@ -13,14 +13,14 @@ use Rattle.pliron_dce.proofs.worklist.note.Goals as goal
 pub loop-value-preserved-then-not-is_noted : goal.loop-value-preserved-then-not-is_noted
 loop-value-preserved-then-not-is_noted c = record {
   kept = c.loop-value.invariant.kept;
-  was_visited = looked_past c.args.ctx.now.tree c.value-item.result c.args.used.now c.loop-value.value-index _ c.loop-value.invariant.was_visited (slice_get-get_or c.args.used.now c.loop-value.value-index _ c.loop-value-test.true ∙ ap Some (sym c.value-item.is)) (λ d. refuted c.is_noted.result c.if-not-is_noted.true (c.is_noted.ensures.1 d));
+  revisited = looked_past c.args.ctx.now.tree c.value-item.result c.args.used.now c.loop-value.value-index _ c.loop-value.invariant.revisited (slice_get-get_or c.args.used.now c.loop-value.value-index _ c.loop-value-test.true ∙ ap Some (sym c.value-item.is)) (λ d. refuted c.is_noted.result c.if-not-is_noted.true (c.is_noted.ensures.1 d));
   closed = c.loop-value.invariant.closed;
 }
 
 pub loop-value-preserved : goal.loop-value-preserved
 loop-value-preserved c =
     let at = slice_get-get_or c.args.used.now c.loop-value.value-index _ c.loop-value-test.true ∙ ap Some (sym c.value-item.is) in
-    let scans = c.in_ok-push_around.ensures.scans in
+    let scans = c.in_ok-push_around.ensures.adds_parents in
     let mid = c.revisit_definer.new.worklist in
     let adds = c.in_ok-holder.ensures in
     let rest = mid.later.items ++ mid.round.items in
@@ -28,7 +28,7 @@ loop-value-preserved c =
     let round : (k : ℕ) → IsDefinedInside c.args.ctx.now.tree k c.value-item.result → Among (Op k) (items_of (map (λ k. Operation k) c.push_around.new.around.ops.items ++ rest)) = λ k m. among_left (Op k) (map (λ k. Operation k) c.push_around.new.around.ops.items) rest (among_set c.push_around.new.around.ops.items k (scans.around k m)) in
     record {
       kept = λ x i. kept x (adds.kept x (c.loop-value.invariant.kept x i));
-      was_visited = looked_more c.args.ctx.now.tree c.value-item.result c.args.used.now c.loop-value.value-index (pending_candidates c.loop-value.worklist) (pending_candidates mid) (map (λ k. Operation k) c.push_around.new.around.ops.items ++ rest) c.loop-value.invariant.was_visited at adds.kept kept round adds.makers adds.arguments;
+      revisited = looked_more c.args.ctx.now.tree c.value-item.result c.args.used.now c.loop-value.value-index (pending_candidates c.loop-value.worklist) (pending_candidates mid) (map (λ k. Operation k) c.push_around.new.around.ops.items ++ rest) c.loop-value.invariant.revisited at adds.kept kept round adds.makers adds.arguments;
       closed = c.in_ok-push_around.ensures.closed;
     }
 

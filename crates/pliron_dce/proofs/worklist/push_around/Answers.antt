@@ -21,8 +21,8 @@ stops c =
     let r : IsRising t c.args.value c.args.around.now.ops.items c.add.new.self.ops.items (Some c.in-Some.op) = subst (λ z. IsRising t c.args.value c.args.around.now.ops.items z (Some c.in-Some.op)) (sym there.1) (subst (λ z. IsRising t c.args.value c.args.around.now.ops.items c.loop-holder.around.ops.items z) c.in-Some.is c.loop-holder.invariant.rising) in
     rising_stops t c.well_formed-2.ensures.tree c.args.value c.args.around.now.ops.items c.requires.closed c.add.new.self.ops.items c.in-Some.op (c.loop-holder.invariant.live c.in-Some.op c.in-Some.is) (subst (In c.in-Some.op) (sym there.1) there.0) r
 
-pub returns-then-not-branch-clause-scans : goal.returns-then-not-branch-clause-scans
-returns-then-not-branch-clause-scans c = (stops c).0
+pub returns-then-not-branch-clause-adds_parents : goal.returns-then-not-branch-clause-adds_parents
+returns-then-not-branch-clause-adds_parents c = (stops c).0
 
 pub returns-then-not-branch-clause-closed : goal.returns-then-not-branch-clause-closed
 returns-then-not-branch-clause-closed c = (stops c).1
@@ -44,8 +44,8 @@ loop-holder-preserved c =
       rising = rising_more t c.well_formed-2.ensures.tree c.args.value c.args.around.now.ops.items c.loop-holder.around.ops.items c.add.new.self.ops.items c.in-Some.op c.get_parent_op-holder.result more c.get_parent_op-holder.ensures.holder (subst (λ z. IsRising t c.args.value c.args.around.now.ops.items c.loop-holder.around.ops.items z) c.in-Some.is c.loop-holder.invariant.rising);
     }
 
-pub returns-clause-scans : goal.returns-clause-scans
-returns-clause-scans c = (rising_ends c.args.ctx.now.tree c.well_formed-2.ensures.tree c.args.value c.args.around.now.ops.items c.loop-holder.around.ops.items c.loop-holder.holder c.in_default.is c.loop-holder.invariant.rising).0
+pub returns-clause-adds_parents : goal.returns-clause-adds_parents
+returns-clause-adds_parents c = (rising_ends c.args.ctx.now.tree c.well_formed-2.ensures.tree c.args.value c.args.around.now.ops.items c.loop-holder.around.ops.items c.loop-holder.holder c.in_default.is c.loop-holder.invariant.rising).0
 
 pub returns-clause-closed : goal.returns-clause-closed
 returns-clause-closed c = (rising_ends c.args.ctx.now.tree c.well_formed-2.ensures.tree c.args.value c.args.around.now.ops.items c.loop-holder.around.ops.items c.loop-holder.holder c.in_default.is c.loop-holder.invariant.rising).1

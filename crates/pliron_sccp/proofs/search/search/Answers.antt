@@ -70,8 +70,8 @@ returns-then-not-branch-clause-ok g c =
     let d = g.met.D.Dialect in
     let none : c.in_ok-taken.taken ≡ 0 = omega (arith, c.if-taken-gt0.false) in
     let turn = subst (TakesTurn x c.args.ctx.now.tree c.loop-scratch.tables c.step.new.tables c.loop-scratch.delays c.step.new.delays c.loop-scratch.edges c.step.new.edges) none c.in_ok-taken.ensures.ok in
-    let visit_stamps = subst (VisitsDeferred x c.args.ctx.now.tree c.step.new.tables c.visit_deferred.new.tables c.step.new.delays c.visit_deferred.new.delays c.step.new.edges c.visit_deferred.new.edges) c.if-not-branch.true c.in_ok-visit_deferred.ensures.ok in
-    end_search x c.args.ctx.now.tree c.args.root c.well_formed-2.ensures.tree c.requires.live c.requires.linked d.answers_true (record { forwarded = d.forwards_operands.places; named = d.names_operands.there }) c.loop-scratch.tables c.step.new.tables c.loop-scratch.delays c.step.new.delays c.loop-scratch.edges c.step.new.edges c.loop-scratch.pops turn c.loop-scratch.invariant.0 c.visit_deferred.new.tables c.visit_deferred.new.delays c.visit_deferred.new.edges visit_stamps
+    let visits = subst (VisitsDeferred x c.args.ctx.now.tree c.step.new.tables c.visit_deferred.new.tables c.step.new.delays c.visit_deferred.new.delays c.step.new.edges c.visit_deferred.new.edges) c.if-not-branch.true c.in_ok-visit_deferred.ensures.ok in
+    end_search x c.args.ctx.now.tree c.args.root c.well_formed-2.ensures.tree c.requires.live c.requires.linked d.answers_true (record { forwarded = d.forwards_operands.places; named = d.names_operands.there }) c.loop-scratch.tables c.step.new.tables c.loop-scratch.delays c.step.new.delays c.loop-scratch.edges c.step.new.edges c.loop-scratch.pops turn c.loop-scratch.invariant.0 c.visit_deferred.new.tables c.visit_deferred.new.delays c.visit_deferred.new.edges visits
 
 pub loop-scratch-smaller : goal.loop-scratch-smaller
 loop-scratch-smaller g c =
@@ -79,9 +79,9 @@ loop-scratch-smaller g c =
     let d = g.met.D.Dialect in
     let none : c.in_ok-taken.taken ≡ 0 = omega (arith, c.if-taken-gt0.false) in
     let turn = subst (TakesTurn x c.args.ctx.now.tree c.loop-scratch.tables c.step.new.tables c.loop-scratch.delays c.step.new.delays c.loop-scratch.edges c.step.new.edges) none c.in_ok-taken.ensures.ok in
-    let visit_stamps = subst (VisitsDeferred x c.args.ctx.now.tree c.step.new.tables c.visit_deferred.new.tables c.step.new.delays c.visit_deferred.new.delays c.step.new.edges c.visit_deferred.new.edges) c.if-not-branch.false c.in_ok-visit_deferred.ensures.ok in
+    let visits = subst (VisitsDeferred x c.args.ctx.now.tree c.step.new.tables c.visit_deferred.new.tables c.step.new.delays c.visit_deferred.new.delays c.step.new.edges c.visit_deferred.new.edges) c.if-not-branch.false c.in_ok-visit_deferred.ensures.ok in
     more_by ((length (blocks_inside c.args.ctx.now.tree c.args.root) + 2 * length (values_inside c.args.ctx.now.tree c.args.root) - c.loop-scratch.pops) * 2 ^ 64) (length (deferred_operations c.visit_deferred.new.delays)) (length (deferred_operations c.loop-scratch.delays))
-    (fewer_aside x c.args.ctx.now.tree c.args.root c.well_formed-2.ensures.tree c.requires.live c.requires.linked d.answers_true (record { forwarded = d.forwards_operands.places; named = d.names_operands.there }) c.loop-scratch.tables c.step.new.tables c.loop-scratch.delays c.step.new.delays c.loop-scratch.edges c.step.new.edges c.loop-scratch.pops turn c.loop-scratch.invariant.0 c.visit_deferred.new.tables c.visit_deferred.new.delays c.visit_deferred.new.edges visit_stamps)
+    (fewer_aside x c.args.ctx.now.tree c.args.root c.well_formed-2.ensures.tree c.requires.live c.requires.linked d.answers_true (record { forwarded = d.forwards_operands.places; named = d.names_operands.there }) c.loop-scratch.tables c.step.new.tables c.loop-scratch.delays c.step.new.delays c.loop-scratch.edges c.step.new.edges c.loop-scratch.pops turn c.loop-scratch.invariant.0 c.visit_deferred.new.tables c.visit_deferred.new.delays c.visit_deferred.new.edges visits)
 
 pub loop-scratch-preserved : goal.loop-scratch-preserved
 loop-scratch-preserved g c =
@@ -89,8 +89,8 @@ loop-scratch-preserved g c =
     let d = g.met.D.Dialect in
     let none : c.in_ok-taken.taken ≡ 0 = omega (arith, c.if-taken-gt0.false) in
     let turn = subst (TakesTurn x c.args.ctx.now.tree c.loop-scratch.tables c.step.new.tables c.loop-scratch.delays c.step.new.delays c.loop-scratch.edges c.step.new.edges) none c.in_ok-taken.ensures.ok in
-    let visit_stamps = subst (VisitsDeferred x c.args.ctx.now.tree c.step.new.tables c.visit_deferred.new.tables c.step.new.delays c.visit_deferred.new.delays c.step.new.edges c.visit_deferred.new.edges) c.if-not-branch.false c.in_ok-visit_deferred.ensures.ok in
-    (aside_search x c.args.ctx.now.tree c.args.root c.well_formed-2.ensures.tree c.requires.live c.requires.linked d.answers_true (record { forwarded = d.forwards_operands.places; named = d.names_operands.there }) c.loop-scratch.tables c.step.new.tables c.loop-scratch.delays c.step.new.delays c.loop-scratch.edges c.step.new.edges c.loop-scratch.pops turn c.loop-scratch.invariant.0 c.visit_deferred.new.tables c.visit_deferred.new.delays c.visit_deferred.new.edges visit_stamps, c.in_ok-visit_deferred.ensures.entered)
+    let visits = subst (VisitsDeferred x c.args.ctx.now.tree c.step.new.tables c.visit_deferred.new.tables c.step.new.delays c.visit_deferred.new.delays c.step.new.edges c.visit_deferred.new.edges) c.if-not-branch.false c.in_ok-visit_deferred.ensures.ok in
+    (aside_search x c.args.ctx.now.tree c.args.root c.well_formed-2.ensures.tree c.requires.live c.requires.linked d.answers_true (record { forwarded = d.forwards_operands.places; named = d.names_operands.there }) c.loop-scratch.tables c.step.new.tables c.loop-scratch.delays c.step.new.delays c.loop-scratch.edges c.step.new.edges c.loop-scratch.pops turn c.loop-scratch.invariant.0 c.visit_deferred.new.tables c.visit_deferred.new.delays c.visit_deferred.new.edges visits, c.in_ok-visit_deferred.ensures.entered)
 
 err_same : {X Y : Type 0} (r : Result X Y) (e m : Y) → IsErrAnd r (λ x. x ≡ e) → e ≡ m → IfErr r (λ x. x ≡ m)
 err_same (Ok x) e m given same = tt

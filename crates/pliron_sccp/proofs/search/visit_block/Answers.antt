@@ -30,7 +30,7 @@ loop-at-preserved g c =
     let w = c.well_formed-2.ensures.tree in
     let owned = w.bodies.owned c.in-Some.op c.args.block (c.loop-at.invariant.0.within c.in-Some.op c.in-Some.is) in
     let next = c.get_next-at.ensures.next ∙ ap (λ o. up_from o (λ b. next_in c.in-Some.op (body_of c.args.ctx.now.tree b))) owned in
-    (walk_next (λ ks p q. VisitsInTurnAndKeeps x c.args.ctx.now.tree ks p.0 q.0 p.1 q.1) (body_of c.args.ctx.now.tree c.args.block) c.loop-at.at c.get_next-at.result c.in-Some.op (c.args.tables.now, c.args.edges.now) (c.loop-at.tables, c.loop-at.edges) (c.visit_and_keep.new.tables, c.visit_and_keep.new.edges) (w.bodies.distinct c.args.block) c.loop-at.invariant.0 c.in-Some.is next (λ rest u d. Onward c.in-Some.op c.visit_and_keep.new.tables c.visit_and_keep.new.edges c.in_ok-visit_and_keep.ensures.visit_stamps c.in_ok-visit_and_keep.ensures.keeps d), λ b. c.in_ok-visit_and_keep.ensures.visit_stamps.applied.values_on_worklist.numbers b ∙ c.loop-at.invariant.1 b, c.in_ok-visit_and_keep.ensures.entered)
+    (walk_next (λ ks p q. VisitsInTurnAndKeeps x c.args.ctx.now.tree ks p.0 q.0 p.1 q.1) (body_of c.args.ctx.now.tree c.args.block) c.loop-at.at c.get_next-at.result c.in-Some.op (c.args.tables.now, c.args.edges.now) (c.loop-at.tables, c.loop-at.edges) (c.visit_and_keep.new.tables, c.visit_and_keep.new.edges) (w.bodies.distinct c.args.block) c.loop-at.invariant.0 c.in-Some.is next (λ rest u d. Onward c.in-Some.op c.visit_and_keep.new.tables c.visit_and_keep.new.edges c.in_ok-visit_and_keep.ensures.visits c.in_ok-visit_and_keep.ensures.keeps d), λ b. c.in_ok-visit_and_keep.ensures.visits.applied.lowered.numbers b ∙ c.loop-at.invariant.1 b, c.in_ok-visit_and_keep.ensures.entered)
 
 pub loop-at-smaller : goal.loop-at-smaller
 loop-at-smaller g c =

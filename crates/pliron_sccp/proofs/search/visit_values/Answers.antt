@@ -30,7 +30,7 @@ visit_or_defer_all-requires-clause-entered g c =
     let s = c.args.tables.now in
     let between = c.take_values.new.tables in
     let takes = c.in_ok-scheduled.ensures.ok.takes in
-    are_entered_lower t (lattice_values_of between) (lattice_values_of c.satisfy_all.new.tables) c.args.scratch.now.entered c.satisfy_all.ensures.applied.values_on_worklist.below (entered_same t s between c.args.scratch.now.entered takes.facts takes.reached c.requires.entered)
+    are_entered_lower t (lattice_values_of between) (lattice_values_of c.satisfy_all.new.tables) c.args.scratch.now.entered c.satisfy_all.ensures.applied.lowered.below (entered_same t s between c.args.scratch.now.entered takes.facts takes.reached c.requires.entered)
 
 pub returns-clause-ok : goal.returns-clause-ok
 returns-clause-ok g c =

@@ -4,8 +4,8 @@ use Rattle.pliron_sccp.specs.LatticeTables.{lattice_values_of}
 use Rattle.pliron_sccp.proofs.KeptEdges.{keeps_found, kept_past}
 use Rattle.pliron_sccp.proofs.search.visit_wide.Goals as goal
 
-pub returns-clause-visit_stamps : goal.returns-clause-visit_stamps
-returns-clause-visit_stamps g c = on_ok_weaker c.keep_feasible.result (λ kept. c.in_ok-visit_operation.ensures.ok) c.keep_feasible.ensures.ok
+pub returns-clause-visits : goal.returns-clause-visits
+returns-clause-visits g c = on_ok_weaker c.keep_feasible.result (λ kept. c.in_ok-visit_operation.ensures.ok) c.keep_feasible.ensures.ok
 
 pub returns-clause-keeps : goal.returns-clause-keeps
 returns-clause-keeps g c =

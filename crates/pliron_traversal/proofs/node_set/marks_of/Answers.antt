@@ -12,11 +12,11 @@ loop-place-preserved g c =
     let within : c.number_of-number.result < length c.loop-place.marks.items = omega (arith, c.if-number-bound.false, i.counted) in
     record {
       counted = length-set c.loop-place.marks.items c.number_of-number.result (c.loop-place.place + 1) ∙ i.counted;
-      reported = rw c.number_of-number.ensures (one_mark_more (λ v. number_hashed (g.N.Hash.hash_input v)) c.args.nodes.now c.loop-place.marks.items c.loop-place.place c.index-nodes-place.result c.loop-place-test.true c.index-nodes-place.is
-          (rw c.number_of-number.ensures at within) (rw c.number_of-number.ensures at free) i.reported);
+      gives = rw c.number_of-number.ensures (one_mark_more (λ v. number_hashed (g.N.Hash.hash_input v)) c.args.nodes.now c.loop-place.marks.items c.loop-place.place c.index-nodes-place.result c.loop-place-test.true c.index-nodes-place.is
+          (rw c.number_of-number.ensures at within) (rw c.number_of-number.ensures at free) i.gives);
     }
 
-pub returns-clause-reported : goal.returns-clause-reported
-returns-clause-reported g c =
+pub returns-clause-gives : goal.returns-clause-gives
+returns-clause-gives g c =
     let past : length c.args.nodes.now ≤ c.loop-place.place = omega (arith, c.loop-place-test.false) in
-    λ k d l. c.loop-place.invariant.reported k d (omega (arith, l, past))
+    λ k d l. c.loop-place.invariant.gives k d (omega (arith, l, past))

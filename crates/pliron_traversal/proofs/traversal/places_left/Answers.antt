@@ -21,10 +21,10 @@ loop-place-preserved g c =
     let i = c.loop-place.invariant in
     record {
       counted = length-set c.loop-place.places.items c.place_of.result c.loop-place.place ∙ i.counted;
-      reported = rw c.place_of.ensures (one_more eq g.met.N.Eq.laws c.requires.same pre post c.requires.distinct c.requires.listed c.loop-place.places.items c.loop-place.place c.index-post-place.result i.counted c.loop-place-test.true c.index-post-place.is i.reported);
+      gives = rw c.place_of.ensures (one_more eq g.met.N.Eq.laws c.requires.same pre post c.requires.distinct c.requires.listed c.loop-place.places.items c.loop-place.place c.index-post-place.result i.counted c.loop-place-test.true c.index-post-place.is i.gives);
     }
 
 pub returns-clause-places : goal.returns-clause-places
 returns-clause-places g c =
     let past : length c.args.post.now ≤ c.loop-place.place = omega (arith, c.loop-place-test.false) in
-    all_told g.N.PartialEq.eq g.met.N.Eq.laws c.requires.same (g.S.ListedSet.listed c.args.pre.now) c.args.post.now c.requires.distinct c.loop-place.places.items (λ j d l. c.loop-place.invariant.reported j d (omega (arith, l, past)))
+    all_told g.N.PartialEq.eq g.met.N.Eq.laws c.requires.same (g.S.ListedSet.listed c.args.pre.now) c.args.post.now c.requires.distinct c.loop-place.places.items (λ j d l. c.loop-place.invariant.gives j d (omega (arith, l, past)))

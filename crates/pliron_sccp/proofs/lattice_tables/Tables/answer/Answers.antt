@@ -18,7 +18,7 @@ push_reserved-requires c =
     let cells = s.cells.items in
     let constants = s.constants.items in
     let at : position (nat_eq c.args.value) s.values.keys ≡ Some n = grind (arith, common_steps) in
-    let lt : n < length cells = grind (arith, common_steps, s.reported) in
+    let lt : n < length cells = grind (arith, common_steps, s.has_cells) in
     let none : slice_index_or cells n Varying ≡ Unknown = grind (arith, common_steps) in
     let count = count_taken cells n c.len.result none in
     grind (arith, common_steps, count, s.constants_room)
@@ -30,7 +30,7 @@ invariant_of-self c =
     let cells = s.cells.items in
     let constants = s.constants.items in
     let at : position (nat_eq c.args.value) s.values.keys ≡ Some n = grind (arith, common_steps) in
-    let lt : n < length cells = grind (arith, common_steps, s.reported) in
+    let lt : n < length cells = grind (arith, common_steps, s.has_cells) in
     let none : slice_index_or cells n Varying ≡ Unknown = grind (arith, common_steps) in
     let count = count_taken cells n c.len.result none in
     let more = c.push_reserved.new.self.items in
@@ -39,7 +39,7 @@ invariant_of-self c =
     let size : length more ≡ length constants + 1 = ap length items ∙ length_one constants c.args.attr in
     record {
       marked = s.marked;
-      reported = length-set cells n (Known c.len.result) ∙ s.reported;
+      has_cells = length-set cells n (Known c.len.result) ∙ s.has_cells;
       queued = s.queued;
       block_numbers = s.block_numbers;
       value_numbers = s.value_numbers;
@@ -52,7 +52,7 @@ invariant_of-self c =
       values_few = s.values_few;
       known = λ q k e. ⊎_elim (λ same. omega (arith, size, len, number_is c.len.result k same)) (λ before. let l = s.known q k before in omega (arith, size, l)) (known_set cells n (Known c.len.result) q k e);
       constants_room = omega (arith, size, count, s.constants_room, c.push_reserved.ensures.capacity);
-      was_visited = s.was_visited;
+      has_visit_stamps = s.has_visit_stamps;
       stamped = s.stamped;
       past = s.past;
     }
@@ -64,7 +64,7 @@ returns-in-Undetermined c =
     let cells = s.cells.items in
     let constants = s.constants.items in
     let at : position (nat_eq c.args.value) s.values.keys ≡ Some n = grind (arith, common_steps) in
-    let lt : n < length cells = grind (arith, common_steps, s.reported) in
+    let lt : n < length cells = grind (arith, common_steps, s.has_cells) in
     let none : slice_index_or cells n Varying ≡ Unknown = grind (arith, common_steps) in
     let count = count_taken cells n c.len.result none in
     let more = c.push_reserved.new.self.items in
@@ -76,7 +76,7 @@ returns-in-Undetermined c =
     falls_then s c.push_value.new.self c.args.value n (Constant c.args.attr) (Constant c.args.attr) c.push_value.ensures at refl
     (written_here constants cells s.values.keys c.args.value n new at lt more ∙ ap constant_or got)
     (λ v e. ap (value_of_cell more) (written_there constants cells s.values.keys c.args.value n new at lt v e) ∙ said_kept constants more kept (cell_at cells (position (nat_eq v) s.values.keys)) (means_at constants cells s.known (position (nat_eq v) s.values.keys)))
-    (λ v. refl) (λ b. refl) (λ b. refl) (λ b. refl) (record { visit_stamps = λ v. refl; values_on_worklist = λ v. refl }) kept
+    (λ v. refl) (λ b. refl) (λ b. refl) (λ b. refl) (record { visit_stamps = λ v. refl; lowered = λ v. refl }) kept
     (fall_first c.args.attr (lattice_value_in s c.args.value) (ap (λ o. value_of_cell constants (cell_at cells o)) at ∙ ap (value_of_cell constants) none))
 
 pub index-requires-in-Constant : goal.index-requires-in-Constant
@@ -86,7 +86,7 @@ index-requires-in-Constant c =
     let cells = s.cells.items in
     let constants = s.constants.items in
     let at : position (nat_eq c.args.value) s.values.keys ≡ Some n = grind (arith, common_steps) in
-    let lt : n < length cells = grind (arith, common_steps, s.reported) in
+    let lt : n < length cells = grind (arith, common_steps, s.has_cells) in
     let k = c.in-Constant.k in
     let is : slice_index_or cells n Varying ≡ Known k = grind (arith, common_steps) in
     let below = s.known n k (read_known cells n k is) in
@@ -99,11 +99,11 @@ invariant_of-self-then-not-is_same c =
     let cells = s.cells.items in
     let constants = s.constants.items in
     let at : position (nat_eq c.args.value) s.values.keys ≡ Some n = grind (arith, common_steps) in
-    let lt : n < length cells = grind (arith, common_steps, s.reported) in
+    let lt : n < length cells = grind (arith, common_steps, s.has_cells) in
     let count = count_kept cells n Varying refl in
     record {
       marked = s.marked;
-      reported = length-set cells n Varying ∙ s.reported;
+      has_cells = length-set cells n Varying ∙ s.has_cells;
       queued = s.queued;
       block_numbers = s.block_numbers;
       value_numbers = s.value_numbers;
@@ -116,7 +116,7 @@ invariant_of-self-then-not-is_same c =
       values_few = s.values_few;
       known = λ q k e. ⊎_elim (λ same. absurd (no_constant k same)) (λ before. s.known q k before) (known_set cells n Varying q k e);
       constants_room = omega (arith, count, s.constants_room);
-      was_visited = s.was_visited;
+      has_visit_stamps = s.has_visit_stamps;
       stamped = s.stamped;
       past = s.past;
     }
@@ -128,7 +128,7 @@ returns-then-not-is_same c =
     let cells = s.cells.items in
     let constants = s.constants.items in
     let at : position (nat_eq c.args.value) s.values.keys ≡ Some n = grind (arith, common_steps) in
-    let lt : n < length cells = grind (arith, common_steps, s.reported) in
+    let lt : n < length cells = grind (arith, common_steps, s.has_cells) in
     let k = c.in-Constant.k in
     let is : slice_index_or cells n Varying ≡ Known k = grind (arith, common_steps) in
     let below = s.known n k (read_known cells n k is) in
@@ -139,7 +139,7 @@ returns-then-not-is_same c =
     falls_then s c.push_value-then-not-is_same.new.self c.args.value n (Constant c.args.attr) NotAConstant c.push_value-then-not-is_same.ensures at refl
     (written_here constants cells s.values.keys c.args.value n Varying at lt constants)
     (λ v e. ap (value_of_cell constants) (written_there constants cells s.values.keys c.args.value n Varying at lt v e))
-    (λ v. refl) (λ b. refl) (λ b. refl) (λ b. refl) (record { visit_stamps = λ v. refl; values_on_worklist = λ v. refl }) (λ j a e. e)
+    (λ v. refl) (λ b. refl) (λ b. refl) (λ b. refl) (record { visit_stamps = λ v. refl; lowered = λ v. refl }) (λ j a e. e)
     (fall_apart c.args.attr d (lattice_value_in s c.args.value) f (λ e. true≢false (sym (c.is_same.ensures.1 e) ∙ c.if-not-is_same.true)))
 
 pub returns-in-Constant : goal.returns-in-Constant
@@ -149,7 +149,7 @@ returns-in-Constant c =
     let cells = s.cells.items in
     let constants = s.constants.items in
     let at : position (nat_eq c.args.value) s.values.keys ≡ Some n = grind (arith, common_steps) in
-    let lt : n < length cells = grind (arith, common_steps, s.reported) in
+    let lt : n < length cells = grind (arith, common_steps, s.has_cells) in
     let k = c.in-Constant.k in
     let is : slice_index_or cells n Varying ≡ Known k = grind (arith, common_steps) in
     let below = s.known n k (read_known cells n k is) in

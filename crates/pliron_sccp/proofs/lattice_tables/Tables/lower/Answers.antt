@@ -16,7 +16,7 @@ lowered_value-requires-clause-old c =
     let cells = s.cells.items in
     let constants = s.constants.items in
     let at : position (nat_eq c.args.value) s.values.keys ≡ Some n = grind (arith, common_steps) in
-    let lt : n < length cells = grind (arith, common_steps, s.reported) in
+    let lt : n < length cells = grind (arith, common_steps, s.has_cells) in
     let first = get_at cells n c.index.result.now lt in
     let other = get_at cells n Varying lt in
     let is : slice_index_or cells n Varying ≡ c.index.result.now = grind (arith, common_steps, first, other) in
@@ -31,7 +31,7 @@ returns-in_default-lowered_value c = λ g m.
     let cells = s.cells.items in
     let constants = s.constants.items in
     let at : position (nat_eq c.args.value) s.values.keys ≡ Some n = grind (arith, common_steps) in
-    let lt : n < length cells = grind (arith, common_steps, s.reported) in
+    let lt : n < length cells = grind (arith, common_steps, s.has_cells) in
     let first = get_at cells n c.index.result.now lt in
     let other = get_at cells n Varying lt in
     let is : slice_index_or cells n Varying ≡ c.index.result.now = grind (arith, common_steps, first, other) in
@@ -46,7 +46,7 @@ invariant_of-self c =
     let cells = s.cells.items in
     let constants = s.constants.items in
     let at : position (nat_eq c.args.value) s.values.keys ≡ Some n = grind (arith, common_steps) in
-    let lt : n < length cells = grind (arith, common_steps, s.reported) in
+    let lt : n < length cells = grind (arith, common_steps, s.has_cells) in
     let first = get_at cells n c.index.result.now lt in
     let other = get_at cells n Varying lt in
     let is : slice_index_or cells n Varying ≡ c.index.result.now = grind (arith, common_steps, first, other) in
@@ -54,13 +54,13 @@ invariant_of-self c =
     let old : Means constants c.index.result.now f = subst (λ o. Means constants c.index.result.now (value_of_cell constants (cell_at cells o))) (sym at) (subst (λ z. Means constants z (value_of_cell constants (slice_index_or cells n Varying))) is (means_at constants cells s.known (Some n))) in
     let new = c.in-Some-lowered_value.new in
     let g = c.requires.0 in
-    let fall = c.in-Some-lowered_value.ensures.values_on_worklist f g old c.requires.1 in
+    let fall = c.in-Some-lowered_value.ensures.lowered f g old c.requires.1 in
     let means : Means constants new fall.0 = fall.1 in
     let down : LowersTo f g fall.0 = third {B = λ m. Means constants new m} {C = λ m. LowersTo f g m} fall in
     let count = count_kept cells n new (fall_known constants new f g fall.0 means down) in
     record {
       marked = s.marked;
-      reported = length-set cells n new ∙ s.reported;
+      has_cells = length-set cells n new ∙ s.has_cells;
       queued = s.queued;
       block_numbers = s.block_numbers;
       value_numbers = s.value_numbers;
@@ -73,7 +73,7 @@ invariant_of-self c =
       values_few = s.values_few;
       known = λ q k e. ⊎_elim (λ same. means_below constants k fall.0 (subst (λ z. Means constants z fall.0) same means)) (λ before. s.known q k before) (known_set cells n new q k e);
       constants_room = omega (arith, count, s.constants_room);
-      was_visited = s.was_visited;
+      has_visit_stamps = s.has_visit_stamps;
       stamped = s.stamped;
       past = s.past;
     }
@@ -85,17 +85,17 @@ returns c = λ g m.
     let cells = s.cells.items in
     let constants = s.constants.items in
     let at : position (nat_eq c.args.value) s.values.keys ≡ Some n = grind (arith, common_steps) in
-    let lt : n < length cells = grind (arith, common_steps, s.reported) in
+    let lt : n < length cells = grind (arith, common_steps, s.has_cells) in
     let first = get_at cells n c.index.result.now lt in
     let other = get_at cells n Varying lt in
     let is : slice_index_or cells n Varying ≡ c.index.result.now = grind (arith, common_steps, first, other) in
     let f = lattice_value_in s c.args.value in
     let old : Means constants c.index.result.now f = subst (λ o. Means constants c.index.result.now (value_of_cell constants (cell_at cells o))) (sym at) (subst (λ z. Means constants z (value_of_cell constants (slice_index_or cells n Varying))) is (means_at constants cells s.known (Some n))) in
     let new = c.in-Some-lowered_value.new in
-    let fall = c.in-Some-lowered_value.ensures.values_on_worklist f g old m in
+    let fall = c.in-Some-lowered_value.ensures.lowered f g old m in
     let means : Means constants new fall.0 = fall.1 in
     let down : LowersTo f g fall.0 = third {B = λ m. Means constants new m} {C = λ m. LowersTo f g m} fall in
     falls_then s c.push_value.new.self c.args.value n g fall.0 c.push_value.ensures at refl
     (written_here constants cells s.values.keys c.args.value n new at lt constants ∙ means_said constants new fall.0 means)
     (λ v e. ap (value_of_cell constants) (written_there constants cells s.values.keys c.args.value n new at lt v e))
-    (λ v. refl) (λ b. refl) (λ b. refl) (λ b. refl) (record { visit_stamps = λ v. refl; values_on_worklist = λ v. refl }) (λ k a e. e) down
+    (λ v. refl) (λ b. refl) (λ b. refl) (λ b. refl) (record { visit_stamps = λ v. refl; lowered = λ v. refl }) (λ k a e. e) down

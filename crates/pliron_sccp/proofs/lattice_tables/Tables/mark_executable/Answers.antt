@@ -32,7 +32,7 @@ invariant_of-self c =
     let lt : n < length s.marks.items = grind (arith, common_steps, s.marked) in
     record {
       marked = length-set s.marks.items n Waiting ∙ s.marked;
-      reported = s.reported;
+      has_cells = s.has_cells;
       queued = s.queued;
       block_numbers = s.block_numbers;
       value_numbers = s.value_numbers;
@@ -45,7 +45,7 @@ invariant_of-self c =
       values_few = s.values_few;
       known = s.known;
       constants_room = s.constants_room;
-      was_visited = s.was_visited;
+      has_visit_stamps = s.has_visit_stamps;
       stamped = s.stamped;
       past = s.past;
     }
@@ -63,6 +63,6 @@ returns-in-NotExecutable c =
       numbers = λ b. refl;
       facts = λ v. refl;
       values = λ v. refl;
-      stamps = record { visit_stamps = λ v. refl; values_on_worklist = λ v. refl };
+      stamps = record { visit_stamps = λ v. refl; lowered = λ v. refl };
       keeps = λ k a e. e;
     }

@@ -25,7 +25,7 @@ invariant_of-result c =
     let most = count_most tables.lattice.cells.items in
     record {
       marked = marked;
-      reported = cells;
+      has_cells = cells;
       queued = flags;
       block_numbers = λ n b at. numbered_at blocks distinct_blocks n b at;
       value_numbers = λ n v at. numbered_at values of_values.0 n v at;
@@ -38,7 +38,7 @@ invariant_of-result c =
       values_few = of_values.1;
       known = λ n k at. absurd (none_known tables.lattice.cells.items (λ i. fresh_at Unknown (length values) tables.lattice.cells.items e.cells cells i) n k at);
       constants_room = omega (arith, none, most, cells, e.constant_room);
-      was_visited = visits;
+      has_visit_stamps = visits;
       stamped = lowered;
       past = λ n. let z = fresh_at 0 (length values) tables.stamps.visits.items e.visits visits n in omega (arith, z);
     }

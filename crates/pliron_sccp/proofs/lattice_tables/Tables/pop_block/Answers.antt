@@ -25,7 +25,7 @@ invariant_of-self-2 c =
     let once = subst AreOnce items s.blocks_once in
     record {
       marked = length-set s.marks.items n Visited ∙ s.marked;
-      reported = s.reported;
+      has_cells = s.has_cells;
       queued = s.queued;
       block_numbers = s.block_numbers;
       value_numbers = s.value_numbers;
@@ -38,7 +38,7 @@ invariant_of-self-2 c =
       values_few = s.values_few;
       known = s.known;
       constants_room = s.constants_room;
-      was_visited = s.was_visited;
+      has_visit_stamps = s.has_visit_stamps;
       stamped = s.stamped;
       past = s.past;
     }
@@ -64,5 +64,5 @@ returns-clause-taken c =
       facts = λ v. refl;
       values = λ v. refl;
       numbers = λ b. refl;
-      stamps = record { visit_stamps = λ v. refl; values_on_worklist = λ v. refl };
+      stamps = record { visit_stamps = λ v. refl; lowered = λ v. refl };
     }

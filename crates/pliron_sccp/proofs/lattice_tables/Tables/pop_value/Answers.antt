@@ -23,7 +23,7 @@ invariant_of-self-2 c =
     let once = subst AreOnce items s.values_once in
     record {
       marked = s.marked;
-      reported = s.reported;
+      has_cells = s.has_cells;
       queued = length-set s.values_on_worklist.items n false ∙ s.queued;
       block_numbers = s.block_numbers;
       value_numbers = s.value_numbers;
@@ -36,7 +36,7 @@ invariant_of-self-2 c =
       values_few = s.values_few;
       known = s.known;
       constants_room = s.constants_room;
-      was_visited = s.was_visited;
+      has_visit_stamps = s.has_visit_stamps;
       stamped = s.stamped;
       past = s.past;
     }
@@ -64,7 +64,7 @@ returns-clause-taken c =
       blocks = λ b. refl;
       numbers = λ b. refl;
       constants = refl;
-      stamps = record { visit_stamps = λ v. refl; values_on_worklist = λ v. refl };
+      stamps = record { visit_stamps = λ v. refl; lowered = λ v. refl };
       fewer = ap length items ∙ length_one c.pop.new.self.items n;
       few = omega (arith, s.values_few, s.queued, most);
     }

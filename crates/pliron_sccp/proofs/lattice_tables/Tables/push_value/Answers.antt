@@ -23,7 +23,7 @@ invariant_of-self c =
     let lt : n < length s.values_on_worklist.items = grind (arith, common_steps, s.queued, c.requires) in
     record {
       marked = s.marked;
-      reported = s.reported;
+      has_cells = s.has_cells;
       queued = length-set s.values_on_worklist.items n true ∙ s.queued;
       block_numbers = s.block_numbers;
       value_numbers = s.value_numbers;
@@ -36,7 +36,7 @@ invariant_of-self c =
       values_few = s.values_few;
       known = s.known;
       constants_room = s.constants_room;
-      was_visited = s.was_visited;
+      has_visit_stamps = s.has_visit_stamps;
       stamped = length-set s.lowered_stamps.items n s.clock ∙ s.stamped;
       past = s.past;
     }

@@ -18,5 +18,5 @@ returns-in-Some c =
       numbers = λ b. refl;
       constants = refl;
       visit_stamps = λ other e. stamp_there s.visit_stamps.items n _ (position (nat_eq other) s.values.keys) (λ same. true≢false (sym (eq-eqb c.args.first other (same_number s.values.keys c.args.first other n at same)) ∙ e));
-      values_on_worklist = λ v. refl;
+      lowered = λ v. refl;
     }
