@@ -12,11 +12,11 @@ use crate::written_changes::write_changes;
 use pliron_bench::Bench;
 use pliron_core::{Context, IRStatus, Operation, Ptr};
 use pliron_diagnostics::{TextParts, parts_of, pretty};
-use pliron_instrument::{PipelineText, step_from_name};
+use pliron_instrument::PipelineText;
 use pliron_laws::{OptError, is_well_linked};
 use pliron_notation::{print_text, read_text};
 use pliron_pass::{AnalysisManager, BenchFacts};
-use pliron_pipeline::run_pipeline;
+use pliron_pipeline::{PassStep, run_pipeline};
 use std::alloc::{AllocError, Global};
 
 /// What is reported of passes that are run one by one.
@@ -226,7 +226,7 @@ impl Stages<'_> {
     ) -> Result<IRStatus, OptError> {
         let op = subject.op;
         let alloc = self.alloc;
-        let Some(mut step) = step_from_name::<Bench>(name) else {
+        let Some(mut step) = PassStep::<Bench, BenchFacts>::from_name(name) else {
             return Ok(IRStatus::Unchanged);
         };
         if !op.is_live(ctx) || !is_well_linked::<Bench>(op, ctx) {

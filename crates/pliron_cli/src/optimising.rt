@@ -12,10 +12,11 @@ use crate::report::{ReportOptions, report_of, write_refused};
 use crate::shown::Shown;
 use pliron_diagnostics::{Source, SourceMark, mark_source, pretty};
 use pliron_instrument::{
-    FoldingNotation, InstrumentationOptions, Instrumented, InstrumentedSchedule, PipelineText,
-    PlanError, Progress, WordFault, build_schedule, instrumented_passes, optimise,
+    InstrumentationOptions, Instrumented, InstrumentedSchedule, PipelineText, PlanError, Progress,
+    WordFault, build_schedule, instrumented_passes, optimise,
 };
 use pliron_laws::OptError;
+use pliron_opts::Notation;
 use pliron_pass::{BenchFactKind, Pass};
 use std::alloc::{AllocError, Global};
 
@@ -84,12 +85,12 @@ fn lay_out(alloc: Global, printed: String, is_pretty: bool) -> Result<Vec<u8>, A
 }
 
 // Whether something is missing in what was noted.
-fn is_short<N: FoldingNotation, C: Progress + Drop>(passes: &[Instrumented<N, C>]) -> bool {
+fn is_short<N: Notation, C: Progress + Drop>(passes: &[Instrumented<N, C>]) -> bool {
     passes.iter().any(|pass| pass.run_record().is_short)
 }
 
 // Whether verifying found something.
-fn has_fault<N: FoldingNotation, C: Progress + Drop>(passes: &[Instrumented<N, C>]) -> bool {
+fn has_fault<N: Notation, C: Progress + Drop>(passes: &[Instrumented<N, C>]) -> bool {
     passes.iter().any(|pass| pass
         .run_record()
         .notes

@@ -2,7 +2,8 @@
 use crate::statistics::write_statistics;
 use pliron_core::IRStatus;
 use pliron_diagnostics::pretty;
-use pliron_instrument::{FoldingNotation, Instrumented, Progress, RoundRecord, RunNote};
+use pliron_instrument::{Instrumented, Progress, RoundRecord, RunNote};
+use pliron_opts::Notation;
 use std::alloc::{AllocError, Global};
 
 /// What is reported of the runs of passes.
@@ -25,7 +26,7 @@ struct Named<'n> {
 }
 
 // The notes of all passes, in the order of the runs.
-fn notes_in_order<'s, N: FoldingNotation, C: Progress + Drop>(
+fn notes_in_order<'s, N: Notation, C: Progress + Drop>(
     alloc: Global,
     passes: &'s [Instrumented<N, C>],
 ) -> Result<Vec<Named<'s>>, AllocError> {
@@ -135,7 +136,7 @@ fn write_time(
 }
 
 // Writes the time of each pass, with its share of the time of all.
-fn write_times<N: FoldingNotation, C: Progress + Drop>(
+fn write_times<N: Notation, C: Progress + Drop>(
     report: &mut String,
     passes: &[Instrumented<N, C>],
 ) -> Result<(), AllocError> {
@@ -158,7 +159,7 @@ fn write_times<N: FoldingNotation, C: Progress + Drop>(
 }
 
 /// Writes which pass was refused, if one was. Errors: allocation failure. Cost: linear in the passes.
-pub fn write_refused<N: FoldingNotation, C: Progress + Drop>(
+pub fn write_refused<N: Notation, C: Progress + Drop>(
     report: &mut String,
     passes: &[Instrumented<N, C>],
 ) -> Result<(), AllocError> {
@@ -173,7 +174,7 @@ pub fn write_refused<N: FoldingNotation, C: Progress + Drop>(
 /// What is reported of the runs of the passes: trees as they were printed, what verifying found, counts and times.
 ///
 /// Errors: allocation failure. Cost: n log n for n runs of which something is noted, and linear in what is reported.
-pub fn report_of<N: FoldingNotation, C: Progress + Drop>(
+pub fn report_of<N: Notation, C: Progress + Drop>(
     alloc: Global,
     passes: &[Instrumented<N, C>],
     wanted: &ReportOptions,

@@ -7,13 +7,12 @@ ghost use Rattle.pliron_evaluator.specs.Evaluator.{sight_of};
 use pliron_core::{Context, Operation, Ptr};
 use pliron_diagnostics::{RunOptions, Source, TextParts, parts_of, run_sight, text_fault};
 use pliron_evaluator::evaluator::{Notes, Sight};
-use pliron_instrument::FoldingNotation;
 use pliron_laws::OptError;
-use pliron_opts::BenchNotation;
+use pliron_opts::{BenchNotation, Notation};
 use std::alloc::{AllocError, Global};
 
 /// A notation of which people are shown where texts leave it, where operations are in them, and how they run.
-pub trait Shown: FoldingNotation {
+pub trait Shown: Notation {
     /// The message for a text outside the notation; `None` for one inside it. Errors: allocation failure.
     fn fault_message(alloc: Global, source: &Source) -> Result<Option<String>, OptError>;
 

@@ -1,6 +1,7 @@
 //! What is reported of the work of passes: how much there was before and after each, and what each rewrote.
 use crate::table::Table;
-use pliron_instrument::{FoldingNotation, Instrumented, Progress, RoundRecord};
+use pliron_instrument::{Instrumented, Progress, RoundRecord};
+use pliron_opts::Notation;
 use std::alloc::{AllocError, Global};
 
 /// What one pass did in one round.
@@ -40,7 +41,7 @@ static REWRITTEN: [&str; 8] = [
 ];
 
 // How many rounds the passes made over their operations.
-fn rounds<N: FoldingNotation, C: Progress + Drop>(passes: &[Instrumented<N, C>]) -> usize {
+fn rounds<N: Notation, C: Progress + Drop>(passes: &[Instrumented<N, C>]) -> usize {
     match passes.first() {
         Some(pass) => pass.run_record().rows.len(),
         None => 0,
@@ -48,7 +49,7 @@ fn rounds<N: FoldingNotation, C: Progress + Drop>(passes: &[Instrumented<N, C>])
 }
 
 // What each pass did, round by round.
-fn work_in_order<'s, N: FoldingNotation, C: Progress + Drop>(
+fn work_in_order<'s, N: Notation, C: Progress + Drop>(
     alloc: Global,
     passes: &'s [Instrumented<N, C>],
 ) -> Result<Vec<PassWork<'s>>, AllocError> {
@@ -121,7 +122,7 @@ fn rewrite_row(alloc: Global, work: &PassWork) -> Result<Vec<String>, AllocError
 /// Writes how much there was before and after each pass, and what each rewrote, round by round.
 ///
 /// Errors: allocation failure. Cost: linear in the rows.
-pub fn write_statistics<N: FoldingNotation, C: Progress + Drop>(
+pub fn write_statistics<N: Notation, C: Progress + Drop>(
     alloc: Global,
     report: &mut String,
     passes: &[Instrumented<N, C>],

@@ -3,12 +3,13 @@ ghost use Rattle.std.specs.Prelude.{◌≡◌, false};
 ghost use Rattle.pliron_core.specs.Tree.{IsLive};
 
 use crate::comparison::{Comparison, Snapshot};
-use crate::program_step::{FoldingNotation, ProgramStep};
 use crate::progress::Progress;
 use crate::run_records::{InstrumentationRecord, RunMeasure, RunNote};
 use pliron_core::{Context, IRStatus, Operation, Ptr};
 use pliron_laws::OptError;
+use pliron_opts::Notation;
 use pliron_pass::{AnalysisKind, AnalysisManager, BenchFacts, Pass, PassResult, verify_operation};
+use pliron_pipeline::PassStep;
 use std::alloc::{AllocError, Global};
 use std::time::Clock;
 
@@ -25,8 +26,8 @@ pub struct Instrumentation {
 
 /// One of the passes, which notes what is seen of its runs. It does to trees and caches what the pass does.
 #[derive(Drop)]
-pub struct Instrumented<N: FoldingNotation, C: Progress + Drop> {
-    step: ProgramStep<N::D>,
+pub struct Instrumented<N: Notation, C: Progress + Drop> {
+    step: PassStep<N::D, BenchFacts>,
     instrumentation: Instrumentation,
     clock: C,
     records: InstrumentationRecord,
@@ -50,11 +51,11 @@ fn nanos<C: Clock>(clock: &C) -> u128 {
     }
 }
 
-impl<N: FoldingNotation, C: Progress + Drop> Instrumented<N, C> {
+impl<N: Notation, C: Progress + Drop> Instrumented<N, C> {
     /// The pass, of which nothing was noted. Cost: constant.
     pub fn new(
         alloc: Global,
-        step: ProgramStep<N::D>,
+        step: PassStep<N::D, BenchFacts>,
         instrumentation: Instrumentation,
         clock: C,
     ) -> Self
@@ -70,7 +71,7 @@ impl<N: FoldingNotation, C: Progress + Drop> Instrumented<N, C> {
 
     /// The name of the pass. Cost: constant.
     pub fn pass_name(&self) -> &str
-        ensures { result.now ≡ ⟦<ProgramStep<N::D> as Pass>⟧.name self.now.step }
+        ensures { result.now ≡ ⟦<PassStep<N::D, BenchFacts> as Pass>⟧.name self.now.step }
     {
         self.step.name()
     }
@@ -144,16 +145,16 @@ impl<N: FoldingNotation, C: Progress + Drop> Instrumented<N, C> {
     }
 }
 
-impl<N: FoldingNotation, C: Progress + Drop> Pass for Instrumented<N, C> {
+impl<N: Notation, C: Progress + Drop> Pass for Instrumented<N, C> {
     type D = N::D;
 
     type E = BenchFacts;
 
     ghost is_pass_manager = { λ p. false };
 
-    ghost name = { λ p. ⟦<ProgramStep<N::D> as Pass>⟧.name p.step };
+    ghost name = { λ p. ⟦<PassStep<N::D, BenchFacts> as Pass>⟧.name p.step };
 
-    ghost outcome = { λ p p' op s s' r. ⟦<ProgramStep<N::D> as Pass>⟧.outcome p.step p'.step op s s' r };
+    ghost outcome = { λ p p' op s s' r. ⟦<PassStep<N::D, BenchFacts> as Pass>⟧.outcome p.step p'.step op s s' r };
 
     fn name(&self) -> &str {
         self.step.name()

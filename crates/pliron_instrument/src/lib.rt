@@ -8,7 +8,6 @@ mod comparison;
 mod contents_count;
 mod instrumented;
 mod optimise_text;
-mod program_step;
 mod progress;
 mod run_records;
 mod schedule;
@@ -18,7 +17,6 @@ pub use contents_count::ContentsCount;
 pub use instrumented::{Instrumentation, Instrumented};
 pub use optimise_text::{Optimised, optimise, run_instrumented};
 pub use pliron_opts::{PipelineText, PlanError, WordFault};
-pub use program_step::{FoldingNotation, ProgramStep, step_from_name};
 pub use progress::{Progress, Timeless};
 pub use run_records::{InstrumentationRecord, RoundRecord, RunNote};
 pub use schedule::{

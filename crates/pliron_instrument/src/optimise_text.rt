@@ -10,11 +10,11 @@ ghost use Rattle.pliron_opts.specs.Answered.{IsOptimised, status_line};
 ghost use Rattle.pliron_opts.specs.Ran.{RunsAlone};
 
 use crate::change_reports::schedules_report_accurately;
-use crate::program_step::FoldingNotation;
 use crate::progress::Progress;
 use crate::schedule::InstrumentedSchedule;
 use pliron_core::{Context, IRStatus, Operation, Ptr};
 use pliron_laws::OptError;
+use pliron_opts::Notation;
 use pliron_pass::{AnalysisManager, BenchFactKind, Pass};
 use pliron_pipeline::run_pipeline;
 use std::alloc::Global;
@@ -30,7 +30,7 @@ pub struct Optimised {
 ///
 /// Asks that the operation is live and well linked. Errors: those of the passes; allocation failure, after some whole
 /// rewrites. Cost: that of the passes, and of what is recorded.
-pub fn run_instrumented<N: FoldingNotation, C: Progress + Drop>(
+pub fn run_instrumented<N: Notation, C: Progress + Drop>(
     alloc: Global,
     schedule: &mut InstrumentedSchedule<N, C>,
     root: Ptr<Operation>,
@@ -55,7 +55,7 @@ pub fn run_instrumented<N: FoldingNotation, C: Progress + Drop>(
 /// What the passes make of the text, printed, and whether it changed; `None` for a text outside the notation.
 ///
 /// Errors: those of the passes and of the notation. Cost: reading, the passes, what is recorded, and printing.
-pub fn optimise<N: FoldingNotation, C: Progress + Drop>(
+pub fn optimise<N: Notation, C: Progress + Drop>(
     alloc: Global,
     schedule: &mut InstrumentedSchedule<N, C>,
     text: &[u8],
@@ -70,7 +70,7 @@ pub fn optimise<N: FoldingNotation, C: Progress + Drop>(
 }
 
 // The same in this context, which is empty.
-fn optimise_in<N: FoldingNotation, C: Progress + Drop>(
+fn optimise_in<N: Notation, C: Progress + Drop>(
     alloc: Global,
     schedule: &mut InstrumentedSchedule<N, C>,
     text: &[u8],

@@ -3,10 +3,10 @@ ghost use Rattle.std.specs.Prelude.{◌≡◌, ◌++◌, ◌∷◌, [], map, IfO
 ghost use Rattle.pliron_instrument.specs.Schedules.{IsPlanned, is_for_each, listed_passes, passes_of, pipeline_of, runs_of};
 
 use crate::instrumented::{Instrumentation, Instrumented};
-use crate::program_step::{FoldingNotation, step_from_name};
 use crate::progress::Progress;
-use pliron_opts::PipelineText;
+use pliron_opts::{Notation, PipelineText};
 use pliron_pass::{Either, NestedOpsPass, Pass, Passes, Repeat};
+use pliron_pipeline::PassStep;
 use std::alloc::{AllocError, Global};
 
 /// A list of instrumented passes: it is run on an operation itself (`Left`), or on each operation directly inside it.
@@ -46,7 +46,7 @@ impl<'w> InstrumentationOptions<'w> {
 }
 
 // Adds the instrumented pass at the end.
-fn add<N: FoldingNotation, C: Progress + Copy + Drop>(
+fn add<N: Notation, C: Progress + Copy + Drop>(
     passes: &mut Passes<Instrumented<N, C>>,
     instrumented: Instrumented<N, C>,
 ) -> Result<(), AllocError>
@@ -59,7 +59,7 @@ fn add<N: FoldingNotation, C: Progress + Copy + Drop>(
 }
 
 // The instrumented passes of these names in turn, if each is the name of one.
-fn passes<N: FoldingNotation, C: Progress + Copy + Drop>(
+fn passes<N: Notation, C: Progress + Copy + Drop>(
     alloc: Global,
     names: &[&str],
     options: &InstrumentationOptions,
@@ -70,7 +70,7 @@ fn passes<N: FoldingNotation, C: Progress + Copy + Drop>(
 {
     let mut passes = Passes::new(alloc);
     for name in names {
-        let Some(step) = step_from_name(name) else {
+        let Some(step) = PassStep::from_name(name) else {
             return Ok(None);
         };
         add(
@@ -82,7 +82,7 @@ fn passes<N: FoldingNotation, C: Progress + Copy + Drop>(
 }
 
 // The same on the operation itself or on each operation directly inside it.
-fn pipeline<N: FoldingNotation, C: Progress + Copy + Drop>(
+fn pipeline<N: Notation, C: Progress + Copy + Drop>(
     nested: bool,
     passes: Passes<Instrumented<N, C>>,
 ) -> InstrumentedPipeline<N, C>
@@ -97,7 +97,7 @@ fn pipeline<N: FoldingNotation, C: Progress + Copy + Drop>(
 }
 
 // The pipeline once, or at most so many times where a number of runs is given.
-fn schedule<N: FoldingNotation, C: Progress + Copy + Drop>(
+fn schedule<N: Notation, C: Progress + Copy + Drop>(
     runs: Option<usize>,
     pipeline: InstrumentedPipeline<N, C>,
 ) -> InstrumentedSchedule<N, C>
@@ -113,7 +113,7 @@ fn schedule<N: FoldingNotation, C: Progress + Copy + Drop>(
 /// The instrumented passes that the plan asks for: `None` where one of its names is that of no pass.
 ///
 /// Errors: allocation failure. Cost: linear in the plan.
-pub fn build_schedule<N: FoldingNotation, C: Progress + Copy + Drop>(
+pub fn build_schedule<N: Notation, C: Progress + Copy + Drop>(
     alloc: Global,
     plan: &PipelineText,
     options: &InstrumentationOptions,
@@ -130,7 +130,7 @@ pub fn build_schedule<N: FoldingNotation, C: Progress + Copy + Drop>(
 }
 
 /// The passes of the schedule in turn, as they are now. Cost: constant.
-pub fn instrumented_passes<N: FoldingNotation, C: Progress + Drop>(
+pub fn instrumented_passes<N: Notation, C: Progress + Drop>(
     schedule: &InstrumentedSchedule<N, C>,
 ) -> &[Instrumented<N, C>]
     ensures { result.now ≡ passes_of schedule.now }

@@ -6,7 +6,6 @@ ghost use Rattle.pliron_laws.specs.Linked.{IsWellLinked};
 ghost use Rattle.pliron_opts.specs.Read.{ReadsKinds, PrintsKinds};
 
 use pliron_core::{Context, Operation, Ptr};
-use pliron_instrument::FoldingNotation;
 use pliron_laws::{Dialect, OptError};
 use pliron_mlir_text::{Fault, Module, Sheet, print_module, read_module};
 use pliron_opts::Notation;
@@ -17,7 +16,7 @@ use std::marker::PhantomData;
 ///
 /// What passes make of a module is proved for each of these notations. So an answer comes from the very text that was
 /// given, by the relation of that notation between texts and trees, whatever it is.
-pub trait ModuleNotation: FoldingNotation {
+pub trait ModuleNotation: Notation {
     /// Reads a text with its sheet. Its operation is live and well linked. Asks that the context is empty. Errors: the
     /// place where the text is outside the notation, and what was expected; allocation failure.
     fn read_module(alloc: Global, text: &[u8], ctx: &mut Context) -> Result<Module, Fault>

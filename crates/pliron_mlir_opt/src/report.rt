@@ -1,10 +1,11 @@
 //! What is reported about the runs of passes: what verifying found after each, counts, and times.
 use crate::optimise_module::ModuleOptions;
-use pliron_instrument::{ContentsCount, FoldingNotation, Instrumented, Progress, RoundRecord};
+use pliron_instrument::{ContentsCount, Instrumented, Progress, RoundRecord};
+use pliron_opts::Notation;
 use std::alloc::{AllocError, Global};
 
 /// Whether verifying found something. Cost: linear in the runs.
-pub fn has_fault<N: FoldingNotation, C: Progress + Drop>(passes: &[Instrumented<N, C>]) -> bool {
+pub fn has_fault<N: Notation, C: Progress + Drop>(passes: &[Instrumented<N, C>]) -> bool {
     passes.iter().any(|pass| pass
         .run_record()
         .notes
@@ -13,12 +14,12 @@ pub fn has_fault<N: FoldingNotation, C: Progress + Drop>(passes: &[Instrumented<
 }
 
 /// Whether something is missing in what was noted, since memory was refused. Cost: linear in the passes.
-pub fn is_short<N: FoldingNotation, C: Progress + Drop>(passes: &[Instrumented<N, C>]) -> bool {
+pub fn is_short<N: Notation, C: Progress + Drop>(passes: &[Instrumented<N, C>]) -> bool {
     passes.iter().any(|pass| pass.run_record().is_short)
 }
 
 // Writes what verifying found after the runs of a pass, and answers after how many it found nothing.
-fn write_faults_of<N: FoldingNotation, C: Progress + Drop>(
+fn write_faults_of<N: Notation, C: Progress + Drop>(
     report: &mut String,
     pass: &Instrumented<N, C>,
 ) -> Result<usize, AllocError> {
@@ -40,7 +41,7 @@ fn write_faults_of<N: FoldingNotation, C: Progress + Drop>(
 }
 
 // Writes what verifying found after each run, and after how many it found nothing.
-fn write_faults<N: FoldingNotation, C: Progress + Drop>(
+fn write_faults<N: Notation, C: Progress + Drop>(
     report: &mut String,
     passes: &[Instrumented<N, C>],
 ) -> Result<(), AllocError> {
@@ -87,7 +88,7 @@ fn write_round(
 }
 
 // Writes what was live before and after each pass, round by round, and what it made and erased.
-fn write_counts<N: FoldingNotation, C: Progress + Drop>(
+fn write_counts<N: Notation, C: Progress + Drop>(
     report: &mut String,
     passes: &[Instrumented<N, C>],
 ) -> Result<(), AllocError> {
@@ -112,7 +113,7 @@ fn runs_and_nanos(rows: &[RoundRecord]) -> (usize, u128) {
 }
 
 // Writes how often each pass ran, and its time in milliseconds.
-fn write_times<N: FoldingNotation, C: Progress + Drop>(
+fn write_times<N: Notation, C: Progress + Drop>(
     report: &mut String,
     passes: &[Instrumented<N, C>],
 ) -> Result<(), AllocError> {
@@ -129,7 +130,7 @@ fn write_times<N: FoldingNotation, C: Progress + Drop>(
 /// What is reported about the runs of the passes: what verifying found, counts and times.
 ///
 /// Errors: allocation failure. Cost: linear in the report.
-pub fn report_of<N: FoldingNotation, C: Progress + Drop>(
+pub fn report_of<N: Notation, C: Progress + Drop>(
     alloc: Global,
     passes: &[Instrumented<N, C>],
     options: &ModuleOptions,

@@ -12,7 +12,6 @@ mod folding;
 pub mod rewrites;
 
 pub use folding::HasOperandFolding;
-
 use pliron_laws::Dialect;
 
 /// The uses of a result may become uses of the operand, or of a new operation that makes the constant, that the

@@ -16,8 +16,6 @@ use Rattle.pliron_pass.specs.declared.result.PassResult.{PassResult}
 use Rattle.pliron_pipeline.specs.ChangeReports.{IsAccurate}
 use Rattle.pliron_pipeline.specs.Optimising.{RunsOptimisation, RunsOptimisation.Optimised, RunsOptimisation.Refused as Fails, RunsOptimisation.Short as Lacks_room}
 use Rattle.pliron_pipeline.specs.declared.optimisation.Effect.{Effect}
-use Rattle.pliron_pipeline.specs.declared.step.PassStep.{PassStep}
-use Rattle.pliron_pipeline.specs.declared.step.PassStep.TheVariants.{Sccp, Dce, SimplifyCfg, Cse}
 use Rattle.either.specs.declared.Either.{Either}
 use Rattle.either.specs.declared.Either.TheVariants.{Left, Right}
 
@@ -96,24 +94,6 @@ module _ {K E P : Type 0} (eq : K → K → Bool) (inner : OutcomeOf P K E) (rep
   repeat_same max op p p' s s' runs a = closes_same eq (λ u ran. RepeatsTo eq inner max op p p' s runs u ran) s s' a (λ u c all e. repeated_same eq inner reports_change max op p p' s u runs c all e)
 
 -- cases of two values of one type
-pub step_cases : {D E B K : Type 0} (Q : PassStep D E B K → PassStep D E B K → Type 0) → ((p : _) (q : _) → Q (Sccp p) (Sccp q)) → ((p : _) (q : _) → Q (Sccp p) (Dce q)) → ((p : _) (q : _) → Q (Sccp p) (SimplifyCfg q)) → ((p : _) (q : _) → Q (Sccp p) (Cse q)) → ((p : _) (q : _) → Q (Dce p) (Sccp q)) → ((p : _) (q : _) → Q (Dce p) (Dce q)) → ((p : _) (q : _) → Q (Dce p) (SimplifyCfg q)) → ((p : _) (q : _) → Q (Dce p) (Cse q)) → ((p : _) (q : _) → Q (SimplifyCfg p) (Sccp q)) → ((p : _) (q : _) → Q (SimplifyCfg p) (Dce q)) → ((p : _) (q : _) → Q (SimplifyCfg p) (SimplifyCfg q)) → ((p : _) (q : _) → Q (SimplifyCfg p) (Cse q)) → ((p : _) (q : _) → Q (Cse p) (Sccp q)) → ((p : _) (q : _) → Q (Cse p) (Dce q)) → ((p : _) (q : _) → Q (Cse p) (SimplifyCfg q)) → ((p : _) (q : _) → Q (Cse p) (Cse q)) → (x y : PassStep D E B K) → Q x y
-step_cases Q scsc scdc scsi sccs dcsc dcdc dcsi dccs sisc sidc sisi sics cssc csdc cssi cscs (Sccp p) (Sccp q) = scsc p q
-step_cases Q scsc scdc scsi sccs dcsc dcdc dcsi dccs sisc sidc sisi sics cssc csdc cssi cscs (Sccp p) (Dce q) = scdc p q
-step_cases Q scsc scdc scsi sccs dcsc dcdc dcsi dccs sisc sidc sisi sics cssc csdc cssi cscs (Sccp p) (SimplifyCfg q) = scsi p q
-step_cases Q scsc scdc scsi sccs dcsc dcdc dcsi dccs sisc sidc sisi sics cssc csdc cssi cscs (Sccp p) (Cse q) = sccs p q
-step_cases Q scsc scdc scsi sccs dcsc dcdc dcsi dccs sisc sidc sisi sics cssc csdc cssi cscs (Dce p) (Sccp q) = dcsc p q
-step_cases Q scsc scdc scsi sccs dcsc dcdc dcsi dccs sisc sidc sisi sics cssc csdc cssi cscs (Dce p) (Dce q) = dcdc p q
-step_cases Q scsc scdc scsi sccs dcsc dcdc dcsi dccs sisc sidc sisi sics cssc csdc cssi cscs (Dce p) (SimplifyCfg q) = dcsi p q
-step_cases Q scsc scdc scsi sccs dcsc dcdc dcsi dccs sisc sidc sisi sics cssc csdc cssi cscs (Dce p) (Cse q) = dccs p q
-step_cases Q scsc scdc scsi sccs dcsc dcdc dcsi dccs sisc sidc sisi sics cssc csdc cssi cscs (SimplifyCfg p) (Sccp q) = sisc p q
-step_cases Q scsc scdc scsi sccs dcsc dcdc dcsi dccs sisc sidc sisi sics cssc csdc cssi cscs (SimplifyCfg p) (Dce q) = sidc p q
-step_cases Q scsc scdc scsi sccs dcsc dcdc dcsi dccs sisc sidc sisi sics cssc csdc cssi cscs (SimplifyCfg p) (SimplifyCfg q) = sisi p q
-step_cases Q scsc scdc scsi sccs dcsc dcdc dcsi dccs sisc sidc sisi sics cssc csdc cssi cscs (SimplifyCfg p) (Cse q) = sics p q
-step_cases Q scsc scdc scsi sccs dcsc dcdc dcsi dccs sisc sidc sisi sics cssc csdc cssi cscs (Cse p) (Sccp q) = cssc p q
-step_cases Q scsc scdc scsi sccs dcsc dcdc dcsi dccs sisc sidc sisi sics cssc csdc cssi cscs (Cse p) (Dce q) = csdc p q
-step_cases Q scsc scdc scsi sccs dcsc dcdc dcsi dccs sisc sidc sisi sics cssc csdc cssi cscs (Cse p) (SimplifyCfg q) = cssi p q
-step_cases Q scsc scdc scsi sccs dcsc dcdc dcsi dccs sisc sidc sisi sics cssc csdc cssi cscs (Cse p) (Cse q) = cscs p q
-
 pub side_cases : {A B : Type 0} (Q : Either A B → Either A B → Type 0) → ((p q : A) → Q (Left p) (Left q)) → ((p : A) (q : B) → Q (Left p) (Right q)) → ((p : B) (q : A) → Q (Right p) (Left q)) → ((p q : B) → Q (Right p) (Right q)) → (x y : Either A B) → Q x y
 side_cases Q a b c d (Left p) (Left q) = a p q
 side_cases Q a b c d (Left p) (Right q) = b p q

@@ -1,5 +1,6 @@
 pub mod ChangeReports
 pub mod Optimising
+pub mod Canonicalized
 pub mod CommonSubexpressions
 pub mod Constants
 pub mod ControlFlow

@@ -1,14 +1,12 @@
 -- What the passes here are called.
-use Rattle.std.specs.Prelude.{◌≢◌, ℕ, List, [], ◌∷◌}
+use Rattle.std.specs.Prelude.{◌≢◌, ℕ, List}
+use Rattle.pliron_pipeline.specs.Canonicalized.{canonicalize_name}
 use Rattle.pliron_pipeline.specs.CommonSubexpressions.{cse_name}
 use Rattle.pliron_pipeline.specs.Constants.{sccp_name}
 use Rattle.pliron_pipeline.specs.ControlFlow.{simplify_cfg_name}
 use Rattle.pliron_pipeline.specs.DeadCode.{dce_name}
 use Rattle.pliron_pipeline.specs.declared.pass_name.PassName.{PassName}
 use Rattle.pliron_pipeline.specs.declared.pass_name.PassName.TheVariants.{Sccp, Dce, SimplifyCfg, Cse, Canonicalize}
-
-abbrev pub canonicalize_name : List ℕ
-canonicalize_name = 0x63 ∷ 0x61 ∷ 0x6e ∷ 0x6f ∷ 0x6e ∷ 0x69 ∷ 0x63 ∷ 0x61 ∷ 0x6c ∷ 0x69 ∷ 0x7a ∷ 0x65 ∷ []
 
 abbrev pub name_of_pass : PassName → List ℕ
 name_of_pass Sccp = sccp_name
@@ -17,10 +15,6 @@ name_of_pass SimplifyCfg = simplify_cfg_name
 name_of_pass Cse = cse_name
 name_of_pass Canonicalize = canonicalize_name
 
--- no pass that every dialect can run is called so
-abbrev pub IsNoSharedPass : List ℕ → Type 0
-IsNoSharedPass name = (name ≢ sccp_name) × (name ≢ dce_name) × (name ≢ simplify_cfg_name) × (name ≢ cse_name)
-
 -- no pass is called so
 abbrev pub IsNoPass : List ℕ → Type 0
-IsNoPass name = IsNoSharedPass name × (name ≢ canonicalize_name)
+IsNoPass name = (name ≢ sccp_name) × (name ≢ dce_name) × (name ≢ simplify_cfg_name) × (name ≢ cse_name) × (name ≢ canonicalize_name)

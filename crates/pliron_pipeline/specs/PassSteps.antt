@@ -1,5 +1,6 @@
 -- What the passes of a list are called.
 use Rattle.std.specs.Prelude.{ℕ, List}
+use Rattle.pliron_pipeline.specs.Canonicalized.{canonicalize_name}
 use Rattle.pliron_pipeline.specs.CommonSubexpressions.{cse_name}
 use Rattle.pliron_pipeline.specs.Constants.{sccp_name}
 use Rattle.pliron_pipeline.specs.ControlFlow.{simplify_cfg_name}
@@ -9,13 +10,14 @@ use Rattle.pliron_pass.specs.declared.passes.Passes.{Passes}
 use Rattle.pliron_pass.specs.declared.nested.NestedOpsPass.{NestedOpsPass}
 use Rattle.pliron_pass.specs.declared.repeat.Repeat.{Repeat}
 use Rattle.pliron_pipeline.specs.declared.step.PassStep.{PassStep}
-use Rattle.pliron_pipeline.specs.declared.step.PassStep.TheVariants.{Sccp, Dce, SimplifyCfg, Cse}
+use Rattle.pliron_pipeline.specs.declared.step.PassStep.TheVariants.{Sccp, Dce, SimplifyCfg, Cse, Canonicalize}
 
 abbrev pub step_name : {D E B K : Type 0} → PassStep D E B K → List ℕ
 step_name (Sccp p) = sccp_name
 step_name (Dce p) = dce_name
 step_name (SimplifyCfg p) = simplify_cfg_name
 step_name (Cse p) = cse_name
+step_name (Canonicalize p) = canonicalize_name
 
 -- a list of passes for the operation itself, or for each operation directly inside it
 abbrev pub PipelineOf : (D E B K : Type 0) → Type 0

@@ -5,7 +5,7 @@ use crate::step::{PassStep, Pipeline, Schedule};
 use pliron_laws::Dialect;
 use pliron_pass::{Analyses, Pass, Passes};
 
-// Each of the three reports accurately.
+// Each of the passes reports accurately.
 fn steps_report_accurately<D: Dialect, E: Analyses + Drop>()
     ensures { IsAccurate ⟦<PassStep<D, E> as Pass>⟧.outcome }
 {}

@@ -3,6 +3,7 @@
 //! It knows passes, the cache and the calls that optimise, and no dialect and no text.
 #![tactic(auto)]
 
+mod canonicalization;
 mod change_reports;
 mod common_subexpressions;
 mod constants;
@@ -12,6 +13,7 @@ mod optimisation;
 mod pass_name;
 mod step;
 
+pub use canonicalization::{Canonicalization, CanonicalizePass};
 pub use change_reports::schedules_report_accurately;
 pub use common_subexpressions::{CSEPass, CommonSubexpressions};
 pub use constants::{Constants, SCCPPass};

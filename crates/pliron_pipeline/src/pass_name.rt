@@ -2,7 +2,7 @@
 ghost use Rattle.std.specs.Prelude.{◌≡◌, IfSome, IfNone};
 ghost use Rattle.pliron_pipeline.specs.PassNames.{name_of_pass, IsNoPass};
 
-/// One of the passes: those here, which every dialect can run, and canonicalization.
+/// One of the passes here.
 #[derive(Clone, Copy, Debug, PartialEq, Eq)]
 pub enum PassName {
     Sccp,

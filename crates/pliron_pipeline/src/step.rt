@@ -1,13 +1,16 @@
 //! One of the passes here, and lists of them.
-ghost use Rattle.std.specs.Prelude.{◌≡◌, true, false, IfSome, IfNone};
-ghost use Rattle.pliron_pipeline.specs.PassNames.{IsNoSharedPass};
+ghost use Rattle.std.specs.Prelude.{◌≡◌, false, IfSome, IfNone};
+ghost use Rattle.pliron_pipeline.specs.Optimising.{RunsOptimisation};
+ghost use Rattle.pliron_pipeline.specs.PassNames.{IsNoPass};
 ghost use Rattle.pliron_pipeline.specs.PassSteps.{step_name};
-ghost use Rattle.pliron_pipeline.specs.declared.step.PassStep.TheVariants.{Sccp as ASccp, Dce as ADce, SimplifyCfg as ASimplifyCfg, Cse as ACse};
+ghost use Rattle.pliron_pipeline.specs.declared.step.PassStep.TheVariants.{Sccp as ASccp, Dce as ADce, SimplifyCfg as ASimplifyCfg, Cse as ACse, Canonicalize as ACanonicalize};
 
-use crate::common_subexpressions::CSEPass;
-use crate::constants::SCCPPass;
-use crate::control_flow::SimplifyCFGPass;
-use crate::dead_code::DCEPass;
+use crate::canonicalization::{Canonicalization, CanonicalizePass};
+use crate::common_subexpressions::{CSEPass, CommonSubexpressions};
+use crate::constants::{Constants, SCCPPass};
+use crate::control_flow::{ControlFlow, SimplifyCFGPass};
+use crate::dead_code::{DCEPass, DeadCode};
+use crate::optimisation::Optimisation;
 use crate::pass_name::PassName;
 use pliron_core::{Context, Operation, Ptr};
 use pliron_laws::{Dialect, OptError};
@@ -17,27 +20,29 @@ use pliron_pass::{
 };
 use std::alloc::Global;
 
-/// One of the four passes, for a list of different ones.
+/// One of the five passes, for a list of different ones.
 #[derive(Drop)]
 pub enum PassStep<D: Dialect, E: Analyses + Drop> {
     Sccp(SCCPPass<D, E>),
     Dce(DCEPass<D, E>),
     SimplifyCfg(SimplifyCFGPass<D, E>),
     Cse(CSEPass<D, E>),
+    Canonicalize(CanonicalizePass<D, E>),
 }
 
 impl<D: Dialect, E: Analyses + Drop> PassStep<D, E> {
-    /// The pass of this name; `None` of `canonicalize`, which not every dialect can run. Cost: constant.
+    /// The pass of this name. Cost: constant.
     pub fn from_name(name: &str) -> Option<Self>
         ensures named { IfSome result (λ step. step_name step ≡ name.now) }
-        ensures unknown { IfNone result (IsNoSharedPass name.now) }
+        ensures unknown { IfNone result (IsNoPass name.now) }
     {
         match PassName::from_name(name) {
             Some(PassName::Sccp) => Some(PassStep::Sccp(SCCPPass::new())),
             Some(PassName::Dce) => Some(PassStep::Dce(DCEPass::new())),
             Some(PassName::SimplifyCfg) => Some(PassStep::SimplifyCfg(SimplifyCFGPass::new())),
             Some(PassName::Cse) => Some(PassStep::Cse(CSEPass::new())),
-            Some(PassName::Canonicalize) | None => None,
+            Some(PassName::Canonicalize) => Some(PassStep::Canonicalize(CanonicalizePass::new())),
+            None => None,
         }
     }
 }
@@ -51,32 +56,14 @@ impl<D: Dialect, E: Analyses + Drop> Pass for PassStep<D, E> {
 
     ghost name = { step_name };
 
-    ghost outcome = { elim [
-      | ASccp p ↦ elim [
-        | ASccp q ↦ ⟦<SCCPPass<D, E> as Pass>⟧.outcome p q
-        | ADce q ↦ λ op s s' r. ⊥
-        | ASimplifyCfg q ↦ λ op s s' r. ⊥
-        | ACse q ↦ λ op s s' r. ⊥
-      ]
-      | ADce p ↦ elim [
-        | ASccp q ↦ λ op s s' r. ⊥
-        | ADce q ↦ ⟦<DCEPass<D, E> as Pass>⟧.outcome p q
-        | ASimplifyCfg q ↦ λ op s s' r. ⊥
-        | ACse q ↦ λ op s s' r. ⊥
-      ]
-      | ASimplifyCfg p ↦ elim [
-        | ASccp q ↦ λ op s s' r. ⊥
-        | ADce q ↦ λ op s s' r. ⊥
-        | ASimplifyCfg q ↦ ⟦<SimplifyCFGPass<D, E> as Pass>⟧.outcome p q
-        | ACse q ↦ λ op s s' r. ⊥
-      ]
-      | ACse p ↦ elim [
-        | ASccp q ↦ λ op s s' r. ⊥
-        | ADce q ↦ λ op s s' r. ⊥
-        | ASimplifyCfg q ↦ λ op s s' r. ⊥
-        | ACse q ↦ ⟦<CSEPass<D, E> as Pass>⟧.outcome p q
-      ]
-    ] };
+    ghost outcome = { λ p p' op s s' r. (step_name p' ≡ step_name p)
+        × RunsOptimisation E.Kind.eq E.reads_edges_alone (elim [
+          | ASccp q ↦ ⟦<Constants<D> as Optimisation>⟧.outcome
+          | ADce q ↦ ⟦<DeadCode<D> as Optimisation>⟧.outcome
+          | ASimplifyCfg q ↦ ⟦<ControlFlow<D> as Optimisation>⟧.outcome
+          | ACse q ↦ ⟦<CommonSubexpressions<D> as Optimisation>⟧.outcome
+          | ACanonicalize q ↦ ⟦<Canonicalization<D> as Optimisation>⟧.outcome
+        ] p) op s s' r };
 
     fn name(&self) -> &str {
         match self {
@@ -84,6 +71,7 @@ impl<D: Dialect, E: Analyses + Drop> Pass for PassStep<D, E> {
             PassStep::Dce(pass) => pass.name(),
             PassStep::SimplifyCfg(pass) => pass.name(),
             PassStep::Cse(pass) => pass.name(),
+            PassStep::Canonicalize(pass) => pass.name(),
         }
     }
 
@@ -99,6 +87,7 @@ impl<D: Dialect, E: Analyses + Drop> Pass for PassStep<D, E> {
             PassStep::Dce(pass) => pass.run(alloc, op, ctx, analyses),
             PassStep::SimplifyCfg(pass) => pass.run(alloc, op, ctx, analyses),
             PassStep::Cse(pass) => pass.run(alloc, op, ctx, analyses),
+            PassStep::Canonicalize(pass) => pass.run(alloc, op, ctx, analyses),
         }
     }
 

@@ -4,11 +4,12 @@ ghost use Rattle.pliron_core.specs.Tree.{IsLive};
 ghost use Rattle.pliron_laws.specs.Linked.{IsWellLinked};
 
 use pliron_bench::Bench;
-use pliron_canonicalize_pass::{CanonicalizePass, canonicalization_reports_accurately};
 use pliron_core::{Context, IRStatus, Operation, Ptr};
 use pliron_laws::OptError;
-use pliron_pass::{AnalysisManager, BenchFacts, Either, Pass, Passes};
-use pliron_pipeline::{DCEPass, PassStep, run_pipeline};
+use pliron_pass::{AnalysisManager, BenchFacts, Pass, Passes};
+use pliron_pipeline::{
+    CanonicalizePass, DCEPass, PassStep, run_pipeline, schedules_report_accurately,
+};
 use pliron_test_cases::cases::{line, read};
 use std::alloc::Global;
 use std::process::Abort;
@@ -17,16 +18,14 @@ static TEXT: &str = "func { b0(x): z = const 0; a = mul x z; b = mul a x; ret b 
 
 type Canonicalize = CanonicalizePass<Bench, BenchFacts>;
 
-type Step = Either<Canonicalize, PassStep<Bench, BenchFacts>>;
-
 // What the list of both passes answers.
 fn run(alloc: Global, root: Ptr<Operation>, ctx: &mut Context) -> Result<IRStatus, OptError>
     requires live { IsLive ctx.old.tree root }
     requires linked { IsWellLinked bench ctx.old.tree root }
 {
-    let mut passes = Passes::<Step>::new(alloc);
-    passes.add_pass(Either::Left(CanonicalizePass::new()))?;
-    passes.add_pass(Either::Right(PassStep::Dce(DCEPass::new())))?;
+    let mut passes = Passes::<PassStep<Bench, BenchFacts>>::new(alloc);
+    passes.add_pass(PassStep::Canonicalize(CanonicalizePass::new()))?;
+    passes.add_pass(PassStep::Dce(DCEPass::new()))?;
     let mut analyses = AnalysisManager::new(alloc);
     run_pipeline(&mut passes, alloc, root, ctx, &mut analyses)
 }
@@ -47,7 +46,7 @@ fn the_pass_and_another_in_a_list(rt: HostRuntime) {
 
 #[test]
 fn the_name_of_the_pass(rt: HostRuntime) {
-    canonicalization_reports_accurately::<Bench, BenchFacts>();
+    schedules_report_accurately::<Bench, BenchFacts>();
     let pass = Canonicalize::new();
     assert_eq!(rt; pass.name(), "canonicalize");
 }

@@ -1,5 +1,5 @@
 -- What the pass of canonicalization makes of a tree.
-use Rattle.std.specs.Prelude.{◌≡◌, ℕ, true, List, Result, Ok, Err}
+use Rattle.std.specs.Prelude.{◌≡◌, ℕ, true, List, [], ◌∷◌, Result, Ok, Err}
 use Rattle.pliron_core.specs.Tree.{Tree}
 use Rattle.pliron_laws.specs.declared.fault.OptError.{OptError}
 use Rattle.pliron_laws.specs.declared.fault.OptError.TheVariants.{Memory}
@@ -12,3 +12,6 @@ use Rattle.pliron_pipeline.specs.declared.optimisation.Effect.{Effect}
 abbrev pub Canonicalizes : Folding → (t t' : Tree) → ℕ → Result Effect OptError → Type 0
 Canonicalizes x t t' root (Ok effect) = ((fs : List Fold) × FoldInTurn x root fs t t') × (HasFolds x t' root → ⊥) × ReportsFolds x t root effect.status × (effect.keeps_edges ≡ true)
 Canonicalizes x t t' root (Err e) = (e ≡ Memory) × ((fs : List Fold) × AreFolded x root fs t t')
+
+abbrev pub canonicalize_name : List ℕ
+canonicalize_name = 0x63 ∷ 0x61 ∷ 0x6e ∷ 0x6f ∷ 0x6e ∷ 0x69 ∷ 0x63 ∷ 0x61 ∷ 0x6c ∷ 0x69 ∷ 0x7a ∷ 0x65 ∷ []
