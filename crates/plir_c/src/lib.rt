@@ -20,7 +20,7 @@ use pliron_buffers::{
 };
 use pliron_laws::HasMeaning;
 use pliron_mlir::{AnyMeaning, Mlir};
-use pliron_mlir_opt::{Closed, GenericForm};
+use pliron_mlir_opt::{Closed, ClosedForm};
 use pliron_opts::Schedule;
 use pliron_pass::{BenchFactKind, BenchFacts, Pass};
 use std::alloc::Global;
@@ -32,8 +32,8 @@ const VERSION: u32 = 2;
 /// from printing.
 type Text = Closed<BenchNotation>;
 
-/// The notation of modules.
-type Form = GenericForm<Mlir<AnyMeaning>>;
+/// The notation of modules, in the same way.
+type Form = ClosedForm;
 
 /// The number of this interface. Cost: constant.
 #[unsafe(no_mangle)]
@@ -115,7 +115,8 @@ pub extern "C" fn plir_optimise_mlir(
     changed: &mut u32,
 ) -> u32
     ensures { FillsBy (OptimisesModule ⟦<ModulePass<Form> as Pass>⟧.name
-        (ReadsKinds ⟦<Mlir<AnyMeaning> as HasMeaning>⟧.meaning) PrintsKinds ⟦<Mlir<AnyMeaning> as HasMeaning>⟧.meaning
+        (closed_reads (ReadsKinds ⟦<Mlir<AnyMeaning> as HasMeaning>⟧.meaning)) (closed_prints PrintsKinds)
+        ⟦<Mlir<AnyMeaning> as HasMeaning>⟧.meaning
         (RunsAlone ⟦<BenchFactKind as PartialEq>⟧.eq ⟦<ModuleSchedule<Form> as Pass>⟧.outcome)
         pipeline.now text.now changed.new) (λ failure. Explains (IsWord pipeline.now) failure × (changed.new ≡ 0))
         output.old output.new needed.new result }

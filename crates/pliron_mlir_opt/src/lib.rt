@@ -15,7 +15,7 @@ mod program;
 mod report;
 mod tally;
 
-pub use closed::Closed;
+pub use closed::{Closed, ClosedForm};
 pub use each_pass::print_after_each;
 pub use failure::ModuleFailure;
 pub use fitness::{Fitness, Unfit};

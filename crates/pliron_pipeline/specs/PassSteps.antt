@@ -19,6 +19,14 @@ step_name (SimplifyCfg p) = simplify_cfg_name
 step_name (Cse p) = cse_name
 step_name (Canonicalize p) = canonicalize_name
 
+-- the one of these five that is of the pass
+abbrev pub of_step : {D E B K : Type 0} {O : Type 1} → (sccp dce simplify_cfg cse canonicalize : O) → PassStep D E B K → O
+of_step sccp dce simplify_cfg cse canonicalize (Sccp p) = sccp
+of_step sccp dce simplify_cfg cse canonicalize (Dce p) = dce
+of_step sccp dce simplify_cfg cse canonicalize (SimplifyCfg p) = simplify_cfg
+of_step sccp dce simplify_cfg cse canonicalize (Cse p) = cse
+of_step sccp dce simplify_cfg cse canonicalize (Canonicalize p) = canonicalize
+
 -- a list of passes for the operation itself, or for each operation directly inside it
 abbrev pub PipelineOf : (D E B K : Type 0) → Type 0
 PipelineOf D E B K = Either (Passes (PassStep D E B K) D E B K) (NestedOpsPass (Passes (PassStep D E B K) D E B K) D E B K)

@@ -2,8 +2,7 @@
 ghost use Rattle.std.specs.Prelude.{◌≡◌, false, IfSome, IfNone};
 ghost use Rattle.pliron_pipeline.specs.Optimising.{RunsOptimisation};
 ghost use Rattle.pliron_pipeline.specs.PassNames.{IsNoPass};
-ghost use Rattle.pliron_pipeline.specs.PassSteps.{step_name};
-ghost use Rattle.pliron_pipeline.specs.declared.step.PassStep.TheVariants.{Sccp as ASccp, Dce as ADce, SimplifyCfg as ASimplifyCfg, Cse as ACse, Canonicalize as ACanonicalize};
+ghost use Rattle.pliron_pipeline.specs.PassSteps.{of_step, step_name};
 
 use crate::canonicalization::{Canonicalization, CanonicalizePass};
 use crate::common_subexpressions::{CSEPass, CommonSubexpressions};
@@ -57,13 +56,12 @@ impl<D: Dialect, E: Analyses + Drop> Pass for PassStep<D, E> {
     ghost name = { step_name };
 
     ghost outcome = { λ p p' op s s' r. (step_name p' ≡ step_name p)
-        × RunsOptimisation E.Kind.eq E.reads_edges_alone (elim [
-          | ASccp q ↦ ⟦<Constants<D> as Optimisation>⟧.outcome
-          | ADce q ↦ ⟦<DeadCode<D> as Optimisation>⟧.outcome
-          | ASimplifyCfg q ↦ ⟦<ControlFlow<D> as Optimisation>⟧.outcome
-          | ACse q ↦ ⟦<CommonSubexpressions<D> as Optimisation>⟧.outcome
-          | ACanonicalize q ↦ ⟦<Canonicalization<D> as Optimisation>⟧.outcome
-        ] p) op s s' r };
+        × RunsOptimisation E.Kind.eq E.reads_edges_alone (of_step
+        ⟦<Constants<D> as Optimisation>⟧.outcome
+        ⟦<DeadCode<D> as Optimisation>⟧.outcome
+        ⟦<ControlFlow<D> as Optimisation>⟧.outcome
+        ⟦<CommonSubexpressions<D> as Optimisation>⟧.outcome
+        ⟦<Canonicalization<D> as Optimisation>⟧.outcome p) op s s' r };
 
     fn name(&self) -> &str {
         match self {
