@@ -1,9 +1,9 @@
 //! The head of an operation: its class, what the class reads of it, and its form.
-ghost use Rattle.std.specs.Prelude.{◌≡◌, ◌≤◌, length, true, sum, set, IfOk, IfSome};
-ghost use Rattle.pliron_mlir.specs.ClassNumbers.{number_of_class};
+ghost use Rattle.std.specs.Prelude.{◌≡◌, ◌⊎◌, ◌≤◌, ℕ, None, length, true, sum, set, IfOk, IfSome};
+ghost use Rattle.pliron_mlir.specs.Heads.{plain_head as plain_head_of};
 ghost use Rattle.pliron_mlir.specs.declared.kind.Class.TheVariants.{Constant, Branch, Switch, Fork};
-ghost use Rattle.pliron_mlir_reader.specs.Classes.{AreCounts};
-ghost use Rattle.pliron_mlir_reader.specs.Taken.{HasClass, IsTakenFor};
+ghost use Rattle.pliron_mlir_reader.specs.Taken.{class_taken as class_taken_of, AreCounts, AreFlags, HasClass, IsBranchHead, IsConstantHead, IsOtherConstant, IsOtherHead, IsSwitchHead, IsTakenFor};
+ghost use Rattle.pliron_mlir_reader.specs.declared.owned.Owned.TheVariants.{Predicate as OwnsPredicate};
 
 use crate::owned::Owned;
 use crate::reader::{Entry, Pending, Reader};
@@ -11,6 +11,7 @@ use crate::taken::{
     Entries, Overflow, Shape, bits_owned, branch_taken, class_taken, flags_owned, head_taken,
     number_head, predicate_said, spread,
 };
+use crate::taken_head::TakenHead;
 use pliron_bits::{Flags, Predicate};
 use pliron_core::Head;
 use pliron_mlir::{Class, constant_head, other_constant, plain_head, switch_head};
@@ -105,15 +106,15 @@ fn total(counts: &[usize]) -> Option<usize>
 }
 
 // Whether the operation has as many edges, and as many operands behind the first; wide ones only without operands.
-fn fits(counts: &[usize], pending: &Pending) -> bool
-    ensures { result ≡ true → AreCounts pending.now counts.now }
+fn fits(counts: &[usize], shape: &Shape) -> bool
+    ensures { result ≡ true → AreCounts shape.now counts.now }
 {
     let Some(total) = total(counts) else {
         return false;
     };
     let is_wide = counts.len() > MAX_EDGES && total > 0;
-    let (_, operands) = pending.operands;
-    !is_wide && counts.len() == pending.successors && total < operands && total == operands - 1
+    let operands = shape.operands;
+    !is_wide && counts.len() == shape.successors && total < operands && total == operands - 1
 }
 
 impl Reader<'_> {
@@ -164,6 +165,7 @@ impl Reader<'_> {
         ensures results { result.results ≡ length self.now.types.items }
         ensures successors { result.successors ≡ pending.now.successors }
         ensures regions { result.regions ≡ pending.now.regions }
+        ensures to { result.to ≤ 65 }
     {
         Shape {
             operands: pending.operands.1,
@@ -190,23 +192,27 @@ impl Reader<'_> {
     }
 
     // The flags of an operation that owns this.
-    fn flags(&self, owned: Owned) -> Flags {
-        match owned {
+    fn flags(&self, owned: Owned) -> Flags
+        ensures { AreFlags owned result }
+    {
+        let (properties, attributes) = match owned {
             Owned::LlvmOverflow
             | Owned::ArithOverflow
             | Owned::Exact
             | Owned::Disjoint
-            | Owned::NonNegative => {
-                let properties = self.entries_of(&self.properties);
-                let attributes = self.entries_of(&self.attributes);
-                flags_owned(owned, &properties, &attributes)
-            }
-            _ => Flags::NONE,
-        }
+            | Owned::NonNegative => (
+                self.entries_of(&self.properties),
+                self.entries_of(&self.attributes),
+            ),
+            _ => (Entries::NONE, Entries::NONE),
+        };
+        flags_owned(owned, &properties, &attributes)
     }
 
     // The predicate of an operation that owns this.
-    fn predicate(&self, owned: Owned) -> Option<Predicate> {
+    fn predicate(&self, owned: Owned) -> Option<Predicate>
+        ensures { (owned ≡ OwnsPredicate) ⊎ (result ≡ None) }
+    {
         match owned {
             Owned::Predicate => {
                 let (number, written) = typed_number_of(self.value_of(b"predicate")?)?;
@@ -227,13 +233,13 @@ impl Reader<'_> {
     }
 
     // The operands of each edge of a branch or switch, where the text says them so that they are all but the first.
-    fn counts(&self, is_switch: bool, pending: &Pending) -> Result<Option<Vec<usize>>, Fault>
-        ensures { IfOk result (λ found. IfSome found (λ counts. AreCounts pending.now counts.items)) }
+    fn counts(&self, is_switch: bool, shape: &Shape) -> Result<Option<Vec<usize>>, Fault>
+        ensures { IfOk result (λ found. IfSome found (λ counts. AreCounts shape.now counts.items)) }
     {
         let Some(counts) = self.written_counts(is_switch)? else {
             return Ok(None);
         };
-        if fits(&counts, pending) {
+        if fits(&counts, shape) {
             Ok(Some(counts))
         } else {
             Ok(None)
@@ -260,13 +266,14 @@ impl Reader<'_> {
     }
 
     // The width and the cases of a switch; none of them where they aren't understood.
-    fn cases(&self, pending: &Pending) -> Result<(u32, Vec<u64>), Fault> {
-        let width = self.operand_width(pending, 0);
+    fn cases(&self, shape: &Shape) -> Result<(u32, Vec<u64>), Fault>
+        ensures { IfOk result (λ said. (said.0 ≡ shape.now.from) ⊎ (said.0 ≡ 0)) }
+    {
         let text = self.value_of(b"case_values").unwrap_or(&[]);
-        let count = pending.successors.saturating_sub(1);
-        if width > 0 {
-            if let Some(cases) = dense_of(self.alloc, text, width, count)? {
-                return Ok((width, cases));
+        let count = shape.successors.saturating_sub(1);
+        if shape.from > 0 {
+            if let Some(cases) = dense_of(self.alloc, text, shape.from, count)? {
+                return Ok((shape.from, cases));
             }
         }
         Ok((0, Vec::new(self.alloc)))
@@ -351,7 +358,8 @@ impl Reader<'_> {
         number_of_form: usize,
         pending: &Pending,
     ) -> Result<Head, Fault>
-        ensures { IfOk result (λ head. HasClass Constant head) }
+        ensures same { IfOk result (λ head. IsOtherConstant head) }
+        ensures kind { IfOk result (λ head. HasClass Constant head) }
     {
         let length = match pending.properties {
             Some(span) => span.end.saturating_sub(span.start),
@@ -368,11 +376,13 @@ impl Reader<'_> {
 
     // The head of a constant.
     fn constant(&mut self, pending: &Pending, tail: &Tail) -> Result<Head, Fault>
-        ensures { IfOk result (λ head. HasClass Constant head) }
+        requires { tail.now.shape.to ≤ 65 }
+        ensures same { IfOk result (λ head. IsConstantHead pending.now.known.owned tail.now.shape.to head) }
+        ensures kind { IfOk result (λ head. HasClass Constant head) }
     {
         let form = self.form(false, pending, tail)?;
         let number_of_form = self.sheet.form_number(form)?;
-        let width = self.result_width();
+        let width = tail.shape.to;
         match bits_owned(pending.known.owned, width, self.value_bits(width)) {
             Some(bits) => Ok(number_head(self.alloc, width, bits, number_of_form)?),
             None => self.other_constant(form, number_of_form, pending),
@@ -381,7 +391,7 @@ impl Reader<'_> {
 
     // The head of a terminator of which nothing is known.
     fn fork(&mut self, pending: &Pending, tail: &Tail) -> Result<Head, Fault>
-        ensures { IfOk result (λ head. head.kind ≡ number_of_class Fork) }
+        ensures { IfOk result (λ head. (form : ℕ) × (head ≡ plain_head_of Fork form)) }
     {
         let form = self.form_number(false, pending, tail)?;
         Ok(plain_head(self.alloc, Class::Fork, form)?)
@@ -389,9 +399,10 @@ impl Reader<'_> {
 
     // The head of a branch.
     fn branch(&mut self, pending: &Pending, tail: &Tail) -> Result<Head, Fault>
-        ensures { IfOk result (λ head. HasClass Branch head) }
+        ensures same { IfOk result (λ head. IsBranchHead tail.now.shape head) }
+        ensures kind { IfOk result (λ head. HasClass Branch head) }
     {
-        match self.counts(false, pending)? {
+        match self.counts(false, &tail.shape)? {
             Some(counts) => {
                 let form = self.form_number(true, pending, tail)?;
                 Ok(branch_taken(self.alloc, &counts, form)?)
@@ -402,12 +413,13 @@ impl Reader<'_> {
 
     // The head of a switch.
     fn switch(&mut self, pending: &Pending, tail: &Tail) -> Result<Head, Fault>
-        ensures { IfOk result (λ head. HasClass Switch head) }
+        ensures same { IfOk result (λ head. IsSwitchHead tail.now.shape head) }
+        ensures kind { IfOk result (λ head. HasClass Switch head) }
     {
-        match self.counts(true, pending)? {
+        match self.counts(true, &tail.shape)? {
             Some(counts) => {
                 let form = self.form_number(true, pending, tail)?;
-                let (width, cases) = self.cases(pending)?;
+                let (width, cases) = self.cases(&tail.shape)?;
                 Ok(switch_head(self.alloc, &counts, width, &cases, form)?)
             }
             None => self.fork(pending, tail),
@@ -416,7 +428,8 @@ impl Reader<'_> {
 
     // The head of an operation of the class, which isn't a constant, a branch or a switch.
     fn head(&mut self, class: Class, pending: &Pending, tail: &Tail) -> Result<Head, Fault>
-        ensures { IfOk result (λ head. HasClass class head) }
+        ensures same { IfOk result (λ head. IsOtherHead class pending.now.known.owned tail.now.shape head) }
+        ensures kind { IfOk result (λ head. HasClass class head) }
     {
         let form = self.form_number(false, pending, tail)?;
         let flags = self.flags(pending.known.owned);
@@ -436,10 +449,13 @@ impl Reader<'_> {
         }
     }
 
-    /// The head of an operation that is known whole. Errors: it has successors and regions, and isn't known; allocation
-    /// failure. Cost: linear in its text.
+    /// The head of an operation that is known whole. Asks for a width of its result of at most that of `index`. Errors:
+    /// it has successors and regions, and isn't known; allocation failure. Cost: linear in its text.
     pub fn finish(&mut self, pending: &Pending, tail: &Tail) -> Result<Head, Fault>
-        ensures { IfOk result (λ head. IsTakenFor pending.now.known.class tail.now.shape head) }
+        requires { tail.now.shape.to ≤ 65 }
+        ensures same { IfOk result (λ head.
+            IsTakenFor pending.now.known.class pending.now.known.owned tail.now.shape head) }
+        ensures kind { IfOk result (λ head. HasClass (class_taken_of pending.now.known.class tail.now.shape) head) }
     {
         let class = class_taken(pending.known.class, &tail.shape);
         self.serve(class, pending)?;
@@ -451,11 +467,21 @@ impl Reader<'_> {
         }
     }
 
-    /// The operation of this number has this head. Cost: constant.
-    pub fn set_head(&mut self, number: usize, head: Head)
-        ensures { self.new.syntax.heads.items ≡ set self.old.syntax.heads.items number (Some head) }
+    /// The same, with the proof that some operation of a text is taken for one with this head. Asks for a width of its
+    /// result of at most that of `index`. Errors: as `finish`. Cost: linear in its text.
+    #[tactic(auto, using(crate::proofs::TakenLemmas::taken_by_name))]
+    pub fn taken_head(&mut self, pending: &Pending, tail: &Tail) -> Result<TakenHead, Fault>
+        requires { tail.now.shape.to ≤ 65 }
     {
-        if let Some(place) = self.syntax.heads.get_mut(number) {
+        let head = self.finish(pending, tail)?;
+        Ok(TakenHead { head })
+    }
+
+    /// The operation of this number has this head. Cost: constant.
+    pub fn set_head(&mut self, number: usize, head: TakenHead)
+        ensures { self.new.heads.items ≡ set self.old.heads.items number (Some head) }
+    {
+        if let Some(place) = self.heads.get_mut(number) {
             *place = Some(head);
         }
     }

@@ -1,4 +1,9 @@
 //! What is known of operations by their names.
+ghost use Rattle.std.specs.Prelude.{◌≡◌};
+ghost use Rattle.pliron_mlir.specs.Names.{class_named as class_named_in};
+ghost use Rattle.pliron_mlir_reader.specs.Owners.{owned_named};
+ghost use Rattle.pliron_mlir_reader.specs.Taken.{AreNamed};
+
 use crate::owned::{Owned, owned_by};
 use pliron_mlir::{Class, class_named};
 use pliron_mlir_syntax::{Fault, Texts};
@@ -12,6 +17,8 @@ pub struct Known {
     pub owned: Owned,
     /// Whether it is a tag of a block, by which other operations name the block.
     pub is_tag: bool,
+    /// The class and what is owned are those of one name.
+    pub ghost named: { ∥ AreNamed class owned ∥₁ },
 }
 
 /// What is known of the names that a text has.
@@ -22,15 +29,24 @@ pub struct KnownNames {
     known: Vec<Known>,
 }
 
-fn look_up(name: &[u8]) -> Known {
-    let inner = match name.split_first() {
+// The name without its quotes.
+fn inner_name(name: &[u8]) -> &[u8] {
+    match name.split_first() {
         Some((_, rest)) => rest.strip_suffix(b"\"".as_slice()).unwrap_or(rest),
         None => name,
-    };
+    }
+}
+
+// What is known of this name, without quotes.
+#[tactic(auto, using(crate::proofs::TakenLemmas::named_so))]
+fn look_up(name: &[u8]) -> Known
+    ensures class { result.class ≡ class_named_in name.now }
+    ensures owned { result.owned ≡ owned_named name.now }
+{
     Known {
-        class: class_named(inner),
-        owned: owned_by(inner),
-        is_tag: inner == b"llvm.blocktag".as_slice(),
+        class: class_named(name),
+        owned: owned_by(name),
+        is_tag: name == b"llvm.blocktag".as_slice(),
     }
 }
 
@@ -49,7 +65,7 @@ impl KnownNames {
         if let Some(found) = self.known.get(number) {
             return Ok(*found);
         }
-        let found = look_up(name);
+        let found = look_up(inner_name(name));
         self.known.push(found)?;
         Ok(found)
     }

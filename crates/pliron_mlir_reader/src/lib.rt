@@ -8,5 +8,7 @@ mod owned;
 mod parse;
 mod reader;
 mod taken;
+mod taken_head;
 
-pub use parse::parse_text;
+pub use parse::{Parsed, parse_text};
+pub use taken_head::TakenHead;

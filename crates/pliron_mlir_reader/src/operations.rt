@@ -1,8 +1,10 @@
 //! Reading an operation.
 use crate::heads::Tail;
 use crate::reader::{Entry, Pending, Reader};
+use crate::taken_head::TakenHead;
 use pliron_mlir::{Class, plain_head};
 use pliron_mlir_syntax::{Expected, Fault, Form, MAX_DEPTH, OperationText, Span};
+use std::alloc::Global;
 
 /// How deeply brackets are nested where a function has too many regions in one another.
 const MAX_BRACKETS: usize = 2 * MAX_DEPTH - 8;
@@ -24,6 +26,12 @@ fn is_followed(text: &[u8], first: &[u8], second: &[u8]) -> bool {
 fn may_fork_into_regions(text: &[u8]) -> bool {
     is_followed(text, b"]", b"({")
         || (is_followed(text, b"]", b"<{") && is_followed(text, b"}>", b"({"))
+}
+
+// The head of an operation that is kept as it is written.
+fn kept_head(alloc: Global, form: usize) -> Result<TakenHead, Fault> {
+    let head = plain_head(alloc, Class::Effect, form)?;
+    Ok(TakenHead { head })
 }
 
 impl Reader<'_> {
@@ -240,7 +248,7 @@ impl Reader<'_> {
             results: (0, 0),
             regions: 0,
         })?;
-        self.syntax.heads.push(None)?;
+        self.heads.push(None)?;
         Ok(())
     }
 
@@ -300,7 +308,7 @@ impl Reader<'_> {
             location: None,
             is_whole: true,
         })?;
-        let head = plain_head(self.alloc, Class::Effect, form)?;
+        let head = kept_head(self.alloc, form)?;
         self.set_head(number, head);
         Ok(())
     }
@@ -335,7 +343,7 @@ impl Reader<'_> {
             location,
             shape,
         };
-        let head = self.finish(pending, &tail)?;
+        let head = self.taken_head(pending, &tail)?;
         self.set_head(pending.number, head);
         Ok(())
     }

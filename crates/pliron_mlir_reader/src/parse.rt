@@ -1,7 +1,18 @@
 //! From a text to its syntax and its sheet.
 use crate::reader::Reader;
+use crate::taken_head::TakenHead;
 use pliron_mlir_syntax::{Fault, Sheet, Syntax};
 use std::alloc::Global;
+
+/// What a text says of a tree, by numbers, and beside it.
+#[doc(hidden)]
+#[derive(Drop)]
+pub struct Parsed {
+    pub syntax: Syntax,
+    /// By the numbers of operations.
+    pub heads: Vec<Option<TakenHead>>,
+    pub sheet: Sheet,
+}
 
 /// What the text in the generic form says of a tree, by numbers, and beside it.
 ///
@@ -10,7 +21,7 @@ use std::alloc::Global;
 /// text leaves the grammar or uses what isn't defined, and what was expected; allocation failure. Cost: linear in the
 /// text, but for uses in regions inside the one that defines their value, which cost a step for each region between.
 #[doc(hidden)]
-pub fn parse_text(alloc: Global, text: &[u8]) -> Result<(Syntax, Sheet), Fault> {
+pub fn parse_text(alloc: Global, text: &[u8]) -> Result<Parsed, Fault> {
     match parse_so(alloc, text, false) {
         Err(Fault::KeptAsText) => parse_so(alloc, text, true),
         parsed => parsed,
@@ -18,7 +29,7 @@ pub fn parse_text(alloc: Global, text: &[u8]) -> Result<(Syntax, Sheet), Fault> 
 }
 
 // What the text says; whether functions that can't be served are kept as they are.
-fn parse_so(alloc: Global, text: &[u8], keeps: bool) -> Result<(Syntax, Sheet), Fault> {
+fn parse_so(alloc: Global, text: &[u8], keeps: bool) -> Result<Parsed, Fault> {
     let mut reader = Reader::new(alloc, text, keeps);
     let read = reader.read();
     let Reader {
@@ -26,6 +37,7 @@ fn parse_so(alloc: Global, text: &[u8], keeps: bool) -> Result<(Syntax, Sheet), 
         cursor: _,
         keeps: _,
         syntax,
+        heads,
         sheet,
         names: _,
         values: _,
@@ -38,7 +50,11 @@ fn parse_so(alloc: Global, text: &[u8], keeps: bool) -> Result<(Syntax, Sheet), 
         types: _,
     } = reader;
     match read {
-        Ok(()) => Ok((syntax, sheet)),
+        Ok(()) => Ok(Parsed {
+            syntax,
+            heads,
+            sheet,
+        }),
         Err(fault) => Err(fault),
     }
 }

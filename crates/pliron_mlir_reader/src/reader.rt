@@ -1,5 +1,6 @@
 //! Reading a text by its grammar.
 use crate::known::{Known, KnownNames};
+use crate::taken_head::TakenHead;
 use pliron_mlir_syntax::{
     BlockText, Cursor, Expected, Fault, MAX_DEPTH, Names, Sheet, Span, Syntax,
 };
@@ -43,6 +44,8 @@ pub struct Reader<'t> {
     /// Whether functions that can't be served are looked for, and kept as they are.
     pub keeps: bool,
     pub syntax: Syntax,
+    /// By the numbers of operations, none for those that are open.
+    pub heads: Vec<Option<TakenHead>>,
     pub sheet: Sheet,
     pub names: KnownNames,
     pub values: Names,
@@ -67,6 +70,7 @@ impl<'t> Reader<'t> {
             cursor: Cursor::new(text),
             keeps,
             syntax: Syntax::new(alloc),
+            heads: Vec::new(alloc),
             sheet: Sheet::new(alloc),
             names: KnownNames::new(alloc),
             values: Names::new(alloc),

@@ -43,6 +43,16 @@ pub struct Entries {
     pub nonnegative: bool,
 }
 
+impl Entries {
+    /// No flag.
+    pub const NONE: Entries = Entries {
+        overflow: None,
+        exact: false,
+        disjoint: false,
+        nonnegative: false,
+    };
+}
+
 // Whether an operation of the class has such a shape.
 fn has_shape(class: Class, shape: &Shape) -> bool
     ensures { result ≡ has_shape_of class shape.now }

@@ -1,9 +1,11 @@
 //! From syntax to a tree. What a call asks of its arguments is tested before it, so that nothing has to be known of the
 //! syntax.
-ghost use Rattle.std.specs.Prelude.{IfOk};
+ghost use Rattle.std.specs.Prelude.{◌≡◌, IfOk};
 ghost use Rattle.pliron_core.specs.Tree.{IsLive};
+ghost use Rattle.pliron_mlir_text.specs.Additions.{AddsTaken};
 
-use pliron_core::{BasicBlock, Context, Head, IRRewriter, Operation, Ptr, Rewriter, Value};
+use pliron_core::{BasicBlock, Context, IRRewriter, Operation, Ptr, Rewriter, Value};
+use pliron_mlir_reader::TakenHead;
 use pliron_mlir_syntax::{BlockText, Expected, Fault, OperationText, Sheet, Syntax};
 use std::alloc::Global;
 
@@ -26,31 +28,49 @@ fn no_tree(place: usize) -> Fault {
 /// Cost: linear in the text, with a step for each region around an operation.
 pub fn build(
     alloc: Global,
-    syntax: &mut Syntax,
+    syntax: &Syntax,
+    heads: &mut [Option<TakenHead>],
     sheet: &mut Sheet,
     ctx: &mut Context,
 ) -> Result<Ptr<Operation>, Fault>
-    ensures { IfOk result (λ root. IsLive ctx.new.tree root) }
+    ensures liveness { IfOk result (λ root. IsLive ctx.new.tree root) }
+    ensures heads { AddsTaken ctx.old.tree ctx.new.tree }
 {
     let mut built = Built {
         operations: Vec::new(alloc),
         blocks: Vec::new(alloc),
         values: Vec::new(alloc),
     };
-    build_in(syntax, sheet, ctx, &mut built)?;
+    build_in(syntax, heads, sheet, ctx, &mut built)?;
     match built.operations.first().copied() {
         Some(root) if root.is_live(ctx) => Ok(root),
         _ => Err(no_tree(0)),
     }
 }
 
+#[tactic(auto, using(crate::proofs::AdditionLemmas::adds_before_none))]
 fn build_in(
-    syntax: &mut Syntax,
+    syntax: &Syntax,
+    heads: &mut [Option<TakenHead>],
     sheet: &mut Sheet,
     ctx: &mut Context,
     built: &mut Built,
-) -> Result<(), Fault> {
-    add_all(syntax, sheet, ctx, built)?;
+) -> Result<(), Fault>
+    ensures { AddsTaken ctx.old.tree ctx.new.tree }
+{
+    add_all(syntax, heads, sheet, ctx, built)?;
+    connect_all(syntax, sheet, ctx, built)
+}
+
+// Gives all operations their operands and successors.
+fn connect_all(
+    syntax: &Syntax,
+    sheet: &Sheet,
+    ctx: &mut Context,
+    built: &Built,
+) -> Result<(), Fault>
+    ensures { ctx.new.tree.operations ≡ ctx.old.tree.operations }
+{
     for number in 0..syntax.operations.len() {
         let Some(text) = syntax.operations.get(number).copied() else {
             break;
@@ -61,27 +81,46 @@ fn build_in(
 }
 
 // Makes all operations and blocks, in the order of the text.
+#[tactic(auto, using(crate::proofs::AdditionLemmas::adds_none, crate::proofs::AdditionLemmas::adds_more, crate::proofs::AdditionLemmas::adds_before_none))]
 fn add_all(
-    syntax: &mut Syntax,
+    syntax: &Syntax,
+    heads: &mut [Option<TakenHead>],
     sheet: &mut Sheet,
     ctx: &mut Context,
     built: &mut Built,
-) -> Result<(), Fault> {
+) -> Result<(), Fault>
+    ensures { AddsTaken ctx.old.tree ctx.new.tree }
+{
     for number in 0..syntax.operations.len() {
-        add_blocks(syntax, sheet, ctx, built, number)?;
-        let Some(text) = syntax.operations.get(number).copied() else {
-            break;
-        };
-        let head = match syntax.heads.get_mut(number) {
-            Some(head) => head.take(),
-            None => None,
-        };
-        let Some(head) = head else {
-            return Err(no_tree(text.place));
-        };
-        add_operation(syntax, sheet, ctx, built, &text, head)?;
+        add_next(syntax, heads, sheet, ctx, built, number)?;
     }
     add_blocks(syntax, sheet, ctx, built, syntax.operations.len())
+}
+
+// The blocks before the operation of this number, and that.
+#[tactic(auto, using(crate::proofs::AdditionLemmas::adds_none, crate::proofs::AdditionLemmas::adds_behind_none))]
+fn add_next(
+    syntax: &Syntax,
+    heads: &mut [Option<TakenHead>],
+    sheet: &mut Sheet,
+    ctx: &mut Context,
+    built: &mut Built,
+    number: usize,
+) -> Result<(), Fault>
+    ensures { AddsTaken ctx.old.tree ctx.new.tree }
+{
+    add_blocks(syntax, sheet, ctx, built, number)?;
+    let Some(text) = syntax.operations.get(number).copied() else {
+        return Ok(());
+    };
+    let head = match heads.get_mut(number) {
+        Some(head) => head.take(),
+        None => None,
+    };
+    match head {
+        Some(head) => add_operation(syntax, sheet, ctx, built, &text, head),
+        None => Err(no_tree(text.place)),
+    }
 }
 
 // The blocks that the text has before the operation of this number.
@@ -91,7 +130,9 @@ fn add_blocks(
     ctx: &mut Context,
     built: &mut Built,
     before: usize,
-) -> Result<(), Fault> {
+) -> Result<(), Fault>
+    ensures { ctx.new.tree.operations ≡ ctx.old.tree.operations }
+{
     for number in built.blocks.len()..syntax.blocks.len() {
         match syntax.blocks.get(number) {
             Some(text) if text.before <= before => add_block(syntax, sheet, ctx, built, text)?,
@@ -110,16 +151,19 @@ fn add_types(syntax: &Syntax, sheet: &mut Sheet, first: usize, count: usize) -> 
     Ok(())
 }
 
+#[tactic(auto, using(crate::proofs::AdditionLemmas::adds_none, crate::proofs::AdditionLemmas::adds_one, crate::proofs::AdditionLemmas::adds_before_none))]
 fn add_operation(
     syntax: &Syntax,
     sheet: &mut Sheet,
     ctx: &mut Context,
     built: &mut Built,
     text: &OperationText,
-    head: Head,
-) -> Result<(), Fault> {
+    taken: TakenHead,
+) -> Result<(), Fault>
+    ensures { AddsTaken ctx.old.tree ctx.new.tree }
+{
     let (first, results) = text.results;
-    let op = Operation::create(ctx, head, results, text.regions)?;
+    let op = Operation::create(ctx, taken.head, results, text.regions)?;
     if let Some(number) = text.block {
         let block = built
             .blocks
@@ -142,12 +186,15 @@ fn add_operation(
     Ok(())
 }
 
+#[tactic(auto, using(crate::proofs::AdditionLemmas::moved_keeps))]
 fn append(
     ctx: &mut Context,
     block: Ptr<BasicBlock>,
     op: Ptr<Operation>,
     place: usize,
-) -> Result<(), Fault> {
+) -> Result<(), Fault>
+    ensures { ctx.new.tree.operations ≡ ctx.old.tree.operations }
+{
     if !op.is_live(ctx) || !block.is_live(ctx) || op.holds_block(block, ctx) {
         return Err(no_tree(place));
     }
@@ -161,7 +208,9 @@ fn add_block(
     ctx: &mut Context,
     built: &mut Built,
     text: &BlockText,
-) -> Result<(), Fault> {
+) -> Result<(), Fault>
+    ensures { ctx.new.tree.operations ≡ ctx.old.tree.operations }
+{
     let parent = built
         .operations
         .get(text.parent)
@@ -214,12 +263,28 @@ fn connect(
     built: &Built,
     number: usize,
     text: &OperationText,
-) -> Result<(), Fault> {
+) -> Result<(), Fault>
+    ensures { ctx.new.tree.operations ≡ ctx.old.tree.operations }
+{
     let op = built
         .operations
         .get(number)
         .copied()
         .ok_or(no_tree(text.place))?;
+    connect_operands(syntax, sheet, ctx, built, op, text)?;
+    connect_successors(syntax, ctx, built, op, text)
+}
+
+fn connect_operands(
+    syntax: &Syntax,
+    sheet: &Sheet,
+    ctx: &mut Context,
+    built: &Built,
+    op: Ptr<Operation>,
+    text: &OperationText,
+) -> Result<(), Fault>
+    ensures { ctx.new.tree.operations ≡ ctx.old.tree.operations }
+{
     let (first, count) = text.operands;
     for at in first..first.saturating_add(count) {
         let value = syntax.operands.get(at).copied().unwrap_or(usize::MAX);
@@ -230,6 +295,18 @@ fn connect(
         }
         add_operand(ctx, op, value, text.place)?;
     }
+    Ok(())
+}
+
+fn connect_successors(
+    syntax: &Syntax,
+    ctx: &mut Context,
+    built: &Built,
+    op: Ptr<Operation>,
+    text: &OperationText,
+) -> Result<(), Fault>
+    ensures { ctx.new.tree.operations ≡ ctx.old.tree.operations }
+{
     let (first, count) = text.successors;
     for at in first..first.saturating_add(count) {
         let block = syntax.successors.get(at).copied().unwrap_or(usize::MAX);
@@ -244,7 +321,9 @@ fn add_operand(
     op: Ptr<Operation>,
     value: Value,
     place: usize,
-) -> Result<(), Fault> {
+) -> Result<(), Fault>
+    ensures { ctx.new.tree.operations ≡ ctx.old.tree.operations }
+{
     if !op.is_live(ctx) || !value.is_live(ctx) {
         return Err(no_tree(place));
     }
@@ -256,7 +335,9 @@ fn add_successor(
     op: Ptr<Operation>,
     block: Ptr<BasicBlock>,
     place: usize,
-) -> Result<(), Fault> {
+) -> Result<(), Fault>
+    ensures { ctx.new.tree.operations ≡ ctx.old.tree.operations }
+{
     if !op.is_live(ctx) || !block.is_live(ctx) {
         return Err(no_tree(place));
     }

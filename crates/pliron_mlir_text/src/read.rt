@@ -2,12 +2,13 @@
 ghost use Rattle.std.specs.Prelude.{IfOk};
 ghost use Rattle.pliron_core.specs.Tree.{IsLive};
 ghost use Rattle.pliron_laws.specs.Linked.{IsWellLinked};
+ghost use Rattle.pliron_mlir_text.specs.Additions.{AddsTaken};
 
 use crate::build::build;
 use pliron_core::{Context, Operation, Ptr};
 use pliron_laws::{Dialect, is_admitted, is_well_linked};
-use pliron_mlir_reader::parse_text;
-use pliron_mlir_syntax::{Expected, Fault, Sheet, Syntax};
+use pliron_mlir_reader::{Parsed, parse_text};
+use pliron_mlir_syntax::{Expected, Fault, Sheet};
 use pliron_walks::Contents;
 use std::alloc::Global;
 
@@ -32,23 +33,27 @@ pub fn read_module<D: Dialect>(
 ) -> Result<Module, Fault>
     ensures liveness { IfOk result (λ read. IsLive ctx.new.tree read.root) }
     ensures linked { IfOk result (λ read. IsWellLinked D.meaning ctx.new.tree read.root) }
+    ensures heads { AddsTaken ctx.old.tree ctx.new.tree }
 {
-    let (syntax, sheet) = parse_text(alloc, text)?;
-    build_module::<D>(alloc, syntax, sheet, ctx)
+    let parsed = parse_text(alloc, text)?;
+    build_module::<D>(alloc, parsed, ctx)
 }
 
-// The module that syntax and sheet say.
+// The module of a text that was parsed.
 fn build_module<D: Dialect>(
     alloc: Global,
-    mut syntax: Syntax,
-    mut sheet: Sheet,
+    mut parsed: Parsed,
     ctx: &mut Context,
 ) -> Result<Module, Fault>
     ensures liveness { IfOk result (λ read. IsLive ctx.new.tree read.root) }
     ensures linked { IfOk result (λ read. IsWellLinked D.meaning ctx.new.tree read.root) }
+    ensures heads { AddsTaken ctx.old.tree ctx.new.tree }
 {
-    match build_linked::<D>(alloc, &mut syntax, &mut sheet, ctx) {
-        Ok(root) => Ok(Module { root, sheet }),
+    match build_linked::<D>(alloc, &mut parsed, ctx) {
+        Ok(root) => Ok(Module {
+            root,
+            sheet: parsed.sheet,
+        }),
         Err(fault) => Err(fault),
     }
 }
@@ -56,18 +61,24 @@ fn build_module<D: Dialect>(
 // Its operation, where that is well linked.
 fn build_linked<D: Dialect>(
     alloc: Global,
-    syntax: &mut Syntax,
-    sheet: &mut Sheet,
+    parsed: &mut Parsed,
     ctx: &mut Context,
 ) -> Result<Ptr<Operation>, Fault>
     ensures liveness { IfOk result (λ root. IsLive ctx.new.tree root) }
     ensures linked { IfOk result (λ root. IsWellLinked D.meaning ctx.new.tree root) }
+    ensures heads { AddsTaken ctx.old.tree ctx.new.tree }
 {
-    let root = build(alloc, syntax, sheet, ctx)?;
+    let root = build(
+        alloc,
+        &parsed.syntax,
+        &mut parsed.heads,
+        &mut parsed.sheet,
+        ctx,
+    )?;
     if is_well_linked::<D>(root, ctx) {
         Ok(root)
     } else {
-        Err(fault_of_tree::<D>(root, sheet, ctx))
+        Err(fault_of_tree::<D>(root, &parsed.sheet, ctx))
     }
 }
 
