@@ -17,6 +17,8 @@ mod outcomes;
 #[cfg(test)]
 mod printed;
 #[cfg(test)]
+mod properties;
+#[cfg(test)]
 mod streams;
 #[cfg(test)]
 mod traces;
