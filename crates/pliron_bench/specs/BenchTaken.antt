@@ -1,20 +1,34 @@
--- What it says that the dialect admits an operation, and what an operation can come to.
-use Rattle.std.proofs.Common.{◌≡◌, ℕ, ◌<◌, Bool, true, false, ◌&&◌, nat_eq, nat_lt, List, [], ◌∷◌, Option, Some, length, slice_set, IsTrue, refl, subst, arith, rules}
+-- What it says that there is an operation of a kind with a head and counts.
+use Rattle.std.proofs.Common.{◌≡◌, ℕ, zero, suc, ◌-◌, ◌<◌, Bool, true, false, ◌&&◌, nat_eq, nat_lt, List, [], ◌∷◌, slice_set, IsTrue, refl, arith, rules}
+use Rattle.std.specs.Prelude.{pos, negsuc}
+use Rattle.pliron_core.specs.declared.attrs.Head.{Head}
 use Rattle.pliron_core.specs.declared.attrs.AttrObj.{AttrObj}
 use Rattle.pliron_core.specs.declared.attrs.AttrObj.TheVariants.{Int, Text as Words}
-use Rattle.std.specs.Prelude.{pos, negsuc}
 use Rattle.pliron_bench.specs.declared.kind.BenchKind.{BenchKind}
-use Rattle.pliron_laws.specs.Datum.{Datum, Empty, Head, Shape, Move, Give, Visit, Goto, Leave, Emit, Trap}
-use Rattle.pliron_laws.specs.Acting.{Act, Comes}
-use Rattle.pliron_laws.specs.Acting.Comes.{Begins, Answered, AnsweredByWorld}
-use Rattle.pliron_bench.specs.Bench.{by_kind, result_count, successor_count, region_count, takes_operands, takes_attributes, has_count, is_ssa, same_bool, takes, first_edge_count}
+use Rattle.pliron_bench.specs.declared.kind.BenchKind.TheVariants.{Br, Cbr}
+use Rattle.pliron_roles.specs.declared.form.Counting.TheVariants.{OfFirst}
+use Rattle.pliron_roles.specs.Counted.{counts_by, count_of, fewer_by}
+use Rattle.pliron_bench.specs.Bench.{result_count, successor_count, region_count, takes_operands, takes_attributes, has_count, is_ssa, same_bool, takes, first_edge_count}
 
-pub both_parts : (x y : Bool) → IsTrue (x && y) → IsTrue x × IsTrue y
+both_parts : (x y : Bool) → IsTrue (x && y) → IsTrue x × IsTrue y
 both_parts true y h = (refl, h)
 both_parts false y h = grind arith
 
-pub same : (a b : ℕ) → IsTrue (nat_eq a b) → a ≡ b
+both_true : (x y : Bool) → IsTrue x → IsTrue y → IsTrue (x && y)
+both_true true y h k = k
+both_true false y h k = grind arith
+
+same : (a b : ℕ) → IsTrue (nat_eq a b) → a ≡ b
 same a b h = search (rules, arith)
+
+same_true : (a b : ℕ) → a ≡ b → IsTrue (nat_eq a b)
+same_true a b e = search (rules, arith)
+
+pub below : (a b : ℕ) → IsTrue (nat_lt a b) → a < b
+below a b h = search (rules, arith)
+
+below_true : (a b : ℕ) → a < b → IsTrue (nat_lt a b)
+below_true a b lt = search (rules, arith)
 
 -- the head and the counts are those of the kind
 pub record IsTaken (k : BenchKind) (h : Head) (a b c d : ℕ) : Type 0 where
@@ -34,55 +48,6 @@ taken k h a b c d t =
     let v = both_parts (same_bool h.ssa (is_ssa k)) (takes_attributes k h.attrs a) u.0 in
     record { dominance = v.0; attributes = v.1; operands = u.1; results = same b (result_count k) r.1; successors = same c (successor_count k) q.1; regions = same d (region_count k) p.1 }
 
--- the shape of an operation of the kind
-abbrev pub IsOfKind : BenchKind → Shape → Type 0
-IsOfKind k s = IsTaken k s.head s.operands s.results s.successors (length s.entry_arguments)
-
-abbrev pub Admits : Option BenchKind → Shape → Type 0
-Admits o s = IsTrue (by_kind false (takes s.head s.operands s.results s.successors (length s.entry_arguments)) o)
-
-pub of_kind : (k : BenchKind) (s : Shape) → Admits (Some k) s → IsOfKind k s
-of_kind k s h = taken k s.head s.operands s.results s.successors (length s.entry_arguments) h
-
-pub below : (a b : ℕ) → IsTrue (nat_lt a b) → a < b
-below a b h = search (rules, arith)
-
-pub count_below : (attrs : List AttrObj) (a : ℕ) → IsTrue (has_count attrs a) → first_edge_count attrs < a
-count_below [] a h = grind arith
-count_below (Int (pos n) ∷ []) a h = below n a h
-count_below (Int (pos n) ∷ x ∷ attrs) a h = grind arith
-count_below (Int (negsuc n) ∷ []) a h = grind arith
-count_below (Int (negsuc n) ∷ x ∷ attrs) a h = grind arith
-count_below (Words w ∷ []) a h = grind arith
-count_below (Words w ∷ x ∷ attrs) a h = grind arith
-
--- the transition neither invokes a region nor emits an effect
-abbrev pub IsQuiet : Move → Type 0
-IsQuiet (Give ds) = Unit {0}
-IsQuiet (Visit i ds memo) = ⊥
-IsQuiet (Goto i ds) = Unit {0}
-IsQuiet (Leave ds) = Unit {0}
-IsQuiet (Emit e memo) = ⊥
-IsQuiet Trap = Unit {0}
-
--- an operation that neither invokes a region nor emits an effect comes to no more than its first input
-pub record IsFirst (first : List Datum) (later : Bool) (memo : Datum) (input : List Datum) : Type 0 where
-  pub once : later ≡ false
-  pub no_memo : memo ≡ Empty
-  pub same_input : input ≡ first
-
-pub comes_first : (act : Act) (s : Shape) (first : List Datum) (later : Bool) (memo : Datum) (input : List Datum) → ((memo : Datum) (input : List Datum) → IsQuiet (act s memo input)) → Comes act s first later memo input → IsFirst first later memo input
-comes_first act s first _ _ _ quiet Begins = record { once = refl; no_memo = refl; same_input = refl }
-comes_first act s first _ _ _ quiet (Answered {memo = memo} {input = input} i ds next answer c e) = absurd (subst IsQuiet e (quiet memo input))
-comes_first act s first _ _ _ quiet (AnsweredByWorld {memo = memo} {input = input} effect next answer c e) = absurd (subst IsQuiet e (quiet memo input))
-
-both_true : (x y : Bool) → IsTrue x → IsTrue y → IsTrue (x && y)
-both_true true y h k = k
-both_true false y h k = grind arith
-
-same_true : (a b : ℕ) → a ≡ b → IsTrue (nat_eq a b)
-same_true a b e = search (rules, arith)
-
 pub takes_again : (k : BenchKind) (h : Head) (a b c d : ℕ) → IsTaken k h a b c d → IsTrue (takes h a b c d k)
 takes_again k h a b c d t =
     both_true (same_bool h.ssa (is_ssa k) && takes_attributes k h.attrs a && takes_operands k a && nat_eq b (result_count k) && nat_eq c (successor_count k)) (nat_eq d (region_count k))
@@ -95,13 +60,16 @@ takes_again k h a b c d t =
     (same_true c (successor_count k) t.successors))
     (same_true d (region_count k) t.regions)
 
-below_true : (a b : ℕ) → a < b → IsTrue (nat_lt a b)
-below_true a b lt = search (rules, arith)
+-- ---- the count of the first edge
 
--- the count of the first edge alone is the attribute
-pub count_set : (attrs : List AttrObj) (a n : ℕ) → IsTrue (has_count attrs a) → first_edge_count (slice_set attrs 0 (Int (pos n))) ≡ n
-count_set [] a n h = grind arith
-count_set (x ∷ attrs) a n h = refl
+pub count_below : (attrs : List AttrObj) (a : ℕ) → IsTrue (has_count attrs a) → first_edge_count attrs < a
+count_below [] a h = grind arith
+count_below (Int (pos n) ∷ []) a h = below n a h
+count_below (Int (pos n) ∷ x ∷ attrs) a h = grind arith
+count_below (Int (negsuc n) ∷ []) a h = grind arith
+count_below (Int (negsuc n) ∷ x ∷ attrs) a h = grind arith
+count_below (Words w ∷ []) a h = grind arith
+count_below (Words w ∷ x ∷ attrs) a h = grind arith
 
 pub count_fits : (attrs : List AttrObj) (a b n : ℕ) → IsTrue (has_count attrs a) → n < b → IsTrue (has_count (slice_set attrs 0 (Int (pos n))) b)
 count_fits [] a b n h lt = grind arith
@@ -120,3 +88,15 @@ count_kept (Int (negsuc m) ∷ []) a b h lt = grind arith
 count_kept (Int (negsuc m) ∷ x ∷ attrs) a b h lt = grind arith
 count_kept (Words w ∷ []) a b h lt = grind arith
 count_kept (Words w ∷ x ∷ attrs) a b h lt = grind arith
+
+-- ---- a branch without an operand of an edge is taken
+
+pub br_loses : (h : Head) (a b c d : ℕ) → IsTaken Br h a b c d → IsTrue (takes h (a - 1) b c d Br)
+br_loses h a b c d t = takes_again Br h (a - 1) b c d (record { dominance = t.dominance; attributes = t.attributes; operands = refl; results = t.results; successors = t.successors; regions = t.regions })
+
+pub cbr_loses : (h : Head) (a b c d i : ℕ) → IsTaken Cbr h a b c d → 0 < count_of (counts_by OfFirst c a h.attrs) i → IsTrue (takes (record h { attrs = fewer_by OfFirst h.attrs c i }) (a - 1) b c d Cbr)
+cbr_loses h a b c d zero t some =
+    let lt = count_below h.attrs a t.attributes in
+    takes_again Cbr (record h { attrs = slice_set h.attrs 0 (Int (pos (first_edge_count h.attrs - 1))) }) (a - 1) b c d (record { dominance = t.dominance; attributes = count_fits h.attrs a (a - 1) (first_edge_count h.attrs - 1) t.attributes (omega (arith, lt, some)); operands = refl; results = t.results; successors = t.successors; regions = t.regions })
+cbr_loses h a b c d (suc zero) t some = takes_again Cbr h (a - 1) b c d (record { dominance = t.dominance; attributes = count_kept h.attrs a (a - 1) t.attributes (omega (arith, some)); operands = refl; results = t.results; successors = t.successors; regions = t.regions })
+cbr_loses h a b c d (suc (suc i)) t some = absurd (omega (arith, some))
