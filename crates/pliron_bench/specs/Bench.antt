@@ -34,11 +34,6 @@ number_of Fork = 15
 unfoldable pub kind_of : ℕ → Option BenchKind
 kind_of n = slice_get kinds n
 
--- what a table says of a kind, or `other` of no kind
-abbrev pub by_kind : {A : Type 0} → A → (BenchKind → A) → Option BenchKind → A
-by_kind other table None = other
-by_kind other table (Some k) = table k
-
 -- how many results, successors and regions an operation of the kind has
 abbrev pub result_count : BenchKind → ℕ
 result_count Const = 1

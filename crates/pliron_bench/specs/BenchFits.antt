@@ -13,29 +13,10 @@ use Rattle.pliron_laws.specs.Laws.{CountsFit}
 use Rattle.pliron_roles.specs.Parts.{both_parts}
 use Rattle.pliron_roles.specs.Roles.{Role, Fits, NamesFit, RoleFits, KeepsTables, constant_head_of}
 use Rattle.pliron_bench.specs.Bench.{kind_of, number_of, takes, is_number}
-use Rattle.pliron_bench.specs.BenchNumbers.{fits, datum_at, number_at}
-use Rattle.pliron_bench.specs.BenchMoves.{memo_when_done, once, fit_data, edge_of, argument_count, func_act, scope_act, read_act, print_act, fork_act, operand_of_index, bench_role, bench_allows, bench_tables}
+use Rattle.pliron_bench.specs.BenchNumbers.{fits}
+use Rattle.pliron_bench.specs.BenchMoves.{memo_when_done, once, fit_data, datum_at, edge_taken, argument_count, func_act, scope_act, read_act, print_act, fork_act, operand_of_index, bench_role, bench_allows, bench_tables}
 use Rattle.pliron_bench.specs.BenchFacts.{sum_facts, product_facts, quotient_facts}
-use Rattle.pliron_bench.specs.BenchTaken.{IsTaken, taken, below, br_loses, cbr_loses}
-
-numbered : (k : BenchKind) → kind_of (number_of k) ≡ Some k
-unfolding kind_of
-numbered Mod = refl
-numbered Func = refl
-numbered Const = refl
-numbered Add = refl
-numbered Mul = refl
-numbered Div = refl
-numbered Read = refl
-numbered Print = refl
-numbered Pair = refl
-numbered Sink = refl
-numbered Scope = refl
-numbered Box = refl
-numbered Br = refl
-numbered Cbr = refl
-numbered Ret = refl
-numbered Fork = refl
+use Rattle.pliron_bench.specs.BenchTaken.{numbered, IsTaken, taken, below, br_loses, cbr_loses}
 
 constants_taken : (attr : AttrObj) → IsTrue (is_number attr) → IsTrue (takes (constant_head_of (number_of Const) true attr) 0 1 0 0 Const)
 constants_taken (Int n) h = four (fits n) h
@@ -82,7 +63,7 @@ scope_fits : (s : Shape) (memo : Datum) (input : List Datum) → s.results ≡ 0
 scope_fits s memo input e = once_fits s memo _ (Give []) (λ n at. visit_fits s.entry_arguments input n at) (sym e)
 
 fork_fits : (s : Shape) (memo : Datum) (input : List Datum) → CountsFit false s (fork_act s memo input)
-fork_fits s memo input = λ counts n f g at. target_fits s.target_arguments (edge_of (number_at input 0)) (datum_at input 0) counts n g at
+fork_fits s memo input = λ counts n f g at. target_fits s.target_arguments (edge_taken input) (datum_at input 0) counts n g at
 
 -- ---- the operand that a `scope` names
 

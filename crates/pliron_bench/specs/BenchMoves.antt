@@ -9,9 +9,9 @@ use Rattle.pliron_roles.specs.declared.form.Counting.TheVariants.{OfFirst}
 use Rattle.pliron_roles.specs.declared.form.Otherwise.TheVariants.{Never, Traps}
 use Rattle.pliron_roles.specs.declared.identity.Identity.{Identity}
 use Rattle.pliron_roles.specs.Identities.{no_identity}
-use Rattle.pliron_roles.specs.Roles.{Interpretation, Allows, Role, Constant, Folds, Opaque, Jumps, Chooses, Leaves, Acts, Names, Forks, Holds, Tables, role_at, allows_at, meaning_by, shortened_by}
+use Rattle.pliron_roles.specs.Roles.{Interpretation, Allows, Role, Constant, Folds, Opaque, Jumps, Chooses, Leaves, Acts, Names, Forks, Holds, Tables, first_number, role_at, allows_at, meaning_by, shortened_by}
 use Rattle.pliron_bench.specs.Bench.{kind_of, number_of, takes, is_ssa, is_number}
-use Rattle.pliron_bench.specs.BenchNumbers.{datum_at, number_at, is_zero, known_sum, known_product, known_quotient, of_both}
+use Rattle.pliron_bench.specs.BenchNumbers.{is_zero, known_sum, known_product, known_quotient, of_both}
 
 -- ---- moves of its own
 
@@ -43,9 +43,16 @@ read_word = Text (114 ∷ 101 ∷ 97 ∷ 100 ∷ [])
 abbrev pub print_word : Datum
 print_word = Text (112 ∷ 114 ∷ 105 ∷ 110 ∷ 116 ∷ [])
 
--- the edge that is taken: the second one where the condition is 0
+-- the datum at this place, where a missing one counts as 0
+abbrev pub datum_at : List Datum → ℕ → Datum
+datum_at ds i = slice_index_or ds i (Number (pos 0))
+
+-- the edge that is taken: the second one where the condition is 0, brought into 64 signed bits
 abbrev pub edge_of : ℤ → ℕ
 edge_of c = if is_zero c then 1 else 0
+
+abbrev pub edge_taken : List Datum → ℕ
+edge_taken input = edge_of (int_wrap w64 (first_number input))
 
 -- how many arguments the target of this edge has
 abbrev pub argument_count : Option (List ℕ) → ℕ → ℕ
@@ -65,7 +72,7 @@ abbrev pub print_act : Shape → Datum → List Datum → Move
 print_act s memo input = once memo (Emit (Join print_word (datum_at input 0)) memo_when_done) (Give [])
 
 abbrev pub fork_act : Shape → Datum → List Datum → Move
-fork_act s memo input = Goto (edge_of (number_at input 0)) (replicate (argument_count s.target_arguments (edge_of (number_at input 0))) (datum_at input 0))
+fork_act s memo input = Goto (edge_taken input) (replicate (argument_count s.target_arguments (edge_taken input)) (datum_at input 0))
 
 -- ---- what else the tables say
 

@@ -1,22 +1,7 @@
--- Data as numbers of 64 signed bits, and what is known of sums, products and quotients.
+-- Numbers of 64 signed bits, and what is known of sums, products and quotients.
 use Rattle.std.specs.Prelude.{ℕ, zero, suc, ◌^◌, nat_lt, if◌then◌else◌, Bool, true, false, List, Option, Some, None, option_map, slice_index_or, ℤ, pos, negsuc, ◌+ℤ◌, ◌*ℤ◌, int_div}
 use Rattle.std.specs.Int.{w64, int_wrap}
 use Rattle.pliron_core.specs.declared.attrs.Head.{Head}
-use Rattle.pliron_laws.specs.Datum.{Datum, Empty, Number, Text, Join}
-
--- a datum as a number: a whole number is brought into 64 signed bits, all else counts as 0
-abbrev pub as_number : Datum → ℤ
-as_number (Number n) = int_wrap w64 n
-as_number Empty = pos 0
-as_number (Text s) = pos 0
-as_number (Join a b) = pos 0
-
--- the datum at this place, where a missing one counts as 0
-abbrev pub datum_at : List Datum → ℕ → Datum
-datum_at ds i = slice_index_or ds i (Number (pos 0))
-
-abbrev pub number_at : List Datum → ℕ → ℤ
-number_at ds i = as_number (datum_at ds i)
 
 -- whether the number lies within 64 signed bits
 abbrev pub fits : ℤ → Bool

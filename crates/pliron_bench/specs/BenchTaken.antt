@@ -1,14 +1,16 @@
 -- What it says that there is an operation of a kind with a head and counts.
-use Rattle.std.proofs.Common.{◌≡◌, ℕ, zero, suc, ◌-◌, ◌<◌, Bool, true, false, ◌&&◌, nat_eq, nat_lt, List, [], ◌∷◌, slice_set, IsTrue, refl, arith, rules}
+use Rattle.std.proofs.Common.{◌≡◌, ℕ, zero, suc, ◌-◌, ◌<◌, Bool, true, false, ◌&&◌, nat_eq, nat_lt, List, [], ◌∷◌, Some, option_map, slice_set, IsTrue, refl, ap, sym, ◌∙◌, subst, arith, rules}
 use Rattle.std.specs.Prelude.{pos, negsuc}
 use Rattle.pliron_core.specs.declared.attrs.Head.{Head}
 use Rattle.pliron_core.specs.declared.attrs.AttrObj.{AttrObj}
 use Rattle.pliron_core.specs.declared.attrs.AttrObj.TheVariants.{Int, Text as Words}
 use Rattle.pliron_bench.specs.declared.kind.BenchKind.{BenchKind}
-use Rattle.pliron_bench.specs.declared.kind.BenchKind.TheVariants.{Br, Cbr}
+use Rattle.pliron_bench.specs.declared.kind.BenchKind.TheVariants.{Mod, Func, Const, Add, Mul, Div, Read, Print, Pair, Sink, Scope, Box, Br, Cbr, Ret, Fork}
 use Rattle.pliron_roles.specs.declared.form.Counting.TheVariants.{OfFirst}
 use Rattle.pliron_roles.specs.Counted.{counts_by, count_of, fewer_by}
-use Rattle.pliron_bench.specs.Bench.{result_count, successor_count, region_count, takes_operands, takes_attributes, has_count, is_ssa, same_bool, takes, first_edge_count}
+use Rattle.pliron_roles.specs.Roles.{has_some, takes_by, by_role, by_kind, meaning_by}
+use Rattle.pliron_bench.specs.Bench.{kind_of, number_of, has_number, result_count, successor_count, region_count, takes_operands, takes_attributes, has_count, is_ssa, same_bool, takes, first_edge_count}
+use Rattle.pliron_bench.specs.BenchMoves.{bench_role, bench_allows, bench}
 
 both_parts : (x y : Bool) → IsTrue (x && y) → IsTrue x × IsTrue y
 both_parts true y h = (refl, h)
@@ -100,3 +102,55 @@ cbr_loses h a b c d zero t some =
     takes_again Cbr (record h { attrs = slice_set h.attrs 0 (Int (pos (first_edge_count h.attrs - 1))) }) (a - 1) b c d (record { dominance = t.dominance; attributes = count_fits h.attrs a (a - 1) (first_edge_count h.attrs - 1) t.attributes (omega (arith, lt, some)); operands = refl; results = t.results; successors = t.successors; regions = t.regions })
 cbr_loses h a b c d (suc zero) t some = takes_again Cbr h (a - 1) b c d (record { dominance = t.dominance; attributes = count_kept h.attrs a (a - 1) t.attributes (omega (arith, some)); operands = refl; results = t.results; successors = t.successors; regions = t.regions })
 cbr_loses h a b c d (suc (suc i)) t some = absurd (omega (arith, some))
+
+-- ---- what the table of its kind takes is admitted
+
+pub numbered : (k : BenchKind) → kind_of (number_of k) ≡ Some k
+unfolding kind_of
+numbered Mod = refl
+numbered Func = refl
+numbered Const = refl
+numbered Add = refl
+numbered Mul = refl
+numbered Div = refl
+numbered Read = refl
+numbered Print = refl
+numbered Pair = refl
+numbered Sink = refl
+numbered Scope = refl
+numbered Box = refl
+numbered Br = refl
+numbered Cbr = refl
+numbered Ret = refl
+numbered Fork = refl
+
+some_attribute : (attrs : List AttrObj) → IsTrue (has_number attrs) → IsTrue (has_some attrs)
+some_attribute [] h = grind arith
+some_attribute (x ∷ attrs) h = refl
+
+folds_taken : (h : Head) (a b c d : ℕ) → a ≡ 2 → b ≡ 1 → c ≡ 0 → d ≡ 0 → IsTrue (nat_eq a 2 && (nat_eq b 1 && (nat_eq c 0 && nat_eq d 0)))
+folds_taken h a b c d e f g i = both_true _ _ (same_true a 2 e) (both_true _ _ (same_true b 1 f) (both_true _ _ (same_true c 0 g) (same_true d 0 i)))
+
+role_takes : (k : BenchKind) (h : Head) (a b c d : ℕ) → IsTaken k h a b c d → IsTrue (takes_by h a b c d (bench_role k))
+role_takes Mod h a b c d t = both_true _ _ (same_true b 0 t.results) (same_true c 0 t.successors)
+role_takes Func h a b c d t = same_true c 0 t.successors
+role_takes Const h a b c d t = both_true _ _ (some_attribute h.attrs t.attributes) (both_true _ _ (same_true a 0 (same a 0 t.operands)) (both_true _ _ (same_true b 1 t.results) (both_true _ _ (same_true c 0 t.successors) (same_true d 0 t.regions))))
+role_takes Add h a b c d t = folds_taken h a b c d (same a 2 t.operands) t.results t.successors t.regions
+role_takes Mul h a b c d t = folds_taken h a b c d (same a 2 t.operands) t.results t.successors t.regions
+role_takes Div h a b c d t = folds_taken h a b c d (same a 2 t.operands) t.results t.successors t.regions
+role_takes Read h a b c d t = same_true c 0 t.successors
+role_takes Print h a b c d t = same_true c 0 t.successors
+role_takes Pair h a b c d t = both_true _ _ (same_true c 0 t.successors) (same_true d 0 t.regions)
+role_takes Sink h a b c d t = both_true _ _ (same_true c 0 t.successors) (same_true d 0 t.regions)
+role_takes Scope h a b c d t = same_true c 0 t.successors
+role_takes Box h a b c d t = both_true _ _ (same_true b 0 t.results) (same_true c 0 t.successors)
+role_takes Br h a b c d t = both_true _ _ (same_true b 0 t.results) (both_true _ _ (same_true c 1 t.successors) (same_true d 0 t.regions))
+role_takes Cbr h a b c d t =
+    both_true _ _ (both_true _ _ (same_true c 2 t.successors) (below_true (first_edge_count h.attrs) a (count_below h.attrs a t.attributes)))
+    (both_true _ _ (same_true b 0 t.results) (both_true _ _ (below_true 1 c (omega (arith, t.successors))) (same_true d 0 t.regions)))
+role_takes Ret h a b c d t = both_true _ _ (same_true b 0 t.results) (both_true _ _ (same_true c 0 t.successors) (same_true d 0 t.regions))
+role_takes Fork h a b c d t = below_true 0 c (omega (arith, t.successors))
+
+pub admitted : (k : BenchKind) (h : Head) (a b c d : ℕ) → h.kind ≡ number_of k → IsTrue (takes h a b c d k) → IsTrue (bench.admits h a b c d)
+unfolding meaning_by
+admitted k h a b c d e t = subst (λ o. IsTrue (by_role false (takes_by h a b c d) (option_map bench_role o) && by_kind bench_allows o h a b c d)) (sym (ap kind_of e ∙ numbered k)) (both_true _ _ (role_takes k h a b c d (taken k h a b c d t)) t)
