@@ -1,5 +1,5 @@
 -- What is computed of known numbers are facts: knowing more keeps it, and what the identities say of it is so.
-use Rattle.std.proofs.Common.{◌≡◌, ℕ, zero, suc, Bool, true, false, if◌then◌else◌, List, [], ◌∷◌, Option, Some, None, refl, ap, ap₂, ◌∙◌, arith}
+use Rattle.std.proofs.Common.{◌≡◌, ℕ, zero, suc, Bool, true, false, if◌then◌else◌, List, [], ◌∷◌, Option, Some, None, option_map, refl, ap, ap₂, ◌∙◌, arith}
 use Rattle.std.proofs.lemmas.Int.{ints}
 use Rattle.std.proofs.Math.Nat.{div_self, zero-div}
 use Rattle.std.specs.Prelude.{ℤ, pos, negsuc, int_div, ◌*ℤ◌}
@@ -7,7 +7,7 @@ use Rattle.std.specs.Int.{w64, int_wrap}
 use Rattle.pliron_core.specs.declared.attrs.Head.{Head}
 use Rattle.pliron_roles.specs.Identities.{IfAnyIs, IdentityHolds}
 use Rattle.pliron_roles.specs.Roles.{Stays, AllStay, Grows, ComputesFacts, AllSuffice, complete}
-use Rattle.pliron_bench.specs.BenchNumbers.{fits, is_zero, product, quotient, known_sum, zero_only, known_product, known_quotient, wrapped, known_at, of_both}
+use Rattle.pliron_bench.specs.BenchNumbers.{fits, is_zero, product, quotient, known_sum, zero_only, known_product, known_quotient, known_at, of_both}
 use Rattle.pliron_bench.specs.BenchMoves.{product_identity, quotient_identity, nothing_else}
 
 -- ---- knowing more
@@ -15,14 +15,14 @@ use Rattle.pliron_bench.specs.BenchMoves.{product_identity, quotient_identity, n
 abbrev KeepsMore : (Option ℤ → Option ℤ → Option ℤ) → Type 0
 KeepsMore table = (a b c d : Option ℤ) → Stays a c → Stays b d → Stays (table a b) (table c d)
 
-wrapped_stays : (o p : Option ℤ) → Stays o p → Stays (wrapped o) (wrapped p)
-wrapped_stays None p s = tt
-wrapped_stays (Some n) p s = ap wrapped s
+wrap_stays : (o p : Option ℤ) → Stays o p → Stays (option_map (int_wrap w64) o) (option_map (int_wrap w64) p)
+wrap_stays None p s = tt
+wrap_stays (Some n) p s = ap (option_map (int_wrap w64)) s
 
 at_stays : (os ps : List (Option ℤ)) (i : ℕ) → AllStay os ps → Stays (known_at os i) (known_at ps i)
 at_stays [] ps i s = tt
 at_stays (o ∷ os) [] i s = absurd s
-at_stays (o ∷ os) (p ∷ ps) zero s = wrapped_stays o p s.0
+at_stays (o ∷ os) (p ∷ ps) zero s = wrap_stays o p s.0
 at_stays (o ∷ os) (p ∷ ps) (suc i) s = at_stays os ps i s.1
 
 both_grow : (table : Option ℤ → Option ℤ → Option ℤ) → KeepsMore table → Grows (of_both table)

@@ -44,11 +44,8 @@ known_quotient (Some a) (Some b) = quotient a b
 known_quotient _ _ = None
 
 -- the number that is known at this place, brought into 64 signed bits
-abbrev pub wrapped : Option ℤ → Option ℤ
-wrapped n = option_map (int_wrap w64) n
-
 abbrev pub known_at : List (Option ℤ) → ℕ → Option ℤ
-known_at known i = wrapped (slice_index_or known i None)
+known_at known i = option_map (int_wrap w64) (slice_index_or known i None)
 
 -- what a table says of what is known of the first two numbers
 abbrev pub of_both : (Option ℤ → Option ℤ → Option ℤ) → Head → List (Option ℤ) → Option ℤ

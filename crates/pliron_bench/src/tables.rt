@@ -96,11 +96,11 @@ impl Roles for BenchKind {
     }
 
     fn constant() -> Self {
-        BenchKind::Const
+        Self::Const
     }
 
     fn jump() -> Self {
-        BenchKind::Br
+        Self::Br
     }
 
     /// | Kinds | Form |
