@@ -1,7 +1,7 @@
 -- The moves of `Bench`, as the evaluator makes them.
 use Rattle.std.proofs.Common.{◌≡◌, ℕ, zero, suc, ◌+◌, ◌<◌, ◌≤◌, false, List, [], ◌∷◌, map, take, drop, length, get_or, option_map, Some, None, Result, Ok, Err, refl, sym, ap, ◌∙◌, arith}
 use Rattle.std.specs.Int.{w64, int_wrap}
-use Rattle.std.specs.Prelude.{slice_index_or, pos, replicate}
+use Rattle.std.specs.Prelude.{ℤ, slice_index_or, pos, replicate}
 use Rattle.std.specs.Result.{IfOk}
 use Rattle.std.proofs.lemmas.List.{drop-map, take-map, get_or-drop}
 use Rattle.pliron_core.specs.Tree.{Tree, head_of, operands_of, results_of, regions_of, successors_of}
@@ -42,6 +42,9 @@ pub known_there : (xs : List DatumValue) (i : ℕ) (x : DatumValue) → i < leng
 known_there [] i x lt e = absurd (omega (arith, lt))
 known_there (y ∷ xs) zero x lt e = ap (λ z. Some (int_wrap w64 (number_of (datum_of_value z)))) (sym e)
 known_there (y ∷ xs) (suc i) x lt e = known_there xs i x (omega (arith, lt)) e
+
+pub number_there : (xs : List DatumValue) (i : ℕ) (x : DatumValue) (n : ℤ) → i < length xs → x ≡ get_or xs i x → n ≡ int_wrap w64 (number_of (datum_of_value x)) → Some n ≡ known_at (map Some (numbers_of (map datum_of_value xs))) i
+number_there xs i x n lt e f = ap Some f ∙ sym (known_there xs i x lt e)
 
 pub none_there : (xs : List DatumValue) (i : ℕ) → length xs ≤ i → None ≡ known_at (map Some (numbers_of (map datum_of_value xs))) i
 none_there [] i le = refl

@@ -1,5 +1,6 @@
 //! The moves of `Bench`.
 ghost use Rattle.std.specs.Prelude.{◌≡◌, ◌-◌, ◌<◌, [], ◌∷◌, pos, Some, map, take, drop, replicate, slice_index_or, IfOk};
+ghost use Rattle.std.specs.Int.{w64, int_wrap};
 ghost use Rattle.pliron_core.specs.Tree.{IsLive, successors_of};
 ghost use Rattle.pliron_laws.specs.Tree.{Operation as OperationRecord, op_at, shape_of, block_at, count_arguments};
 ghost use Rattle.pliron_laws.specs.Datum.{Number as NumberOf, Text as TextOf, Give, Visit, Goto, Leave, Emit, Join as JoinOf, datum_of as content_of};
@@ -42,12 +43,19 @@ fn number_of(datum: &Datum) -> i128
     }
 }
 
+// What is left of the datum as a number in 64 signed bits.
+fn narrow_number(datum: &Datum) -> i64
+    ensures { result ≡ int_wrap w64 (number_in (datum_of_value datum.now)) }
+{
+    wrap(number_of(datum))
+}
+
 // The number of the datum at this index, where there is one, brought into 64 signed bits.
 fn known_at(input: &[Datum], i: usize) -> Option<i64>
     ensures { result ≡ known_of (map Some (numbers_of (map datum_of_value input.now))) i }
 {
     if i < input.len() {
-        Some(wrap(number_of(&input[i])))
+        Some(narrow_number(&input[i]))
     } else {
         None
     }
