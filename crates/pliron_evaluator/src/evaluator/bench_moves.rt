@@ -227,7 +227,10 @@ fn div_move(alloc: Global, input: &[Datum]) -> Result<Move, AllocError>
         (known_of (map Some (numbers_of (map datum_of_value input.now))) 0)
         (known_of (map Some (numbers_of (map datum_of_value input.now))) 1))) }
 {
-    give_or_trap(alloc, known_quotient(known_at(input, 0), known_at(input, 1)))
+    give_or_trap(
+        alloc,
+        known_quotient(known_at(input, 0), known_at(input, 1)),
+    )
 }
 
 // What a `pair` gives, as far as there are results.
@@ -263,12 +266,7 @@ fn behind(values: &[Datum], count: usize) -> &[Datum]
 }
 
 // Of the values behind the condition of a `cbr` with so many operands, those that go along this edge.
-fn values_along<'a>(
-    attrs: &Attrs,
-    operands: usize,
-    edge: usize,
-    input: &'a [Datum],
-) -> &'a [Datum]
+fn values_along<'a>(attrs: &Attrs, operands: usize, edge: usize, input: &'a [Datum]) -> &'a [Datum]
     requires { edge < 2 }
     ensures { result.now ≡ values_of_edge (two_counts (first_count_of attrs.now) (operands - 1)) edge input.now }
 {
