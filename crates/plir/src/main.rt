@@ -292,21 +292,28 @@ fn act(rt: &HostRuntime, command: &str, matches: &ArgMatches) -> io::Result<u8> 
     write_outcome(rt, &outcome, output_file(matches))
 }
 
-// Does what the words ask for, and answers its status.
-fn act_on(rt: &HostRuntime, matches: &ArgMatches) -> u8 {
-    let Some((command, inner)) = matches.subcommand() else {
-        return 2;
-    };
-    match act(rt, command, inner) {
+// The status of what was done. Where it failed, a line says why, unless it is that nobody reads the answer any more.
+fn status_of(rt: &HostRuntime, done: io::Result<u8>) -> u8 {
+    match done {
         Ok(status) => status,
         Err(error) => {
-            let _ = eprintln!(rt; "error: {error}");
+            if error.kind() != ErrorKind::BrokenPipe {
+                let _ = eprintln!(rt; "error: {error}");
+            }
             if error.kind() == ErrorKind::OutOfMemory {
                 1
             } else {
                 2
             }
         }
+    }
+}
+
+// Does what the words ask for, and answers its status.
+fn act_on(rt: &HostRuntime, matches: &ArgMatches) -> u8 {
+    match matches.subcommand() {
+        Some((command, inner)) => status_of(rt, act(rt, command, inner)),
+        None => 2,
     }
 }
 
@@ -352,6 +359,6 @@ fn main(rt: HostRuntime) -> io::Result<ExitCode> {
     };
     match parse_arguments(rt.alloc(), words.as_slice()) {
         Ok(matches) => Ok(ExitCode::from(act_on(&rt, &matches))),
-        Err(error) => Ok(ExitCode::from(write_usage(&rt, &error)?)),
+        Err(error) => Ok(ExitCode::from(status_of(&rt, write_usage(&rt, &error)))),
     }
 }

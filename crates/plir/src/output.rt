@@ -2,13 +2,10 @@
 use std::fs::{self, File, Permissions};
 use std::io::{self, ErrorKind, Write};
 
-/// Writes the answer to standard output. A pipe that nobody reads any more ends the answer quietly. Errors: those of
-/// the stream. Cost: linear in it.
+/// Writes the answer to standard output. Errors: those of the stream, also where nobody reads it any more. Cost: linear in
+/// it.
 pub fn write_answer(rt: &HostRuntime, answer: &[u8]) -> io::Result<()> {
-    match rt.stdout().write_all(answer) {
-        Err(error) if error.kind() == ErrorKind::BrokenPipe => Ok(()),
-        written => written,
-    }
+    rt.stdout().write_all(answer)
 }
 
 /// Writes lines to standard output at once. Errors: those of the stream, also where nobody reads it any more. Cost:

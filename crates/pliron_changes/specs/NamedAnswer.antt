@@ -1,7 +1,7 @@
 -- What is written of an answer with other names.
 use Rattle.std.specs.Prelude.{◌≡◌, ℕ, List}
 use Rattle.pliron_core.specs.Tree.{Tree}
-use Rattle.pliron_diagnostics.specs.Layout.{without_blanks}
+use Rattle.pliron_diagnostics.specs.Layout.{words_of}
 use Rattle.pliron_opts.specs.Answered.{Reads, Prints}
 
 module _ (reads : Reads) (prints : Prints) where
@@ -12,7 +12,7 @@ module _ (reads : Reads) (prints : Prints) where
     pub read : reads text tree root
     pub printed : prints tree root answer
 
-  -- what is written is, but for blanks, the answer, or a text that is read as it
+  -- what is written has the words of the answer, or of a text that is read as it, in the same order
   pub data IsWritten (answer output : List ℕ) : Type 0 where
-    AsItIs : without_blanks output ≡ without_blanks answer → IsWritten answer output
-    ByNames : (text : List ℕ) → ReadsAs answer text → without_blanks output ≡ without_blanks text → IsWritten answer output
+    AsItIs : words_of output ≡ words_of answer → IsWritten answer output
+    ByNames : (text : List ℕ) → ReadsAs answer text → words_of output ≡ words_of text → IsWritten answer output

@@ -1,7 +1,7 @@
 //! An answer whose values and blocks keep their names.
 ghost use Rattle.std.specs.Prelude.{◌≡◌, IfOk, IsTrue, string_bytes};
 ghost use Rattle.pliron_core.specs.Writes.{no_tree};
-ghost use Rattle.pliron_diagnostics.specs.Layout.{without_blanks};
+ghost use Rattle.pliron_diagnostics.specs.Layout.{words_of};
 ghost use Rattle.pliron_changes.specs.NamedAnswer.{IsWritten, ReadsAs};
 
 use pliron_core::Context;
@@ -41,7 +41,7 @@ fn reads_as<N: Notation>(alloc: Global, text: &str, answer: &str) -> Result<bool
 
 // The text, over several lines or as it is.
 fn lay_out(alloc: Global, text: &str, is_pretty: bool) -> Result<Vec<u8>, AllocError>
-    ensures { IfOk result (λ output. without_blanks output.items ≡ without_blanks text.now) }
+    ensures { IfOk result (λ output. words_of output.items ≡ words_of text.now) }
 {
     if is_pretty {
         pretty(alloc, text.as_bytes())

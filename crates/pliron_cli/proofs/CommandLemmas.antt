@@ -1,5 +1,6 @@
 -- How commands end.
 use Rattle.std.specs.Prelude.{⊤}
+use Rattle.std.specs.List.{ends_with as ends_with_all}
 use Rattle.std.proofs.Common.{◌≡◌, ◌⊎◌, inl, inr, ℕ, Bool, true, false, if◌then◌else◌, List, [], ◌∷◌, ◌++◌, Option, Some, IfSome, Result, Ok, Err, IfOk, sym, ap, subst, ◌∙◌}
 use Rattle.pliron_core.specs.Tree.{Tree}
 use Rattle.pliron_core.specs.declared.attrs.IRStatus.{IRStatus}
@@ -7,8 +8,9 @@ use Rattle.pliron_laws.specs.Datum.{Datum, Meaning}
 use Rattle.pliron_laws.specs.Machine.{run, sight_after}
 use Rattle.pliron_pass.specs.Headline.{DoAsBefore}
 use Rattle.pliron_evaluator.specs.Evaluator.{sight_of}
+use Rattle.pliron_evaluator.specs.declared.evaluator.values.Datum.{Datum as DatumValue}
 use Rattle.pliron_evaluator.specs.declared.evaluator.values.Sight.{Sight}
-use Rattle.pliron_diagnostics.proofs.LayoutLemmas.{break_added}
+use Rattle.pliron_diagnostics.proofs.LayoutLemmas.{line_ended}
 use Rattle.pliron_opts.specs.Answered.{Reads, Prints, IsOptimised, status_line}
 use Rattle.pliron_opts.specs.PipelineTexts.{Plans}
 use Rattle.pliron_instrument.specs.Schedules.{ScheduleOf, IsPlanned}
@@ -20,8 +22,8 @@ use Rattle.pliron_cli.specs.Asked.{EndsByPlan, EndsByPlan.ByPasses, EndsByPlan.W
 use Rattle.pliron_fit.specs.declared.violation.Violation.{Violation}
 use Rattle.pliron_cli.specs.declared.checking.Checked.{Checked}
 use Rattle.pliron_cli.specs.declared.checking.Checked.TheVariants.{Fit, FitByParts, Unfit}
-use Rattle.pliron_cli.specs.Checked.{IsChecked, IsWholeText, IsFitText, IsUnfitText, IsReportedFit, IsReportedFit.SaysWhole, IsReportedFit.SaysParts, fit_line, parts_line}
-use Rattle.pliron_cli.specs.Compared.{AreSeen, are_same, is_cut_off, EndsWith, EndsCompared}
+use Rattle.pliron_cli.specs.Checked.{IsChecked, IsWholeText, IsTextOfParts, IsUnfitText, IsReportedFit, IsReportedFit.SaysWhole, IsReportedFit.SaysParts, fit_line, parts_line}
+use Rattle.pliron_cli.specs.Compared.{AreSeen, are_same, are_same_so_far, effects_of, is_start, is_cut_off, EndsWith, EndsCompared, so_far_line, different_line, other_line}
 use Rattle.pliron_cli.specs.Likeness.{IsLikeness, IsReported, IsReportedOther, last_line, status_for}
 use Rattle.pliron_cli.specs.Optimised.{IsLaidOut, IsMade, EndsOptimised}
 use Rattle.pliron_cli.specs.Outcomes.{Ends, Ends.Says, Ends.Denies, Ends.Fails, EndsBadly}
@@ -34,13 +36,12 @@ ends_by o (inr e) = Denies tt e
 pub whole_when : (reads : Reads) (m : Meaning) (text : List ℕ) (found : Checked) → found ≡ Fit → IsChecked reads m text found → IsWholeText reads m text
 whole_when reads m text found is said = subst (IsChecked reads m text) is said
 
-pub parts_when : (reads : Reads) (m : Meaning) (text : List ℕ) (found : Checked) → found ≡ FitByParts → IsChecked reads m text found → IsFitText reads m text
+pub parts_when : (reads : Reads) (m : Meaning) (text : List ℕ) (found : Checked) → found ≡ FitByParts → IsChecked reads m text found → IsTextOfParts reads m text
 parts_when reads m text found is said = subst (IsChecked reads m text) is said
 
 pub unfit_when : (reads : Reads) (m : Meaning) (text : List ℕ) (found : Checked) (part : ℕ) (violation : Violation) → found ≡ Unfit part violation → IsChecked reads m text found → IsUnfitText reads m text
 unfit_when reads m text found part violation is said =
-    let so : IsChecked reads m text (Unfit part violation) = subst (IsChecked reads m text) is said in
-    record { tree = so.0; root = so.1; part = part; violation = violation; read = so.2; unfit = so.3; wrong = so.4 }
+    (part, violation, subst (IsChecked reads m text) is said)
 
 -- how a check ends
 module _ (reads : Reads) (m : Meaning) (text : List ℕ) where
@@ -51,7 +52,7 @@ module _ (reads : Reads) (m : Meaning) (text : List ℕ) where
   says_whole (Ok o) whole line e = Says (SaysWhole whole line) e
   says_whole (Err x) whole line e = tt
 
-  pub says_parts : {E : Type 0} (r : Result Outcome E) → IsFitText reads m text → IfOk r (λ o. o.output.items ≡ parts_line) → IfOk r (λ o. o.status ≡ 0) → IfOk r EndsChecked
+  pub says_parts : {E : Type 0} (r : Result Outcome E) → IsTextOfParts reads m text → IfOk r (λ o. o.output.items ≡ parts_line) → IfOk r (λ o. o.status ≡ 0) → IfOk r EndsChecked
   says_parts (Ok o) parts line e = Says (SaysParts parts line) e
   says_parts (Err x) parts line e = tt
 
@@ -82,25 +83,47 @@ module _ (eq : Sight → Sight → Bool) (sights : Sights) where
       ∙ ap (λ b. if b then false else eq sights.before sights.after) (sym other ∙ so)
       ∙ ap (λ b. if b then false else if is_cut_off sights.after then false else eq sights.before sights.after) (sym whole ∙ is)
 
-  -- the likeness of two runs, and the line that is written of it
-  pub reported_likeness : (likeness : Likeness) (o : Outcome) → IsLikeness eq sights likeness → EndsWith (last_line likeness) o.output.items → o.status ≡ status_for likeness → Ends (IsReported eq sights o.output.items) (IsReportedOther eq sights o.output.items) o
-  reported_likeness Same o is line e = Says (is, line) e
-  reported_likeness SoFar o is line e = Denies (is, inl line) e
-  reported_likeness Different o is line e = Denies (is, inr line) e
+-- whether nothing differs until a run was cut off
+module _ (eq : DatumValue → DatumValue → Bool) where
+  pub start_whole : (one other : Sight) (r : Bool) → r ≡ is_cut_off one → r ≡ false → false ≡ is_start eq one other
+  start_whole one other r is whole = ap (λ b. if b then ends_with_all eq (effects_of other) (effects_of one) else false) (sym whole ∙ is)
 
-module _ (reads : Reads) (m : Meaning) (inputs world : List Datum) (steps : ℕ) (eq : Sight → Sight → Bool) (ran : ℕ → Tree → Tree → IRStatus → Type 0) (text : List ℕ) where
-  compared_so : (sights : Sights) (o : Outcome) → AreSeen reads m inputs world steps ran text sights → Ends (IsReported eq sights o.output.items) (IsReportedOther eq sights o.output.items) o → EndsCompared reads m inputs world steps eq ran text o
+  pub start_cut : (one other : Sight) (r e : Bool) (xs ys : List DatumValue) → r ≡ is_cut_off one → r ≡ true → e ≡ ends_with_all eq xs ys → xs ≡ effects_of other → ys ≡ effects_of one → e ≡ is_start eq one other
+  start_cut one other r e xs ys is cut ends of_other of_one =
+      ends
+      ∙ ap (λ zs. ends_with_all eq zs ys) of_other
+      ∙ ap (λ zs. ends_with_all eq (effects_of other) zs) of_one
+      ∙ ap (λ b. if b then ends_with_all eq (effects_of other) (effects_of one) else false) (sym cut ∙ is)
+
+  pub so_far_first : (sights : Sights) (r : Bool) → r ≡ is_start eq sights.before sights.after → r ≡ true → true ≡ are_same_so_far eq sights
+  so_far_first sights r is so = ap (λ b. if b then true else is_start eq sights.after sights.before) (sym so ∙ is)
+
+  pub so_far_second : (sights : Sights) (r s : Bool) → r ≡ is_start eq sights.before sights.after → r ≡ false → s ≡ is_start eq sights.after sights.before → s ≡ are_same_so_far eq sights
+  so_far_second sights r s is not_so second = second ∙ ap (λ b. if b then true else is_start eq sights.after sights.before) (sym not_so ∙ is)
+
+-- the likeness of two runs, and the line that is written of it
+module _ (eq : Sight → Sight → Bool) (same_datum : DatumValue → DatumValue → Bool) (sights : Sights) where
+  line_of : (b : Bool) → are_same_so_far same_datum sights ≡ b → (text : List ℕ) → EndsWith (if b then so_far_line else different_line) text → EndsWith (other_line same_datum sights) text
+  line_of b is text ends = subst (λ c. EndsWith (if c then so_far_line else different_line) text) (sym is) ends
+
+  pub reported_likeness : (likeness : Likeness) (o : Outcome) → IsLikeness eq same_datum sights likeness → EndsWith (last_line likeness) o.output.items → o.status ≡ status_for likeness → Ends (IsReported eq same_datum sights o.output.items) (IsReportedOther eq same_datum sights o.output.items) o
+  reported_likeness Same o is line e = Says (is, line) e
+  reported_likeness SoFar o is line e = Denies (is.0, line_of true is.1 o.output.items line) e
+  reported_likeness Different o is line e = Denies (is.0, line_of false is.1 o.output.items line) e
+
+module _ (reads : Reads) (m : Meaning) (inputs world : List Datum) (steps : ℕ) (eq : Sight → Sight → Bool) (same_datum : DatumValue → DatumValue → Bool) (ran : ℕ → Tree → Tree → IRStatus → Type 0) (text : List ℕ) where
+  compared_so : (sights : Sights) (o : Outcome) → AreSeen reads m inputs world steps ran text sights → Ends (IsReported eq same_datum sights o.output.items) (IsReportedOther eq same_datum sights o.output.items) o → EndsCompared reads m inputs world steps eq same_datum ran text o
   compared_so sights o are (Says (same, line) e) = Says (record { sights = sights; seen_so = are; same_sights = same; written = line }) e
   compared_so sights o are (Denies (other, line) e) = Denies (record { sights = sights; seen_so = are; other_sights = other; written = line }) e
   compared_so sights o are (Fails bad) = Fails bad
 
-  pub are_compared : {E : Type 0} (sights : Sights) (r : Result Outcome E) → AreSeen reads m inputs world steps ran text sights → IfOk r (λ o. Ends (IsReported eq sights o.output.items) (IsReportedOther eq sights o.output.items) o) → IfOk r (EndsCompared reads m inputs world steps eq ran text)
+  pub are_compared : {E : Type 0} (sights : Sights) (r : Result Outcome E) → AreSeen reads m inputs world steps ran text sights → IfOk r (λ o. Ends (IsReported eq same_datum sights o.output.items) (IsReportedOther eq same_datum sights o.output.items) o) → IfOk r (EndsCompared reads m inputs world steps eq same_datum ran text)
   are_compared sights (Ok o) are ends = compared_so sights o are ends
   are_compared sights (Err e) are ends = tt
 
 -- a line more
 pub ended : (laid text : List ℕ) → IsLaidOut text laid → IsLaidOut text (laid ++ 10 ∷ [])
-ended laid text e = break_added laid ∙ e
+ended laid text e = line_ended laid ∙ e
 
 -- what holds of what was made, if something was
 pub made_when : {A X : Type 0} (P : A → Type 0) (r : Result (Option A) X) (found : Option A) (made : A) → r ≡ Ok found → found ≡ Some made → IfOk r (λ z. IfSome z P) → P made

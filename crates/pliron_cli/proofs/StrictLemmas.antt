@@ -2,8 +2,8 @@
 use Rattle.std.proofs.Common.{◌≡◌, ◌⊎◌, inl, inr, ℕ, Bool, List, IsTrue, Result, Ok, Err, IfOk}
 use Rattle.pliron_laws.specs.Datum.{Meaning}
 use Rattle.pliron_opts.specs.Answered.{Reads}
-use Rattle.pliron_cli.specs.Parts.{IsFitByParts.AsAWhole}
-use Rattle.pliron_cli.specs.Checked.{IsWholeText, IsFitText}
+use Rattle.pliron_cli.specs.Parts.{IsFitByParts.AsAWhole, IsFitByParts.InParts}
+use Rattle.pliron_cli.specs.Checked.{IsWholeText, IsTextOfParts, IsFitText}
 use Rattle.pliron_cli.specs.declared.outcome.Outcome.{Outcome}
 
 -- where no pass ran
@@ -29,3 +29,7 @@ module _ {X : Type 0} where
 -- what is fit as a whole is fit by its parts
 pub whole_fit : (reads : Reads) (m : Meaning) (text : List ℕ) → IsWholeText reads m text → IsFitText reads m text
 whole_fit reads m text whole = record { tree = whole.tree; root = whole.root; read = whole.read; fit = AsAWhole whole.fit }
+
+-- and so is a container whose parts are
+pub parts_fit : (reads : Reads) (m : Meaning) (text : List ℕ) → IsTextOfParts reads m text → IsFitText reads m text
+parts_fit reads m text of = record { tree = of.tree; root = of.root; read = of.read; fit = InParts of.container of.parts }

@@ -9,7 +9,7 @@ use Rattle.pliron_fit.specs.declared.violation.Violation.{Violation}
 use Rattle.pliron_cli.specs.declared.checking.Checked.{Checked}
 use Rattle.pliron_cli.specs.declared.checking.Checked.TheVariants.{Unreadable, Fit, FitByParts, Unfit}
 use Rattle.pliron_cli.specs.declared.outcome.Outcome.{Outcome}
-use Rattle.pliron_cli.specs.Parts.{IsFitByParts}
+use Rattle.pliron_cli.specs.Parts.{IsContainer, AreFitParts, IsFitByParts, IsAtFault}
 
 -- what is written of a text whose operation is fit to run, and of one whose operation is only so by its parts
 abbrev pub fit_line : List ℕ
@@ -26,34 +26,44 @@ module _ (reads : Reads) (m : Meaning) (text : List ℕ) where
     pub read : reads text tree root
     pub fit : IsFit m tree root
 
-  -- one was read from it, and is fit by its parts
+  -- one was read from it at which no run begins, and each part inside it is fit to run
+  pub record IsTextOfParts : Type 0 where
+    pub tree : Tree
+    pub root : ℕ
+    pub read : reads text tree root
+    pub container : IsContainer tree root
+    pub parts : AreFitParts m tree root
+
+  -- one was read from it, and is fit as a whole or by its parts
   pub record IsFitText : Type 0 where
     pub tree : Tree
     pub root : ℕ
     pub read : reads text tree root
     pub fit : IsFitByParts m tree root
 
-  -- one was read from it that isn't, since something keeps it, or a part of it, from being fit to run
-  pub record IsUnfitText : Type 0 where
+  -- one was read from it that isn't, since this violation keeps it, or the first such part of it, from being fit to run
+  pub record IsUnfitBy (part : ℕ) (violation : Violation) : Type 0 where
     pub tree : Tree
     pub root : ℕ
-    pub part : ℕ
-    pub violation : Violation
     pub read : reads text tree root
     pub unfit : IsFitByParts m tree root → ⊥
+    pub reported : IsAtFault m tree root part
     pub wrong : IsViolation m tree part violation
+
+  abbrev pub IsUnfitText : Type 0
+  IsUnfitText = (part : ℕ) × (violation : Violation) × IsUnfitBy part violation
 
   -- of a text that is called unreadable nothing is said
   abbrev pub IsChecked : Checked → Type 0
   IsChecked Unreadable = Unit {0}
   IsChecked Fit = IsWholeText
-  IsChecked FitByParts = IsFitText
-  IsChecked (Unfit part violation) = (tree : Tree) × (root : ℕ) × reads text tree root × (IsFitByParts m tree root → ⊥) × IsViolation m tree part violation
+  IsChecked FitByParts = IsTextOfParts
+  IsChecked (Unfit part violation) = IsUnfitBy part violation
 
-  -- it is fit by its parts, and the line that is written says whether as a whole
+  -- it is fit as a whole, or by its parts, and the line that is written says which
   pub data IsReportedFit (output : List ℕ) : Type 0 where
     SaysWhole : IsWholeText → output ≡ fit_line → IsReportedFit output
-    SaysParts : IsFitText → output ≡ parts_line → IsReportedFit output
+    SaysParts : IsTextOfParts → output ≡ parts_line → IsReportedFit output
 
   -- something keeps it from being fit to run, and nothing is to be written
   pub record IsRejected (o : Outcome) : Type 0 where

@@ -1,7 +1,8 @@
 -- How two runs compare, for proofs inside the crate.
-use Rattle.std.specs.Prelude.{◌≡◌, ◌⊎◌, ℕ, Bool, true, false, List}
+use Rattle.std.specs.Prelude.{◌≡◌, ℕ, Bool, true, false, List}
+use Rattle.pliron_evaluator.specs.declared.evaluator.values.Datum.{Datum as DatumValue}
 use Rattle.pliron_evaluator.specs.declared.evaluator.values.Sight.{Sight}
-use Rattle.pliron_cli.specs.Compared.{are_same, EndsWith, same_line, so_far_line, different_line}
+use Rattle.pliron_cli.specs.Compared.{are_same, are_same_so_far, EndsWith, same_line, so_far_line, different_line, other_line}
 use Rattle.pliron_cli.specs.declared.comparing.Likeness.{Likeness}
 use Rattle.pliron_cli.specs.declared.comparing.Likeness.TheVariants.{Same, SoFar, Different}
 use Rattle.pliron_cli.specs.declared.comparing.Sights.{Sights}
@@ -17,13 +18,14 @@ status_for Same = 0
 status_for SoFar = 3
 status_for Different = 3
 
-abbrev pub IsLikeness : (Sight → Sight → Bool) → Sights → Likeness → Type 0
-IsLikeness eq sights Same = are_same eq sights ≡ true
-IsLikeness eq sights SoFar = are_same eq sights ≡ false
-IsLikeness eq sights Different = are_same eq sights ≡ false
+module _ (eq : Sight → Sight → Bool) (same_datum : DatumValue → DatumValue → Bool) (sights : Sights) where
+  abbrev pub IsLikeness : Likeness → Type 0
+  IsLikeness Same = are_same eq sights ≡ true
+  IsLikeness SoFar = (are_same eq sights ≡ false) × (are_same_so_far same_datum sights ≡ true)
+  IsLikeness Different = (are_same eq sights ≡ false) × (are_same_so_far same_datum sights ≡ false)
 
-abbrev pub IsReported : (Sight → Sight → Bool) → Sights → List ℕ → Type 0
-IsReported eq sights output = (are_same eq sights ≡ true) × EndsWith same_line output
+  abbrev pub IsReported : List ℕ → Type 0
+  IsReported output = (are_same eq sights ≡ true) × EndsWith same_line output
 
-abbrev pub IsReportedOther : (Sight → Sight → Bool) → Sights → List ℕ → Type 0
-IsReportedOther eq sights output = (are_same eq sights ≡ false) × (EndsWith so_far_line output ⊎ EndsWith different_line output)
+  abbrev pub IsReportedOther : List ℕ → Type 0
+  IsReportedOther output = (are_same eq sights ≡ false) × EndsWith (other_line same_datum sights) output

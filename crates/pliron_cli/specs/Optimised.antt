@@ -3,16 +3,16 @@ use Rattle.std.specs.Prelude.{◌≡◌, ℕ, List, [], ◌++◌}
 use Rattle.pliron_core.specs.Tree.{Tree}
 use Rattle.pliron_core.specs.declared.attrs.IRStatus.{IRStatus}
 use Rattle.pliron_laws.specs.Datum.{Meaning}
-use Rattle.pliron_diagnostics.specs.Layout.{without_blanks}
+use Rattle.pliron_diagnostics.specs.Layout.{words_of}
 use Rattle.pliron_opts.specs.Answered.{Reads, Prints, IsOptimised, status_line}
 use Rattle.pliron_cli.specs.Outcomes.{Ends}
 use Rattle.pliron_cli.specs.declared.outcome.Outcome.{Outcome}
 
--- only blanks change
+-- it has the same words in the same order
 abbrev pub IsLaidOut : (printed output : List ℕ) → Type 0
-IsLaidOut printed output = without_blanks output ≡ without_blanks printed
+IsLaidOut printed output = words_of output ≡ words_of printed
 
--- what is written is, but for blanks, the tree that the passes made of one that was read of the text, printed
+-- what is written is laid out as the tree, printed, that the passes made of one that was read of the text
 pub record IsMade (reads : Reads) (prints : Prints) (m : Meaning) (ran : ℕ → Tree → Tree → IRStatus → Type 0) (text output : List ℕ) : Type 0 where
   pub printed : List ℕ
   pub status : IRStatus

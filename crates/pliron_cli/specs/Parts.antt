@@ -1,7 +1,8 @@
 -- What is fit to run by itself, or by what is inside it.
-use Rattle.std.specs.Prelude.{◌≢◌, ℕ, [], IsSomeAnd, IsTrue}
+use Rattle.std.specs.Prelude.{◌≡◌, ◌≢◌, ℕ, List, [], ◌∷◌, ◌++◌, IsSomeAnd, IsTrue}
 use Rattle.pliron_core.specs.Tree.{Tree, In, IsInside, regions_of, parent_operation_of}
 use Rattle.pliron_core.specs.Reads.{has_ssa}
+use Rattle.pliron_core.specs.Walks.{contents}
 use Rattle.pliron_laws.specs.Datum.{Meaning}
 use Rattle.pliron_theory.specs.Keeps.{IsFit}
 
@@ -29,3 +30,16 @@ module _ (m : Meaning) (t : Tree) (root : ℕ) where
   pub data IsFitByParts : Type 0 where
     AsAWhole : IsFit m t root → IsFitByParts
     InParts : IsContainer t root → AreFitParts → IsFitByParts
+
+  -- it is a part inside the operation, and each part before it in the order of the text is fit to run
+  pub record IsFirstPart (part : ℕ) : Type 0 where
+    pub before : List ℕ
+    pub after : List ℕ
+    pub place : contents t root ≡ before ++ part ∷ after
+    pub is_part : IsPart t part
+    pub fit : (k : ℕ) → In k before → IsPart t k → IsFit m t k
+
+  -- what a fault is reported of: the operation itself, or for a container such a part
+  pub data IsAtFault (op : ℕ) : Type 0 where
+    Itself : (IsContainer t root → ⊥) → op ≡ root → IsAtFault op
+    Inside : IsContainer t root → IsFirstPart op → IsAtFault op

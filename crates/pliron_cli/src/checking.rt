@@ -36,6 +36,7 @@ pub enum Checked {
 ///
 /// Asks that the context is empty. Errors: allocation failure. Cost: reading, a walk over what is inside, and that of
 /// `find_violation` for the operation or for each part.
+#[tactic(auto, using(crate::proofs::PartLemmas::parts_found))]
 pub fn check_text<N: Notation>(
     alloc: Global,
     text: &[u8],

@@ -4,7 +4,7 @@ ghost use Rattle.pliron_core.specs.Writes.{no_tree};
 ghost use Rattle.pliron_laws.specs.Datum.{Number as NumberOf};
 ghost use Rattle.pliron_opts.specs.Ran.{RunsAlone};
 ghost use Rattle.pliron_cli.specs.Asked.{EndsByPlan, EndsByWord};
-ghost use Rattle.pliron_cli.specs.Compared.{AreSeen, EndsCompared, EndsWith, are_same, is_cut_off as was_cut_off};
+ghost use Rattle.pliron_cli.specs.Compared.{AreSeen, EndsCompared, EndsWith, are_same, are_same_so_far, effects_of, is_cut_off as was_cut_off, is_start as is_start_of};
 ghost use Rattle.pliron_cli.specs.Likeness.{IsLikeness, IsReported, IsReportedOther, last_line, status_for};
 ghost use Rattle.pliron_cli.specs.Outcomes.{Ends};
 
@@ -51,17 +51,11 @@ enum Likeness {
 }
 
 // The effects of a run, latest first.
-fn effects(sight: &Sight) -> &[Datum] {
+fn effects(sight: &Sight) -> &[Datum]
+    ensures { result.now ≡ effects_of sight.now }
+{
     match sight {
         Sight::Ended(_, effects) | Sight::Trapped(effects) | Sight::Reached(effects) => effects,
-    }
-}
-
-// Whether the one list of effects, latest first, began with the other.
-fn begins_with(effects: &[Datum], first: &[Datum]) -> bool {
-    match effects.len().checked_sub(first.len()) {
-        Some(more) => effects.get(more..) == Some(first),
-        None => false,
     }
 }
 
@@ -89,20 +83,31 @@ fn is_same(sights: &Sights) -> bool
     sights.before == sights.after
 }
 
-// Whether one run was cut off, and nothing that was seen until then differs.
-fn is_same_so_far(sights: &Sights) -> bool {
-    let (before, after) = (effects(&sights.before), effects(&sights.after));
-    match (is_cut_off(&sights.before), is_cut_off(&sights.after)) {
-        (false, false) => false,
-        (true, false) => begins_with(after, before),
-        (false, true) => begins_with(before, after),
-        (true, true) => begins_with(before, after) || begins_with(after, before),
+// Whether the one run was cut off, and the other began with the effects that were seen of it.
+#[tactic(auto, using(crate::proofs::CommandLemmas::start_whole, crate::proofs::CommandLemmas::start_cut))]
+fn is_start(one: &Sight, other: &Sight) -> bool
+    ensures { result ≡ is_start_of ⟦<Datum as PartialEq>⟧.eq one.now other.now }
+{
+    if is_cut_off(one) {
+        return effects(other).ends_with(effects(one));
     }
+    false
+}
+
+// Whether a run was cut off, and nothing that was seen until then differs.
+#[tactic(auto, using(crate::proofs::CommandLemmas::so_far_first, crate::proofs::CommandLemmas::so_far_second))]
+fn is_same_so_far(sights: &Sights) -> bool
+    ensures { result ≡ are_same_so_far ⟦<Datum as PartialEq>⟧.eq sights.now }
+{
+    if is_start(&sights.before, &sights.after) {
+        return true;
+    }
+    is_start(&sights.after, &sights.before)
 }
 
 // How the runs compare.
 fn likeness_of(sights: &Sights) -> Likeness
-    ensures { IsLikeness ⟦<Sight as PartialEq>⟧.eq sights.now result }
+    ensures { IsLikeness ⟦<Sight as PartialEq>⟧.eq ⟦<Datum as PartialEq>⟧.eq sights.now result }
 {
     if is_same(sights) {
         return Likeness::Same;
@@ -192,8 +197,9 @@ fn status_of(likeness: Likeness) -> u8
 // The outcome of these runs.
 #[tactic(auto, using(crate::proofs::CommandLemmas::reported_likeness))]
 fn outcome_of(alloc: Global, sights: &Sights) -> Result<Outcome, AllocError>
-    ensures { IfOk result (λ outcome. Ends (IsReported ⟦<Sight as PartialEq>⟧.eq sights.now outcome.output.items)
-        (IsReportedOther ⟦<Sight as PartialEq>⟧.eq sights.now outcome.output.items) outcome) }
+    ensures { IfOk result (λ outcome. Ends (IsReported ⟦<Sight as PartialEq>⟧.eq ⟦<Datum as PartialEq>⟧.eq sights.now
+        outcome.output.items) (IsReportedOther ⟦<Sight as PartialEq>⟧.eq ⟦<Datum as PartialEq>⟧.eq sights.now
+        outcome.output.items) outcome) }
 {
     let likeness = likeness_of(sights);
     Ok(Outcome {
@@ -216,7 +222,7 @@ fn compare_in<N: Shown>(
     requires { ctx.old.tree ≡ no_tree }
     ensures { IfOk result (EndsCompared N.reads N.D.meaning (map NumberOf options.now.inputs.now)
         (map NumberOf options.now.world.now) options.now.steps
-        ⟦<Sight as PartialEq>⟧.eq (RunsAlone ⟦<BenchFactKind as PartialEq>⟧.eq
+        ⟦<Sight as PartialEq>⟧.eq ⟦<Datum as PartialEq>⟧.eq (RunsAlone ⟦<BenchFactKind as PartialEq>⟧.eq
         ⟦<InstrumentedSchedule<N, Timeless> as Pass>⟧.outcome schedule.old)
         source.now.text.now) }
 {
@@ -237,7 +243,7 @@ fn compare_with<N: Shown>(
 ) -> Result<Outcome, AllocError>
     ensures { IfOk result (EndsCompared N.reads N.D.meaning (map NumberOf options.now.inputs.now)
         (map NumberOf options.now.world.now) options.now.steps
-        ⟦<Sight as PartialEq>⟧.eq (RunsAlone ⟦<BenchFactKind as PartialEq>⟧.eq
+        ⟦<Sight as PartialEq>⟧.eq ⟦<Datum as PartialEq>⟧.eq (RunsAlone ⟦<BenchFactKind as PartialEq>⟧.eq
         ⟦<InstrumentedSchedule<N, Timeless> as Pass>⟧.outcome schedule.old)
         source.now.text.now) }
 {
@@ -255,7 +261,7 @@ fn compare_by<N: Shown>(
 ) -> Result<Outcome, AllocError>
     ensures { IfOk result (EndsByPlan ⟦<Instrumented<N, Timeless> as Pass>⟧.name
         (λ schedule. EndsCompared N.reads N.D.meaning (map NumberOf options.now.inputs.now)
-        (map NumberOf options.now.world.now) options.now.steps ⟦<Sight as PartialEq>⟧.eq
+        (map NumberOf options.now.world.now) options.now.steps ⟦<Sight as PartialEq>⟧.eq ⟦<Datum as PartialEq>⟧.eq
         (RunsAlone ⟦<BenchFactKind as PartialEq>⟧.eq ⟦<InstrumentedSchedule<N, Timeless> as Pass>⟧.outcome schedule)
         source.now.text.now)
         plan.now.runs plan.now.nested (map (λ name. name.now) plan.now.names.items)) }
@@ -288,8 +294,8 @@ pub fn compare<N: Shown>(
     ensures { IfOk result (EndsByWord ⟦<Instrumented<N, Timeless> as Pass>⟧.name
         (λ schedule. EndsCompared N.reads N.D.meaning (map NumberOf options.now.run.inputs.now)
         (map NumberOf options.now.run.world.now) options.now.run.steps ⟦<Sight as PartialEq>⟧.eq
-        (RunsAlone ⟦<BenchFactKind as PartialEq>⟧.eq ⟦<InstrumentedSchedule<N, Timeless> as Pass>⟧.outcome schedule)
-        source.now.text.now)
+        ⟦<Datum as PartialEq>⟧.eq (RunsAlone ⟦<BenchFactKind as PartialEq>⟧.eq
+        ⟦<InstrumentedSchedule<N, Timeless> as Pass>⟧.outcome schedule) source.now.text.now)
         options.now.pipeline.now) }
 {
     match PipelineText::read(alloc, options.pipeline) {

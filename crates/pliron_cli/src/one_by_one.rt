@@ -3,7 +3,7 @@ ghost use Rattle.std.specs.Prelude.{◌≡◌, ◌↔◌, None, IfOk, IfSome, Is
 ghost use Rattle.pliron_core.specs.Tree.{IsLive};
 ghost use Rattle.pliron_theory.specs.Keeps.{IsFit};
 ghost use Rattle.pliron_fit.specs.Violation.{IsViolation};
-ghost use Rattle.pliron_cli.specs.Parts.{AreFitParts, IsContainer, IsFitByParts, IsInContainer, IsPart};
+ghost use Rattle.pliron_cli.specs.Parts.{AreFitParts, IsContainer, IsFirstPart, IsFitByParts, IsInContainer, IsPart, IsAtFault};
 
 use pliron_core::{Context, Operation, Ptr};
 use pliron_fit::{Violation, find_violation};
@@ -53,6 +53,7 @@ fn part_violation<D: Dialect>(
     requires { IsLive ctx.now.tree op }
     ensures none { IfOk result (λ r. (r ≡ None) ↔ (IsPart ctx.now.tree op → IsFit D.meaning ctx.now.tree op)) }
     ensures some { IfOk result (λ r. IfSome r (λ violation. IsViolation D.meaning ctx.now.tree op violation)) }
+    ensures part { IfOk result (λ r. IfSome r (λ violation. IsPart ctx.now.tree op)) }
 {
     if is_part(op, ctx) {
         find_violation::<D>(alloc, op, ctx)
@@ -61,8 +62,8 @@ fn part_violation<D: Dialect>(
     }
 }
 
-// The first part inside the operation that isn't fit to run, with what keeps it from that. Errors: allocation failure.
-#[tactic(auto, using(crate::proofs::PartLemmas::search_begins, crate::proofs::PartLemmas::search_live, crate::proofs::PartLemmas::search_continues, crate::proofs::PartLemmas::search_ends))]
+// The first part inside the operation, in the order of the text, that isn't fit to run, with what keeps it from that. Errors: allocation failure.
+#[tactic(auto, using(crate::proofs::PartLemmas::search_begins, crate::proofs::PartLemmas::search_live, crate::proofs::PartLemmas::search_continues, crate::proofs::PartLemmas::search_found, crate::proofs::PartLemmas::search_ends))]
 fn first_unfit_part<D: Dialect>(
     alloc: Global,
     root: Ptr<Operation>,
@@ -70,6 +71,7 @@ fn first_unfit_part<D: Dialect>(
 ) -> Result<Option<(Ptr<Operation>, Violation)>, OptError>
     requires { IsLive ctx.now.tree root }
     ensures none { IfOk result (λ found. (found ≡ None) ↔ AreFitParts D.meaning ctx.now.tree root) }
+    ensures first { IfOk result (λ found. IfSome found (λ it. IsFirstPart D.meaning ctx.now.tree root it.0)) }
     ensures some { IfOk result (λ found. IfSome found (λ it. IsViolation D.meaning ctx.now.tree it.0 it.1)) }
 {
     ctx.contents_agree();
@@ -85,7 +87,7 @@ fn first_unfit_part<D: Dialect>(
 /// What keeps the operation, or, for a container, the first unfit part inside it, from being fit to run, with the
 /// operation that it keeps from that; `None` exactly if it is fit by its parts. Asks that it is live. Errors:
 /// allocation failure. Cost: linear in what is inside, and that of `find_violation` for each part.
-#[tactic(auto, using(crate::proofs::PartLemmas::fit_whole, crate::proofs::PartLemmas::fit_parts))]
+#[tactic(auto, using(crate::proofs::PartLemmas::fit_whole, crate::proofs::PartLemmas::fit_parts, crate::proofs::PartLemmas::reported_itself, crate::proofs::PartLemmas::reported_inside))]
 pub(crate) fn first_unfit<D: Dialect>(
     alloc: Global,
     root: Ptr<Operation>,
@@ -93,6 +95,7 @@ pub(crate) fn first_unfit<D: Dialect>(
 ) -> Result<Option<(Ptr<Operation>, Violation)>, OptError>
     requires { IsLive ctx.now.tree root }
     ensures none { IfOk result (λ found. (found ≡ None) ↔ IsFitByParts D.meaning ctx.now.tree root) }
+    ensures reported { IfOk result (λ found. IfSome found (λ it. IsAtFault D.meaning ctx.now.tree root it.0)) }
     ensures some { IfOk result (λ found. IfSome found (λ it. IsViolation D.meaning ctx.now.tree it.0 it.1)) }
 {
     if is_container(root, ctx) {

@@ -58,7 +58,7 @@ fn warning<N: Shown>(alloc: Global, source: &Source, verifies: bool) -> Result<S
 }
 
 // Runs the passes where the text's operation is fit to run.
-#[tactic(auto, using(crate::proofs::StrictLemmas::anyway, crate::proofs::StrictLemmas::whole_fit))]
+#[tactic(auto, using(crate::proofs::StrictLemmas::anyway, crate::proofs::StrictLemmas::whole_fit, crate::proofs::StrictLemmas::parts_fit))]
 fn opt_if_fit<N: Shown, C: Progress + Copy + Drop>(
     alloc: Global,
     source: &Source,

@@ -1,6 +1,7 @@
 //! Texts over several lines.
-ghost use Rattle.std.specs.Prelude.{◌≡◌, ◌++◌, ◌∷◌, [], IfOk, OnOk};
-ghost use Rattle.pliron_diagnostics.specs.Layout.{is_blank, without_blanks};
+ghost use Rattle.std.specs.Prelude.{◌≡◌, ◌++◌, ◌∷◌, [], true, false, IfOk, OnOk};
+ghost use Rattle.pliron_diagnostics.specs.Laid.{laid_words, LaysBlank, LaysByte};
+ghost use Rattle.pliron_diagnostics.specs.Layout.{after_blank, is_mark, words_of};
 
 use std::alloc::{AllocError, Global};
 
@@ -16,13 +17,13 @@ struct Layout {
     parts: bool,
 }
 
-/// The text with each block and each operation on a line of its own, indented by the braces around it. Only
-/// blanks change: the text reads as before.
+/// The text with each block and each operation on a line of its own, indented by the braces around it. It has the same
+/// words in the same order, so only blanks change beside other blanks, braces, semicolons and colons.
 ///
 /// Errors: allocation failure. Cost: linear in the text, and its depth for each line.
-#[tactic(auto, using(crate::proofs::LayoutLemmas::laid_more))]
+#[tactic(auto, using(crate::proofs::LayoutLemmas::none_read, crate::proofs::LayoutLemmas::laid_more, crate::proofs::LayoutLemmas::all_laid))]
 pub fn pretty(alloc: Global, text: &[u8]) -> Result<Vec<u8>, AllocError>
-    ensures { IfOk result (λ laid. without_blanks laid.items ≡ without_blanks text.now) }
+    ensures { IfOk result (λ laid. words_of laid.items ≡ words_of text.now) }
 {
     let mut layout = Layout {
         text: Vec::new(alloc),
@@ -59,10 +60,10 @@ pub fn begins_block(text: &[u8]) -> bool {
 
 impl Layout {
     // Takes in the next byte, with which the rest of the text begins.
-    #[tactic(auto, using(crate::proofs::LayoutLemmas::byte_added))]
+    #[tactic(auto, using(crate::proofs::LayoutLemmas::blank_taken, crate::proofs::LayoutLemmas::byte_written, crate::proofs::LayoutLemmas::brace_written))]
     fn take(&mut self, byte: u8, rest: &[u8]) -> Result<(), AllocError>
-        ensures { OnOk result (without_blanks self.new.text.items ≡ without_blanks self.old.text.items ++ without_blanks
-            (byte ∷ [])) }
+        ensures { OnOk result (LaysByte self.old.text.items self.new.text.items self.old.parts self.old.breaks
+            self.new.parts self.new.breaks byte) }
     {
         match byte {
             b' ' | b'\n' | b'\t' | b'\r' => self.parts = true,
@@ -80,9 +81,9 @@ impl Layout {
     }
 
     // Writes what separates the rest of the text from what is laid out so far.
-    #[tactic(auto, using(crate::proofs::LayoutLemmas::space_added))]
+    #[tactic(auto, using(crate::proofs::LayoutLemmas::line_parted, crate::proofs::LayoutLemmas::blank_written, crate::proofs::LayoutLemmas::none_written, crate::proofs::LayoutLemmas::none_parted))]
     fn part(&mut self, rest: &[u8]) -> Result<(), AllocError>
-        ensures { OnOk result (without_blanks self.new.text.items ≡ without_blanks self.old.text.items) }
+        ensures { OnOk result (LaysBlank self.old.text.items self.new.text.items self.old.parts self.old.breaks) }
     {
         if self.breaks {
             let depth = if begins_block(rest) {
@@ -91,22 +92,34 @@ impl Layout {
                 self.depth
             };
             self.line(depth)
-        } else if self.parts && !self.text.is_empty() {
-            self.text.push(b' ')?;
+        } else if !self.parts {
+            Ok(())
+        } else if self.text.is_empty() {
             Ok(())
         } else {
+            self.text.push(b' ')?;
             Ok(())
         }
     }
 
-    // Begins a line that is indented so deep.
-    #[tactic(auto, using(crate::proofs::LayoutLemmas::break_added, crate::proofs::LayoutLemmas::indent_added))]
-    fn line(&mut self, depth: usize) -> Result<(), AllocError>
-        ensures { OnOk result (without_blanks self.new.text.items ≡ without_blanks self.old.text.items) }
+    // Ends the line, unless none is begun.
+    #[tactic(auto, using(crate::proofs::LayoutLemmas::line_broken, crate::proofs::LayoutLemmas::nothing_parted))]
+    fn end_line(&mut self) -> Result<(), AllocError>
+        ensures { OnOk result (laid_words self.new.text.items ≡ after_blank (laid_words self.old.text.items)) }
     {
-        if !self.text.is_empty() {
-            self.text.push(b'\n')?;
+        if self.text.is_empty() {
+            return Ok(());
         }
+        self.text.push(b'\n')?;
+        Ok(())
+    }
+
+    // Begins a line that is indented so deep.
+    #[tactic(auto, using(crate::proofs::LayoutLemmas::indented))]
+    fn line(&mut self, depth: usize) -> Result<(), AllocError>
+        ensures { OnOk result (laid_words self.new.text.items ≡ after_blank (laid_words self.old.text.items)) }
+    {
+        self.end_line()?;
         for _ in 0..depth {
             self.text.extend_from_slice(b"  ")?;
         }
@@ -115,7 +128,9 @@ impl Layout {
 
     // Writes the byte, which is no blank, and says what follows it.
     fn put(&mut self, byte: u8) -> Result<(), AllocError>
-        ensures { OnOk result (self.new.text.items ≡ self.old.text.items ++ byte ∷ []) }
+        ensures text { OnOk result (self.new.text.items ≡ self.old.text.items ++ byte ∷ []) }
+        ensures parts { OnOk result (self.new.parts ≡ false) }
+        ensures breaks { OnOk result (self.new.breaks ≡ true → is_mark byte ≡ true) }
     {
         self.text.push(byte)?;
         self.parts = false;
