@@ -18,19 +18,20 @@ use Rattle.pliron_cli.specs.declared.outcome.Outcome.{Outcome}
 use Rattle.pliron_cli.specs.declared.comparing.Likeness.{Likeness}
 use Rattle.pliron_cli.specs.declared.comparing.Likeness.TheVariants.{Same, SoFar, Different}
 use Rattle.pliron_cli.specs.declared.comparing.Sights.{Sights}
-use Rattle.pliron_cli.specs.Asked.{EndsByPlan, EndsByPlan.ByPasses, EndsByPlan.WithoutPasses, EndsByWord, EndsByWord.ByPlan, EndsByWord.WithoutPlan}
+use Rattle.pliron_cli.specs.Asked.{EndsByPlan, EndsByPlan.ByPasses, EndsByPlan.WithoutPasses, EndsByWord, EndsByWord.ByPlan, EndsByWord.WithoutPlan, EndsByWord.WithoutText}
 use Rattle.pliron_fit.specs.declared.violation.Violation.{Violation}
 use Rattle.pliron_cli.specs.declared.checking.Checked.{Checked}
 use Rattle.pliron_cli.specs.declared.checking.Checked.TheVariants.{Fit, FitByParts, Unfit}
 use Rattle.pliron_cli.specs.Checked.{IsChecked, IsWholeText, IsTextOfParts, IsUnfitText, IsReportedFit, IsReportedFit.SaysWhole, IsReportedFit.SaysParts, fit_line, parts_line}
 use Rattle.pliron_cli.specs.Compared.{AreSeen, are_same, are_same_so_far, effects_of, is_start, is_cut_off, EndsWith, EndsCompared, so_far_line, different_line, other_line}
-use Rattle.pliron_cli.specs.Likeness.{IsLikeness, IsReported, IsReportedOther, last_line, status_for}
+use Rattle.pliron_cli.specs.Likeness.{IsLikeness, EndsLike, last_line, status_for}
 use Rattle.pliron_cli.specs.Optimised.{IsLaidOut, IsMade, EndsOptimised}
-use Rattle.pliron_cli.specs.Outcomes.{Ends, Ends.Says, Ends.Denies, Ends.Fails, EndsBadly}
+use Rattle.pliron_cli.specs.Outcomes.{Ends, Ends.Says, Ends.Denies, Ends.Fails, EndsBadly, EndsBadly.Refuses, IsRefused}
+use Rattle.pliron_cli.specs.Reports.{Faults, TextFaults, FaultsWord}
 
-pub ends_by : (o : Outcome) → (o.status ≡ 0) ⊎ (o.status ≡ 3) → Ends ⊤ ⊤ o
-ends_by o (inl e) = Says tt e
-ends_by o (inr e) = Denies tt e
+pub ends_by : (faults : Faults) (o : Outcome) → (o.status ≡ 0) ⊎ (o.status ≡ 3) → Ends faults ⊤ ⊤ o
+ends_by faults o (inl e) = Says tt e
+ends_by faults o (inr e) = Denies tt e
 
 -- what was found of a text
 pub whole_when : (reads : Reads) (m : Meaning) (text : List ℕ) (found : Checked) → found ≡ Fit → IsChecked reads m text found → IsWholeText reads m text
@@ -44,9 +45,9 @@ unfit_when reads m text found part violation is said =
     (part, violation, subst (IsChecked reads m text) is said)
 
 -- how a check ends
-module _ (reads : Reads) (m : Meaning) (text : List ℕ) where
+module _ (faults : Faults) (reads : Reads) (m : Meaning) (text : List ℕ) where
   abbrev pub EndsChecked : Outcome → Type 0
-  EndsChecked o = Ends (IsReportedFit reads m text o.output.items) (IsUnfitText reads m text × (o.output.items ≡ [])) o
+  EndsChecked o = Ends faults (IsReportedFit reads m text o.output.items) (IsUnfitText reads m text × (o.output.items ≡ [])) o
 
   pub says_whole : {E : Type 0} (r : Result Outcome E) → IsWholeText reads m text → IfOk r (λ o. o.output.items ≡ fit_line) → IfOk r (λ o. o.status ≡ 0) → IfOk r EndsChecked
   says_whole (Ok o) whole line e = Says (SaysWhole whole line) e
@@ -106,18 +107,17 @@ module _ (eq : Sight → Sight → Bool) (same_datum : DatumValue → DatumValue
   line_of : (b : Bool) → are_same_so_far same_datum sights ≡ b → (text : List ℕ) → EndsWith (if b then so_far_line else different_line) text → EndsWith (other_line same_datum sights) text
   line_of b is text ends = subst (λ c. EndsWith (if c then so_far_line else different_line) text) (sym is) ends
 
-  pub reported_likeness : (likeness : Likeness) (o : Outcome) → IsLikeness eq same_datum sights likeness → EndsWith (last_line likeness) o.output.items → o.status ≡ status_for likeness → Ends (IsReported eq same_datum sights o.output.items) (IsReportedOther eq same_datum sights o.output.items) o
-  reported_likeness Same o is line e = Says (is, line) e
-  reported_likeness SoFar o is line e = Denies (is.0, line_of true is.1 o.output.items line) e
-  reported_likeness Different o is line e = Denies (is.0, line_of false is.1 o.output.items line) e
+  pub reported_likeness : (likeness : Likeness) (o : Outcome) → IsLikeness eq same_datum sights likeness → EndsWith (last_line likeness) o.output.items → o.status ≡ status_for likeness → EndsLike eq same_datum sights o
+  reported_likeness Same o is line e = inl ((is, line), e)
+  reported_likeness SoFar o is line e = inr ((is.0, line_of true is.1 o.output.items line), e)
+  reported_likeness Different o is line e = inr ((is.0, line_of false is.1 o.output.items line), e)
 
-module _ (reads : Reads) (m : Meaning) (inputs world : List Datum) (steps : ℕ) (eq : Sight → Sight → Bool) (same_datum : DatumValue → DatumValue → Bool) (ran : ℕ → Tree → Tree → IRStatus → Type 0) (text : List ℕ) where
-  compared_so : (sights : Sights) (o : Outcome) → AreSeen reads m inputs world steps ran text sights → Ends (IsReported eq same_datum sights o.output.items) (IsReportedOther eq same_datum sights o.output.items) o → EndsCompared reads m inputs world steps eq same_datum ran text o
-  compared_so sights o are (Says (same, line) e) = Says (record { sights = sights; seen_so = are; same_sights = same; written = line }) e
-  compared_so sights o are (Denies (other, line) e) = Denies (record { sights = sights; seen_so = are; other_sights = other; written = line }) e
-  compared_so sights o are (Fails bad) = Fails bad
+module _ (reads : Reads) (m : Meaning) (inputs world : List Datum) (steps : ℕ) (faults : TextFaults) (eq : Sight → Sight → Bool) (same_datum : DatumValue → DatumValue → Bool) (ran : ℕ → Tree → Tree → IRStatus → Type 0) (text : List ℕ) where
+  compared_so : (sights : Sights) (o : Outcome) → AreSeen reads m inputs world steps ran text sights → EndsLike eq same_datum sights o → EndsCompared reads m inputs world steps faults eq same_datum ran text o
+  compared_so sights o are (inl same) = Says (record { sights = sights; seen_so = are; same_sights = same.0.0; written = same.0.1 }) same.1
+  compared_so sights o are (inr other) = Denies (record { sights = sights; seen_so = are; other_sights = other.0.0; written = other.0.1 }) other.1
 
-  pub are_compared : {E : Type 0} (sights : Sights) (r : Result Outcome E) → AreSeen reads m inputs world steps ran text sights → IfOk r (λ o. Ends (IsReported eq same_datum sights o.output.items) (IsReportedOther eq same_datum sights o.output.items) o) → IfOk r (EndsCompared reads m inputs world steps eq same_datum ran text)
+  pub are_compared : {E : Type 0} (sights : Sights) (r : Result Outcome E) → AreSeen reads m inputs world steps ran text sights → IfOk r (EndsLike eq same_datum sights) → IfOk r (EndsCompared reads m inputs world steps faults eq same_datum ran text)
   are_compared sights (Ok o) are ends = compared_so sights o are ends
   are_compared sights (Err e) are ends = tt
 
@@ -129,22 +129,33 @@ ended laid text e = line_ended laid ∙ e
 pub made_when : {A X : Type 0} (P : A → Type 0) (r : Result (Option A) X) (found : Option A) (made : A) → r ≡ Ok found → found ≡ Some made → IfOk r (λ z. IfSome z P) → P made
 made_when P r found made e is all = subst (λ z. IfSome z P) is (subst (λ z. IfOk z (λ x. IfSome x P)) e all)
 
-pub is_made : (reads : Reads) (prints : Prints) (m : Meaning) (ran : ℕ → Tree → Tree → IRStatus → Type 0) (text printed : List ℕ) (status : IRStatus) (o : Outcome) → IsOptimised reads prints m ran text (printed ++ status_line status) → IsLaidOut printed o.output.items → o.status ≡ 0 → EndsOptimised reads prints m ran text o
-is_made reads prints m ran text printed status o made laid e = Says (record { printed = printed; status = status; made = made; laid = laid }) e
+module _ (reads : Reads) (prints : Prints) (faults : TextFaults) (m : Meaning) (ran : ℕ → Tree → Tree → IRStatus → Type 0) (verifies : Bool) (text : List ℕ) where
+  pub is_made : (printed : List ℕ) (status : IRStatus) (o : Outcome) → IsOptimised reads prints m ran text (printed ++ status_line status) → IsLaidOut printed o.output.items → o.status ≡ 0 → EndsOptimised reads prints faults m ran verifies text o
+  is_made printed status o made laid e = Says (record { printed = printed; status = status; made = made; laid = laid }) e
+
+-- where something was refused
+pub refused_so : {X : Type 0} (faults : Faults) (this that : Outcome → Type 0) (r : Result Outcome X) → IfOk r IsRefused → IfOk r (λ o. Ends faults (this o) (that o) o)
+refused_so faults this that (Ok o) refused = Fails (Refuses refused)
+refused_so faults this that (Err e) refused = tt
 
 module _ {P D E B K X : Type 0} (name : P → List ℕ) (EndsSo : ScheduleOf P D E B K → Outcome → Type 0) where
   pub is_planned : (runs : Option ℕ) (nested : Bool) (names : List (List ℕ)) (schedule : ScheduleOf P D E B K) (found : Option (ScheduleOf P D E B K)) (r : Result Outcome X) → found ≡ Some schedule → IfSome found (IsPlanned name runs nested names) → IfOk r (EndsSo schedule) → IfOk r (EndsByPlan name EndsSo runs nested names)
   is_planned runs nested names schedule found (Ok o) is planned ends = ByPasses schedule (subst (λ f. IfSome f (IsPlanned name runs nested names)) is planned) ends
   is_planned runs nested names schedule found (Err e) is planned ends = tt
 
-  pub no_passes : (runs : Option ℕ) (nested : Bool) (names : List (List ℕ)) (r : Result Outcome X) → IfOk r EndsBadly → IfOk r (EndsByPlan name EndsSo runs nested names)
+  pub no_passes : (runs : Option ℕ) (nested : Bool) (names : List (List ℕ)) (r : Result Outcome X) → IfOk r (EndsBadly FaultsWord) → IfOk r (EndsByPlan name EndsSo runs nested names)
   no_passes runs nested names (Ok o) bad = WithoutPasses bad
   no_passes runs nested names (Err e) bad = tt
 
-  pub is_asked : (word : List ℕ) (runs : Option ℕ) (nested : Bool) (names : List (List ℕ)) (r : Result Outcome X) → Plans true word runs nested names → IfOk r (EndsByPlan name EndsSo runs nested names) → IfOk r (EndsByWord name EndsSo word)
-  is_asked word runs nested names (Ok o) plan ends = ByPlan runs nested names plan ends
-  is_asked word runs nested names (Err e) plan ends = tt
+  module _ (faults : Faults) (word : List ℕ) where
+    pub is_asked : (runs : Option ℕ) (nested : Bool) (names : List (List ℕ)) (r : Result Outcome X) → Plans true word runs nested names → IfOk r (EndsByPlan name EndsSo runs nested names) → IfOk r (EndsByWord name EndsSo faults word)
+    is_asked runs nested names (Ok o) plan ends = ByPlan runs nested names plan ends
+    is_asked runs nested names (Err e) plan ends = tt
 
-  pub no_plan : (word : List ℕ) (r : Result Outcome X) → IfOk r EndsBadly → IfOk r (EndsByWord name EndsSo word)
-  no_plan word (Ok o) bad = WithoutPlan bad
-  no_plan word (Err e) bad = tt
+    pub no_plan : (r : Result Outcome X) → IfOk r (EndsBadly FaultsWord) → IfOk r (EndsByWord name EndsSo faults word)
+    no_plan (Ok o) bad = WithoutPlan bad
+    no_plan (Err e) bad = tt
+
+    pub no_text : (r : Result Outcome X) → IfOk r (EndsBadly faults) → IfOk r (EndsByWord name EndsSo faults word)
+    no_text (Ok o) bad = WithoutText bad
+    no_text (Err e) bad = tt

@@ -3,15 +3,17 @@ use Rattle.std.specs.Prelude.{ℕ, Bool, true, List, Option}
 use Rattle.pliron_opts.specs.PipelineTexts.{Plans}
 use Rattle.pliron_instrument.specs.Schedules.{ScheduleOf, IsPlanned}
 use Rattle.pliron_cli.specs.Outcomes.{EndsBadly}
+use Rattle.pliron_cli.specs.Reports.{Faults, FaultsWord}
 use Rattle.pliron_cli.specs.declared.outcome.Outcome.{Outcome}
 
 module _ {P D E B K : Type 0} (name : P → List ℕ) (EndsSo : ScheduleOf P D E B K → Outcome → Type 0) where
-  -- it ends so by a schedule of passes with these names that are run in this way, or without an answer
+  -- it ends so by a schedule of passes with these names that are run in this way, or since no passes have them
   pub data EndsByPlan (runs : Option ℕ) (nested : Bool) (names : List (List ℕ)) (o : Outcome) : Type 0 where
     ByPasses : (schedule : ScheduleOf P D E B K) → IsPlanned name runs nested names schedule → EndsSo schedule o → EndsByPlan runs nested names o
-    WithoutPasses : EndsBadly o → EndsByPlan runs nested names o
+    WithoutPasses : EndsBadly FaultsWord o → EndsByPlan runs nested names o
 
-  -- it ends so by what the word plans, or without an answer
-  pub data EndsByWord (word : List ℕ) (o : Outcome) : Type 0 where
-    ByPlan : (runs : Option ℕ) (nested : Bool) (names : List (List ℕ)) → Plans true word runs nested names → EndsByPlan runs nested names o → EndsByWord word o
-    WithoutPlan : EndsBadly o → EndsByWord word o
+  -- it ends so by what the word plans, or since it plans nothing, or before the word is read, since the text has a fault
+  pub data EndsByWord (faults : Faults) (word : List ℕ) (o : Outcome) : Type 0 where
+    ByPlan : (runs : Option ℕ) (nested : Bool) (names : List (List ℕ)) → Plans true word runs nested names → EndsByPlan runs nested names o → EndsByWord faults word o
+    WithoutPlan : EndsBadly FaultsWord o → EndsByWord faults word o
+    WithoutText : EndsBadly faults o → EndsByWord faults word o

@@ -12,6 +12,7 @@ use Rattle.pliron_evaluator.specs.declared.evaluator.values.Sight.{Sight}
 use Rattle.pliron_evaluator.specs.declared.evaluator.values.Sight.TheVariants.{Ended, Trapped, Reached}
 use Rattle.pliron_opts.specs.Answered.{Reads}
 use Rattle.pliron_cli.specs.Outcomes.{Ends}
+use Rattle.pliron_cli.specs.Reports.{TextFaults}
 use Rattle.pliron_cli.specs.declared.comparing.Sights.{Sights}
 use Rattle.pliron_cli.specs.declared.outcome.Outcome.{Outcome}
 
@@ -85,5 +86,5 @@ module _ (reads : Reads) (m : Meaning) (inputs world : List Datum) (steps : ℕ)
     pub written : EndsWith (other_line same_datum sights) output
 
   -- how comparing runs of a text around these passes ends
-  abbrev pub EndsCompared : (eq : Sight → Sight → Bool) → (same_datum : DatumValue → DatumValue → Bool) → (ran : ℕ → Tree → Tree → IRStatus → Type 0) → (text : List ℕ) → Outcome → Type 0
-  EndsCompared eq same_datum ran text o = Ends (AreReportedSame eq ran text o.output.items) (AreReportedOther eq same_datum ran text o.output.items) o
+  abbrev pub EndsCompared : (faults : TextFaults) → (eq : Sight → Sight → Bool) → (same_datum : DatumValue → DatumValue → Bool) → (ran : ℕ → Tree → Tree → IRStatus → Type 0) → (text : List ℕ) → Outcome → Type 0
+  EndsCompared faults eq same_datum ran text o = Ends (faults text) (AreReportedSame eq ran text o.output.items) (AreReportedOther eq same_datum ran text o.output.items) o

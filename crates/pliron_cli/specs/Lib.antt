@@ -6,3 +6,4 @@ pub mod Likeness
 pub mod Optimised
 pub mod Outcomes
 pub mod Parts
+pub mod Reports

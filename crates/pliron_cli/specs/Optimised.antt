@@ -1,11 +1,12 @@
 -- What is written of a text that passes ran on.
-use Rattle.std.specs.Prelude.{◌≡◌, ℕ, List, [], ◌++◌}
+use Rattle.std.specs.Prelude.{◌≡◌, ℕ, Bool, List, [], ◌++◌, IsTrue}
 use Rattle.pliron_core.specs.Tree.{Tree}
 use Rattle.pliron_core.specs.declared.attrs.IRStatus.{IRStatus}
 use Rattle.pliron_laws.specs.Datum.{Meaning}
 use Rattle.pliron_diagnostics.specs.Layout.{words_of}
 use Rattle.pliron_opts.specs.Answered.{Reads, Prints, IsOptimised, status_line}
 use Rattle.pliron_cli.specs.Outcomes.{Ends}
+use Rattle.pliron_cli.specs.Reports.{TextFaults}
 use Rattle.pliron_cli.specs.declared.outcome.Outcome.{Outcome}
 
 -- it has the same words in the same order
@@ -19,6 +20,7 @@ pub record IsMade (reads : Reads) (prints : Prints) (m : Meaning) (ran : ℕ →
   pub made : IsOptimised reads prints m ran text (printed ++ status_line status)
   pub laid : IsLaidOut printed output
 
--- how optimising a text by these passes ends: with 3 nothing is to be written
-abbrev pub EndsOptimised : Reads → Prints → Meaning → (ran : ℕ → Tree → Tree → IRStatus → Type 0) → (text : List ℕ) → Outcome → Type 0
-EndsOptimised reads prints m ran text o = Ends (IsMade reads prints m ran text o.output.items) (o.output.items ≡ []) o
+-- how optimising a text by these passes ends: with 3 only where each run of a pass is verified, and nothing is to be
+-- written
+abbrev pub EndsOptimised : Reads → Prints → TextFaults → Meaning → (ran : ℕ → Tree → Tree → IRStatus → Type 0) → (verifies : Bool) → (text : List ℕ) → Outcome → Type 0
+EndsOptimised reads prints faults m ran verifies text o = Ends (faults text) (IsMade reads prints m ran text o.output.items) (IsTrue verifies × (o.output.items ≡ [])) o

@@ -119,7 +119,8 @@ fn fit_outcome(alloc: Global, line: &[u8]) -> Result<Outcome, AllocError>
 /// of `check_text`.
 #[tactic(auto, using(crate::proofs::CommandLemmas::says_whole, crate::proofs::CommandLemmas::says_parts, crate::proofs::CommandLemmas::says_unfit))]
 pub fn check<N: Shown>(alloc: Global, source: &Source) -> Result<Outcome, AllocError>
-    ensures { IfOk result (λ outcome. Ends (IsReportedFit N.reads N.D.meaning source.now.text.now outcome.output.items)
+    ensures { IfOk result (λ outcome. Ends (N.faults source.now.text.now)
+        (IsReportedFit N.reads N.D.meaning source.now.text.now outcome.output.items)
         (IsUnfitText N.reads N.D.meaning source.now.text.now × (outcome.output.items ≡ [])) outcome) }
 {
     match find_message::<N>(alloc, source) {

@@ -5,12 +5,11 @@ ghost use Rattle.pliron_laws.specs.Datum.{Number as NumberOf};
 ghost use Rattle.pliron_opts.specs.Ran.{RunsAlone};
 ghost use Rattle.pliron_cli.specs.Asked.{EndsByPlan, EndsByWord};
 ghost use Rattle.pliron_cli.specs.Compared.{AreSeen, EndsCompared, EndsWith, are_same, are_same_so_far, effects_of, is_cut_off as was_cut_off, is_start as is_start_of};
-ghost use Rattle.pliron_cli.specs.Likeness.{IsLikeness, IsReported, IsReportedOther, last_line, status_for};
-ghost use Rattle.pliron_cli.specs.Outcomes.{Ends};
+ghost use Rattle.pliron_cli.specs.Likeness.{EndsLike, IsLikeness, last_line, status_for};
 
 use crate::failure::CommandFailure;
 use crate::optimising::misspelling_outcome;
-use crate::outcome::{Outcome, failure_outcome};
+use crate::outcome::{Outcome, failure_outcome, no_passes_outcome};
 use crate::refusal::refused_outcome;
 use crate::shown::Shown;
 use pliron_core::Context;
@@ -197,9 +196,7 @@ fn status_of(likeness: Likeness) -> u8
 // The outcome of these runs.
 #[tactic(auto, using(crate::proofs::CommandLemmas::reported_likeness))]
 fn outcome_of(alloc: Global, sights: &Sights) -> Result<Outcome, AllocError>
-    ensures { IfOk result (λ outcome. Ends (IsReported ⟦<Sight as PartialEq>⟧.eq ⟦<Datum as PartialEq>⟧.eq sights.now
-        outcome.output.items) (IsReportedOther ⟦<Sight as PartialEq>⟧.eq ⟦<Datum as PartialEq>⟧.eq sights.now
-        outcome.output.items) outcome) }
+    ensures { IfOk result (EndsLike ⟦<Sight as PartialEq>⟧.eq ⟦<Datum as PartialEq>⟧.eq sights.now) }
 {
     let likeness = likeness_of(sights);
     Ok(Outcome {
@@ -210,7 +207,7 @@ fn outcome_of(alloc: Global, sights: &Sights) -> Result<Outcome, AllocError>
 }
 
 // Compares runs before and after the passes of the schedule, which are the plan's.
-#[tactic(auto, using(crate::proofs::CommandLemmas::are_compared))]
+#[tactic(auto, using(crate::proofs::CommandLemmas::are_compared, crate::proofs::CommandLemmas::refused_so))]
 fn compare_in<N: Shown>(
     alloc: Global,
     source: &Source,
@@ -221,7 +218,7 @@ fn compare_in<N: Shown>(
 ) -> Result<Outcome, AllocError>
     requires { ctx.old.tree ≡ no_tree }
     ensures { IfOk result (EndsCompared N.reads N.D.meaning (map NumberOf options.now.inputs.now)
-        (map NumberOf options.now.world.now) options.now.steps
+        (map NumberOf options.now.world.now) options.now.steps N.faults
         ⟦<Sight as PartialEq>⟧.eq ⟦<Datum as PartialEq>⟧.eq (RunsAlone ⟦<BenchFactKind as PartialEq>⟧.eq
         ⟦<InstrumentedSchedule<N, Timeless> as Pass>⟧.outcome schedule.old)
         source.now.text.now) }
@@ -242,7 +239,7 @@ fn compare_with<N: Shown>(
     schedule: &mut InstrumentedSchedule<N, Timeless>,
 ) -> Result<Outcome, AllocError>
     ensures { IfOk result (EndsCompared N.reads N.D.meaning (map NumberOf options.now.inputs.now)
-        (map NumberOf options.now.world.now) options.now.steps
+        (map NumberOf options.now.world.now) options.now.steps N.faults
         ⟦<Sight as PartialEq>⟧.eq ⟦<Datum as PartialEq>⟧.eq (RunsAlone ⟦<BenchFactKind as PartialEq>⟧.eq
         ⟦<InstrumentedSchedule<N, Timeless> as Pass>⟧.outcome schedule.old)
         source.now.text.now) }
@@ -261,9 +258,9 @@ fn compare_by<N: Shown>(
 ) -> Result<Outcome, AllocError>
     ensures { IfOk result (EndsByPlan ⟦<Instrumented<N, Timeless> as Pass>⟧.name
         (λ schedule. EndsCompared N.reads N.D.meaning (map NumberOf options.now.inputs.now)
-        (map NumberOf options.now.world.now) options.now.steps ⟦<Sight as PartialEq>⟧.eq ⟦<Datum as PartialEq>⟧.eq
-        (RunsAlone ⟦<BenchFactKind as PartialEq>⟧.eq ⟦<InstrumentedSchedule<N, Timeless> as Pass>⟧.outcome schedule)
-        source.now.text.now)
+        (map NumberOf options.now.world.now) options.now.steps N.faults ⟦<Sight as PartialEq>⟧.eq
+        ⟦<Datum as PartialEq>⟧.eq (RunsAlone ⟦<BenchFactKind as PartialEq>⟧.eq
+        ⟦<InstrumentedSchedule<N, Timeless> as Pass>⟧.outcome schedule) source.now.text.now)
         plan.now.runs plan.now.nested (map (λ name. name.now) plan.now.names.items)) }
 {
     let nothing = InstrumentationOptions {
@@ -274,7 +271,7 @@ fn compare_by<N: Shown>(
     };
     match build_schedule(alloc, plan, &nothing, Timeless)? {
         Some(mut schedule) => compare_with::<N>(alloc, source, options, plan, &mut schedule),
-        None => failure_outcome::<N>(alloc, CommandFailure::Text, source),
+        None => no_passes_outcome(alloc),
     }
 }
 
@@ -285,7 +282,7 @@ fn compare_by<N: Shown>(
 /// refused; 2 for a word that asks for no passes or an unreadable text; 3 where a run was cut off or something differs.
 /// With 1 and 2 nothing is to be written to the output. Errors: allocation failure for what is reported. Cost: reading,
 /// two runs by `evaluate_noting`, and the passes.
-#[tactic(auto, using(crate::proofs::CommandLemmas::is_asked, crate::proofs::CommandLemmas::no_plan))]
+#[tactic(auto, using(crate::proofs::CommandLemmas::is_asked, crate::proofs::CommandLemmas::no_plan, crate::proofs::CommandLemmas::no_text))]
 pub fn compare<N: Shown>(
     alloc: Global,
     source: &Source,
@@ -293,9 +290,9 @@ pub fn compare<N: Shown>(
 ) -> Result<Outcome, AllocError>
     ensures { IfOk result (EndsByWord ⟦<Instrumented<N, Timeless> as Pass>⟧.name
         (λ schedule. EndsCompared N.reads N.D.meaning (map NumberOf options.now.run.inputs.now)
-        (map NumberOf options.now.run.world.now) options.now.run.steps ⟦<Sight as PartialEq>⟧.eq
+        (map NumberOf options.now.run.world.now) options.now.run.steps N.faults ⟦<Sight as PartialEq>⟧.eq
         ⟦<Datum as PartialEq>⟧.eq (RunsAlone ⟦<BenchFactKind as PartialEq>⟧.eq
-        ⟦<InstrumentedSchedule<N, Timeless> as Pass>⟧.outcome schedule) source.now.text.now)
+        ⟦<InstrumentedSchedule<N, Timeless> as Pass>⟧.outcome schedule) source.now.text.now) (N.faults source.now.text.now)
         options.now.pipeline.now) }
 {
     match PipelineText::read(alloc, options.pipeline) {

@@ -1,11 +1,14 @@
 //! The commands that draw.
-ghost use Rattle.std.specs.Prelude.{⊤, IfOk};
+ghost use Rattle.std.specs.Prelude.{◌⊎◌, ⊤, IfOk};
 ghost use Rattle.pliron_cli.specs.Outcomes.{Ends};
+ghost use Rattle.pliron_cli.specs.Reports.{FaultsBench, FaultsGraph, FaultsRegion};
 ghost use Rattle.pliron_graphviz.specs.Drawn.{IsFlowText};
 
-use crate::ending::{DrawFailure, draw_failure_outcome, success_outcome};
+use crate::ending::{graph_outcome, region_outcome, success_outcome};
+use crate::outcome::failure_outcome;
 use crate::{CommandFailure, Outcome, Source};
 use pliron_graphviz::{Drawing, FlowOptions, text_flow, text_graph};
+use pliron_opts::BenchNotation;
 use std::alloc::{AllocError, Global};
 
 /// Draws the control flow of a region of the text's operation in the dot language: its blocks with their operations,
@@ -15,28 +18,24 @@ use std::alloc::{AllocError, Global};
 /// Statuses: 0; 1 on allocation failure; 2 for an unreadable text, and where no region has the path. With 1 and 2
 /// nothing is to be written to the output. Errors: allocation failure for what is reported. Cost: reading, and that of
 /// `graph_rows`.
+#[tactic(auto, using(crate::proofs::EndingLemmas::text_fails, crate::proofs::EndingLemmas::other_fails))]
 pub fn draw_flow(
     alloc: Global,
     source: &Source,
     options: &FlowOptions,
 ) -> Result<Outcome, AllocError>
-    ensures { IfOk result (Ends IsFlowText ⊥) }
+    ensures { IfOk result (Ends (λ report. FaultsBench source.now.text.now report
+        ⊎ FaultsRegion options.now.region.now report) IsFlowText ⊥) }
 {
     match text_flow(alloc, source.text, options) {
         Ok(Drawing::Drawn(picture)) => Ok(success_outcome(alloc, picture)),
-        Ok(Drawing::Unreadable) => draw_failure_outcome(
+        Ok(Drawing::Unreadable) => {
+            failure_outcome::<BenchNotation>(alloc, CommandFailure::Text, source)
+        }
+        Ok(Drawing::NoRegion) => region_outcome(alloc, options.region),
+        Err(error) => failure_outcome::<BenchNotation>(
             alloc,
-            DrawFailure::Failed(CommandFailure::Text),
-            source,
-        ),
-        Ok(Drawing::NoRegion) => draw_failure_outcome(
-            alloc,
-            DrawFailure::Region(options.region),
-            source,
-        ),
-        Err(error) => draw_failure_outcome(
-            alloc,
-            DrawFailure::Failed(CommandFailure::Refused(error)),
+            CommandFailure::Refused(error),
             source,
         ),
     }
@@ -49,15 +48,16 @@ pub fn draw_flow(
 /// Statuses: 0; 1 on allocation failure; 2 for another text. With 1 and 2 nothing is to be written to the output.
 /// Errors: allocation failure for what is reported. Cost: that of `read_graph`, and linear but for sorting each
 /// component.
+#[tactic(auto, using(crate::proofs::EndingLemmas::text_fails, crate::proofs::EndingLemmas::other_fails))]
 pub fn draw_graph(alloc: Global, source: &Source) -> Result<Outcome, AllocError>
-    ensures { IfOk result (Ends ⊤ ⊥) }
+    ensures { IfOk result (Ends (λ report. FaultsBench source.now.text.now report ⊎ FaultsGraph report) ⊤ ⊥) }
 {
     match text_graph(alloc, source.text) {
         Ok(Some(picture)) => Ok(success_outcome(alloc, picture)),
-        Ok(None) => draw_failure_outcome(alloc, DrawFailure::Graph, source),
-        Err(error) => draw_failure_outcome(
+        Ok(None) => graph_outcome(alloc, source),
+        Err(error) => failure_outcome::<BenchNotation>(
             alloc,
-            DrawFailure::Failed(CommandFailure::Refused(error)),
+            CommandFailure::Refused(error),
             source,
         ),
     }

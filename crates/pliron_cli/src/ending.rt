@@ -1,61 +1,39 @@
 //! How the commands that draw end.
-ghost use Rattle.std.specs.Prelude.{◌≡◌, ◌⊎◌, IfOk};
+ghost use Rattle.std.specs.Prelude.{◌≡◌, IfOk, string_bytes};
 ghost use Rattle.pliron_cli.specs.Outcomes.{EndsBadly};
+ghost use Rattle.pliron_cli.specs.Reports.{FaultsGraph, FaultsRegion};
 
 use crate::graph_fault::graph_fault_message;
-use crate::{CommandFailure, Outcome, Source};
+use crate::outcome::unusable_outcome;
+use crate::{Outcome, Source};
 use std::alloc::{AllocError, Global};
 
-/// Why a command ends without an answer.
-#[derive(Clone, Copy)]
-pub enum DrawFailure<'w> {
-    /// As any command may fail.
-    Failed(CommandFailure),
-    /// The text isn't that of a graph.
-    Graph,
-    /// No region has this path.
-    Region(&'w str),
-}
-
-impl DrawFailure<'_> {
-    // The status that it ends with: 1 where something was refused, and else 2.
-    fn status(self) -> u8
-        ensures { (result ≡ 1) ⊎ (result ≡ 2) }
-    {
-        match self {
-            DrawFailure::Failed(failure) => failure.status(),
-            DrawFailure::Graph | DrawFailure::Region(_) => 2,
-        }
-    }
-
-    // The message for it.
-    fn message(self, alloc: Global, source: &Source) -> Result<String, AllocError> {
-        match self {
-            DrawFailure::Failed(failure) => failure.message(alloc, source),
-            DrawFailure::Graph => graph_fault_message(alloc, source),
-            DrawFailure::Region(path) => format!(in alloc;
-                "error: no region `{path}`\nhelp: `0.2.0` is region 0 of operation 2 of region 0 of the text's operation\n"
-            ),
-        }
-    }
-}
-
-/// The outcome of a command without an answer: nothing is to be written, and what went wrong is reported. Errors:
-/// allocation failure. Cost: that of reading the text.
-#[tactic(auto, using(crate::proofs::EndingLemmas::ends_badly_by))]
-pub fn draw_failure_outcome(
-    alloc: Global,
-    wrong: DrawFailure,
-    source: &Source,
-) -> Result<Outcome, AllocError>
-    ensures { IfOk result EndsBadly }
+// What is reported where no region has this path.
+#[tactic(auto, using(crate::proofs::EndingLemmas::region_first))]
+fn region_message(alloc: Global, path: &str) -> Result<String, AllocError>
+    ensures { IfOk result (λ report. FaultsRegion path.now (string_bytes report)) }
 {
-    let report = wrong.message(alloc, source)?;
-    Ok(Outcome {
-        output: Vec::new(alloc),
-        report,
-        status: wrong.status(),
-    })
+    let mut report = format!(in alloc; "error: no region `{path}`\n")?;
+    report.push_str(
+        "help: `0.2.0` is region 0 of operation 2 of region 0 of the text's operation\n",
+    )?;
+    Ok(report)
+}
+
+/// The outcome where no region has this path: nothing is to be written, and the path is reported. Errors: allocation
+/// failure. Cost: linear in the path.
+pub fn region_outcome(alloc: Global, path: &str) -> Result<Outcome, AllocError>
+    ensures { IfOk result (EndsBadly (FaultsRegion path.now)) }
+{
+    Ok(unusable_outcome(alloc, region_message(alloc, path)?))
+}
+
+/// The outcome where the text isn't that of a graph: nothing is to be written, and a place where it isn't is reported.
+/// Errors: allocation failure. Cost: that of reading the text.
+pub fn graph_outcome(alloc: Global, source: &Source) -> Result<Outcome, AllocError>
+    ensures { IfOk result (EndsBadly FaultsGraph) }
+{
+    Ok(unusable_outcome(alloc, graph_fault_message(alloc, source)?))
 }
 
 /// The outcome of a command with this answer. Cost: constant.

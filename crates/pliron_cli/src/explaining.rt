@@ -1,8 +1,10 @@
 //! The command that explains what passes did.
-ghost use Rattle.std.specs.Prelude.{◌≡◌, ⊤, length, IfOk, IfSome};
+ghost use Rattle.std.specs.Prelude.{◌≡◌, ◌⊎◌, ⊤, length, IfOk, IfSome};
 ghost use Rattle.pliron_cli.specs.Outcomes.{Ends};
+ghost use Rattle.pliron_cli.specs.Reports.{FaultsBench, FaultsWord};
 
-use crate::ending::{DrawFailure, draw_failure_outcome, success_outcome};
+use crate::ending::success_outcome;
+use crate::outcome::{failure_outcome, no_passes_outcome};
 use crate::refusal::refused_outcome;
 use crate::{CommandFailure, Outcome, Source, misspelling_outcome};
 use pliron_graphviz::{PassList, explain_changes};
@@ -60,20 +62,21 @@ fn list_of(
 }
 
 // Explains what the passes that the plan asks for did.
+#[tactic(auto, using(crate::proofs::EndingLemmas::text_fails, crate::proofs::EndingLemmas::other_fails, crate::proofs::CommandLemmas::refused_so))]
 fn explain_by(
     alloc: Global,
     source: &Source,
     plan: &PipelineText,
     reports_missed: bool,
 ) -> Result<Outcome, AllocError>
-    ensures { IfOk result (Ends ⊤ ⊥) }
+    ensures { IfOk result (Ends (λ report. FaultsBench source.now.text.now report ⊎ FaultsWord report) ⊤ ⊥) }
 {
     let Some(list) = list_of(alloc, plan, reports_missed)? else {
-        return draw_failure_outcome(alloc, DrawFailure::Failed(CommandFailure::Text), source);
+        return no_passes_outcome(alloc);
     };
     match explain_changes(alloc, source.text, &list) {
         Ok(Some(lines)) => explanation_outcome(alloc, lines),
-        Ok(None) => draw_failure_outcome(alloc, DrawFailure::Failed(CommandFailure::Text), source),
+        Ok(None) => failure_outcome::<BenchNotation>(alloc, CommandFailure::Text, source),
         Err(error) => refused_outcome::<BenchNotation>(alloc, source, error, plan),
     }
 }
@@ -94,22 +97,21 @@ pub struct ExplainOptions<'w> {
 /// Statuses: 0; 1 where memory or the passes were refused; 2 for an unreadable text, or a word that asks for no passes.
 /// With 1 and 2 nothing is to be written to the output. Errors: allocation failure for what is reported. Cost: that of
 /// `explain_changes`.
+#[tactic(auto, using(crate::proofs::EndingLemmas::text_fails, crate::proofs::EndingLemmas::other_fails))]
 pub fn explain(
     alloc: Global,
     source: &Source,
     options: &ExplainOptions,
 ) -> Result<Outcome, AllocError>
-    ensures { IfOk result (Ends ⊤ ⊥) }
+    ensures { IfOk result (Ends (λ report. FaultsBench source.now.text.now report ⊎ FaultsWord report) ⊤ ⊥) }
 {
     match PipelineText::read(alloc, options.pipeline) {
         Ok(plan) => explain_by(alloc, source, &plan, options.missed),
         Err(PlanError::Word(fault)) => misspelling_outcome(alloc, options.pipeline, &fault),
-        Err(PlanError::Memory) => {
-            draw_failure_outcome(
-                alloc,
-                DrawFailure::Failed(CommandFailure::Refused(OptError::Memory)),
-                source,
-            )
-        }
+        Err(PlanError::Memory) => failure_outcome::<BenchNotation>(
+            alloc,
+            CommandFailure::Refused(OptError::Memory),
+            source,
+        ),
     }
 }

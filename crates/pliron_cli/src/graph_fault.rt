@@ -1,4 +1,7 @@
 //! Where a text isn't that of a graph.
+ghost use Rattle.std.specs.Prelude.{IfOk, string_bytes};
+ghost use Rattle.pliron_cli.specs.Reports.{FaultsGraph};
+
 use pliron_diagnostics::{Source, SourceMark, mark_source};
 use std::alloc::{AllocError, Global};
 use std::collections::HashMap;
@@ -147,9 +150,12 @@ fn find_fault(alloc: Global, text: &[u8]) -> Result<Option<GraphFault>, AllocErr
 
 /// The message for a text that isn't that of a graph: the first place at which it is wrong, and what was expected
 /// there. Errors: allocation failure. Cost: linear in the text.
-pub fn graph_fault_message(alloc: Global, source: &Source) -> Result<String, AllocError> {
+#[tactic(auto, using(crate::proofs::EndingLemmas::begins_still))]
+pub fn graph_fault_message(alloc: Global, source: &Source) -> Result<String, AllocError>
+    ensures { IfOk result (λ report. FaultsGraph (string_bytes report)) }
+{
     let Some(fault) = find_fault(alloc, source.text)? else {
-        return format!(in alloc; "error: unreadable graph\n");
+        return String::from_str(alloc, "error: unreadable graph\n");
     };
     let label = format!(in alloc; "expected {}", fault.expected)?;
     let mark = SourceMark {

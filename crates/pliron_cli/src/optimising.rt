@@ -2,13 +2,14 @@
 ghost use Rattle.std.specs.Prelude.{◌≡◌, map, IfOk, IfSome, string_bytes};
 ghost use Rattle.pliron_opts.specs.Ran.{RunsAlone};
 ghost use Rattle.pliron_cli.specs.Asked.{EndsByPlan, EndsByWord};
-ghost use Rattle.pliron_cli.specs.Outcomes.{EndsBadly};
+ghost use Rattle.pliron_cli.specs.Outcomes.{EndsBadly, IsRefused};
+ghost use Rattle.pliron_cli.specs.Reports.{FaultsWord};
 ghost use Rattle.pliron_cli.specs.Optimised.{EndsOptimised, IsLaidOut};
 
 use crate::failure::CommandFailure;
-use crate::outcome::{Outcome, failure_outcome};
+use crate::outcome::{Outcome, failure_outcome, no_passes_outcome, refusing_outcome, unusable_outcome};
 use crate::refusal::refused_outcome;
-use crate::report::{ReportOptions, report_of, write_refused};
+use crate::report::{ReportOptions, refused_note, report_of};
 use crate::shown::Shown;
 use pliron_diagnostics::{Source, SourceMark, mark_source, pretty};
 use pliron_instrument::{
@@ -34,7 +35,9 @@ pub struct OptOptions<'w> {
 }
 
 // The message for a word that plans no passes.
-fn misspelling_message(alloc: Global, word: &str, fault: &WordFault) -> Result<String, AllocError> {
+fn misspelling_message(alloc: Global, word: &str, fault: &WordFault) -> Result<String, AllocError>
+    ensures { IfOk result (λ report. FaultsWord (string_bytes report)) }
+{
     let label = format!(in alloc; "expected {}", fault.expected)?;
     let mark = SourceMark {
         message: "no such passes",
@@ -53,14 +56,9 @@ pub fn misspelling_outcome(
     word: &str,
     fault: &WordFault,
 ) -> Result<Outcome, AllocError>
-    ensures { IfOk result EndsBadly }
+    ensures { IfOk result (EndsBadly FaultsWord) }
 {
-    let report = misspelling_message(alloc, word, fault)?;
-    Ok(Outcome {
-        output: Vec::new(alloc),
-        report,
-        status: 2,
-    })
+    Ok(unusable_outcome(alloc, misspelling_message(alloc, word, fault)?))
 }
 
 // The text with each operation on a line of its own, or as it is.
@@ -109,6 +107,7 @@ fn report_options(options: &OptOptions) -> ReportOptions {
 }
 
 // The outcome where memory or the passes were refused: what was noted, why, and in which pass.
+#[tactic(auto, using(crate::proofs::EndingLemmas::told_between))]
 fn refusal_outcome<N: Shown, C: Progress + Drop>(
     alloc: Global,
     mut report: String,
@@ -117,22 +116,21 @@ fn refusal_outcome<N: Shown, C: Progress + Drop>(
     plan: &PipelineText,
     passes: &[Instrumented<N, C>],
 ) -> Result<Outcome, AllocError>
-    ensures { IfOk result EndsBadly }
+    ensures { IfOk result IsRefused }
 {
     let refused = refused_outcome::<N>(alloc, source, error, plan)?;
+    let note = if error == OptError::LiveUse {
+        String::new(alloc)
+    } else {
+        refused_note(alloc, passes)?
+    };
     report.push_str(refused.report.as_str())?;
-    if error != OptError::LiveUse {
-        write_refused(&mut report, passes)?;
-    }
-    Ok(Outcome {
-        output: Vec::new(alloc),
-        report,
-        status: refused.status,
-    })
+    report.push_str(note.as_str())?;
+    Ok(refusing_outcome(alloc, report))
 }
 
 // What these passes, which are the plan's, make of the text; the report begins with this one.
-#[tactic(auto, using(crate::proofs::CommandLemmas::is_made))]
+#[tactic(auto, using(crate::proofs::CommandLemmas::is_made, crate::proofs::CommandLemmas::refused_so))]
 fn opt_with<N: Shown, C: Progress + Copy + Drop>(
     alloc: Global,
     source: &Source,
@@ -141,8 +139,9 @@ fn opt_with<N: Shown, C: Progress + Copy + Drop>(
     schedule: &mut InstrumentedSchedule<N, C>,
     mut report: String,
 ) -> Result<Outcome, AllocError>
-    ensures { IfOk result (EndsOptimised N.reads N.prints N.D.meaning (RunsAlone ⟦<BenchFactKind as PartialEq>⟧.eq
-        ⟦<InstrumentedSchedule<N, C> as Pass>⟧.outcome schedule.old) source.now.text.now) }
+    ensures { IfOk result (EndsOptimised N.reads N.prints N.faults N.D.meaning (RunsAlone ⟦<BenchFactKind as PartialEq>⟧.eq
+        ⟦<InstrumentedSchedule<N, C> as Pass>⟧.outcome schedule.old) options.now.instrumentation.verifies
+        source.now.text.now) }
 {
     let made = optimise(alloc, schedule, source.text);
     let passes = instrumented_passes(schedule);
@@ -156,7 +155,7 @@ fn opt_with<N: Shown, C: Progress + Copy + Drop>(
             plan,
             passes,
         ),
-        Ok(Some(_)) if has_fault(passes) => Ok(Outcome {
+        Ok(Some(_)) if options.instrumentation.verifies && has_fault(passes) => Ok(Outcome {
             output: Vec::new(alloc),
             report,
             status: 3,
@@ -182,19 +181,19 @@ fn opt_by<N: Shown, C: Progress + Copy + Drop>(
     report: String,
 ) -> Result<Outcome, AllocError>
     ensures { IfOk result (EndsByPlan ⟦<Instrumented<N, C> as Pass>⟧.name
-        (λ schedule. EndsOptimised N.reads N.prints N.D.meaning
+        (λ schedule. EndsOptimised N.reads N.prints N.faults N.D.meaning
         (RunsAlone ⟦<BenchFactKind as PartialEq>⟧.eq ⟦<InstrumentedSchedule<N, C> as Pass>⟧.outcome schedule)
-        source.now.text.now) plan.now.runs
+        options.now.instrumentation.verifies source.now.text.now) plan.now.runs
         plan.now.nested (map (λ name. name.now) plan.now.names.items)) }
 {
     match build_schedule::<N, C>(alloc, plan, &options.instrumentation, clock)? {
         Some(mut schedule) => opt_with(alloc, source, options, plan, &mut schedule, report),
-        None => failure_outcome::<N>(alloc, CommandFailure::Text, source),
+        None => no_passes_outcome(alloc),
     }
 }
 
 // What the passes that the word asks for make of the text; the report begins with this one.
-#[tactic(auto, using(crate::proofs::CommandLemmas::is_asked, crate::proofs::CommandLemmas::no_plan))]
+#[tactic(auto, using(crate::proofs::CommandLemmas::is_asked, crate::proofs::CommandLemmas::no_plan, crate::proofs::CommandLemmas::no_text))]
 pub(crate) fn opt_after<N: Shown, C: Progress + Copy + Drop>(
     alloc: Global,
     source: &Source,
@@ -203,9 +202,9 @@ pub(crate) fn opt_after<N: Shown, C: Progress + Copy + Drop>(
     report: String,
 ) -> Result<Outcome, AllocError>
     ensures { IfOk result (EndsByWord ⟦<Instrumented<N, C> as Pass>⟧.name
-        (λ schedule. EndsOptimised N.reads N.prints N.D.meaning
+        (λ schedule. EndsOptimised N.reads N.prints N.faults N.D.meaning
         (RunsAlone ⟦<BenchFactKind as PartialEq>⟧.eq ⟦<InstrumentedSchedule<N, C> as Pass>⟧.outcome schedule)
-        source.now.text.now)
+        options.now.instrumentation.verifies source.now.text.now) (N.faults source.now.text.now)
         options.now.pipeline.now) }
 {
     match PipelineText::read(alloc, options.pipeline) {
@@ -231,9 +230,9 @@ pub fn opt<N: Shown, C: Progress + Copy + Drop>(
     clock: C,
 ) -> Result<Outcome, AllocError>
     ensures { IfOk result (EndsByWord ⟦<Instrumented<N, C> as Pass>⟧.name
-        (λ schedule. EndsOptimised N.reads N.prints N.D.meaning
+        (λ schedule. EndsOptimised N.reads N.prints N.faults N.D.meaning
         (RunsAlone ⟦<BenchFactKind as PartialEq>⟧.eq ⟦<InstrumentedSchedule<N, C> as Pass>⟧.outcome schedule)
-        source.now.text.now)
+        options.now.instrumentation.verifies source.now.text.now) (N.faults source.now.text.now)
         options.now.pipeline.now) }
 {
     opt_after::<N, C>(alloc, source, options, clock, String::new(alloc))

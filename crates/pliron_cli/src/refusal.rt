@@ -1,12 +1,12 @@
 //! What is reported where passes are refused.
-ghost use Rattle.std.specs.Prelude.{◌≡◌, IfOk};
+ghost use Rattle.std.specs.Prelude.{◌≡◌, IfOk, IfSome, string_bytes};
 ghost use Rattle.pliron_core.specs.Writes.{no_tree};
-ghost use Rattle.pliron_cli.specs.Outcomes.{EndsBadly};
+ghost use Rattle.pliron_cli.specs.Outcomes.{IsRefused};
+ghost use Rattle.pliron_cli.specs.Reports.{TellsRefusal};
 
-use crate::failure::CommandFailure;
 use crate::live_use::find_live_use;
-use crate::outcome::{Outcome, failure_outcome};
-use crate::report::write_refused;
+use crate::outcome::{Outcome, refused_by, refusing_outcome};
+use crate::report::refused_note;
 use crate::shown::Shown;
 use crate::violation_message::live_use_message;
 use pliron_core::Context;
@@ -19,6 +19,7 @@ use pliron_laws::OptError;
 use std::alloc::{AllocError, Global};
 
 // What is reported of the plan's passes on the text, in this empty context.
+#[tactic(auto, using(crate::proofs::EndingLemmas::told_still))]
 fn refusal_message_in<N: Shown>(
     alloc: Global,
     source: &Source,
@@ -26,6 +27,7 @@ fn refusal_message_in<N: Shown>(
     ctx: &mut Context,
 ) -> Result<Option<String>, OptError>
     requires { ctx.old.tree ≡ no_tree }
+    ensures { IfOk result (λ found. IfSome found (λ message. TellsRefusal (string_bytes message))) }
 {
     let nothing = InstrumentationOptions {
         counts: false,
@@ -48,7 +50,8 @@ fn refusal_message_in<N: Shown>(
         return Ok(None);
     };
     let mut message = live_use_message::<N>(alloc, source, &found, ctx)?;
-    write_refused(&mut message, instrumented_passes(&schedule))?;
+    let note = refused_note(alloc, instrumented_passes(&schedule))?;
+    message.push_str(note.as_str())?;
     Ok(Some(message))
 }
 
@@ -61,7 +64,9 @@ fn refusal_message<N: Shown>(
     alloc: Global,
     source: &Source,
     plan: &PipelineText,
-) -> Result<Option<String>, OptError> {
+) -> Result<Option<String>, OptError>
+    ensures { IfOk result (λ found. IfSome found (λ message. TellsRefusal (string_bytes message))) }
+{
     let mut ctx = Context::new(alloc);
     refusal_message_in::<N>(alloc, source, plan, &mut ctx)
 }
@@ -76,7 +81,7 @@ pub(crate) fn refused_outcome<N: Shown>(
     error: OptError,
     plan: &PipelineText,
 ) -> Result<Outcome, AllocError>
-    ensures { IfOk result EndsBadly }
+    ensures { IfOk result IsRefused }
 {
     let reported = if error == OptError::LiveUse {
         refusal_message::<N>(alloc, source, plan).ok().flatten()
@@ -84,11 +89,7 @@ pub(crate) fn refused_outcome<N: Shown>(
         None
     };
     match reported {
-        Some(report) => Ok(Outcome {
-            output: Vec::new(alloc),
-            report,
-            status: 1,
-        }),
-        None => failure_outcome::<N>(alloc, CommandFailure::Refused(error), source),
+        Some(report) => Ok(refusing_outcome(alloc, report)),
+        None => refused_by(alloc, error),
     }
 }

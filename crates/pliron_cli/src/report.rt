@@ -158,17 +158,18 @@ fn write_times<N: Notation, C: Progress + Drop>(
     write_time(report, "all", all, whole, whole)
 }
 
-/// Writes which pass was refused, if one was. Errors: allocation failure. Cost: linear in the passes.
-pub fn write_refused<N: Notation, C: Progress + Drop>(
-    report: &mut String,
+/// Which pass was refused; empty, if none was. Errors: allocation failure. Cost: linear in the passes.
+pub fn refused_note<N: Notation, C: Progress + Drop>(
+    alloc: Global,
     passes: &[Instrumented<N, C>],
-) -> Result<(), AllocError> {
+) -> Result<String, AllocError> {
+    let mut note = String::new(alloc);
     for pass in passes {
         if pass.run_record().refused.is_some() {
-            write!(report, "note: it was the pass {}\n", pass.pass_name())?;
+            write!(note, "note: it was the pass {}\n", pass.pass_name())?;
         }
     }
-    Ok(())
+    Ok(note)
 }
 
 /// What is reported of the runs of the passes: trees as they were printed, what verifying found, counts and times.

@@ -1,5 +1,9 @@
 //! What is reported of a violation: the operand by its number and its name, where it is defined, and for an edge both
 //! counts.
+ghost use Rattle.std.specs.Prelude.{◌≡◌, codes, IfOk, string_bytes};
+ghost use Rattle.pliron_diagnostics.specs.Messages.{BeginsWith, heading};
+ghost use Rattle.pliron_cli.specs.Reports.{TellsRefusal};
+
 use crate::live_use::LiveUse;
 use crate::shown::Shown;
 use pliron_core::{BasicBlock, Context, Def, Operation, Ptr, Region, Value};
@@ -100,12 +104,16 @@ static INVISIBLE: PlainWords = PlainWords {
     help: "a value is visible in its own region and inside that: define it before the operation that holds it",
 };
 
-/// What is said of a use for which passes are refused.
-static UNREACHED: PlainWords = PlainWords {
-    message: "refused: a value of an unreachable block is used",
-    label: "is defined in a block that isn't reached",
-    help: "define the value in a block that is reached, or pass it as an argument of a block",
-};
+// What is said of a use for which passes are refused.
+fn unreached_words() -> PlainWords
+    ensures { result.message.now ≡ codes "refused: a value of an unreachable block is used" }
+{
+    PlainWords {
+        message: "refused: a value of an unreachable block is used",
+        label: "is defined in a block that isn't reached",
+        help: "define the value in a block that is reached, or pass it as an argument of a block",
+    }
+}
 
 // The operation that is wrong.
 fn operation_of(violation: &Violation, root: Ptr<Operation>) -> Ptr<Operation> {
@@ -237,7 +245,9 @@ impl ViolationText<'_> {
         op: Ptr<Operation>,
         index: usize,
         plain: PlainWords,
-    ) -> Result<ViolationWords, AllocError> {
+    ) -> Result<ViolationWords, AllocError>
+        ensures { IfOk result (λ words. words.message.now ≡ plain.message.now) }
+    {
         let number = index.saturating_add(1);
         let mut label = format!(in self.alloc; "operand {number}")?;
         let mut note = None;
@@ -337,13 +347,26 @@ impl ViolationText<'_> {
         message.push_str(text.as_str())
     }
 
+    // What helps, and the note.
+    fn help(&self, words: &ViolationWords) -> Result<String, AllocError> {
+        let mut help = format!(in self.alloc; "help: {}\n", words.help)?;
+        if let Some(note) = &words.note {
+            self.push_note(&mut help, note)?;
+        }
+        Ok(help)
+    }
+
     // The words with a mark under this part, what helps, and the note.
+    #[tactic(auto, using(crate::proofs::EndingLemmas::begins_still))]
     fn message(
         &self,
         severity: &str,
         part: Option<TextPart>,
         words: &ViolationWords,
-    ) -> Result<String, AllocError> {
+    ) -> Result<String, AllocError>
+        ensures { IfOk result (λ message. BeginsWith (string_bytes message) (heading severity.now
+            words.now.message.now)) }
+    {
         let mark = SourceMark {
             message: words.message,
             label: words.label.as_str(),
@@ -352,10 +375,8 @@ impl ViolationText<'_> {
             len: part.map_or(0, |part| part.len),
         };
         let mut message = mark_source_as(self.alloc, severity, self.source.text, &mark)?;
-        write!(message, "help: {}\n", words.help)?;
-        if let Some(note) = &words.note {
-            self.push_note(&mut message, note)?;
-        }
+        let help = self.help(words)?;
+        message.push_str(help.as_str())?;
         Ok(message)
     }
 }
@@ -388,19 +409,22 @@ pub fn violation_message<N: Shown>(
 /// has, the definition alone.
 ///
 /// Errors: allocation failure. Cost: linear in the text.
+#[tactic(auto, using(crate::proofs::EndingLemmas::told_use))]
 pub(crate) fn live_use_message<N: Shown>(
     alloc: Global,
     source: &Source,
     found: &LiveUse,
     ctx: &Context,
-) -> Result<String, OptError> {
+) -> Result<String, OptError>
+    ensures { IfOk result (λ message. TellsRefusal (string_bytes message)) }
+{
     let parts = N::parts(alloc, source.text)?;
     let text = ViolationText {
         alloc,
         source,
         parts: &parts,
     };
-    let words = text.operand_words(ctx, found.user, found.index, UNREACHED)?;
+    let words = text.operand_words(ctx, found.user, found.index, unreached_words())?;
     let part = parts.operation_part(found.user.key());
     if part.is_some() {
         return Ok(text.message("error", part, &words)?);

@@ -1,5 +1,6 @@
 pub mod Comments
 pub mod Isolated
 pub mod Layout
+pub mod Messages
 pub mod Laid
 pub mod Position

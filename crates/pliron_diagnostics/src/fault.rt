@@ -1,6 +1,7 @@
 //! What is reported of texts outside the notation.
-ghost use Rattle.std.specs.Prelude.{IsOkUnless};
+ghost use Rattle.std.specs.Prelude.{codes, IfOk, IfSome, IsOkUnless, string_bytes};
 ghost use Rattle.pliron_laws.specs.declared.fault.OptError.TheVariants.{Memory};
+ghost use Rattle.pliron_diagnostics.specs.Messages.{BeginsWith, heading};
 
 use crate::fault_label::label_of;
 use crate::source_mark::{SourceMark, mark_source};
@@ -13,6 +14,8 @@ use std::alloc::Global;
 ///
 /// Errors: allocation failure. Cost: that of reading.
 pub fn text_fault(alloc: Global, name: &str, text: &[u8]) -> Result<Option<String>, OptError>
+    ensures heading { IfOk result (λ found. IfSome found (λ message. BeginsWith (string_bytes message)
+        (heading (codes "error") (codes "unreadable text")))) }
     ensures memory { IsOkUnless result OptError.Memory }
 {
     let Some(fault) = find_text_fault(alloc, text)? else {

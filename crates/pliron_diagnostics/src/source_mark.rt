@@ -1,5 +1,6 @@
 //! Marks under a part of a text.
-ghost use Rattle.std.specs.Prelude.{◌≡◌, ◌+◌, ◌==◌, ◌≤◌, length, take, take_while, reverse, not, IfOk};
+ghost use Rattle.std.specs.Prelude.{◌≡◌, ◌+◌, ◌==◌, ◌≤◌, length, take, take_while, reverse, not, codes, IfOk, string_bytes};
+ghost use Rattle.pliron_diagnostics.specs.Messages.{BeginsWith, heading};
 ghost use Rattle.pliron_diagnostics.specs.Position.{is_line_end, line_behind, column_behind};
 
 use std::alloc::{AllocError, Global};
@@ -120,17 +121,32 @@ fn push_times(text: &mut String, mark: &str, times: usize) -> Result<(), AllocEr
 /// line only what is around the part is shown.
 ///
 /// Errors: allocation failure. Cost: linear in the text before the part, and in what is shown.
-pub fn mark_source(alloc: Global, text: &[u8], mark: &SourceMark) -> Result<String, AllocError> {
+pub fn mark_source(alloc: Global, text: &[u8], mark: &SourceMark) -> Result<String, AllocError>
+    ensures { IfOk result (λ reported. BeginsWith (string_bytes reported) (heading (codes "error")
+        mark.now.message.now)) }
+{
     mark_source_as(alloc, "error", text, mark)
 }
 
 /// The same with a severity: `error`, `warning` or `note`. Errors: allocation failure. Cost: that of `mark_source`.
+#[tactic(auto, using(crate::proofs::MessageLemmas::begins))]
 pub fn mark_source_as(
     alloc: Global,
     severity: &str,
     text: &[u8],
     mark: &SourceMark,
-) -> Result<String, AllocError> {
+) -> Result<String, AllocError>
+    ensures { IfOk result (λ reported. BeginsWith (string_bytes reported) (heading severity.now
+        mark.now.message.now)) }
+{
+    let mut reported = format!(in alloc; "{severity}: {}\n", mark.message)?;
+    let marked = marked_line(alloc, text, mark)?;
+    reported.push_str(marked.as_str())?;
+    Ok(reported)
+}
+
+// Where the part is, its line, and a mark under it.
+fn marked_line(alloc: Global, text: &[u8], mark: &SourceMark) -> Result<String, AllocError> {
     let place = position_of(text, mark.start);
     let (first, len) = line_around(text, mark.start);
     let line = without_return(&text[first..first + len]);
@@ -140,8 +156,8 @@ pub fn mark_source_as(
         .saturating_add(mark.len.max(1))
         .saturating_add(AROUND)
         .min(line.len());
-    let mut reported = format!(in alloc; "{severity}: {}\n", mark.message)?;
     let number = format!(in alloc; "{}", place.line)?;
+    let mut reported = String::new(alloc);
     push_times(&mut reported, " ", number.len())?;
     write!(
         reported,

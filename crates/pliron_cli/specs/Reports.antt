@@ -1,0 +1,33 @@
+-- What is reported of commands that end without an answer.
+use Rattle.std.specs.Prelude.{◌≡◌, ℕ, List, ◌++◌, codes}
+use Rattle.pliron_diagnostics.specs.Messages.{BeginsWith, heading}
+
+-- which reports say what is wrong; and which do so of a text
+abbrev pub Faults : Type 1
+Faults = (report : List ℕ) → Type 0
+
+abbrev pub TextFaults : Type 1
+TextFaults = (text : List ℕ) → Faults
+
+-- the first line of a report
+abbrev pub error_line : (wrong : List ℕ) → List ℕ
+error_line wrong = heading (codes "error") wrong
+
+-- it says of a text of `Bench` that it is unreadable; where and why is open
+abbrev pub FaultsBench : TextFaults
+FaultsBench text report = BeginsWith report (error_line (codes "unreadable text"))
+
+abbrev pub FaultsGraph : Faults
+FaultsGraph report = BeginsWith report (error_line (codes "unreadable graph"))
+
+-- it says of a word that it asks for no passes
+abbrev pub FaultsWord : Faults
+FaultsWord report = BeginsWith report (error_line (codes "no such passes"))
+
+-- it says that no region has this path
+abbrev pub FaultsRegion : (path : List ℕ) → Faults
+FaultsRegion path report = BeginsWith report (codes "error: no region `" ++ (path ++ codes "`\n"))
+
+-- it says somewhere that something was refused
+abbrev pub TellsRefusal : (report : List ℕ) → Type 0
+TellsRefusal report = (before : List ℕ) × (after : List ℕ) × (report ≡ before ++ (codes "error: refused: " ++ after))
