@@ -292,8 +292,8 @@ pub fn compare<N: Shown>(
         (λ schedule. EndsCompared N.reads N.D.meaning (map NumberOf options.now.run.inputs.now)
         (map NumberOf options.now.run.world.now) options.now.run.steps N.faults ⟦<Sight as PartialEq>⟧.eq
         ⟦<Datum as PartialEq>⟧.eq (RunsAlone ⟦<BenchFactKind as PartialEq>⟧.eq
-        ⟦<InstrumentedSchedule<N, Timeless> as Pass>⟧.outcome schedule) source.now.text.now) (N.faults source.now.text.now)
-        options.now.pipeline.now) }
+        ⟦<InstrumentedSchedule<N, Timeless> as Pass>⟧.outcome schedule) source.now.text.now)
+        (N.faults source.now.text.now) options.now.pipeline.now) }
 {
     match PipelineText::read(alloc, options.pipeline) {
         Ok(plan) => compare_by::<N>(alloc, source, &options.run, &plan),

@@ -139,8 +139,9 @@ fn opt_with<N: Shown, C: Progress + Copy + Drop>(
     schedule: &mut InstrumentedSchedule<N, C>,
     mut report: String,
 ) -> Result<Outcome, AllocError>
-    ensures { IfOk result (EndsOptimised N.reads N.prints N.faults N.D.meaning (RunsAlone ⟦<BenchFactKind as PartialEq>⟧.eq
-        ⟦<InstrumentedSchedule<N, C> as Pass>⟧.outcome schedule.old) options.now.instrumentation.verifies
+    ensures { IfOk result (EndsOptimised N.reads N.prints N.faults N.D.meaning
+        (RunsAlone ⟦<BenchFactKind as PartialEq>⟧.eq ⟦<InstrumentedSchedule<N, C> as Pass>⟧.outcome schedule.old)
+        options.now.instrumentation.verifies
         source.now.text.now) }
 {
     let made = optimise(alloc, schedule, source.text);

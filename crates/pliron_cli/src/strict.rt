@@ -66,8 +66,9 @@ fn opt_if_fit<N: Shown, C: Progress + Copy + Drop>(
     clock: C,
 ) -> Result<Outcome, AllocError>
     ensures answer { IfOk result (λ outcome. EndsByWord ⟦<Instrumented<N, C> as Pass>⟧.name
-        (λ schedule. EndsOptimised N.reads N.prints N.faults N.D.meaning (RunsAlone ⟦<BenchFactKind as PartialEq>⟧.eq
-        ⟦<InstrumentedSchedule<N, C> as Pass>⟧.outcome schedule) options.now.instrumentation.verifies source.now.text.now)
+        (λ schedule. EndsOptimised N.reads N.prints N.faults N.D.meaning
+        (RunsAlone ⟦<BenchFactKind as PartialEq>⟧.eq ⟦<InstrumentedSchedule<N, C> as Pass>⟧.outcome schedule)
+        options.now.instrumentation.verifies source.now.text.now)
         (N.faults source.now.text.now) options.now.pipeline.now outcome
         ⊎ IsRejected N.reads N.D.meaning source.now.text.now outcome) }
     ensures fit { IfOk result (λ outcome. outcome.status ≡ 0 → IsFitText N.reads N.D.meaning source.now.text.now) }
@@ -99,8 +100,9 @@ pub fn opt_with_check<N: Shown, C: Progress + Copy + Drop>(
     clock: C,
 ) -> Result<Outcome, AllocError>
     ensures answer { IfOk result (λ outcome. EndsByWord ⟦<Instrumented<N, C> as Pass>⟧.name
-        (λ schedule. EndsOptimised N.reads N.prints N.faults N.D.meaning (RunsAlone ⟦<BenchFactKind as PartialEq>⟧.eq
-        ⟦<InstrumentedSchedule<N, C> as Pass>⟧.outcome schedule) options.now.instrumentation.verifies source.now.text.now)
+        (λ schedule. EndsOptimised N.reads N.prints N.faults N.D.meaning
+        (RunsAlone ⟦<BenchFactKind as PartialEq>⟧.eq ⟦<InstrumentedSchedule<N, C> as Pass>⟧.outcome schedule)
+        options.now.instrumentation.verifies source.now.text.now)
         (N.faults source.now.text.now) options.now.pipeline.now outcome
         ⊎ (IsTrue is_strict × IsRejected N.reads N.D.meaning source.now.text.now outcome)) }
     ensures strict { IfOk result (λ outcome. IsTrue is_strict → outcome.status ≡ 0 →
