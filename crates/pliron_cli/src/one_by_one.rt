@@ -95,7 +95,7 @@ pub(crate) fn first_unfit<D: Dialect>(
 ) -> Result<Option<(Ptr<Operation>, Violation)>, OptError>
     requires { IsLive ctx.now.tree root }
     ensures none { IfOk result (λ found. (found ≡ None) ↔ IsFitByParts D.meaning ctx.now.tree root) }
-    ensures reported { IfOk result (λ found. IfSome found (λ it. IsAtFault D.meaning ctx.now.tree root it.0)) }
+    ensures fault { IfOk result (λ found. IfSome found (λ it. IsAtFault D.meaning ctx.now.tree root it.0)) }
     ensures some { IfOk result (λ found. IfSome found (λ it. IsViolation D.meaning ctx.now.tree it.0 it.1)) }
 {
     if is_container(root, ctx) {

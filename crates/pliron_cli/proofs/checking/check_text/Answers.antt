@@ -2,4 +2,4 @@ use Rattle.pliron_cli.proofs.PartLemmas.{some_when, unfit_found}
 use Rattle.pliron_cli.proofs.checking.check_text.Goals as goal
 
 pub returns-in-Some-2 : goal.returns-in-Some-2
-returns-in-Some-2 g c = unfit_found g.N.Notation.reads g.N.D.HasMeaning.meaning c.args.text.now _ _ _ _ (some_when _ _ _ c.in-Some.is c.in_ok-root.ensures.text) c.in_ok-found.ensures.none c.in_ok-found.ensures.reported c.in_ok-found.ensures.some c.in-Some-2.is
+returns-in-Some-2 g c = unfit_found g.N.Notation.reads g.N.D.HasMeaning.meaning c.args.text.now _ _ _ _ (some_when _ _ _ c.in-Some.is c.in_ok-root.ensures.text) c.in_ok-found.ensures.none c.in_ok-found.ensures.fault c.in_ok-found.ensures.some c.in-Some-2.is
