@@ -1,12 +1,15 @@
 -- How commands end without an answer, and what is reported of it.
 use Rattle.std.specs.Prelude.{string_bytes}
-use Rattle.std.proofs.Common.{◌≡◌, ◌⊎◌, inl, inr, ℕ, List, [], ◌++◌, Result, Ok, Err, IfOk, codes, sym, ap, subst, ◌∙◌, append_assoc}
+use Rattle.std.proofs.Common.{◌≡◌, ◌⊎◌, inl, inr, ℕ, List, [], ◌++◌, Result, Ok, Err, IfOk, codes, sym, ap, subst, ◌∙◌, append_assoc, append-nil}
 use Rattle.pliron_diagnostics.specs.Messages.{BeginsWith, heading}
 use Rattle.pliron_cli.specs.declared.outcome.Outcome.{Outcome}
 use Rattle.pliron_cli.specs.Outcomes.{IsRefused, EndsBadly, EndsBadly.Refuses, EndsBadly.IsFaulty, Ends, Ends.Fails}
 use Rattle.pliron_cli.specs.Reports.{Faults, FaultsRegion, TellsRefusal}
 
 -- how reports begin
+pub whole_line : (first report : List ℕ) → report ≡ first → BeginsWith report first
+whole_line first report e = ([], e ∙ sym (append-nil first))
+
 pub begins_still : (first start rest report : List ℕ) → BeginsWith start first → report ≡ start ++ rest → BeginsWith report first
 begins_still first start rest report begins e = (begins.0 ++ rest, e ∙ ap (λ x. x ++ rest) begins.1 ∙ append_assoc first begins.0 rest)
 
@@ -47,6 +50,10 @@ told_use wrong report is begins = (
 -- outcomes
 pub refuses : (o : Outcome) (report : List ℕ) → o.status ≡ 1 → o.output.items ≡ [] → string_bytes o.report ≡ report → TellsRefusal report → IsRefused o
 refuses o report status empty is told = record { status = status; empty = empty; told = subst TellsRefusal (sym is) told }
+
+pub refused_badly : {X : Type 0} (faults : Faults) (r : Result Outcome X) → IfOk r IsRefused → IfOk r (EndsBadly faults)
+refused_badly faults (Ok o) refused = Refuses refused
+refused_badly faults (Err e) refused = tt
 
 pub faulty : (faults : Faults) (o : Outcome) (report : List ℕ) → o.status ≡ 2 → o.output.items ≡ [] → string_bytes o.report ≡ report → faults report → EndsBadly faults o
 faulty faults o report status empty is fault = IsFaulty status empty (subst faults (sym is) fault)

@@ -22,6 +22,7 @@ fn region_message(alloc: Global, path: &str) -> Result<String, AllocError>
 
 /// The outcome where no region has this path: nothing is to be written, and the path is reported. Errors: allocation
 /// failure. Cost: linear in the path.
+#[tactic(auto, using(crate::proofs::EndingLemmas::faulty))]
 pub fn region_outcome(alloc: Global, path: &str) -> Result<Outcome, AllocError>
     ensures { IfOk result (EndsBadly (FaultsRegion path.now)) }
 {
@@ -30,6 +31,7 @@ pub fn region_outcome(alloc: Global, path: &str) -> Result<Outcome, AllocError>
 
 /// The outcome where the text isn't that of a graph: nothing is to be written, and a place where it isn't is reported.
 /// Errors: allocation failure. Cost: that of reading the text.
+#[tactic(auto, using(crate::proofs::EndingLemmas::faulty))]
 pub fn graph_outcome(alloc: Global, source: &Source) -> Result<Outcome, AllocError>
     ensures { IfOk result (EndsBadly FaultsGraph) }
 {

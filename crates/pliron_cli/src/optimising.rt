@@ -7,7 +7,9 @@ ghost use Rattle.pliron_cli.specs.Reports.{FaultsWord};
 ghost use Rattle.pliron_cli.specs.Optimised.{EndsOptimised, IsLaidOut};
 
 use crate::failure::CommandFailure;
-use crate::outcome::{Outcome, failure_outcome, no_passes_outcome, refusing_outcome, unusable_outcome};
+use crate::outcome::{
+    Outcome, failure_outcome, no_passes_outcome, refusing_outcome, unusable_outcome,
+};
 use crate::refusal::refused_outcome;
 use crate::report::{ReportOptions, refused_note, report_of};
 use crate::shown::Shown;
@@ -51,6 +53,7 @@ fn misspelling_message(alloc: Global, word: &str, fault: &WordFault) -> Result<S
 
 /// The outcome for a word that plans no passes: nothing is to be written, and the part that is wrong is reported.
 /// Errors: allocation failure. Cost: linear in the word.
+#[tactic(auto, using(crate::proofs::EndingLemmas::faulty))]
 pub fn misspelling_outcome(
     alloc: Global,
     word: &str,

@@ -72,7 +72,7 @@ pub(crate) fn refused_by(alloc: Global, error: OptError) -> Result<Outcome, Allo
 /// unreadable text, the fault that the notation finds in it.
 ///
 /// Statuses: 2 for a text with a fault, else 1. Errors: allocation failure. Cost: that of reading the text.
-#[tactic(auto, using(crate::proofs::EndingLemmas::faulty))]
+#[tactic(auto, using(crate::proofs::EndingLemmas::faulty, crate::proofs::EndingLemmas::refused_badly))]
 pub fn failure_outcome<N: Shown>(
     alloc: Global,
     failure: CommandFailure,
@@ -93,12 +93,18 @@ pub fn failure_outcome<N: Shown>(
     }
 }
 
+// What is reported where a name is that of no pass. Errors: allocation failure.
+#[tactic(auto, using(crate::proofs::EndingLemmas::whole_line))]
+fn no_passes_report(alloc: Global) -> Result<String, AllocError>
+    ensures { IfOk result (λ report. FaultsWord (string_bytes report)) }
+{
+    String::from_str(alloc, "error: no such passes\n")
+}
+
 /// The outcome where a name is that of no pass: nothing is to be written. Errors: allocation failure. Cost: constant.
+#[tactic(auto, using(crate::proofs::EndingLemmas::faulty))]
 pub(crate) fn no_passes_outcome(alloc: Global) -> Result<Outcome, AllocError>
     ensures { IfOk result (EndsBadly FaultsWord) }
 {
-    Ok(unusable_outcome(
-        alloc,
-        String::from_str(alloc, "error: no such passes\n")?,
-    ))
+    Ok(unusable_outcome(alloc, no_passes_report(alloc)?))
 }
