@@ -24,7 +24,7 @@ use Rattle.pliron_cli.specs.declared.checking.Checked.{Checked}
 use Rattle.pliron_cli.specs.declared.checking.Checked.TheVariants.{Fit, FitByParts, Unfit}
 use Rattle.pliron_cli.specs.Checked.{IsChecked, IsWholeText, IsTextOfParts, IsUnfitText, IsReportedFit, IsReportedFit.SaysWhole, IsReportedFit.SaysParts, fit_line, parts_line}
 use Rattle.pliron_cli.specs.Compared.{AreSeen, are_same, are_same_so_far, effects_of, is_start, is_cut_off, EndsWith, EndsCompared, so_far_line, different_line, other_line}
-use Rattle.pliron_cli.specs.Likeness.{IsLikeness, EndsLike, last_line, status_for}
+use Rattle.pliron_cli.specs.Likeness.{IsLikeness, EndsLike, EndsLike.AreAlike, EndsLike.AreUnlike, last_line, status_for}
 use Rattle.pliron_cli.specs.Optimised.{IsLaidOut, IsMade, EndsOptimised}
 use Rattle.pliron_cli.specs.Outcomes.{Ends, Ends.Says, Ends.Denies, Ends.Fails, EndsBadly, EndsBadly.Refuses, IsRefused}
 use Rattle.pliron_cli.specs.Reports.{Faults, TextFaults, FaultsWord}
@@ -108,14 +108,14 @@ module _ (eq : Sight → Sight → Bool) (same_datum : DatumValue → DatumValue
   line_of b is text ends = subst (λ c. EndsWith (if c then so_far_line else different_line) text) (sym is) ends
 
   pub reported_likeness : (likeness : Likeness) (o : Outcome) → IsLikeness eq same_datum sights likeness → EndsWith (last_line likeness) o.output.items → o.status ≡ status_for likeness → EndsLike eq same_datum sights o
-  reported_likeness Same o is line e = inl ((is, line), e)
-  reported_likeness SoFar o is line e = inr ((is.0, line_of true is.1 o.output.items line), e)
-  reported_likeness Different o is line e = inr ((is.0, line_of false is.1 o.output.items line), e)
+  reported_likeness Same o is line e = AreAlike (is, line) e
+  reported_likeness SoFar o is line e = AreUnlike (is.0, line_of true is.1 o.output.items line) e
+  reported_likeness Different o is line e = AreUnlike (is.0, line_of false is.1 o.output.items line) e
 
 module _ (reads : Reads) (m : Meaning) (inputs world : List Datum) (steps : ℕ) (faults : TextFaults) (eq : Sight → Sight → Bool) (same_datum : DatumValue → DatumValue → Bool) (ran : ℕ → Tree → Tree → IRStatus → Type 0) (text : List ℕ) where
   compared_so : (sights : Sights) (o : Outcome) → AreSeen reads m inputs world steps ran text sights → EndsLike eq same_datum sights o → EndsCompared reads m inputs world steps faults eq same_datum ran text o
-  compared_so sights o are (inl same) = Says (record { sights = sights; seen_so = are; same_sights = same.0.0; written = same.0.1 }) same.1
-  compared_so sights o are (inr other) = Denies (record { sights = sights; seen_so = are; other_sights = other.0.0; written = other.0.1 }) other.1
+  compared_so sights o are (AreAlike (same, line) e) = Says (record { sights = sights; seen_so = are; same_sights = same; written = line }) e
+  compared_so sights o are (AreUnlike (other, line) e) = Denies (record { sights = sights; seen_so = are; other_sights = other; written = line }) e
 
   pub are_compared : {E : Type 0} (sights : Sights) (r : Result Outcome E) → AreSeen reads m inputs world steps ran text sights → IfOk r (EndsLike eq same_datum sights) → IfOk r (EndsCompared reads m inputs world steps faults eq same_datum ran text)
   are_compared sights (Ok o) are ends = compared_so sights o are ends

@@ -1,5 +1,5 @@
 -- How two runs compare, for proofs inside the crate.
-use Rattle.std.specs.Prelude.{◌≡◌, ◌⊎◌, ℕ, Bool, true, false, List}
+use Rattle.std.specs.Prelude.{◌≡◌, ℕ, Bool, true, false, List}
 use Rattle.pliron_evaluator.specs.declared.evaluator.values.Datum.{Datum as DatumValue}
 use Rattle.pliron_evaluator.specs.declared.evaluator.values.Sight.{Sight}
 use Rattle.pliron_cli.specs.Compared.{are_same, are_same_so_far, EndsWith, same_line, so_far_line, different_line, other_line}
@@ -32,5 +32,6 @@ module _ (eq : Sight → Sight → Bool) (same_datum : DatumValue → DatumValue
   IsReportedOther output = (are_same eq sights ≡ false) × EndsWith (other_line same_datum sights) output
 
   -- with 0 where they are the same, else with 3
-  abbrev pub EndsLike : Outcome → Type 0
-  EndsLike o = (IsReported o.output.items × (o.status ≡ 0)) ⊎ (IsReportedOther o.output.items × (o.status ≡ 3))
+  pub data EndsLike (o : Outcome) : Type 0 where
+    AreAlike : IsReported o.output.items → o.status ≡ 0 → EndsLike o
+    AreUnlike : IsReportedOther o.output.items → o.status ≡ 3 → EndsLike o

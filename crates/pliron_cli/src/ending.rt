@@ -9,7 +9,6 @@ use crate::{Outcome, Source};
 use std::alloc::{AllocError, Global};
 
 // What is reported where no region has this path.
-#[tactic(auto, using(crate::proofs::EndingLemmas::region_first))]
 fn region_message(alloc: Global, path: &str) -> Result<String, AllocError>
     ensures { IfOk result (λ report. FaultsRegion path.now (string_bytes report)) }
 {

@@ -150,7 +150,6 @@ fn find_fault(alloc: Global, text: &[u8]) -> Result<Option<GraphFault>, AllocErr
 
 /// The message for a text that isn't that of a graph: the first place at which it is wrong, and what was expected
 /// there. Errors: allocation failure. Cost: linear in the text.
-#[tactic(auto, using(crate::proofs::EndingLemmas::begins_still, crate::proofs::EndingLemmas::whole_line))]
 pub fn graph_fault_message(alloc: Global, source: &Source) -> Result<String, AllocError>
     ensures { IfOk result (λ report. FaultsGraph (string_bytes report)) }
 {

@@ -51,7 +51,6 @@ pub(crate) fn refusing_outcome(alloc: Global, report: String) -> Outcome
 }
 
 // What is reported where something was refused for this reason, which ends its line. Errors: allocation failure.
-#[tactic(auto, using(crate::proofs::EndingLemmas::refused_first))]
 fn refusal_report(alloc: Global, reason: &str) -> Result<String, AllocError>
     ensures { IfOk result (λ report. TellsRefusal (string_bytes report)) }
 {

@@ -409,7 +409,6 @@ pub fn violation_message<N: Shown>(
 /// has, the definition alone.
 ///
 /// Errors: allocation failure. Cost: linear in the text.
-#[tactic(auto, using(crate::proofs::EndingLemmas::told_use))]
 pub(crate) fn live_use_message<N: Shown>(
     alloc: Global,
     source: &Source,
