@@ -5,6 +5,8 @@
 
 ghost use Rattle.std.specs.Prelude.{None, ◌≤◌, ◌⊎◌, ◌≡◌};
 ghost use Rattle.pliron_opts.specs.Ran.{RunsAlone};
+ghost use Rattle.pliron_opts.specs.Read.{ReadsKinds, PrintsKinds};
+ghost use Rattle.pliron_mlir_opt.specs.Closed.{closed_reads, closed_prints};
 ghost use Rattle.pliron_mlir_opt.specs.Outcomes.{EndsOptimised, EndsByWord};
 ghost use Rattle.pliron_mlir_opt.specs.Streams.{EndsOnStreams};
 
@@ -14,10 +16,9 @@ mod target;
 use clap::{ArgMatches, Error};
 use command::parse_arguments;
 use pliron_instrument::{Instrumented, InstrumentedSchedule, Progress};
+use pliron_laws::HasMeaning;
 use pliron_mlir::{AnyMeaning, Mlir};
-use pliron_mlir_opt::{
-    Closed, GenericForm, MAX_TEXT, ModuleNotation, ModuleOptions, Request, run_on,
-};
+use pliron_mlir_opt::{ClosedForm, MAX_TEXT, ModuleOptions, Request, run_on};
 use pliron_pass::{BenchFactKind, Pass};
 use std::env;
 use std::fs::File;
@@ -27,7 +28,7 @@ use std::time::{Clock, Duration};
 use target::Target;
 
 /// The notation of modules, of which proofs know texts by reading and printing alone.
-type Form = Closed<GenericForm<Mlir<AnyMeaning>>>;
+type Form = ClosedForm;
 
 /// The clock of the process.
 #[derive(Clone, Copy, Drop)]
@@ -69,20 +70,21 @@ fn request_of<'w>(matches: &ArgMatches<'w>) -> Request<'w> {
 
 // Runs the program on what is asked for, a reader and the file that is named, or standard output, and answers its
 // status.
-fn run_to<'r, N: ModuleNotation, R: Read>(
+fn run_to<'r, R: Read>(
     rt: &'r HostRuntime,
     request: &Request,
     input: &mut R,
     file: Option<&str>,
 ) -> u8
-    ensures { EndsOnStreams (λ text. EndsByWord ⟦<Instrumented<N, Terminal<'r>> as Pass>⟧.name
-        (λ schedule. EndsOptimised N.reads N.prints N.D.meaning (RunsAlone ⟦<BenchFactKind as PartialEq>⟧.eq
-        ⟦<InstrumentedSchedule<N, Terminal<'r>> as Pass>⟧.outcome schedule) text) request.now.pipeline.now)
-        (R.remaining input.old) None None result }
+    ensures { EndsOnStreams (λ text. EndsByWord ⟦<Instrumented<Form, Terminal<'r>> as Pass>⟧.name
+        (λ schedule. EndsOptimised (closed_reads (ReadsKinds ⟦<Mlir<AnyMeaning> as HasMeaning>⟧.meaning))
+        (closed_prints PrintsKinds) ⟦<Mlir<AnyMeaning> as HasMeaning>⟧.meaning (RunsAlone
+        ⟦<BenchFactKind as PartialEq>⟧.eq ⟦<InstrumentedSchedule<Form, Terminal<'r>> as Pass>⟧.outcome schedule)
+        text) request.now.pipeline.now) (R.remaining input.old) None None result }
 {
     let mut target = Target::new(rt, file);
     let clock = Terminal { rt };
-    run_on::<N, R, Target, _, Terminal>(
+    run_on::<Form, R, Target, _, Terminal>(
         rt.alloc(),
         request,
         input,
@@ -99,10 +101,10 @@ fn act(rt: &HostRuntime, matches: &ArgMatches) -> u8 {
     let file = matches.get_str("output");
     match matches.get_str("file") {
         Some(name) if name != "-" => match File::open(rt, name) {
-            Ok(opened) => run_to::<Form, _>(rt, &request, &mut opened.take(most), file),
+            Ok(opened) => run_to(rt, &request, &mut opened.take(most), file),
             Err(error) => unopened_status(rt, name, &error),
         },
-        _ => run_to::<Form, _>(rt, &request, &mut rt.stdin().take(most), file),
+        _ => run_to(rt, &request, &mut rt.stdin().take(most), file),
     }
 }
 
