@@ -1,3 +1,6 @@
 pub mod Classes
 pub mod Taken
 pub mod Owners
+pub mod Said
+pub mod SaidOf
+pub mod TakenHeads

@@ -1,6 +1,6 @@
 -- What an operation of a text is taken for: its class by its name and its shape, and its head by the properties that it
 -- owns.
-use Rattle.std.specs.Prelude.{◌≡◌, ◌⊎◌, ◌+◌, ◌&&◌, ◌||◌, ℕ, Bool, false, not, min, nat_eq, nat_lt, List, [], ◌∷◌, length, sum, Option, Some, None, if◌then◌else◌}
+use Rattle.std.specs.Prelude.{◌≡◌, ◌⊎◌, ◌&&◌, ◌||◌, ℕ, Bool, false, not, min, nat_eq, nat_lt, List, [], ◌∷◌, Option, Some, None, if◌then◌else◌}
 use Rattle.pliron_core.specs.declared.attrs.Head.{Head}
 use Rattle.pliron_bits.specs.declared.flags.Flags.{Flags}
 use Rattle.pliron_bits.specs.declared.operators.Predicate.{Predicate}
@@ -10,13 +10,10 @@ use Rattle.pliron_bits.specs.Operators.{predicate_of_number}
 use Rattle.pliron_mlir.specs.declared.kind.Class.{Class}
 use Rattle.pliron_mlir.specs.declared.kind.Class.TheVariants.{Constant, Select, Opaque, Jump, Branch, Switch, Leave, Unreachable, Effect, Regions, Root, Module, Fork, Compare, Cast as CastClass, Binary}
 use Rattle.pliron_mlir.specs.ClassNumbers.{number_of_class}
-use Rattle.pliron_mlir.specs.Data.{number, other_constant}
-use Rattle.pliron_mlir.specs.Names.{class_named}
-use Rattle.pliron_mlir.specs.Heads.{constant_head, plain_head, binary_head, compare_head, cast_head, branch_head, switch_head}
+use Rattle.pliron_mlir.specs.Heads.{plain_head, binary_head, compare_head, cast_head, branch_head}
 use Rattle.pliron_mlir_syntax.specs.declared.numbers.Signed.{Signed}
-use Rattle.pliron_mlir_reader.specs.Owners.{owned_named}
 use Rattle.pliron_mlir_reader.specs.declared.owned.Owned.{Owned}
-use Rattle.pliron_mlir_reader.specs.declared.owned.Owned.TheVariants.{Value, Zero, Predicate as OwnsPredicate, LlvmOverflow, ArithOverflow, Exact, Disjoint, NonNegative}
+use Rattle.pliron_mlir_reader.specs.declared.owned.Owned.TheVariants.{Value, Zero, LlvmOverflow, ArithOverflow, Exact, Disjoint, NonNegative}
 use Rattle.pliron_mlir_reader.specs.declared.taken.Shape.{Shape}
 use Rattle.pliron_mlir_reader.specs.declared.taken.Overflow.{Overflow}
 use Rattle.pliron_mlir_reader.specs.declared.taken.Entries.{Entries}
@@ -146,60 +143,3 @@ not_understood class = class
 
 abbrev pub HasClass : Class → Head → Type 0
 HasClass class head = (head.kind ≡ number_of_class class) ⊎ (head.kind ≡ number_of_class (not_understood class))
-
--- so many operands of each edge: there are as many edges, and these are all operands but the first
-abbrev pub AreCounts : Shape → (counts : List ℕ) → Type 0
-AreCounts s counts = (length counts ≡ s.successors) × (1 + sum counts ≡ s.operands)
-
--- the flags are those that these entries of the two lists say, as far as the operation owns them
-abbrev pub AreFlags : Owned → Flags → Type 0
-AreFlags owned flags = (properties : Entries) × (attributes : Entries) × (flags ≡ flags_owned owned properties attributes)
-
--- a constant that is no integer says the form of its text; a long one is opaque
-abbrev pub IsOtherConstant : Head → Type 0
-IsOtherConstant head = ((datum : ℕ) × (form : ℕ) × (head ≡ constant_head (other_constant datum) form)) ⊎ ((form : ℕ) × (head ≡ plain_head Opaque form))
-
--- an integer says the bits that it owns, and their width
-abbrev pub IsConstantHead : Owned → (width : ℕ) → Head → Type 0
-IsConstantHead owned width head =
-    ((value : Option ℕ) × (bits : ℕ) × (form : ℕ) × (bits_owned owned width value ≡ Some bits) × (head ≡ constant_head (number width bits) form))
-    ⊎ IsOtherConstant head
-
--- the edges of a branch share all operands but the first, or it is a fork
-abbrev pub IsBranchHead : Shape → Head → Type 0
-IsBranchHead s head =
-    ((counts : List ℕ) × (form : ℕ) × AreCounts s counts × (head ≡ branch_taken counts form))
-    ⊎ ((form : ℕ) × (head ≡ plain_head Fork form))
-
--- so do those of a switch, whose cases have the width of its first operand, or aren't said
-abbrev pub IsSwitchHead : Shape → Head → Type 0
-IsSwitchHead s head =
-    ((counts : List ℕ) × (width : ℕ) × (cases : List ℕ) × (form : ℕ) × AreCounts s counts × ((width ≡ s.from) ⊎ (width ≡ 0)) × (head ≡ switch_head counts width cases form))
-    ⊎ ((form : ℕ) × (head ≡ plain_head Fork form))
-
--- any other operation has the flags that it owns, and a predicate only if it owns one
-abbrev pub IsOtherHead : Class → Owned → Shape → Head → Type 0
-IsOtherHead class owned s head = (flags : Flags) × (predicate : Option Predicate) × (form : ℕ) × AreFlags owned flags × ((owned ≡ OwnsPredicate) ⊎ (predicate ≡ None)) × (head ≡ head_taken class s flags predicate form)
-
-abbrev pub IsHeadOf : Class → Owned → Shape → Head → Type 0
-IsHeadOf Constant owned s head = IsConstantHead owned s.to head
-IsHeadOf Branch owned s head = IsBranchHead s head
-IsHeadOf Switch owned s head = IsSwitchHead s head
-IsHeadOf class owned s head = IsOtherHead class owned s head
-
--- an operation whose name has this class, if any, and owns this, and of this shape, is taken for one with this head
-abbrev pub IsTakenFor : Option Class → Owned → Shape → Head → Type 0
-IsTakenFor known owned s head = IsHeadOf (class_taken known s) owned s head
-
--- ---- by names
-
--- the class and what is owned are those of one name
-abbrev pub AreNamed : Option Class → Owned → Type 0
-AreNamed known owned = (name : List ℕ) × (known ≡ class_named name) × (owned ≡ owned_named name)
-
--- an operation of some name and shape is taken for one with this head; or it is kept as it is written, an effect whose
--- form is its text
-abbrev pub IsTaken : Head → Type 0
-IsTaken head =
-    ((name : List ℕ) × (s : Shape) × IsTakenFor (class_named name) (owned_named name) s head)
-    ⊎ ((form : ℕ) × (head ≡ plain_head Effect form))

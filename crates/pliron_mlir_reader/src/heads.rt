@@ -1,9 +1,15 @@
 //! The head of an operation: its class, what the class reads of it, and its form.
-ghost use Rattle.std.specs.Prelude.{◌≡◌, ◌⊎◌, ◌≤◌, ℕ, None, length, true, sum, set, IfOk, IfSome};
+ghost use Rattle.std.specs.Prelude.{◌≡◌, ◌≤◌, ◌<◌, ◌^◌, ℕ, List, [], true, false, None, Some, length, map, sum, set, codes, bytes_eq, unwrap_or, option_and_then, IfOk, MatchOption, SomeIff};
+ghost use Rattle.std.specs.List.{slice_split, list_any};
 ghost use Rattle.pliron_mlir.specs.Heads.{plain_head as plain_head_of};
 ghost use Rattle.pliron_mlir.specs.declared.kind.Class.TheVariants.{Constant, Branch, Switch, Fork};
-ghost use Rattle.pliron_mlir_reader.specs.Taken.{class_taken as class_taken_of, AreCounts, AreFlags, HasClass, IsBranchHead, IsConstantHead, IsOtherConstant, IsOtherHead, IsSwitchHead, IsTakenFor};
-ghost use Rattle.pliron_mlir_reader.specs.declared.owned.Owned.TheVariants.{Predicate as OwnsPredicate};
+ghost use Rattle.pliron_mlir_syntax.specs.Numbers.{without_blanks, is_comma, typed_written, width_written};
+ghost use Rattle.pliron_mlir_reader.specs.Taken.{class_taken as class_taken_of, HasClass};
+ghost use Rattle.pliron_mlir_reader.specs.SaidOf.{said_of, value_text as value_text_of, entry_text};
+ghost use Rattle.pliron_mlir_reader.specs.Said.{without_quotes as without_quotes_of, value_in as value_named, value_of as value_of_said, lists_word as lists_word_in};
+ghost use Rattle.pliron_mlir_reader.specs.Said.{overflow_listed as overflow_listed_in, overflow_numbered as overflow_numbered_by, overflow_said as overflow_said_in, entries_in, flags_said, predicate_in, value_bits as value_bits_said};
+ghost use Rattle.pliron_mlir_reader.specs.Said.{counts_in, cases_spread, counts_said, fits as fits_in, fitting, cases_said};
+ghost use Rattle.pliron_mlir_reader.specs.TakenHeads.{IsConstantHead, IsOtherConstant, IsBranchHead, IsSwitchHead, IsOtherHead, IsTakenFor};
 
 use crate::owned::Owned;
 use crate::reader::{Entry, Pending, Reader};
@@ -16,7 +22,7 @@ use pliron_bits::{Flags, Predicate};
 use pliron_core::Head;
 use pliron_mlir::{Class, constant_head, other_constant, plain_head, switch_head};
 use pliron_mlir_syntax::{
-    Expected, Fault, Form, Span, array_of, bits_of, dense_of, trim_blanks, typed_number_of,
+    Expected, Fault, Form, Signed, Span, array_of, bits_of, dense_of, trim_blanks, typed_number_of,
     width_of_type,
 };
 
@@ -48,42 +54,45 @@ pub struct Tail {
 }
 
 // The part without quotes.
-fn without_quotes(name: &[u8]) -> &[u8] {
+fn without_quotes(name: &[u8]) -> &[u8]
+    ensures { result.now ≡ without_quotes_of name.now }
+{
     match name.strip_prefix(b"\"".as_slice()) {
         Some(rest) => rest.strip_suffix(b"\"".as_slice()).unwrap_or(rest),
         None => name,
     }
 }
 
+// Whether one of the parts between commas is the word.
+fn has_part(list: &[u8], word: &[u8]) -> bool
+    ensures { result ≡ list_any (λ part. bytes_eq (without_blanks part) word.now) (slice_split is_comma list.now) }
+{
+    list.split(|byte| *byte == b',')
+        .any(|part| trim_blanks(part) == word)
+}
+
 // Whether the word is in the list `PREFIX<word, word>`.
-fn lists_word(text: &[u8], prefix: &[u8], word: &[u8]) -> bool {
+fn lists_word(text: &[u8], prefix: &[u8], word: &[u8]) -> bool
+    ensures { result ≡ lists_word_in prefix.now word.now text.now }
+{
     let rest = text.strip_prefix(prefix).unwrap_or(&[]);
-    let inner = rest.strip_suffix(b">".as_slice()).unwrap_or(rest);
-    for part in inner.split(|byte| *byte == b',') {
-        if trim_blanks(part) == word {
-            return true;
-        }
-    }
-    false
+    has_part(rest.strip_suffix(b">".as_slice()).unwrap_or(rest), word)
 }
 
 // What the list behind the prefix says.
-fn overflow_listed(text: &[u8], prefix: &[u8]) -> Overflow {
+fn overflow_listed(text: &[u8], prefix: &[u8]) -> Overflow
+    ensures { result ≡ overflow_listed_in prefix.now text.now }
+{
     Overflow {
         signed: lists_word(text, prefix, b"nsw"),
         unsigned: lists_word(text, prefix, b"nuw"),
     }
 }
 
-// What `overflowFlags` says: a list, or a number of two bits. Where it is neither, as an alias, a result may be without
-// either.
-fn overflow_said(text: &[u8]) -> Overflow {
-    if text.starts_with(LLVM_OVERFLOW) {
-        return overflow_listed(text, LLVM_OVERFLOW);
-    }
-    if text.starts_with(ARITH_OVERFLOW) {
-        return overflow_listed(text, ARITH_OVERFLOW);
-    }
+// Two bits of a number; both of what is no number, as an alias, so that a result may be without either.
+fn overflow_numbered(text: &[u8]) -> Overflow
+    ensures { result ≡ overflow_numbered_by (typed_written text.now) }
+{
     let number = match typed_number_of(text) {
         Some((number, _)) => number.magnitude,
         None => 3,
@@ -94,9 +103,23 @@ fn overflow_said(text: &[u8]) -> Overflow {
     }
 }
 
+// What `overflowFlags` says: a list, or a number.
+fn overflow_said(text: &[u8]) -> Overflow
+    ensures { result ≡ overflow_said_in text.now }
+{
+    if text.starts_with(LLVM_OVERFLOW) {
+        overflow_listed(text, LLVM_OVERFLOW)
+    } else if text.starts_with(ARITH_OVERFLOW) {
+        overflow_listed(text, ARITH_OVERFLOW)
+    } else {
+        overflow_numbered(text)
+    }
+}
+
 // How many operands these edges have together.
+#[tactic(auto, using(crate::proofs::SaidLemmas::sum_over))]
 fn total(counts: &[usize]) -> Option<usize>
-    ensures { IfSome result (λ total. total ≡ sum counts.now) }
+    ensures { SomeIff result (sum counts.now < 2 ^ 64) (sum counts.now) }
 {
     let mut total = 0usize;
     for count in counts {
@@ -106,56 +129,79 @@ fn total(counts: &[usize]) -> Option<usize>
 }
 
 // Whether the operation has as many edges, and as many operands behind the first; wide ones only without operands.
+#[tactic(auto, using(crate::proofs::SaidLemmas::fits_never))]
 fn fits(counts: &[usize], shape: &Shape) -> bool
-    ensures { result ≡ true → AreCounts shape.now counts.now }
+    ensures { result ≡ fits_in shape.now counts.now }
 {
+    let operands = shape.operands;
     let Some(total) = total(counts) else {
         return false;
     };
     let is_wide = counts.len() > MAX_EDGES && total > 0;
-    let operands = shape.operands;
-    !is_wide && counts.len() == shape.successors && total < operands && total == operands - 1
+    !is_wide && counts.len() == shape.successors && operands > 0 && total == operands - 1
 }
 
 impl Reader<'_> {
-    // The value of the entry with this name, empty for one without a value.
-    fn value_in(&self, entries: &[Entry], name: &[u8]) -> Option<&[u8]> {
+    // The value of the first entry with this name, empty for one without a value.
+    #[tactic(auto, using(crate::proofs::SaidLemmas::named_here, crate::proofs::SaidLemmas::named_later, crate::proofs::SaidLemmas::named_never))]
+    fn value_in(&self, entries: &[Entry], name: &[u8]) -> Option<&[u8]>
+        ensures { MatchOption result
+            (value_named name.now (map (entry_text self.now.cursor) entries.now) ≡ None)
+            (λ value. value_named name.now (map (entry_text self.now.cursor) entries.now) ≡ Some value.now) }
+    {
         for entry in entries {
             if without_quotes(self.cursor.bytes(entry.name)) == name {
-                return Some(match entry.value {
-                    Some(span) => trim_blanks(self.cursor.bytes(span)),
-                    None => &[],
-                });
+                return Some(self.value_text(entry.value));
             }
         }
         None
     }
 
+    fn value_text(&self, value: Option<Span>) -> &[u8]
+        ensures { result.now ≡ value_text_of self.now.cursor value }
+    {
+        match value {
+            Some(span) => trim_blanks(self.cursor.bytes(span)),
+            None => &[],
+        }
+    }
+
     // The value of an attribute that the operation owns: in the property list, or where that lacks it in the attribute
     // dictionary.
-    fn value_of(&self, name: &[u8]) -> Option<&[u8]> {
+    fn value_of(&self, name: &[u8]) -> Option<&[u8]>
+        ensures { MatchOption result
+            (value_of_said name.now (said_of self.now) ≡ None)
+            (λ value. value_of_said name.now (said_of self.now) ≡ Some value.now) }
+    {
         match self.value_in(&self.properties, name) {
             Some(value) => Some(value),
             None => self.value_in(&self.attributes, name),
         }
     }
 
-    // The width of the operand with this index.
-    fn operand_width(&self, pending: &Pending, i: usize) -> u32 {
+    // The same, empty where neither has it.
+    fn value_or_empty(&self, name: &[u8]) -> &[u8]
+        ensures { result.now ≡ unwrap_or (value_of_said name.now (said_of self.now)) [] }
+    {
+        self.value_of(name).unwrap_or(&[])
+    }
+
+    // The type of the operand with this index, empty where there is none.
+    fn operand_type(&self, pending: &Pending, i: usize) -> &[u8] {
         let at = pending.operands.0.saturating_add(i);
         match self.syntax.operand_types.get(at) {
-            Some(number) => width_of_type(self.sheet.text(*number)),
-            None => 0,
+            Some(number) => self.sheet.text(*number),
+            None => &[],
         }
     }
 
-    // The width of the only result.
-    fn result_width(&self) -> u32
-        ensures { result ≤ 65 }
+    // The type of the first result, empty where there is none.
+    fn result_type(&self) -> &[u8]
+        ensures { result.now ≡ (said_of self.now).result }
     {
         match self.types.first() {
-            Some(span) => width_of_type(self.cursor.bytes(*span)),
-            None => 0,
+            Some(span) => self.cursor.bytes(*span),
+            None => &[],
         }
     }
 
@@ -165,20 +211,24 @@ impl Reader<'_> {
         ensures results { result.results ≡ length self.now.types.items }
         ensures successors { result.successors ≡ pending.now.successors }
         ensures regions { result.regions ≡ pending.now.regions }
-        ensures to { result.to ≤ 65 }
+        ensures from { (operand : List ℕ) × (result.from ≡ width_written operand) }
+        ensures to { result.to ≡ width_written (said_of self.now).result }
+        ensures small { result.to ≤ 65 }
     {
         Shape {
             operands: pending.operands.1,
             results: self.types.len(),
             successors: pending.successors,
             regions: pending.regions,
-            from: self.operand_width(pending, 0),
-            to: self.result_width(),
+            from: width_of_type(self.operand_type(pending, 0)),
+            to: width_of_type(self.result_type()),
         }
     }
 
     // The flags that a property list or an attribute dictionary has.
-    fn entries_of(&self, entries: &[Entry]) -> Entries {
+    fn entries_of(&self, entries: &[Entry]) -> Entries
+        ensures { result ≡ entries_in (map (entry_text self.now.cursor) entries.now) }
+    {
         let overflow = match self.value_in(entries, b"overflowFlags") {
             Some(text) => Some(overflow_said(text)),
             None => None,
@@ -192,30 +242,42 @@ impl Reader<'_> {
     }
 
     // The flags of an operation that owns this.
+    #[tactic(auto, using(crate::proofs::SaidLemmas::flags_unowned))]
     fn flags(&self, owned: Owned) -> Flags
-        ensures { AreFlags owned result }
+        ensures { result ≡ flags_said owned (said_of self.now) }
     {
-        let (properties, attributes) = match owned {
+        match owned {
             Owned::LlvmOverflow
             | Owned::ArithOverflow
             | Owned::Exact
             | Owned::Disjoint
-            | Owned::NonNegative => (
-                self.entries_of(&self.properties),
-                self.entries_of(&self.attributes),
+            | Owned::NonNegative => flags_owned(
+                owned,
+                &self.entries_of(&self.properties),
+                &self.entries_of(&self.attributes),
             ),
-            _ => (Entries::NONE, Entries::NONE),
-        };
-        flags_owned(owned, &properties, &attributes)
+            _ => flags_owned(owned, &Entries::NONE, &Entries::NONE),
+        }
+    }
+
+    // The number with its type that an entry writes.
+    fn typed_number(&self, name: &[u8]) -> Option<(Signed, &[u8])>
+        ensures { MatchOption result
+            (option_and_then typed_written (value_of_said name.now (said_of self.now)) ≡ None)
+            (λ typed. option_and_then typed_written (value_of_said name.now (said_of self.now))
+            ≡ Some (typed.0, typed.1.now)) }
+    {
+        typed_number_of(self.value_of(name)?)
     }
 
     // The predicate of an operation that owns this.
+    #[tactic(auto, using(crate::proofs::SaidLemmas::predicate_unowned))]
     fn predicate(&self, owned: Owned) -> Option<Predicate>
-        ensures { (owned ≡ OwnsPredicate) ⊎ (result ≡ None) }
+        ensures { result ≡ predicate_in owned (said_of self.now) }
     {
         match owned {
             Owned::Predicate => {
-                let (number, written) = typed_number_of(self.value_of(b"predicate")?)?;
+                let (number, written) = self.typed_number(b"predicate")?;
                 predicate_said(number, written == b"i64".as_slice())
             }
             _ => None,
@@ -223,18 +285,22 @@ impl Reader<'_> {
     }
 
     // The bits of a `value` of this width, where it is a number of the type of the result.
-    fn value_bits(&self, width: u32) -> Option<u64> {
-        let (number, written) = typed_number_of(self.value_of(b"value")?)?;
-        let span = self.types.first()?;
-        if written != self.cursor.bytes(*span) {
-            return None;
+    fn value_bits(&self, width: u32) -> Option<u64>
+        ensures { result ≡ value_bits_said width (said_of self.now) }
+    {
+        let (number, written) = self.typed_number(b"value")?;
+        if written == self.result_type() {
+            bits_of(width, number)
+        } else {
+            None
         }
-        bits_of(width, number)
     }
 
     // The operands of each edge of a branch or switch, where the text says them so that they are all but the first.
     fn counts(&self, is_switch: bool, shape: &Shape) -> Result<Option<Vec<usize>>, Fault>
-        ensures { IfOk result (λ found. IfSome found (λ counts. AreCounts shape.now counts.items)) }
+        ensures { IfOk result (λ found. MatchOption found
+            (fitting shape.now (counts_said is_switch (said_of self.now)) ≡ None)
+            (λ counts. fitting shape.now (counts_said is_switch (said_of self.now)) ≡ Some counts.items)) }
     {
         let Some(counts) = self.written_counts(is_switch)? else {
             return Ok(None);
@@ -247,31 +313,44 @@ impl Reader<'_> {
     }
 
     // The operands of each edge as the text says them. An older name of the first entry isn't read.
-    fn written_counts(&self, is_switch: bool) -> Result<Option<Vec<usize>>, Fault> {
+    fn written_counts(&self, is_switch: bool) -> Result<Option<Vec<usize>>, Fault>
+        ensures { IfOk result (λ found. MatchOption found
+            (counts_said is_switch (said_of self.now) ≡ None)
+            (λ counts. counts_said is_switch (said_of self.now) ≡ Some counts.items)) }
+    {
         if self.value_of(OLD_SEGMENTS).is_some() {
             return Ok(None);
         }
-        let text = self.value_of(SEGMENTS[0]).unwrap_or(&[]);
-        let Some(segments) = array_of(self.alloc, text)? else {
+        let Some(segments) = array_of(self.alloc, self.value_or_empty(SEGMENTS[0]))? else {
             return Ok(None);
         };
-        if !is_switch {
-            return spread(self.alloc, &segments, false, &[]);
+        if is_switch {
+            self.switch_counts(&segments)
+        } else {
+            spread(self.alloc, &segments, false, &[])
         }
-        let text = self.value_of(SEGMENTS[1]).unwrap_or(&[]);
-        let Some(cases) = array_of(self.alloc, text)? else {
-            return Ok(None);
-        };
-        spread(self.alloc, &segments, true, &cases)
     }
 
-    // The width and the cases of a switch; none of them where they aren't understood.
-    fn cases(&self, shape: &Shape) -> Result<(u32, Vec<u64>), Fault>
-        ensures { IfOk result (λ said. (said.0 ≡ shape.now.from) ⊎ (said.0 ≡ 0)) }
+    // Those of a switch with these segments.
+    fn switch_counts(&self, segments: &[usize]) -> Result<Option<Vec<usize>>, Fault>
+        ensures { IfOk result (λ found. MatchOption found
+            (cases_spread (Some segments.now) (counts_in (codes "case_operand_segments") (said_of self.now)) ≡ None)
+            (λ counts. cases_spread (Some segments.now) (counts_in (codes "case_operand_segments") (said_of self.now))
+            ≡ Some counts.items)) }
     {
-        let text = self.value_of(b"case_values").unwrap_or(&[]);
-        let count = shape.successors.saturating_sub(1);
+        match array_of(self.alloc, self.value_or_empty(SEGMENTS[1]))? {
+            Some(cases) => spread(self.alloc, segments, true, &cases),
+            None => Ok(None),
+        }
+    }
+
+    // The width and the cases of a switch; neither where they aren't understood.
+    fn cases(&self, shape: &Shape) -> Result<(u32, Vec<u64>), Fault>
+        ensures { IfOk result (λ found. cases_said shape.now (said_of self.now) ≡ (found.0, found.1.items)) }
+    {
         if shape.from > 0 {
+            let text = self.value_or_empty(b"case_values");
+            let count = shape.successors.saturating_sub(1);
             if let Some(cases) = dense_of(self.alloc, text, shape.from, count)? {
                 return Ok((shape.from, cases));
             }
@@ -377,13 +456,15 @@ impl Reader<'_> {
     // The head of a constant.
     fn constant(&mut self, pending: &Pending, tail: &Tail) -> Result<Head, Fault>
         requires { tail.now.shape.to ≤ 65 }
-        ensures same { IfOk result (λ head. IsConstantHead pending.now.known.owned tail.now.shape.to head) }
+        ensures same { IfOk result (λ head.
+            IsConstantHead pending.now.known.owned tail.now.shape.to (said_of self.old) head) }
         ensures kind { IfOk result (λ head. HasClass Constant head) }
     {
+        let width = tail.shape.to;
+        let bits = bits_owned(pending.known.owned, width, self.value_bits(width));
         let form = self.form(false, pending, tail)?;
         let number_of_form = self.sheet.form_number(form)?;
-        let width = tail.shape.to;
-        match bits_owned(pending.known.owned, width, self.value_bits(width)) {
+        match bits {
             Some(bits) => Ok(number_head(self.alloc, width, bits, number_of_form)?),
             None => self.other_constant(form, number_of_form, pending),
         }
@@ -399,7 +480,7 @@ impl Reader<'_> {
 
     // The head of a branch.
     fn branch(&mut self, pending: &Pending, tail: &Tail) -> Result<Head, Fault>
-        ensures same { IfOk result (λ head. IsBranchHead tail.now.shape head) }
+        ensures same { IfOk result (λ head. IsBranchHead tail.now.shape (said_of self.old) head) }
         ensures kind { IfOk result (λ head. HasClass Branch head) }
     {
         match self.counts(false, &tail.shape)? {
@@ -413,13 +494,13 @@ impl Reader<'_> {
 
     // The head of a switch.
     fn switch(&mut self, pending: &Pending, tail: &Tail) -> Result<Head, Fault>
-        ensures same { IfOk result (λ head. IsSwitchHead tail.now.shape head) }
+        ensures same { IfOk result (λ head. IsSwitchHead tail.now.shape (said_of self.old) head) }
         ensures kind { IfOk result (λ head. HasClass Switch head) }
     {
         match self.counts(true, &tail.shape)? {
             Some(counts) => {
-                let form = self.form_number(true, pending, tail)?;
                 let (width, cases) = self.cases(&tail.shape)?;
+                let form = self.form_number(true, pending, tail)?;
                 Ok(switch_head(self.alloc, &counts, width, &cases, form)?)
             }
             None => self.fork(pending, tail),
@@ -428,12 +509,13 @@ impl Reader<'_> {
 
     // The head of an operation of the class, which isn't a constant, a branch or a switch.
     fn head(&mut self, class: Class, pending: &Pending, tail: &Tail) -> Result<Head, Fault>
-        ensures same { IfOk result (λ head. IsOtherHead class pending.now.known.owned tail.now.shape head) }
+        ensures same { IfOk result (λ head.
+            IsOtherHead class pending.now.known.owned tail.now.shape (said_of self.old) head) }
         ensures kind { IfOk result (λ head. HasClass class head) }
     {
-        let form = self.form_number(false, pending, tail)?;
         let flags = self.flags(pending.known.owned);
         let predicate = self.predicate(pending.known.owned);
+        let form = self.form_number(false, pending, tail)?;
         Ok(head_taken(self.alloc, class, &tail.shape, flags, predicate, form)?)
     }
 
@@ -454,7 +536,7 @@ impl Reader<'_> {
     pub fn finish(&mut self, pending: &Pending, tail: &Tail) -> Result<Head, Fault>
         requires { tail.now.shape.to ≤ 65 }
         ensures same { IfOk result (λ head.
-            IsTakenFor pending.now.known.class pending.now.known.owned tail.now.shape head) }
+            IsTakenFor pending.now.known.class pending.now.known.owned tail.now.shape (said_of self.old) head) }
         ensures kind { IfOk result (λ head. HasClass (class_taken_of pending.now.known.class tail.now.shape) head) }
     {
         let class = class_taken(pending.known.class, &tail.shape);
@@ -467,11 +549,13 @@ impl Reader<'_> {
         }
     }
 
-    /// The same, with the proof that some operation of a text is taken for one with this head. Asks for a width of its
-    /// result of at most that of `index`. Errors: as `finish`. Cost: linear in its text.
+    /// The same, with the proof that some operation of a text is taken for one with this head. Asks for the widths of
+    /// its first operand's type and of its result's. Errors: as `finish`. Cost: linear in its text.
     #[tactic(auto, using(crate::proofs::TakenLemmas::taken_by_name))]
     pub fn taken_head(&mut self, pending: &Pending, tail: &Tail) -> Result<TakenHead, Fault>
-        requires { tail.now.shape.to ≤ 65 }
+        requires from { (operand : List ℕ) × (tail.now.shape.from ≡ width_written operand) }
+        requires to { tail.now.shape.to ≡ width_written (said_of self.old).result }
+        requires small { tail.now.shape.to ≤ 65 }
     {
         let head = self.finish(pending, tail)?;
         Ok(TakenHead { head })

@@ -2,7 +2,7 @@
 ghost use Rattle.std.specs.Prelude.{◌≡◌};
 ghost use Rattle.pliron_mlir.specs.Names.{class_named as class_named_in};
 ghost use Rattle.pliron_mlir_reader.specs.Owners.{owned_named};
-ghost use Rattle.pliron_mlir_reader.specs.Taken.{AreNamed};
+ghost use Rattle.pliron_mlir_reader.specs.TakenHeads.{AreNamed};
 
 use crate::owned::{Owned, owned_by};
 use pliron_mlir::{Class, class_named};

@@ -1,7 +1,9 @@
 //! What an operation is taken for: its class by its name and its shape, and its head by the properties that it owns.
 ghost use Rattle.std.specs.Prelude.{◌≡◌, ◌≤◌, IfOk, MatchOption, None, Some};
 ghost use Rattle.pliron_mlir_reader.specs.Classes.{ActsOnWorld};
-ghost use Rattle.pliron_mlir_reader.specs.Taken.{has_shape as has_shape_of, unknown_class as unknown_class_of, cast_taken as cast_taken_of, class_at as class_at_of, only_holds as only_holds_of, class_taken as class_taken_of, flags_owned as flags_owned_by, predicate_said as predicate_said_by, bits_owned as bits_owned_by, spread_of, head_taken as head_taken_of, branch_taken as branch_taken_of, promise as promise_of, wrapping as wrapping_of, overflow_in as overflow_in_lists, HasClass};
+ghost use Rattle.pliron_mlir_reader.specs.Taken.{has_shape as has_shape_of, unknown_class as unknown_class_of, cast_taken as cast_taken_of, class_at as class_at_of, only_holds as only_holds_of, class_taken as class_taken_of};
+ghost use Rattle.pliron_mlir_reader.specs.Taken.{flags_owned as flags_owned_by, promise as promise_of, wrapping as wrapping_of, overflow_in as overflow_in_lists, predicate_said as predicate_said_by, bits_owned as bits_owned_by};
+ghost use Rattle.pliron_mlir_reader.specs.Taken.{spread_of, head_taken as head_taken_of, branch_taken as branch_taken_of, HasClass};
 ghost use Rattle.pliron_mlir.specs.declared.kind.Class.TheVariants.{Branch};
 ghost use Rattle.pliron_mlir.specs.Data.{number as number_of};
 ghost use Rattle.pliron_mlir.specs.Heads.{constant_head as constant_head_of};

@@ -1,5 +1,5 @@
 //! Heads of operations as a text has them.
-ghost use Rattle.pliron_mlir_reader.specs.Taken.{IsTaken};
+ghost use Rattle.pliron_mlir_reader.specs.TakenHeads.{IsTaken};
 
 use pliron_core::Head;
 

@@ -4,7 +4,7 @@ use Rattle.std.proofs.lemmas.List.Elements.{All-nil, All-cons, All-append}
 use Rattle.pliron_core.specs.declared.attrs.Head.{Head}
 use Rattle.pliron_core.specs.Tree.{Tree, parent_of}
 use Rattle.pliron_core.specs.Writes.{after_creating, moved_last, taken_from}
-use Rattle.pliron_mlir_reader.specs.Taken.{IsTaken}
+use Rattle.pliron_mlir_reader.specs.TakenHeads.{IsTaken}
 use Rattle.pliron_mlir_text.specs.Additions.{HasTakenHead, AddsTaken}
 
 pub adds_none : (t u : Tree) → u.operations ≡ t.operations → AddsTaken t u

@@ -3,7 +3,7 @@ use Rattle.std.specs.Prelude.{◌≡◌, ◌++◌, List, Some, All}
 use Rattle.pliron_core.specs.declared.attrs.Head.{Head}
 use Rattle.pliron_core.specs.declared.context.OperationEntry.{OperationEntry}
 use Rattle.pliron_core.specs.Tree.{Tree}
-use Rattle.pliron_mlir_reader.specs.Taken.{IsTaken}
+use Rattle.pliron_mlir_reader.specs.TakenHeads.{IsTaken}
 
 -- an operation with a head that some operation of a text is taken for
 abbrev pub HasTakenHead : OperationEntry → Type 0
