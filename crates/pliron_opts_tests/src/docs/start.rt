@@ -1,5 +1,4 @@
 //! docs/START.md: a tree by calls, a run, a list of passes and the text.
-use crate::expect::expect_text;
 use pliron_bench::heads::{attribute_head, plain_head};
 use pliron_bench::{Bench, BenchKind};
 use pliron_core::{
@@ -106,17 +105,12 @@ mod trees;
 fn starts_in(rt: &impl Abort, alloc: Global, ctx: &mut Context) {
     let root = six_by_seven(alloc, ctx).expect(rt, "memory");
     let before = sight_of_run(alloc, root, ctx).expect(rt, "memory");
-    expect_text(rt, before.as_str(), "Ended([Number(42)], [])", "before");
+    assert_eq!(rt; before.as_str(), "Ended([Number(42)], [])");
     let text = fold_and_sweep(alloc, root, ctx).expect(rt, "memory");
     let text = text.expect(rt, "well linked");
-    expect_text(
-        rt,
-        text.as_str(),
-        "func { b0(): v0 = const 42; ret v0 }",
-        "the text",
-    );
+    assert_eq!(rt; text.as_str(), "func { b0(): v0 = const 42; ret v0 }");
     let after = sight_of_run(alloc, root, ctx).expect(rt, "memory");
-    expect_text(rt, after.as_str(), "Ended([Number(42)], [])", "after");
+    assert_eq!(rt; after.as_str(), "Ended([Number(42)], [])");
 }
 
 #[test]
