@@ -15,6 +15,6 @@ mod reading;
 #[cfg(test)]
 mod texts;
 #[cfg(test)]
-pub mod trees;
+mod trees;
 #[cfg(test)]
 mod wholes;
