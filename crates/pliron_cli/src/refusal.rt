@@ -19,7 +19,6 @@ use pliron_laws::OptError;
 use std::alloc::{AllocError, Global};
 
 // What is reported of the plan's passes on the text, in this empty context.
-#[tactic(auto, using(crate::proofs::EndingLemmas::told_still))]
 fn refusal_message_in<N: Shown>(
     alloc: Global,
     source: &Source,
