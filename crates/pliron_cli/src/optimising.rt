@@ -110,7 +110,6 @@ fn report_options(options: &OptOptions) -> ReportOptions {
 }
 
 // The outcome where memory or the passes were refused: what was noted, why, and in which pass.
-#[tactic(auto, using(crate::proofs::EndingLemmas::told_between))]
 fn refusal_outcome<N: Shown, C: Progress + Drop>(
     alloc: Global,
     mut report: String,
