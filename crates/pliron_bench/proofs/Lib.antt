@@ -1,2 +1,5 @@
 pub mod BenchNumberLemmas
+pub mod BenchReads
 pub mod BenchSingle
+pub mod BenchEdges
+mod BenchOperandReads
