@@ -1,5 +1,5 @@
-//! Tests of the program: texts, graphs, arguments and streams that fail; of a dialect by tables, which is here; and the code
-//! of the pages.
+//! Tests of the program: texts, graphs, arguments and streams that fail; of two dialects by roles, which are here; and
+//! the code of the pages.
 #![tactic(auto)]
 
 #[cfg(test)]
@@ -8,6 +8,9 @@ mod arithmetic;
 mod docs;
 #[cfg(test)]
 mod graphs;
+pub mod guessed;
+#[cfg(test)]
+mod guesses;
 pub mod looped;
 #[cfg(test)]
 mod loops;

@@ -1,9 +1,10 @@
-//! Counted loops, effects and a memo in a dialect by tables, before and after constant propagation, and their runs,
+//! Counted loops, effects and a memo in a dialect by roles, before and after constant propagation, and their runs,
 //! worked by hand.
 use crate::looped::{Looped, LoopedKind};
 use pliron_core::{Context, Operation, Ptr};
 use pliron_evaluator::evaluator::{Datum, Sight, evaluate};
 use pliron_laws::is_well_linked;
+use pliron_role_runs::RunByRoles;
 use pliron_sccp::sccp;
 use pliron_table_text::{print_text, read_text};
 use std::alloc::Global;
@@ -85,7 +86,9 @@ fn check_run(rt: &impl Abort, alloc: Global, ctx: &Context, root: Ptr<Operation>
     let (input, world) = case.input.split_once("?").unwrap_or((case.input, ""));
     let world = numbers(rt, alloc, world);
     let input = numbers(rt, alloc, input);
-    let seen = evaluate::<Looped>(alloc, ctx, root, input, world, 200).expect(rt, "memory");
+    let seen = evaluate::<RunByRoles<LoopedKind>>(alloc, ctx, root, input, world, 200).expect(
+        rt, "memory",
+    );
     let want = sight(rt, alloc, case.seen);
     assert_eq!(rt; seen, want, "{name}", name = case.name);
 }

@@ -1,10 +1,11 @@
 //! Runs of functions, worked by hand, before and after constant propagation and dead code elimination.
 use super::texts::read;
-use pliron_arithmetic::Arithmetic;
+use pliron_arithmetic::{Arithmetic, ArithmeticKind};
 use pliron_core::{Context, Operation, Ptr};
 use pliron_dce::dce;
 use pliron_evaluator::evaluator::{Datum, Sight, evaluate};
 use pliron_laws::is_well_linked;
+use pliron_role_runs::RunByRoles;
 use pliron_sccp::sccp;
 use std::alloc::Global;
 use std::process::Abort;
@@ -62,7 +63,9 @@ fn check_run(rt: &impl Abort, alloc: Global, ctx: &Context, root: Ptr<Operation>
     let name = run.name;
     let world = Vec::new(alloc);
     let inputs = data(rt, alloc, run.inputs);
-    let seen = evaluate::<Arithmetic>(alloc, ctx, root, inputs, world, 200).expect(rt, "memory");
+    let seen = evaluate::<RunByRoles<ArithmeticKind>>(alloc, ctx, root, inputs, world, 200).expect(
+        rt, "memory",
+    );
     let want = Sight::Ended(data(rt, alloc, run.values), Vec::new(alloc));
     assert_eq!(rt; seen, want, "{name}");
 }
