@@ -2,4 +2,4 @@
 #[cfg(test)]
 mod cases;
 #[cfg(test)]
-mod texts;
+pub mod texts;

@@ -1,11 +1,12 @@
 //! What the dialect `Bench` answers, on texts of its notation and asked through the traits, and what
 //! folding constants in place leaves: by values worked out by hand.
+use crate::questions::{Question, check_table, operation_in};
 use pliron_core::{AttrObj, Context, IRStatus, Operation, Ptr, Rewriter};
 use pliron_meaning::bench::{Bench, BenchKind};
 use pliron_meaning::{BlockArgRemoval, ConstFoldInterface, Dialect, SideEffects};
 use pliron_test_cases::answers::{effects, interfaces, removable};
 use pliron_test_cases::cases::{
-    Row, all_known, fields, known_operand, line, number, operation_at, read, row_of,
+    all_known, fields, known_operand, line, number, operation_at, read,
 };
 use pliron_test_cases::listener::Counting;
 use pliron_test_cases::trees::build;
@@ -57,40 +58,25 @@ the second block of a scope -- 0 / 1 => Some(true)
 the entry of a box -- 1 / 0 => Some(true)
 the second block of a box -- 1 / 1 => Some(true)";
 
-fn effects_in(rt: &impl Abort, alloc: Global, ctx: &mut Context) {
-    let root = read(alloc, ctx, KINDS).expect(rt, "a text");
-    for case in EFFECTS.lines() {
-        let Row { name, asked, want } = row_of(case).expect(rt, "a case");
-        let op = operation_at(ctx, root, asked).expect(rt, "an operation");
-        let answer = effects::<Bench>(alloc, ctx, op).expect(rt, "an answer");
-        assert_eq!(rt; answer.as_str(), want, "{name}");
-    }
+/// The answer on side effects of the operation of `KINDS` at this place.
+pub fn effects_at(rt: &impl Abort, alloc: Global, ctx: &mut Context, place: &str) -> String {
+    let op = operation_in(rt, alloc, ctx, KINDS, place);
+    effects::<Bench>(alloc, ctx, op).expect(rt, "an answer")
 }
 
-fn interfaces_in(rt: &impl Abort, alloc: Global, ctx: &mut Context) {
-    for case in INTERFACES.lines() {
-        let Row { name, asked, want } = row_of(case).expect(rt, "a case");
-        let root = read(alloc, ctx, asked).expect(rt, "a text");
-        let op = operation_at(ctx, root, "0").expect(rt, "an operation");
-        let answer = interfaces::<Bench>(alloc, ctx, op).expect(rt, "an answer");
-        assert_eq!(rt; answer.trim(), want, "{name}");
-    }
+/// The interfaces of the first operation of the text.
+pub fn interfaces_of(rt: &impl Abort, alloc: Global, ctx: &mut Context, text: &str) -> String {
+    let op = operation_in(rt, alloc, ctx, text, "0");
+    let all = interfaces::<Bench>(alloc, ctx, op).expect(rt, "an answer");
+    String::from_str(alloc, all.trim()).expect(rt, "memory")
 }
 
-fn removals_in(rt: &impl Abort, alloc: Global, ctx: &mut Context) {
-    let root = read(alloc, ctx, HOLDERS).expect(rt, "a text");
-    for case in REMOVALS.lines() {
-        let Row { name, asked, want } = row_of(case).expect(rt, "a case");
-        let (place, index) = fields(asked).expect(rt, "two fields");
-        let op = operation_at(ctx, root, place).expect(rt, "an operation");
-        let answer = removable::<Bench>(
-            alloc,
-            ctx,
-            op,
-            number(index).expect(rt, "a number"),
-        ).expect(rt, "an answer");
-        assert_eq!(rt; answer.as_str(), want, "{name}");
-    }
+/// Whether arguments may be removed from the block with the index behind the place of an operation of `HOLDERS`.
+pub fn removal(rt: &impl Abort, alloc: Global, ctx: &mut Context, asked: &str) -> String {
+    let (place, index) = fields(asked).expect(rt, "two fields");
+    let op = operation_in(rt, alloc, ctx, HOLDERS, place);
+    let index = number(index).expect(rt, "a number");
+    removable::<Bench>(alloc, ctx, op, index).expect(rt, "an answer")
 }
 
 // An operation of another dialect: this one has no answer on it.
@@ -98,7 +84,7 @@ fn check_outside(rt: &impl Abort, alloc: Global, ctx: &mut Context) {
     let op = build(alloc, ctx, "0 / kind 16").expect(rt, "a tree");
     assert!(rt; op.is_live(ctx));
     assert!(rt; !Bench::admits(op, ctx));
-    assert_eq!(rt; Bench::has_side_effects(op, ctx), None);
+    assert!(rt; Bench::has_side_effects(op, ctx).is_none());
     assert!(rt; !Bench::folds(op, ctx));
     assert!(rt; !Bench::is_terminator(op, ctx));
     assert!(rt; !Bench::is_branch(op, ctx));
@@ -139,7 +125,7 @@ an unknown one by 1 -- ? 1 => ?";
 
 // The number in the only answer.
 fn only_number(rt: &impl Abort, answers: &[Option<AttrObj>]) -> Option<i128> {
-    assert_eq!(rt; answers.len(), 1);
+    assert!(rt; answers.len() == 1);
     match &answers[0] {
         Some(AttrObj::Int(number)) => Some(*number),
         Some(AttrObj::Text(_)) => panic!(rt; "a text"),
@@ -158,7 +144,7 @@ fn known_result(
     let operands = all_known(alloc, words).expect(rt, "memory");
     assert!(rt; op.is_live(ctx));
     assert!(rt; Bench::folds(op, ctx));
-    assert_eq!(rt; op.num_operand(ctx), operands.len());
+    assert!(rt; op.num_operand(ctx) == operands.len());
     let answers = <Bench as ConstFoldInterface>::check_fold(
         alloc,
         op,
@@ -168,17 +154,20 @@ fn known_result(
     only_number(rt, answers.as_slice())
 }
 
-fn folds_in(rt: &impl Abort, alloc: Global, ctx: &mut Context) {
-    let text = "func { b0(x, y): a = add x y; b = mul x y; c = div x y }";
-    let root = read(alloc, ctx, text).expect(rt, "a text");
-    for (place, table) in [("0", SUMS), ("1", PRODUCTS), ("2", QUOTIENTS)] {
-        let op = operation_at(ctx, root, place).expect(rt, "an operation");
-        for case in table.lines() {
-            let Row { name, asked, want } = row_of(case).expect(rt, "a case");
-            let got = known_result(rt, alloc, ctx, op, asked);
-            assert_eq!(rt; got, want.parse::<i128>().ok(), "{name}");
-        }
+// The number, or `?` for none.
+fn number_text(rt: &impl Abort, alloc: Global, number: Option<i128>) -> String {
+    match number {
+        Some(number) => format!(in alloc; "{number}").expect(rt, "memory"),
+        None => String::from_str(alloc, "?").expect(rt, "memory"),
     }
+}
+
+/// What is known of the result of the sum, the product or the quotient, by its place.
+pub fn fold(rt: &impl Abort, alloc: Global, ctx: &mut Context, place: &str, words: &str) -> String {
+    let text = "func { b0(x, y): a = add x y; b = mul x y; c = div x y }";
+    let op = operation_in(rt, alloc, ctx, text, place);
+    let known = known_result(rt, alloc, ctx, op, words);
+    number_text(rt, alloc, known)
 }
 
 /// What is known of the operands of the first operation, its text, and what folding it in place leaves.
@@ -201,7 +190,7 @@ fn fold_in_place(
     let operands = all_known(alloc, words).expect(rt, "memory");
     assert!(rt; op.is_live(ctx));
     assert!(rt; Bench::folds(op, ctx));
-    assert_eq!(rt; op.num_operand(ctx), operands.len());
+    assert!(rt; op.num_operand(ctx) == operands.len());
     assert!(rt; op.get_parent_block(ctx).is_some());
     let mut rewriter = Counting::new();
     rewriter.set_insertion_point_before_operation(op);
@@ -217,20 +206,18 @@ fn fold_in_place(
     status
 }
 
-fn in_place_in(rt: &impl Abort, alloc: Global, ctx: &mut Context) {
-    for case in IN_PLACE.lines() {
-        let Row { name, asked, want } = row_of(case).expect(rt, "a case");
-        let (words, text) = fields(asked).expect(rt, "two fields");
-        let root = read(alloc, ctx, text).expect(rt, "a text");
-        let op = operation_at(ctx, root, "0").expect(rt, "an operation");
-        let status = fold_in_place(rt, alloc, ctx, op, words);
-        assert_eq!(rt; status == IRStatus::Changed, text != want, "{name}");
-        assert_eq!(rt;
-            line(alloc, ctx, root).expect(rt, "a line").as_str(),
-            want,
-            "{name}"
-        );
-    }
+/// The line where the first operation of the text is folded in place, which reports whether it is another one.
+pub fn folded_in_place(rt: &impl Abort, alloc: Global, ctx: &mut Context, asked: &str) -> String {
+    let (words, text) = fields(asked).expect(rt, "two fields");
+    let root = read(alloc, ctx, text).expect(rt, "a text");
+    let op = operation_at(ctx, root, "0").expect(rt, "an operation");
+    let status = fold_in_place(rt, alloc, ctx, op, words);
+    let line = line(alloc, ctx, root).expect(rt, "a line");
+    assert!(rt;
+        (status == IRStatus::Changed) == (line.as_str() != text),
+        "{text}"
+    );
+    line
 }
 
 /// Data, and the number of the constant that is made of them: of 64-bit numbers alone.
@@ -252,30 +239,27 @@ fn made_number(rt: &impl Abort, alloc: Global, ctx: &mut Context, word: &str) ->
     }
 }
 
-fn made_in(rt: &impl Abort, alloc: Global, ctx: &mut Context) {
-    for case in MADE.lines() {
-        let Row { name, asked, want } = row_of(case).expect(rt, "a case");
-        assert_eq!(rt;
-            made_number(rt, alloc, ctx, asked),
-            want.parse::<i128>().ok(),
-            "{name}"
-        );
-    }
+/// The number of the constant that is made of the datum.
+pub fn number_made(rt: &impl Abort, alloc: Global, ctx: &mut Context, word: &str) -> String {
+    let number = made_number(rt, alloc, ctx, word);
+    number_text(rt, alloc, number)
 }
 
-fn all_in(rt: &impl Abort, alloc: Global, ctx: &mut Context) {
-    effects_in(rt, alloc, ctx);
-    interfaces_in(rt, alloc, ctx);
-    removals_in(rt, alloc, ctx);
-    check_outside(rt, alloc, ctx);
-    folds_in(rt, alloc, ctx);
-    in_place_in(rt, alloc, ctx);
-    made_in(rt, alloc, ctx);
+#[test]
+fn an_operation_of_another_dialect(rt: HostRuntime) {
+    let mut ctx = Context::new(rt.alloc());
+    check_outside(&rt, rt.alloc(), &mut ctx)
 }
 
 #[test]
 fn answers_and_folds(rt: HostRuntime) {
     let alloc = rt.alloc();
-    let mut ctx = Context::new(alloc);
-    all_in(&rt, alloc, &mut ctx)
+    check_table(&rt, alloc, Question::Effects, EFFECTS);
+    check_table(&rt, alloc, Question::Interfaces, INTERFACES);
+    check_table(&rt, alloc, Question::Removals, REMOVALS);
+    check_table(&rt, alloc, Question::Sums, SUMS);
+    check_table(&rt, alloc, Question::Products, PRODUCTS);
+    check_table(&rt, alloc, Question::Quotients, QUOTIENTS);
+    check_table(&rt, alloc, Question::InPlace, IN_PLACE);
+    check_table(&rt, alloc, Question::Made, MADE);
 }

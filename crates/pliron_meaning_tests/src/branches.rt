@@ -1,9 +1,10 @@
 //! The edges of branches of the dialect `Bench`, and branches that fold: on texts of its notation, by
 //! values worked out by hand.
+use crate::questions::{Question, check_table, operation_in};
 use pliron_core::{AttrObj, BasicBlock, Context, IRStatus, Operation, Ptr, Rewriter};
 use pliron_meaning::bench::Bench;
 use pliron_meaning::{BranchOpFoldInterface, Dialect};
-use pliron_test_cases::cases::{Row, all_known, fields, line, number, operation_at, read, row_of};
+use pliron_test_cases::cases::{all_known, fields, line, number, operation_at, read};
 use pliron_test_cases::listener::Counting;
 use pliron_test_cases::losses::{lose, lose_along};
 use std::alloc::Global;
@@ -16,16 +17,12 @@ too few on the first edge -- func { b0(x): cbr x b1() b2(x, x); b1(a): ret; b2(b
 too few on the second edge -- func { b0(x): cbr x b1(x) b2(x); b1(a): ret; b2(b, c): ret } => Some(Pass(1))
 a jump, which does not fold -- func { b0(x): br b1(x); b1(): ret } => None";
 
-fn verified_in(rt: &impl Abort, alloc: Global, ctx: &mut Context) {
-    for case in VERIFIED.lines() {
-        let Row { name, asked, want } = row_of(case).expect(rt, "a case");
-        let root = read(alloc, ctx, asked).expect(rt, "a text");
-        let op = operation_at(ctx, root, "0").expect(rt, "an operation");
-        assert!(rt; op.is_live(ctx));
-        let fault = <Bench as BranchOpFoldInterface>::verify(alloc, op, ctx).err();
-        let fault = format!(in alloc; "{fault:?}").expect(rt, "memory");
-        assert_eq!(rt; fault.as_str(), want, "{name}");
-    }
+/// The fault that verifying the first operation of the text finds.
+pub fn fault_of(rt: &impl Abort, alloc: Global, ctx: &mut Context, text: &str) -> String {
+    let op = operation_in(rt, alloc, ctx, text, "0");
+    assert!(rt; op.is_live(ctx));
+    let fault = <Bench as BranchOpFoldInterface>::verify(alloc, op, ctx).err();
+    format!(in alloc; "{fault:?}").expect(rt, "memory")
 }
 
 static BRANCH: &str =
@@ -47,43 +44,46 @@ a text, which counts as 0 -- '7 ? ? ? => func { b0(v0, v1, v2): br b2(v2, v1); b
 an unknown condition -- ? ? ? ? => func { b0(v0, v1, v2): cbr v0 b1(v1) b2(v2, v1); b1(v3): ret v3; b2(v4, v5): \
     ret v5 }";
 
-// The blocks are the successors of the branch with the indices that the row wants.
-fn check_blocks(
+// The index of the block among the successors of the operation.
+fn index_of(rt: &impl Abort, ctx: &Context, op: Ptr<Operation>, block: Ptr<BasicBlock>) -> usize {
+    assert!(rt; op.is_live(ctx));
+    for index in 0..op.num_successor(ctx) {
+        if op.get_successor(ctx, index) == block {
+            return index;
+        }
+    }
+    panic!(rt; "no successor");
+}
+
+// The indices of the blocks among the successors of the operation, a blank before each but the first.
+fn indices_of(
     rt: &impl Abort,
+    alloc: Global,
     ctx: &Context,
     op: Ptr<Operation>,
     blocks: &[Ptr<BasicBlock>],
-    row: &Row,
-) {
-    let name = row.name;
-    assert!(rt; op.is_live(ctx));
-    assert_eq!(rt; blocks.len(), row.want.split(' ').count(), "{name}");
-    for (block, index) in blocks.iter().zip(row.want.split(' ')) {
-        let index = number(index).expect(rt, "a number");
-        assert!(rt; index < op.num_successor(ctx));
-        assert_eq!(rt; *block, op.get_successor(ctx, index), "{name}");
+) -> String {
+    let mut text = String::new(alloc);
+    for block in blocks {
+        let index = index_of(rt, ctx, op, *block);
+        let between = if text.is_empty() { "" } else { " " };
+        text.push_str(between).expect(rt, "memory");
+        write!(text, "{index}").expect(rt, "memory");
     }
+    text
 }
 
-// The blocks that the branch may go to are its successors with the indices that the row wants.
-fn check_targets(rt: &impl Abort, alloc: Global, ctx: &Context, op: Ptr<Operation>, row: &Row) {
-    let operands = all_known(alloc, row.asked).expect(rt, "memory");
+/// The successors that the branch may go to, where so much is known of its operands.
+pub fn targets_of(rt: &impl Abort, alloc: Global, ctx: &mut Context, words: &str) -> String {
+    let op = operation_in(rt, alloc, ctx, BRANCH, "0");
+    let operands = all_known(alloc, words).expect(rt, "memory");
     assert!(rt; op.is_live(ctx));
     assert!(rt; Bench::folds_branch(op, ctx));
-    assert_eq!(rt; op.num_operand(ctx), operands.len());
+    assert!(rt; op.num_operand(ctx) == operands.len());
     let blocks = <Bench as BranchOpFoldInterface>::check_fold(alloc, op, ctx, &operands).expect(
         rt, "memory",
     );
-    check_blocks(rt, ctx, op, &blocks, row);
-}
-
-fn targets_in(rt: &impl Abort, alloc: Global, ctx: &mut Context) {
-    let root = read(alloc, ctx, BRANCH).expect(rt, "a text");
-    let op = operation_at(ctx, root, "0").expect(rt, "an operation");
-    for case in TARGETS.lines() {
-        let row = row_of(case).expect(rt, "a case");
-        check_targets(rt, alloc, ctx, op, &row);
-    }
+    indices_of(rt, alloc, ctx, op, &blocks)
 }
 
 // Folds the branch in place.
@@ -96,7 +96,7 @@ fn fold_in_place(
 ) -> IRStatus {
     assert!(rt; op.is_live(ctx));
     assert!(rt; Bench::folds_branch(op, ctx));
-    assert_eq!(rt; op.num_operand(ctx), operands.len());
+    assert!(rt; op.num_operand(ctx) == operands.len());
     assert!(rt; op.get_parent_block(ctx).is_some());
     let mut rewriter = Counting::new();
     rewriter.set_insertion_point_before_operation(op);
@@ -111,20 +111,18 @@ fn fold_in_place(
     status
 }
 
-fn folds_in(rt: &impl Abort, alloc: Global, ctx: &mut Context) {
-    for case in IN_PLACE.lines() {
-        let Row { name, asked, want } = row_of(case).expect(rt, "a case");
-        let root = read(alloc, ctx, BRANCH).expect(rt, "a text");
-        let op = operation_at(ctx, root, "0").expect(rt, "an operation");
-        let operands = all_known(alloc, asked).expect(rt, "memory");
-        let status = fold_in_place(rt, alloc, ctx, op, &operands);
-        assert_eq!(rt; status == IRStatus::Changed, BRANCH != want, "{name}");
-        assert_eq!(rt;
-            line(alloc, ctx, root).expect(rt, "a line").as_str(),
-            want,
-            "{name}"
-        );
-    }
+/// The line where the branch is folded in place, which reports whether it is another one.
+pub fn folded(rt: &impl Abort, alloc: Global, ctx: &mut Context, words: &str) -> String {
+    let root = read(alloc, ctx, BRANCH).expect(rt, "a text");
+    let op = operation_at(ctx, root, "0").expect(rt, "an operation");
+    let operands = all_known(alloc, words).expect(rt, "memory");
+    let status = fold_in_place(rt, alloc, ctx, op, &operands);
+    let line = line(alloc, ctx, root).expect(rt, "a line");
+    assert!(rt;
+        (status == IRStatus::Changed) == (line.as_str() != BRANCH),
+        "{words}"
+    );
+    line
 }
 
 /// An edge and a place of the branch, and the text without the value there.
@@ -145,49 +143,34 @@ the first value -- 0 => func { b0(v0, v1): br b1(v1); b1(v2, v3): ret v3 }
 the last value -- 1 => func { b0(v0, v1): br b1(v0); b1(v2, v3): ret v3 }
 past the last value -- 2 => func { b0(v0, v1): br b1(v0, v1); b1(v2, v3): ret v3 }";
 
-fn losses_in(rt: &impl Abort, alloc: Global, ctx: &mut Context) {
-    for case in LOST.lines() {
-        let Row { name, asked, want } = row_of(case).expect(rt, "a case");
-        let (edge, place) = fields(asked).expect(rt, "two fields");
-        let root = read(alloc, ctx, BRANCH).expect(rt, "a text");
-        let op = operation_at(ctx, root, "0").expect(rt, "an operation");
-        let edge = number(edge).expect(rt, "a number");
-        let place = number(place).expect(rt, "a number");
-        lose::<Bench>(alloc, ctx, op, edge, place)
-            .expect(rt, "memory")
-            .expect(rt, "a value");
-        assert_eq!(rt;
-            line(alloc, ctx, root).expect(rt, "a line").as_str(),
-            want,
-            "{name}"
-        );
-    }
-    for case in FORWARDED.lines() {
-        let Row { name, asked, want } = row_of(case).expect(rt, "a case");
-        let root = read(alloc, ctx, JUMP).expect(rt, "a text");
-        let op = operation_at(ctx, root, "0").expect(rt, "an operation");
-        let place = number(asked).expect(rt, "a number");
-        lose_along::<Bench>(alloc, ctx, op, place)
-            .expect(rt, "memory")
-            .expect(rt, "an edge");
-        assert_eq!(rt;
-            line(alloc, ctx, root).expect(rt, "a line").as_str(),
-            want,
-            "{name}"
-        );
-    }
+/// The line of the branch without the value at this place of this edge.
+pub fn without_value(rt: &impl Abort, alloc: Global, ctx: &mut Context, asked: &str) -> String {
+    let (edge, place) = fields(asked).expect(rt, "two fields");
+    let root = read(alloc, ctx, BRANCH).expect(rt, "a text");
+    let op = operation_at(ctx, root, "0").expect(rt, "an operation");
+    let edge = number(edge).expect(rt, "a number");
+    let place = number(place).expect(rt, "a number");
+    let lost = lose::<Bench>(alloc, ctx, op, edge, place).expect(rt, "memory");
+    assert!(rt; lost.is_some());
+    line(alloc, ctx, root).expect(rt, "a line")
 }
 
-fn all_in(rt: &impl Abort, alloc: Global, ctx: &mut Context) {
-    verified_in(rt, alloc, ctx);
-    targets_in(rt, alloc, ctx);
-    folds_in(rt, alloc, ctx);
-    losses_in(rt, alloc, ctx);
+/// The line of the jump without the value at this place.
+pub fn without_forwarded(rt: &impl Abort, alloc: Global, ctx: &mut Context, place: &str) -> String {
+    let root = read(alloc, ctx, JUMP).expect(rt, "a text");
+    let op = operation_at(ctx, root, "0").expect(rt, "an operation");
+    let place = number(place).expect(rt, "a number");
+    let block = lose_along::<Bench>(alloc, ctx, op, place).expect(rt, "memory");
+    assert!(rt; block.is_some());
+    line(alloc, ctx, root).expect(rt, "a line")
 }
 
 #[test]
 fn edges_folds_and_losses(rt: HostRuntime) {
     let alloc = rt.alloc();
-    let mut ctx = Context::new(alloc);
-    all_in(&rt, alloc, &mut ctx)
+    check_table(&rt, alloc, Question::Verified, VERIFIED);
+    check_table(&rt, alloc, Question::Targets, TARGETS);
+    check_table(&rt, alloc, Question::Folded, IN_PLACE);
+    check_table(&rt, alloc, Question::Lost, LOST);
+    check_table(&rt, alloc, Question::Forwarded, FORWARDED);
 }

@@ -32,6 +32,6 @@ fn texts_of_the_five_faults(rt: HostRuntime) {
 
 #[test]
 fn refusals_become_want_of_memory(rt: HostRuntime) {
-    assert_eq!(rt; OptError::from(NoMemory), OptError::Memory);
-    assert_eq!(rt; OptError::from(AllocError), OptError::Memory);
+    assert!(rt; OptError::from(NoMemory) == OptError::Memory);
+    assert!(rt; OptError::from(AllocError) == OptError::Memory);
 }

@@ -15,6 +15,8 @@ mod names;
 #[cfg(test)]
 mod notation;
 #[cfg(test)]
+mod questions;
+#[cfg(test)]
 mod rewrites;
 #[cfg(test)]
 mod runs;

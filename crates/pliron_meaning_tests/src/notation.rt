@@ -1,5 +1,5 @@
 //! What the notation reads, and what it prints.
-mod heads;
+pub mod heads;
 mod lines;
 mod nesting;
 mod refusals;
@@ -37,4 +37,10 @@ fn printed_in(rt: &impl Abort, alloc: Global, text: &[u8], ctx: &mut Context) ->
         return String::from_str(alloc, "edges in mid-block").expect(rt, "memory");
     }
     print_text(alloc, root, ctx).expect(rt, "memory")
+}
+
+// The text is printed as this line.
+fn check_printed(rt: &impl Abort, alloc: Global, name: &str, text: &str, line: &str) {
+    let printed = printed_line(rt, alloc, text);
+    assert_eq!(rt; printed.as_str(), line, "{name}");
 }

@@ -67,9 +67,9 @@ fn replace_result(
     assert!(rt; op.is_live(ctx));
     assert!(rt; op.get_parent_block(ctx).is_some());
     assert!(rt; makes(ctx, op, number));
-    assert_eq!(rt; op.num_result(ctx), 1);
-    assert_eq!(rt; op.num_operand(ctx), 0);
-    assert_eq!(rt; op.num_region(ctx), 0);
+    assert!(rt; op.num_result(ctx) == 1);
+    assert!(rt; op.num_operand(ctx) == 0);
+    assert!(rt; op.num_region(ctx) == 0);
     ctx.well_formed();
     let attr = AttrObj::Int(number);
     let mut rewriter = Counting::new();
@@ -94,8 +94,8 @@ fn replace_argument<D: Dialect>(
     number: i128,
 ) -> IRStatus {
     assert!(rt; body.is_live(ctx));
-    assert_eq!(rt; body.num_argument(ctx), 1);
-    assert_eq!(rt; body.get_argument(ctx, 0).num_use(ctx), 0);
+    assert!(rt; body.num_argument(ctx) == 1);
+    assert!(rt; body.get_argument(ctx, 0).num_use(ctx) == 0);
     ctx.well_formed();
     let attr = AttrObj::Int(number);
     let mut rewriter = Counting::new();
@@ -123,11 +123,11 @@ fn replace_inside<D: Dialect>(
     assert!(rt; holder.is_live(ctx));
     assert!(rt; is_well_linked::<D>(holder, ctx));
     assert!(rt; body.is_live(ctx));
-    assert_eq!(rt; body.num_argument(ctx), 1);
+    assert!(rt; body.num_argument(ctx) == 1);
     let argument = body.get_argument(ctx, 0);
     assert!(rt; argument.is_live(ctx));
     assert!(rt; is_defined_inside(argument, holder, ctx));
-    assert_eq!(rt; argument.num_use(ctx), 0);
+    assert!(rt; argument.num_use(ctx) == 0);
     ctx.well_formed();
     let attr = AttrObj::Int(number);
     let mut rewriter = Counting::new();
@@ -143,52 +143,80 @@ fn replace_inside<D: Dialect>(
     status
 }
 
-// A constant without uses is erased, and a question stays; the question asks the new constant; and the constant for the
-// argument is first in the block, though the argument has no uses.
-fn rewrites_in(rt: &impl Abort, alloc: Global, ctx: &mut Context) {
+/// What `STEPS` makes.
+#[derive(Clone, Copy)]
+struct QuestionTree {
+    root: Ptr<Operation>,
+    body: Ptr<BasicBlock>,
+    asked: Ptr<Operation>,
+    question: Ptr<Operation>,
+    unused: Ptr<Operation>,
+}
+
+fn made_in(rt: &impl Abort, alloc: Global, ctx: &mut Context) -> QuestionTree {
     let mut made = Made::new(alloc);
     make(alloc, ctx, &mut made, STEPS).expect(rt, "a tree");
-    let (root, body) = (
-        made.operation("0").expect(rt, "an operation"),
-        made.block("0").expect(rt, "a block"),
-    );
-    let (asked, question) = (
-        made.operation("1").expect(rt, "an operation"),
-        made.operation("2").expect(rt, "an operation"),
-    );
-    let unused = made.operation("3").expect(rt, "an operation");
-    let before = sight_of_root(rt, alloc, ctx, root);
+    QuestionTree {
+        root: made.operation("0").expect(rt, "an operation"),
+        body: made.block("0").expect(rt, "a block"),
+        asked: made.operation("1").expect(rt, "an operation"),
+        question: made.operation("2").expect(rt, "an operation"),
+        unused: made.operation("3").expect(rt, "an operation"),
+    }
+}
 
-    assert_eq!(rt; erase::<Tiny>(rt, alloc, ctx, unused), IRStatus::Changed);
-    assert!(rt; !unused.is_live(ctx));
-    assert_eq!(rt;
-        erase::<Tiny>(rt, alloc, ctx, question),
-        IRStatus::Unchanged
-    );
-    assert!(rt; question.is_live(ctx));
-    assert_eq!(rt; sight_of_root(rt, alloc, ctx, root), before);
+// A constant without uses is erased, and a question stays.
+fn check_erased(rt: &impl Abort, alloc: Global, ctx: &mut Context, tree: &QuestionTree) {
+    assert!(rt; erase::<Tiny>(rt, alloc, ctx, tree.unused) == IRStatus::Changed);
+    assert!(rt; !tree.unused.is_live(ctx));
+    assert!(rt; erase::<Tiny>(rt, alloc, ctx, tree.question) == IRStatus::Unchanged);
+    assert!(rt; tree.question.is_live(ctx));
+}
 
-    assert_eq!(rt; replace_result(rt, alloc, ctx, asked, 0), IRStatus::Changed);
-    assert_eq!(rt; number_asked(rt, ctx, asked, question), Some(0));
-    assert_eq!(rt; sight_of_root(rt, alloc, ctx, root), before);
+// The question asks the new constant.
+fn check_result(rt: &impl Abort, alloc: Global, ctx: &mut Context, tree: &QuestionTree) {
+    assert!(rt; replace_result(rt, alloc, ctx, tree.asked, 0) == IRStatus::Changed);
+    assert!(rt; number_asked(rt, ctx, tree.asked, tree.question) == Some(0));
+}
 
-    assert_eq!(rt;
-        replace_argument::<Tiny>(rt, alloc, ctx, body, 3),
-        IRStatus::Changed
-    );
+// The first operation of the block is a constant of this number.
+fn check_first(rt: &impl Abort, ctx: &Context, body: Ptr<BasicBlock>, number: i128) {
     assert!(rt; body.is_live(ctx));
     let first = body.get_head(ctx).expect(rt, "a constant");
-    assert_eq!(rt; number_of(rt, ctx, first), Some(3));
-    assert_eq!(rt; sight_of_root(rt, alloc, ctx, root), before);
+    assert!(rt; number_of(rt, ctx, first) == Some(number));
+}
 
-    assert_eq!(rt;
-        replace_inside::<Tiny>(rt, alloc, ctx, root, body, 5),
-        IRStatus::Changed
-    );
-    assert!(rt; body.is_live(ctx));
-    let first = body.get_head(ctx).expect(rt, "a constant");
-    assert_eq!(rt; number_of(rt, ctx, first), Some(5));
-    assert_eq!(rt; sight_of_root(rt, alloc, ctx, root), before);
+// The constant for the argument is first in the block, though the argument has no uses.
+fn check_argument(rt: &impl Abort, alloc: Global, ctx: &mut Context, tree: &QuestionTree) {
+    let status = replace_argument::<Tiny>(rt, alloc, ctx, tree.body, 3);
+    assert!(rt; status == IRStatus::Changed);
+    check_first(rt, ctx, tree.body, 3)
+}
+
+// The same by the call on what is inside the root.
+fn check_inside(rt: &impl Abort, alloc: Global, ctx: &mut Context, tree: &QuestionTree) {
+    let status = replace_inside::<Tiny>(rt, alloc, ctx, tree.root, tree.body, 5);
+    assert!(rt; status == IRStatus::Changed);
+    check_first(rt, ctx, tree.body, 5)
+}
+
+// The run of the root is as before.
+fn check_run(rt: &impl Abort, alloc: Global, ctx: &Context, tree: &QuestionTree, before: &Sight) {
+    let after = sight_of_root(rt, alloc, ctx, tree.root);
+    assert!(rt; after == *before);
+}
+
+fn rewrites_in(rt: &impl Abort, alloc: Global, ctx: &mut Context) {
+    let tree = made_in(rt, alloc, ctx);
+    let before = sight_of_root(rt, alloc, ctx, tree.root);
+    check_erased(rt, alloc, ctx, &tree);
+    check_run(rt, alloc, ctx, &tree, &before);
+    check_result(rt, alloc, ctx, &tree);
+    check_run(rt, alloc, ctx, &tree, &before);
+    check_argument(rt, alloc, ctx, &tree);
+    check_run(rt, alloc, ctx, &tree, &before);
+    check_inside(rt, alloc, ctx, &tree);
+    check_run(rt, alloc, ctx, &tree, &before);
 }
 
 #[test]

@@ -98,12 +98,12 @@ twice, with an answer for one visit -- 0 / scope; block 0 1; twice @0 v0; block 
     / 4 4
 twice without blocks -- 0 / twice / 4 / => trapped / /";
 
-/// Steps before the bound, and what is reached then of the loop: a visit, a constant, a jump, a question,
+/// Steps before the bound, and how the loop is seen then: it takes a visit, a constant, a jump, a question,
 /// its answer, a jump, a question.
 static BOUNDS: &str = "\
-three transitions -- 3 =>
-six transitions -- 6 => 1
-seven transitions -- 7 => 8 1";
+three transitions -- 3 => reached / /
+six transitions -- 6 => reached / / 1
+seven transitions -- 7 => reached / / 8 1";
 
 static LOOP: &str =
     "0 / scope; block 0; block 0 1; const 1 @0; br @0 b1 v1; ask @1 v0; br @1 b1 v2";
@@ -155,28 +155,16 @@ fn sight(rt: &impl Abort, alloc: Global, side: &str) -> Sight {
     }
 }
 
-fn runs_in(rt: &impl Abort, alloc: Global, ctx: &mut Context) {
-    for case in RUNS.lines() {
-        let Row { name, asked, want } = row_of(case).expect(rt, "a case");
-        let (text, inputs, world) = last_fields(rt, asked);
-        let root = read(alloc, ctx, text).expect(rt, "a text");
-        let inputs = data(rt, alloc, inputs);
-        let got = evaluate::<Bench>(
-            alloc,
-            ctx,
-            root,
-            inputs,
-            data(rt, alloc, world),
-            ENOUGH,
-        ).expect(rt, "memory");
-        assert_eq!(rt; got, sight(rt, alloc, want), "{name}");
-    }
-    // An operation of no kind traps.
-    let root = build(alloc, ctx, "0 / kind 16").expect(rt, "a tree");
-    let got = evaluate::<Bench>(alloc, ctx, root, Vec::new(alloc), Vec::new(alloc), ENOUGH).expect(
-        rt, "memory",
-    );
-    assert_eq!(rt; got, Sight::Trapped(Vec::new(alloc)));
+fn check_sight(rt: &impl Abort, name: &str, seen: &Sight, want: &Sight) {
+    assert!(rt; *seen == *want, "{name}: {seen:?}");
+}
+
+fn text_in(rt: &impl Abort, alloc: Global, ctx: &mut Context, asked: &str) -> Sight {
+    let (text, inputs, world) = last_fields(rt, asked);
+    let root = read(alloc, ctx, text).expect(rt, "a text");
+    let inputs = data(rt, alloc, inputs);
+    let world = data(rt, alloc, world);
+    evaluate::<Bench>(alloc, ctx, root, inputs, world, ENOUGH).expect(rt, "memory")
 }
 
 // What is seen of the run of the tree.
@@ -189,62 +177,94 @@ fn sight_of_run(
     fuel: usize,
 ) -> Sight {
     let inputs = data(rt, alloc, asked.0);
-    evaluate::<Tiny>(alloc, ctx, root, inputs, data(rt, alloc, asked.1), fuel).expect(rt, "memory")
+    let world = data(rt, alloc, asked.1);
+    evaluate::<Tiny>(alloc, ctx, root, inputs, world, fuel).expect(rt, "memory")
 }
 
-fn trees_in(rt: &impl Abort, alloc: Global, ctx: &mut Context) {
-    for case in TREES.lines() {
-        let Row { name, asked, want } = row_of(case).expect(rt, "a case");
-        let (steps, inputs, world) = last_fields(rt, asked);
-        let root = build(alloc, ctx, steps).expect(rt, "a tree");
-        let got = sight_of_run(rt, alloc, ctx, root, (inputs, world), ENOUGH);
-        assert_eq!(rt; got, sight(rt, alloc, want), "{name}");
-    }
+fn tree_in(rt: &impl Abort, alloc: Global, ctx: &mut Context, asked: &str) -> Sight {
+    let (steps, inputs, world) = last_fields(rt, asked);
+    let root = build(alloc, ctx, steps).expect(rt, "a tree");
+    sight_of_run(rt, alloc, ctx, root, (inputs, world), ENOUGH)
+}
+
+fn bound_in(rt: &impl Abort, alloc: Global, ctx: &mut Context, fuel: &str) -> Sight {
     let root = build(alloc, ctx, LOOP).expect(rt, "a tree");
-    for case in BOUNDS.lines() {
-        let Row {
-            name,
-            asked: fuel,
-            want: effects,
-        } = row_of(case).expect(rt, "a case");
-        let got = sight_of_run(
-            rt,
-            alloc,
-            ctx,
-            root,
-            ("", "8 8 8"),
-            number(fuel).expect(rt, "a number"),
-        );
-        assert_eq!(rt; got, Sight::Reached(data(rt, alloc, effects)), "{name}");
+    let fuel = number(fuel).expect(rt, "a number");
+    sight_of_run(rt, alloc, ctx, root, ("", "8 8 8"), fuel)
+}
+
+/// What the cases of a table are.
+#[derive(Clone, Copy)]
+enum Subject {
+    Text,
+    Tree,
+    Bound,
+}
+
+fn check_row(rt: &impl Abort, alloc: Global, ctx: &mut Context, subject: Subject, row: &Row) {
+    let seen = match subject {
+        Subject::Text => text_in(rt, alloc, ctx, row.asked),
+        Subject::Tree => tree_in(rt, alloc, ctx, row.asked),
+        Subject::Bound => bound_in(rt, alloc, ctx, row.asked),
+    };
+    check_sight(rt, row.name, &seen, &sight(rt, alloc, row.want));
+}
+
+fn check_table(rt: &impl Abort, alloc: Global, ctx: &mut Context, subject: Subject, table: &str) {
+    for line in table.lines() {
+        let row = row_of(line).expect(rt, "a case");
+        check_row(rt, alloc, ctx, subject, &row);
     }
 }
 
-// A root that was erased traps, and a constant's text is given as it is.
+// A root that was erased traps.
 fn roots_in(rt: &impl Abort, alloc: Global, ctx: &mut Context) {
     let root = build(alloc, ctx, "0 / ask").expect(rt, "a tree");
     assert!(rt; root.is_live(ctx));
     assert!(rt; root.is_self_contained(ctx));
     IRRewriter::new().erase_operation(ctx, root);
-    let got = sight_of_run(rt, alloc, ctx, root, ("4", "2"), ENOUGH);
-    assert_eq!(rt; got, Sight::Trapped(Vec::new(alloc)));
-    let mut attrs = Vec::new(alloc);
-    attrs
-        .push(AttrObj::Text(Text::new(String::from_str(alloc, "ab").expect(rt, "memory"))))
-        .expect(rt, "memory");
-    let head = Head {
+    let seen = sight_of_run(rt, alloc, ctx, root, ("4", "2"), ENOUGH);
+    check_sight(
+        rt,
+        "an erased root",
+        &seen,
+        &Sight::Trapped(Vec::new(alloc)),
+    );
+}
+
+// An operation of no kind traps.
+fn outside_in(rt: &impl Abort, alloc: Global, ctx: &mut Context) {
+    let root = build(alloc, ctx, "0 / kind 16").expect(rt, "a tree");
+    let (inputs, world) = (Vec::new(alloc), Vec::new(alloc));
+    let seen = evaluate::<Bench>(alloc, ctx, root, inputs, world, ENOUGH).expect(rt, "memory");
+    check_sight(rt, "no kind", &seen, &Sight::Trapped(Vec::new(alloc)));
+}
+
+// The head of a constant that is a text.
+fn text_head(rt: &impl Abort, alloc: Global) -> Head {
+    let text = String::from_str(alloc, "ab").expect(rt, "memory");
+    let attrs = Vec::from_array(alloc, [AttrObj::Text(Text::new(text))]).expect(rt, "memory");
+    Head {
         kind: TinyKind::Const.number(),
         ssa: true,
         attrs: Attrs::new(attrs),
-    };
-    let root = Operation::create(ctx, head, 1, 0).expect(rt, "memory");
-    let got = sight_of_run(rt, alloc, ctx, root, ("", ""), ENOUGH);
-    assert_eq!(rt; got, Sight::Ended(data(rt, alloc, "ab"), Vec::new(alloc)));
+    }
+}
+
+// A constant's text is given as it is.
+fn constant_in(rt: &impl Abort, alloc: Global, ctx: &mut Context) {
+    let root = Operation::create(ctx, text_head(rt, alloc), 1, 0).expect(rt, "memory");
+    let seen = sight_of_run(rt, alloc, ctx, root, ("", ""), ENOUGH);
+    check_sight(rt, "a text", &seen, &sight(rt, alloc, "ended / ab /"));
 }
 
 fn all_in(rt: &impl Abort, alloc: Global, ctx: &mut Context) {
-    runs_in(rt, alloc, ctx);
-    trees_in(rt, alloc, ctx);
+    check_table(rt, alloc, ctx, Subject::Text, RUNS);
+    check_table(rt, alloc, ctx, Subject::Tree, TREES);
+    check_table(rt, alloc, ctx, Subject::Bound, BOUNDS);
+    outside_in(rt, alloc, ctx);
     roots_in(rt, alloc, ctx);
+    constant_in(rt, alloc, ctx);
 }
 
 #[test]

@@ -1,11 +1,12 @@
 //! What the tiny dialect answers, asked through the traits, and folding by constants that are put for
 //! results.
+use crate::questions::{Question, check_table};
 use pliron_core::{AttrObj, Context, IRRewriter, IRStatus, Operation, Ptr, Rewriter, Value};
 use pliron_meaning::{
     BranchOpFoldInterface, ConstFoldInterface, Dialect, Room, Tiny, TinyKind, edges_last,
 };
 use pliron_test_cases::answers::{effects, entry_operand_of, interfaces, removable};
-use pliron_test_cases::cases::{Row, number, row_of};
+use pliron_test_cases::cases::number;
 use pliron_test_cases::listener::Counting;
 use pliron_test_cases::losses::lose;
 use pliron_test_cases::trees::{Made, build, make};
@@ -40,50 +41,35 @@ twice, first argument -- 1 / scope; block 0 2; twice @0 v0 v1; block 1 2 / 0 0 =
 twice, second argument -- 1 / scope; block 0 2; twice @0 v0 v1; block 1 2 / 0 1 => None
 a scope -- 1 / scope; block 0 2; scope @0 v0 v1; block 1 2 / 0 0 => None";
 
-fn head(rt: &impl Abort, alloc: Global, ctx: &mut Context, case: &str) -> String {
+/// What is said of the head of an operation.
+pub fn head(rt: &impl Abort, alloc: Global, ctx: &mut Context, case: &str) -> String {
     let op = build(alloc, ctx, case).expect(rt, "a tree");
     let effects = effects::<Tiny>(alloc, ctx, op).expect(rt, "an answer");
     let interfaces = interfaces::<Tiny>(alloc, ctx, op).expect(rt, "an answer");
     assert!(rt; op.is_live(ctx));
-    assert_eq!(rt; Tiny::is_branch(op, ctx), Tiny::is_terminator(op, ctx));
-    assert_eq!(rt; Tiny::is_branch(op, ctx), effects.as_str() == "None");
+    assert!(rt; Tiny::is_branch(op, ctx) == Tiny::is_terminator(op, ctx));
+    assert!(rt; Tiny::is_branch(op, ctx) == (effects.as_str() == "None"));
     let folds = Tiny::folds(op, ctx);
     let folds_branch = Tiny::folds_branch(op, ctx);
     format!(in alloc; "{effects} {folds} {folds_branch}{interfaces}").expect(rt, "memory")
 }
 
-fn heads_in(rt: &impl Abort, alloc: Global, ctx: &mut Context) {
-    for case in HEADS.lines() {
-        let Row { name, asked, want } = row_of(case).expect(rt, "a case");
-        assert_eq!(rt; head(rt, alloc, ctx, asked).as_str(), want, "{name}");
-    }
+/// Whether arguments may be removed from the block with the index behind the steps.
+pub fn removal(rt: &impl Abort, alloc: Global, ctx: &mut Context, asked: &str) -> String {
+    let (steps, index) = asked.rsplit_once(" / ").expect(rt, "a block");
+    let op = build(alloc, ctx, steps).expect(rt, "a tree");
+    let index = number(index).expect(rt, "a number");
+    removable::<Tiny>(alloc, ctx, op, index).expect(rt, "an answer")
 }
 
-fn removals_in(rt: &impl Abort, alloc: Global, ctx: &mut Context) {
-    for case in REMOVALS.lines() {
-        let Row { name, asked, want } = row_of(case).expect(rt, "a case");
-        let (steps, index) = asked.rsplit_once(" / ").expect(rt, "a block");
-        let op = build(alloc, ctx, steps).expect(rt, "a tree");
-        let index = number(index).expect(rt, "a number");
-        let got = removable::<Tiny>(alloc, ctx, op, index).expect(rt, "an answer");
-        assert_eq!(rt; got.as_str(), want, "{name}");
-    }
-}
-
-fn named_in(rt: &impl Abort, alloc: Global, ctx: &mut Context) {
-    for case in NAMED.lines() {
-        let Row { name, asked, want } = row_of(case).expect(rt, "a case");
-        let (steps, place) = asked.rsplit_once(" / ").expect(rt, "a place");
-        let (region, argument) = place.split_once(' ').expect(rt, "an argument");
-        let op = build(alloc, ctx, steps).expect(rt, "a tree");
-        let region = number(region).expect(rt, "a number");
-        let argument = number(argument).expect(rt, "a number");
-        let got = entry_operand_of::<Tiny>(alloc, ctx, op, region, argument).expect(
-            rt,
-            "an answer",
-        );
-        assert_eq!(rt; got.as_str(), want, "{name}");
-    }
+/// The operand that is named for the argument of the region, both behind the steps.
+pub fn named_operand(rt: &impl Abort, alloc: Global, ctx: &mut Context, asked: &str) -> String {
+    let (steps, place) = asked.rsplit_once(" / ").expect(rt, "a place");
+    let (region, argument) = place.split_once(' ').expect(rt, "an argument");
+    let op = build(alloc, ctx, steps).expect(rt, "a tree");
+    let region = number(region).expect(rt, "a number");
+    let argument = number(argument).expect(rt, "a number");
+    entry_operand_of::<Tiny>(alloc, ctx, op, region, argument).expect(rt, "an answer")
 }
 
 /// Trees, and whether edges are last in the first operation and in the second, which is in it.
@@ -96,19 +82,20 @@ an edge out of a region -- scope; block 0; block 0; scope @0; block 1; br @2 b1 
 an edge of an operation with a region, in mid-block -- scope; block 0; block 0; scope @0; block 1; br @0 b1; on 1 \
     b1 => false true";
 
-fn edges_in(rt: &impl Abort, alloc: Global, ctx: &mut Context) {
-    for case in EDGES.lines() {
-        let Row { name, asked, want } = row_of(case).expect(rt, "a case");
-        let mut made = Made::new(alloc);
-        make(alloc, ctx, &mut made, asked).expect(rt, "a tree");
-        let outer = made.operation("0").expect(rt, "an operation");
-        let inner = made.operation("1").expect(rt, "an operation");
-        assert!(rt; outer.is_live(ctx));
-        assert!(rt; inner.is_live(ctx));
-        let (outer, inner) = (edges_last(outer, ctx), edges_last(inner, ctx));
-        let answer = format!(in alloc; "{outer} {inner}").expect(rt, "memory");
-        assert_eq!(rt; answer.as_str(), want, "{name}");
-    }
+// Whether edges are last in the operation that was made with this number.
+fn are_edges_last(rt: &impl Abort, ctx: &Context, made: &Made, number: &str) -> bool {
+    let op = made.operation(number).expect(rt, "an operation");
+    assert!(rt; op.is_live(ctx));
+    edges_last(op, ctx)
+}
+
+/// Whether edges are last in the first two operations of the steps.
+pub fn edges_of(rt: &impl Abort, alloc: Global, ctx: &mut Context, steps: &str) -> String {
+    let mut made = Made::new(alloc);
+    make(alloc, ctx, &mut made, steps).expect(rt, "a tree");
+    let outer = are_edges_last(rt, ctx, &made, "0");
+    let inner = are_edges_last(rt, ctx, &made, "1");
+    format!(in alloc; "{outer} {inner}").expect(rt, "memory")
 }
 
 // The operation in a block is a constant of this number and folds to it. Folding in place leaves it.
@@ -116,12 +103,12 @@ fn constant_in(rt: &impl Abort, alloc: Global, ctx: &mut Context) {
     let op = build(alloc, ctx, "1 / scope; block 0; const 0 @0").expect(rt, "a tree");
     assert!(rt; op.is_live(ctx));
     assert!(rt; Tiny::folds(op, ctx));
-    assert_eq!(rt; op.num_operand(ctx), 0);
+    assert!(rt; op.num_operand(ctx) == 0);
     assert!(rt; op.get_parent_block(ctx).is_some());
     let answers = <Tiny as ConstFoldInterface>::check_fold(alloc, op, ctx, &[]).expect(
         rt, "memory",
     );
-    assert_eq!(rt; answers.len(), 1);
+    assert!(rt; answers.len() == 1);
     assert!(rt; answers[0] == Some(AttrObj::Int(0)));
     let mut rewriter = IRRewriter::new();
     rewriter.set_insertion_point_before_operation(op);
@@ -133,7 +120,7 @@ fn constant_in(rt: &impl Abort, alloc: Global, ctx: &mut Context) {
         &[],
         &mut rewriter,
     ).expect(rt, "memory");
-    assert_eq!(rt; status, IRStatus::Unchanged);
+    assert!(rt; status == IRStatus::Unchanged);
     assert!(rt;
         Tiny::materialize(alloc, &AttrObj::Int(0), ctx)
             .expect(rt, "memory")
@@ -150,7 +137,7 @@ fn fold<D: Dialect>(
 ) -> IRStatus {
     assert!(rt; op.is_live(ctx));
     assert!(rt; D::folds(op, ctx));
-    assert_eq!(rt; op.num_operand(ctx), 0);
+    assert!(rt; op.num_operand(ctx) == 0);
     assert!(rt; op.get_parent_block(ctx).is_some());
     let mut rewriter = Counting::new();
     rewriter.set_insertion_point_before_operation(op);
@@ -170,10 +157,10 @@ pub(crate) fn number_asked(
 ) -> Option<i128> {
     assert!(rt; op.is_live(ctx));
     assert!(rt; question.is_live(ctx));
-    assert_eq!(rt; question.num_operand(ctx), 1);
+    assert!(rt; question.num_operand(ctx) == 1);
     let before = op.get_prev(ctx).expect(rt, "a constant");
-    assert_eq!(rt; before.num_result(ctx), 1);
-    assert_eq!(rt; question.get_operand(ctx, 0), before.get_result(ctx, 0));
+    assert!(rt; before.num_result(ctx) == 1);
+    assert!(rt; question.get_operand(ctx, 0) == before.get_result(ctx, 0));
     number_of(rt, ctx, before)
 }
 
@@ -181,8 +168,8 @@ pub(crate) fn number_asked(
 pub(crate) fn number_of(rt: &impl Abort, ctx: &Context, op: Ptr<Operation>) -> Option<i128> {
     assert!(rt; op.is_live(ctx));
     let head = op.head(ctx);
-    assert_eq!(rt; TinyKind::of(head.kind), Some(TinyKind::Const));
-    assert_eq!(rt; head.attrs.len(), 1);
+    assert!(rt; TinyKind::of(head.kind) == Some(TinyKind::Const));
+    assert!(rt; head.attrs.len() == 1);
     match head.attrs.get(0) {
         AttrObj::Int(number) => Some(*number),
         AttrObj::Text(_) => None,
@@ -199,11 +186,9 @@ fn folding_in(rt: &impl Abort, alloc: Global, ctx: &mut Context) {
     )
     .expect(rt, "a tree");
     let op = made.operation("1").expect(rt, "an operation");
-    assert_eq!(rt; fold::<Tiny>(rt, alloc, ctx, op), IRStatus::Changed);
-    assert_eq!(rt;
-        number_asked(rt, ctx, op, made.operation("2").expect(rt, "an operation")),
-        Some(0)
-    );
+    assert!(rt; fold::<Tiny>(rt, alloc, ctx, op) == IRStatus::Changed);
+    let question = made.operation("2").expect(rt, "an operation");
+    assert!(rt; number_asked(rt, ctx, op, question) == Some(0));
 }
 
 // The values that the branch forwards along its edge.
@@ -216,7 +201,7 @@ fn check_forwarded(
 ) {
     assert!(rt; op.is_live(ctx));
     assert!(rt; Tiny::is_branch(op, ctx));
-    assert_eq!(rt; op.num_successor(ctx), 1);
+    assert!(rt; op.num_successor(ctx) == 1);
     let values = Tiny::successor_operands(alloc, op, ctx, 0).expect(rt, "memory");
     assert!(rt; values.as_slice() == want);
 }
@@ -249,24 +234,29 @@ fn kinds_and_their_numbers(rt: HostRuntime) {
         TinyKind::Both,
         TinyKind::Twice,
     ] {
-        assert_eq!(rt; TinyKind::of(kind.number()), Some(*kind));
+        assert!(rt; TinyKind::of(kind.number()) == Some(*kind));
     }
     assert!(rt; TinyKind::of(6).is_none());
 }
 
-fn all_in(rt: &impl Abort, alloc: Global, ctx: &mut Context) {
-    heads_in(rt, alloc, ctx);
-    removals_in(rt, alloc, ctx);
-    named_in(rt, alloc, ctx);
-    edges_in(rt, alloc, ctx);
+fn folds_in(rt: &impl Abort, alloc: Global, ctx: &mut Context) {
     constant_in(rt, alloc, ctx);
     folding_in(rt, alloc, ctx);
     loss_in(rt, alloc, ctx);
 }
 
 #[test]
-fn answers_folds_and_losses(rt: HostRuntime) {
+fn folds_and_losses(rt: HostRuntime) {
     let alloc = rt.alloc();
     let mut ctx = Context::new(alloc);
-    all_in(&rt, alloc, &mut ctx)
+    folds_in(&rt, alloc, &mut ctx)
+}
+
+#[test]
+fn answers_on_trees(rt: HostRuntime) {
+    let alloc = rt.alloc();
+    check_table(&rt, alloc, Question::TinyHeads, HEADS);
+    check_table(&rt, alloc, Question::TinyRemovals, REMOVALS);
+    check_table(&rt, alloc, Question::TinyNamed, NAMED);
+    check_table(&rt, alloc, Question::TinyEdges, EDGES);
 }

@@ -1,6 +1,7 @@
 //! The operations that a text makes: by their heads, and by how much they have of what.
-use pliron_core::{AttrObj, Context, Operation, Ptr};
-use pliron_test_cases::cases::{Row, fields, operation_at, read, row_of};
+use crate::questions::{Question, check_table, operation_in};
+use pliron_core::{AttrObj, BasicBlock, Context, Operation, Ptr};
+use pliron_test_cases::cases::fields;
 use std::alloc::Global;
 use std::process::Abort;
 
@@ -38,17 +39,17 @@ fn number_of(rt: &impl Abort, ctx: &Context, op: Ptr<Operation>) -> Option<i128>
     if attrs.is_empty() {
         return None;
     }
-    assert_eq!(rt; attrs.len(), 1);
+    assert!(rt; attrs.len() == 1);
     match attrs.get(0) {
         AttrObj::Int(number) => Some(*number),
         AttrObj::Text(_) => panic!(rt; "a text"),
     }
 }
 
-fn head(rt: &impl Abort, alloc: Global, ctx: &mut Context, case: &str) -> String {
+/// What is said of the operation of the text at the place before it.
+pub fn head(rt: &impl Abort, alloc: Global, ctx: &mut Context, case: &str) -> String {
     let (place, text) = fields(case).expect(rt, "two fields");
-    let root = read(alloc, ctx, text).expect(rt, "a text");
-    let op = operation_at(ctx, root, place).expect(rt, "an operation");
+    let op = operation_in(rt, alloc, ctx, text, place);
     assert!(rt; op.is_live(ctx));
     let counts = [
         op.num_operand(ctx),
@@ -61,26 +62,42 @@ fn head(rt: &impl Abort, alloc: Global, ctx: &mut Context, case: &str) -> String
     format!(in alloc; "{} {} {number:?} {counts:?}", head.kind, head.ssa).expect(rt, "memory")
 }
 
+// Whether the operands are the block's arguments in order.
+fn are_arguments(
+    rt: &impl Abort,
+    ctx: &Context,
+    op: Ptr<Operation>,
+    block: Ptr<BasicBlock>,
+) -> bool {
+    assert!(rt; op.is_live(ctx));
+    assert!(rt; block.is_live(ctx));
+    if op.num_operand(ctx) != block.num_argument(ctx) {
+        return false;
+    }
+    for i in 0..op.num_operand(ctx) {
+        if op.get_operand(ctx, i) != block.get_argument(ctx, i) {
+            return false;
+        }
+    }
+    true
+}
+
+// Whether the two successors are the two blocks after this one.
+fn are_next(rt: &impl Abort, ctx: &Context, op: Ptr<Operation>, block: Ptr<BasicBlock>) -> bool {
+    assert!(rt; op.is_live(ctx));
+    assert!(rt; op.num_successor(ctx) == 2);
+    let (first, second) = (op.get_successor(ctx, 0), op.get_successor(ctx, 1));
+    assert!(rt; block.is_live(ctx));
+    assert!(rt; first.is_live(ctx));
+    block.get_next(ctx) == Some(first) && first.get_next(ctx) == Some(second)
+}
+
 // The operands are the block's arguments in order, and the successors are the two blocks after it.
 fn check_branch(rt: &impl Abort, ctx: &Context, op: Ptr<Operation>, name: &str) {
     assert!(rt; op.is_live(ctx));
     let block = op.get_parent_block(ctx).expect(rt, "a block");
-    assert!(rt; block.is_live(ctx));
-    assert_eq!(rt; op.num_operand(ctx), block.num_argument(ctx), "{name}");
-    for i in 0..op.num_operand(ctx) {
-        assert!(rt;
-            op.get_operand(ctx, i) == block.get_argument(ctx, i),
-            "{name}"
-        );
-    }
-    assert_eq!(rt; op.num_successor(ctx), 2, "{name}");
-    let mut next = block.get_next(ctx);
-    for i in 0..2 {
-        let successor = op.get_successor(ctx, i);
-        assert!(rt; next == Some(successor), "{name}");
-        assert!(rt; successor.is_live(ctx));
-        next = successor.get_next(ctx);
-    }
+    assert!(rt; are_arguments(rt, ctx, op, block), "{name}");
+    assert!(rt; are_next(rt, ctx, op, block), "{name}");
 }
 
 /// The condition comes first, then what the first edge forwards, then the second.
@@ -88,30 +105,22 @@ static BRANCHES: &str = "\
 a branch -- func { b0(c, x, y, z): cbr c b1(x, y) b2(z); b1(p, q):; b2(r): }
 a fork -- func { b0(c): fork c b1 b2; b1():; b2(): }";
 
-fn heads_in(rt: &impl Abort, alloc: Global, ctx: &mut Context) {
-    for case in HEADS.lines() {
-        let Row { name, asked, want } = row_of(case).expect(rt, "a case");
-        assert_eq!(rt; head(rt, alloc, ctx, asked).as_str(), want, "{name}");
-    }
-}
-
 fn order_in(rt: &impl Abort, alloc: Global, ctx: &mut Context) {
     for case in BRANCHES.lines() {
         let (name, text) = case.split_once(" -- ").expect(rt, "a name");
-        let root = read(alloc, ctx, text).expect(rt, "a text");
-        let op = operation_at(ctx, root, "0").expect(rt, "an operation");
+        let op = operation_in(rt, alloc, ctx, text, "0");
         check_branch(rt, ctx, op, name);
     }
 }
 
-fn all_in(rt: &impl Abort, alloc: Global, ctx: &mut Context) {
-    heads_in(rt, alloc, ctx);
-    order_in(rt, alloc, ctx);
+#[test]
+fn operands_and_successors(rt: HostRuntime) {
+    let alloc = rt.alloc();
+    let mut ctx = Context::new(alloc);
+    order_in(&rt, alloc, &mut ctx)
 }
 
 #[test]
-fn heads_operands_and_successors(rt: HostRuntime) {
-    let alloc = rt.alloc();
-    let mut ctx = Context::new(alloc);
-    all_in(&rt, alloc, &mut ctx)
+fn heads_and_counts(rt: HostRuntime) {
+    check_table(&rt, rt.alloc(), Question::Heads, HEADS);
 }

@@ -1,5 +1,5 @@
 //! Texts and the lines that they are printed as.
-use super::printed_line;
+use super::check_printed;
 use pliron_test_cases::cases::{Row, row_of};
 
 /// Blanks, ends of lines as `|`, and names.
@@ -202,8 +202,8 @@ fn texts_and_their_lines(rt: HostRuntime) {
     for table in [LAYOUTS, KINDS, JUMPS, BRANCHES, REGIONS, CROWDED] {
         for case in table.lines() {
             let Row { name, asked, want } = row_of(case).expect(&rt, "a case");
-            assert_eq!(&rt; printed_line(&rt, alloc, asked).as_str(), want, "{name}");
-            assert_eq!(&rt; printed_line(&rt, alloc, want).as_str(), want, "{name}");
+            check_printed(&rt, alloc, name, asked, want);
+            check_printed(&rt, alloc, name, want, want);
         }
     }
 }
@@ -212,10 +212,6 @@ fn texts_and_their_lines(rt: HostRuntime) {
 fn printed_lines(rt: HostRuntime) {
     for case in PRINTED.lines() {
         let (name, line) = case.split_once(" -- ").expect(&rt, "a name");
-        assert_eq!(&rt;
-            printed_line(&rt, rt.alloc(), line).as_str(),
-            line,
-            "{name}"
-        );
+        check_printed(&rt, rt.alloc(), name, line, line);
     }
 }

@@ -1,5 +1,5 @@
 //! Regions in one another.
-use super::printed_line;
+use super::check_printed;
 use pliron_core::{Attrs, BasicBlock, Context, Head, IRRewriter, Operation, Ptr, Rewriter};
 use pliron_meaning::bench::BenchKind;
 use pliron_test_cases::cases::{fields, line};
@@ -29,18 +29,19 @@ modules round a function -- mod { b0(): / mod { b0(): / func { b0(): }
 boxes -- func { b0(): / box { b0(): / box { }
 scopes -- func { b0(): / scope { b0(): / scope { b0(): }";
 
+fn check_nest(rt: &impl Abort, alloc: Global, name: &str, nest: &str) {
+    let most = nested_text(rt, alloc, nest, 64);
+    check_printed(rt, alloc, name, &most, &most);
+    let more = nested_text(rt, alloc, nest, 65);
+    check_printed(rt, alloc, name, &more, "unreadable");
+}
+
 #[test]
 fn sixty_four_regions_in_one_another(rt: HostRuntime) {
     let alloc = rt.alloc();
     for case in NESTS.lines() {
         let (name, nest) = case.split_once(" -- ").expect(&rt, "a name");
-        let most = nested_text(&rt, alloc, nest, 64);
-        assert!(&rt; printed_line(&rt, alloc, most.as_str()) == most, "{name}");
-        let more = nested_text(&rt, alloc, nest, 65);
-        assert!(&rt;
-            printed_line(&rt, alloc, more.as_str()).as_str() == "unreadable",
-            "{name}"
-        );
+        check_nest(&rt, alloc, name, nest);
     }
 }
 
@@ -64,7 +65,7 @@ fn around(
 ) -> Ptr<Operation> {
     let outer = holder(rt, alloc, ctx, kind);
     assert!(rt; outer.is_live(ctx));
-    assert_eq!(rt; outer.num_region(ctx), 1);
+    assert!(rt; outer.num_region(ctx) == 1);
     let block = BasicBlock::create(ctx, outer.get_region(ctx, 0), 0).expect(rt, "memory");
     assert!(rt; block.is_live(ctx));
     assert!(rt; inner.is_live(ctx));
@@ -94,5 +95,5 @@ fn deep_tree_is_printed(rt: HostRuntime) {
     let alloc = rt.alloc();
     let want = nested_text(&rt, alloc, "func { b0(): / box { b0(): / box { }", 3000);
     assert!(&rt; deep(&rt, alloc) == want);
-    assert!(&rt; printed_line(&rt, alloc, want.as_str()).as_str() == "unreadable");
+    check_printed(&rt, alloc, "a deep text", &want, "unreadable");
 }

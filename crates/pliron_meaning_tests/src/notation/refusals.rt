@@ -19,7 +19,7 @@ fn check_line(rt: &impl Abort, alloc: Global, ctx: &Context, root: Ptr<Operation
     let line = match print_text(alloc, root, ctx) {
         Ok(line) => line,
         Err(error) => {
-            assert_eq!(rt; error, OptError::Memory);
+            assert!(rt; error == OptError::Memory);
             print_text(alloc, root, ctx).expect(rt, "memory")
         }
     };
@@ -37,7 +37,7 @@ fn read_beside(
 ) -> Ptr<Operation> {
     let read = match read_text(alloc, text.as_bytes(), ctx) {
         Err(error) => {
-            assert_eq!(rt; error, OptError::Memory);
+            assert!(rt; error == OptError::Memory);
             if let Some(first) = first {
                 check_line(rt, alloc, ctx, first, "mod { }");
             }
