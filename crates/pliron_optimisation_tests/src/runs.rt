@@ -1,7 +1,7 @@
 //! Runs of texts before and after an optimisation, compared by the evaluator.
-use crate::texts::{Asked, text_behind};
+use crate::texts::{Asked, case_behind};
 use pliron_core::Context;
-use pliron_test_cases::cases::{Case, case_of, read};
+use pliron_test_cases::cases::{Case, read};
 use pliron_test_cases::runs::{are_kept, sights};
 use std::alloc::Global;
 use std::process::Abort;
@@ -30,8 +30,6 @@ fn compare(rt: &impl Abort, alloc: Global, asked: Asked, case: &Case) {
 // The optimisation of each text keeps its runs.
 pub fn keep_runs(rt: &impl Abort, alloc: Global, asked: Asked, cases: &str) {
     for row in cases.lines() {
-        let case = case_of(row).expect(rt, "a case");
-        let case = text_behind(case, asked.words).expect(rt, "a text");
-        compare(rt, alloc, asked, &case);
+        compare(rt, alloc, asked, &case_behind(rt, row, asked.words));
     }
 }

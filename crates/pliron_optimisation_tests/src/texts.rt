@@ -20,13 +20,24 @@ pub struct Asked {
 }
 
 // The case without so many words before its text.
-pub fn text_behind(case: Case<'_>, words: usize) -> Option<Case<'_>> {
+fn text_behind(case: Case<'_>, words: usize) -> Option<Case<'_>> {
     let mut text = case.text;
     for _ in 0..words {
         let (_, rest) = text.split_once(' ')?;
         text = rest;
     }
     Some(Case { text, ..case })
+}
+
+/// The case of the row, without so many words before its text.
+pub fn case_behind<'t>(rt: &impl Abort, row: &'t str, words: usize) -> Case<'t> {
+    let case = case_of(row).expect(rt, "a case");
+    text_behind(case, words).expect(rt, "a text")
+}
+
+/// The texts are the same.
+pub fn expect_text(rt: &impl Abort, got: &str, want: &str, name: &str) {
+    assert_eq!(rt; got, want, "{name}");
 }
 
 // The operation at the place, which is the whole or inside it.
@@ -72,12 +83,12 @@ fn check_in(
     } else {
         letter(asked.optimisation.run(rt, alloc, ctx, root))
     };
-    assert_eq!(rt; answer, case.answer, "{name}");
+    expect_text(rt, answer, case.answer, name);
     let left = line(alloc, ctx, whole).expect(rt, "the whole");
-    assert_eq!(rt; left.as_str(), case.after, "{name}");
+    expect_text(rt, left.as_str(), case.after, name);
     if asked.is_settled {
         let again = letter(asked.optimisation.run(rt, alloc, ctx, root));
-        assert_eq!(rt; again, "U", "{name}");
+        expect_text(rt, again, "U", name);
     }
 }
 
@@ -92,8 +103,6 @@ pub fn check(rt: &impl Abort, alloc: Global, asked: Asked, case: &Case) {
 // What is asked of each text is as its case says.
 pub fn check_all(rt: &impl Abort, alloc: Global, asked: Asked, cases: &str) {
     for row in cases.lines() {
-        let case = case_of(row).expect(rt, "a case");
-        let case = text_behind(case, asked.words).expect(rt, "a text");
-        check(rt, alloc, asked, &case);
+        check(rt, alloc, asked, &case_behind(rt, row, asked.words));
     }
 }

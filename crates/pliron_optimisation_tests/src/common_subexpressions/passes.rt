@@ -15,22 +15,30 @@ use std::process::Abort;
 static TEXT: &str = "func { b0(x): a = add x x; b = add x x; ret a b }";
 
 // What the list of the pass alone answers.
-fn run(alloc: Global, root: Ptr<Operation>, ctx: &mut Context) -> Result<IRStatus, OptError>
+fn run(
+    rt: &impl Abort,
+    alloc: Global,
+    root: Ptr<Operation>,
+    ctx: &mut Context,
+) -> Result<IRStatus, OptError>
     requires live { IsLive ctx.old.tree root }
     requires linked { IsWellLinked bench ctx.old.tree root }
 {
     let mut passes = Passes::<CSEPass<Bench, BenchFacts>>::new(alloc);
-    passes.add_pass(CSEPass::new())?;
+    assert!(rt; passes.add_pass(CSEPass::new()).is_ok());
     let mut analyses = AnalysisManager::new(alloc);
     run_pipeline(&mut passes, alloc, root, ctx, &mut analyses)
 }
 
 fn run_in(rt: &impl Abort, alloc: Global, ctx: &mut Context) {
     let root = read(alloc, ctx, TEXT).expect(rt, "a text");
-    let status = run(alloc, root, ctx).expect(rt, "memory");
-    assert_eq!(rt; status, IRStatus::Changed);
+    let status = run(rt, alloc, root, ctx).expect(rt, "memory");
+    assert!(rt; status == IRStatus::Changed);
     let text = line(alloc, ctx, root).expect(rt, "the root");
-    assert_eq!(rt; text.as_str(), "func { b0(v0): v1 = add v0 v0; ret v1 v1 }");
+    assert!(rt;
+        text.as_str() == "func { b0(v0): v1 = add v0 v0; ret v1 v1 }",
+        "{text}"
+    );
 }
 
 #[test]
@@ -42,5 +50,5 @@ fn the_pass_in_a_list(rt: HostRuntime) {
 #[test]
 fn the_name_of_the_pass(rt: HostRuntime) {
     let pass = CSEPass::<Bench, BenchFacts>::new();
-    assert_eq!(rt; pass.name(), "cse");
+    assert!(rt; pass.name() == "cse");
 }

@@ -27,20 +27,26 @@ pub enum Call {
     Simplify,
 }
 
+static NAMES: [(&str, Call); 8] = [
+    ("fold", Call::Fold),
+    ("merge", Call::Merge),
+    ("merge-block", Call::MergeBlock),
+    ("merge-region", Call::MergeRegion),
+    ("remove", Call::Remove),
+    ("remove-block", Call::RemoveBlock),
+    ("remove-region", Call::RemoveRegion),
+    ("simplify", Call::Simplify),
+];
+
 impl Call {
     // The call of this name.
     pub fn of(word: &str) -> Option<Call> {
-        match word {
-            "fold" => Some(Call::Fold),
-            "merge" => Some(Call::Merge),
-            "merge-block" => Some(Call::MergeBlock),
-            "merge-region" => Some(Call::MergeRegion),
-            "remove" => Some(Call::Remove),
-            "remove-block" => Some(Call::RemoveBlock),
-            "remove-region" => Some(Call::RemoveRegion),
-            "simplify" => Some(Call::Simplify),
-            _ => None,
+        for (name, call) in &NAMES {
+            if *name == word {
+                return Some(*call);
+            }
         }
+        None
     }
 }
 

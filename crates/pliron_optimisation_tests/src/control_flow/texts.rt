@@ -26,15 +26,18 @@ fn called(row: &str) -> Option<(Call, Case<'_>)> {
     Some((Call::of(word)?, Case { text, ..case }))
 }
 
+fn check_call(rt: &impl Abort, alloc: Global, row: &str) {
+    let (call, case) = called(row).expect(rt, "a case with its call");
+    let asked = Asked {
+        optimisation: Optimisation::ControlFlow(call),
+        ..SIMPLIFICATION
+    };
+    check(rt, alloc, asked, &case);
+}
+
 fn check_called(rt: &impl Abort, alloc: Global, cases: &str) {
     for row in cases.lines() {
-        let (call, case) = called(row).expect(rt, "a case with its call");
-        let optimisation = Optimisation::ControlFlow(call);
-        let asked = Asked {
-            optimisation,
-            ..SIMPLIFICATION
-        };
-        check(rt, alloc, asked, &case);
+        check_call(rt, alloc, row);
     }
 }
 
@@ -72,12 +75,16 @@ fn room_in(rt: &impl Abort, alloc: Global, ctx: &mut Context, case: &Case) {
     assert!(rt; rewriter.had_room(), "{}", case.name);
 }
 
+fn check_room(rt: &impl Abort, alloc: Global, row: &str) {
+    let (_, case) = called(row).expect(rt, "a case with its call");
+    let mut ctx = Context::new(alloc);
+    room_in(rt, alloc, &mut ctx, &case);
+}
+
 // The whole on texts that the table has for calls of its parts.
 fn check_called_have_room(rt: &impl Abort, alloc: Global, cases: &str) {
     for row in cases.lines() {
-        let (_, case) = called(row).expect(rt, "a case with its call");
-        let mut ctx = Context::new(alloc);
-        room_in(rt, alloc, &mut ctx, &case);
+        check_room(rt, alloc, row);
     }
 }
 
@@ -103,11 +110,15 @@ fn none_left_in(rt: &impl Abort, alloc: Global, ctx: &mut Context, case: &Case) 
     }
 }
 
+fn check_left(rt: &impl Abort, alloc: Global, row: &str) {
+    let case = case_of(row).expect(rt, "a case");
+    let mut ctx = Context::new(alloc);
+    none_left_in(rt, alloc, &mut ctx, &case);
+}
+
 fn check_none_left(rt: &impl Abort, alloc: Global, cases: &str) {
     for row in cases.lines() {
-        let case = case_of(row).expect(rt, "a case");
-        let mut ctx = Context::new(alloc);
-        none_left_in(rt, alloc, &mut ctx, &case);
+        check_left(rt, alloc, row);
     }
 }
 

@@ -15,9 +15,8 @@ use pliron_core::{BasicBlock, Context, Def, Operation, Ptr, Value};
 use pliron_dce::dce;
 use pliron_laws::{BlockArgRemoval, Dialect, SideEffects};
 use pliron_test_cases::cases::{Case, case_of, read};
-use std::alloc::{AllocError, Global};
+use std::alloc::Global;
 use std::process::Abort;
-use std::test::Fail;
 
 // More operations or blocks than any text has.
 const MANY: usize = 1000;
@@ -30,59 +29,59 @@ enum Thing {
 }
 
 // All candidates within the root are listed: the operations, each followed by the arguments of its blocks.
-fn list_things(things: &mut Vec<Thing>, root: Ptr<Operation>, ctx: &Context) -> Result<(), Fail>
+fn list_things(rt: &impl Abort, things: &mut Vec<Thing>, root: Ptr<Operation>, ctx: &Context)
     requires { IsLive ctx.now.tree root }
 {
-    things.push(Thing::Operation(root))?;
-    list_arguments(things, root, ctx)?;
+    list_operation(rt, things, root, ctx);
     let mut at = root.first_inside(ctx);
     for _ in 0..MANY {
         let Some(op) = at else {
-            return Ok(());
+            return;
         };
-        if !op.is_live(ctx) {
-            return Err(Fail::from("a walk leaves the tree"));
-        }
-        if !op.is_inside(root, ctx) {
-            return Err(Fail::from("a walk leaves the root"));
-        }
-        things.push(Thing::Operation(op))?;
-        list_arguments(things, op, ctx)?;
+        assert!(rt; op.is_live(ctx), "a walk leaves the tree");
+        assert!(rt; op.is_inside(root, ctx), "a walk leaves the root");
+        list_operation(rt, things, op, ctx);
         at = op.next_in_preorder(root, ctx);
     }
-    Err(Fail::from("too many operations"))
+    panic!(rt; "too many operations")
 }
 
-fn list_arguments(things: &mut Vec<Thing>, op: Ptr<Operation>, ctx: &Context) -> Result<(), Fail>
+fn list_operation(rt: &impl Abort, things: &mut Vec<Thing>, op: Ptr<Operation>, ctx: &Context)
     requires { IsLive ctx.now.tree op }
 {
+    things.push(Thing::Operation(op)).expect(rt, "memory");
     for i in 0..op.num_region(ctx) {
         let first = op.get_region(ctx, i).get_head(ctx);
-        list_from(things, first, ctx)?;
+        list_from(rt, things, first, ctx);
     }
-    Ok(())
 }
 
 // The arguments of this block and of those after it.
 fn list_from(
+    rt: &impl Abort,
     things: &mut Vec<Thing>,
     first: Option<Ptr<BasicBlock>>,
     ctx: &Context,
-) -> Result<(), Fail> {
+) {
     let mut at = first;
     for _ in 0..MANY {
         let Some(block) = at else {
-            return Ok(());
+            return;
         };
-        if !block.is_live(ctx) {
-            return Err(Fail::from("no block"));
-        }
-        for i in 0..block.num_argument(ctx) {
-            things.push(Thing::Argument(block.get_argument(ctx, i)))?;
-        }
+        assert!(rt; block.is_live(ctx), "no block");
+        list_arguments(rt, things, block, ctx);
         at = block.get_next(ctx);
     }
-    Err(Fail::from("too many blocks"))
+    panic!(rt; "too many blocks")
+}
+
+fn list_arguments(rt: &impl Abort, things: &mut Vec<Thing>, block: Ptr<BasicBlock>, ctx: &Context)
+    requires { IsBlock ctx.now.tree block }
+{
+    for i in 0..block.num_argument(ctx) {
+        let argument = block.get_argument(ctx, i);
+        things.push(Thing::Argument(argument)).expect(rt, "memory");
+    }
 }
 
 // Whether the operation is this one or is inside it.
@@ -120,26 +119,29 @@ fn argument_at(user: Ptr<Operation>, edge: usize, j: usize, ctx: &Context) -> Op
 // The argument that the operand at this place is forwarded to. A `br` forwards all operands; a `cbr` has
 // its condition first, then those of its first edge, then those of its second one.
 fn forwarded_to(
+    rt: &impl Abort,
     alloc: Global,
     user: Ptr<Operation>,
     place: usize,
     ctx: &Context,
-) -> Result<Option<Value>, Fail>
+) -> Option<Value>
     requires { IsLive ctx.now.tree user }
 {
     if !Bench::is_branch(user, ctx) || user.num_successor(ctx) == 0 {
-        return Ok(None);
+        return None;
     }
     let conditions = user.num_successor(ctx) - 1;
     if place < conditions {
-        return Ok(None);
+        return None;
     }
-    let first = Bench::successor_operands(alloc, user, ctx, 0)?.len();
+    let first = Bench::successor_operands(alloc, user, ctx, 0)
+        .expect(rt, "memory")
+        .len();
     let j = place - conditions;
     if j < first {
-        Ok(argument_at(user, 0, j, ctx))
+        argument_at(user, 0, j, ctx)
     } else {
-        Ok(argument_at(user, 1, j - first, ctx))
+        argument_at(user, 1, j - first, ctx)
     }
 }
 
@@ -164,82 +166,88 @@ fn is_kept_by(thing: Thing, user: Ptr<Operation>, value: Value, ctx: &Context) -
 
 // Whether the use at this place of the operation is by something dead, or forwarded to a dead argument.
 fn is_dead_use(
+    rt: &impl Abort,
     alloc: Global,
     dead: &[Thing],
     user: Ptr<Operation>,
     place: usize,
     ctx: &Context,
-) -> Result<bool, Fail>
+) -> bool
     requires { IsLive ctx.now.tree user }
 {
-    let forwarded = forwarded_to(alloc, user, place, ctx)?;
+    let forwarded = forwarded_to(rt, alloc, user, place, ctx);
     for thing in dead {
         let takes = match *thing {
             Thing::Operation(op) => is_within(user, op, ctx),
             Thing::Argument(argument) => forwarded == Some(argument),
         };
         if takes {
-            return Ok(true);
+            return true;
         }
     }
-    Ok(false)
+    false
 }
 
 // Whether a use by this operation keeps it alive.
 fn keeps(
+    rt: &impl Abort,
     alloc: Global,
     dead: &[Thing],
-    thing: Thing,
+    thing: &Thing,
     user: Ptr<Operation>,
     ctx: &Context,
-) -> Result<bool, Fail>
+) -> bool
     requires { IsLive ctx.now.tree user }
 {
     for place in 0..user.num_operand(ctx) {
         let value = user.get_operand(ctx, place);
-        if !value.is_live(ctx) || !is_kept_by(thing, user, value, ctx) {
-            continue;
-        }
-        if !is_dead_use(alloc, dead, user, place, ctx)? {
-            return Ok(true);
+        if value.is_live(ctx)
+            && is_kept_by(*thing, user, value, ctx)
+            && !is_dead_use(rt, alloc, dead, user, place, ctx)
+        {
+            return true;
         }
     }
-    Ok(false)
+    false
 }
 
 // Whether some use keeps it alive.
 fn is_kept(
+    rt: &impl Abort,
     alloc: Global,
     things: &[Thing],
     dead: &[Thing],
     thing: &Thing,
     ctx: &Context,
-) -> Result<bool, Fail> {
+) -> bool {
     for other in things {
-        let Thing::Operation(user) = *other else {
-            continue;
-        };
-        if !user.is_live(ctx) {
-            continue;
-        }
-        if keeps(alloc, dead, *thing, user, ctx)? {
-            return Ok(true);
+        if let Thing::Operation(user) = *other {
+            if user.is_live(ctx) && keeps(rt, alloc, dead, thing, user, ctx) {
+                return true;
+            }
         }
     }
-    Ok(false)
+    false
+}
+
+// Whether the operation leads to the block, and is no branch.
+fn leads_to(user: Ptr<Operation>, block: Ptr<BasicBlock>, ctx: &Context) -> bool {
+    if !user.is_live(ctx) || Bench::is_branch(user, ctx) {
+        return false;
+    }
+    for i in 0..user.num_successor(ctx) {
+        if user.get_successor(ctx, i) == block {
+            return true;
+        }
+    }
+    false
 }
 
 // Whether branches alone lead to the block.
 fn is_led_to_by_branches(things: &[Thing], block: Ptr<BasicBlock>, ctx: &Context) -> bool {
     for other in things {
-        let Thing::Operation(user) = *other else {
-            continue;
-        };
-        if !user.is_live(ctx) || Bench::is_branch(user, ctx) {
-            continue;
-        }
-        for i in 0..user.num_successor(ctx) {
-            if user.get_successor(ctx, i) == block {
+        if let Thing::Operation(user) = *other {
+            if leads_to(user, block, ctx) {
                 return false;
             }
         }
@@ -272,63 +280,76 @@ fn may_lose(things: &[Thing], value: Value, ctx: &Context) -> bool
 }
 
 fn one_round(
+    rt: &impl Abort,
     alloc: Global,
     things: &[Thing],
     dead: &mut Vec<Thing>,
     root: Ptr<Operation>,
     ctx: &Context,
-) -> Result<(), Fail> {
+) {
     for thing in things {
-        if dead.contains(thing) || !may_go(things, root, *thing, ctx) {
-            continue;
-        }
-        if !is_kept(alloc, things, dead, thing, ctx)? {
-            dead.push(*thing)?;
+        if !dead.contains(thing)
+            && may_go(things, root, *thing, ctx)
+            && !is_kept(rt, alloc, things, dead, thing, ctx)
+        {
+            dead.push(*thing).expect(rt, "memory");
         }
     }
-    Ok(())
 }
 
 // Each round but the last finds something, so there are no more than one for each thing, and one.
 fn find_dead(
+    rt: &impl Abort,
     alloc: Global,
     things: &[Thing],
     dead: &mut Vec<Thing>,
     root: Ptr<Operation>,
     ctx: &Context,
-) -> Result<(), Fail> {
+) {
     for _ in 0..=things.len() {
         let before = dead.len();
-        one_round(alloc, things, dead, root, ctx)?;
+        one_round(rt, alloc, things, dead, root, ctx);
         if dead.len() == before {
-            return Ok(());
+            return;
         }
     }
-    Err(Fail::from("rounds without end"))
+    panic!(rt; "rounds without end")
+}
+
+// The operation that it is, or in whose block it is.
+fn site_of(thing: Thing, ctx: &Context) -> Option<Ptr<Operation>> {
+    match thing {
+        Thing::Operation(op) => Some(op),
+        Thing::Argument(value) => {
+            if !value.is_live(ctx) {
+                return None;
+            }
+            match value.def(ctx) {
+                Def::Argument(block, _) => Some(parent_operation_of(block, ctx)),
+                Def::Result(op, _) => Some(op),
+            }
+        }
+    }
+}
+
+// Whether the operation is dead or inside a dead one.
+fn is_in_dead(dead: &[Thing], site: Ptr<Operation>, ctx: &Context) -> bool {
+    for other in dead {
+        if let Thing::Operation(op) = *other {
+            if is_within(site, op, ctx) {
+                return true;
+            }
+        }
+    }
+    false
 }
 
 // Whether it is neither dead nor inside something dead.
 fn stays(dead: &[Thing], thing: Thing, ctx: &Context) -> bool {
-    let site = match thing {
-        Thing::Operation(op) => op,
-        Thing::Argument(value) => {
-            if !value.is_live(ctx) || dead.contains(&thing) {
-                return false;
-            }
-            match value.def(ctx) {
-                Def::Argument(block, _) => parent_operation_of(block, ctx),
-                Def::Result(op, _) => op,
-            }
-        }
-    };
-    for other in dead {
-        if let Thing::Operation(op) = *other {
-            if is_within(site, op, ctx) {
-                return false;
-            }
-        }
+    match site_of(thing, ctx) {
+        Some(site) => !dead.contains(&thing) && !is_in_dead(dead, site, ctx),
+        None => false,
     }
-    true
 }
 
 fn is_live(thing: Thing, ctx: &Context) -> bool {
@@ -338,79 +359,73 @@ fn is_live(thing: Thing, ctx: &Context) -> bool {
     }
 }
 
-// What the fixpoint leaves is what `dce` leaves.
-fn compare(
-    rt: &impl Abort,
-    alloc: Global,
-    ctx: &mut Context,
-    case: &Case,
-    things: &mut Vec<Thing>,
-    left: &mut Vec<bool>,
-) -> Result<(), Fail> {
-    let name = case.name;
-    let root = read(alloc, ctx, case.text).expect(rt, "a readable text");
-    list_things(things, root, ctx)?;
-    list_left(alloc, things, left, root, ctx)?;
-    dce::<Bench>(alloc, root, ctx)?;
-    assert!(rt; things.len() == left.len());
-    for (thing, stays) in things.iter().zip(left.iter()) {
-        assert!(rt; is_live(*thing, ctx) == *stays, "{name}");
-    }
-    Ok(())
-}
-
 // For each candidate whether it stays.
 fn list_left(
+    rt: &impl Abort,
     alloc: Global,
     things: &[Thing],
     left: &mut Vec<bool>,
     root: Ptr<Operation>,
     ctx: &Context,
-) -> Result<(), Fail> {
+) {
     let mut dead = Vec::new(alloc);
-    find_dead(alloc, things, &mut dead, root, ctx)?;
+    find_dead(rt, alloc, things, &mut dead, root, ctx);
     for thing in things {
-        left.push(stays(&dead, *thing, ctx))?;
+        left.push(stays(&dead, *thing, ctx)).expect(rt, "memory");
     }
-    Ok(())
 }
 
-fn compare_case(rt: &impl Abort, alloc: Global, case: &Case) -> Result<(), Fail> {
-    let mut ctx = Context::new(alloc);
+fn check_left(rt: &impl Abort, ctx: &Context, things: &[Thing], left: &[bool], name: &str) {
+    assert!(rt; things.len() == left.len());
+    for (thing, stays) in things.iter().zip(left.iter()) {
+        assert!(rt; is_live(*thing, ctx) == *stays, "{name}");
+    }
+}
+
+// What the fixpoint leaves is what `dce` leaves.
+fn compare(rt: &impl Abort, alloc: Global, ctx: &mut Context, case: &Case) {
+    let root = read(alloc, ctx, case.text).expect(rt, "a readable text");
     let mut things = Vec::new(alloc);
     let mut left = Vec::new(alloc);
-    compare(rt, alloc, &mut ctx, case, &mut things, &mut left)
+    list_things(rt, &mut things, root, ctx);
+    list_left(rt, alloc, &things, &mut left, root, ctx);
+    let _ = dce::<Bench>(alloc, root, ctx).expect(rt, "memory");
+    check_left(rt, ctx, &things, &left, case.name)
 }
 
-fn compare_all(rt: &impl Abort, alloc: Global, cases: &str) -> Result<(), Fail> {
+fn compare_line(rt: &impl Abort, alloc: Global, line: &str) {
+    let case = case_of(line).expect(rt, "a case");
+    let mut ctx = Context::new(alloc);
+    compare(rt, alloc, &mut ctx, &case)
+}
+
+fn compare_all(rt: &impl Abort, alloc: Global, cases: &str) {
     for line in cases.lines() {
-        let case = case_of(line).expect(rt, "a case");
-        compare_case(rt, alloc, &case)?;
+        compare_line(rt, alloc, line);
     }
-    Ok(())
 }
 
 #[test]
-fn rounds_of_rows(rt: HostRuntime) -> Result<(), Fail> {
+fn rounds_of_rows(rt: HostRuntime) {
     compare_all(&rt, rt.alloc(), ROWS)
 }
 
 #[test]
-fn rounds_of_hostile_texts(rt: HostRuntime) -> Result<(), Fail> {
+fn rounds_of_hostile_texts(rt: HostRuntime) {
     compare_all(&rt, rt.alloc(), HOSTILE)
 }
 
 #[test]
-fn rounds_of_defined_texts(rt: HostRuntime) -> Result<(), Fail> {
+fn rounds_of_defined_texts(rt: HostRuntime) {
     compare_all(&rt, rt.alloc(), DEFINED)
 }
 
 #[test]
-fn rounds_of_boxes(rt: HostRuntime) -> Result<(), Fail> {
+fn rounds_of_boxes(rt: HostRuntime) {
     compare_all(&rt, rt.alloc(), BOXES)
 }
 
 #[test]
-fn rounds_of_short_edges(rt: HostRuntime) -> Result<(), Fail> {
+fn rounds_of_short_edges(rt: HostRuntime) {
     compare_all(&rt, rt.alloc(), SHORT)
 }

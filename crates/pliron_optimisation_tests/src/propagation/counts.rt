@@ -7,11 +7,11 @@
 use super::cases::{DEFERRED, ENTERED};
 use super::random_cases::MADE;
 use crate::optimisation::letter;
-use crate::texts::text_behind;
+use crate::texts::case_behind;
 use pliron_bench::Bench;
 use pliron_core::Context;
 use pliron_sccp::sccp_counted;
-use pliron_test_cases::cases::{case_of, line, read};
+use pliron_test_cases::cases::{line, number, read};
 use std::alloc::Global;
 use std::process::Abort;
 
@@ -56,16 +56,19 @@ pub fn count(rt: &impl Abort, alloc: Global, text: &str) -> Counted {
     count_in(rt, alloc, &mut ctx, text)
 }
 
+fn check_count(rt: &impl Abort, alloc: Global, row: &str, wanted: &str) {
+    let case = case_behind(rt, row, COUNTS_BEFORE);
+    let wanted = number(wanted).expect(rt, "a number");
+    let pops = count(rt, alloc, case.text).pops;
+    assert!(rt; pops == wanted as u128, "{}", case.name);
+}
+
 // Each of these texts is counted as often as the number in its place says.
 fn count_each(rt: &impl Abort, alloc: Global, cases: &str, wanted: &str) {
     let mut counts = wanted.split(' ');
     for row in cases.lines() {
-        let case = case_of(row).expect(rt, "a case");
-        let case = text_behind(case, COUNTS_BEFORE).expect(rt, "a text");
-        let word = counts.next().expect(rt, "a count");
-        let wanted = word.parse::<u64>().ok().expect(rt, "a number");
-        let pops = count(rt, alloc, case.text).pops;
-        assert_eq!(rt; pops, u128::from(wanted), "{}", case.name);
+        let wanted = counts.next().expect(rt, "a count");
+        check_count(rt, alloc, row, wanted);
     }
     assert!(rt; counts.next().is_none());
 }

@@ -6,6 +6,7 @@
 //! constant's and `?` elsewhere, and what the root's run emits, the latest first, where `-` is `Empty`. The
 //! world answers 1, 2, 3 and 4.
 use super::tiny::propagate_operation;
+use crate::texts::expect_text;
 use pliron_core::{AttrObj, Context, Def, Operation, Ptr, Value};
 use pliron_evaluator::evaluator::{Datum, Sight, evaluate};
 use pliron_evaluator::{Tiny, TinyKind};
@@ -144,27 +145,53 @@ fn sight_text(rt: &impl Abort, alloc: Global, sight: &Sight) -> String {
     all
 }
 
+// What the questions read, and what the run emits.
+fn said(
+    rt: &impl Abort,
+    alloc: Global,
+    ctx: &Context,
+    operations: &[Ptr<Operation>],
+    sight: &Sight,
+) -> String {
+    let asked = entry_answers(rt, alloc, ctx, operations);
+    let reported = sight_text(rt, alloc, sight);
+    format!(in alloc; "{asked}/{reported}").expect(rt, "memory")
+}
+
+// Propagates in the operation with this index. Answers what is said then; the run is as before.
+fn propagated(
+    rt: &impl Abort,
+    alloc: Global,
+    ctx: &mut Context,
+    made: &Made,
+    index: &str,
+) -> String {
+    let root = made.operation("0").expect(rt, "a root");
+    let called = made.operation(index).expect(rt, "an operation");
+    let before = sight_of_root(rt, alloc, ctx, root);
+    propagate_operation::<Tiny>(rt, alloc, ctx, called);
+    let after = sight_of_root(rt, alloc, ctx, root);
+    assert!(rt; before == after, "{index}");
+    said(rt, alloc, ctx, &made.operations, &after)
+}
+
 fn case_in(rt: &impl Abort, alloc: Global, ctx: &mut Context, case: &str) {
     let Row { name, asked, want } = row_of(case).expect(rt, "a case");
     let (index, steps) = fields(asked).expect(rt, "a number");
     let mut made = Made::new(alloc);
     make(alloc, ctx, &mut made, steps).expect(rt, "a tree");
-    let root = made.operation("0").expect(rt, "a root");
-    let called = made.operation(index).expect(rt, "an operation");
-    let before = sight_of_root(rt, alloc, ctx, root);
-    propagate_operation::<Tiny>(rt, alloc, ctx, called);
-    let asked = entry_answers(rt, alloc, ctx, &made.operations);
-    let after = sight_of_root(rt, alloc, ctx, root);
-    let reported = sight_text(rt, alloc, &before);
-    let got = format!(in alloc; "{asked}/{reported}").expect(rt, "memory");
-    assert_eq!(rt; got.as_str(), want, "{name}");
-    assert!(rt; before == after, "{name}");
+    let got = propagated(rt, alloc, ctx, &made, index);
+    expect_text(rt, got.as_str(), want, name);
+}
+
+fn check(rt: &impl Abort, alloc: Global, case: &str) {
+    let mut ctx = Context::new(alloc);
+    case_in(rt, alloc, &mut ctx, case);
 }
 
 fn cases(rt: &impl Abort, alloc: Global, lines: &str) {
     for case in lines.lines() {
-        let mut ctx = Context::new(alloc);
-        case_in(rt, alloc, &mut ctx, case);
+        check(rt, alloc, case);
     }
 }
 

@@ -4,8 +4,8 @@ use super::counts::{COUNTS_BEFORE, count};
 use super::random_cases::MADE;
 use crate::optimisation::Optimisation;
 use crate::runs::keep_runs;
-use crate::texts::{Asked, check_all};
-use pliron_test_cases::cases::{Case, case_of};
+use crate::texts::{Asked, check_all, expect_text};
+use pliron_test_cases::cases::{Case, case_of, number};
 use std::alloc::Global;
 use std::process::Abort;
 
@@ -24,8 +24,7 @@ fn number_before<'t>(text: &'t str, label: &str) -> Option<(u128, &'t str)> {
     if first != label {
         return None;
     }
-    let number = digits.parse::<u64>().ok()?;
-    Some((u128::from(number), rest))
+    Some((number(digits)? as u128, rest))
 }
 
 /// What the case says of its text.
@@ -50,23 +49,25 @@ fn facts_of<'t>(row: &'t str) -> Option<Facts<'t>> {
     })
 }
 
+// What propagation that counts makes of the text is as the row says.
+fn check_row(rt: &impl Abort, alloc: Global, row: &str) {
+    let facts = facts_of(row).expect(rt, "a case with its counts");
+    let case = facts.case;
+    let counted = count(rt, alloc, case.text);
+    expect_text(rt, counted.left.as_str(), case.after, case.name);
+    expect_text(rt, counted.answer, case.answer, case.name);
+    let least = facts
+        .blocks
+        .saturating_add(facts.constants)
+        .saturating_add(facts.others);
+    let most = least.saturating_add(facts.others);
+    let pops = counted.pops;
+    assert!(rt; least <= pops && pops <= most, "{}", case.name);
+}
+
 fn check_counted(rt: &impl Abort, alloc: Global, cases: &str) {
     for row in cases.lines() {
-        let facts = facts_of(row).expect(rt, "a case with its counts");
-        let case = facts.case;
-        let counted = count(rt, alloc, case.text);
-        assert_eq!(rt; counted.left.as_str(), case.after, "{}", case.name);
-        assert_eq!(rt; counted.answer, case.answer, "{}", case.name);
-        let least = facts
-            .blocks
-            .saturating_add(facts.constants)
-            .saturating_add(facts.others);
-        assert!(rt; least <= counted.pops, "{}", case.name);
-        assert!(rt;
-            counted.pops <= least.saturating_add(facts.others),
-            "{}",
-            case.name
-        );
+        check_row(rt, alloc, row);
     }
 }
 
@@ -108,20 +109,20 @@ fn each_change_has_room(rt: HostRuntime) {
     check_all(&rt, rt.alloc(), asked, MADE);
 }
 
+fn check_pops(rt: &impl Abort, alloc: Global, text: &str, answer: &str, pops: u128) {
+    let counted = count(rt, alloc, text);
+    expect_text(rt, counted.answer, answer, text);
+    assert!(rt; counted.pops == pops, "{text}");
+}
+
 // A block alone; a block and three constants; a block and two values that are no constants.
 #[test]
 fn counts(rt: HostRuntime) {
+    let alloc = rt.alloc();
+    check_pops(&rt, alloc, "func { b0(): ret }", "U", 1);
     let sums = "func { b0(): a = const 5; b = add a a; c = add b a; ret c b }";
-    let answer = "func { b0(x): r = read; ret r }";
-    for (text, answer, pops) in [
-        ("func { b0(): ret }", "U", 1),
-        (sums, "C", 4),
-        (answer, "U", 3),
-    ] {
-        let counted = count(&rt, rt.alloc(), text);
-        assert_eq!(rt; counted.answer, answer, "{text}");
-        assert_eq!(rt; counted.pops, pops, "{text}");
-    }
+    check_pops(&rt, alloc, sums, "C", 4);
+    check_pops(&rt, alloc, "func { b0(x): r = read; ret r }", "U", 3);
 }
 
 /// Texts before and after `sccp` on their second operation, worked out by hand. Nothing is known of values
