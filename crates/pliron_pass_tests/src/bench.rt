@@ -1,6 +1,7 @@
 //! The ready-made analyses, on worked texts.
 ghost use Rattle.pliron_core.specs.Tree.{IsLive};
 
+use super::expect::expect_text;
 use super::lines::read;
 use pliron_core::{Context, IRStatus, Operation, Ptr};
 use pliron_pass::{AnalysisManager, BenchFactKind, BenchFacts, PassResult};
@@ -61,7 +62,7 @@ fn write_cached(
 fn check_fact(rt: &impl Abort, alloc: Global, fact: &BenchFacts, want: &str) {
     let mut text = String::new(alloc);
     write_fact(rt, &mut text, fact);
-    assert_eq!(rt; text.as_str(), want);
+    expect_text(rt, text.as_str(), want, "a fact");
 }
 
 fn check_cached(
@@ -70,10 +71,11 @@ fn check_cached(
     analyses: &AnalysisManager<BenchFacts>,
     op: Ptr<Operation>,
     want: &str,
+    name: &str,
 ) {
     let mut text = String::new(alloc);
     write_cached(rt, &mut text, analyses, op);
-    assert_eq!(rt; text.as_str(), want);
+    expect_text(rt, text.as_str(), want, name);
 }
 
 fn facts_in(
@@ -88,9 +90,7 @@ fn facts_in(
     analyses
         .compute_analysis(BenchFactKind::Total, root, ctx)
         .expect(rt, "memory");
-    let mut text = String::new(alloc);
-    write_cached(rt, &mut text, analyses, root);
-    assert_eq!(rt; text.as_str(), want, "{name}");
+    check_cached(rt, alloc, analyses, root, want, name);
 }
 
 fn check(rt: &impl Abort, alloc: Global, case: &str) {
@@ -141,7 +141,7 @@ fn keep(
         .keep_edge_kinds(IRStatus::Changed)
         .expect(rt, "memory");
     analyses.retain_preserved(&answer);
-    check_cached(rt, alloc, analyses, op, "edges 0-1 1-1 1-2");
+    check_cached(rt, alloc, analyses, op, "edges 0-1 1-1 1-2", "what is kept");
     analyses
         .compute_analysis(BenchFactKind::Total, op, ctx)
         .expect(rt, "memory");
@@ -157,9 +157,9 @@ fn kept_in(
     keep(rt, alloc, ctx, root, analyses);
     write_total(rt, alloc, ctx, root, analyses);
     let want = "edges 0-1 1-1 1-2, size 5, total 9";
-    check_cached(rt, alloc, analyses, root, want);
+    check_cached(rt, alloc, analyses, root, want, "what is written");
     analyses.retain_preserved(&PassResult::new(alloc));
-    check_cached(rt, alloc, analyses, root, want);
+    check_cached(rt, alloc, analyses, root, want, "what is preserved");
 }
 
 #[test]

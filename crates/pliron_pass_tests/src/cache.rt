@@ -1,4 +1,5 @@
 //! The cache, asked for analyses.
+use super::expect::expect_text;
 use super::facts::Fact;
 use super::lines::read;
 use pliron_core::{Context, IRStatus, Operation, Ptr};
@@ -18,8 +19,10 @@ pub fn kinds(rt: &impl Abort, alloc: Global, analyses: &AnalysisManager<Fact>) -
     text
 }
 
-fn check_kinds(rt: &impl Abort, alloc: Global, analyses: &AnalysisManager<Fact>, want: &str) {
-    assert_eq!(rt; kinds(rt, alloc, analyses).as_str(), want);
+/// These kinds are cached, in this order, a blank before each.
+pub fn check_kinds(rt: &impl Abort, alloc: Global, analyses: &AnalysisManager<Fact>, want: &str) {
+    let got = kinds(rt, alloc, analyses);
+    expect_text(rt, got.as_str(), want, "kinds");
 }
 
 // The note of the fact, if it is cached.
@@ -46,22 +49,17 @@ fn compute(
         .expect(rt, "memory")
         .note = 5;
     check_kinds(rt, alloc, analyses, " 0 1 2 3");
-    assert_eq!(rt; note(analyses, 3, root), Some(5));
-    assert_eq!(rt;
-        analyses
-            .get_analysis(3, root, ctx)
-            .expect(rt, "memory")
-            .note,
-        5
-    );
+    assert!(rt; note(analyses, 3, root) == Some(5));
+    let fact = analyses.get_analysis(3, root, ctx).expect(rt, "memory");
+    assert!(rt; fact.note == 5);
 }
 
 fn write_note(rt: &impl Abort, analyses: &mut AnalysisManager<Fact>, root: Ptr<Operation>) {
     if let Some(fact) = analyses.try_get_analysis_mut(0, root) {
         fact.note = 7;
     }
-    assert_eq!(rt; note(analyses, 0, root), Some(7));
-    assert_eq!(rt; note(analyses, 4, root), None);
+    assert!(rt; note(analyses, 0, root) == Some(7));
+    assert!(rt; note(analyses, 4, root).is_none());
 }
 
 // What stays of the kinds 0 to 3 by an answer that preserves 1 and 3.

@@ -1,7 +1,8 @@
 //! Passes that change the tree or the cache.
 ghost use Rattle.std.specs.Prelude.{◌≡◌, false, [], ◌∷◌};
 
-use super::cache::kinds;
+use super::cache::{check_kinds, kinds};
+use super::expect::expect_text;
 use super::facts::Fact;
 use super::lines::{outcome, read};
 use pliron_bench::Bench;
@@ -119,7 +120,7 @@ fn check(rt: &impl Abort, alloc: Global, case: &str) {
     let mut ctx = Context::new(alloc);
     let mut analyses = AnalysisManager::<Fact>::new(alloc);
     let said = swept_in(rt, alloc, asked, &mut ctx, &mut analyses);
-    assert_eq!(rt; said.as_str(), want, "{name}");
+    expect_text(rt, said.as_str(), want, name);
 }
 
 #[test]
@@ -149,11 +150,11 @@ fn annotated_in(
     let root = read(rt, alloc, ctx, "mod {}");
     analyses.pm_data_mut().state_mut().pass_run_count = usize::MAX - 1;
     let answer = PassManager::run_pass(passes, alloc, root, ctx, analyses);
-    assert_eq!(rt; outcome(&answer, analyses), "Unchanged");
-    assert_eq!(rt; kinds(rt, alloc, analyses).as_str(), " 0 1");
+    expect_text(rt, outcome(&answer, analyses), "Unchanged", "the answer");
+    check_kinds(rt, alloc, analyses, " 0 1");
     let fact = analyses.get_analysis(1, root, ctx).expect(rt, "memory");
-    assert_eq!(rt; fact.note, 7);
-    assert_eq!(rt; analyses.pm_data().state().pass_run_count, usize::MAX);
+    assert!(rt; fact.note == 7);
+    assert!(rt; analyses.pm_data().state().pass_run_count == usize::MAX);
 }
 
 #[test]

@@ -1,4 +1,5 @@
 //! The first fault of a walk, by a dialect that finds faults of four interfaces.
+use super::expect::expect_text;
 use super::lines::read;
 use super::strict::Strict;
 use pliron_core::Context;
@@ -42,7 +43,7 @@ fn check_in(rt: &impl Abort, alloc: Global, case: &str, ctx: &mut Context) {
         Err(OptError::Pass(4)) => "code 4",
         Err(_) => "another fault",
     };
-    assert_eq!(rt; said, want, "{name}");
+    expect_text(rt, said, want, name);
 }
 
 fn check(rt: &impl Abort, alloc: Global, case: &str) {

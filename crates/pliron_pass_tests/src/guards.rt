@@ -41,7 +41,7 @@ fn guarded_in(
     pass.runs = 1;
     let answer = PassManager::run_pass(pass, alloc, root, ctx, analyses).expect(rt, "memory");
     assert!(rt; answer.ir_changed == IRStatus::Unchanged);
-    assert_eq!(rt; pass.runs, want);
+    assert!(rt; pass.runs == want);
 }
 
 fn check_guard(rt: &impl Abort, alloc: Global, interface: Interface, want: usize) {
@@ -69,7 +69,7 @@ fn default_in(
     let mut pass = GuardedPass::<Everywhere, Idle>::default();
     let answer = PassManager::run_pass(&mut pass, alloc, root, ctx, analyses);
     assert!(rt; answer.is_ok());
-    assert_eq!(rt; analyses.pm_data().state().pass_run_count, 1);
+    assert!(rt; analyses.pm_data().state().pass_run_count == 1);
 }
 
 #[test]
@@ -90,10 +90,10 @@ fn repeated_in(
 ) {
     let root = read(rt, alloc, ctx, TEXT);
     let mut pass = Repeat::new(max, Touch);
-    assert_eq!(rt; pass.runs(), 0);
+    assert!(rt; pass.runs() == 0);
     let answer = PassManager::run_pass(&mut pass, alloc, root, ctx, analyses);
     assert!(rt; answer.is_ok());
-    assert_eq!(rt; pass.runs(), max);
+    assert!(rt; pass.runs() == max);
 }
 
 // One that fails runs once, is counted once, and leaves an empty cache.
@@ -108,9 +108,9 @@ fn failing_in(
     let mut pass = Repeat::new(5, FailAlways { code: 9 });
     let answer = PassManager::run_pass(&mut pass, alloc, root, ctx, analyses);
     assert!(rt; answer.err() == Some(OptError::Pass(9)));
-    assert_eq!(rt; pass.runs(), 1);
-    assert_eq!(rt; analyses.cached_kind(0), None);
-    assert_eq!(rt; analyses.pm_data().state().pass_run_count, 1);
+    assert!(rt; pass.runs() == 1);
+    assert!(rt; analyses.cached_kind(0).is_none());
+    assert!(rt; analyses.pm_data().state().pass_run_count == 1);
 }
 
 fn check_repeated(rt: &impl Abort, alloc: Global, max: usize) {
@@ -136,7 +136,7 @@ fn repeated_failing(rt: HostRuntime) {
 #[test]
 fn new_state(rt: HostRuntime) {
     let state = PMState::new(rt.alloc());
-    assert_eq!(rt; state.pass_run_count, 0);
+    assert!(rt; state.pass_run_count == 0);
     assert!(rt; state.stats.is_empty());
 }
 
@@ -150,5 +150,5 @@ fn what_managers_share(rt: HostRuntime) {
     data.state_mut().pass_run_count = 3;
     data.set_config(config);
     assert!(rt; data.config().verify_after_all);
-    assert_eq!(rt; data.state().pass_run_count, 3);
+    assert!(rt; data.state().pass_run_count == 3);
 }

@@ -10,6 +10,8 @@ mod cache;
 #[cfg(test)]
 mod changing;
 #[cfg(test)]
+mod expect;
+#[cfg(test)]
 mod facts;
 #[cfg(test)]
 mod faults;

@@ -1,6 +1,6 @@
 //! What a refusal of memory leaves. With ample memory nothing is refused here; `rt try --test` with
 //! `--fail-alloc N` refuses the Nth request.
-use super::cache::kinds;
+use super::cache::check_kinds;
 use super::facts::Fact;
 use super::lines::read;
 use super::passes::Tally;
@@ -31,11 +31,11 @@ fn computed_in(
     for i in 0..4 {
         if let Some(kind) = analyses.cached_kind(i) {
             assert!(rt; i < 3);
-            assert_eq!(rt; kind, order[i]);
+            assert!(rt; kind == order[i]);
             count = i + 1;
         }
     }
-    assert_eq!(rt; count == 3, went_well);
+    assert!(rt; (count == 3) == went_well);
 }
 
 #[test]
@@ -61,7 +61,7 @@ fn preserved_in(
     assert!(rt; answer.ir_changed == IRStatus::Changed);
     analyses.retain_preserved(answer);
     let want = if went_well { " 1" } else { "" };
-    assert_eq!(rt; kinds(rt, alloc, analyses).as_str(), want);
+    check_kinds(rt, alloc, analyses, want);
 }
 
 #[test]
@@ -80,7 +80,7 @@ fn refused_adding(rt: HostRuntime) {
     let mut passes = Passes::new(alloc);
     for runs in 0..9 {
         if let Err(refused) = passes.add_pass(Tally { runs }) {
-            assert_eq!(rt; refused.value.runs, runs);
+            assert!(rt; refused.value.runs == runs);
         }
     }
 }

@@ -1,4 +1,5 @@
 //! A driver, as docs/DRIVERS.md shows it.
+use crate::expect::expect_text;
 use pliron_bench::Bench;
 use pliron_core::Context;
 use pliron_notation::{print_text, read_text};
@@ -47,9 +48,9 @@ fn check_in(
 ) {
     let answer = optimise_by_names(alloc, names, text, ctx).expect(rt, "memory");
     match answer {
-        Answer::Optimised(printed) => assert_eq!(rt; printed.as_str(), want),
-        Answer::NoSuchPass(name) => assert_eq!(rt; name, want),
-        Answer::Unreadable => assert_eq!(rt; "unreadable", want),
+        Answer::Optimised(printed) => expect_text(rt, printed.as_str(), want, text),
+        Answer::NoSuchPass(name) => expect_text(rt, name, want, text),
+        Answer::Unreadable => expect_text(rt, "unreadable", want, text),
     }
 }
 

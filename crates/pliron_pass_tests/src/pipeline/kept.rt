@@ -7,6 +7,7 @@ ghost use Rattle.pliron_bench.specs.BenchMoves.{bench};
 
 use super::nest::{Deep, deep};
 use super::texts::{KINDS, write_fact};
+use crate::expect::expect_text;
 use pliron_bench::{Bench, BenchKind};
 use pliron_core::{Context, Operation, Ptr};
 use pliron_evaluator::evaluator::Sight;
@@ -135,7 +136,7 @@ fn sights(rt: &impl Abort, alloc: Global, ops: &[Ptr<Operation>], ctx: &Context)
 
 // A run that was cut short may come further once it has fewer branches to take.
 fn compare_sights(rt: &impl Abort, before: &[Sight], after: &[Sight], name: &str) {
-    assert_eq!(rt; before.len(), after.len(), "{name}");
+    assert!(rt; before.len() == after.len(), "{name}");
     for (old, new) in before.iter().zip(after.iter()) {
         match old {
             Sight::Reached(_) => {}
@@ -151,6 +152,13 @@ fn fact_text(rt: &impl Abort, alloc: Global, fact: &BenchFacts) -> String {
     text
 }
 
+// The facts say the same.
+fn compare_fact(rt: &impl Abort, alloc: Global, fact: &BenchFacts, fresh: &BenchFacts) {
+    let said = fact_text(rt, alloc, fact);
+    let want = fact_text(rt, alloc, fresh);
+    expect_text(rt, said.as_str(), want.as_str(), "a fact");
+}
+
 // How many facts of the operation are cached: each is as in the second cache.
 fn compare_facts(
     rt: &impl Abort,
@@ -163,10 +171,7 @@ fn compare_facts(
     for kind in KINDS {
         if let Some(fact) = analyses.try_get_analysis(kind, op) {
             let fresh = anew.try_get_analysis(kind, op).expect(rt, "a fact");
-            assert_eq!(rt;
-                fact_text(rt, alloc, fact).as_str(),
-                fact_text(rt, alloc, fresh).as_str()
-            );
+            compare_fact(rt, alloc, fact, fresh);
             count = count.saturating_add(1);
         }
     }

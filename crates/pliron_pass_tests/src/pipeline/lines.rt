@@ -6,6 +6,7 @@ ghost use Rattle.pliron_bench.specs.BenchMoves.{bench};
 
 use super::nest::{Deep, deep};
 use super::texts::write_facts;
+use crate::expect::expect_text;
 use pliron_core::{Context, IRStatus, Operation, Ptr};
 use pliron_notation::print_text;
 use pliron_pass::{AnalysisManager, BenchFactKind, BenchFacts, OptError, PMConfig};
@@ -270,7 +271,7 @@ fn check(rt: &impl Abort, alloc: Global, line: &str) {
     let mut ctx = Context::new(alloc);
     let mut analyses = AnalysisManager::<BenchFacts>::new(alloc);
     let said = run_case(rt, alloc, asked, &mut ctx, &mut analyses);
-    assert_eq!(rt; said.as_str(), want, "{name}");
+    expect_text(rt, said.as_str(), want, name);
 }
 
 #[test]

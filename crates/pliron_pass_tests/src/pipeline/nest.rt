@@ -13,6 +13,7 @@ use pliron_pass::{
     OpInterfaceGuard, OpInterfacePass, OpPass, OptError, Pass, PassResult, Passes, Repeat,
 };
 use pliron_pipeline::PassStep;
+use pliron_test_cases::cases;
 use std::alloc::Global;
 use std::process::Abort;
 use std::str::SplitAsciiWhitespace;
@@ -157,9 +158,9 @@ fn line<A: Abort, P: Build>(
 }
 
 // The number after the colon.
-fn number<A: Abort>(rt: &A, word: &str) -> u32 {
+fn number<A: Abort>(rt: &A, word: &str) -> usize {
     let (_, digits) = word.split_once(":").expect(rt, "a colon");
-    digits.parse::<u32>().expect(rt, "a number")
+    cases::number(digits).expect(rt, "a number")
 }
 
 impl<P: Build> Build for Nest<P> {
@@ -180,10 +181,10 @@ impl<P: Build> Build for Nest<P> {
             let guard = OpInterfaceGuard::new(Interface::BlockArgRemoval);
             Nest::Removing(GuardedPass::new(guard, next(rt, alloc, rest)))
         } else if word.starts_with("repeat:") {
-            let max = number(rt, word) as usize;
+            let max = number(rt, word);
             Nest::Again(Repeat::new(max, next(rt, alloc, rest)))
         } else if word.starts_with("fail:") {
-            let code = number(rt, word);
+            let code = u32::try_from(number(rt, word)).unwrap_or(u32::MAX);
             let pass = next(rt, alloc, rest);
             Nest::Failing(FailAfter { code, pass })
         } else {
