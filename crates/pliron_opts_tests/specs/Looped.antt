@@ -1,8 +1,8 @@
 -- The tables of the dialect: a line for each kind.
 use Rattle.std.proofs.Common.{◌≡◌, ℕ, nat_eq, if◌then◌else◌, ◌&&◌, Bool, true, false, List, Option, Some, None, refl}
 use Rattle.std.specs.Prelude.{ℤ, pos, int_lt}
-use Rattle.pliron_opts_tests.specs.declared.looped.LoopedKind.{LoopedKind}
-use Rattle.pliron_opts_tests.specs.declared.looped.LoopedKind.TheVariants.{Function, Lit, Add, Jump, Return, Repeat, Ask, Twice}
+use Rattle.pliron_opts_tests.specs.declared.looped_kind.LoopedKind.{LoopedKind}
+use Rattle.pliron_opts_tests.specs.declared.looped_kind.LoopedKind.TheVariants.{Function, Lit, Add, Jump, Return, Repeat, Ask, Twice}
 use Rattle.pliron_laws.specs.Datum.{Datum, Number, Shape, Move, Give, Leave}
 use Rattle.pliron_laws.specs.Laws.{CountsFit}
 use Rattle.pliron_dialects.specs.Numbers.{nth_number, whole_number_of, wrapped_sum}

@@ -1,5 +1,5 @@
 //! Texts of graphs.
-use crate::texts::{Case, expect_run, with_lines};
+use crate::texts::{Case, expect_run, owned, with_lines};
 use pliron_opts::plir_run;
 use std::alloc::Global;
 use std::process::Abort;
@@ -39,12 +39,16 @@ a ring that leads to a ring -- 0: 2|1: 0 3|2: 0 4|3: 1|4:| => post-order: [4 2 0
     3]|numbers: 0=0/2 2=1/1 4=2/0|edges: 0>2:Forward 2>0:Back 2>4:Forward|components: [3 1]* [2 0]* \
     [4]|pre-sentinels: 4|";
 
+fn check_worked(rt: &impl Abort, alloc: Global, line: &str) {
+    let (name, row) = line.split_once(" -- ").expect(rt, "a name");
+    let (text, written) = row.split_once(" => ").expect(rt, "a case");
+    expect_graph(rt, alloc, name, text, Some(written));
+}
+
 #[test]
 fn worked_graphs(rt: HostRuntime) {
-    for case in GRAPHS.lines() {
-        let (name, row) = case.split_once(" -- ").expect(&rt, "a name");
-        let (text, written) = row.split_once(" => ").expect(&rt, "a case");
-        expect_graph(&rt, rt.alloc(), name, text, Some(written));
+    for line in GRAPHS.lines() {
+        check_worked(&rt, rt.alloc(), line);
     }
 }
 
@@ -91,30 +95,38 @@ fn push_search(rt: &impl Abort, written: &mut String) {
     }
 }
 
+// Adds the components, each a node.
+fn push_components(rt: &impl Abort, written: &mut String) {
+    write!(written, "|components:").expect(rt, "memory");
+    for node in 0..65_536u32 {
+        write!(written, " [{node}]").expect(rt, "memory");
+    }
+    write!(written, "|pre-sentinels: {LAST}|").expect(rt, "memory");
+}
+
+// What is written of the text of a graph.
+fn written_of(rt: &impl Abort, alloc: Global, text: &[u8]) -> Vec<u8> {
+    let words = owned(rt, alloc, &["graph"]);
+    let mut input = text;
+    let mut output: Vec<u8> = Vec::new(alloc);
+    let mut errors: Vec<u8> = Vec::new(alloc);
+    let status = plir_run(alloc, &words, &mut input, &mut output, &mut errors);
+    assert!(rt; status == 0);
+    assert!(rt; errors.is_empty());
+    output
+}
+
 #[test]
 fn a_long_chain(rt: HostRuntime) {
     let alloc = rt.alloc();
     let text = chain(&rt, alloc);
+    let bytes = with_lines(&rt, alloc, &text);
+    let output = written_of(&rt, alloc, &bytes);
     let mut written = String::new(alloc);
     push_orders(&rt, &mut written);
     push_search(&rt, &mut written);
-    write!(written, "|components:").expect(&rt, "memory");
-    for node in 0..65_536u32 {
-        write!(written, " [{node}]").expect(&rt, "memory");
-    }
-    write!(written, "|pre-sentinels: {LAST}|").expect(&rt, "memory");
-    let bytes = with_lines(&rt, alloc, &text);
-    let mut words = Vec::new(alloc);
-    words
-        .push(String::from_str(alloc, "graph").expect(&rt, "memory"))
-        .expect(&rt, "memory");
-    let mut input = bytes.as_slice();
-    let mut output: Vec<u8> = Vec::new(alloc);
-    let mut errors: Vec<u8> = Vec::new(alloc);
-    let status = plir_run(alloc, &words, &mut input, &mut output, &mut errors);
-    assert_eq!(rt; status, 0);
+    push_components(&rt, &mut written);
     assert!(rt; output == with_lines(&rt, alloc, &written));
-    assert!(rt; errors.is_empty());
 }
 
 /// Names and texts that cannot be read.
@@ -143,10 +155,14 @@ a semicolon -- 0;
 a tab behind the colon -- 0:\t0
 a label of the last line that has no line -- 0:|1: 2|";
 
+fn check_unreadable(rt: &impl Abort, alloc: Global, line: &str) {
+    let (name, text) = line.split_once(" -- ").expect(rt, "a name");
+    expect_graph(rt, alloc, name, text, None);
+}
+
 #[test]
 fn unreadable_graphs(rt: HostRuntime) {
-    for case in UNREADABLE.lines() {
-        let (name, text) = case.split_once(" -- ").expect(&rt, "a name");
-        expect_graph(&rt, rt.alloc(), name, text, None);
+    for line in UNREADABLE.lines() {
+        check_unreadable(&rt, rt.alloc(), line);
     }
 }

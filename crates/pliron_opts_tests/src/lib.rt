@@ -7,8 +7,12 @@ mod arithmetic;
 #[cfg(test)]
 mod docs;
 #[cfg(test)]
+mod expect;
+#[cfg(test)]
 mod graphs;
-pub mod looped;
+#[cfg(test)]
+mod looped;
+pub mod looped_kind;
 #[cfg(test)]
 mod loops;
 #[cfg(test)]

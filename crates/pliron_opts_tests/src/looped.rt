@@ -5,6 +5,7 @@ ghost use Rattle.pliron_evaluator.specs.Evaluator.{datum_of_value, move_of};
 ghost use Rattle.pliron_evaluator.specs.OwnMoves.{MovesBy};
 ghost use Rattle.pliron_opts_tests.specs.Looped.{looped, keeps_looped, twice_act};
 
+use crate::looped_kind::LoopedKind;
 use pliron_dialects::entries::operand_from;
 use pliron_dialects::numbers::{nth_number, sum};
 use pliron_dialects::{ByKinds, Form, Kinds};
@@ -14,19 +15,6 @@ use pliron_evaluator::evaluator::own_moves::{
 use pliron_evaluator::evaluator::{Datum, Move};
 use pliron_notation::Word;
 use std::alloc::{AllocError, Global};
-
-/// The kind of an operation.
-#[derive(Clone, Copy, Debug, PartialEq, Eq)]
-pub enum LoopedKind {
-    Function,
-    Lit,
-    Add,
-    Jump,
-    Return,
-    Repeat,
-    Ask,
-    Twice,
-}
 
 /// The dialect of these kinds.
 pub type Looped = ByKinds<LoopedKind>;

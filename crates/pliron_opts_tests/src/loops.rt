@@ -1,11 +1,14 @@
 //! Counted loops, effects and a memo in a dialect by tables, before and after constant propagation, and their runs,
 //! worked by hand.
-use crate::looped::{Looped, LoopedKind};
+use crate::expect::{expect_sight, expect_text};
+use crate::looped::Looped;
+use crate::looped_kind::LoopedKind;
 use pliron_core::{Context, Operation, Ptr};
 use pliron_evaluator::evaluator::{Datum, Sight, evaluate};
 use pliron_laws::is_well_linked;
 use pliron_sccp::sccp;
 use pliron_table_text::{print_text, read_text};
+use pliron_test_cases::cases;
 use std::alloc::Global;
 use std::process::Abort;
 
@@ -34,8 +37,7 @@ const ASK: i128 = 6;
 
 // The number that the word is.
 fn number(rt: &impl Abort, word: &str) -> Datum {
-    let number = word.parse::<i64>().ok().expect(rt, "a number");
-    Datum::Number(number as i128)
+    Datum::Number(cases::number(word).expect(rt, "a number") as i128)
 }
 
 // The numbers that the words are.
@@ -87,7 +89,7 @@ fn check_run(rt: &impl Abort, alloc: Global, ctx: &Context, root: Ptr<Operation>
     let input = numbers(rt, alloc, input);
     let seen = evaluate::<Looped>(alloc, ctx, root, input, world, 200).expect(rt, "memory");
     let want = sight(rt, alloc, case.seen);
-    assert_eq!(rt; seen, want, "{name}", name = case.name);
+    expect_sight(rt, &seen, &want, case.name);
 }
 
 fn check_in(rt: &impl Abort, alloc: Global, ctx: &mut Context, case: &Case) {
@@ -100,7 +102,7 @@ fn check_in(rt: &impl Abort, alloc: Global, ctx: &mut Context, case: &Case) {
     check_run(rt, alloc, ctx, root, case);
     assert!(rt; root.is_live(ctx));
     let printed = print_text::<LoopedKind>(alloc, root, ctx).expect(rt, "memory");
-    assert_eq!(rt; printed.as_str(), case.after, "{name}", name = case.name);
+    expect_text(rt, printed.as_str(), case.after, case.name);
 }
 
 // The parts of a line.

@@ -1,4 +1,5 @@
 //! The program on texts, arguments and failing streams.
+use crate::expect::{expect_bytes, expect_text};
 use crate::streams::{Input, Output};
 use pliron_opts::{OptError, plir_run};
 use std::alloc::Global;
@@ -27,6 +28,21 @@ pub fn with_lines(rt: &impl Abort, alloc: Global, text: &str) -> Vec<u8> {
     bytes
 }
 
+/// The words as owned ones.
+pub fn owned(rt: &impl Abort, alloc: Global, words: &[&str]) -> Vec<String> {
+    let mut all = Vec::new(alloc);
+    for word in words {
+        all.push(String::from_str(alloc, word).expect(rt, "memory"))
+            .expect(rt, "memory");
+    }
+    all
+}
+
+fn check_bytes(rt: &impl Abort, alloc: Global, got: &[u8], want: &str, name: &str) {
+    let want = with_lines(rt, alloc, want);
+    expect_bytes(rt, got, want.as_slice(), name);
+}
+
 /// The program ends with this status, and has written these texts to the output and to the errors.
 pub fn expect_run(
     rt: &impl Abort,
@@ -36,27 +52,15 @@ pub fn expect_run(
     written: &str,
     reported: &str,
 ) {
-    let mut args = Vec::new(alloc);
-    for arg in case.args {
-        args.push(String::from_str(alloc, arg).expect(rt, "memory"))
-            .expect(rt, "memory");
-    }
+    let args = owned(rt, alloc, case.args);
     let mut input = Input::new(case.text, case.failing_read);
     let mut output = Output::new(alloc, case.failing_write);
     let mut errors = Output::new(alloc, 0);
     let got = plir_run(alloc, &args, &mut input, &mut output, &mut errors);
     let name = case.name;
-    assert_eq!(rt; got, status, "{name}");
-    assert_eq!(rt;
-        output.text(),
-        with_lines(rt, alloc, written).as_slice(),
-        "{name}"
-    );
-    assert_eq!(rt;
-        errors.text(),
-        with_lines(rt, alloc, reported).as_slice(),
-        "{name}"
-    );
+    assert!(rt; got == status, "{name}");
+    check_bytes(rt, alloc, output.text(), written, name);
+    check_bytes(rt, alloc, errors.text(), reported, name);
 }
 
 fn propagation<'t>(name: &'t str, text: &'t [u8]) -> Case<'t> {
@@ -90,19 +94,22 @@ fn list_row_of<'t>(rt: &impl Abort, line: &'t str) -> ListRow<'t> {
     }
 }
 
+fn expect_list(rt: &impl Abort, alloc: Global, line: &str) {
+    let row = list_row_of(rt, line);
+    let case = Case {
+        name: row.name,
+        args: &[row.list],
+        text: row.text.as_bytes(),
+        failing_read: 0,
+        failing_write: 0,
+    };
+    expect_run(rt, alloc, &case, 0, row.written, "");
+}
+
 /// The program writes of each text of the table what its row says.
 pub fn expect_lists(rt: &impl Abort, alloc: Global, table: &str) {
     for line in table.lines() {
-        let row = list_row_of(rt, line);
-        let args = [row.list];
-        let case = Case {
-            name: row.name,
-            args: &args,
-            text: row.text.as_bytes(),
-            failing_read: 0,
-            failing_write: 0,
-        };
-        expect_run(rt, alloc, &case, 0, row.written, "");
+        expect_list(rt, alloc, line);
     }
 }
 
@@ -131,19 +138,23 @@ a sum in a region -- func { b0(): a = const 2; scope { b0(): b = add a a; print 
 a function in a module -- mod { b0(): func { b0(): a = const 1; b = add a a; ret b } } => mod { b0(): func { b0(): \
     v0 = const 1; v1 = const 2; v2 = add v0 v0; ret v1 } }|changed|";
 
+fn check_row(rt: &impl Abort, alloc: Global, line: &str) {
+    let (name, row) = line.split_once(" -- ").expect(rt, "a name");
+    let (text, written) = row.split_once(" => ").expect(rt, "a case");
+    expect_run(
+        rt,
+        alloc,
+        &propagation(name, text.as_bytes()),
+        0,
+        written,
+        "",
+    );
+}
+
 #[test]
 fn rows(rt: HostRuntime) {
-    for case in ROWS.lines() {
-        let (name, row) = case.split_once(" -- ").expect(&rt, "a name");
-        let (text, written) = row.split_once(" => ").expect(&rt, "a case");
-        expect_run(
-            &rt,
-            rt.alloc(),
-            &propagation(name, text.as_bytes()),
-            0,
-            written,
-            "",
-        );
+    for line in ROWS.lines() {
+        check_row(&rt, rt.alloc(), line);
     }
 }
 
@@ -275,27 +286,32 @@ an unreadable text -- dce :: func { b0(): a = const 1 => unreadable text|
 an unreadable number -- repeat:2:nested:dce :: func { b0(): a = const 9223372036854775808; ret a } => unreadable \
     text|";
 
+fn check_refused(rt: &impl Abort, alloc: Global, line: &str) {
+    let row = list_row_of(rt, line);
+    let mut case = Case {
+        name: row.name,
+        args: &[row.list],
+        text: row.text.as_bytes(),
+        failing_read: 0,
+        failing_write: 1,
+    };
+    let is_refused = row.written.starts_with("refused");
+    expect_run(
+        rt,
+        alloc,
+        &case,
+        if is_refused { 1 } else { 2 },
+        "",
+        row.written,
+    );
+    case.failing_read = 1;
+    expect_run(rt, alloc, &case, 2, "", "cannot read standard input|");
+}
+
 #[test]
 fn refused_texts(rt: HostRuntime) {
     for line in REFUSED.lines() {
-        let row = list_row_of(&rt, line);
-        let reported = row.written;
-        let status = if reported.starts_with("refused") {
-            1
-        } else {
-            2
-        };
-        let args = [row.list];
-        let mut case = Case {
-            name: row.name,
-            args: &args,
-            text: row.text.as_bytes(),
-            failing_read: 0,
-            failing_write: 1,
-        };
-        expect_run(&rt, rt.alloc(), &case, status, "", reported);
-        case.failing_read = 1;
-        expect_run(&rt, rt.alloc(), &case, 2, "", "cannot read standard input|");
+        check_refused(&rt, rt.alloc(), line);
     }
 }
 
@@ -321,30 +337,22 @@ a letter with a mark -- func { b0(): \u{e4} = const 1; ret }
 a name of 65 letters -- func { b0(): a234567890123456789012345678901234567890123456789012345678901234x = const 1; \
     ret }";
 
+fn check_unreadable(rt: &impl Abort, alloc: Global, line: &str) {
+    let (name, text) = line.split_once(" -- ").expect(rt, "a name");
+    let case = propagation(name, text.as_bytes());
+    expect_run(rt, alloc, &case, 2, "", "unreadable text|");
+}
+
 #[test]
 fn unreadable_texts(rt: HostRuntime) {
-    for case in UNREADABLE.lines() {
-        let (name, text) = case.split_once(" -- ").expect(&rt, "a name");
-        expect_run(
-            &rt,
-            rt.alloc(),
-            &propagation(name, text.as_bytes()),
-            2,
-            "",
-            "unreadable text|",
-        );
+    for line in UNREADABLE.lines() {
+        check_unreadable(&rt, rt.alloc(), line);
     }
     let longest =
         "func { b0(): a23456789012345678901234567890123456789012345678901234567890123x = const 1; ret }";
     let printed = "func { b0(): v0 = const 1; ret }|unchanged|";
-    expect_run(
-        &rt,
-        rt.alloc(),
-        &propagation("the longest name", longest.as_bytes()),
-        0,
-        printed,
-        "",
-    )
+    let case = propagation("the longest name", longest.as_bytes());
+    expect_run(&rt, rt.alloc(), &case, 0, printed, "");
 }
 
 // A text followed by so many blanks.
@@ -356,43 +364,36 @@ fn pad_text(rt: &impl Abort, alloc: Global, text: &str, blanks: usize) -> Vec<u8
     padded
 }
 
-#[test]
-fn reads_no_more_than_one_byte_past_the_limit(rt: HostRuntime) {
-    let text = "func { b0(): ret }";
-    let alloc = rt.alloc();
-    let longest = pad_text(&rt, alloc, text, 1_048_576 - 18);
-    expect_run(
-        &rt,
-        alloc,
-        &propagation("the longest text", &longest),
-        0,
-        "func { b0(): ret }|unchanged|",
-        "",
-    );
-    let longer = pad_text(&rt, alloc, text, 1_048_577 - 18);
-    expect_run(
-        &rt,
-        alloc,
-        &propagation("a longer text", &longer),
-        2,
-        "",
-        "unreadable text|",
-    );
-    let longest_by_far = pad_text(&rt, alloc, text, 1_100_000);
-    let mut args = Vec::new(alloc);
-    args.push(String::from_str(alloc, "sccp").expect(&rt, "memory"))
-        .expect(&rt, "memory");
-    let mut input = Input::new(&longest_by_far, 0);
+static SHORT: &str = "func { b0(): ret }";
+
+fn check_padded(rt: &impl Abort, alloc: Global, name: &str, blanks: usize, is_read: bool) {
+    let text = pad_text(rt, alloc, SHORT, blanks);
+    let case = propagation(name, &text);
+    if is_read {
+        expect_run(rt, alloc, &case, 0, "func { b0(): ret }|unchanged|", "");
+    } else {
+        expect_run(rt, alloc, &case, 2, "", "unreadable text|");
+    }
+}
+
+// How many bytes of the text are read.
+fn count_read(rt: &impl Abort, alloc: Global, text: &[u8]) -> usize {
+    let args = owned(rt, alloc, &["sccp"]);
+    let mut input = Input::new(text, 0);
     let mut output = Output::new(alloc, 0);
     let mut errors = Output::new(alloc, 0);
-    assert_eq!(rt;
-        plir_run(alloc, &args, &mut input, &mut output, &mut errors),
-        2
-    );
-    assert_eq!(rt;
-        longest_by_far.len().saturating_sub(input.unread_len()),
-        1_048_577
-    );
+    let status = plir_run(alloc, &args, &mut input, &mut output, &mut errors);
+    assert!(rt; status == 2);
+    text.len().saturating_sub(input.unread_len())
+}
+
+#[test]
+fn reads_no_more_than_one_byte_past_the_limit(rt: HostRuntime) {
+    let alloc = rt.alloc();
+    check_padded(&rt, alloc, "the longest text", 1_048_576 - 18, true);
+    check_padded(&rt, alloc, "a longer text", 1_048_577 - 18, false);
+    let longest_by_far = pad_text(&rt, alloc, SHORT, 1_100_000);
+    assert!(rt; count_read(&rt, alloc, &longest_by_far) == 1_048_577);
 }
 
 /// Names, and words of which none is a list.
@@ -428,63 +429,87 @@ repeat in repeat -- repeat:2:repeat:2:dce
 a comma for a colon -- repeat:8,dce
 a capital in nested -- Nested:dce";
 
+// A fault of the arguments is found before the text is read.
+fn check_bad(rt: &impl Abort, alloc: Global, name: &str, args: &[&str]) {
+    let case = Case {
+        name,
+        args,
+        text: b"#",
+        failing_read: 1,
+        failing_write: 1,
+    };
+    expect_run(
+        rt,
+        alloc,
+        &case,
+        2,
+        "",
+        "usage: plir_opt LIST, or plir_opt graph|",
+    );
+}
+
+fn check_bad_list(rt: &impl Abort, alloc: Global, line: &str) {
+    let (name, list) = line.split_once(" -- ").expect(rt, "a name");
+    check_bad(rt, alloc, name, &[list]);
+}
+
 #[test]
 fn bad_arguments(rt: HostRuntime) {
-    let usage = "usage: plir_opt LIST, or plir_opt graph|";
-    let lists: [&[&str]; 3] = [&[], &["graph", "graph"], &["sccp", "sccp"]];
-    for args in lists {
-        // A fault of the arguments is found before the text is read.
-        let case = Case {
-            name: "bad arguments",
-            args,
-            text: b"#",
-            failing_read: 1,
-            failing_write: 1,
-        };
-        expect_run(&rt, rt.alloc(), &case, 2, "", usage);
-    }
+    let alloc = rt.alloc();
+    check_bad(&rt, alloc, "no words", &[]);
+    check_bad(&rt, alloc, "graph twice", &["graph", "graph"]);
+    check_bad(&rt, alloc, "a pass twice", &["sccp", "sccp"]);
     for line in BAD_LISTS.lines() {
-        let (name, list) = line.split_once(" -- ").expect(&rt, "a name");
-        let args = [list];
-        let case = Case {
-            name,
-            args: &args,
-            text: b"#",
-            failing_read: 1,
-            failing_write: 1,
-        };
-        expect_run(&rt, rt.alloc(), &case, 2, "", usage);
+        check_bad_list(&rt, alloc, line);
     }
+}
+
+static FAILING: &str = "func { b0(): a = const 1; ret a }";
+
+// The program on it, where the read or the write of this number fails.
+fn failing_at<'t>(name: &'t str, read: u32, write: u32) -> Case<'t> {
+    Case {
+        name,
+        args: &["sccp"],
+        text: FAILING.as_bytes(),
+        failing_read: read,
+        failing_write: write,
+    }
+}
+
+fn check_failing_read(rt: &impl Abort, alloc: Global, kth: u32) {
+    let case = failing_at("a failing read", kth, 0);
+    expect_run(rt, alloc, &case, 2, "", "cannot read standard input|");
+}
+
+fn check_failing_write(rt: &impl Abort, alloc: Global, kth: u32, line: &str) {
+    let (name, written) = line.split_once(" -- ").expect(rt, "a name");
+    let case = failing_at(name, 7, kth);
+    expect_run(
+        rt,
+        alloc,
+        &case,
+        2,
+        written,
+        "cannot write standard output|",
+    );
 }
 
 #[test]
 fn failing_streams(rt: HostRuntime) {
-    let text = b"func { b0(): a = const 1; ret a }";
     let printed = "func { b0(): v0 = const 1; ret v0 }|unchanged|";
-    let mut case = propagation("a failing stream", text);
     // 33 bytes come by five reads, and a sixth says that none is left.
     for kth in 1..7u32 {
-        case.failing_read = kth;
-        expect_run(&rt, rt.alloc(), &case, 2, "", "cannot read standard input|");
+        check_failing_read(&rt, rt.alloc(), kth);
     }
-    case.failing_read = 7;
-    expect_run(&rt, rt.alloc(), &case, 0, printed, "");
+    let last_read = failing_at("the read behind the last", 7, 0);
+    expect_run(&rt, rt.alloc(), &last_read, 0, printed, "");
     // 46 bytes go by six writes, of eight each but the last.
     for (kth, line) in (1u32..).zip(WRITTEN.lines()) {
-        let (name, written) = line.split_once(" -- ").expect(&rt, "a name");
-        case.name = name;
-        case.failing_write = kth;
-        expect_run(
-            &rt,
-            rt.alloc(),
-            &case,
-            2,
-            written,
-            "cannot write standard output|",
-        );
+        check_failing_write(&rt, rt.alloc(), kth, line);
     }
-    case.failing_write = 7;
-    expect_run(&rt, rt.alloc(), &case, 0, printed, "");
+    let last_write = failing_at("the write behind the last", 7, 7);
+    expect_run(&rt, rt.alloc(), &last_write, 0, printed, "");
 }
 
 /// The name of a write, and what was written before it. Before the first it is nothing.
@@ -503,8 +528,8 @@ fn a_failed_report_is_ignored(rt: HostRuntime) {
     let mut output = Output::new(alloc, 0);
     let mut errors = Output::new(alloc, 1);
     let status = plir_run(alloc, &[], &mut input, &mut output, &mut errors);
-    assert_eq!(rt; status, 2);
-    assert_eq!(rt; errors.text(), b"".as_slice());
+    assert!(rt; status == 2);
+    assert!(rt; errors.text().is_empty());
 }
 
 static FAULTS: &str = "want of memory
@@ -512,6 +537,11 @@ a value of an unreachable block is used
 verification failed before the pass
 verification failed after the pass
 the pass failed with code 7";
+
+fn check_fault(rt: &impl Abort, alloc: Global, fault: &OptError, want: &str) {
+    let text = format!(in alloc; "{fault}").expect(rt, "memory");
+    expect_text(rt, text.as_str(), want, "a fault");
+}
 
 #[test]
 fn texts_of_faults(rt: HostRuntime) {
@@ -523,12 +553,6 @@ fn texts_of_faults(rt: HostRuntime) {
         OptError::Pass(7),
     ];
     for (fault, want) in faults.iter().zip(FAULTS.lines()) {
-        assert_eq!(&rt;
-            format!(in rt.alloc(); "{fault}")
-                .expect(&rt, "memory")
-                .as_str(),
-            want,
-            "{fault:?}"
-        );
+        check_fault(&rt, rt.alloc(), fault, want);
     }
 }

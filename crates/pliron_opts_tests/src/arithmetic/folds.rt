@@ -2,14 +2,15 @@
 ghost use Rattle.pliron_core.specs.Tree.{IsLive};
 
 use super::texts::read;
+use crate::expect::expect_text;
 use pliron_arithmetic::{Arithmetic, ArithmeticKind};
 use pliron_core::{AttrObj, Context, IRRewriter, Operation, Ptr, Rewriter};
 use pliron_laws::reads::all_operations;
 use pliron_laws::{BranchOpFoldInterface, ConstFoldInterface, is_well_linked};
 use pliron_table_text::print_text;
+use pliron_test_cases::cases::{Row, all_known, number, row_of};
 use std::alloc::Global;
 use std::process::Abort;
-use std::test::Fail;
 
 // A name, the number of an operation of the first block, what is known of its operands, the function, what it becomes.
 static CASES: &str = "\
@@ -33,20 +34,6 @@ a branch on a number but 0 -- 0 | 5 ? ? | function { b0(c, x, y): branch c t(x) 
 a branch on an unknown one -- 0 | ? ? ? | function { b0(c, x, y): branch c t(x) f(y); t(p): return p; f(q): return \
     q } => function { b0(v0, v1, v2): branch v0 b1(v1) b2(v2); b1(v3): return v3; b2(v4): return v4 }";
 
-fn known_operands(rt: &impl Abort, alloc: Global, words: &str) -> Vec<Option<AttrObj>> {
-    let mut attrs = Vec::new(alloc);
-    for word in words.split(' ') {
-        match word.parse::<i64>() {
-            Ok(number) => attrs
-                .push(Some(AttrObj::Int(number as i128)))
-                .expect(rt, "memory"),
-            Err(_) if word == "?" => attrs.push(None).expect(rt, "memory"),
-            Err(_) => {}
-        }
-    }
-    attrs
-}
-
 fn operation_at(
     rt: &impl Abort,
     alloc: Global,
@@ -55,7 +42,7 @@ fn operation_at(
     index: usize,
 ) -> Ptr<Operation> {
     assert!(rt; root.is_live(ctx));
-    assert_eq!(rt; root.num_region(ctx), 1);
+    assert!(rt; root.num_region(ctx) == 1);
     let Some(block) = root.get_region(ctx, 0).get_head(ctx) else {
         panic!(rt; "no block");
     };
@@ -98,23 +85,15 @@ fn fold(
     }
 }
 
-// The parts of a case: the number, what is known, and the function.
-fn parts<'a>(rt: &impl Abort, case: &'a str) -> (usize, &'a str, &'a str) {
-    let (number, rest) = case.split_once(" | ").unwrap_or(("", ""));
-    let (words, text) = rest.split_once("| ").unwrap_or(("", ""));
-    match number.parse::<usize>() {
-        Ok(number) => (number, words, text),
-        Err(_) => panic!(rt; "no number: {case}"),
-    }
-}
-
 fn folded_in(rt: &impl Abort, alloc: Global, ctx: &mut Context, case: &str) -> String {
-    let (index, words, text) = parts(rt, case);
+    let (index, rest) = case.split_once(" | ").expect(rt, "a number");
+    let (words, text) = rest.split_once("| ").expect(rt, "operands");
+    let index = number(index).expect(rt, "a number");
     let root = read(rt, alloc, ctx, text);
     assert!(rt; root.is_live(ctx));
     assert!(rt; is_well_linked::<Arithmetic>(root, ctx));
     let op = operation_at(rt, alloc, ctx, root, index);
-    let attrs = known_operands(rt, alloc, words);
+    let attrs = all_known(alloc, words).expect(rt, "memory");
     fold(rt, alloc, ctx, op, &attrs);
     assert!(rt; root.is_live(ctx));
     assert!(rt; is_well_linked::<Arithmetic>(root, ctx));
@@ -122,17 +101,15 @@ fn folded_in(rt: &impl Abort, alloc: Global, ctx: &mut Context, case: &str) -> S
 }
 
 fn check(rt: &impl Abort, alloc: Global, line: &str) {
-    let (name, row) = line.split_once(" -- ").expect(rt, "a name");
-    let (before, after) = row.split_once(" => ").expect(rt, "a case");
+    let Row { name, asked, want } = row_of(line).expect(rt, "a case");
     let mut ctx = Context::new(alloc);
-    let text = folded_in(rt, alloc, &mut ctx, before);
-    assert_eq!(rt; text.as_str(), after, "{name}");
+    let text = folded_in(rt, alloc, &mut ctx, asked);
+    expect_text(rt, text.as_str(), want, name);
 }
 
 #[test]
-fn texts(rt: HostRuntime) -> Result<(), Fail> {
+fn texts(rt: HostRuntime) {
     for line in CASES.lines() {
         check(&rt, rt.alloc(), line);
     }
-    Ok(())
 }

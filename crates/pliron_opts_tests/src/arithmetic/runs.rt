@@ -1,11 +1,13 @@
 //! Runs of functions, worked by hand, before and after constant propagation and dead code elimination.
 use super::texts::read;
+use crate::expect::expect_sight;
 use pliron_arithmetic::Arithmetic;
-use pliron_core::{Context, Operation, Ptr};
+use pliron_core::{AttrObj, Context, Operation, Ptr};
 use pliron_dce::dce;
 use pliron_evaluator::evaluator::{Datum, Sight, evaluate};
 use pliron_laws::is_well_linked;
 use pliron_sccp::sccp;
+use pliron_test_cases::cases::{all_known, row_of};
 use std::alloc::Global;
 use std::process::Abort;
 
@@ -40,10 +42,9 @@ a while with more values than arguments -- 3 | function { b0(n): k = lit 2; r = 
 // The numbers of a text as data.
 fn data(rt: &impl Abort, alloc: Global, words: &str) -> Vec<Datum> {
     let mut data = Vec::new(alloc);
-    for word in words.split(' ') {
-        if let Ok(number) = word.parse::<i64>() {
-            data.push(Datum::Number(number as i128))
-                .expect(rt, "memory");
+    for known in &all_known(alloc, words).expect(rt, "memory") {
+        if let Some(AttrObj::Int(number)) = known {
+            data.push(Datum::Number(*number)).expect(rt, "memory");
         }
     }
     data
@@ -59,12 +60,11 @@ struct Run<'t> {
 }
 
 fn check_run(rt: &impl Abort, alloc: Global, ctx: &Context, root: Ptr<Operation>, run: &Run) {
-    let name = run.name;
     let world = Vec::new(alloc);
     let inputs = data(rt, alloc, run.inputs);
     let seen = evaluate::<Arithmetic>(alloc, ctx, root, inputs, world, 200).expect(rt, "memory");
     let want = Sight::Ended(data(rt, alloc, run.values), Vec::new(alloc));
-    assert_eq!(rt; seen, want, "{name}");
+    expect_sight(rt, &seen, &want, run.name);
 }
 
 fn check_runs(rt: &impl Abort, alloc: Global, ctx: &mut Context, run: &Run) {
@@ -80,14 +80,13 @@ fn check_runs(rt: &impl Abort, alloc: Global, ctx: &mut Context, run: &Run) {
 }
 
 fn check(rt: &impl Abort, alloc: Global, line: &str) {
-    let (name, row) = line.split_once(" -- ").expect(rt, "a name");
-    let (given, values) = row.split_once(" => ").expect(rt, "a case");
-    let (inputs, text) = given.split_once("| ").expect(rt, "inputs");
+    let row = row_of(line).expect(rt, "a case");
+    let (inputs, text) = row.asked.split_once("| ").expect(rt, "inputs");
     let run = Run {
-        name,
+        name: row.name,
         inputs,
         text,
-        values,
+        values: row.want,
     };
     let mut ctx = Context::new(alloc);
     check_runs(rt, alloc, &mut ctx, &run);

@@ -1,4 +1,5 @@
 //! Texts that are read and printed, and texts outside the notation, by its rules in docs/DIALECTS.md.
+use crate::expect::expect_text;
 use pliron_arithmetic::ArithmeticKind;
 use pliron_core::{Context, Operation, Ptr};
 use pliron_table_text::{print_text, read_text};
@@ -23,7 +24,7 @@ fn printed_in(rt: &impl Abort, alloc: Global, ctx: &mut Context, text: &str) -> 
 fn check(rt: &impl Abort, alloc: Global, name: &str, text: &str, printed: &str) {
     let mut ctx = Context::new(alloc);
     let found = printed_in(rt, alloc, &mut ctx, text);
-    assert_eq!(rt; found.as_str(), printed, "{name}");
+    expect_text(rt, found.as_str(), printed, name);
 }
 
 // Names, texts, and what is printed of each.

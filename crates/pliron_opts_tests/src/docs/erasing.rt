@@ -6,6 +6,7 @@ ghost use Rattle.pliron_laws.specs.Linked.{IsWellLinked};
 ghost use Rattle.pliron_theory.specs.Change.{IsPassChange};
 ghost use Rattle.pliron_opts_tests.specs.declared.docs.erasing.TheConstants.{ERASE_UNUSED};
 
+use crate::expect::expect_text;
 use pliron_arithmetic::{Arithmetic, ArithmeticKind};
 use pliron_core::{Context, IRRewriter, IRStatus, Operation, Ptr};
 use pliron_laws::Dialect;
@@ -115,10 +116,8 @@ fn erases_chains(rt: HostRuntime) {
     let text =
         "function { b0(x): a = lit 6; n = neg a; p = mul n a; if x { t(): k = lit 1; return } { }; return x }";
     let left = left_in(&rt, rt.alloc(), &mut ctx, text, IRStatus::Changed);
-    assert_eq!(rt;
-        left.as_str(),
-        "function { b0(v0): if v0 { b0(): return } { }; return v0 }"
-    );
+    let want = "function { b0(v0): if v0 { b0(): return } { }; return v0 }";
+    expect_text(&rt, left.as_str(), want, "a chain");
 }
 
 #[test]
@@ -126,5 +125,5 @@ fn keeps_what_is_used(rt: HostRuntime) {
     let mut ctx = Context::new(rt.alloc());
     let text = "function { b0(v0): v1 = lit 6; v2 = add v0 v1; return v2 }";
     let left = left_in(&rt, rt.alloc(), &mut ctx, text, IRStatus::Unchanged);
-    assert_eq!(rt; left.as_str(), text);
+    expect_text(&rt, left.as_str(), text, "no chain");
 }

@@ -3,6 +3,7 @@ ghost use Rattle.std.specs.Prelude.{IfOk, IfSome};
 ghost use Rattle.pliron_traversal.specs.Adjacency.{AreInverse, graph_of};
 ghost use Rattle.pliron_traversal.specs.AdjacencyLaws.{adjacency_lawful};
 
+use crate::expect::expect_text;
 use pliron_dominance::DominatorTree;
 use pliron_graph::{
     AdjacencyList, ControlFlowGraph, DFSTraversal, ReverseGraph, ReverseNode, post_order,
@@ -160,7 +161,7 @@ fn callees_first(alloc: Global, graph: &CallGraph) -> Result<Vec<u32>, OptError>
 
 fn check(rt: &impl Abort, said: Result<String, OptError>, want: &str) {
     let said = said.expect(rt, "memory");
-    assert_eq!(rt; said.trim(), want);
+    expect_text(rt, said.trim(), want, "an answer");
 }
 
 #[test]

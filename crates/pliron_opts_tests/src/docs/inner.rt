@@ -47,7 +47,7 @@ fn runs_in(
     let root = root.expect(rt, "readable");
     let status = run_pipeline(passes, alloc, root, ctx, analyses).expect(rt, "memory");
     assert!(rt; status == IRStatus::Unchanged);
-    assert_eq!(rt; count_inner_runs(passes), 2);
+    assert!(rt; count_inner_runs(passes) == 2);
 }
 
 #[test]

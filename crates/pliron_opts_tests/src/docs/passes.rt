@@ -88,8 +88,8 @@ fn runs_in(
     let root = root.expect(rt, "readable");
     let status = run_pipeline(passes, alloc, root, ctx, analyses).expect(rt, "memory");
     assert!(rt; status == IRStatus::Changed);
-    assert_eq!(rt; count_runs(passes), 2);
-    assert_eq!(rt; analyses.pm_data().state().pass_run_count, 3);
+    assert!(rt; count_runs(passes) == 2);
+    assert!(rt; analyses.pm_data().state().pass_run_count == 3);
 }
 
 #[test]

@@ -7,6 +7,7 @@ ghost use Rattle.pliron_bench.specs.BenchMoves.{bench};
 ghost use Rattle.pliron_theory.specs.Change.{IsPassChange};
 ghost use Rattle.pliron_opts_tests.specs.declared.docs.walking.TheConstants.{SWEEP_LARGE};
 
+use crate::expect::expect_text;
 use pliron_bench::Bench;
 use pliron_core::{Context, IRStatus, Operation, Ptr};
 use pliron_dce::dce;
@@ -135,5 +136,5 @@ fn swept_in(rt: &impl Abort, alloc: Global, ctx: &mut Context) -> String {
 fn sweeps(rt: HostRuntime) {
     let mut ctx = Context::new(rt.alloc());
     let left = swept_in(&rt, rt.alloc(), &mut ctx);
-    assert_eq!(rt; left.as_str(), LEFT);
+    expect_text(&rt, left.as_str(), LEFT, "what is left");
 }

@@ -2,6 +2,7 @@
 ghost use Rattle.pliron_core.specs.Tree.{IsLive};
 
 use super::{append, constant, first_result, function, six_by_seven};
+use crate::expect::expect_text;
 use pliron_bench::BenchKind;
 use pliron_bench::heads::plain_head;
 use pliron_core::{AttrObj, Context, Def, Head, IRRewriter, Operation, Ptr, Rewriter, Value};
@@ -111,14 +112,14 @@ fn five_by_one(alloc: Global, ctx: &mut Context) -> Option<(Ptr<Operation>, Ptr<
 fn check_text(rt: &impl Abort, alloc: Global, root: Ptr<Operation>, ctx: &Context, want: &str) {
     assert!(rt; root.is_live(ctx));
     let text = print_text(alloc, root, ctx).expect(rt, "memory");
-    assert_eq!(rt; text.as_str(), want);
+    expect_text(rt, text.as_str(), want, "the text");
 }
 
 fn reads_in(rt: &impl Abort, alloc: Global, ctx: &mut Context) {
     let root = six_by_seven(alloc, ctx).expect(rt, "memory");
     assert!(rt; root.is_live(ctx));
-    assert_eq!(rt; count_kind(root, BenchKind::Const, ctx), 2);
-    assert_eq!(rt; count_kind(root, BenchKind::Func, ctx), 0);
+    assert!(rt; count_kind(root, BenchKind::Const, ctx) == 2);
+    assert!(rt; count_kind(root, BenchKind::Func, ctx) == 0);
 }
 
 fn rewrites_in(rt: &impl Abort, alloc: Global, ctx: &mut Context) {
