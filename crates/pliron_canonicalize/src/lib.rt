@@ -1,5 +1,5 @@
-//! Canonicalization: uses of results that are operands of their operations, or constants, and of arguments of blocks
-//! that are one value, become uses of those.
+//! Canonicalization. A result may be one of the operands of its operation, or a constant; an argument of a block may be
+//! the one value that all edges pass to it. The uses of such a result or argument become uses of what it is.
 //!
 //! It builds on the theory of runs, the laws of dialects and dominance order. It knows nothing of the other
 //! optimisations, of passes or of the program.

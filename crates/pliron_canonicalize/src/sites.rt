@@ -31,8 +31,8 @@ fn block_begun(op: Ptr<Operation>, ctx: &Context) -> Option<Ptr<BasicBlock>>
     }
 }
 
-// The operation's results come behind these sites, and in front of them, where it is the first of a block, the arguments
-// of that.
+// Adds the sites of the operation: its results, and before them, if the operation is the first of its block, the
+// arguments of the block.
 fn push_sites(sites: &mut Vec<Site>, op: Ptr<Operation>, ctx: &Context) -> Result<(), OptError>
     requires live { IsLive ctx.now.tree op }
     ensures added { OnOk result (AddsSites ctx.now.tree op sites.old.items sites.new.items) }

@@ -3,9 +3,9 @@
 //! The set knows the place of each operation that it had last, by the number of its handle. A place is a hint: the
 //! operation is in the set if it is at that place. So the set is emptied at once, whatever it held.
 //!
-//! A use of a value inside several operations that hold one another keeps each of them alive that its user isn't
-//! within. So one climb from the user to the outermost of them answers for all, and where the use was found
-//! before, the value and the outermost one are known.
+//! A use keeps alive each operation around the used value that isn't around the user as well. One climb from the user to
+//! the outermost such operation answers for all of them; the value and that operation are remembered, for where the
+//! same use is found again.
 ghost use Rattle.std.specs.Prelude.{◌≡◌, ◌++◌, ◌∷◌, [], true, false, IfOk, IfSome, OnOk, IsTrue};
 ghost use Rattle.pliron_core.specs.Tree.{In, IsLive, IsDefined, IsWithin, operands_of};
 ghost use Rattle.pliron_dce.specs.Readiness.{IsHeldUpTo};

@@ -1,14 +1,10 @@
-//! Graphs that are read through a context: depth-first orders, search numbers and edge kinds.
+//! Strongly connected components, reverse graphs, and ancestors in a tree, over the graphs of `pliron_traversal`, whose
+//! orders and searches are passed on.
 //!
-//! A graph implements [`ControlFlowGraph`]. [`post_order`], [`topological_order`] and their forms by component
-//! visit all of its nodes, a [`DFSTraversal`] those that the entry reaches. What each answers is
-//! fixed by the graph alone, and the contracts say it without the search: a node encloses another when it has
-//! the smaller pre-order number and the greater post-order number, and the clauses of a search numbering on
-//! this relation admit one numbering ([`laws::numbering_is_one`]). The functions of [`laws`] hold what users
-//! may conclude from it.
-//!
-//! [`sccs_in_topological_order`] gives the strongly connected components, by the numbers of the search from the
-//! entry and then all nodes.
+//! A graph implements [`ControlFlowGraph`]. [`sccs_in_topological_order`] gives the strongly connected components, by the
+//! numbers of the search from the entry and then all nodes. The functions of [`laws`] hold what users may conclude from
+//! a search numbering: a node encloses another when it has the smaller pre-order number and the greater post-order
+//! number, and the clauses on this relation admit one numbering ([`laws::numbering_is_one`]).
 //!
 //! A [`ReverseGraph`] is the reverse of a graph, and itself a graph, whose entry leads to one node of each
 //! component that no edge leaves.

@@ -17,7 +17,7 @@ struct Built {
     values: Vec<Value>,
 }
 
-// The text says no tree. No text that was read comes to this.
+// The fault of syntax that builds no tree; syntax that was read from a text builds one.
 fn no_tree(place: usize) -> Fault {
     Fault::Expected(place, Expected::Admitted)
 }

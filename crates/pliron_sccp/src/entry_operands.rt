@@ -7,8 +7,9 @@ use pliron_core::{Context, Operation, Ptr};
 use pliron_laws::{Dialect, OptError};
 use std::alloc::Global;
 
-/// An argument of an entry: its region's place in the operation, its own, and how many were listed when the one
-/// before it for the same operand was, 0 for none.
+/// An argument of an entry block for which an operand is named: the index of its region in the operation, and its own
+/// among the arguments. The candidates of one operand are a chain in the list: `before` is the number of the previous
+/// one, counted from 1, and 0 ends the chain.
 #[derive(Clone, Copy)]
 pub struct EntryCandidate {
     pub region: usize,

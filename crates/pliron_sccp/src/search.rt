@@ -16,13 +16,15 @@
 //! value is lowered at most twice, and only its users are visited then. In deep nests of loops an inner loop is thus
 //! not visited anew for each round of the outer ones.
 //!
-//! A user with more than a few operands is deferred, once, and visited where both worklists are empty: one at a
-//! time, those with the fewest operands first, and what that visit lowered is propagated before the next one. So a
-//! branch that folds, and forwards many values lowered one after the other, is visited when all of them are lowered,
-//! and not after each. Where it lowers its own next operand, as in a loop that moves its arguments on by one place,
-//! that would be no help. So what was visited more than a few times is propagated eagerly: for each lowered operand,
-//! the one argument that it is forwarded to along an edge that the last visit found feasible, and the arguments of
-//! its regions' entries that it names this operand for. The order decides no lattice value.
+//! A user with more than a few operands is deferred, once, until both worklists are empty. Deferred users are visited
+//! one at a time, those with the fewest operands first, and what a visit lowered is propagated before the next one. So
+//! a branch that folds, and forwards many values lowered one after the other, is visited when all of them are lowered,
+//! and not after each.
+//!
+//! Deferring is no help to a branch that lowers its own next operand, as in a loop that moves its arguments on by one
+//! place. So the lowered operands of a user that was visited more than a few times are propagated eagerly: each to the
+//! argument that it is forwarded to along an edge that the last visit found feasible, and to the arguments of entries
+//! for which the user names this operand. The order decides no lattice value.
 ghost use Rattle.std.specs.Prelude.{◌≡◌, ◌<◌, ℕ, true, OnOk, IfOk, IsOkUnless, Some, None};
 ghost use Rattle.pliron_core.specs.Tree.{IsDefined, IsLive, IsBlock, In, body_of};
 ghost use Rattle.pliron_laws.specs.Linked.{IsWellLinked};
@@ -80,11 +82,11 @@ pub fn start(alloc: Global, root: Ptr<Operation>, ctx: &Context) -> Result<Table
     Ok(tables)
 }
 
-// Pops all values off the worklist, one by one. Answers the users that are to be visited again, each once, the
-// constraints of others on one argument each, and how many values were popped. Users in other blocks put no
-// constraint: a block on the worklist is still to be visited, and one that is not executable puts none. The most
-// precise lattice values need this rule: an operation that is visited before its block was could read a value of
-// which nothing is known yet. Asks that the values on the worklist are live. Errors: allocation failure. Cost: one step for each value and for each use of it.
+// Pops all values off the worklist, one by one. Answers the users that are to be visited again, each once; the
+// constraints, on one argument each, of users that are propagated eagerly; and how many values were popped. A user whose
+// block wasn't visited yet is passed over: a block on the worklist is still to be visited, and one that isn't executable
+// puts no constraint. The most precise lattice values need this: an operation that is visited before its block could
+// read a value of which nothing is known yet. Asks that the values on the worklist are live. Errors: allocation failure. Cost: one step for each value and for each use of it.
 fn take_values<D: Dialect>(
     alloc: Global,
     ctx: &Context,

@@ -5,7 +5,8 @@ use crate::evaluator::values::Datum;
 use pliron_core::{Context, Operation, Ptr};
 use std::alloc::{AllocError, Global};
 
-/// A move: its operation, and what that was answered or the data of its operands, where each has one.
+/// A move of a run: the operation that made it, and its input. At the first move that is the data of its operands, later
+/// what it was answered; there is none where an operand has no datum.
 #[derive(Drop)]
 pub struct Noted {
     pub op: Ptr<Operation>,
