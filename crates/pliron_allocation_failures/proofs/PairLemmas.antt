@@ -23,7 +23,7 @@ abbrev answers : List (Option AttrObj)
 answers = Some (Int (pos 1)) ∷ Some (Int (pos 2)) ∷ []
 
 two_put : (t : Tree) (op first second : ℕ) → put_all bench_accepts bench_constant_head op (first ∷ second ∷ []) answers t ≡ both_put t op first second
-unfolding put_all bench_accepts
+unfolding put_all
 two_put t op first second = refl
 
 -- both results are put for constants

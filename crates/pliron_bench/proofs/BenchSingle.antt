@@ -1,12 +1,15 @@
 -- Folding in place comes to one tree and one answer.
-use Rattle.std.proofs.Common.{◌≡◌, ℕ, Bool, true, arith, if◌then◌else◌, List, [], ◌∷◌, Option, Some, None, refl, ap, sym, ◌∙◌, subst}
+use Rattle.std.proofs.Common.{◌≡◌, ℕ, Bool, if◌then◌else◌, List, [], ◌∷◌, Option, Some, None, refl, ap, sym, ◌∙◌, subst}
 use Rattle.std.proofs.lemmas.Option.{same_Some}
 use Rattle.pliron_core.specs.declared.attrs.AttrObj.{AttrObj}
 use Rattle.pliron_core.specs.declared.attrs.IRStatus.{IRStatus}
 use Rattle.pliron_core.specs.declared.attrs.IRStatus.TheVariants.{Changed, Unchanged}
 use Rattle.pliron_core.specs.Tree.{Tree, head_of}
-use Rattle.pliron_bench.specs.declared.kind.BenchKind.{BenchKind}
 use Rattle.pliron_bench.specs.declared.kind.BenchKind.TheVariants.{Const, Br}
+use Rattle.pliron_roles.specs.declared.form.Form.{Form}
+use Rattle.pliron_roles.specs.declared.form.Form.TheVariants.{Constant as ConstantForm}
+use Rattle.pliron_roles.specs.Roles.{Interpretation, Role, Allows, role_at, allows_at, meaning_by, constants_by, constant_head_of, head_of_kind}
+use Rattle.pliron_roles.specs.Outcomes.{form_in, fold_of, outcome_by, edge_under, BecomesJump, JumpsWhereKnown, branch_outcome_by}
 use Rattle.pliron_laws.specs.Datum.{Head, Meaning}
 use Rattle.pliron_laws.specs.Tree.{Operation, shape_of}
 use Rattle.pliron_laws.specs.Folding.{Constants}
@@ -14,11 +17,10 @@ use Rattle.pliron_laws.specs.Outcomes.{after_materialising, Materialises}
 use Rattle.pliron_laws.specs.Outcomes.Materialises.{Finished, Unanswered, Unknown, PassedOver, Put}
 use Rattle.pliron_laws.specs.Replacing.{branch_replaced}
 use Rattle.pliron_laws.specs.InPlace.{IsSingle, ReportsChange, materialising_outcome}
-use Rattle.pliron_bench.specs.Bench.{plain_head}
-use Rattle.pliron_bench.specs.BenchMoves.{bench}
-use Rattle.pliron_bench.specs.BenchAnswers.{bench_constants, bench_accepts, bench_constant_head}
+use Rattle.pliron_bench.specs.Bench.{number_of, is_ssa, is_number}
+use Rattle.pliron_bench.specs.BenchMoves.{bench_value, bench_tables}
+use Rattle.pliron_bench.specs.BenchAnswers.{bench_outcome, bench_branch_outcome}
 use Rattle.pliron_branches.specs.Ranges.{same_data}
-use Rattle.pliron_bench.specs.BenchOutcomes.{kind_in, fold_of, bench_outcome, edge_under, BecomesJump, JumpsWhereKnown, bench_branch_outcome}
 
 -- ---- constants
 
@@ -58,28 +60,35 @@ put_single m constants accepts head t u u' op known o a b at x y =
     let same : u ≡ u' = put_is accepts head op o.results all t u (x.0 o at) ∙ sym (put_is accepts head op o.results all t u' (y.0 o at)) in
     (same, one_answer a b t u x.1 (subst (ReportsChange (Some b) t) (sym same) y.1))
 
-kind_single : (k : Option BenchKind) → IsSingle (fold_of k)
-kind_single (Some Const) t u u' op known o a b at x y = (x.0 ∙ sym y.0, same_Some a b (x.1 ∙ sym y.1))
-kind_single _ t u u' op known o a b at x y = put_single bench bench_constants bench_accepts bench_constant_head t u u' op known o a b at x y
+fold_single : (value : Interpretation) (roles : ℕ → Option Role) (allows : Allows) (accepts : AttrObj → Bool) (n : ℕ) (ssa : Bool) (f : Option Form) → IsSingle (fold_of value roles allows accepts n ssa f)
+fold_single value roles allows accepts n ssa (Some ConstantForm) t u u' op known o a b at x y = (x.0 ∙ sym y.0, same_Some a b (x.1 ∙ sym y.1))
+fold_single value roles allows accepts n ssa _ t u u' op known o a b at x y = put_single (meaning_by value roles allows) (constants_by roles) accepts (constant_head_of n ssa) t u u' op known o a b at x y
+
+outcome_single : (value : Interpretation) (roles : ℕ → Option Role) (allows : Allows) (accepts : AttrObj → Bool) (n : ℕ) (ssa : Bool) → IsSingle (outcome_by value roles allows accepts n ssa)
+unfolding outcome_by
+outcome_single value roles allows accepts n ssa t u u' op known o a b at x y = fold_single value roles allows accepts n ssa (form_in roles (head_of t op)) t u u' op known o a b at x y
 
 pub constants_single : IsSingle bench_outcome
-unfolding bench_outcome
-constants_single t u u' op known o a b at x y = kind_single (kind_in (head_of t op)) t u u' op known o a b at x y
+constants_single = outcome_single bench_value (role_at bench_tables) (allows_at bench_tables) is_number (number_of Const) (is_ssa Const)
 
 -- ---- branches
 
-jump_single : (t u u' : Tree) (op : ℕ) (o : Operation) (edge : ℕ) → BecomesJump t u op o edge → BecomesJump t u' op o edge → u ≡ u'
-jump_single t u u' op o edge x y =
-    let block : x.block ≡ y.block = same_Some x.block y.block (sym x.target ∙ y.target) in
-    let values : x.values ≡ y.values = same_data x.values y.values (x.forwarded ∙ sym y.forwarded) in
-    x.tree ∙ ap (λ z. branch_replaced t op (plain_head Br) z (x.block ∷ [])) values ∙ ap (λ z. branch_replaced t op (plain_head Br) y.values (z ∷ [])) block ∙ sym y.tree
+module _ (value : Interpretation) (roles : ℕ → Option Role) (allows : Allows) (n : ℕ) (ssa : Bool) where
+  jump_single : (t u u' : Tree) (op : ℕ) (o : Operation) (edge : ℕ) → BecomesJump value roles allows n ssa t u op o edge → BecomesJump value roles allows n ssa t u' op o edge → u ≡ u'
+  jump_single t u u' op o edge x y =
+      let block : x.block ≡ y.block = same_Some x.block y.block (sym x.target ∙ y.target) in
+      let values : x.values ≡ y.values = same_data x.values y.values (x.forwarded ∙ sym y.forwarded) in
+      x.tree ∙ ap (λ z. branch_replaced t op (head_of_kind n ssa) z (x.block ∷ [])) values ∙ ap (λ z. branch_replaced t op (head_of_kind n ssa) y.values (z ∷ [])) block ∙ sym y.tree
 
-edge_single : (edge : Option ℕ) (t u u' : Tree) (op : ℕ) (o : Operation) (a b : IRStatus) → JumpsWhereKnown edge t u op o (Some a) → JumpsWhereKnown edge t u' op o (Some b) → (u ≡ u') × (a ≡ b)
-edge_single None t u u' op o a b x y = (x.0 ∙ sym y.0, x.1 ∙ sym y.1)
-edge_single (Some edge) t u u' op o a b x y = (jump_single t u u' op o edge x.0 y.0, x.1 ∙ sym y.1)
+  edge_single : (edge : Option ℕ) (t u u' : Tree) (op : ℕ) (o : Operation) (a b : IRStatus) → JumpsWhereKnown value roles allows n ssa edge t u op o (Some a) → JumpsWhereKnown value roles allows n ssa edge t u' op o (Some b) → (u ≡ u') × (a ≡ b)
+  edge_single None t u u' op o a b x y = (x.0 ∙ sym y.0, x.1 ∙ sym y.1)
+  edge_single (Some edge) t u u' op o a b x y = (jump_single t u u' op o edge x.0 y.0, x.1 ∙ sym y.1)
+
+  branch_single : IsSingle (branch_outcome_by value roles allows n ssa)
+  unfolding branch_outcome_by
+  branch_single t u u' op known o a b at x y =
+      let same : y.0 ≡ x.0 = same_Some y.0 x.0 (sym y.1 ∙ x.1) in
+      edge_single (edge_under roles allows (shape_of (meaning_by value roles allows) t x.0) known) t u u' op x.0 a b x.2 (subst (λ z. JumpsWhereKnown value roles allows n ssa (edge_under roles allows (shape_of (meaning_by value roles allows) t z) known) t u' op z (Some b)) same y.2)
 
 pub branches_single : IsSingle bench_branch_outcome
-unfolding bench_branch_outcome
-branches_single t u u' op known o a b at x y =
-    let same : y.0 ≡ x.0 = same_Some y.0 x.0 (sym y.1 ∙ x.1) in
-    edge_single (edge_under (shape_of bench t x.0) known) t u u' op x.0 a b x.2 (subst (λ z. JumpsWhereKnown (edge_under (shape_of bench t z) known) t u' op z (Some b)) same y.2)
+branches_single = branch_single bench_value (role_at bench_tables) (allows_at bench_tables) (number_of Br) (is_ssa Br)

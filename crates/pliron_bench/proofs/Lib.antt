@@ -1,5 +1,2 @@
 pub mod BenchNumberLemmas
-pub mod BenchReads
 pub mod BenchSingle
-pub mod BenchEdges
-mod BenchOperandReads

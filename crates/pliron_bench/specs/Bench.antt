@@ -6,7 +6,7 @@ use Rattle.pliron_core.specs.declared.attrs.AttrObj.TheVariants.{Int, Text as Wo
 use Rattle.pliron_bench.specs.declared.kind.BenchKind.{BenchKind}
 use Rattle.pliron_bench.specs.declared.kind.BenchKind.TheVariants.{Mod, Func, Const, Add, Mul, Div, Read, Print, Pair, Sink, Scope, Box, Br, Cbr, Ret, Fork}
 use Rattle.pliron_bench.specs.BenchNumbers.{fits}
-use Rattle.pliron_branches.specs.Counts.{counted_by}
+use Rattle.pliron_roles.specs.Counted.{first_edge_count as first_count}
 
 -- the kinds by number, from 0
 abbrev pub kinds : List BenchKind
@@ -33,11 +33,6 @@ number_of Fork = 15
 -- the kind with this number, if there is one
 unfoldable pub kind_of : ℕ → Option BenchKind
 kind_of n = slice_get kinds n
-
--- what a table says of a kind, or `other` of no kind
-abbrev pub by_kind : {A : Type 0} → A → (BenchKind → A) → Option BenchKind → A
-by_kind other table None = other
-by_kind other table (Some k) = table k
 
 -- how many results, successors and regions an operation of the kind has
 abbrev pub result_count : BenchKind → ℕ
@@ -133,14 +128,9 @@ head_with Const n first_edge = attribute_head Const (Int n)
 head_with Cbr n first_edge = attribute_head Cbr (Int first_edge)
 head_with k n first_edge = plain_head k
 
--- the first of the attributes, by default 0
-abbrev pub first_attribute : List AttrObj → AttrObj
-first_attribute [] = Int (pos 0)
-first_attribute (a ∷ attrs) = a
-
 -- how many operands the first edge of a `cbr` forwards
 abbrev pub first_edge_count : List AttrObj → ℕ
-first_edge_count attrs = counted_by (first_attribute attrs)
+first_edge_count attrs = first_count attrs
 
 -- operations of the kind are in no block
 abbrev pub IsTopKind : BenchKind → Type 0

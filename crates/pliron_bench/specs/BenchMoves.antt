@@ -1,13 +1,19 @@
--- What the operations of each kind do when they run, and the edges of branches.
-use Rattle.std.specs.Prelude.{ℕ, zero, suc, ◌-◌, min, if◌then◌else◌, Bool, true, false, not, List, [], ◌∷◌, Option, Some, None, slice_index_or, slice_set, replicate, take, drop, ℤ, pos}
-use Rattle.std.specs.List.{range_with_len}
+-- What the operations of each kind are: the dialect by its tables.
+use Rattle.std.specs.Prelude.{ℕ, zero, suc, nat_lt, if◌then◌else◌, Bool, true, false, List, [], ◌∷◌, Option, Some, None, slice_index_or, replicate, ℤ, pos}
+use Rattle.std.specs.Int.{w64, int_wrap}
 use Rattle.pliron_core.specs.declared.attrs.AttrObj.{AttrObj}
-use Rattle.pliron_core.specs.declared.attrs.AttrObj.TheVariants.{Int}
 use Rattle.pliron_bench.specs.declared.kind.BenchKind.{BenchKind}
 use Rattle.pliron_bench.specs.declared.kind.BenchKind.TheVariants.{Mod, Func, Const, Add, Mul, Div, Read, Print, Pair, Sink, Scope, Box, Br, Cbr, Ret, Fork}
-use Rattle.pliron_laws.specs.Datum.{Datum, Empty, Number, Text, Join, datum_of, Head, Shape, Move, Give, Visit, Goto, Leave, Emit, Trap, Meaning}
-use Rattle.pliron_bench.specs.Bench.{by_kind, kind_of, takes, first_attribute, first_edge_count}
-use Rattle.pliron_bench.specs.BenchNumbers.{datum_at, number_at, is_zero, sum, product, quotient}
+use Rattle.pliron_laws.specs.Datum.{Datum, Empty, Number, Text, Join, Head, Shape, Move, Give, Visit, Goto, Leave, Emit, Meaning}
+use Rattle.pliron_roles.specs.declared.form.Counting.TheVariants.{OfFirst}
+use Rattle.pliron_roles.specs.declared.form.Otherwise.TheVariants.{Never, Traps}
+use Rattle.pliron_roles.specs.declared.identity.Identity.{Identity}
+use Rattle.pliron_roles.specs.Identities.{no_identity}
+use Rattle.pliron_roles.specs.Roles.{Interpretation, Allows, Role, Constant, Folds, Opaque, Jumps, Chooses, Leaves, Acts, Names, Forks, Holds, Tables, first_number, role_at, allows_at, meaning_by, shortened_by}
+use Rattle.pliron_bench.specs.Bench.{kind_of, number_of, takes, is_ssa, is_number}
+use Rattle.pliron_bench.specs.BenchNumbers.{is_zero, known_sum, known_product, known_quotient, of_both}
+
+-- ---- moves of its own
 
 -- the memo after an invocation or an effect
 abbrev pub memo_when_done : Datum
@@ -37,115 +43,107 @@ read_word = Text (114 ∷ 101 ∷ 97 ∷ 100 ∷ [])
 abbrev pub print_word : Datum
 print_word = Text (112 ∷ 114 ∷ 105 ∷ 110 ∷ 116 ∷ [])
 
-abbrev pub give_or_trap : Option ℤ → Move
-give_or_trap None = Trap
-give_or_trap (Some n) = Give (Number n ∷ [])
+-- the datum at this place, where a missing one counts as 0
+abbrev pub datum_at : List Datum → ℕ → Datum
+datum_at ds i = slice_index_or ds i (Number (pos 0))
 
--- the edge that is taken: the second one where the condition is 0
+-- the edge that is taken: the second one where the condition is 0, brought into 64 signed bits
 abbrev pub edge_of : ℤ → ℕ
 edge_of c = if is_zero c then 1 else 0
 
--- of the values behind the condition, the first n go along the first edge
-abbrev pub edge_values : {A : Type 0} → ℕ → ℕ → List A → List A
-edge_values n zero ds = take n ds
-edge_values n (suc i) ds = drop n ds
+abbrev pub edge_taken : List Datum → ℕ
+edge_taken input = edge_of (int_wrap w64 (first_number input))
 
 -- how many arguments the target of this edge has
 abbrev pub argument_count : Option (List ℕ) → ℕ → ℕ
 argument_count None i = 0
 argument_count (Some counts) i = slice_index_or counts i 0
 
--- the transition of an operation of the kind with this memo on this input
-abbrev pub act_of : BenchKind → Shape → Datum → List Datum → Move
-act_of Mod s memo input = Give []
-act_of Func s memo input = visit_once memo s.entry_arguments input (Leave input)
-act_of Const s memo input = Give (datum_of (first_attribute s.head.attrs) ∷ [])
-act_of Add s memo input = Give (Number (sum (number_at input 0) (number_at input 1)) ∷ [])
-act_of Mul s memo input = Give (Number (product (number_at input 0) (number_at input 1)) ∷ [])
-act_of Div s memo input = give_or_trap (quotient (number_at input 0) (number_at input 1))
-act_of Read s memo input = once memo (Emit read_word memo_when_done) (Give (datum_at input 0 ∷ []))
-act_of Print s memo input = once memo (Emit (Join print_word (datum_at input 0)) memo_when_done) (Give [])
-act_of Pair s memo input = Give (Number (pos 1) ∷ Number (pos 2) ∷ [])
-act_of Sink s memo input = Give []
-act_of Scope s memo input = visit_once memo s.entry_arguments input (Give [])
-act_of Box s memo input = Give []
-act_of Br s memo input = Goto 0 input
-act_of Cbr s memo input = Goto (edge_of (number_at input 0)) (edge_values (first_edge_count s.head.attrs) (edge_of (number_at input 0)) (drop 1 input))
-act_of Ret s memo input = Leave input
-act_of Fork s memo input = Goto (edge_of (number_at input 0)) (replicate (argument_count s.target_arguments (edge_of (number_at input 0))) (datum_at input 0))
+abbrev pub func_act : Shape → Datum → List Datum → Move
+func_act s memo input = visit_once memo s.entry_arguments input (Leave input)
 
--- what no kind has does nothing but trap
-abbrev pub no_act : Shape → Datum → List Datum → Move
-no_act s memo input = Trap
+abbrev pub scope_act : Shape → Datum → List Datum → Move
+scope_act s memo input = visit_once memo s.entry_arguments input (Give [])
 
--- the terminators, and the branches among them
-abbrev pub ends_block : BenchKind → Bool
-ends_block Br = true
-ends_block Cbr = true
-ends_block Ret = true
-ends_block Fork = true
-ends_block _ = false
+abbrev pub read_act : Shape → Datum → List Datum → Move
+read_act s memo input = once memo (Emit read_word memo_when_done) (Give (datum_at input 0 ∷ []))
 
-abbrev pub branches : BenchKind → Bool
-branches Br = true
-branches Cbr = true
-branches _ = false
+abbrev pub print_act : Shape → Datum → List Datum → Move
+print_act s memo input = once memo (Emit (Join print_word (datum_at input 0)) memo_when_done) (Give [])
 
--- what invokes its region with its operands
-abbrev pub passes_operands : BenchKind → Bool
-passes_operands Scope = true
-passes_operands _ = false
+abbrev pub fork_act : Shape → Datum → List Datum → Move
+fork_act s memo input = Goto (edge_taken input) (replicate (argument_count s.target_arguments (edge_taken input)) (datum_at input 0))
 
--- the places of the operands that an edge forwards: a `br` all of them; of those of a `cbr` behind the
--- condition, the first edge the first n, as far as there are so many, and the second one the others
-abbrev pub br_places : ℕ → ℕ → List ℕ
-br_places operands zero = range_with_len 0 operands
-br_places operands (suc i) = []
+-- ---- what else the tables say
 
-abbrev pub cbr_places : ℕ → ℕ → ℕ → List ℕ
-cbr_places n operands zero = range_with_len 1 n
-cbr_places n operands (suc zero) = range_with_len (suc n) (operands - suc n)
-cbr_places n operands (suc (suc i)) = []
+-- a factor that is 0 is the product; a dividend that is 0 is the quotient, if there is one, and so is 1 where both
+-- operands are the same value
+abbrev pub product_identity : Head → Identity
+product_identity h = record no_identity { annihilator = Some (record { operand = pos 0; either_side = true }) }
 
-abbrev pub places_of_cbr : List AttrObj → ℕ → ℕ → List ℕ
-places_of_cbr attrs operands i = cbr_places (min (first_edge_count attrs) (operands - 1)) operands i
+abbrev pub quotient_identity : Head → Identity
+quotient_identity h = record no_identity { equal = Some (pos 1); annihilator = Some (record { operand = pos 0; either_side = false }) }
 
--- by the attributes, how many operands there are, and the edge
-abbrev pub places_in : BenchKind → List AttrObj → ℕ → ℕ → List ℕ
-places_in Br attrs operands i = br_places operands i
-places_in Cbr attrs operands i = places_of_cbr attrs operands i
-places_in _ attrs operands i = []
+abbrev pub nothing_else : Head → Identity
+nothing_else h = no_identity
 
-abbrev pub no_places_in : List AttrObj → ℕ → ℕ → List ℕ
-no_places_in attrs operands i = []
+-- the edge that a `cbr` takes by its condition
+abbrev pub cbr_edge : ℕ → List AttrObj → ℤ → Option ℕ
+cbr_edge kind rest c = Some (edge_of (int_wrap w64 c))
 
-abbrev pub places_of : BenchKind → Shape → ℕ → List ℕ
-places_of k s i = places_in k s.head.attrs s.operands i
+-- an invocation passes as each argument the operand of its index, where there is one among so many
+abbrev pub operand_of_index : ℕ → ℕ → ℕ → Option ℕ
+operand_of_index operands i j = if nat_lt j operands then Some j else None
 
-abbrev pub no_places : Shape → ℕ → List ℕ
-no_places s i = []
+-- what a `pair` gives
+abbrev pub bench_value : Interpretation
+bench_value h ds = Number (pos 1) ∷ Number (pos 2) ∷ []
 
-unfoldable pub bench : Meaning
-bench = record {
-  act = λ s memo input. by_kind no_act act_of (kind_of s.head.kind) s memo input;
-  admits = λ h a b c d. by_kind false (takes h a b c d) (kind_of h.kind);
-  may_be_root = λ h. not (by_kind false passes_operands (kind_of h.kind));
-  is_terminator = λ h. by_kind false ends_block (kind_of h.kind);
-  is_branch = λ h. by_kind false branches (kind_of h.kind);
-  forwarded = λ s i. by_kind no_places places_of (kind_of s.head.kind) s i;
+-- ---- the tables
+
+abbrev pub bench_role : BenchKind → Role
+bench_role Mod = Holds false
+bench_role Func = Acts false func_act
+bench_role Const = Constant
+bench_role Add = Folds 2 (of_both known_sum) nothing_else Never
+bench_role Mul = Folds 2 (of_both known_product) product_identity Never
+bench_role Div = Folds 2 (of_both known_quotient) quotient_identity Traps
+bench_role Read = Acts true read_act
+bench_role Print = Acts true print_act
+bench_role Pair = Opaque
+bench_role Sink = Opaque
+bench_role Scope = Names scope_act operand_of_index
+bench_role Box = Holds true
+bench_role Br = Jumps
+bench_role Cbr = Chooses OfFirst cbr_edge
+bench_role Ret = Leaves
+bench_role Fork = Forks false fork_act
+
+abbrev pub bench_allows : BenchKind → Allows
+bench_allows k h a b c d = takes h a b c d k
+
+-- `verify` asks of a `cbr` that its edges fit
+abbrev pub is_cbr : BenchKind → Bool
+is_cbr Cbr = true
+is_cbr _ = false
+
+abbrev pub bench_tables : Tables BenchKind
+bench_tables = record {
+  role_of = bench_role;
+  number_of = number_of;
+  kind_of = kind_of;
+  constant = Const;
+  jump = Br;
+  value = bench_value;
+  allows = bench_allows;
+  is_ssa = is_ssa;
+  accepts = is_number;
+  checks_edges = is_cbr;
 }
 
+abbrev pub bench : Meaning
+bench = meaning_by bench_value (role_at bench_tables) (allows_at bench_tables)
+
 -- a `cbr` that lost a value of its first edge counts one fewer there
-abbrev pub cbr_shortened : Head → ℕ → Head
-cbr_shortened h zero = record h { attrs = slice_set h.attrs 0 (Int (pos (first_edge_count h.attrs - 1))) }
-cbr_shortened h (suc i) = h
-
-abbrev pub shortened_of : BenchKind → Head → ℕ → Head
-shortened_of Cbr h i = cbr_shortened h i
-shortened_of _ h i = h
-
-abbrev pub as_it_is : Head → ℕ → Head
-as_it_is h i = h
-
-unfoldable pub bench_shortened : Shape → ℕ → ℕ → Head
-bench_shortened s i j = by_kind as_it_is shortened_of (kind_of s.head.kind) s.head i
+abbrev pub bench_shortened : Shape → ℕ → ℕ → Head
+bench_shortened = shortened_by (role_at bench_tables)

@@ -1,22 +1,7 @@
--- Data as numbers of 64 signed bits, and what is known of sums, products and quotients.
-use Rattle.std.specs.Prelude.{ℕ, zero, suc, ◌^◌, nat_lt, if◌then◌else◌, Bool, true, false, List, Option, Some, None, slice_index_or, ℤ, pos, negsuc, ◌+ℤ◌, ◌*ℤ◌, int_div}
+-- Numbers of 64 signed bits, and what is known of sums, products and quotients.
+use Rattle.std.specs.Prelude.{ℕ, zero, suc, ◌^◌, nat_lt, if◌then◌else◌, Bool, true, false, List, Option, Some, None, option_map, slice_index_or, ℤ, pos, negsuc, ◌+ℤ◌, ◌*ℤ◌, int_div}
 use Rattle.std.specs.Int.{w64, int_wrap}
-use Rattle.pliron_core.specs.declared.attrs.AttrObj.{AttrObj}
-use Rattle.pliron_laws.specs.Datum.{Datum, Empty, Number, Text, Join, datum_of}
-
--- a datum as a number: a whole number is brought into 64 signed bits, all else counts as 0
-abbrev pub as_number : Datum → ℤ
-as_number (Number n) = int_wrap w64 n
-as_number Empty = pos 0
-as_number (Text s) = pos 0
-as_number (Join a b) = pos 0
-
--- the datum at this place, where a missing one counts as 0
-abbrev pub datum_at : List Datum → ℕ → Datum
-datum_at ds i = slice_index_or ds i (Number (pos 0))
-
-abbrev pub number_at : List Datum → ℕ → ℤ
-number_at ds i = as_number (datum_at ds i)
+use Rattle.pliron_core.specs.declared.attrs.Head.{Head}
 
 -- whether the number lies within 64 signed bits
 abbrev pub fits : ℤ → Bool
@@ -39,14 +24,6 @@ product a b = int_wrap w64 (a *ℤ b)
 abbrev pub quotient : ℤ → ℤ → Option ℤ
 quotient a b = if is_zero b then None else if fits (int_div a b) then Some (int_div a b) else None
 
--- the number that is known of an operand
-abbrev pub known_as : Option AttrObj → Option ℤ
-known_as None = None
-known_as (Some a) = Some (as_number (datum_of a))
-
-abbrev pub known_at : List (Option AttrObj) → ℕ → Option ℤ
-known_at known i = known_as (slice_index_or known i None)
-
 -- what is known of a sum, a product or a quotient; of a product one factor that is 0 suffices
 abbrev pub known_sum : Option ℤ → Option ℤ → Option ℤ
 known_sum (Some a) (Some b) = Some (sum a b)
@@ -65,3 +42,11 @@ known_product None None = None
 abbrev pub known_quotient : Option ℤ → Option ℤ → Option ℤ
 known_quotient (Some a) (Some b) = quotient a b
 known_quotient _ _ = None
+
+-- the number that is known at this place, brought into 64 signed bits
+abbrev pub known_at : List (Option ℤ) → ℕ → Option ℤ
+known_at known i = option_map (int_wrap w64) (slice_index_or known i None)
+
+-- what a table says of what is known of the first two numbers
+abbrev pub of_both : (Option ℤ → Option ℤ → Option ℤ) → Head → List (Option ℤ) → Option ℤ
+of_both table h known = table (known_at known 0) (known_at known 1)

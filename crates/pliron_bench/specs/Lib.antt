@@ -2,13 +2,7 @@ pub mod BenchNumbers
 pub mod Bench
 pub mod BenchMoves
 pub mod BenchAnswers
-pub mod BenchOutcomes
-pub mod BenchParts
+pub mod BenchFacts
+pub mod BenchTaken
+pub mod BenchFits
 pub mod BenchLaws
-pub mod BenchEntries
-pub mod BenchFolds
-pub mod BenchBranches
-pub mod BenchRemoval
-pub mod BenchInPlace
-pub mod BenchOperandFolds
-pub mod BenchOperandLaws

@@ -2,8 +2,7 @@
 ghost use Rattle.pliron_laws.specs.Folding.{FoldsMonotonely};
 ghost use Rattle.pliron_laws.specs.InPlace.{IsSingle};
 ghost use Rattle.pliron_bench.specs.BenchMoves.{bench};
-ghost use Rattle.pliron_bench.specs.BenchAnswers.{bench_folds, bench_folds_branch, bench_constants, bench_feasible};
-ghost use Rattle.pliron_bench.specs.BenchOutcomes.{bench_outcome, bench_branch_outcome};
+ghost use Rattle.pliron_bench.specs.BenchAnswers.{bench_folds, bench_folds_branch, bench_constants, bench_feasible, bench_outcome, bench_branch_outcome};
 
 /// Knowing more operands keeps each constant that folding answers, and adds no block that a branch may
 /// go to.

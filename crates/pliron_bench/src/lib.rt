@@ -5,16 +5,12 @@
 #![tactic(auto)]
 
 mod dialect;
-mod folds;
 pub mod heads;
 pub mod jumps;
 mod kind;
 pub mod laws;
 pub mod numbers;
-mod operand_folds;
-mod replace;
 pub mod tables;
-mod verify;
 
 pub use dialect::Bench;
 pub use kind::BenchKind;

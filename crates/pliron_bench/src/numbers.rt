@@ -1,9 +1,8 @@
 //! Attributes as numbers of 64 signed bits.
 ghost use Rattle.std.specs.Prelude.{◌≡◌, ◌-◌};
 ghost use Rattle.std.specs.Int.{w64, int_wrap};
-ghost use Rattle.pliron_laws.specs.Datum.{datum_of};
 ghost use Rattle.pliron_bench.specs.Bench.{is_number as is_number_within};
-ghost use Rattle.pliron_bench.specs.BenchNumbers.{as_number as number_in, fits as is_within, known_at, sum as sum_of, product as product_of, known_sum as sum_known, known_product as product_known, zero_only as zero_of, known_quotient as quotient_known, quotient as quotient_in};
+ghost use Rattle.pliron_bench.specs.BenchNumbers.{fits as is_within, known_at, sum as sum_of, product as product_of, known_sum as sum_known, known_product as product_known, zero_only as zero_of, known_quotient as quotient_known, quotient as quotient_in};
 ghost use Rattle.pliron_bench.specs.BenchMoves.{edge_of as edge_in};
 
 use pliron_core::AttrObj;
@@ -25,17 +24,6 @@ fn fits(number: i128) -> bool
     -9_223_372_036_854_775_808 <= number && number <= 9_223_372_036_854_775_807
 }
 
-// The attribute's datum as a number.
-#[inline(always)]
-fn as_number(attr: &AttrObj) -> i64
-    ensures { result ≡ number_in (datum_of attr.now) }
-{
-    match attr {
-        AttrObj::Int(number) => wrap(*number),
-        AttrObj::Text(_) => 0,
-    }
-}
-
 /// Whether the attribute is a number within 64 signed bits. Cost: constant.
 #[inline(always)]
 pub fn is_number(attr: &AttrObj) -> bool
@@ -47,16 +35,16 @@ pub fn is_number(attr: &AttrObj) -> bool
     }
 }
 
-/// The number that is known of the operand at this index. Cost: constant.
+/// The number that is known at this index, brought into 64 signed bits. Cost: constant.
 #[inline(always)]
-pub fn known_number(operand_attrs: &[Option<AttrObj>], i: usize) -> Option<i64>
-    ensures { result ≡ known_at operand_attrs.now i }
+pub fn known_number(numbers: &[Option<i128>], i: usize) -> Option<i64>
+    ensures { result ≡ known_at numbers.now i }
 {
-    if i >= operand_attrs.len() {
+    if i >= numbers.len() {
         return None;
     }
-    match &operand_attrs[i] {
-        Some(attr) => Some(as_number(attr)),
+    match numbers[i] {
+        Some(number) => Some(wrap(number)),
         None => None,
     }
 }

@@ -1,15 +1,17 @@
-//! What each kind says: a table is one call.
-ghost use Rattle.std.specs.Prelude.{◌≡◌, ℕ, Some};
-ghost use Rattle.pliron_core.specs.Tree.{IsLive, IsBlock, block_parent_of};
-ghost use Rattle.pliron_laws.specs.Answers.{ReadsHead, is_entry};
-ghost use Rattle.pliron_bench.specs.Bench.{kind_of, takes_operands as operands_taken, takes_attributes as attributes_taken, has_none, has_number as is_one_number, has_count as is_one_count, is_count, takes as takes_all};
-ghost use Rattle.pliron_bench.specs.BenchMoves.{ends_block as is_ending, branches as is_branching, passes_operands as is_passing};
-ghost use Rattle.pliron_bench.specs.BenchAnswers.{effects_of, removable_of, folds_of, folds_branch_of, interface_of, entry_operand_of};
+//! The tables of the dialect.
+ghost use Rattle.std.specs.Prelude.{◌≡◌};
+ghost use Rattle.pliron_core.specs.Tree.{IsLive};
+ghost use Rattle.pliron_laws.specs.Answers.{ReadsHead};
+ghost use Rattle.pliron_bench.specs.Bench.{kind_of, takes_operands as operands_taken, takes_attributes as attributes_taken, has_number as is_one_number, has_count as is_one_count, is_count};
+ghost use Rattle.pliron_bench.specs.BenchMoves.{bench_tables};
+ghost use Rattle.pliron_bench.specs.BenchFits.{keeps_bench};
 
 use crate::kind::BenchKind;
-use crate::numbers::is_number;
-use pliron_core::{AttrObj, Attrs, BasicBlock, Context, Head, Operation, Ptr};
-use pliron_laws::Interface;
+use crate::numbers::{
+    edge_of, is_number, known_number, known_product, known_quotient, known_sum, wrap,
+};
+use pliron_core::{AttrObj, Attrs, Context, Head, Operation, Ptr};
+use pliron_roles::{Annihilator, Counting, Form, Identity, Otherwise, Roles};
 
 /// The kind of the operation, if it is one of this dialect. Asks that the operation is live (`is_live` tests
 /// it). Cost: constant.
@@ -18,20 +20,6 @@ pub fn kind_at(op: Ptr<Operation>, ctx: &Context) -> Option<BenchKind>
     ensures { ReadsHead (λ h. kind_of h.kind) ctx.now.tree op result }
 {
     BenchKind::from_number(op.head(ctx).kind)
-}
-
-// Whether the block is the entry of its region.
-pub(super) fn begins_region(ctx: &Context, block: Ptr<BasicBlock>) -> bool
-    requires { IsBlock ctx.now.tree block }
-    ensures { (r : ℕ) → block_parent_of ctx.now.tree block ≡ Some r → result ≡ is_entry ctx.now.tree r block }
-{
-    match block.get_parent_region(ctx) {
-        Some(region) => match region.get_head(ctx) {
-            Some(entry) => block == entry,
-            None => false,
-        },
-        None => false,
-    }
 }
 
 // Whether the one attribute is a number within 64 signed bits.
@@ -81,19 +69,128 @@ impl BenchKind {
             _ => attrs.is_empty(),
         }
     }
+}
 
-    // Whether the dialect has operations of the kind with this head and these counts.
-    pub(super) fn takes(
+// The number in more bits, where there is one.
+#[inline(always)]
+fn widen(number: Option<i64>) -> Option<i128>
+    ensures { result ≡ number }
+{
+    match number {
+        Some(number) => Some(number as i128),
+        None => None,
+    }
+}
+
+impl Roles for BenchKind {
+    ghost tables = { bench_tables };
+
+    #[inline(always)]
+    fn number(self) -> u32 {
+        BenchKind::number(self)
+    }
+
+    #[inline(always)]
+    fn from_number(number: u32) -> Option<Self> {
+        BenchKind::from_number(number)
+    }
+
+    fn constant() -> Self {
+        Self::Const
+    }
+
+    fn jump() -> Self {
+        Self::Br
+    }
+
+    /// | Kinds | Form |
+    /// |---|---|
+    /// | `mod`, `box` | hold a region that is never visited; a `mod` says nothing of side effects |
+    /// | `func`, `read`, `print` | act by tables of their own; a `func` says nothing of side effects |
+    /// | `add`, `mul`, `div` | fold two numbers; a `div` traps where there is no quotient |
+    /// | `pair`, `sink` | give what the interpretation says: 1 and 2, nothing |
+    /// | `scope` | names the operand of each argument's index |
+    /// | `cbr` | chooses, with the operands of the first edge counted |
+    /// | `fork` | forks by a table of its own, and says nothing of side effects |
+    #[inline(always)]
+    fn form(self) -> Form {
+        match self {
+            BenchKind::Mod => Form::Holds(false),
+            BenchKind::Func => Form::Acts(false),
+            BenchKind::Const => Form::Constant,
+            BenchKind::Add | BenchKind::Mul => Form::Folds(2, Otherwise::Never),
+            BenchKind::Div => Form::Folds(2, Otherwise::Traps),
+            BenchKind::Read | BenchKind::Print => Form::Acts(true),
+            BenchKind::Pair | BenchKind::Sink => Form::Opaque,
+            BenchKind::Scope => Form::Names,
+            BenchKind::Box => Form::Holds(true),
+            BenchKind::Br => Form::Jumps,
+            BenchKind::Cbr => Form::Chooses(Counting::OfFirst),
+            BenchKind::Ret => Form::Leaves,
+            BenchKind::Fork => Form::Forks(false),
+        }
+    }
+
+    /// The wrapped sum of two known numbers; the wrapped product, also where one of them is known to be 0; the
+    /// quotient, unless the division traps.
+    #[inline(always)]
+    fn fold_numbers(self, _head: &Head, numbers: &[Option<i128>]) -> Option<i128> {
+        let first = known_number(numbers, 0);
+        let second = known_number(numbers, 1);
+        match self {
+            BenchKind::Add => widen(known_sum(first, second)),
+            BenchKind::Mul => widen(known_product(first, second)),
+            BenchKind::Div => widen(known_quotient(first, second)),
+            _ => None,
+        }
+    }
+
+    /// Of a `mul` a factor that is 0; of a `div` a dividend that is 0, and 1 where both operands are the same value:
+    /// the `div` itself traps where that is 0, and gives nothing.
+    #[inline(always)]
+    fn identity(self, _head: &Head) -> Identity {
+        match self {
+            BenchKind::Mul => Identity {
+                annihilator: Some(Annihilator {
+                    operand: 0,
+                    either_side: true,
+                }),
+                ..Identity::none()
+            },
+            BenchKind::Div => Identity {
+                equal: Some(1),
+                annihilator: Some(Annihilator {
+                    operand: 0,
+                    either_side: false,
+                }),
+                ..Identity::none()
+            },
+            _ => Identity::none(),
+        }
+    }
+
+    fn picks(self, _number: i128) -> Option<bool> {
+        None
+    }
+
+    /// Of a `cbr` the second edge if the condition counts as 0, else the first one.
+    #[inline(always)]
+    fn choose_edge(self, _head: &Head, _edges: usize, number: i128) -> Option<usize> {
+        match self {
+            BenchKind::Cbr => Some(edge_of(wrap(number))),
+            _ => None,
+        }
+    }
+
+    fn allows(
         self,
         head: &Head,
         operands: usize,
         results: usize,
         successors: usize,
         regions: usize,
-    ) -> bool
-        ensures { result ≡ takes_all head.now operands results successors regions self }
-    {
-        head.ssa == self.is_ssa()
+    ) -> bool {
+        head.ssa == BenchKind::is_ssa(self)
             && self.takes_attributes(&head.attrs, operands)
             && self.takes_operands(operands)
             && results == self.result_count()
@@ -101,101 +198,29 @@ impl BenchKind {
             && regions == self.region_count()
     }
 
-    // Whether an operation of the kind ends a block.
-    pub(super) fn ends_block(self) -> bool
-        ensures { result ≡ is_ending self }
-    {
-        matches!(
-            self,
-            BenchKind::Br | BenchKind::Cbr | BenchKind::Ret | BenchKind::Fork
-        )
+    #[inline(always)]
+    fn is_ssa(self) -> bool {
+        BenchKind::is_ssa(self)
     }
 
-    // Whether an operation of the kind is a branch.
-    pub(super) fn branches(self) -> bool
-        ensures { result ≡ is_branching self }
-    {
-        matches!(self, BenchKind::Br | BenchKind::Cbr)
+    #[inline(always)]
+    fn accepts(attr: &AttrObj) -> bool {
+        is_number(attr)
     }
 
-    // Whether an operation of the kind has side effects, if it says so.
-    pub(super) fn side_effects(self) -> Option<bool>
-        ensures { result ≡ effects_of self }
-    {
+    /// Of a `scope` the operand with the index of the argument, where there is one.
+    #[inline(always)]
+    fn entry_operand(self, operands: usize, _region: usize, argument: usize) -> Option<usize> {
         match self {
-            BenchKind::Const => Some(false),
-            BenchKind::Add => Some(false),
-            BenchKind::Mul => Some(false),
-            BenchKind::Pair => Some(false),
-            BenchKind::Sink => Some(false),
-            BenchKind::Box => Some(false),
-            BenchKind::Div => Some(true),
-            BenchKind::Read => Some(true),
-            BenchKind::Print => Some(true),
-            BenchKind::Scope => Some(true),
+            BenchKind::Scope if argument < operands => Some(argument),
             _ => None,
         }
     }
 
-    // Whether arguments of an entry, of another block, may be removed, if the kind says so.
-    pub(super) fn removable(self, entry: bool) -> Option<bool>
-        ensures { result ≡ removable_of self entry }
-    {
-        match self {
-            BenchKind::Func => Some(!entry),
-            BenchKind::Scope => Some(!entry),
-            BenchKind::Box => Some(true),
-            _ => None,
-        }
-    }
-
-    // Whether an operation of the kind folds as a constant.
-    pub(super) fn folds(self) -> bool
-        ensures { result ≡ folds_of self }
-    {
-        matches!(
-            self,
-            BenchKind::Const | BenchKind::Add | BenchKind::Mul | BenchKind::Div
-        )
-    }
-
-    // Whether an operation of the kind folds as a branch.
-    pub(super) fn folds_branch(self) -> bool
-        ensures { result ≡ folds_branch_of self }
-    {
+    #[inline(always)]
+    fn checks_edges(self) -> bool {
         matches!(self, BenchKind::Cbr)
     }
 
-    // Whether an operation of the kind invokes its region with its operands.
-    pub(super) fn passes_operands(self) -> bool
-        ensures { result ≡ is_passing self }
-    {
-        matches!(self, BenchKind::Scope)
-    }
-
-    // The operand, of so many, that every invocation passes as the argument with this index.
-    pub(super) fn entry_operand(self, operands: usize, arg: usize) -> Option<usize>
-        ensures { result ≡ entry_operand_of self operands arg }
-    {
-        if self.passes_operands() && arg < operands {
-            Some(arg)
-        } else {
-            None
-        }
-    }
-
-    // Whether an operation of the kind implements the interface.
-    pub(super) fn implements(self, interface: Interface) -> bool
-        ensures { result ≡ interface_of interface self }
-    {
-        match interface {
-            Interface::SideEffects => self.side_effects().is_some(),
-            Interface::BlockArgRemoval => self.removable(true).is_some(),
-            Interface::ConstFold => self.folds(),
-            Interface::BranchFold => self.folds_branch(),
-            Interface::Branch => self.branches(),
-            Interface::Terminator => self.ends_block(),
-            Interface::RegionBranch => self.passes_operands(),
-        }
-    }
+    ghost keeps_tables = { keeps_bench };
 }

@@ -28,13 +28,10 @@ pub use Rattle.pliron_bench.specs.Bench
 pub use Rattle.pliron_bench.specs.BenchMoves
 pub use Rattle.pliron_bench.specs.BenchAnswers
 pub use Rattle.pliron_laws.specs.OutcomeLaws
-pub use Rattle.pliron_bench.specs.BenchOutcomes
-pub use Rattle.pliron_bench.specs.BenchParts
+pub use Rattle.pliron_bench.specs.BenchFacts
+pub use Rattle.pliron_bench.specs.BenchTaken
+pub use Rattle.pliron_bench.specs.BenchFits
 pub use Rattle.pliron_bench.specs.BenchLaws
-pub use Rattle.pliron_bench.specs.BenchFolds
-pub use Rattle.pliron_bench.specs.BenchBranches
-pub use Rattle.pliron_bench.specs.BenchRemoval
-pub use Rattle.pliron_bench.specs.BenchInPlace
 pub use Rattle.pliron_notation.specs.Notation
 pub use Rattle.pliron_notation.specs.Building
 pub use Rattle.pliron_notation.specs.Laid

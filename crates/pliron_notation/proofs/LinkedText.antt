@@ -11,8 +11,9 @@ use Rattle.pliron_bench.specs.declared.kind.BenchKind.TheVariants.{Mod, Func, Co
 use Rattle.pliron_notation.specs.declared.build.Built.{Built}
 use Rattle.pliron_notation.specs.declared.syntax.OperationText.{OperationText}
 use Rattle.pliron_notation.specs.declared.syntax.Syntax.{Syntax}
-use Rattle.pliron_bench.specs.Bench.{takes, by_kind, kind_of, head_with, number_of, plain_head, result_count, region_count}
+use Rattle.pliron_bench.specs.Bench.{head_with, number_of, plain_head, result_count, region_count}
 use Rattle.pliron_bench.specs.BenchMoves.{bench}
+use Rattle.pliron_bench.specs.BenchTaken.{admitted}
 use Rattle.pliron_laws.specs.Linked.{EndsBlock, EdgesLast, IsWellLinked}
 use Rattle.pliron_bench.specs.Bench.{IsTopKind}
 use Rattle.pliron_notation.specs.Notation.{IsUpToLast, IsSoundSyntax}
@@ -33,26 +34,7 @@ not_after None n m o q h g some lt = absurd h
 not_after (Some last) n m o q h g some lt = let e = h.1 some in let le = g.0 in omega (arith, e, le, lt)
 
 abbrev admits : Head → (operands results successors regions : ℕ) → Bool
-admits h a b c d = by_kind false (takes h a b c d) (kind_of h.kind)
-
-kind_back : (kind : BenchKind) → kind_of (number_of kind) ≡ Some kind
-unfolding kind_of
-kind_back Mod = refl
-kind_back Func = refl
-kind_back Const = refl
-kind_back Add = refl
-kind_back Mul = refl
-kind_back Div = refl
-kind_back Read = refl
-kind_back Print = refl
-kind_back Pair = refl
-kind_back Sink = refl
-kind_back Scope = refl
-kind_back Box = refl
-kind_back Br = refl
-kind_back Cbr = refl
-kind_back Ret = refl
-kind_back Fork = refl
+admits h a b c d = bench.admits h a b c d
 
 number_kept : (kind : BenchKind) (n first_edge : ℤ) → (head_with kind n first_edge).kind ≡ number_of kind
 number_kept Mod n f = refl
@@ -72,16 +54,12 @@ number_kept Cbr n f = refl
 number_kept Ret n f = refl
 number_kept Fork n f = refl
 
--- what the table of its kind takes is admitted
-taken_admitted : (kind : BenchKind) (h : Head) (a b c d : ℕ) → h.kind ≡ number_of kind → IsTrue (takes h a b c d kind) → IsTrue (admits h a b c d)
-taken_admitted kind h a b c d e is = subst (λ z. IsTrue (by_kind false (takes h a b c d) z)) (sym (ap kind_of e ∙ kind_back kind)) is
-
 admits_same : (h g : Head) (a b c d a' b' c' d' : ℕ) → h ≡ g → a ≡ a' → b ≡ b' → c ≡ c' → d ≡ d' → IsTrue (admits g a' b' c' d') → IsTrue (admits h a b c d)
 admits_same h g a b c d a' b' c' d' eh ea eb ec ed is = subst IsTrue (sym (ap (λ z. admits z a b c d) eh ∙ ap (λ z. admits g z b c d) ea ∙ ap (λ z. admits g a' z c d) eb ∙ ap (λ z. admits g a' b' z d) ec ∙ ap (λ z. admits g a' b' c' z) ed)) is
 
 whole_admitted : (kind : BenchKind) → IsTopKind kind → IsTrue (admits (plain_head kind) 0 0 0 1)
-whole_admitted kind (inl e) = subst (λ z. IsTrue (admits (plain_head z) 0 0 0 1)) (sym e) (taken_admitted Mod (plain_head Mod) 0 0 0 1 refl refl)
-whole_admitted kind (inr e) = subst (λ z. IsTrue (admits (plain_head z) 0 0 0 1)) (sym e) (taken_admitted Func (plain_head Func) 0 0 0 1 refl refl)
+whole_admitted kind (inl e) = subst (λ z. IsTrue (admits (plain_head z) 0 0 0 1)) (sym e) (admitted Mod (plain_head Mod) 0 0 0 1 refl refl)
+whole_admitted kind (inr e) = subst (λ z. IsTrue (admits (plain_head z) 0 0 0 1)) (sym e) (admitted Func (plain_head Func) 0 0 0 1 refl refl)
 
 module _ (s : Syntax) (t u : Tree) (root : ℕ) (wt : IsTree t) (wu : IsTree u) (g : IsGrown t u root) (sound : IsSoundSyntax s) (built : Built) (all : HasAllMade s built) (l : IsLaid s root (length t.bodies) (length s.operations.items) u built) where
   abbrev base : ℕ
@@ -129,7 +107,7 @@ module _ (s : Syntax) (t u : Tree) (root : ℕ) (wt : IsTree t) (wu : IsTree u) 
       subst (λ z. (h : Head) → head_of u z ≡ Some h → IsTrue (admits h (length (operands_of u z)) (length (results_of u z)) (length (successors_of u z)) (length (regions_of u z)))) (sym e)
       (λ h f. admits_same h (head_with o.kind o.number (pos o.first_edge)) (length (operands_of u j)) (length (results_of u j)) (length (successors_of u j)) (length (regions_of u j)) (length o.operands.items) (result_count o.kind) (length o.successors.items) (region_count o.kind)
       (some_is (sym f ∙ made.head)) used.operand_count made.results used.successor_count made.regions
-      (taken_admitted o.kind (head_with o.kind o.number (pos o.first_edge)) (length o.operands.items) (result_count o.kind) (length o.successors.items) (region_count o.kind) (number_kept o.kind o.number (pos o.first_edge)) (sound.operations n o at).admitted))
+      (admitted o.kind (head_with o.kind o.number (pos o.first_edge)) (length o.operands.items) (result_count o.kind) (length o.successors.items) (region_count o.kind) (number_kept o.kind o.number (pos o.first_edge)) (sound.operations n o at).admitted))
 
   all_admitted : (k : ℕ) → IsWithin u root k → (h : Head) → head_of u k ≡ Some h → IsTrue (admits h (length (operands_of u k)) (length (results_of u k)) (length (successors_of u k)) (length (regions_of u k)))
   all_admitted k within h e = ⊎_elim
@@ -180,7 +158,6 @@ module _ (s : Syntax) (t u : Tree) (root : ℕ) (wt : IsTree t) (wu : IsTree u) 
   all_edges k x i (inr held) = within_ends k x i ((contained t u root wt wu g).blocks k x i held)
 
   linked : IsWellLinked bench u root
-  unfolding bench
   linked = record { edges = all_edges; admitted = all_admitted }
 
 -- a text that is sound and all laid is well linked

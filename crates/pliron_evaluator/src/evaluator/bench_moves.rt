@@ -1,18 +1,22 @@
 //! The moves of `Bench`.
-ghost use Rattle.std.specs.Prelude.{◌≡◌, [], ◌∷◌, pos, Some, map, drop, replicate, slice_index_or, IfOk};
+ghost use Rattle.std.specs.Prelude.{◌≡◌, ◌-◌, ◌<◌, [], ◌∷◌, pos, Some, map, take, drop, replicate, slice_index_or, IfOk};
+ghost use Rattle.std.specs.Int.{w64, int_wrap};
 ghost use Rattle.pliron_core.specs.Tree.{IsLive, successors_of};
 ghost use Rattle.pliron_laws.specs.Tree.{Operation as OperationRecord, op_at, shape_of, block_at, count_arguments};
 ghost use Rattle.pliron_laws.specs.Datum.{Number as NumberOf, Text as TextOf, Give, Visit, Goto, Leave, Emit, Join as JoinOf, datum_of as content_of};
 ghost use Rattle.pliron_laws.specs.Answers.{ReadsHead};
-ghost use Rattle.pliron_bench.specs.Bench.{kind_of, first_attribute, first_edge_count as first_count_of};
-ghost use Rattle.pliron_bench.specs.BenchNumbers.{datum_at, as_number, number_at, sum as sum_of, product as product_of, quotient as quotient_of};
-ghost use Rattle.pliron_bench.specs.BenchMoves.{bench, act_of, memo_when_done, once, fit_data, read_word, print_word, give_or_trap, edge_of as edge_in, edge_values};
+ghost use Rattle.pliron_roles.specs.Counted.{first_edge_count as first_count_of, two_counts, values_of_edge};
+ghost use Rattle.pliron_roles.specs.Roles.{act_of, numbers_of, number_of as number_in, first_number as first_number_in, first_attribute, fit_data as fit_or_empty_of, give_or_trap};
+ghost use Rattle.pliron_bench.specs.Bench.{kind_of};
+ghost use Rattle.pliron_bench.specs.BenchNumbers.{known_at as known_of, known_sum as known_sum_of, known_product as known_product_of, known_quotient as known_quotient_of};
+ghost use Rattle.pliron_bench.specs.BenchMoves.{bench, bench_role, bench_value, datum_at, memo_when_done, once, fit_data, read_word, print_word, edge_taken as edge_taken_by};
 ghost use Rattle.pliron_evaluator.specs.Evaluator.{datum_of_value, move_of};
 
 use crate::evaluator::shapes::{num_entry_argument, num_target_argument};
+use crate::evaluator::tiny_moves::fit_data as fit_or_empty;
 use crate::evaluator::values::{Datum, Evaluate, Move, all_copies, one};
 use pliron_bench::jumps::first_edge_count;
-use pliron_bench::numbers::{edge_of, product, quotient, sum, wrap};
+use pliron_bench::numbers::{edge_of, known_product, known_quotient, known_sum, wrap};
 use pliron_bench::tables::kind_at;
 use pliron_bench::{Bench, BenchKind};
 use pliron_core::{Attrs, Context, Operation, Ptr, Text};
@@ -29,25 +33,51 @@ fn datum_at(alloc: Global, input: &[Datum], i: usize) -> Result<Datum, AllocErro
     }
 }
 
-// The datum as a number of 64 signed bits.
-fn as_number(datum: &Datum) -> i64
-    ensures { result ≡ as_number (datum_of_value datum.now) }
+// The datum as a number, by default 0.
+fn number_of(datum: &Datum) -> i128
+    ensures { result ≡ number_in (datum_of_value datum.now) }
 {
     match datum {
-        Datum::Number(number) => wrap(*number),
+        Datum::Number(number) => *number,
         _ => 0,
     }
 }
 
-// The number at this index, where a missing one counts as 0.
-fn number_at(input: &[Datum], i: usize) -> i64
-    ensures { result ≡ number_at (map datum_of_value input.now) i }
+// What is left of the datum as a number in 64 signed bits.
+fn narrow_number(datum: &Datum) -> i64
+    ensures { result ≡ int_wrap w64 (number_in (datum_of_value datum.now)) }
+{
+    wrap(number_of(datum))
+}
+
+// The number of the datum at this index, where there is one, brought into 64 signed bits.
+fn known_at(input: &[Datum], i: usize) -> Option<i64>
+    ensures { result ≡ known_of (map Some (numbers_of (map datum_of_value input.now))) i }
 {
     if i < input.len() {
-        as_number(&input[i])
+        Some(narrow_number(&input[i]))
     } else {
-        0
+        None
     }
+}
+
+// The first of the data as a number, by default 0.
+fn first_number(input: &[Datum]) -> i128
+    ensures { result ≡ first_number_in (map datum_of_value input.now) }
+{
+    if input.is_empty() {
+        0
+    } else {
+        number_of(&input[0])
+    }
+}
+
+// The edge that is taken on this input.
+fn edge_taken(input: &[Datum]) -> usize
+    ensures edge { result ≡ edge_taken_by (map datum_of_value input.now) }
+    ensures within { result < 2 }
+{
+    edge_of(wrap(first_number(input)))
 }
 
 // The number alone.
@@ -166,67 +196,102 @@ fn const_move(alloc: Global, attrs: &Attrs) -> Result<Move, AllocError>
     Ok(Move::Give(one(alloc, datum)?))
 }
 
-fn add_move(alloc: Global, input: &[Datum]) -> Result<Move, AllocError>
-    ensures { IfOk result (λ next. move_of next ≡ Give (NumberOf (sum_of (number_at (map datum_of_value input.now) 0)
-        (number_at (map datum_of_value input.now) 1)) ∷ [])) }
+// What is computed, or a trap.
+fn give_or_trap(alloc: Global, number: Option<i64>) -> Result<Move, AllocError>
+    ensures { IfOk result (λ next. move_of next ≡ give_or_trap number) }
 {
-    let number = sum(number_at(input, 0), number_at(input, 1));
-    Ok(Move::Give(one_number(alloc, number)?))
-}
-
-fn mul_move(alloc: Global, input: &[Datum]) -> Result<Move, AllocError>
-    ensures { IfOk result (λ next. move_of next ≡ Give
-        (NumberOf (product_of (number_at (map datum_of_value input.now) 0) (number_at (map datum_of_value input.now) 1))
-        ∷ [])) }
-{
-    let number = product(number_at(input, 0), number_at(input, 1));
-    Ok(Move::Give(one_number(alloc, number)?))
-}
-
-fn div_move(alloc: Global, input: &[Datum]) -> Result<Move, AllocError>
-    ensures { IfOk result (λ next. move_of next ≡ give_or_trap (quotient_of (number_at (map datum_of_value input.now) 0)
-        (number_at (map datum_of_value input.now) 1))) }
-{
-    match quotient(number_at(input, 0), number_at(input, 1)) {
+    match number {
         Some(number) => Ok(Move::Give(one_number(alloc, number)?)),
         None => Ok(Move::Trap),
     }
 }
 
-fn pair_move(alloc: Global) -> Result<Move, AllocError>
-    ensures { IfOk result (λ next. move_of next ≡ Give (NumberOf (pos 1) ∷ NumberOf (pos 2) ∷ [])) }
+fn add_move(alloc: Global, input: &[Datum]) -> Result<Move, AllocError>
+    ensures { IfOk result (λ next. move_of next ≡ give_or_trap (known_sum_of
+        (known_of (map Some (numbers_of (map datum_of_value input.now))) 0)
+        (known_of (map Some (numbers_of (map datum_of_value input.now))) 1))) }
 {
-    let mut values = one(alloc, Datum::Number(1))?;
-    values.push(Datum::Number(2))?;
-    Ok(Move::Give(values))
+    give_or_trap(alloc, known_sum(known_at(input, 0), known_at(input, 1)))
 }
 
-// All but the first of the data.
-fn behind_first(input: &[Datum]) -> &[Datum]
-    ensures { result.now ≡ drop 1 input.now }
+fn mul_move(alloc: Global, input: &[Datum]) -> Result<Move, AllocError>
+    ensures { IfOk result (λ next. move_of next ≡ give_or_trap (known_product_of
+        (known_of (map Some (numbers_of (map datum_of_value input.now))) 0)
+        (known_of (map Some (numbers_of (map datum_of_value input.now))) 1))) }
 {
-    if input.is_empty() { input } else { &input[1..] }
+    give_or_trap(alloc, known_product(known_at(input, 0), known_at(input, 1)))
 }
 
-// Of the values behind the condition of a `cbr`, those that go along this edge.
-fn values_along<'a>(attrs: &Attrs, edge: usize, values: &'a [Datum]) -> &'a [Datum]
-    ensures { result.now ≡ edge_values (first_count_of attrs.now) edge values.now }
+fn div_move(alloc: Global, input: &[Datum]) -> Result<Move, AllocError>
+    ensures { IfOk result (λ next. move_of next ≡ give_or_trap (known_quotient_of
+        (known_of (map Some (numbers_of (map datum_of_value input.now))) 0)
+        (known_of (map Some (numbers_of (map datum_of_value input.now))) 1))) }
 {
-    let count = first_edge_count(attrs, values.len());
-    if edge == 0 {
+    give_or_trap(
+        alloc,
+        known_quotient(known_at(input, 0), known_at(input, 1)),
+    )
+}
+
+// What a `pair` gives, as far as there are results.
+fn pair_move(alloc: Global, results: usize) -> Result<Move, AllocError>
+    ensures { IfOk result (λ next. move_of next ≡ Give (fit_or_empty_of results
+        (NumberOf (pos 1) ∷ NumberOf (pos 2) ∷ []))) }
+{
+    let mut pair = one(alloc, Datum::Number(1))?;
+    pair.push(Datum::Number(2))?;
+    Ok(Move::Give(fit_or_empty(alloc, results, &pair)?))
+}
+
+// As many of the data from the first one on.
+fn up_to(values: &[Datum], count: usize) -> &[Datum]
+    ensures { result.now ≡ take count values.now }
+{
+    if count < values.len() {
         &values[..count]
     } else {
-        &values[count..]
+        values
     }
 }
 
-fn cbr_move(alloc: Global, attrs: &Attrs, input: &[Datum]) -> Result<Move, AllocError>
-    ensures { IfOk result (λ next. move_of next ≡ Goto (edge_in (number_at (map datum_of_value input.now) 0))
-        (edge_values (first_count_of attrs.now) (edge_in (number_at (map datum_of_value input.now) 0))
-        (drop 1 (map datum_of_value input.now)))) }
+// The data behind so many.
+fn behind(values: &[Datum], count: usize) -> &[Datum]
+    ensures { result.now ≡ drop count values.now }
 {
-    let edge = edge_of(number_at(input, 0));
-    let values = values_along(attrs, edge, behind_first(input));
+    if count < values.len() {
+        &values[count..]
+    } else {
+        &[]
+    }
+}
+
+// Of the values behind the condition of a `cbr` with so many operands, those that go along this edge.
+fn values_along<'a>(attrs: &Attrs, operands: usize, edge: usize, input: &'a [Datum]) -> &'a [Datum]
+    requires { edge < 2 }
+    ensures { result.now ≡ values_of_edge (two_counts (first_count_of attrs.now) (operands - 1)) edge input.now }
+{
+    let all = operands.saturating_sub(1);
+    let first = first_edge_count(attrs, all);
+    let values = behind(input, 1);
+    if edge == 0 {
+        up_to(values, first)
+    } else {
+        up_to(behind(values, first), all - first)
+    }
+}
+
+fn cbr_move(
+    alloc: Global,
+    attrs: &Attrs,
+    operands: usize,
+    input: &[Datum],
+) -> Result<Move, AllocError>
+    ensures { IfOk result (λ next. move_of next ≡ Goto (edge_taken_by (map datum_of_value input.now))
+        (values_of_edge (two_counts (first_count_of attrs.now) (operands - 1))
+        (edge_taken_by (map datum_of_value input.now)) (map datum_of_value input.now))) }
+{
+    let edge = edge_taken(input);
+    let values = values_along(attrs, operands, edge, input);
     Ok(Move::Goto(edge, all_copies(alloc, values)?))
 }
 
@@ -237,12 +302,12 @@ fn fork_move(
     input: &[Datum],
 ) -> Result<Move, AllocError>
     requires { IsLive ctx.now.tree op }
-    ensures { IfOk result (λ next. move_of next ≡ Goto (edge_in (number_at (map datum_of_value input.now) 0))
+    ensures { IfOk result (λ next. move_of next ≡ Goto (edge_taken_by (map datum_of_value input.now))
         (replicate (slice_index_or (map (λ b. count_arguments (block_at ctx.now.tree b))
-        (successors_of ctx.now.tree op)) (edge_in (number_at (map datum_of_value input.now) 0)) 0)
+        (successors_of ctx.now.tree op)) (edge_taken_by (map datum_of_value input.now)) 0)
         (datum_at (map datum_of_value input.now) 0))) }
 {
-    let edge = edge_of(number_at(input, 0));
+    let edge = edge_taken(input);
     let count = num_target_argument(ctx, op, edge);
     let passed = datum_at(alloc, input, 0)?;
     Ok(Move::Goto(edge, copies_of(alloc, &passed, count)?))
@@ -260,7 +325,8 @@ fn act(
     requires live { IsLive ctx.now.tree op }
     requires kind { ReadsHead (λ h. kind_of h.kind) ctx.now.tree op (Some kind) }
     ensures { IfOk result (λ next. (o : OperationRecord) → op_at ctx.now.tree op ≡ Some o → move_of next ≡
-        act_of kind (shape_of bench ctx.now.tree o) (datum_of_value memo.now) (map datum_of_value input.now)) }
+        act_of bench_value (bench_role kind) (shape_of bench ctx.now.tree o) (datum_of_value memo.now)
+        (map datum_of_value input.now)) }
 {
     match kind {
         BenchKind::Mod => Ok(Move::Give(Vec::new(alloc))),
@@ -271,12 +337,12 @@ fn act(
         BenchKind::Div => div_move(alloc, input),
         BenchKind::Read => read_move(alloc, memo, input),
         BenchKind::Print => print_move(alloc, memo, input),
-        BenchKind::Pair => pair_move(alloc),
-        BenchKind::Sink => Ok(Move::Give(Vec::new(alloc))),
+        BenchKind::Pair => pair_move(alloc, op.num_result(ctx)),
+        BenchKind::Sink => pair_move(alloc, op.num_result(ctx)),
         BenchKind::Scope => scope_move(alloc, memo, num_entry_argument(ctx, op, 0), input),
         BenchKind::Box => Ok(Move::Give(Vec::new(alloc))),
         BenchKind::Br => Ok(Move::Goto(0, all_copies(alloc, input)?)),
-        BenchKind::Cbr => cbr_move(alloc, &op.head(ctx).attrs, input),
+        BenchKind::Cbr => cbr_move(alloc, &op.head(ctx).attrs, op.num_operand(ctx), input),
         BenchKind::Ret => Ok(Move::Leave(all_copies(alloc, input)?)),
         BenchKind::Fork => fork_move(alloc, ctx, op, input),
     }

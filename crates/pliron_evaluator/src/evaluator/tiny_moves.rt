@@ -38,8 +38,12 @@ fn datum_or_empty(alloc: Global, input: &[Datum], i: usize) -> Result<Datum, All
     }
 }
 
-// So many data, cut or filled.
-fn fit_data(alloc: Global, count: usize, input: &[Datum]) -> Result<Vec<Datum>, AllocError>
+/// So many data, cut or filled with nothing. Errors: allocation failure. Cost: that of copies.
+pub(super) fn fit_data(
+    alloc: Global,
+    count: usize,
+    input: &[Datum],
+) -> Result<Vec<Datum>, AllocError>
     ensures { IfOk result (λ values. map datum_of_value values.items ≡ fitted_or_empty count
         (map datum_of_value input.now)) }
 {

@@ -1,4 +1,4 @@
-use Rattle.pliron_bench.specs.BenchFolds.{bench_monotone}
+use Rattle.pliron_bench.specs.BenchLaws.{bench_monotone}
 use Rattle.pliron_bench.proofs.laws.folds_are_monotone.Goals as goal
 
 pub returns : goal.returns
