@@ -2,7 +2,7 @@
 use crate::input::Input;
 use crate::pipeline::{first_passes, without_blanks};
 use clap::ArgMatches;
-use pliron_changes::{StageOptions, Staged, run_stages, write_named_answer};
+use pliron_changes::{StageOptions, StageReport, run_stages, write_named_answer};
 use pliron_cli::{
     BenchNotation, InstrumentationOptions, OptOptions, Outcome, PipelineText, PlanError, Progress,
     Source, opt_with_check,
@@ -134,7 +134,7 @@ fn stages(
     matches: &ArgMatches,
     pipeline: &str,
     answer: AnswerOptions,
-) -> io::Result<Option<Staged>> {
+) -> io::Result<Option<StageReport>> {
     let alloc = rt.alloc();
     let plan = match PipelineText::read(alloc, pipeline) {
         Ok(plan) => plan,
@@ -163,7 +163,7 @@ fn stages(
 fn join_stages(
     alloc: Global,
     whole: Outcome,
-    staged: Staged,
+    staged: StageReport,
     answer: AnswerOptions,
 ) -> io::Result<Outcome> {
     let Outcome {
@@ -171,7 +171,7 @@ fn join_stages(
         report: reported,
         status,
     } = whole;
-    let Staged { mut report, named } = staged;
+    let StageReport { mut report, named } = staged;
     report.push_str(reported.as_str())?;
     if status != 0 {
         return Ok(Outcome {

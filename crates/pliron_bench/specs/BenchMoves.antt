@@ -103,13 +103,13 @@ bench_value h ds = Number (pos 1) ∷ Number (pos 2) ∷ []
 
 abbrev pub bench_role : BenchKind → Role
 bench_role Mod = Holds false
-bench_role Func = Acts false func_act
+bench_role Func = Acts false true func_act
 bench_role Const = Constant
 bench_role Add = Folds 2 (of_both known_sum) nothing_else Never
 bench_role Mul = Folds 2 (of_both known_product) product_identity Never
 bench_role Div = Folds 2 (of_both known_quotient) quotient_identity Traps
-bench_role Read = Acts true read_act
-bench_role Print = Acts true print_act
+bench_role Read = Acts true false read_act
+bench_role Print = Acts true false print_act
 bench_role Pair = Opaque
 bench_role Sink = Opaque
 bench_role Scope = Names scope_act operand_of_index

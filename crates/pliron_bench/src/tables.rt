@@ -106,7 +106,8 @@ impl Roles for BenchKind {
     /// | Kinds | Form |
     /// |---|---|
     /// | `mod`, `box` | hold a region that is never visited; a `mod` says nothing of side effects |
-    /// | `func`, `read`, `print` | act by tables of their own; a `func` says nothing of side effects |
+    /// | `func` | acts by a table of its own; it says nothing of side effects, and that arguments of blocks may go |
+    /// | `read`, `print` | act by tables of their own, with side effects |
     /// | `add`, `mul`, `div` | fold two numbers; a `div` traps where there is no quotient |
     /// | `pair`, `sink` | give what the interpretation says: 1 and 2, nothing |
     /// | `scope` | names the operand of each argument's index |
@@ -116,11 +117,11 @@ impl Roles for BenchKind {
     fn form(self) -> Form {
         match self {
             BenchKind::Mod => Form::Holds(false),
-            BenchKind::Func => Form::Acts(false),
+            BenchKind::Func => Form::Acts(false, true),
             BenchKind::Const => Form::Constant,
             BenchKind::Add | BenchKind::Mul => Form::Folds(2, Otherwise::Never),
             BenchKind::Div => Form::Folds(2, Otherwise::Traps),
-            BenchKind::Read | BenchKind::Print => Form::Acts(true),
+            BenchKind::Read | BenchKind::Print => Form::Acts(true, false),
             BenchKind::Pair | BenchKind::Sink => Form::Opaque,
             BenchKind::Scope => Form::Names,
             BenchKind::Box => Form::Holds(true),

@@ -15,7 +15,7 @@ use pliron_instrument::{
     build_schedule, instrumented_passes,
 };
 use pliron_mlir_opt::{
-    ModuleFailure, ModuleNotation, ModuleOptions, Optimised, optimise, read_plan,
+    ModuleFailure, ModuleNotation, ModuleOptions, OptimisedModule, optimise, read_plan,
 };
 use pliron_pass::{BenchFactKind, Pass};
 use std::alloc::Global;
@@ -71,7 +71,7 @@ fn run_schedule<N: ModuleNotation>(
     alloc: Global,
     schedule: &mut ModuleSchedule<N>,
     text: &[u8],
-) -> Result<Optimised, Failure>
+) -> Result<OptimisedModule, Failure>
     ensures answer { IfOk result (λ made. IsOptimised N.reads N.prints N.D.meaning
         (RunsAlone ⟦<BenchFactKind as PartialEq>⟧.eq ⟦<ModuleSchedule<N> as Pass>⟧.outcome schedule.old)
         text.now (made.printed.items ++ status_line made.status)) }
@@ -106,7 +106,7 @@ fn optimise_module<N: ModuleNotation>(
     alloc: Global,
     word: &[u8],
     text: &[u8],
-) -> Result<Optimised, Failure>
+) -> Result<OptimisedModule, Failure>
     ensures answer { IfOk result (λ made. OptimisesModule ⟦<ModulePass<N> as Pass>⟧.name
         N.reads N.prints N.D.meaning
         (RunsAlone ⟦<BenchFactKind as PartialEq>⟧.eq ⟦<ModuleSchedule<N> as Pass>⟧.outcome)

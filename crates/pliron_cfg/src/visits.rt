@@ -31,7 +31,7 @@ pub struct Visits {
 
 // A block that is listed once so many regions are on the worklist, and no more.
 #[derive(Clone, Copy)]
-struct Postponed {
+struct PostponedBlock {
     block: Ptr<BasicBlock>,
     waiting: usize,
 }
@@ -150,7 +150,7 @@ fn enter(
     entered: &[Ptr<BasicBlock>],
     listed: bool,
     worklist: &mut Worklist,
-    postponed: &mut Vec<Postponed>,
+    postponed: &mut Vec<PostponedBlock>,
 ) -> Result<(), OptError>
     requires { (b : ℕ) → In b entered.now → IsBlock ctx.now.tree b }
     ensures grown { OnOk result (HasGrown (flat_map (λ b. flat_map (λ k. regions_of ctx.now.tree k)
@@ -163,7 +163,7 @@ fn enter(
 {
     for block in entered {
         if listed {
-            postponed.push(Postponed {
+            postponed.push(PostponedBlock {
                 block: *block,
                 waiting: worklist.waiting.len(),
             })?;
@@ -177,7 +177,7 @@ fn enter(
 
 // The last of the postponed blocks are listed, all those for which no region on the worklist comes before them.
 fn list_postponed(
-    postponed: &mut Vec<Postponed>,
+    postponed: &mut Vec<PostponedBlock>,
     waiting: usize,
     blocks: &mut Vec<Ptr<BasicBlock>>,
 ) -> Result<(), OptError>

@@ -15,5 +15,5 @@ mod written_changes;
 
 pub use line_diff::{LineChange, changed_lines};
 pub use named_answer::write_named_answer;
-pub use stages::{StageOptions, Staged, run_stages};
+pub use stages::{StageOptions, StageReport, run_stages};
 pub use written_changes::write_changes;

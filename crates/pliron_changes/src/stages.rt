@@ -37,7 +37,7 @@ pub struct StageOptions<'w> {
 
 /// What is reported of the passes, and the operation after them.
 #[derive(Drop)]
-pub struct Staged {
+pub struct StageReport {
     pub report: String,
     /// The operation as it is written with the names of the text, where the options ask for these and no pass was
     /// refused.
@@ -294,7 +294,7 @@ fn stage_operation(
     options: &StageOptions,
     root: Ptr<Operation>,
     ctx: &mut Context,
-) -> Result<Staged, OptError>
+) -> Result<StageReport, OptError>
     requires { IsLive ctx.old.tree root }
 {
     let parts = parts_of(alloc, text)?;
@@ -311,7 +311,7 @@ fn stage_operation(
         Err(OptError::Memory) => return Err(OptError::Memory),
         Err(_) => None,
     };
-    Ok(Staged {
+    Ok(StageReport {
         report: stages.report,
         named,
     })
@@ -324,7 +324,7 @@ fn run_stages_in(
     plan: &PipelineText,
     options: &StageOptions,
     ctx: &mut Context,
-) -> Result<Option<Staged>, OptError>
+) -> Result<Option<StageReport>, OptError>
     requires { ctx.old.tree ≡ no_tree }
 {
     match read_text(alloc, text, ctx)? {
@@ -344,7 +344,7 @@ pub fn run_stages(
     text: &[u8],
     plan: &PipelineText,
     options: &StageOptions,
-) -> Result<Option<Staged>, OptError> {
+) -> Result<Option<StageReport>, OptError> {
     let mut ctx = Context::new(alloc);
     run_stages_in(alloc, text, plan, options, &mut ctx)
 }

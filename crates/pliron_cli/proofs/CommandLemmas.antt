@@ -20,9 +20,9 @@ use Rattle.pliron_cli.specs.declared.comparing.Likeness.TheVariants.{Same, SoFar
 use Rattle.pliron_cli.specs.declared.comparing.Sights.{Sights}
 use Rattle.pliron_cli.specs.Asked.{EndsByPlan, EndsByPlan.ByPasses, EndsByPlan.WithoutPasses, EndsByWord, EndsByWord.ByPlan, EndsByWord.WithoutPlan, EndsByWord.WithoutText}
 use Rattle.pliron_fit.specs.declared.violation.Violation.{Violation}
-use Rattle.pliron_cli.specs.declared.checking.Checked.{Checked}
-use Rattle.pliron_cli.specs.declared.checking.Checked.TheVariants.{Fit, FitByParts, Unfit}
-use Rattle.pliron_cli.specs.Checked.{IsChecked, IsWholeText, IsTextOfParts, IsUnfitText, IsReportedFit, IsReportedFit.SaysWhole, IsReportedFit.SaysParts, fit_line, parts_line}
+use Rattle.pliron_cli.specs.declared.checking.CheckOutcome.{CheckOutcome}
+use Rattle.pliron_cli.specs.declared.checking.CheckOutcome.TheVariants.{Fit, FitByParts, Unfit}
+use Rattle.pliron_cli.specs.CheckOutcome.{IsChecked, IsWholeText, IsTextOfParts, IsUnfitText, IsReportedFit, IsReportedFit.SaysWhole, IsReportedFit.SaysParts, fit_line, parts_line}
 use Rattle.pliron_cli.specs.Compared.{AreSeen, are_same, are_same_so_far, effects_of, is_start, is_cut_off, EndsWith, EndsCompared, so_far_line, different_line, other_line}
 use Rattle.pliron_cli.specs.Likeness.{IsLikeness, EndsLike, EndsLike.AreAlike, EndsLike.AreUnlike, last_line, status_for}
 use Rattle.pliron_cli.specs.Optimised.{IsLaidOut, IsMade, EndsOptimised}
@@ -34,13 +34,13 @@ ends_by faults o (inl e) = Says tt e
 ends_by faults o (inr e) = Denies tt e
 
 -- what was found of a text
-pub whole_when : (reads : Reads) (m : Meaning) (text : List ℕ) (found : Checked) → found ≡ Fit → IsChecked reads m text found → IsWholeText reads m text
+pub whole_when : (reads : Reads) (m : Meaning) (text : List ℕ) (found : CheckOutcome) → found ≡ Fit → IsChecked reads m text found → IsWholeText reads m text
 whole_when reads m text found is said = subst (IsChecked reads m text) is said
 
-pub parts_when : (reads : Reads) (m : Meaning) (text : List ℕ) (found : Checked) → found ≡ FitByParts → IsChecked reads m text found → IsTextOfParts reads m text
+pub parts_when : (reads : Reads) (m : Meaning) (text : List ℕ) (found : CheckOutcome) → found ≡ FitByParts → IsChecked reads m text found → IsTextOfParts reads m text
 parts_when reads m text found is said = subst (IsChecked reads m text) is said
 
-pub unfit_when : (reads : Reads) (m : Meaning) (text : List ℕ) (found : Checked) (part : ℕ) (violation : Violation) → found ≡ Unfit part violation → IsChecked reads m text found → IsUnfitText reads m text
+pub unfit_when : (reads : Reads) (m : Meaning) (text : List ℕ) (found : CheckOutcome) (part : ℕ) (violation : Violation) → found ≡ Unfit part violation → IsChecked reads m text found → IsUnfitText reads m text
 unfit_when reads m text found part violation is said =
     (part, violation, subst (IsChecked reads m text) is said)
 

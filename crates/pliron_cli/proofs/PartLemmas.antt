@@ -9,8 +9,8 @@ use Rattle.pliron_theory.specs.Keeps.{IsFit}
 use Rattle.pliron_opts.specs.Answered.{Reads}
 use Rattle.pliron_fit.specs.Violation.{IsViolation}
 use Rattle.pliron_fit.specs.declared.violation.Violation.{Violation}
-use Rattle.pliron_cli.specs.declared.checking.Checked.TheVariants.{Unfit}
-use Rattle.pliron_cli.specs.Checked.{IsChecked, IsTextOfParts}
+use Rattle.pliron_cli.specs.declared.checking.CheckOutcome.TheVariants.{Unfit}
+use Rattle.pliron_cli.specs.CheckOutcome.{IsChecked, IsTextOfParts}
 use Rattle.pliron_cli.specs.Parts.{IsContainer, IsPart, AreFitParts, IsFitByParts, IsFitByParts.AsAWhole, IsFitByParts.InParts, IsFirstPart, IsAtFault, IsAtFault.Itself, IsAtFault.Inside}
 
 -- the regions of what is fit have dominance, so it is no container

@@ -3,7 +3,7 @@ use Rattle.std.proofs.Common.{◌≡◌, ◌⊎◌, inl, inr, ℕ, Bool, List, I
 use Rattle.pliron_laws.specs.Datum.{Meaning}
 use Rattle.pliron_opts.specs.Answered.{Reads}
 use Rattle.pliron_cli.specs.Parts.{IsFitByParts.AsAWhole, IsFitByParts.InParts}
-use Rattle.pliron_cli.specs.Checked.{IsWholeText, IsTextOfParts, IsFitText}
+use Rattle.pliron_cli.specs.CheckOutcome.{IsWholeText, IsTextOfParts, IsFitText}
 use Rattle.pliron_cli.specs.declared.outcome.Outcome.{Outcome}
 
 -- where no pass ran

@@ -2,7 +2,7 @@
 use Rattle.std.specs.Prelude.{ℕ, List}
 use Rattle.pliron_laws.specs.Datum.{Meaning}
 use Rattle.pliron_opts.specs.Answered.{Reads}
-use Rattle.pliron_cli.specs.Checked.{IsWholeText, IsTextOfParts, IsUnfitText}
+use Rattle.pliron_cli.specs.CheckOutcome.{IsWholeText, IsTextOfParts, IsUnfitText}
 use Rattle.pliron_cli.specs.declared.checking.Finding.{Finding}
 use Rattle.pliron_cli.specs.declared.checking.Finding.TheVariants.{Whole, ByParts, Wrong}
 

@@ -1,5 +1,5 @@
 pub mod Asked
-pub mod Checked
+pub mod CheckOutcome
 pub mod Compared
 pub mod Findings
 pub mod Likeness

@@ -1,7 +1,7 @@
 //! Whether a text's operation is fit to run.
 ghost use Rattle.std.specs.Prelude.{◌≡◌, [], IfOk, IfSome};
 ghost use Rattle.pliron_core.specs.Writes.{no_tree};
-ghost use Rattle.pliron_cli.specs.Checked.{IsChecked, IsReportedFit, IsUnfitText};
+ghost use Rattle.pliron_cli.specs.CheckOutcome.{IsChecked, IsReportedFit, IsUnfitText};
 ghost use Rattle.pliron_cli.specs.Findings.{IsFinding};
 ghost use Rattle.pliron_cli.specs.Outcomes.{Ends};
 
@@ -19,7 +19,7 @@ use std::alloc::{AllocError, Global};
 
 /// What a check finds of a text.
 #[derive(Clone, Copy)]
-pub enum Checked {
+pub enum CheckOutcome {
     /// The text is outside the notation.
     Unreadable,
     /// Its operation is fit to run.
@@ -41,17 +41,17 @@ pub fn check_text<N: Notation>(
     alloc: Global,
     text: &[u8],
     ctx: &mut Context,
-) -> Result<Checked, OptError>
+) -> Result<CheckOutcome, OptError>
     requires { ctx.old.tree ≡ no_tree }
     ensures { IfOk result (IsChecked N.reads N.D.meaning text.now) }
 {
     let Some(root) = N::read(alloc, text, ctx)? else {
-        return Ok(Checked::Unreadable);
+        return Ok(CheckOutcome::Unreadable);
     };
     match first_unfit::<N::D>(alloc, root, ctx)? {
-        Some(found) => Ok(Checked::Unfit(found.0, found.1)),
-        None if is_container(root, ctx) => Ok(Checked::FitByParts),
-        None => Ok(Checked::Fit),
+        Some(found) => Ok(CheckOutcome::Unfit(found.0, found.1)),
+        None if is_container(root, ctx) => Ok(CheckOutcome::FitByParts),
+        None => Ok(CheckOutcome::Fit),
     }
 }
 
@@ -89,10 +89,10 @@ fn find_message_in<N: Shown>(
     ensures { IfOk result (λ found. IfSome found (IsFinding N.reads N.D.meaning source.now.text.now)) }
 {
     match check_text::<N>(alloc, source.text, ctx)? {
-        Checked::Unreadable => Ok(None),
-        Checked::Fit => Ok(Some(Finding::Whole)),
-        Checked::FitByParts => Ok(Some(Finding::ByParts)),
-        Checked::Unfit(op, violation) => {
+        CheckOutcome::Unreadable => Ok(None),
+        CheckOutcome::Fit => Ok(Some(Finding::Whole)),
+        CheckOutcome::FitByParts => Ok(Some(Finding::ByParts)),
+        CheckOutcome::Unfit(op, violation) => {
             let message = violation_message::<N>(alloc, "error", source, op, &violation, ctx)?;
             Ok(Some(Finding::Wrong(message)))
         }

@@ -24,7 +24,7 @@ mod strict;
 mod table;
 mod violation_message;
 
-pub use checking::{Checked, check, check_text};
+pub use checking::{CheckOutcome, check, check_text};
 pub use comparing::{CompareOptions, Sights, compare, compare_text};
 pub use drawing::{draw_flow, draw_graph};
 pub use explaining::{ExplainOptions, explain};

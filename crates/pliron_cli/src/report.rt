@@ -20,7 +20,7 @@ pub struct ReportOptions {
 
 /// A note, and the name of its pass.
 #[derive(Clone, Copy)]
-struct Named<'n> {
+struct NamedNote<'n> {
     name: &'n str,
     note: &'n RunNote,
 }
@@ -29,11 +29,11 @@ struct Named<'n> {
 fn notes_in_order<'s, N: Notation, C: Progress + Drop>(
     alloc: Global,
     passes: &'s [Instrumented<N, C>],
-) -> Result<Vec<Named<'s>>, AllocError> {
+) -> Result<Vec<NamedNote<'s>>, AllocError> {
     let mut notes = Vec::new(alloc);
     for pass in passes {
         for note in &pass.run_record().notes {
-            notes.push(Named {
+            notes.push(NamedNote {
                 name: pass.pass_name(),
                 note,
             })?;
@@ -55,7 +55,7 @@ fn status_word(status: IRStatus) -> &'static str {
 fn write_printed(
     alloc: Global,
     report: &mut String,
-    named: &Named,
+    named: &NamedNote,
     printed: &str,
     is_pretty: bool,
 ) -> Result<(), AllocError> {
@@ -75,7 +75,7 @@ fn write_printed(
 fn write_trees(
     alloc: Global,
     report: &mut String,
-    notes: &[Named],
+    notes: &[NamedNote],
     is_pretty: bool,
 ) -> Result<(), AllocError> {
     for named in notes {
@@ -87,7 +87,7 @@ fn write_trees(
 }
 
 // Writes what verifying found after each run, and how often it found nothing.
-fn write_faults(report: &mut String, notes: &[Named]) -> Result<(), AllocError> {
+fn write_faults(report: &mut String, notes: &[NamedNote]) -> Result<(), AllocError> {
     let mut right: usize = 0;
     for named in notes {
         match &named.note.fault {

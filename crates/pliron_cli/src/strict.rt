@@ -3,7 +3,7 @@ ghost use Rattle.std.specs.Prelude.{◌≡◌, ◌⊎◌, IfOk, IsTrue};
 ghost use Rattle.pliron_core.specs.Writes.{no_tree};
 ghost use Rattle.pliron_opts.specs.Ran.{RunsAlone};
 ghost use Rattle.pliron_cli.specs.Asked.{EndsByWord};
-ghost use Rattle.pliron_cli.specs.Checked.{IsFitText, IsRejected};
+ghost use Rattle.pliron_cli.specs.CheckOutcome.{IsFitText, IsRejected};
 ghost use Rattle.pliron_cli.specs.Optimised.{EndsOptimised};
 
 use crate::checking::{Finding, find_message};

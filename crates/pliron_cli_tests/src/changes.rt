@@ -2,7 +2,7 @@
 use crate::lines::{in_one_line, with_lines};
 use crate::optimised::plain;
 use pliron_changes::{
-    StageOptions, Staged, changed_lines, run_stages, write_changes, write_named_answer,
+    StageOptions, StageReport, changed_lines, run_stages, write_changes, write_named_answer,
 };
 use pliron_cli::{BenchNotation, Source, opt};
 use pliron_instrument::{PipelineText, Timeless};
@@ -77,7 +77,7 @@ fn staged(
     text: &str,
     list: &str,
     options: &StageOptions,
-) -> Option<Staged> {
+) -> Option<StageReport> {
     let plan = PipelineText::read(alloc, list).expect(rt, "a plan");
     run_stages(alloc, text.as_bytes(), &plan, options).expect(rt, "memory")
 }

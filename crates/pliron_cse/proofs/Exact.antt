@@ -20,8 +20,8 @@ use Rattle.pliron_order.proofs.NumberLemmas.{at_in}
 use Rattle.pliron_order.proofs.PreorderLemmas.{in_at}
 use Rattle.pliron_cse.specs.Keys.{head_words_of, operand_words, key_words, region_around}
 use Rattle.pliron_cse.specs.Left.{HasRedundancy, UsesAreBehind, LeavesNoRedundancy, ReportsEquivalent}
-use Rattle.pliron_cse.specs.MergingSteps.{MayRepeat, AreNearAlike, LeadsAt, AreFound, StaysAlone, AreNotRedundant, IsOrdered, IsExact}
-use Rattle.pliron_cse.specs.Taking.{IsPair}
+use Rattle.pliron_cse.specs.MergingSteps.{IsMergeable, MayMerge, LeadsAt, AreFound, StaysAlone, AreNotRedundant, IsOrdered, IsExact}
+use Rattle.pliron_cse.specs.Merges.{IsPair}
 use Rattle.pliron_cse.proofs.Moved.{moved_regions, moved_successors}
 use Rattle.pliron_cse.proofs.OnWay.{merged_stands, merged_seen, merged_gone, merged_fewer, row_of_merged, operands_of_merged, successors_of_merged, place_of_merged}
 
@@ -41,10 +41,10 @@ looks_key t u k l =
     ∙ ap (λ z. head_words_of (head_of t k) ++ length (results_of t k) ∷ operand_words z (region_around u k)) l.operands
     ∙ ap (λ z. head_words_of (head_of t k) ++ length (results_of t k) ∷ operand_words (operands_of t k) z) l.region
 
-looks_repeats : (side_effects : Head → Option Bool) (t u : Tree) (k : ℕ) → LooksAlike t u k → MayRepeat side_effects u k → MayRepeat side_effects t k
+looks_repeats : (side_effects : Head → Option Bool) (t u : Tree) (k : ℕ) → LooksAlike t u k → IsMergeable side_effects u k → IsMergeable side_effects t k
 looks_repeats side_effects t u k l r = record { regions = sym l.regions ∙ r.regions; successors = sym l.successors ∙ r.successors; harmless = λ h e. r.harmless h (l.head ∙ e) }
 
-looks_alike : (side_effects : Head → Option Bool) (t u : Tree) (a b : ℕ) → LooksAlike t u a → LooksAlike t u b → AreNearAlike side_effects u a b → AreNearAlike side_effects t a b
+looks_alike : (side_effects : Head → Option Bool) (t u : Tree) (a b : ℕ) → LooksAlike t u a → LooksAlike t u b → MayMerge side_effects u a b → MayMerge side_effects t a b
 looks_alike side_effects t u a b la lb n = record {
   alike = record {
     head = sym lb.head ∙ n.alike.head ∙ la.head;
@@ -236,7 +236,7 @@ module _ (side_effects : Head → Option Bool) where
           first = q.0;
           within = q.1;
           live = la';
-          alike = subst (λ z. AreNearAlike side_effects t z (get_or ops ib.0 0)) (sym ia.2) (subst (AreNearAlike side_effects t a) (sym ib.2) (record {
+          alike = subst (λ z. MayMerge side_effects t z (get_or ops ib.0 0)) (sym ia.2) (subst (MayMerge side_effects t a) (sym ib.2) (record {
             alike = p.leads.alike;
             near = λ e.
                 let around = p.leads.near e in

@@ -98,8 +98,8 @@ moved_live (v ∷ vs) [] t k = (λ l. l, λ l. l)
 moved_live (v ∷ vs) (x ∷ xs) t k = moved_live vs xs (after_replacing t v x) k
 
 -- the first of the results are pairs too
-pub taken_pairs : (side_effects : Head → Option Bool) (t : Tree) (a b n : ℕ) → ArePairs side_effects a b t (take n (results_of t b)) (take n (results_of t a))
-taken_pairs side_effects t a b n i v x p q = (i, first n (results_of t b) i v p, first n (results_of t a) i x q)
+pub merged_pairs : (side_effects : Head → Option Bool) (t : Tree) (a b n : ℕ) → ArePairs side_effects a b t (take n (results_of t b)) (take n (results_of t a))
+merged_pairs side_effects t a b n i v x p q = (i, first n (results_of t b) i v p, first n (results_of t a) i x q)
   where
     first : (n : ℕ) (xs : List ℕ) (i v : ℕ) → slice_get (take n xs) i ≡ Some v → slice_get xs i ≡ Some v
     first zero xs i v e = absurd (not_none e)

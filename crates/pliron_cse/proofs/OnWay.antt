@@ -25,14 +25,14 @@ use Rattle.pliron_order.proofs.NumberLemmas.{at_in}
 use Rattle.pliron_order.proofs.PreorderLemmas.{distinct_at}
 use Rattle.pliron_order.proofs.SeenLemmas.{seen_inside}
 use Rattle.pliron_cse.specs.Keys.{region_around}
-use Rattle.pliron_cse.specs.MergingSteps.{AreNearAlike, IsOrdered, IsOnWay}
-use Rattle.pliron_cse.specs.Taking.{IsPair, Pair, TakeInTurn}
+use Rattle.pliron_cse.specs.MergingSteps.{MayMerge, IsOrdered, IsOnWay}
+use Rattle.pliron_cse.specs.Merges.{IsPair, Pair, MergeInTurn}
 use Rattle.pliron_cse.proofs.Changing.{links_all, inside_all, changing}
 use Rattle.pliron_cse.proofs.ErasedEdges.{erased_alike}
-use Rattle.pliron_cse.proofs.Moved.{moved_regions, moved_successors, moved_stands, moved_seen, moved_alike, moved_live, moved_around, taken_pairs}
+use Rattle.pliron_cse.proofs.Moved.{moved_regions, moved_successors, moved_stands, moved_seen, moved_alike, moved_live, moved_around, merged_pairs}
 use Rattle.pliron_cse.proofs.SeenStays.{seen_stays}
 use Rattle.pliron_cse.proofs.Staying.{is, lives, parents, regions_same, stands_forth, stands_back}
-use Rattle.pliron_cse.proofs.Taken.{near_leader}
+use Rattle.pliron_cse.proofs.Merged.{near_leader}
 
 alike_itself : (t : Tree) → EdgesAlike t t
 alike_itself t = record { grows = omega arith; regions = λ op. refl; layouts = λ r. refl; successors = λ b. refl; bodies = λ b. refl }
@@ -63,7 +63,7 @@ module _ (m : Meaning) (side_effects : Head → Option Bool) (counts : KeepsCoun
     change = record {
       liveness = (moved_live vs xs t root).0 live;
       linked = links_all m vs xs t root linked;
-      inside = (inside_all side_effects a b root vs xs t w (taken_pairs side_effects t a b n) inside).0;
+      inside = (inside_all side_effects a b root vs xs t w (merged_pairs side_effects t a b n) inside).0;
       runs = partly m side_effects counts free t a b n w leads;
     };
     links = links_all m vs xs t;
@@ -212,7 +212,7 @@ around_itself t w a b s block region at in_region same = ⊎_elim
     block_held h e = sym (ap (λ o. up_from o (λ c. block_parent_operation_of t c)) s.in_block) ∙ e
 
 -- an operation that leads another and is near to it, in order
-pub pair_of : (side_effects : Head → Option Bool) (t : Tree) → IsTree t → (root : ℕ) (ops ends : List ℕ) (i j : ℕ) (a b : ℕ) → IsOrdered t root ops ends j → i < j → j < length ops → j < get_or ends i 0 → a ≡ get_or ops i 0 → b ≡ get_or ops j 0 → IsLive t a → AreNearAlike side_effects t a b → IsPair side_effects t root a b
+pub pair_of : (side_effects : Head → Option Bool) (t : Tree) → IsTree t → (root : ℕ) (ops ends : List ℕ) (i j : ℕ) (a b : ℕ) → IsOrdered t root ops ends j → i < j → j < length ops → j < get_or ends i 0 → a ≡ get_or ops i 0 → b ≡ get_or ops j 0 → IsLive t a → MayMerge side_effects t a b → IsPair side_effects t root a b
 pair_of side_effects t w root ops ends i j a b o lt low within is_a is_b live near = record {
   first = o.seen a (subst (λ z. In z ops) (sym is_a) (at_in ops i (omega (arith, lt, low)))) live;
   second = second;
@@ -240,6 +240,6 @@ pair_of side_effects t w root ops ends i j a b o lt low within is_a is_b live ne
     around_b s = ap (λ o. up_from o (λ c. block_parent_of t c)) s.in_block ∙ s.in_region
 
 -- redundant operations that went, and one more
-pub turn_more : (side_effects : Head → Option Bool) (root : ℕ) (xs : List Pair) (x : Pair) (t u : Tree) → TakeInTurn side_effects root xs t u → IsPair side_effects u root x.leader x.redundant → TakeInTurn side_effects root (xs ++ x ∷ []) t (after_merging u x.leader x.redundant)
+pub turn_more : (side_effects : Head → Option Bool) (root : ℕ) (xs : List Pair) (x : Pair) (t u : Tree) → MergeInTurn side_effects root xs t u → IsPair side_effects u root x.leader x.redundant → MergeInTurn side_effects root (xs ++ x ∷ []) t (after_merging u x.leader x.redundant)
 turn_more side_effects root [] x t u e p = (subst (λ z. IsPair side_effects z root x.leader x.redundant) e p, ap (λ z. after_merging z x.leader x.redundant) e)
 turn_more side_effects root (y ∷ ys) x t u h p = (h.0, turn_more side_effects root ys x (after_merging t y.leader y.redundant) u h.1 p)

@@ -15,16 +15,16 @@ use Rattle.pliron_equivalence.specs.Merging.{after_merging, AreHandedOver}
 use Rattle.pliron_order.specs.Seen.{IsSeen}
 use Rattle.pliron_cse.specs.Keys.{key_words, region_around}
 use Rattle.pliron_cse.specs.Left.{UsesAreBehind, HasRedundancy}
-use Rattle.pliron_cse.specs.Taking.{Pair, TakeInTurn}
+use Rattle.pliron_cse.specs.Merges.{Pair, MergeInTurn}
 
 -- the operation has no regions, successors or side effects
-pub record MayRepeat (side_effects : Head → Option Bool) (t : Tree) (k : ℕ) : Type 0 where
+pub record IsMergeable (side_effects : Head → Option Bool) (t : Tree) (k : ℕ) : Type 0 where
   pub regions : regions_of t k ≡ []
   pub successors : successors_of t k ≡ []
   pub harmless : HasNoSideEffects side_effects t k
 
 -- b does what a does; without operands they are in one region
-pub record AreNearAlike (side_effects : Head → Option Bool) (t : Tree) (a b : ℕ) : Type 0 where
+pub record MayMerge (side_effects : Head → Option Bool) (t : Tree) (a b : ℕ) : Type 0 where
   pub alike : AreAlike side_effects t a b
   pub near : operands_of t b ≡ [] → region_around t a ≡ region_around t b
 
@@ -33,11 +33,11 @@ pub record LeadsAt (side_effects : Head → Option Bool) (t : Tree) (ops ends : 
   pub first : i < place
   pub within : place < get_or ends i 0
   pub live : IsLive t (get_or ops i 0)
-  pub alike : AreNearAlike side_effects t (get_or ops i 0) (get_or ops place 0)
+  pub alike : MayMerge side_effects t (get_or ops i 0) (get_or ops place 0)
 
 -- each operation before the place that may lead one from there on is found by its key
 abbrev pub AreFound : (Head → Option Bool) → Tree → (ops ends : List ℕ) → ℕ → (List ℕ → Option ℕ) → Type 0
-AreFound side_effects t ops ends place find = (i : ℕ) → i < place → i < length ops → IsLive t (get_or ops i 0) → MayRepeat side_effects t (get_or ops i 0) → (find (key_words t (get_or ops i 0)) ≡ Some i) ⊎ (get_or ends i 0 ≤ place)
+AreFound side_effects t ops ends place find = (i : ℕ) → i < place → i < length ops → IsLive t (get_or ops i 0) → IsMergeable side_effects t (get_or ops i 0) → (find (key_words t (get_or ops i 0)) ≡ Some i) ⊎ (get_or ends i 0 ≤ place)
 
 -- where leaders are found, one that stays is not redundant, and leaders are found from the next place on
 pub record StaysAlone (side_effects : Head → Option Bool) (t : Tree) (ops ends : List ℕ) (place : ℕ) (find find' : List ℕ → Option ℕ) : Type 0 where
@@ -63,13 +63,13 @@ pub record IsOrdered (t : Tree) (root : ℕ) (ops ends : List ℕ) (place : ℕ)
   pub left : (j : ℕ) → place ≤ j → j < length ops → IsLive t (get_or ops j 0)
 
 -- the operation at the place was erased as redundant, or nothing changed
-abbrev pub TakesOrStays : (Head → Option Bool) → (t t' : Tree) → (ops ends : List ℕ) → ℕ → Bool → Type 0
-TakesOrStays side_effects t t' ops ends place true = (i : ℕ) × LeadsAt side_effects t ops ends i place × (t' ≡ after_merging t (get_or ops i 0) (get_or ops place 0))
-TakesOrStays side_effects t t' ops ends place false = t' ≡ t
+abbrev pub MergesOrStays : (Head → Option Bool) → (t t' : Tree) → (ops ends : List ℕ) → ℕ → Bool → Type 0
+MergesOrStays side_effects t t' ops ends place true = (i : ℕ) × LeadsAt side_effects t ops ends i place × (t' ≡ after_merging t (get_or ops i 0) (get_or ops place 0))
+MergesOrStays side_effects t t' ops ends place false = t' ≡ t
 
 -- nothing changed, or of its several results the uses of the first ones became uses of those of a leader
-abbrev pub TakesInPart : (Head → Option Bool) → (t t' : Tree) → (ops ends : List ℕ) → ℕ → Type 0
-TakesInPart side_effects t t' ops ends place = (t' ≡ t) ⊎ ((i : ℕ) × LeadsAt side_effects t ops ends i place × AreHandedOver t t' (get_or ops i 0) (get_or ops place 0))
+abbrev pub MergesInPart : (Head → Option Bool) → (t t' : Tree) → (ops ends : List ℕ) → ℕ → Type 0
+MergesInPart side_effects t t' ops ends place = (t' ≡ t) ⊎ ((i : ℕ) × LeadsAt side_effects t ops ends i place × AreHandedOver t t' (get_or ops i 0) (get_or ops place 0))
 
 -- what holds all the way from the tree t0
 pub record IsOnWay (m : Meaning) (t0 t : Tree) (root : ℕ) : Type 0 where
@@ -91,9 +91,9 @@ pub record IsExact (side_effects : Head → Option Bool) (t0 t : Tree) (root : �
   pub had : status ≡ Changed → HasRedundancy side_effects t0 root
 
 -- what holds when the operations before the place were visited
-pub record IsTaking (m : Meaning) (side_effects : Head → Option Bool) (t0 t : Tree) (root : ℕ) (ops ends : List ℕ) (place : ℕ) (find : List ℕ → Option ℕ) (status : IRStatus) : Type 0 where
+pub record IsMergedUpTo (m : Meaning) (side_effects : Head → Option Bool) (t0 t : Tree) (root : ℕ) (ops ends : List ℕ) (place : ℕ) (find : List ℕ → Option ℕ) (status : IRStatus) : Type 0 where
   pub way : IsOnWay m t0 t root
-  pub taken : (xs : List Pair) × TakeInTurn side_effects root xs t0 t
+  pub taken : (xs : List Pair) × MergeInTurn side_effects root xs t0 t
   pub accurate : ReportsErased t0 t status
   pub ordered : IsOrdered t root ops ends place
   pub exact : IsExact side_effects t0 t root ops ends place find status

@@ -4,7 +4,7 @@ use Rattle.pliron_core.specs.Changes.{IsDefinedInside}
 use Rattle.pliron_core.specs.Tree.{Tree, In, IsLive, Directly, IsWithin, operands_of, definition_of, parent_operation_of}
 use Rattle.pliron_core.specs.Invariant.{IsTree}
 use Rattle.pliron_core.proofs.HoldingLemmas.{some_is, inside_up, inside_by, within_inside, maker_deeper, not_itself}
-use Rattle.pliron_dce.specs.declared.around.Reach.{Reach}
+use Rattle.pliron_dce.specs.declared.around.LiveChain.{LiveChain}
 use Rattle.pliron_dce.specs.Readiness.{IsKeptAlive, IsHeldUpTo}
 use Rattle.pliron_dce.proofs.ReadyTests.{held_from_inside}
 
@@ -68,6 +68,6 @@ pub reach_holds : (t : Tree) (at top : ℕ) → IsHeldUpTo t at top → IsKeptAl
 reach_holds t at top h = h.held at h.within (inl refl)
 
 -- what was found holds the operation that was asked for
-pub held_told : (t : Tree) (op : ℕ) (found : Option Reach) → IfSome found (λ reach. (reach.at ≡ op) × IsHeldUpTo t reach.at reach.top) → (found ≡ None → ⊥) → IsKeptAlive t op
+pub held_told : (t : Tree) (op : ℕ) (found : Option LiveChain) → IfSome found (λ reach. (reach.at ≡ op) × IsHeldUpTo t reach.at reach.top) → (found ≡ None → ⊥) → IsKeptAlive t op
 held_told t op None h n = absurd (n refl)
 held_told t op (Some reach) h n = subst (IsKeptAlive t) h.0 (reach_holds t reach.at reach.top h.1)

@@ -95,15 +95,15 @@ fn put_place(places: &mut Vec<usize>, op: Ptr<Operation>, place: usize) -> Resul
 
 // An operation, and the outermost of those around it that the same use keeps alive.
 #[derive(Clone, Copy)]
-pub(crate) struct Reach {
+pub(crate) struct LiveChain {
     pub(crate) at: Ptr<Operation>,
     pub(crate) top: Ptr<Operation>,
 }
 
-impl Reach {
+impl LiveChain {
     // The same for the operation, where it is the parent operation and the use holds it too.
     #[inline(always)]
-    pub(crate) fn step_to(self, op: Ptr<Operation>, ctx: &Context) -> Option<Reach>
+    pub(crate) fn step_to(self, op: Ptr<Operation>, ctx: &Context) -> Option<LiveChain>
         requires { IsHeldUpTo ctx.now.tree self.at self.top }
         ensures { IfSome result (λ reach. (reach.at ≡ op) × IsHeldUpTo ctx.now.tree reach.at reach.top) }
     {
@@ -113,7 +113,7 @@ impl Reach {
         }
         let above = self.at.get_parent_op(ctx)?;
         if above == op {
-            return Some(Reach {
+            return Some(LiveChain {
                 at: op,
                 top: self.top,
             });

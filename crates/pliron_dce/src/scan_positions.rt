@@ -19,7 +19,7 @@ ghost use Rattle.pliron_core.specs.Tree.{In, IsLive, IsDefined, operands_of, res
 ghost use Rattle.pliron_core.specs.Changes.{IsDefinedInside};
 ghost use Rattle.pliron_dce.specs.Readiness.{IsKeptAlive, IsUsedOutside, IsHeldUpTo};
 
-use crate::around::{Reach, find_top, is_held_up_to};
+use crate::around::{LiveChain, find_top, is_held_up_to};
 use crate::ready::{is_harmless, is_within, parent_operation_of};
 use crate::worklist::DeadCandidate;
 use indexmap::IndexMap;
@@ -36,7 +36,7 @@ struct SlotSpan {
 
 // The part of the list of values that no scan of the operation has passed.
 #[derive(Clone, Copy)]
-struct RestOfScan {
+struct ScanRange {
     start: usize,
     // how many uses of the first of these values may not have been passed: none of those behind them keeps the
     // operation alive
@@ -52,7 +52,7 @@ struct RestOfScan {
 pub(crate) struct ScanPositions {
     // all values that are defined inside the root, in the order of a text
     values: Vec<Value>,
-    rests: IndexMap<Ptr<Operation>, RestOfScan>,
+    rests: IndexMap<Ptr<Operation>, ScanRange>,
     // the positions of all operations inside the root, if some are deep inside others
     positions: IndexMap<Ptr<Operation>, usize>,
     // the greatest number of operations around one, of those that have a rest
@@ -64,17 +64,17 @@ const FEW_AROUND: usize = 8;
 
 // Whether a scan of the operation may be long.
 #[inline(always)]
-fn is_long(op: Ptr<Operation>, ctx: &Context) -> bool
+fn has_long_scan(op: Ptr<Operation>, ctx: &Context) -> bool
     requires { IsLive ctx.now.tree op }
 {
     op.num_region(ctx) != 0 || op.num_result(ctx) > 1
 }
 
 // Whether a scan of one of the candidates may be long.
-fn are_some_long(candidates: &[DeadCandidate], ctx: &Context) -> bool {
+fn have_long_scan(candidates: &[DeadCandidate], ctx: &Context) -> bool {
     for candidate in candidates {
         if let DeadCandidate::Operation(op) = candidate {
-            if op.is_live(ctx) && is_long(*op, ctx) {
+            if op.is_live(ctx) && has_long_scan(*op, ctx) {
                 return true;
             }
         }
@@ -101,7 +101,7 @@ impl ScanPositions {
         ctx: &Context,
     ) -> Result<ScanPositions, AllocError> {
         let mut scans = ScanPositions::empty(alloc);
-        if !are_some_long(candidates, ctx) {
+        if !have_long_scan(candidates, ctx) {
             return Ok(scans);
         }
         let mut open = Vec::new(alloc);
@@ -161,8 +161,8 @@ impl ScanPositions {
         for i in 0..op.num_result(ctx) {
             self.values.push(op.get_result(ctx, i))?;
         }
-        if is_long(op, ctx) {
-            let rest = RestOfScan {
+        if has_long_scan(op, ctx) {
+            let rest = ScanRange {
                 start,
                 uses: usize::MAX,
                 end: start,
@@ -205,7 +205,7 @@ impl ScanPositions {
         requires { IsLive ctx.now.tree op }
         ensures { IsTrue result → IsKeptAlive ctx.now.tree op }
     {
-        if !is_long(op, ctx) {
+        if !has_long_scan(op, ctx) {
             return false;
         }
         match self.rests.get_mut(&op) {
@@ -218,10 +218,10 @@ impl ScanPositions {
     #[inline(always)]
     pub(crate) fn reach_from<D: Dialect>(
         &mut self,
-        before: Option<Reach>,
+        before: Option<LiveChain>,
         op: Ptr<Operation>,
         ctx: &Context,
-    ) -> Option<Reach>
+    ) -> Option<LiveChain>
         requires { IfSome before (λ reach. IsHeldUpTo ctx.now.tree reach.at reach.top) }
         ensures { IfSome result (λ reach. (reach.at ≡ op) × IsHeldUpTo ctx.now.tree reach.at reach.top) }
     {
@@ -231,11 +231,15 @@ impl ScanPositions {
                 return next;
             }
         }
-        self.find_reach::<D>(op, ctx)
+        self.find_live_chain::<D>(op, ctx)
     }
 
     // The same, where none is known.
-    fn find_reach<D: Dialect>(&mut self, op: Ptr<Operation>, ctx: &Context) -> Option<Reach>
+    fn find_live_chain<D: Dialect>(
+        &mut self,
+        op: Ptr<Operation>,
+        ctx: &Context,
+    ) -> Option<LiveChain>
         ensures { IfSome result (λ reach. (reach.at ≡ op) × IsHeldUpTo ctx.now.tree reach.at reach.top) }
     {
         if !op.is_live(ctx) {
@@ -264,7 +268,7 @@ impl ScanPositions {
 
 // The use that the last scan found: the value and the user.
 #[inline(always)]
-fn last_found(values: &[Value], rest: &RestOfScan, ctx: &Context) -> Option<(Value, Ptr<Operation>)>
+fn last_found(values: &[Value], rest: &ScanRange, ctx: &Context) -> Option<(Value, Ptr<Operation>)>
     ensures value { IfSome result (λ found. IsDefined ctx.now.tree found.0) }
     ensures user { IfSome result (λ found. IsLive ctx.now.tree found.1) }
     ensures used { IfSome result (λ found. In found.0 (operands_of ctx.now.tree found.1)) }
@@ -286,10 +290,10 @@ fn last_found(values: &[Value], rest: &RestOfScan, ctx: &Context) -> Option<(Val
 #[inline(always)]
 fn known_reach(
     values: &[Value],
-    rest: &RestOfScan,
+    rest: &ScanRange,
     op: Ptr<Operation>,
     ctx: &Context,
-) -> Option<Reach>
+) -> Option<LiveChain>
     requires { IsLive ctx.now.tree op }
     ensures { IfSome result (λ reach. (reach.at ≡ op) × IsHeldUpTo ctx.now.tree reach.at reach.top) }
 {
@@ -298,14 +302,14 @@ fn known_reach(
     if !is_held_up_to(op, top, value, user, ctx) {
         return None;
     }
-    Some(Reach { at: op, top })
+    Some(LiveChain { at: op, top })
 }
 
 // Whether one of these values that no scan has passed keeps the operation alive; those before it are passed.
 fn resume_scan(
     values: &[Value],
     positions: &IndexMap<Ptr<Operation>, usize>,
-    rest: &mut RestOfScan,
+    rest: &mut ScanRange,
     op: Ptr<Operation>,
     ctx: &Context,
 ) -> bool

@@ -11,7 +11,7 @@ use crate::text_parts::TextPart;
 use crate::trap_reason::{TrapReason, reason_by_kind, reason_of};
 use pliron_bench::Bench;
 use pliron_core::{Context, Operation, Ptr};
-use pliron_evaluator::evaluator::{Datum, Noted, Notes, RunInputs, Sight, evaluate_noting};
+use pliron_evaluator::evaluator::{Datum, NotedMove, Notes, RunInputs, Sight, evaluate_noting};
 use pliron_laws::OptError;
 use pliron_notation::read_text;
 use std::alloc::{AllocError, Global};
@@ -176,7 +176,7 @@ fn write_moves(
     source: &Source,
     root: Ptr<Operation>,
     places: &[TextPart],
-    moves: &[Noted],
+    moves: &[NotedMove],
 ) -> Result<(), AllocError> {
     for noted in moves {
         if let Some(place) = place_of(places, root, noted.op) {

@@ -3,7 +3,7 @@ ghost use Rattle.pliron_core.specs.Tree.{IsLive};
 
 use pliron_bench::{Bench, BenchKind};
 use pliron_core::{Context, Def, Operation, Ptr, Value};
-use pliron_evaluator::evaluator::{Datum, Noted};
+use pliron_evaluator::evaluator::{Datum, NotedMove};
 use pliron_laws::{Dialect, OptError};
 use std::alloc::{AllocError, Global};
 
@@ -55,13 +55,13 @@ fn number_at(input: &[Datum], index: usize) -> Option<i128> {
 }
 
 // The moves before the last one.
-fn earlier_moves(moves: &[Noted]) -> &[Noted] {
+fn earlier_moves(moves: &[NotedMove]) -> &[NotedMove] {
     moves.get(..moves.len().saturating_sub(1)).unwrap_or(moves)
 }
 
 // Whether one of the moves before the last one was made by the operation that defines the value, or, for an argument,
 // one of all moves by an operation of its block.
-fn is_defined_by(ctx: &Context, moves: &[Noted], value: Value) -> bool {
+fn is_defined_by(ctx: &Context, moves: &[NotedMove], value: Value) -> bool {
     if !value.is_live(ctx) {
         return false;
     }
@@ -79,7 +79,7 @@ fn is_defined_by(ctx: &Context, moves: &[Noted], value: Value) -> bool {
 }
 
 // The first operand that no move before the last one defined.
-fn undefined_operand(ctx: &Context, op: Ptr<Operation>, moves: &[Noted]) -> TrapReason
+fn undefined_operand(ctx: &Context, op: Ptr<Operation>, moves: &[NotedMove]) -> TrapReason
     requires { IsLive ctx.now.tree op }
 {
     for index in 0..op.num_operand(ctx) {
@@ -139,7 +139,7 @@ fn reason_by_input(
 pub(crate) fn reason_of(
     alloc: Global,
     ctx: &Context,
-    moves: &[Noted],
+    moves: &[NotedMove],
 ) -> Result<TrapReason, OptError> {
     let Some(last) = moves.last() else {
         return Ok(TrapReason::Unknown);

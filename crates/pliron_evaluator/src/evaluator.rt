@@ -16,7 +16,7 @@ mod state;
 mod tiny_moves;
 mod values;
 
-pub use crate::evaluator::notes::{Noted, Notes};
+pub use crate::evaluator::notes::{NotedMove, Notes};
 use crate::evaluator::state::{Next, start, step};
 use pliron_core::{Context, Operation, Ptr};
 use std::alloc::{AllocError, Global};

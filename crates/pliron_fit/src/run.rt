@@ -16,7 +16,7 @@ ghost use Rattle.pliron_fit.specs.declared.run.RunError.TheVariants.{NotLinked, 
 use crate::find::fit_roots;
 use pliron_core::{Context, IRStatus, Operation, Ptr};
 use pliron_laws::{Dialect, OptError, is_well_linked};
-use pliron_pass::{AnalysisManager, Managed, Pass, run_pipeline};
+use pliron_pass::{AnalysisManager, ManagedPass, Pass, run_pipeline};
 use std::alloc::Global;
 use thiserror::Error;
 
@@ -74,7 +74,7 @@ pub fn run_checked<P: Pass>(
     ensures inside { IsInsideChange ctx.old.tree ctx.new.tree op }
     ensures fresh { OnOk result (IsFresh P.E.Kind.eq P.E.kind P.E.holds ctx.old.tree analyses.old.cache.entries →
         IsFresh P.E.Kind.eq P.E.kind P.E.holds ctx.new.tree analyses.new.cache.entries) }
-    ensures outcome { IsWellLinked P.D.meaning ctx.old.tree op → RunsOnce P.E.Kind.eq ⟦<P as Managed>⟧.runs
+    ensures outcome { IsWellLinked P.D.meaning ctx.old.tree op → RunsOnce P.E.Kind.eq ⟦<P as ManagedPass>⟧.runs
         pass.old pass.new op (stage ctx.old analyses.old) (stage ctx.new analyses.new) result }
     ensures refused { (result ≡ Err NotLinked) ↔ (IsWellLinked P.D.meaning ctx.old.tree op → ⊥) }
     ensures untouched { (IsWellLinked P.D.meaning ctx.old.tree op → ⊥) → (ctx.new ≡ ctx.old) × (pass.new ≡ pass.old)
@@ -119,7 +119,7 @@ pub fn run_checked_for<P: Pass>(
     ensures inside { IsInsideChange ctx.old.tree ctx.new.tree op }
     ensures fresh { OnOk result (IsFresh P.E.Kind.eq P.E.kind P.E.holds ctx.old.tree analyses.old.cache.entries →
         IsFresh P.E.Kind.eq P.E.kind P.E.holds ctx.new.tree analyses.new.cache.entries) }
-    ensures outcome { IsWellLinked P.D.meaning ctx.old.tree op → RunsOnceFor P.E.Kind.eq ⟦<P as Managed>⟧.runs
+    ensures outcome { IsWellLinked P.D.meaning ctx.old.tree op → RunsOnceFor P.E.Kind.eq ⟦<P as ManagedPass>⟧.runs
         pass.old pass.new op (stage ctx.old analyses.old) (stage ctx.new analyses.new) result }
     ensures refused { (result ≡ Err NotLinked) ↔ (IsWellLinked P.D.meaning ctx.old.tree op → ⊥) }
     ensures untouched { (IsWellLinked P.D.meaning ctx.old.tree op → ⊥) → (ctx.new ≡ ctx.old) × (pass.new ≡ pass.old)

@@ -20,7 +20,7 @@ pub struct MissedText<'m> {
 
 /// What is reported of what stayed.
 #[derive(Clone, Copy)]
-struct Missed<'m> {
+struct MissedReport<'m> {
     alloc: Global,
     reported: &'m MissedText<'m>,
 }
@@ -61,7 +61,7 @@ fn is_used(ctx: &Context, op: Ptr<Operation>) -> bool
     false
 }
 
-impl Missed<'_> {
+impl MissedReport<'_> {
     // Whether the list has the pass.
     fn has(&self, pass: PassName) -> bool {
         self.reported.list.passes.iter().any(|other| *other == pass)
@@ -197,7 +197,7 @@ pub fn push_missed(
     if !root.is_live(ctx) {
         return Ok(());
     }
-    let missed = Missed { alloc, reported };
+    let missed = MissedReport { alloc, reported };
     for op in Contents::new(root, ctx) {
         if op.is_live(ctx) {
             missed.push(ctx, op, lines)?;

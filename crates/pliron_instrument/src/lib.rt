@@ -15,7 +15,7 @@ mod schedule;
 pub use comparison::{Comparison, RewriteCounts};
 pub use contents_count::ContentsCount;
 pub use instrumented::{Instrumentation, Instrumented};
-pub use optimise_text::{Optimised, optimise, run_instrumented};
+pub use optimise_text::{OptimisedText, optimise, run_instrumented};
 pub use pliron_opts::{PipelineText, PlanError, WordFault};
 pub use progress::{Progress, Timeless};
 pub use run_records::{InstrumentationRecord, RoundRecord, RunNote};

@@ -21,7 +21,7 @@ use std::alloc::Global;
 
 /// What passes made of a text: their tree printed, and whether it changed.
 #[derive(Drop)]
-pub struct Optimised {
+pub struct OptimisedText {
     pub printed: String,
     pub status: IRStatus,
 }
@@ -59,7 +59,7 @@ pub fn optimise<N: Notation, C: Progress + Drop>(
     alloc: Global,
     schedule: &mut InstrumentedSchedule<N, C>,
     text: &[u8],
-) -> Result<Option<Optimised>, OptError>
+) -> Result<Option<OptimisedText>, OptError>
     ensures { IfOk result (λ found. IfSome found (λ made. IsOptimised N.reads N.prints N.D.meaning
         (RunsAlone ⟦<BenchFactKind as PartialEq>⟧.eq ⟦<InstrumentedSchedule<N, C> as Pass>⟧.outcome schedule.old)
         text.now
@@ -75,7 +75,7 @@ fn optimise_in<N: Notation, C: Progress + Drop>(
     schedule: &mut InstrumentedSchedule<N, C>,
     text: &[u8],
     ctx: &mut Context,
-) -> Result<Option<Optimised>, OptError>
+) -> Result<Option<OptimisedText>, OptError>
     requires { ctx.old.tree ≡ no_tree }
     ensures { IfOk result (λ found. IfSome found (λ made. IsOptimised N.reads N.prints N.D.meaning
         (RunsAlone ⟦<BenchFactKind as PartialEq>⟧.eq ⟦<InstrumentedSchedule<N, C> as Pass>⟧.outcome schedule.old)
@@ -87,5 +87,5 @@ fn optimise_in<N: Notation, C: Progress + Drop>(
     };
     let status = run_instrumented(alloc, schedule, root, ctx)?;
     let printed = N::print(alloc, root, ctx)?;
-    Ok(Some(Optimised { printed, status }))
+    Ok(Some(OptimisedText { printed, status }))
 }

@@ -10,7 +10,7 @@ ghost use Rattle.pliron_linked.specs.KeepsLinked.{KeepsPrograms};
 
 use pliron_core::{Context, IRStatus, Operation, Ptr};
 use pliron_laws::OptError;
-use pliron_pass::{AnalysisManager, Managed, Pass, run_pipeline};
+use pliron_pass::{AnalysisManager, ManagedPass, Pass, run_pipeline};
 use std::alloc::Global;
 
 /// Runs a pass on an operation of a module of a program, as `run_pipeline` does.
@@ -32,7 +32,7 @@ pub fn run_pipeline_in_program<P: Pass>(
     ensures programs { KeepsPrograms P.D.meaning ctx.old.tree ctx.new.tree }
     ensures fresh { OnOk result (IsFresh P.E.Kind.eq P.E.kind P.E.holds ctx.old.tree analyses.old.cache.entries →
         IsFresh P.E.Kind.eq P.E.kind P.E.holds ctx.new.tree analyses.new.cache.entries) }
-    ensures outcome { Steps P.E.Kind.eq ⟦<P as Managed>⟧.runs pass.old pass.new op (stage ctx.old analyses.old)
+    ensures outcome { Steps P.E.Kind.eq ⟦<P as ManagedPass>⟧.runs pass.old pass.new op (stage ctx.old analyses.old)
         (stage ctx.new analyses.new) result }
     ensures change { IsPassChange P.D.meaning ctx.old.tree ctx.new.tree op }
 {

@@ -261,5 +261,5 @@ fn answers_and_folds(rt: HostRuntime) {
     check_table(&rt, alloc, Question::Products, PRODUCTS);
     check_table(&rt, alloc, Question::Quotients, QUOTIENTS);
     check_table(&rt, alloc, Question::InPlace, IN_PLACE);
-    check_table(&rt, alloc, Question::Made, MADE);
+    check_table(&rt, alloc, Question::TestTree, MADE);
 }

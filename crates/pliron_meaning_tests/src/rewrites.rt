@@ -16,7 +16,7 @@ use pliron_meaning::rewrites::{
 use pliron_meaning::{Dialect, Tiny, TinyKind};
 use pliron_pass_rewrites::{is_defined_inside, replace_by_constant_inside};
 use pliron_test_cases::listener::Counting;
-use pliron_test_cases::trees::{Made, make};
+use pliron_test_cases::trees::{TestTree, make};
 use std::alloc::Global;
 use std::process::Abort;
 
@@ -154,7 +154,7 @@ struct QuestionTree {
 }
 
 fn made_in(rt: &impl Abort, alloc: Global, ctx: &mut Context) -> QuestionTree {
-    let mut made = Made::new(alloc);
+    let mut made = TestTree::new(alloc);
     make(alloc, ctx, &mut made, STEPS).expect(rt, "a tree");
     QuestionTree {
         root: made.operation("0").expect(rt, "an operation"),

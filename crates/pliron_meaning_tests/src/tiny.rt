@@ -9,7 +9,7 @@ use pliron_test_cases::answers::{effects, entry_operand_of, interfaces, removabl
 use pliron_test_cases::cases::number;
 use pliron_test_cases::listener::Counting;
 use pliron_test_cases::losses::lose;
-use pliron_test_cases::trees::{Made, build, make};
+use pliron_test_cases::trees::{TestTree, build, make};
 use std::alloc::Global;
 use std::process::Abort;
 
@@ -83,7 +83,7 @@ an edge of an operation with a region, in mid-block -- scope; block 0; block 0; 
     b1 => false true";
 
 // Whether edges are last in the operation that was made with this number.
-fn are_edges_last(rt: &impl Abort, ctx: &Context, made: &Made, number: &str) -> bool {
+fn are_edges_last(rt: &impl Abort, ctx: &Context, made: &TestTree, number: &str) -> bool {
     let op = made.operation(number).expect(rt, "an operation");
     assert!(rt; op.is_live(ctx));
     edges_last(op, ctx)
@@ -91,7 +91,7 @@ fn are_edges_last(rt: &impl Abort, ctx: &Context, made: &Made, number: &str) -> 
 
 /// Whether edges are last in the first two operations of the steps.
 pub fn edges_of(rt: &impl Abort, alloc: Global, ctx: &mut Context, steps: &str) -> String {
-    let mut made = Made::new(alloc);
+    let mut made = TestTree::new(alloc);
     make(alloc, ctx, &mut made, steps).expect(rt, "a tree");
     let outer = are_edges_last(rt, ctx, &made, "0");
     let inner = are_edges_last(rt, ctx, &made, "1");
@@ -177,7 +177,7 @@ pub(crate) fn number_of(rt: &impl Abort, ctx: &Context, op: Ptr<Operation>) -> O
 }
 
 fn folding_in(rt: &impl Abort, alloc: Global, ctx: &mut Context) {
-    let mut made = Made::new(alloc);
+    let mut made = TestTree::new(alloc);
     make(
         alloc,
         ctx,
@@ -207,7 +207,7 @@ fn check_forwarded(
 }
 
 fn loss_in(rt: &impl Abort, alloc: Global, ctx: &mut Context) {
-    let mut made = Made::new(alloc);
+    let mut made = TestTree::new(alloc);
     make(
         alloc,
         ctx,

@@ -1,6 +1,12 @@
 //! The classes by the names of MLIR.
 ghost use Rattle.std.specs.Prelude.{◌≡◌};
-ghost use Rattle.pliron_mlir.specs.Names.{class_named as class_named_in, classes_elsewhere, complex_class as complex_class_of, arith_class as arith_class_of, arith_classes, arith_operators, llvm_class as llvm_class_of, llvm_classes, llvm_operators, llvm_effects, lookup, is_named, is_pure as is_pure_of, pure_casts, pure_aggregates, float_operations, counting_intrinsics, overflowing_intrinsics, hinting_intrinsics, float_functions, float_roundings, float_others, is_pure_intrinsic as is_pure_intrinsic_of};
+ghost use Rattle.pliron_mlir.specs.Names.{class_named as class_named_in, classes_elsewhere};
+ghost use Rattle.pliron_mlir.specs.Names.{complex_class as complex_class_of, arith_class as arith_class_of};
+ghost use Rattle.pliron_mlir.specs.Names.{arith_classes, arith_operators, llvm_class as llvm_class_of, llvm_classes};
+ghost use Rattle.pliron_mlir.specs.Names.{llvm_operators, llvm_effects, lookup, is_named, is_pure as is_pure_of};
+ghost use Rattle.pliron_mlir.specs.Names.{pure_casts, pure_aggregates, float_operations, counting_intrinsics};
+ghost use Rattle.pliron_mlir.specs.Names.{overflowing_intrinsics, hinting_intrinsics, float_functions};
+ghost use Rattle.pliron_mlir.specs.Names.{float_roundings, float_others, is_pure_intrinsic as is_pure_intrinsic_of};
 
 use crate::kind::Class;
 use pliron_bits::{BinaryOperator, Cast};

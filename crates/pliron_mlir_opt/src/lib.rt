@@ -20,7 +20,7 @@ pub use each_pass::print_after_each;
 pub use failure::ModuleFailure;
 pub use fitness::{Fitness, Unfit};
 pub use notation::{GenericForm, ModuleNotation};
-pub use optimise_module::{Counts, ModuleOptions, Optimised, optimise};
+pub use optimise_module::{Counts, ModuleOptions, OptimisedModule, optimise};
 pub use outcome::{Outcome, Source, misspelling_outcome, run_passes};
 pub use plans::read_plan;
 pub use program::{MAX_TEXT, Request, run_on};

@@ -19,7 +19,7 @@ use std::alloc::{AllocError, Global};
 
 /// What passes made of a module: it printed, and whether it changed.
 #[derive(Drop)]
-pub struct Optimised {
+pub struct OptimisedModule {
     pub printed: Vec<u8>,
     pub status: IRStatus,
     /// Whether what was printed says the same tree when it is read again, where that was asked for.
@@ -60,7 +60,7 @@ pub fn optimise<N: ModuleNotation, C: Progress + Drop>(
     schedule: &mut InstrumentedSchedule<N, C>,
     text: &[u8],
     options: &ModuleOptions,
-) -> Result<Optimised, ModuleFailure>
+) -> Result<OptimisedModule, ModuleFailure>
     ensures { IfOk result (λ made. IsOptimised N.reads N.prints N.D.meaning
         (RunsAlone ⟦<BenchFactKind as PartialEq>⟧.eq ⟦<InstrumentedSchedule<N, C> as Pass>⟧.outcome schedule.old)
         text.now (made.printed.items ++ status_line made.status)) }
@@ -76,7 +76,7 @@ fn optimise_in<N: ModuleNotation, C: Progress + Drop>(
     text: &[u8],
     options: &ModuleOptions,
     ctx: &mut Context,
-) -> Result<Optimised, ModuleFailure>
+) -> Result<OptimisedModule, ModuleFailure>
     requires { ctx.old.tree ≡ no_tree }
     ensures { IfOk result (λ made. IsOptimised N.reads N.prints N.D.meaning
         (RunsAlone ⟦<BenchFactKind as PartialEq>⟧.eq ⟦<InstrumentedSchedule<N, C> as Pass>⟧.outcome schedule.old)
@@ -206,7 +206,7 @@ fn optimise_module<N: ModuleNotation, C: Progress + Drop>(
     loaded: &Module,
     options: &ModuleOptions,
     ctx: &mut Context,
-) -> Result<Optimised, ModuleFailure>
+) -> Result<OptimisedModule, ModuleFailure>
     requires live { IsLive ctx.old.tree loaded.now.root }
     requires linked { IsWellLinked N.D.meaning ctx.old.tree loaded.now.root }
     requires reads { N.reads text.now ctx.old.tree loaded.now.root }
@@ -221,7 +221,7 @@ fn optimise_module<N: ModuleNotation, C: Progress + Drop>(
         agrees,
         counts,
     } = answer_of::<N>(alloc, loaded, before, options, ctx)?;
-    Ok(Optimised {
+    Ok(OptimisedModule {
         printed,
         status,
         agrees,

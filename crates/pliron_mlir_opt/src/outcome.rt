@@ -6,7 +6,7 @@ ghost use Rattle.pliron_mlir_opt.specs.Outcomes.{EndsWithout, Writes, EndsOptimi
 use crate::failure::ModuleFailure;
 use crate::fitness::write_fitness;
 use crate::notation::ModuleNotation;
-use crate::optimise_module::{ModuleOptions, Optimised, optimise};
+use crate::optimise_module::{ModuleOptions, OptimisedModule, optimise};
 use crate::report::{has_fault, is_short, report_of};
 use crate::tally::write_tallies;
 use pliron_core::IRStatus;
@@ -65,7 +65,11 @@ fn failure_outcome(
 }
 
 // Writes the report on a module that passes made: counts, whether it changed, and whether what is printed says it.
-fn write_made(report: &mut String, source: &Source, made: &Optimised) -> Result<(), AllocError> {
+fn write_made(
+    report: &mut String,
+    source: &Source,
+    made: &OptimisedModule,
+) -> Result<(), AllocError> {
     if let Some(counts) = &made.counts {
         write_tallies(report, &counts.before, &counts.after)?;
         write_fitness(report, &counts.fitness, source.name, source.text)?;
@@ -86,7 +90,7 @@ fn success_outcome(
     alloc: Global,
     source: &Source,
     report: String,
-    made: Optimised,
+    made: OptimisedModule,
     has_fault: bool,
 ) -> Result<Outcome, AllocError>
     ensures { IfOk result (Writes made.printed.items) }

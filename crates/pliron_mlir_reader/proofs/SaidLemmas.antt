@@ -6,8 +6,8 @@ use Rattle.std.proofs.lemmas.List.Sums.{sum_by_more, sum_by-take-le}
 use Rattle.pliron_mlir_syntax.specs.declared.cursor.Cursor.{Cursor}
 use Rattle.pliron_mlir_syntax.specs.Spans.{bytes_in}
 use Rattle.pliron_mlir_reader.specs.declared.reader.Entry.{Entry}
-use Rattle.pliron_mlir_reader.specs.declared.owned.Owned.{Owned}
-use Rattle.pliron_mlir_reader.specs.declared.owned.Owned.TheVariants.{Predicate as OwnsPredicate, LlvmOverflow, ArithOverflow, Exact, Disjoint, NonNegative}
+use Rattle.pliron_mlir_reader.specs.declared.owned.OwnedProperty.{OwnedProperty}
+use Rattle.pliron_mlir_reader.specs.declared.owned.OwnedProperty.TheVariants.{Predicate as OwnsPredicate, LlvmOverflow, ArithOverflow, Exact, Disjoint, NonNegative}
 use Rattle.pliron_mlir_reader.specs.declared.taken.Entries.{Entries}
 use Rattle.pliron_mlir_reader.specs.Taken.{flags_owned}
 use Rattle.pliron_core.specs.declared.attrs.Head.{Head}
@@ -39,7 +39,7 @@ named_never name cursor entries i h = rw (drop_all entries i h)
 pub sum_over : (xs : List ℕ) (i : ℕ) → i < length xs → 2 ^ 64 ≤ sum (take i xs) + get_or xs i 0 → 2 ^ 64 ≤ sum xs
 sum_over xs i h over = omega (arith, sum_by_more (λ x. x) xs i 0 h, sum_by-take-le (λ x. x) xs (i + 1))
 
-pub flags_unowned : (owned : Owned) (p a q b : Entries) → (owned ≡ LlvmOverflow → ⊥) → (owned ≡ ArithOverflow → ⊥) → (owned ≡ Exact → ⊥) → (owned ≡ Disjoint → ⊥) → (owned ≡ NonNegative → ⊥)
+pub flags_unowned : (owned : OwnedProperty) (p a q b : Entries) → (owned ≡ LlvmOverflow → ⊥) → (owned ≡ ArithOverflow → ⊥) → (owned ≡ Exact → ⊥) → (owned ≡ Disjoint → ⊥) → (owned ≡ NonNegative → ⊥)
     → flags_owned owned p a ≡ flags_owned owned q b
 flags_unowned LlvmOverflow p a q b l r e d n = absurd (l refl)
 flags_unowned ArithOverflow p a q b l r e d n = absurd (r refl)
@@ -48,7 +48,7 @@ flags_unowned Disjoint p a q b l r e d n = absurd (d refl)
 flags_unowned NonNegative p a q b l r e d n = absurd (n refl)
 flags_unowned _ p a q b l r e d n = refl
 
-pub predicate_unowned : (owned : Owned) (said : Said) → (owned ≡ OwnsPredicate → ⊥) → predicate_in owned said ≡ None
+pub predicate_unowned : (owned : OwnedProperty) (said : Said) → (owned ≡ OwnsPredicate → ⊥) → predicate_in owned said ≡ None
 predicate_unowned OwnsPredicate said h = absurd (h refl)
 predicate_unowned _ said h = refl
 

@@ -1,7 +1,7 @@
 -- Which names own a property that is read, as MLIR 22 has them.
 use Rattle.std.specs.Prelude.{◌||◌, ℕ, Bool, false, List, [], ◌∷◌, if◌then◌else◌, codes, bytes_eq}
-use Rattle.pliron_mlir_reader.specs.declared.owned.Owned.{Owned}
-use Rattle.pliron_mlir_reader.specs.declared.owned.Owned.TheVariants.{Nothing, Value, Zero, Predicate, LlvmOverflow, ArithOverflow, Exact, Disjoint, NonNegative, Edges}
+use Rattle.pliron_mlir_reader.specs.declared.owned.OwnedProperty.{OwnedProperty}
+use Rattle.pliron_mlir_reader.specs.declared.owned.OwnedProperty.TheVariants.{Nothing, Value, Zero, Predicate, LlvmOverflow, ArithOverflow, Exact, Disjoint, NonNegative, Edges}
 
 abbrev pub is_named : List (List ℕ) → List ℕ → Bool
 is_named [] name = false
@@ -25,7 +25,7 @@ exact_owners = codes "llvm.udiv" ∷ codes "llvm.sdiv" ∷ codes "llvm.lshr" ∷
 abbrev pub edges_owners : List (List ℕ)
 edges_owners = codes "llvm.cond_br" ∷ codes "cf.cond_br" ∷ codes "llvm.switch" ∷ codes "cf.switch" ∷ []
 
-abbrev pub owned_named : List ℕ → Owned
+abbrev pub owned_named : List ℕ → OwnedProperty
 owned_named name =
     if is_named value_owners name then Value
     else if bytes_eq name (codes "llvm.mlir.zero") then Zero

@@ -3,11 +3,11 @@ use Rattle.std.specs.Prelude.{◌+◌, ◌-◌, ◌/◌, ◌%◌, ◌&&◌, ℕ,
 use Rattle.std.specs.List.{slice_split, list_any, starts_with}
 use Rattle.pliron_bits.specs.declared.flags.Flags.{Flags}
 use Rattle.pliron_bits.specs.declared.operators.Predicate.{Predicate}
-use Rattle.pliron_mlir_syntax.specs.declared.numbers.Signed.{Signed}
+use Rattle.pliron_mlir_syntax.specs.declared.numbers.SignedNumber.{SignedNumber}
 use Rattle.pliron_mlir_syntax.specs.Numbers.{without_blanks, behind, before, is_comma, typed_written, bits_written, counts_written, dense_written}
 use Rattle.pliron_mlir_reader.specs.Taken.{flags_owned, predicate_said, spread_of}
-use Rattle.pliron_mlir_reader.specs.declared.owned.Owned.{Owned}
-use Rattle.pliron_mlir_reader.specs.declared.owned.Owned.TheVariants.{Predicate as OwnsPredicate}
+use Rattle.pliron_mlir_reader.specs.declared.owned.OwnedProperty.{OwnedProperty}
+use Rattle.pliron_mlir_reader.specs.declared.owned.OwnedProperty.TheVariants.{Predicate as OwnsPredicate}
 use Rattle.pliron_mlir_reader.specs.declared.taken.Shape.{Shape}
 use Rattle.pliron_mlir_reader.specs.declared.taken.Overflow.{Overflow}
 use Rattle.pliron_mlir_reader.specs.declared.taken.Entries.{Entries}
@@ -54,7 +54,7 @@ abbrev pub overflow_listed : (prefix text : List ℕ) → Overflow
 overflow_listed prefix text = record { signed = lists_word prefix (codes "nsw") text; unsigned = lists_word prefix (codes "nuw") text }
 
 -- two bits of a number; of what is no number, both: a result may be without either
-abbrev pub overflow_numbered : Option (Signed × List ℕ) → Overflow
+abbrev pub overflow_numbered : Option (SignedNumber × List ℕ) → Overflow
 overflow_numbered None = record { signed = true; unsigned = true }
 overflow_numbered (Some typed) = record { signed = nat_eq (typed.0.magnitude % 2) 1; unsigned = nat_eq ((typed.0.magnitude / 2) % 2) 1 }
 
@@ -72,20 +72,20 @@ entries_in entries = record {
   nonnegative = is_some (value_in (codes "nonNeg") entries);
 }
 
-abbrev pub flags_said : Owned → Said → Flags
+abbrev pub flags_said : OwnedProperty → Said → Flags
 flags_said owned said = flags_owned owned (entries_in said.properties) (entries_in said.attributes)
 
 -- ---- numbers
 
-abbrev pub predicate_typed : (Signed × List ℕ) → Option Predicate
+abbrev pub predicate_typed : (SignedNumber × List ℕ) → Option Predicate
 predicate_typed typed = predicate_said typed.0 (bytes_eq typed.1 (codes "i64"))
 
-abbrev pub predicate_in : Owned → Said → Option Predicate
+abbrev pub predicate_in : OwnedProperty → Said → Option Predicate
 predicate_in OwnsPredicate said = option_and_then predicate_typed (option_and_then typed_written (value_of (codes "predicate") said))
 predicate_in _ said = None
 
 -- a number of the type of the result
-abbrev pub bits_typed : (width : ℕ) → (type : List ℕ) → (Signed × List ℕ) → Option ℕ
+abbrev pub bits_typed : (width : ℕ) → (type : List ℕ) → (SignedNumber × List ℕ) → Option ℕ
 bits_typed width type typed = if bytes_eq typed.1 type then bits_written width typed.0 else None
 
 abbrev pub value_bits : (width : ℕ) → Said → Option ℕ

@@ -11,9 +11,9 @@ use Rattle.pliron_mlir.specs.declared.kind.Class.{Class}
 use Rattle.pliron_mlir.specs.declared.kind.Class.TheVariants.{Constant, Select, Opaque, Jump, Branch, Switch, Leave, Unreachable, Effect, Regions, Root, Module, Fork, Compare, Cast as CastClass, Binary}
 use Rattle.pliron_mlir.specs.ClassNumbers.{number_of_class}
 use Rattle.pliron_mlir.specs.Heads.{plain_head, binary_head, compare_head, cast_head, branch_head}
-use Rattle.pliron_mlir_syntax.specs.declared.numbers.Signed.{Signed}
-use Rattle.pliron_mlir_reader.specs.declared.owned.Owned.{Owned}
-use Rattle.pliron_mlir_reader.specs.declared.owned.Owned.TheVariants.{Value, Zero, LlvmOverflow, ArithOverflow, Exact, Disjoint, NonNegative}
+use Rattle.pliron_mlir_syntax.specs.declared.numbers.SignedNumber.{SignedNumber}
+use Rattle.pliron_mlir_reader.specs.declared.owned.OwnedProperty.{OwnedProperty}
+use Rattle.pliron_mlir_reader.specs.declared.owned.OwnedProperty.TheVariants.{Value, Zero, LlvmOverflow, ArithOverflow, Exact, Disjoint, NonNegative}
 use Rattle.pliron_mlir_reader.specs.declared.taken.Shape.{Shape}
 use Rattle.pliron_mlir_reader.specs.declared.taken.Overflow.{Overflow}
 use Rattle.pliron_mlir_reader.specs.declared.taken.Entries.{Entries}
@@ -91,7 +91,7 @@ abbrev pub overflow_in : Entries → Entries → Option Overflow
 overflow_in properties attributes = first_of properties.overflow attributes.overflow
 
 -- the flags of an operation are those that it owns, in either list; `overflowFlags` of `llvm` are a property alone
-abbrev pub flags_owned : Owned → Entries → Entries → Flags
+abbrev pub flags_owned : OwnedProperty → Entries → Entries → Flags
 flags_owned LlvmOverflow properties attributes = wrapping properties.overflow
 flags_owned ArithOverflow properties attributes = wrapping (overflow_in properties attributes)
 flags_owned Exact properties attributes = promise (properties.exact || attributes.exact) false false
@@ -100,11 +100,11 @@ flags_owned NonNegative properties attributes = promise false false (properties.
 flags_owned _ properties attributes = promise false false false
 
 -- the predicate with this number, an `i64`
-abbrev pub predicate_said : Signed → (is_i64 : Bool) → Option Predicate
+abbrev pub predicate_said : SignedNumber → (is_i64 : Bool) → Option Predicate
 predicate_said number is_i64 = if not number.is_negative && is_i64 then predicate_of_number number.magnitude else None
 
 -- the bits of a constant of this width: those of `value` where the operation owns one, and 0 of a zero
-abbrev pub bits_owned : Owned → (width : ℕ) → (value : Option ℕ) → Option ℕ
+abbrev pub bits_owned : OwnedProperty → (width : ℕ) → (value : Option ℕ) → Option ℕ
 bits_owned Value width value = value
 bits_owned Zero width value = if nat_lt 0 width then Some 0 else None
 bits_owned _ width value = None

@@ -10,7 +10,7 @@ use Rattle.pliron_mlir_syntax.specs.Numbers.{width_written}
 use Rattle.pliron_mlir_reader.specs.Owners.{owned_named}
 use Rattle.pliron_mlir_reader.specs.Said.{Said, flags_said, predicate_in, value_bits, counts_said, fitting, cases_said}
 use Rattle.pliron_mlir_reader.specs.Taken.{class_taken, bits_owned, head_taken, branch_taken}
-use Rattle.pliron_mlir_reader.specs.declared.owned.Owned.{Owned}
+use Rattle.pliron_mlir_reader.specs.declared.owned.OwnedProperty.{OwnedProperty}
 use Rattle.pliron_mlir_reader.specs.declared.taken.Shape.{Shape}
 
 -- a constant that is no integer says the form of its text; a long one is opaque
@@ -18,7 +18,7 @@ abbrev pub IsOtherConstant : Head → Type 0
 IsOtherConstant head = ((datum : ℕ) × (form : ℕ) × (head ≡ constant_head (other_constant datum) form)) ⊎ ((form : ℕ) × (head ≡ plain_head Opaque form))
 
 -- an integer says the bits that it owns, and their width
-abbrev pub IsConstantHead : Owned → (width : ℕ) → Said → Head → Type 0
+abbrev pub IsConstantHead : OwnedProperty → (width : ℕ) → Said → Head → Type 0
 IsConstantHead owned width said head =
     MatchOption (bits_owned owned width (value_bits width said)) (IsOtherConstant head) (λ bits. (form : ℕ) × (head ≡ constant_head (number width bits) form))
 
@@ -39,10 +39,10 @@ abbrev pub IsSwitchHead : Shape → Said → Head → Type 0
 IsSwitchHead s said head = (form : ℕ) × (head ≡ switch_said (fitting s (counts_said true said)) (cases_said s said) form)
 
 -- any other operation has the flags and the predicate that it owns
-abbrev pub IsOtherHead : Class → Owned → Shape → Said → Head → Type 0
+abbrev pub IsOtherHead : Class → OwnedProperty → Shape → Said → Head → Type 0
 IsOtherHead class owned s said head = (form : ℕ) × (head ≡ head_taken class s (flags_said owned said) (predicate_in owned said) form)
 
-abbrev pub IsHeadOf : Class → Owned → Shape → Said → Head → Type 0
+abbrev pub IsHeadOf : Class → OwnedProperty → Shape → Said → Head → Type 0
 IsHeadOf Constant owned s said head = IsConstantHead owned s.to said head
 IsHeadOf Branch owned s said head = IsBranchHead s said head
 IsHeadOf Switch owned s said head = IsSwitchHead s said head
@@ -50,13 +50,13 @@ IsHeadOf class owned s said head = IsOtherHead class owned s said head
 
 -- an operation whose name has this class, if any, and owns this, of this shape, with this text, is taken for one with
 -- this head
-abbrev pub IsTakenFor : Option Class → Owned → Shape → Said → Head → Type 0
+abbrev pub IsTakenFor : Option Class → OwnedProperty → Shape → Said → Head → Type 0
 IsTakenFor known owned s said head = IsHeadOf (class_taken known s) owned s said head
 
 -- ---- by names
 
 -- the class and what is owned are those of one name
-abbrev pub AreNamed : Option Class → Owned → Type 0
+abbrev pub AreNamed : Option Class → OwnedProperty → Type 0
 AreNamed known owned = (name : List ℕ) × (known ≡ class_named name) × (owned ≡ owned_named name)
 
 -- an operation of some name, shape and text, with the widths of its types, is taken for one with this head; or it is kept

@@ -11,7 +11,7 @@ ghost use Rattle.pliron_mlir_reader.specs.Said.{overflow_listed as overflow_list
 ghost use Rattle.pliron_mlir_reader.specs.Said.{counts_in, cases_spread, counts_said, fits as fits_in, fitting, cases_said};
 ghost use Rattle.pliron_mlir_reader.specs.TakenHeads.{IsConstantHead, IsOtherConstant, IsBranchHead, IsSwitchHead, IsOtherHead, IsTakenFor};
 
-use crate::owned::Owned;
+use crate::owned::OwnedProperty;
 use crate::reader::{Entry, Pending, Reader};
 use crate::taken::{
     Entries, Overflow, Shape, bits_owned, branch_taken, class_taken, flags_owned, head_taken,
@@ -22,8 +22,8 @@ use pliron_bits::{Flags, Predicate};
 use pliron_core::Head;
 use pliron_mlir::{Class, constant_head, other_constant, plain_head, switch_head};
 use pliron_mlir_syntax::{
-    Expected, Fault, Form, Signed, Span, array_of, bits_of, dense_of, trim_blanks, typed_number_of,
-    width_of_type,
+    Expected, Fault, Form, SignedNumber, Span, array_of, bits_of, dense_of, trim_blanks,
+    typed_number_of, width_of_type,
 };
 
 /// The most bytes of a constant that passes carry.
@@ -243,15 +243,15 @@ impl Reader<'_> {
 
     // The flags of an operation that owns this.
     #[tactic(auto, using(crate::proofs::SaidLemmas::flags_unowned))]
-    fn flags(&self, owned: Owned) -> Flags
+    fn flags(&self, owned: OwnedProperty) -> Flags
         ensures { result ≡ flags_said owned (said_of self.now) }
     {
         match owned {
-            Owned::LlvmOverflow
-            | Owned::ArithOverflow
-            | Owned::Exact
-            | Owned::Disjoint
-            | Owned::NonNegative => flags_owned(
+            OwnedProperty::LlvmOverflow
+            | OwnedProperty::ArithOverflow
+            | OwnedProperty::Exact
+            | OwnedProperty::Disjoint
+            | OwnedProperty::NonNegative => flags_owned(
                 owned,
                 &self.entries_of(&self.properties),
                 &self.entries_of(&self.attributes),
@@ -261,7 +261,7 @@ impl Reader<'_> {
     }
 
     // The number with its type that an entry writes.
-    fn typed_number(&self, name: &[u8]) -> Option<(Signed, &[u8])>
+    fn typed_number(&self, name: &[u8]) -> Option<(SignedNumber, &[u8])>
         ensures { MatchOption result
             (option_and_then typed_written (value_of_said name.now (said_of self.now)) ≡ None)
             (λ typed. option_and_then typed_written (value_of_said name.now (said_of self.now))
@@ -272,11 +272,11 @@ impl Reader<'_> {
 
     // The predicate of an operation that owns this.
     #[tactic(auto, using(crate::proofs::SaidLemmas::predicate_unowned))]
-    fn predicate(&self, owned: Owned) -> Option<Predicate>
+    fn predicate(&self, owned: OwnedProperty) -> Option<Predicate>
         ensures { result ≡ predicate_in owned (said_of self.now) }
     {
         match owned {
-            Owned::Predicate => {
+            OwnedProperty::Predicate => {
                 let (number, written) = self.typed_number(b"predicate")?;
                 predicate_said(number, written == b"i64".as_slice())
             }

@@ -4,17 +4,17 @@ ghost use Rattle.pliron_mlir.specs.Names.{class_named as class_named_in};
 ghost use Rattle.pliron_mlir_reader.specs.Owners.{owned_named};
 ghost use Rattle.pliron_mlir_reader.specs.TakenHeads.{AreNamed};
 
-use crate::owned::{Owned, owned_by};
+use crate::owned::{OwnedProperty, owned_by};
 use pliron_mlir::{Class, class_named};
 use pliron_mlir_syntax::{Fault, Texts};
 use std::alloc::Global;
 
 /// What is known of operations of a name.
 #[derive(Clone, Copy, Debug)]
-pub struct Known {
+pub struct KnownName {
     pub class: Option<Class>,
     /// What is read of the properties that it owns.
-    pub owned: Owned,
+    pub owned: OwnedProperty,
     /// Whether it is a tag of a block, by which other operations name the block.
     pub is_tag: bool,
     /// The class and what is owned are those of one name.
@@ -26,7 +26,7 @@ pub struct Known {
 pub struct KnownNames {
     names: Texts,
     /// By the numbers of names.
-    known: Vec<Known>,
+    known: Vec<KnownName>,
 }
 
 // The name without its quotes.
@@ -39,11 +39,11 @@ fn inner_name(name: &[u8]) -> &[u8] {
 
 // What is known of this name, without quotes.
 #[tactic(auto, using(crate::proofs::TakenLemmas::named_so))]
-fn look_up(name: &[u8]) -> Known
+fn look_up(name: &[u8]) -> KnownName
     ensures class { result.class ≡ class_named_in name.now }
     ensures owned { result.owned ≡ owned_named name.now }
 {
-    Known {
+    KnownName {
         class: class_named(name),
         owned: owned_by(name),
         is_tag: name == b"llvm.blocktag".as_slice(),
@@ -60,7 +60,7 @@ impl KnownNames {
     }
 
     /// What is known of this name, which has its quotes. Errors: allocation failure. Cost: its length.
-    pub fn get(&mut self, name: &[u8]) -> Result<Known, Fault> {
+    pub fn get(&mut self, name: &[u8]) -> Result<KnownName, Fault> {
         let number = self.names.number(name)?;
         if let Some(found) = self.known.get(number) {
             return Ok(*found);

@@ -10,5 +10,5 @@ mod reader;
 mod taken;
 mod taken_head;
 
-pub use parse::{Parsed, parse_text};
+pub use parse::{ParsedModule, parse_text};
 pub use taken_head::TakenHead;

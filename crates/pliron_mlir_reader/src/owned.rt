@@ -5,7 +5,7 @@ ghost use Rattle.pliron_mlir_reader.specs.Owners.{is_named, owned_named, value_o
 /// What is read of the properties of an operation. Every other entry of its property list and attribute dictionary is
 /// text alone.
 #[derive(Clone, Copy, Debug, PartialEq, Eq)]
-pub enum Owned {
+pub enum OwnedProperty {
     Nothing,
     /// `value`: the number of a constant.
     Value,
@@ -82,28 +82,28 @@ fn owns_edges(name: &[u8]) -> bool
 }
 
 /// What is read of the properties of operations of this name, without quotes. Cost: constant.
-pub fn owned_by(name: &[u8]) -> Owned
+pub fn owned_by(name: &[u8]) -> OwnedProperty
     ensures { result ≡ owned_named name.now }
 {
     if owns_value(name) {
-        Owned::Value
+        OwnedProperty::Value
     } else if name == b"llvm.mlir.zero".as_slice() {
-        Owned::Zero
+        OwnedProperty::Zero
     } else if owns_predicate(name) {
-        Owned::Predicate
+        OwnedProperty::Predicate
     } else if owns_llvm_overflow(name) {
-        Owned::LlvmOverflow
+        OwnedProperty::LlvmOverflow
     } else if owns_arith_overflow(name) {
-        Owned::ArithOverflow
+        OwnedProperty::ArithOverflow
     } else if owns_exact(name) {
-        Owned::Exact
+        OwnedProperty::Exact
     } else if name == b"llvm.or".as_slice() {
-        Owned::Disjoint
+        OwnedProperty::Disjoint
     } else if name == b"llvm.zext".as_slice() {
-        Owned::NonNegative
+        OwnedProperty::NonNegative
     } else if owns_edges(name) {
-        Owned::Edges
+        OwnedProperty::Edges
     } else {
-        Owned::Nothing
+        OwnedProperty::Nothing
     }
 }

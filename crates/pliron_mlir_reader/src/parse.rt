@@ -7,7 +7,7 @@ use std::alloc::Global;
 /// What a text says of a tree, by numbers, and beside it.
 #[doc(hidden)]
 #[derive(Drop)]
-pub struct Parsed {
+pub struct ParsedModule {
     pub syntax: Syntax,
     /// By the numbers of operations.
     pub heads: Vec<Option<TakenHead>>,
@@ -21,7 +21,7 @@ pub struct Parsed {
 /// text leaves the grammar or uses what isn't defined, and what was expected; allocation failure. Cost: linear in the
 /// text, but for uses in regions inside the one that defines their value, which cost a step for each region between.
 #[doc(hidden)]
-pub fn parse_text(alloc: Global, text: &[u8]) -> Result<Parsed, Fault> {
+pub fn parse_text(alloc: Global, text: &[u8]) -> Result<ParsedModule, Fault> {
     match parse_so(alloc, text, false) {
         Err(Fault::KeptAsText) => parse_so(alloc, text, true),
         parsed => parsed,
@@ -29,7 +29,7 @@ pub fn parse_text(alloc: Global, text: &[u8]) -> Result<Parsed, Fault> {
 }
 
 // What the text says; whether functions that can't be served are kept as they are.
-fn parse_so(alloc: Global, text: &[u8], keeps: bool) -> Result<Parsed, Fault> {
+fn parse_so(alloc: Global, text: &[u8], keeps: bool) -> Result<ParsedModule, Fault> {
     let mut reader = Reader::new(alloc, text, keeps);
     let read = reader.read();
     let Reader {
@@ -50,7 +50,7 @@ fn parse_so(alloc: Global, text: &[u8], keeps: bool) -> Result<Parsed, Fault> {
         types: _,
     } = reader;
     match read {
-        Ok(()) => Ok(Parsed {
+        Ok(()) => Ok(ParsedModule {
             syntax,
             heads,
             sheet,

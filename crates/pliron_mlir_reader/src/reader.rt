@@ -1,5 +1,5 @@
 //! Reading a text by its grammar.
-use crate::known::{Known, KnownNames};
+use crate::known::{KnownName, KnownNames};
 use crate::taken_head::TakenHead;
 use pliron_mlir_syntax::{
     BlockText, Cursor, Expected, Fault, MAX_DEPTH, Names, Sheet, Span, Syntax,
@@ -21,7 +21,7 @@ pub struct Pending {
     pub place: usize,
     /// Its name with quotes.
     pub name: Span,
-    pub known: Known,
+    pub known: KnownName,
     /// The first of its operands, and how many.
     pub operands: (usize, usize),
     /// How many successors it has.

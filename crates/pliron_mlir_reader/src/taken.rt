@@ -8,13 +8,13 @@ ghost use Rattle.pliron_mlir.specs.declared.kind.Class.TheVariants.{Branch};
 ghost use Rattle.pliron_mlir.specs.Data.{number as number_of};
 ghost use Rattle.pliron_mlir.specs.Heads.{constant_head as constant_head_of};
 
-use crate::owned::Owned;
+use crate::owned::OwnedProperty;
 use pliron_bits::{Cast, Flags, Predicate};
 use pliron_core::{AttrObj, Head};
 use pliron_mlir::{
     Class, binary_head, branch_head, cast_head, compare_head, constant_head, number, plain_head,
 };
-use pliron_mlir_syntax::{Fault, Signed};
+use pliron_mlir_syntax::{Fault, SignedNumber};
 use std::alloc::{AllocFailed, Global};
 
 /// What the class of an operation depends on beside its name: how many it has of each, and the widths of its first
@@ -200,15 +200,19 @@ fn overflow_in(properties: &Entries, attributes: &Entries) -> Option<Overflow>
 
 /// The flags of an operation that owns this, with these entries in its property list and its attribute dictionary. Cost:
 /// constant.
-pub fn flags_owned(owned: Owned, properties: &Entries, attributes: &Entries) -> Flags
+pub fn flags_owned(owned: OwnedProperty, properties: &Entries, attributes: &Entries) -> Flags
     ensures { result ≡ flags_owned_by owned properties.now attributes.now }
 {
     match owned {
-        Owned::LlvmOverflow => wrapping(properties.overflow),
-        Owned::ArithOverflow => wrapping(overflow_in(properties, attributes)),
-        Owned::Exact => promise(properties.exact || attributes.exact, false, false),
-        Owned::Disjoint => promise(false, properties.disjoint || attributes.disjoint, false),
-        Owned::NonNegative => promise(
+        OwnedProperty::LlvmOverflow => wrapping(properties.overflow),
+        OwnedProperty::ArithOverflow => wrapping(overflow_in(properties, attributes)),
+        OwnedProperty::Exact => promise(properties.exact || attributes.exact, false, false),
+        OwnedProperty::Disjoint => promise(
+            false,
+            properties.disjoint || attributes.disjoint,
+            false,
+        ),
+        OwnedProperty::NonNegative => promise(
             false,
             false,
             properties.nonnegative || attributes.nonnegative,
@@ -218,7 +222,7 @@ pub fn flags_owned(owned: Owned, properties: &Entries, attributes: &Entries) -> 
 }
 
 /// The predicate with this number, where that is an `i64`. Cost: constant.
-pub fn predicate_said(number: Signed, is_i64: bool) -> Option<Predicate>
+pub fn predicate_said(number: SignedNumber, is_i64: bool) -> Option<Predicate>
     ensures { result ≡ predicate_said_by number is_i64 }
 {
     if !number.is_negative && is_i64 && number.magnitude < 10 {
@@ -229,12 +233,12 @@ pub fn predicate_said(number: Signed, is_i64: bool) -> Option<Predicate>
 }
 
 /// The bits of a constant of this width that owns this, where its `value` has these bits. Cost: constant.
-pub fn bits_owned(owned: Owned, width: u32, value: Option<u64>) -> Option<u64>
+pub fn bits_owned(owned: OwnedProperty, width: u32, value: Option<u64>) -> Option<u64>
     ensures { result ≡ bits_owned_by owned width value }
 {
     match owned {
-        Owned::Value => value,
-        Owned::Zero => { if width > 0 { Some(0) } else { None } }
+        OwnedProperty::Value => value,
+        OwnedProperty::Zero => { if width > 0 { Some(0) } else { None } }
         _ => None,
     }
 }

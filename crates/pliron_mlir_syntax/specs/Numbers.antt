@@ -3,7 +3,7 @@ use Rattle.std.specs.Prelude.{◌+◌, ◌-◌, ◌*◌, ◌^◌, ◌/◌, ◌&&
 use Rattle.std.specs.Prelude.{List, [], ◌∷◌, length, map, take, drop, replicate, Option, Some, None, option_map, option_and_then}
 use Rattle.std.specs.Char.{digit_value, is_ascii_whitespace}
 use Rattle.std.specs.List.{prefix_len, suffix_len, slice_split, position_or_len, before_first, after_first}
-use Rattle.pliron_mlir_syntax.specs.declared.numbers.Signed.{Signed}
+use Rattle.pliron_mlir_syntax.specs.declared.numbers.SignedNumber.{SignedNumber}
 
 -- ---- parts of texts
 
@@ -61,7 +61,7 @@ abbrev pub digits_written : (base : ℕ) → List ℕ → Option ℕ
 digits_written base [] = None
 digits_written base (byte ∷ text) = with_digits base 0 (byte ∷ text)
 
-abbrev pub signed_as : (is_negative : Bool) (magnitude : ℕ) → Signed
+abbrev pub signed_as : (is_negative : Bool) (magnitude : ℕ) → SignedNumber
 signed_as is_negative magnitude = record { is_negative = is_negative; magnitude = magnitude }
 
 -- hexadecimal behind `0x`, else decimal
@@ -72,18 +72,18 @@ magnitude_behind (Some digits) text = digits_written 16 digits
 abbrev pub magnitude_written : List ℕ → Option ℕ
 magnitude_written text = magnitude_behind (behind (codes "0x") text) text
 
-abbrev pub signed_behind : (minus : Option (List ℕ)) → List ℕ → Option Signed
+abbrev pub signed_behind : (minus : Option (List ℕ)) → List ℕ → Option SignedNumber
 signed_behind None text = option_map (signed_as false) (magnitude_written text)
 signed_behind (Some rest) text = option_map (signed_as true) (magnitude_written rest)
 
 -- a truth is 1 or 0
-abbrev pub signed_in : List ℕ → Option Signed
+abbrev pub signed_in : List ℕ → Option SignedNumber
 signed_in text =
     if bytes_eq text (codes "true") then Some (signed_as false 1)
     else if bytes_eq text (codes "false") then Some (signed_as false 0)
     else signed_behind (behind (codes "-") text) text
 
-abbrev pub signed_written : List ℕ → Option Signed
+abbrev pub signed_written : List ℕ → Option SignedNumber
 signed_written text = signed_in (without_blanks text)
 
 -- the type of a number that says none
@@ -91,7 +91,7 @@ abbrev pub unsaid_type : List ℕ → List ℕ
 unsaid_type text = if bytes_eq text (codes "true") || bytes_eq text (codes "false") then codes "i1" else codes "i64"
 
 -- a number, and the type behind a colon
-abbrev pub typed_written : List ℕ → Option (Signed × List ℕ)
+abbrev pub typed_written : List ℕ → Option (SignedNumber × List ℕ)
 typed_written text =
     if nat_lt (position_or_len is_colon text) (length text)
     then option_map (λ number. (number, without_blanks (after_first is_colon text))) (signed_written (before_first is_colon text))
@@ -119,7 +119,7 @@ abbrev pub largest : (width : ℕ) → ℕ
 largest width = 2 ^ min width 64 - 1
 
 -- the bits of a number in two's complement, where they fit, read as signed or unsigned
-abbrev pub bits_written : (width : ℕ) → Signed → Option ℕ
+abbrev pub bits_written : (width : ℕ) → SignedNumber → Option ℕ
 bits_written width number =
     if nat_eq width 0 then None
     else if not number.is_negative then (if nat_le number.magnitude (largest width) then Some number.magnitude else None)
@@ -130,10 +130,10 @@ bits_written width number =
 -- ---- lists
 
 -- the numbers between commas, none of them where there are only blanks
-abbrev pub numbers_written : List ℕ → Option (List Signed)
+abbrev pub numbers_written : List ℕ → Option (List SignedNumber)
 numbers_written text = if nat_eq (length (without_blanks text)) 0 then Some [] else all_of (map signed_written (slice_split is_comma text))
 
-abbrev pub count_of : Signed → Option ℕ
+abbrev pub count_of : SignedNumber → Option ℕ
 count_of number = if number.is_negative then None else Some number.magnitude
 
 -- the counts of `i32: 1, 0`, and of `i32`

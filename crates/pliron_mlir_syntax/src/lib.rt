@@ -16,7 +16,8 @@ pub use cursor::{Cursor, Span, is_blank, is_word};
 pub use fault::{Expected, Fault};
 pub use names::Names;
 pub use numbers::{
-    Signed, array_of, bits_of, dense_of, number_of, trim_blanks, typed_number_of, width_of_type,
+    SignedNumber, array_of, bits_of, dense_of, number_of, trim_blanks, typed_number_of,
+    width_of_type,
 };
 pub use positions::{Position, position_of};
 pub use sheet::{Form, Sheet};

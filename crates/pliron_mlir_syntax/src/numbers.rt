@@ -10,7 +10,7 @@ use std::alloc::{AllocError, Global};
 /// A number with its sign.
 #[doc(hidden)]
 #[derive(Clone, Copy, Debug, PartialEq, Eq)]
-pub struct Signed {
+pub struct SignedNumber {
     pub is_negative: bool,
     pub magnitude: u64,
 }
@@ -89,11 +89,11 @@ fn magnitude_of(text: &[u8]) -> Option<u64>
     }
 }
 
-fn signed_behind(is_negative: bool, text: &[u8]) -> Option<Signed>
+fn signed_behind(is_negative: bool, text: &[u8]) -> Option<SignedNumber>
     ensures { result ≡ option_map (signed_as is_negative) (magnitude_written text.now) }
 {
     match magnitude_of(text) {
-        Some(magnitude) => Some(Signed {
+        Some(magnitude) => Some(SignedNumber {
             is_negative,
             magnitude,
         }),
@@ -102,17 +102,17 @@ fn signed_behind(is_negative: bool, text: &[u8]) -> Option<Signed>
 }
 
 // The number that is all of the text.
-fn signed_of(text: &[u8]) -> Option<Signed>
+fn signed_of(text: &[u8]) -> Option<SignedNumber>
     ensures { result ≡ signed_in text.now }
 {
     if text == b"true".as_slice() {
-        return Some(Signed {
+        return Some(SignedNumber {
             is_negative: false,
             magnitude: 1,
         });
     }
     if text == b"false".as_slice() {
-        return Some(Signed {
+        return Some(SignedNumber {
             is_negative: false,
             magnitude: 0,
         });
@@ -125,7 +125,7 @@ fn signed_of(text: &[u8]) -> Option<Signed>
 
 /// The number that the text is: decimal, hexadecimal, or a truth. Cost: its length.
 #[doc(hidden)]
-pub fn number_of(text: &[u8]) -> Option<Signed>
+pub fn number_of(text: &[u8]) -> Option<SignedNumber>
     ensures { result ≡ signed_written text.now }
 {
     signed_of(trim_blanks(text))
@@ -164,7 +164,7 @@ fn split_at_colon(text: &[u8]) -> Option<(&[u8], &[u8])>
 /// The number before a colon and the type behind it, which is `i64` where there is none, of a truth `i1`. Cost: the
 /// length of the text.
 #[doc(hidden)]
-pub fn typed_number_of(text: &[u8]) -> Option<(Signed, &[u8])>
+pub fn typed_number_of(text: &[u8]) -> Option<(SignedNumber, &[u8])>
     ensures { MatchOption result
         (typed_written text.now ≡ None)
         (λ said. typed_written text.now ≡ Some (said.0, said.1.now)) }
@@ -190,7 +190,7 @@ fn largest(width: u32) -> u64
 
 /// The bits of the number in so many, where it fits, read as signed or unsigned. Cost: constant.
 #[doc(hidden)]
-pub fn bits_of(width: u32, number: Signed) -> Option<u64>
+pub fn bits_of(width: u32, number: SignedNumber) -> Option<u64>
     ensures { result ≡ bits_written width number }
 {
     if width == 0 {
@@ -231,7 +231,7 @@ fn parts_of(alloc: Global, text: &[u8]) -> Result<Vec<&[u8]>, AllocError>
 
 // The number that each of the parts is.
 #[tactic(auto, using(crate::proofs::NumberLemmas::reads_none, crate::proofs::NumberLemmas::reads_more, crate::proofs::NumberLemmas::reads_fail, crate::proofs::NumberLemmas::reads_all))]
-fn numbers_of(alloc: Global, parts: &[&[u8]]) -> Result<Option<Vec<Signed>>, AllocError>
+fn numbers_of(alloc: Global, parts: &[&[u8]]) -> Result<Option<Vec<SignedNumber>>, AllocError>
     ensures { IfOk result (λ found. MatchOption found (all_of (map (λ part. signed_written part.now) parts.now) ≡ None)
         (λ numbers. all_of (map (λ part. signed_written part.now) parts.now) ≡ Some numbers.items)) }
 {
@@ -247,7 +247,7 @@ fn numbers_of(alloc: Global, parts: &[&[u8]]) -> Result<Option<Vec<Signed>>, All
 
 // The numbers between commas.
 #[tactic(auto, using(crate::proofs::NumberLemmas::numbers_of_parts))]
-fn numbers_in(alloc: Global, text: &[u8]) -> Result<Option<Vec<Signed>>, AllocError>
+fn numbers_in(alloc: Global, text: &[u8]) -> Result<Option<Vec<SignedNumber>>, AllocError>
     ensures { IfOk result (λ found. MatchOption found (numbers_written text.now ≡ None)
         (λ numbers. numbers_written text.now ≡ Some numbers.items)) }
 {
@@ -260,7 +260,7 @@ fn numbers_in(alloc: Global, text: &[u8]) -> Result<Option<Vec<Signed>>, AllocEr
 
 // The numbers as counts.
 #[tactic(auto, using(crate::proofs::NumberLemmas::reads_none, crate::proofs::NumberLemmas::reads_more, crate::proofs::NumberLemmas::reads_fail, crate::proofs::NumberLemmas::reads_all))]
-fn counts_of(alloc: Global, numbers: &[Signed]) -> Result<Option<Vec<usize>>, AllocError>
+fn counts_of(alloc: Global, numbers: &[SignedNumber]) -> Result<Option<Vec<usize>>, AllocError>
     ensures { IfOk result (λ found. MatchOption found (all_of (map count_of numbers.now) ≡ None)
         (λ counts. all_of (map count_of numbers.now) ≡ Some counts.items)) }
 {
@@ -368,7 +368,11 @@ fn hexadecimal(
 
 // The bits of each of the numbers.
 #[tactic(auto, using(crate::proofs::NumberLemmas::reads_none, crate::proofs::NumberLemmas::reads_more, crate::proofs::NumberLemmas::reads_fail, crate::proofs::NumberLemmas::reads_all))]
-fn all_bits(alloc: Global, found: &[Signed], width: u32) -> Result<Option<Vec<u64>>, AllocError>
+fn all_bits(
+    alloc: Global,
+    found: &[SignedNumber],
+    width: u32,
+) -> Result<Option<Vec<u64>>, AllocError>
     ensures { IfOk result (λ found_bits. MatchOption found_bits (all_of (map (bits_written width) found.now) ≡ None)
         (λ cases. all_of (map (bits_written width) found.now) ≡ Some cases.items)) }
 {

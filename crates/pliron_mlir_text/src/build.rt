@@ -11,7 +11,7 @@ use std::alloc::Global;
 
 /// What is built so far, by number.
 #[derive(Drop)]
-struct Built {
+struct BuiltTree {
     operations: Vec<Ptr<Operation>>,
     blocks: Vec<Ptr<BasicBlock>>,
     values: Vec<Value>,
@@ -36,7 +36,7 @@ pub fn build(
     ensures liveness { IfOk result (λ root. IsLive ctx.new.tree root) }
     ensures heads { AddsTaken ctx.old.tree ctx.new.tree }
 {
-    let mut built = Built {
+    let mut built = BuiltTree {
         operations: Vec::new(alloc),
         blocks: Vec::new(alloc),
         values: Vec::new(alloc),
@@ -54,7 +54,7 @@ fn build_in(
     heads: &mut [Option<TakenHead>],
     sheet: &mut Sheet,
     ctx: &mut Context,
-    built: &mut Built,
+    built: &mut BuiltTree,
 ) -> Result<(), Fault>
     ensures { AddsTaken ctx.old.tree ctx.new.tree }
 {
@@ -67,7 +67,7 @@ fn connect_all(
     syntax: &Syntax,
     sheet: &Sheet,
     ctx: &mut Context,
-    built: &Built,
+    built: &BuiltTree,
 ) -> Result<(), Fault>
     ensures { ctx.new.tree.operations ≡ ctx.old.tree.operations }
 {
@@ -87,7 +87,7 @@ fn add_all(
     heads: &mut [Option<TakenHead>],
     sheet: &mut Sheet,
     ctx: &mut Context,
-    built: &mut Built,
+    built: &mut BuiltTree,
 ) -> Result<(), Fault>
     ensures { AddsTaken ctx.old.tree ctx.new.tree }
 {
@@ -104,7 +104,7 @@ fn add_next(
     heads: &mut [Option<TakenHead>],
     sheet: &mut Sheet,
     ctx: &mut Context,
-    built: &mut Built,
+    built: &mut BuiltTree,
     number: usize,
 ) -> Result<(), Fault>
     ensures { AddsTaken ctx.old.tree ctx.new.tree }
@@ -128,7 +128,7 @@ fn add_blocks(
     syntax: &Syntax,
     sheet: &mut Sheet,
     ctx: &mut Context,
-    built: &mut Built,
+    built: &mut BuiltTree,
     before: usize,
 ) -> Result<(), Fault>
     ensures { ctx.new.tree.operations ≡ ctx.old.tree.operations }
@@ -156,7 +156,7 @@ fn add_operation(
     syntax: &Syntax,
     sheet: &mut Sheet,
     ctx: &mut Context,
-    built: &mut Built,
+    built: &mut BuiltTree,
     text: &OperationText,
     taken: TakenHead,
 ) -> Result<(), Fault>
@@ -206,7 +206,7 @@ fn add_block(
     syntax: &Syntax,
     sheet: &mut Sheet,
     ctx: &mut Context,
-    built: &mut Built,
+    built: &mut BuiltTree,
     text: &BlockText,
 ) -> Result<(), Fault>
     ensures { ctx.new.tree.operations ≡ ctx.old.tree.operations }
@@ -260,7 +260,7 @@ fn connect(
     syntax: &Syntax,
     sheet: &Sheet,
     ctx: &mut Context,
-    built: &Built,
+    built: &BuiltTree,
     number: usize,
     text: &OperationText,
 ) -> Result<(), Fault>
@@ -279,7 +279,7 @@ fn connect_operands(
     syntax: &Syntax,
     sheet: &Sheet,
     ctx: &mut Context,
-    built: &Built,
+    built: &BuiltTree,
     op: Ptr<Operation>,
     text: &OperationText,
 ) -> Result<(), Fault>
@@ -301,7 +301,7 @@ fn connect_operands(
 fn connect_successors(
     syntax: &Syntax,
     ctx: &mut Context,
-    built: &Built,
+    built: &BuiltTree,
     op: Ptr<Operation>,
     text: &OperationText,
 ) -> Result<(), Fault>

@@ -7,7 +7,7 @@ ghost use Rattle.pliron_mlir_text.specs.Additions.{AddsTaken};
 use crate::build::build;
 use pliron_core::{Context, Operation, Ptr};
 use pliron_laws::{Dialect, is_admitted, is_well_linked};
-use pliron_mlir_reader::{Parsed, parse_text};
+use pliron_mlir_reader::{ParsedModule, parse_text};
 use pliron_mlir_syntax::{Expected, Fault, Sheet};
 use pliron_walks::Contents;
 use std::alloc::Global;
@@ -42,7 +42,7 @@ pub fn read_module<D: Dialect>(
 // The module of a text that was parsed.
 fn build_module<D: Dialect>(
     alloc: Global,
-    mut parsed: Parsed,
+    mut parsed: ParsedModule,
     ctx: &mut Context,
 ) -> Result<Module, Fault>
     ensures liveness { IfOk result (λ read. IsLive ctx.new.tree read.root) }
@@ -61,7 +61,7 @@ fn build_module<D: Dialect>(
 // Its operation, where that is well linked.
 fn build_linked<D: Dialect>(
     alloc: Global,
-    parsed: &mut Parsed,
+    parsed: &mut ParsedModule,
     ctx: &mut Context,
 ) -> Result<Ptr<Operation>, Fault>
     ensures liveness { IfOk result (λ root. IsLive ctx.new.tree root) }

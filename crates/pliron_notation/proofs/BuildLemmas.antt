@@ -12,7 +12,7 @@ use Rattle.pliron_core.specs.Writes.{after_creating, block_created, operand_push
 use Rattle.pliron_core.proofs.GrownLemmas.{get_grown, get_last, get_last_same, in_range}
 use Rattle.pliron_core.proofs.CreatedLemmas.{holder_kept}
 use Rattle.pliron_core.proofs.HoldingLemmas.{some_is, in_slice, slice_in, past_live, region_by, block_held, held_block, holder_by, holder_live}
-use Rattle.pliron_notation.specs.declared.build.Built.{Built}
+use Rattle.pliron_notation.specs.declared.build.BuiltTree.{BuiltTree}
 use Rattle.pliron_notation.specs.Building.{All, AddsOnly, IsExtended, IsGrown, IsNewBlock, IsNewRegion, IsBuilt, BuildingContinues, AreLive, after_appending}
 use Rattle.pliron_notation.proofs.GrowthLemmas.{keeps-length, more-live, more-block, more-region, more-defined, more-region_parent, more-block_parent_operation, more-holder, more-appended, more-created, more-block_created, more-operand, more-successor, kept-created, kept-appended, kept-block_created, kept-operand, kept-successor}
 
@@ -56,14 +56,14 @@ adds-none xs ys new e x i = inl (subst (In x) e i)
 pub length-last : (xs ys : List ℕ) (x : ℕ) → ys ≡ xs ++ x ∷ [] → length ys ≡ length xs + 1
 length-last xs ys x e = ap length e ∙ length-append xs (x ∷ [])
 
-pub goes-refl : (u : Tree) (built : Built) → BuildingContinues u built u built
+pub goes-refl : (u : Tree) (built : BuiltTree) → BuildingContinues u built u built
 goes-refl u built t root b = b
 
-pub goes-trans : (u v w : Tree) (a b c : Built) → BuildingContinues u a v b → BuildingContinues v b w c → BuildingContinues u a w c
+pub goes-trans : (u v w : Tree) (a b c : BuiltTree) → BuildingContinues u a v b → BuildingContinues v b w c → BuildingContinues u a w c
 goes-trans u v w a b c g h t root is = h t root (g t root is)
 
 -- what stands goes on standing where there is more
-pub all_in_place-more : (u v : Tree) (built : Built) → IsExtended u v → AreLive u built → AreLive v built
+pub all_in_place-more : (u v : Tree) (built : BuiltTree) → IsExtended u v → AreLive u built → AreLive v built
 all_in_place-more u v built m s = record {
   operations = λ x i. more-live u v m x (s.operations x i);
   blocks = λ x i. more-block u v m x (s.blocks x i);
@@ -135,7 +135,7 @@ module _ (u : Tree) (head : Head) (results regions block : ℕ) (is : IsTree u) 
   abbrev m : IsExtended u v
   m = more-appended u head results regions block is.keys
 
-  module _ (t : Tree) (root : ℕ) (built : Built) (b : IsBuilt t u root built) (in_built : In block built.blocks.items) where
+  module _ (t : Tree) (root : ℕ) (built : BuiltTree) (b : IsBuilt t u root built) (in_built : In block built.blocks.items) where
     holding : (h : ℕ) × (block_parent_operation_of u block ≡ Some h) × (root ≤ h) × (h < op)
     holding =
         let n = b.blocks block in_built in
@@ -171,7 +171,7 @@ module _ (u : Tree) (head : Head) (results regions block : ℕ) (is : IsTree u) 
         let lt = root_old in
         (op, ap op_of_slot (is_v.joined.regions op at.0 r at.1), omega (arith, lt), omega (arith, first, le, same))
 
-    pub appended-built : IsTree v → (more : Built) → AddsOnly built.operations.items more.operations.items (op ∷ []) → more.blocks.items ≡ built.blocks.items → AddsOnly built.regions.items more.regions.items (regions_of v op) → IsBuilt t v root more
+    pub appended-built : IsTree v → (more : BuiltTree) → AddsOnly built.operations.items more.operations.items (op ∷ []) → more.blocks.items ≡ built.blocks.items → AddsOnly built.regions.items more.regions.items (regions_of v op) → IsBuilt t v root more
     appended-built is_v more ops blocks regs = record {
       grown = appended-grown;
       operations = all-adds (λ k. root ≤ k) built.operations.items more.operations.items (op ∷ []) ops b.operations (all-one (λ k. root ≤ k) op (let lt = root_old in omega (arith, lt)));
@@ -179,12 +179,12 @@ module _ (u : Tree) (head : Head) (results regions block : ℕ) (is : IsTree u) 
       regions = all-adds (IsNewRegion t v root) built.regions.items more.regions.items (regions_of v op) regs (λ x i. let n = b.regions x i in (n.0, more-region_parent u v m x n.0 n.1, n.2, n.3)) (new_region is_v);
     }
 
-  pub goes-appended : (w : Tree) (built more : Built) → w ≡ v → IsTree w → In block built.blocks.items → AddsOnly built.operations.items more.operations.items (op ∷ []) → more.blocks.items ≡ built.blocks.items → AddsOnly built.regions.items more.regions.items (regions_of w op) → BuildingContinues u built w more
+  pub goes-appended : (w : Tree) (built more : BuiltTree) → w ≡ v → IsTree w → In block built.blocks.items → AddsOnly built.operations.items more.operations.items (op ∷ []) → more.blocks.items ≡ built.blocks.items → AddsOnly built.regions.items more.regions.items (regions_of w op) → BuildingContinues u built w more
   goes-appended w built more same is_w i ops blocks regs t root b =
       subst (λ z. IsBuilt t z root more) (sym same)
       (appended-built t root built b i (subst IsTree same is_w) more ops blocks (subst (λ z. AddsOnly built.regions.items more.regions.items (regions_of z op)) same regs))
 
-  pub all_in_place-appended : (w : Tree) (built more : Built) → w ≡ v → IsTree w → AreLive u built → AddsOnly built.operations.items more.operations.items (op ∷ []) → more.blocks.items ≡ built.blocks.items → AddsOnly built.regions.items more.regions.items (regions_of w op) → AddsOnly built.values.items more.values.items (results_of w op) → AreLive w more
+  pub all_in_place-appended : (w : Tree) (built more : BuiltTree) → w ≡ v → IsTree w → AreLive u built → AddsOnly built.operations.items more.operations.items (op ∷ []) → more.blocks.items ≡ built.blocks.items → AddsOnly built.regions.items more.regions.items (regions_of w op) → AddsOnly built.values.items more.values.items (results_of w op) → AreLive w more
   all_in_place-appended w built more same is_w s ops blocks regs values =
       let mw : IsExtended u w = subst (IsExtended u) (sym same) m in
       let n = all_in_place-more u w built mw s in
@@ -209,7 +209,7 @@ module _ (u : Tree) (region arguments : ℕ) (is : IsTree u) where
   pub created-parent : block_parent_of w block ≡ Some region
   created-parent = let e : length u.bodies ≡ length u.block_parents = sym is.keys.block_parents in ap (λ k. get_or w.block_parents k None) e ∙ get_last_same u.block_parents (Some region) None
 
-  module _ (t : Tree) (root : ℕ) (built : Built) (b : IsBuilt t u root built) (in_built : In region built.regions.items) where
+  module _ (t : Tree) (root : ℕ) (built : BuiltTree) (b : IsBuilt t u root built) (in_built : In region built.regions.items) where
     block-grown : IsGrown t w root
     block-grown = record {
       before = b.grown.before;
@@ -225,7 +225,7 @@ module _ (u : Tree) (region arguments : ℕ) (is : IsTree u) where
         let n = b.regions region in_built in
         (n.0, ap (λ o. up_from o (λ r. region_parent_of w r)) created-parent ∙ n.1, n.2, keeps-length t.bodies u.bodies b.grown.kept.bodies)
 
-    block-built : (more : Built) → more.operations.items ≡ built.operations.items → AddsOnly built.blocks.items more.blocks.items (block ∷ []) → more.regions.items ≡ built.regions.items → IsBuilt t w root more
+    block-built : (more : BuiltTree) → more.operations.items ≡ built.operations.items → AddsOnly built.blocks.items more.blocks.items (block ∷ []) → more.regions.items ≡ built.regions.items → IsBuilt t w root more
     block-built more ops blocks regs = record {
       grown = block-grown;
       operations = all-same (λ k. root ≤ k) built.operations.items more.operations.items ops b.operations;
@@ -236,10 +236,10 @@ module _ (u : Tree) (region arguments : ℕ) (is : IsTree u) where
   pub created-arguments : length (arguments_of w block) ≡ arguments
   created-arguments = let e : length u.bodies ≡ length u.arguments = sym is.keys.arguments in ap (λ k. length (get_or w.arguments k [])) e ∙ ap length (get_last_same u.arguments (range_with_len (length u.definitions) arguments) []) ∙ length-range_with_len (length u.definitions) arguments
 
-  pub goes-block : (v : Tree) (built more : Built) → v ≡ w → In region built.regions.items → more.operations.items ≡ built.operations.items → AddsOnly built.blocks.items more.blocks.items (block ∷ []) → more.regions.items ≡ built.regions.items → BuildingContinues u built v more
+  pub goes-block : (v : Tree) (built more : BuiltTree) → v ≡ w → In region built.regions.items → more.operations.items ≡ built.operations.items → AddsOnly built.blocks.items more.blocks.items (block ∷ []) → more.regions.items ≡ built.regions.items → BuildingContinues u built v more
   goes-block v built more same i ops blocks regs t root b = subst (λ z. IsBuilt t z root more) (sym same) (block-built t root built b i more ops blocks regs)
 
-  pub all_in_place-block : (v : Tree) (built more : Built) → v ≡ w → IsTree v → AreLive u built → more.operations.items ≡ built.operations.items → AddsOnly built.blocks.items more.blocks.items (block ∷ []) → more.regions.items ≡ built.regions.items → AddsOnly built.values.items more.values.items (arguments_of v block) → AreLive v more
+  pub all_in_place-block : (v : Tree) (built more : BuiltTree) → v ≡ w → IsTree v → AreLive u built → more.operations.items ≡ built.operations.items → AddsOnly built.blocks.items more.blocks.items (block ∷ []) → more.regions.items ≡ built.regions.items → AddsOnly built.values.items more.values.items (arguments_of v block) → AreLive v more
   all_in_place-block v built more same is_v s ops blocks regs values =
       let mv : IsExtended u v = subst (IsExtended u) (sym same) mw in
       let n = all_in_place-more u v built mv s in
@@ -257,7 +257,7 @@ old-operands t is root op e le = let f = is.keys.operands in omega (arith, e, le
 old-successors : (t : Tree) → IsTree t → (root op : ℕ) → root ≡ length t.operations → root ≤ op → length t.successors ≤ op
 old-successors t is root op e le = let f = is.keys.successors in omega (arith, e, le, f)
 
-pub goes-operand : (u v : Tree) (built : Built) (op value : ℕ) → v ≡ operand_pushed u op value → In op built.operations.items → BuildingContinues u built v built
+pub goes-operand : (u v : Tree) (built : BuiltTree) (op value : ℕ) → v ≡ operand_pushed u op value → In op built.operations.items → BuildingContinues u built v built
 goes-operand u v built op value same i t root b = subst (λ z. IsBuilt t z root built) (sym same) (record {
   grown = record {
     before = b.grown.before;
@@ -272,7 +272,7 @@ goes-operand u v built op value same i t root b = subst (λ z. IsBuilt t z root 
   regions = b.regions;
 })
 
-pub goes-successor : (u v : Tree) (built : Built) (op block : ℕ) → v ≡ successor_pushed u op block → In op built.operations.items → BuildingContinues u built v built
+pub goes-successor : (u v : Tree) (built : BuiltTree) (op block : ℕ) → v ≡ successor_pushed u op block → In op built.operations.items → BuildingContinues u built v built
 goes-successor u v built op block same i t root b = subst (λ z. IsBuilt t z root built) (sym same) (record {
   grown = record {
     before = b.grown.before;
@@ -287,10 +287,10 @@ goes-successor u v built op block same i t root b = subst (λ z. IsBuilt t z roo
   regions = b.regions;
 })
 
-pub all_in_place-operand : (u v : Tree) (built : Built) (op value : ℕ) → v ≡ operand_pushed u op value → AreLive u built → AreLive v built
+pub all_in_place-operand : (u v : Tree) (built : BuiltTree) (op value : ℕ) → v ≡ operand_pushed u op value → AreLive u built → AreLive v built
 all_in_place-operand u v built op value same s = all_in_place-more u v built (subst (IsExtended u) (sym same) (more-operand u op value)) s
 
-pub all_in_place-successor : (u v : Tree) (built : Built) (op block : ℕ) → v ≡ successor_pushed u op block → AreLive u built → AreLive v built
+pub all_in_place-successor : (u v : Tree) (built : BuiltTree) (op block : ℕ) → v ≡ successor_pushed u op block → AreLive u built → AreLive v built
 all_in_place-successor u v built op block same s = all_in_place-more u v built (subst (IsExtended u) (sym same) (more-successor u op block)) s
 
 -- the operation of a text before anything is defined in it
@@ -317,7 +317,7 @@ module _ (t : Tree) (head : Head) (is : IsTree t) where
   pub grown-start : (u : Tree) (root : ℕ) → u ≡ s → root ≡ first → IsGrown t u root
   grown-start u root same e = subst (λ z. IsGrown t z root) (sym same) (subst (λ k. IsGrown t s k) (sym e) start-grown)
 
-  pub built-start : (u : Tree) (built : Built) (root region : ℕ) → u ≡ s → root ≡ first → slice_get (regions_of u root) 0 ≡ Some region → built.operations.items ≡ [] → built.blocks.items ≡ [] → AddsOnly [] built.regions.items (region ∷ []) → IsBuilt t u root built
+  pub built-start : (u : Tree) (built : BuiltTree) (root region : ℕ) → u ≡ s → root ≡ first → slice_get (regions_of u root) 0 ≡ Some region → built.operations.items ≡ [] → built.blocks.items ≡ [] → AddsOnly [] built.regions.items (region ∷ []) → IsBuilt t u root built
   built-start u built root region same e at ops blocks regs =
       let listed : slice_get (regions_of s first) 0 ≡ Some region = ap (λ z. slice_get (regions_of z first) 0) (sym same) ∙ ap (λ k. slice_get (regions_of u k) 0) (sym e) ∙ at in
       let is_first : length t.slots ≡ region = some_is (sym (ap (λ z. slice_get z.regions 0) start-row) ∙ listed) in

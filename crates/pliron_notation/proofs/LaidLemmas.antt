@@ -13,12 +13,12 @@ use Rattle.pliron_core.proofs.GrownLemmas.{get_grown, get_last, range_more, rang
 use Rattle.pliron_core.proofs.HoldingLemmas.{some_is}
 use Rattle.pliron_core.proofs.TreeLemmas.{cases_lt}
 use Rattle.pliron_bench.specs.declared.kind.BenchKind.{BenchKind}
-use Rattle.pliron_notation.specs.declared.build.Built.{Built}
+use Rattle.pliron_notation.specs.declared.build.BuiltTree.{BuiltTree}
 use Rattle.pliron_notation.specs.declared.syntax.OperationText.{OperationText}
 use Rattle.pliron_notation.specs.declared.syntax.BlockText.{BlockText}
 use Rattle.pliron_notation.specs.declared.syntax.Syntax.{Syntax}
 use Rattle.pliron_bench.specs.Bench.{head_with, plain_head, result_count, region_count}
-use Rattle.pliron_notation.specs.declared.syntax.Made.{Made}
+use Rattle.pliron_notation.specs.declared.syntax.PartCounts.{PartCounts}
 use Rattle.pliron_notation.specs.Building.{HasMade, KeepsEntries, after_appending}
 use Rattle.pliron_notation.specs.Laid.{IsWhole, IsMadeAs, HasNoUses, IsLastOf, IsLaid, LaysOn, LaysOperation, LaysBlock}
 use Rattle.pliron_notation.proofs.BuildLemmas.{length-last, appended-row, appended-parent, appended-other, created-parent, start-row}
@@ -55,7 +55,7 @@ pub unused-same : (operands more successors others : List ℕ) → more ≡ oper
 unused-same operands more successors others e f h = record { no_operands = e ∙ h.no_operands; no_successors = f ∙ h.no_successors }
 
 -- one more operation
-module _ (s : Syntax) (root base : ℕ) (u : Tree) (built more : Built) (o : OperationText) (block : ℕ) (is : IsTree u) (l : IsLaid s root base 0 u built) (at : slice_get s.operations.items (length built.operations.items) ≡ Some o) (within : o.block < length built.blocks.items) (read : block ≡ get_or built.blocks.items o.block block) (key : more.operations.items ≡ built.operations.items ++ length u.operations ∷ []) (blocks : more.blocks.items ≡ built.blocks.items) (regions : KeepsEntries built.regions.items more.regions.items) where
+module _ (s : Syntax) (root base : ℕ) (u : Tree) (built more : BuiltTree) (o : OperationText) (block : ℕ) (is : IsTree u) (l : IsLaid s root base 0 u built) (at : slice_get s.operations.items (length built.operations.items) ≡ Some o) (within : o.block < length built.blocks.items) (read : block ≡ get_or built.blocks.items o.block block) (key : more.operations.items ≡ built.operations.items ++ length u.operations ∷ []) (blocks : more.blocks.items ≡ built.blocks.items) (regions : KeepsEntries built.regions.items more.regions.items) where
   abbrev head : Head
   head = head_with o.kind o.number (pos o.first_edge)
 
@@ -142,7 +142,7 @@ module _ (s : Syntax) (root base : ℕ) (u : Tree) (built more : Built) (o : Ope
   }
 
 -- one more block
-module _ (s : Syntax) (root base : ℕ) (u : Tree) (built more : Built) (b : BlockText) (region : ℕ) (is : IsTree u) (l : IsLaid s root base 0 u built) (at : slice_get s.blocks.items (length built.blocks.items) ≡ Some b) (within : b.region < length built.regions.items) (read : region ≡ get_or built.regions.items b.region region) (operations : more.operations.items ≡ built.operations.items) (key : more.blocks.items ≡ built.blocks.items ++ length u.bodies ∷ []) (regions : more.regions.items ≡ built.regions.items) where
+module _ (s : Syntax) (root base : ℕ) (u : Tree) (built more : BuiltTree) (b : BlockText) (region : ℕ) (is : IsTree u) (l : IsLaid s root base 0 u built) (at : slice_get s.blocks.items (length built.blocks.items) ≡ Some b) (within : b.region < length built.regions.items) (read : region ≡ get_or built.regions.items b.region region) (operations : more.operations.items ≡ built.operations.items) (key : more.blocks.items ≡ built.blocks.items ++ length u.bodies ∷ []) (regions : more.regions.items ≡ built.regions.items) where
   abbrev w : Tree
   w = block_created u region b.arguments
 
@@ -199,7 +199,7 @@ module _ (s : Syntax) (t : Tree) (is : IsTree t) where
   nothing : (A : Type 0) (xs : List ℕ) (n : ℕ) → xs ≡ [] → n < length xs → A
   nothing A xs n e lt = let h : n < length {A = ℕ} [] = subst (λ z. n < length z) e lt in absurd (omega (arith, h))
 
-  start_laid : (built : Built) → built.operations.items ≡ [] → built.blocks.items ≡ [] → IsLaid s (length t.operations) (length t.bodies) 0 start built
+  start_laid : (built : BuiltTree) → built.operations.items ≡ [] → built.blocks.items ≡ [] → IsLaid s (length t.operations) (length t.bodies) 0 start built
   start_laid built ops blocks = record {
     whole = subst (λ z. IsWhole z s.root) (sym (start-row t (plain_head s.root) is)) (record { head = refl; results = refl; regions = refl });
     operations = ops ∙ ap (λ z. range_with_len (length t.operations + 1) (length z)) (sym ops);
@@ -214,14 +214,14 @@ module _ (s : Syntax) (t : Tree) (is : IsTree t) where
     unused = λ k le. unused_new k (omega (arith, le));
   }
 
-  pub laid-start : (u : Tree) (root : ℕ) (built : Built) → u ≡ start → root ≡ length t.operations → built.operations.items ≡ [] → built.blocks.items ≡ [] → IsLaid s root (length t.bodies) 0 u built
+  pub laid-start : (u : Tree) (root : ℕ) (built : BuiltTree) → u ≡ start → root ≡ length t.operations → built.operations.items ≡ [] → built.blocks.items ≡ [] → IsLaid s root (length t.bodies) 0 u built
   laid-start u root built same e ops blocks = subst (λ z. IsLaid s root (length t.bodies) 0 z built) (sym same) (subst (λ k. IsLaid s k (length t.bodies) 0 start built) (sym e) (start_laid built ops blocks))
 
 -- the laying goes on with the next operation or block of the text
-pub lays-operation : (s : Syntax) (u v w : Tree) (a b c : Built) (m : Made) (n : ℕ) (o p : OperationText) → LaysOn s u a v b → HasMade b m → n ≡ m.operations → slice_get s.operations.items n ≡ Some o → p ≡ o → LaysOperation p v b w c → LaysOn s u a w c
+pub lays-operation : (s : Syntax) (u v w : Tree) (a b c : BuiltTree) (m : PartCounts) (n : ℕ) (o p : OperationText) → LaysOn s u a v b → HasMade b m → n ≡ m.operations → slice_get s.operations.items n ≡ Some o → p ≡ o → LaysOperation p v b w c → LaysOn s u a w c
 lays-operation s u v w a b c m n o p before made e at same lays root base l =
     lays s (ap (slice_get s.operations.items) (made.operations ∙ sym e) ∙ at ∙ ap Some (sym same)) root base (before root base l)
 
-pub lays-block : (s : Syntax) (u v w : Tree) (a b c : Built) (m : Made) (n : ℕ) (o p : BlockText) → LaysOn s u a v b → HasMade b m → n ≡ m.blocks → slice_get s.blocks.items n ≡ Some o → p ≡ o → LaysBlock p v b w c → LaysOn s u a w c
+pub lays-block : (s : Syntax) (u v w : Tree) (a b c : BuiltTree) (m : PartCounts) (n : ℕ) (o p : BlockText) → LaysOn s u a v b → HasMade b m → n ≡ m.blocks → slice_get s.blocks.items n ≡ Some o → p ≡ o → LaysBlock p v b w c → LaysOn s u a w c
 lays-block s u v w a b c m n o p before made e at same lays root base l =
     lays s (ap (slice_get s.blocks.items) (made.blocks ∙ sym e) ∙ at ∙ ap Some (sym same)) root base (before root base l)

@@ -8,7 +8,7 @@ use Rattle.pliron_core.proofs.HoldingLemmas.{some_is, past_live, holder_live}
 use Rattle.pliron_core.proofs.TreeLemmas.{cases_lt}
 use Rattle.pliron_bench.specs.declared.kind.BenchKind.{BenchKind}
 use Rattle.pliron_bench.specs.declared.kind.BenchKind.TheVariants.{Mod, Func, Const, Add, Mul, Div, Read, Print, Pair, Sink, Scope, Box, Br, Cbr, Ret, Fork}
-use Rattle.pliron_notation.specs.declared.build.Built.{Built}
+use Rattle.pliron_notation.specs.declared.build.BuiltTree.{BuiltTree}
 use Rattle.pliron_notation.specs.declared.syntax.OperationText.{OperationText}
 use Rattle.pliron_notation.specs.declared.syntax.Syntax.{Syntax}
 use Rattle.pliron_bench.specs.Bench.{head_with, number_of, plain_head, result_count, region_count}
@@ -61,7 +61,7 @@ whole_admitted : (kind : BenchKind) → IsTopKind kind → IsTrue (admits (plain
 whole_admitted kind (inl e) = subst (λ z. IsTrue (admits (plain_head z) 0 0 0 1)) (sym e) (admitted Mod (plain_head Mod) 0 0 0 1 refl refl)
 whole_admitted kind (inr e) = subst (λ z. IsTrue (admits (plain_head z) 0 0 0 1)) (sym e) (admitted Func (plain_head Func) 0 0 0 1 refl refl)
 
-module _ (s : Syntax) (t u : Tree) (root : ℕ) (wt : IsTree t) (wu : IsTree u) (g : IsGrown t u root) (sound : IsSoundSyntax s) (built : Built) (all : HasAllMade s built) (l : IsLaid s root (length t.bodies) (length s.operations.items) u built) where
+module _ (s : Syntax) (t u : Tree) (root : ℕ) (wt : IsTree t) (wu : IsTree u) (g : IsGrown t u root) (sound : IsSoundSyntax s) (built : BuiltTree) (all : HasAllMade s built) (l : IsLaid s root (length t.bodies) (length s.operations.items) u built) where
   abbrev base : ℕ
   base = length t.bodies
 

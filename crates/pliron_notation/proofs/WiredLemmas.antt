@@ -8,7 +8,7 @@ use Rattle.pliron_core.specs.Invariant.{IsTree}
 use Rattle.pliron_core.specs.Writes.{operand_pushed, successor_pushed}
 use Rattle.pliron_core.proofs.HoldingLemmas.{some_is, past_live}
 use Rattle.pliron_core.proofs.UsedLemmas.{in_last}
-use Rattle.pliron_notation.specs.declared.build.Built.{Built}
+use Rattle.pliron_notation.specs.declared.build.BuiltTree.{BuiltTree}
 use Rattle.pliron_notation.specs.declared.syntax.OperationText.{OperationText}
 use Rattle.pliron_notation.specs.declared.syntax.Syntax.{Syntax}
 use Rattle.pliron_notation.specs.Laid.{HasUsesAs, HasNoUses, IsLaid, HasMoreOperands, HasMoreSuccessors}
@@ -36,10 +36,10 @@ module _ (u v : Tree) (op value i : ℕ) (is : IsTree v) (live : IsLive v op) (h
   one-more-operand w e = subst (λ z. HasMoreOperands u z op (i + 1)) (sym e) x_more
 
 -- one more successor
-pub no-more-successors : (built : Built) (u : Tree) (op : ℕ) (numbers : List ℕ) → HasMoreSuccessors built u u op 0 numbers
+pub no-more-successors : (built : BuiltTree) (u : Tree) (op : ℕ) (numbers : List ℕ) → HasMoreSuccessors built u u op 0 numbers
 no-more-successors built u op numbers = record { rest = refl; others = λ k ne. refl; total = omega arith; named = λ x i. inl i }
 
-module _ (built : Built) (u v : Tree) (op block number i : ℕ) (numbers : List ℕ) (is : IsTree v) (live : IsLive v op) (h : HasMoreSuccessors built u v op i numbers) (here : In number numbers) (at : slice_get built.blocks.items number ≡ Some block) where
+module _ (built : BuiltTree) (u v : Tree) (op block number i : ℕ) (numbers : List ℕ) (is : IsTree v) (live : IsLive v op) (h : HasMoreSuccessors built u v op i numbers) (here : In number numbers) (at : slice_get built.blocks.items number ≡ Some block) where
   abbrev y : Tree
   y = successor_pushed v op block
 
@@ -61,7 +61,7 @@ module _ (built : Built) (u v : Tree) (op block number i : ℕ) (numbers : List 
   one-more-successor w e = subst (λ z. HasMoreSuccessors built u z op (i + 1) numbers) (sym e) y_more
 
 -- the operation of this number gets its operands and successors
-module _ (s : Syntax) (u v w : Tree) (built : Built) (number op : ℕ) (o : OperationText) (operands successors : List ℕ) (at : slice_get s.operations.items number ≡ Some o) (within : number < length built.operations.items) (read : op ≡ get_or built.operations.items number op) (os : operands ≡ o.operands.items) (ss : successors ≡ o.successors.items) (m : HasMoreOperands u v op (length operands)) (n : HasMoreSuccessors built v w op (length successors) successors) (root base : ℕ) (l : IsLaid s root base number u built) where
+module _ (s : Syntax) (u v w : Tree) (built : BuiltTree) (number op : ℕ) (o : OperationText) (operands successors : List ℕ) (at : slice_get s.operations.items number ≡ Some o) (within : number < length built.operations.items) (read : op ≡ get_or built.operations.items number op) (os : operands ≡ o.operands.items) (ss : successors ≡ o.successors.items) (m : HasMoreOperands u v op (length operands)) (n : HasMoreSuccessors built v w op (length successors) successors) (root base : ℕ) (l : IsLaid s root base number u built) where
   op_key : op ≡ root + 1 + number
   op_key = range-read built.operations.items (root + 1) number op l.operations within read
 

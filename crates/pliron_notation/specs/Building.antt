@@ -4,8 +4,8 @@ use Rattle.pliron_core.specs.declared.attrs.Head.{Head}
 use Rattle.pliron_core.specs.Tree.{Tree, In, IsLive, IsBlock, IsRegion, IsDefined, parent_of, parent_operation_of, block_parent_operation_of, region_parent_of}
 use Rattle.pliron_core.specs.Invariant.{IsTree}
 use Rattle.pliron_core.specs.Writes.{after_creating, put_last}
-use Rattle.pliron_notation.specs.declared.build.Built.{Built}
-use Rattle.pliron_notation.specs.declared.syntax.Made.{Made}
+use Rattle.pliron_notation.specs.declared.build.BuiltTree.{BuiltTree}
+use Rattle.pliron_notation.specs.declared.syntax.PartCounts.{PartCounts}
 use Rattle.pliron_notation.specs.declared.syntax.Syntax.{Syntax}
 
 -- the table still has each entry
@@ -50,32 +50,32 @@ abbrev pub IsNewRegion : Tree → Tree → ℕ → ℕ → Type 0
 IsNewRegion t u root r = (h : ℕ) × (region_parent_of u r ≡ Some h) × (root ≤ h) × (length t.layouts ≤ r)
 
 -- u is t and the new operation with what is built of it so far
-pub record IsBuilt (t u : Tree) (root : ℕ) (built : Built) : Type 0 where
+pub record IsBuilt (t u : Tree) (root : ℕ) (built : BuiltTree) : Type 0 where
   pub grown : IsGrown t u root
   pub operations : All (λ k. root ≤ k) built.operations.items
   pub blocks : All (IsNewBlock t u root) built.blocks.items
   pub regions : All (IsNewRegion t u root) built.regions.items
 
 -- the building continues from u to v
-abbrev pub BuildingContinues : (u : Tree) (built : Built) (v : Tree) (more : Built) → Type 0
+abbrev pub BuildingContinues : (u : Tree) (built : BuiltTree) (v : Tree) (more : BuiltTree) → Type 0
 BuildingContinues u built v more = (t : Tree) (root : ℕ) → IsBuilt t u root built → IsBuilt t v root more
 
 -- what is built is live
-pub record AreLive (u : Tree) (built : Built) : Type 0 where
+pub record AreLive (u : Tree) (built : BuiltTree) : Type 0 where
   pub operations : All (IsLive u) built.operations.items
   pub blocks : All (IsBlock u) built.blocks.items
   pub regions : All (IsRegion u) built.regions.items
   pub values : All (IsDefined u) built.values.items
 
 -- so much is built
-pub record HasMade (built : Built) (m : Made) : Type 0 where
+pub record HasMade (built : BuiltTree) (m : PartCounts) : Type 0 where
   pub operations : length built.operations.items ≡ m.operations
   pub blocks : length built.blocks.items ≡ m.blocks
   pub regions : length built.regions.items ≡ m.regions
   pub values : length built.values.items ≡ m.values
 
 -- all of the text is built
-pub record HasAllMade (s : Syntax) (built : Built) : Type 0 where
+pub record HasAllMade (s : Syntax) (built : BuiltTree) : Type 0 where
   pub operations : length built.operations.items ≡ length s.operations.items
   pub blocks : length built.blocks.items ≡ length s.blocks.items
   pub values : length built.values.items ≡ s.values

@@ -4,7 +4,7 @@ use Rattle.std.specs.List.{range_with_len}
 use Rattle.pliron_core.specs.declared.context.OperationEntry.{OperationEntry}
 use Rattle.pliron_core.specs.Tree.{Tree, In, last_of, row_of, operands_of, successors_of, parent_of, body_of, block_parent_of}
 use Rattle.pliron_bench.specs.declared.kind.BenchKind.{BenchKind}
-use Rattle.pliron_notation.specs.declared.build.Built.{Built}
+use Rattle.pliron_notation.specs.declared.build.BuiltTree.{BuiltTree}
 use Rattle.pliron_notation.specs.declared.syntax.OperationText.{OperationText}
 use Rattle.pliron_notation.specs.declared.syntax.BlockText.{BlockText}
 use Rattle.pliron_notation.specs.declared.syntax.Syntax.{Syntax}
@@ -41,7 +41,7 @@ IsLastOf s count n o = (m : ℕ) (p : OperationText) → n < m → m < count →
 
 -- what is built of the text is in the tree, the operations from the handle after the root's on and the blocks from
 -- `base` on; the first operations, so many as `wired`, have their operands and successors
-pub record IsLaid (s : Syntax) (root base wired : ℕ) (u : Tree) (built : Built) : Type 0 where
+pub record IsLaid (s : Syntax) (root base wired : ℕ) (u : Tree) (built : BuiltTree) : Type 0 where
   pub whole : IsWhole (row_of u root) s.root
   pub operations : built.operations.items ≡ range_with_len (root + 1) (length built.operations.items)
   pub operation_count : length u.operations ≡ root + 1 + length built.operations.items
@@ -55,19 +55,19 @@ pub record IsLaid (s : Syntax) (root base wired : ℕ) (u : Tree) (built : Built
   pub unused : (k : ℕ) → root + 1 + wired ≤ k → HasNoUses (operands_of u k) (successors_of u k)
 
 -- from u to v more is laid, and no operands and successors
-abbrev pub LaysOn : Syntax → (u : Tree) (built : Built) (v : Tree) (more : Built) → Type 0
+abbrev pub LaysOn : Syntax → (u : Tree) (built : BuiltTree) (v : Tree) (more : BuiltTree) → Type 0
 LaysOn s u built v more = (root base : ℕ) → IsLaid s root base 0 u built → IsLaid s root base 0 v more
 
 -- this is so wherever this is the text of the next operation, or of the next block
-abbrev pub LaysOperation : OperationText → (u : Tree) (built : Built) (v : Tree) (more : Built) → Type 0
+abbrev pub LaysOperation : OperationText → (u : Tree) (built : BuiltTree) (v : Tree) (more : BuiltTree) → Type 0
 LaysOperation o u built v more = (s : Syntax) → slice_get s.operations.items (length built.operations.items) ≡ Some o → LaysOn s u built v more
 
-abbrev pub LaysBlock : BlockText → (u : Tree) (built : Built) (v : Tree) (more : Built) → Type 0
+abbrev pub LaysBlock : BlockText → (u : Tree) (built : BuiltTree) (v : Tree) (more : BuiltTree) → Type 0
 LaysBlock b u built v more = (s : Syntax) → slice_get s.blocks.items (length built.blocks.items) ≡ Some b → LaysOn s u built v more
 
 -- from u to v the operations of the text from this number up to that one get their operands and
 -- successors
-abbrev pub Wires : Syntax → (from to : ℕ) → (u v : Tree) (built : Built) → Type 0
+abbrev pub Wires : Syntax → (from to : ℕ) → (u v : Tree) (built : BuiltTree) → Type 0
 Wires s from to u v built = (root base : ℕ) → IsLaid s root base from u built → IsLaid s root base to v built
 
 -- v is u, but the operation has so many more operands
@@ -77,7 +77,7 @@ pub record HasMoreOperands (u v : Tree) (op count : ℕ) : Type 0 where
   pub total : length (operands_of v op) ≡ length (operands_of u op) + count
 
 -- v is u, but the operation has so many more successors, which are among the blocks with these numbers
-pub record HasMoreSuccessors (built : Built) (u v : Tree) (op count : ℕ) (numbers : List ℕ) : Type 0 where
+pub record HasMoreSuccessors (built : BuiltTree) (u v : Tree) (op count : ℕ) (numbers : List ℕ) : Type 0 where
   pub rest : v ≡ record u { successors = v.successors }
   pub others : (k : ℕ) → k ≢ op → successors_of v k ≡ successors_of u k
   pub total : length (successors_of v op) ≡ length (successors_of u op) + count
@@ -85,4 +85,4 @@ pub record HasMoreSuccessors (built : Built) (u v : Tree) (op count : ℕ) (numb
 
 -- all of the text is laid in the tree, behind what t has
 abbrev pub IsAllLaid : Syntax → (t u : Tree) → (root : ℕ) → Type 0
-IsAllLaid s t u root = (built : Built) × HasAllMade s built × IsLaid s root (length t.bodies) (length s.operations.items) u built
+IsAllLaid s t u root = (built : BuiltTree) × HasAllMade s built × IsLaid s root (length t.bodies) (length s.operations.items) u built

@@ -28,7 +28,7 @@ use std::alloc::{AllocError, Global};
 
 /// What is built so far, by number.
 #[derive(Drop)]
-struct Built {
+struct BuiltTree {
     operations: Vec<Ptr<Operation>>,
     blocks: Vec<Ptr<BasicBlock>>,
     regions: Vec<Ptr<Region>>,
@@ -121,7 +121,7 @@ fn fill(
         (head_without syntax.now.root) 0 1 → IsAllLaid syntax.now t ctx.new.tree root) }
 {
     ctx.well_formed();
-    let mut built = Built {
+    let mut built = BuiltTree {
         operations: Vec::new(alloc),
         blocks: Vec::new(alloc),
         regions: Vec::new(alloc),
@@ -137,7 +137,7 @@ fn make_all(
     alloc: Global,
     syntax: &Syntax,
     ctx: &mut Context,
-    built: &mut Built,
+    built: &mut BuiltTree,
 ) -> Result<(), NoMemory>
     requires sound { IsSoundSyntax syntax.now }
     requires first { HasMade built.old first_made }
@@ -159,7 +159,7 @@ fn make_all(
 }
 
 // Gives all operations their operands and successors.
-fn connect_all(syntax: &Syntax, ctx: &mut Context, built: &Built) -> Result<(), NoMemory>
+fn connect_all(syntax: &Syntax, ctx: &mut Context, built: &BuiltTree) -> Result<(), NoMemory>
     requires sound { AreSoundOperations syntax.now }
     requires made { HasAllMade syntax.now built.now }
     requires all_in_place { AreLive ctx.old.tree built.now }
@@ -207,7 +207,7 @@ fn append_operation(
 fn add_operation(
     alloc: Global,
     ctx: &mut Context,
-    built: &mut Built,
+    built: &mut BuiltTree,
     text: &OperationText,
 ) -> Result<(), NoMemory>
     requires block { text.now.block < length built.old.blocks.items }
@@ -233,7 +233,11 @@ fn add_operation(
 }
 
 // Remembers a new operation, its results and its regions.
-fn remember_operation(ctx: &Context, built: &mut Built, op: Ptr<Operation>) -> Result<(), NoMemory>
+fn remember_operation(
+    ctx: &Context,
+    built: &mut BuiltTree,
+    op: Ptr<Operation>,
+) -> Result<(), NoMemory>
     requires { IsLive ctx.now.tree op }
     ensures blocks { built.new.blocks.items ≡ built.old.blocks.items }
     ensures operations { AddsOnly built.old.operations.items built.new.operations.items (op ∷ []) }
@@ -302,7 +306,7 @@ fn remember_arguments(
 }
 
 // The next block of the text, at the end of its region.
-fn add_block(ctx: &mut Context, built: &mut Built, text: &BlockText) -> Result<(), NoMemory>
+fn add_block(ctx: &mut Context, built: &mut BuiltTree, text: &BlockText) -> Result<(), NoMemory>
     requires region { text.now.region < length built.old.regions.items }
     requires all_in_place { AreLive ctx.old.tree built.old }
     ensures continues { BuildingContinues ctx.old.tree built.old ctx.new.tree built.new }
@@ -324,7 +328,7 @@ fn add_block(ctx: &mut Context, built: &mut Built, text: &BlockText) -> Result<(
 // Gives the operation of this number its operands and successors.
 fn connect(
     ctx: &mut Context,
-    built: &Built,
+    built: &BuiltTree,
     number: usize,
     text: &OperationText,
 ) -> Result<(), NoMemory>
@@ -344,7 +348,7 @@ fn connect(
 
 fn add_operands(
     ctx: &mut Context,
-    built: &Built,
+    built: &BuiltTree,
     op: Ptr<Operation>,
     operands: &[usize],
 ) -> Result<(), NoMemory>
@@ -364,7 +368,7 @@ fn add_operands(
 
 fn add_successors(
     ctx: &mut Context,
-    built: &Built,
+    built: &BuiltTree,
     op: Ptr<Operation>,
     successors: &[usize],
 ) -> Result<(), NoMemory>

@@ -72,7 +72,7 @@ pub enum Expected {
 
 /// Where a text leaves the notation, by the number of the token, and what was expected there.
 #[derive(Clone, Copy, Debug, Drop, PartialEq, Eq)]
-pub struct Misread {
+pub struct SyntaxFault {
     pub token: usize,
     pub expected: Expected,
 }

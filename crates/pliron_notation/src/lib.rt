@@ -17,7 +17,7 @@ mod syntax;
 pub mod tokens;
 mod word_table;
 
-pub use expected::{Expected, Misread};
+pub use expected::{Expected, SyntaxFault};
 pub use printed::print_text;
 pub use printer::print_as;
 pub use reader::{TextFault, find_text_fault, read_text};

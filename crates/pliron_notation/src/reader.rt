@@ -8,7 +8,7 @@ ghost use Rattle.pliron_notation.specs.Building.{IsGrown};
 ghost use Rattle.pliron_notation.specs.Notation.{IsSoundSyntax};
 
 use crate::build::build;
-use crate::expected::{Expected, Misread};
+use crate::expected::{Expected, SyntaxFault};
 use crate::parser::parse;
 use crate::stop::Stop;
 use crate::syntax::Syntax;
@@ -60,7 +60,7 @@ pub fn find_text_fault(alloc: Global, text: &[u8]) -> Result<Option<TextFault>, 
 {
     match read_syntax(alloc, text) {
         Ok(_) => Ok(None),
-        Err(Stop::Unreadable(Misread { token, expected })) => Ok(Some(TextFault {
+        Err(Stop::Unreadable(SyntaxFault { token, expected })) => Ok(Some(TextFault {
             span: span_of_token(text, token),
             expected,
         })),
@@ -93,7 +93,7 @@ fn sound(parsed: Result<Syntax, Stop>) -> Result<Syntax, Stop>
 }
 
 // Why reading ends that parsed tokens up to this misread place.
-fn earlier(parsed: Result<Syntax, Stop>, misread: Misread) -> Stop {
+fn earlier(parsed: Result<Syntax, Stop>, misread: SyntaxFault) -> Stop {
     match parsed {
         Err(Stop::NoMemory) => Stop::NoMemory,
         Err(Stop::Unreadable(fault)) if fault.token < misread.token => Stop::Unreadable(fault),

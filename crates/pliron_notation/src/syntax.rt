@@ -93,7 +93,7 @@ impl Syntax {
     fn is_ordered(&self) -> bool
         ensures { IsTrue result → IsOrdered self.now first_made self.now.steps.items }
     {
-        let mut made = Made::new();
+        let mut made = PartCounts::new();
         for step in &self.steps {
             if !made.take(self, *step) {
                 return false;
@@ -196,18 +196,18 @@ fn are_below(numbers: &[usize], count: usize) -> bool
 
 /// How much is made so far.
 #[derive(Clone, Copy)]
-struct Made {
+struct PartCounts {
     operations: usize,
     blocks: usize,
     regions: usize,
     values: usize,
 }
 
-impl Made {
+impl PartCounts {
     fn new() -> Self
         ensures { result ≡ first_made }
     {
-        Made {
+        PartCounts {
             operations: 0,
             blocks: 0,
             regions: 1,

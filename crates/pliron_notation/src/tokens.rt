@@ -1,7 +1,7 @@
 //! From bytes to tokens.
 ghost use Rattle.std.specs.Prelude.{◌≡◌, ◌+◌, ◌<◌, ◌≤◌, length, IfOk};
 
-use crate::expected::{Expected, Misread};
+use crate::expected::{Expected, SyntaxFault};
 use crate::word_table::{Word, WordTable, Written, is_letter};
 use std::alloc::{AllocError, Global};
 
@@ -153,7 +153,7 @@ pub struct Tokens<K> {
     pub tokens: Vec<Token<K>>,
     pub names: usize,
     /// What is behind them, where the text continues.
-    pub misread: Option<Misread>,
+    pub misread: Option<SyntaxFault>,
 }
 
 /// The tokens of a text, up to the first place that is no token. Errors: allocation failure. Cost: linear in the
@@ -171,7 +171,7 @@ pub fn tokenise<K: Word>(alloc: Global, text: &[u8]) -> Result<Tokens<K>, AllocE
             Lexeme::Token(token) => tokens.push(token)?,
             Lexeme::Strange(expected) => {
                 let token = tokens.len();
-                misread = Some(Misread { token, expected });
+                misread = Some(SyntaxFault { token, expected });
                 break;
             }
         }

@@ -7,7 +7,7 @@ use crate::kinds::AnalysisKind;
 use crate::manager::AnalysisManager;
 use crate::pass::Pass;
 use crate::result::PassResult;
-use crate::run::{Managed, PassManager};
+use crate::run::{ManagedPass, PassManager};
 use pliron_core::{Context, Operation, Ptr};
 use pliron_laws::{Dialect, Interface, OptError};
 use std::alloc::Global;
@@ -135,7 +135,7 @@ impl<G: Guard, P: Pass> Pass for GuardedPass<G, P> {
 
     ghost name = { λ p. guarded_name };
 
-    ghost outcome = { λ p p' op s s' r. Guards G.allows ⟦<P as Managed>⟧.runs p.guard p'.guard p.pass p'.pass op s s'
+    ghost outcome = { λ p p' op s s' r. Guards G.allows ⟦<P as ManagedPass>⟧.runs p.guard p'.guard p.pass p'.pass op s s'
         r };
 
     fn name(&self) -> &str {

@@ -12,7 +12,7 @@ ghost use Rattle.pliron_pass.specs.Headline.{DoAsBefore};
 use crate::kinds::AnalysisKind;
 use crate::manager::AnalysisManager;
 use crate::pass::Pass;
-use crate::run::{Managed, PassManager};
+use crate::run::{ManagedPass, PassManager};
 use pliron_core::{Context, IRStatus, Operation, Ptr};
 use pliron_laws::OptError;
 use std::alloc::Global;
@@ -44,7 +44,7 @@ pub fn run_pipeline<P: Pass>(
     ensures inside { IsInsideChange ctx.old.tree ctx.new.tree op }
     ensures fresh { OnOk result (IsFresh P.E.Kind.eq P.E.kind P.E.holds ctx.old.tree analyses.old.cache.entries →
         IsFresh P.E.Kind.eq P.E.kind P.E.holds ctx.new.tree analyses.new.cache.entries) }
-    ensures outcome { Steps P.E.Kind.eq ⟦<P as Managed>⟧.runs pass.old pass.new op (stage ctx.old analyses.old)
+    ensures outcome { Steps P.E.Kind.eq ⟦<P as ManagedPass>⟧.runs pass.old pass.new op (stage ctx.old analyses.old)
         (stage ctx.new analyses.new) result }
     ensures change { IsPassChange P.D.meaning ctx.old.tree ctx.new.tree op }
 {

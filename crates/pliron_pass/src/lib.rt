@@ -34,5 +34,5 @@ pub use passes::Passes;
 pub use pliron_laws::OptError;
 pub use repeat::Repeat;
 pub use result::PassResult;
-pub use run::{Managed, PassManager};
+pub use run::{ManagedPass, PassManager};
 pub use verify::{Verified, verify_operation};

@@ -13,7 +13,7 @@ use crate::kinds::AnalysisKind;
 use crate::manager::AnalysisManager;
 use crate::pass::Pass;
 use crate::result::PassResult;
-use crate::run::{Managed, close};
+use crate::run::{ManagedPass, close};
 use pliron_core::{Context, IRStatus, Operation, Ptr};
 use pliron_laws::OptError;
 use std::alloc::Global;
@@ -57,7 +57,7 @@ fn run_held<P: Pass>(
     ensures children { children ctx.new.tree holder ≡ children ctx.old.tree holder }
     ensures fresh { OnOk result (IsFresh P.E.Kind.eq P.E.kind P.E.holds ctx.old.tree analyses.old.cache.entries →
         IsFresh P.E.Kind.eq P.E.kind P.E.holds ctx.new.tree analyses.new.cache.entries) }
-    ensures outcome { Steps P.E.Kind.eq ⟦<P as Managed>⟧.runs pass.old pass.new op (stage ctx.old analyses.old)
+    ensures outcome { Steps P.E.Kind.eq ⟦<P as ManagedPass>⟧.runs pass.old pass.new op (stage ctx.old analyses.old)
         (stage ctx.new analyses.new) result }
 {
     ctx.well_formed();
@@ -79,7 +79,7 @@ fn run_nested<P: Pass>(
     ensures change { IsPassChange P.D.meaning ctx.old.tree ctx.new.tree op }
     ensures fresh { OnOk result (IsFresh P.E.Kind.eq P.E.kind P.E.holds ctx.old.tree analyses.old.cache.entries →
         IsFresh P.E.Kind.eq P.E.kind P.E.holds ctx.new.tree analyses.new.cache.entries) }
-    ensures outcome { RunsOverAll P.E.Kind.eq ⟦<P as Managed>⟧.runs (children ctx.old.tree op) pass.old pass.new
+    ensures outcome { RunsOverAll P.E.Kind.eq ⟦<P as ManagedPass>⟧.runs (children ctx.old.tree op) pass.old pass.new
         (stage ctx.old analyses.old) (stage ctx.new analyses.new) result }
 {
     ctx.well_formed();
@@ -102,7 +102,7 @@ impl<P: Pass> Pass for NestedOpsPass<P> {
 
     ghost name = { λ p. nested_name };
 
-    ghost outcome = { λ p p' op s s' r. Closes P.E.Kind.eq (λ u ran. RunsOverAll P.E.Kind.eq ⟦<P as Managed>⟧.runs
+    ghost outcome = { λ p p' op s s' r. Closes P.E.Kind.eq (λ u ran. RunsOverAll P.E.Kind.eq ⟦<P as ManagedPass>⟧.runs
         (children s.tree op) p.pass p'.pass s u ran) s' r };
 
     fn name(&self) -> &str {

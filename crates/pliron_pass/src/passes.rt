@@ -12,7 +12,7 @@ use crate::kinds::AnalysisKind;
 use crate::manager::AnalysisManager;
 use crate::pass::Pass;
 use crate::result::PassResult;
-use crate::run::{Managed, close};
+use crate::run::{ManagedPass, close};
 use pliron_core::{Context, IRStatus, Operation, Ptr};
 use pliron_laws::OptError;
 use std::alloc::{AllocFailed, Global};
@@ -64,7 +64,7 @@ fn run_all<P: Pass>(
     ensures change { IsPassChange P.D.meaning ctx.old.tree ctx.new.tree op }
     ensures fresh { OnOk result (IsFresh P.E.Kind.eq P.E.kind P.E.holds ctx.old.tree analyses.old.cache.entries →
         IsFresh P.E.Kind.eq P.E.kind P.E.holds ctx.new.tree analyses.new.cache.entries) }
-    ensures outcome { RunsEachOf P.E.Kind.eq ⟦<P as Managed>⟧.runs op passes.old.items passes.new.items
+    ensures outcome { RunsEachOf P.E.Kind.eq ⟦<P as ManagedPass>⟧.runs op passes.old.items passes.new.items
         (stage ctx.old analyses.old) (stage ctx.new analyses.new) result }
 {
     let mut changed = IRStatus::Unchanged;
@@ -83,7 +83,7 @@ impl<P: Pass> Pass for Passes<P> {
 
     ghost name = { λ p. passes_name };
 
-    ghost outcome = { λ p p' op s s' r. Closes P.E.Kind.eq (λ u ran. RunsEachOf P.E.Kind.eq ⟦<P as Managed>⟧.runs op
+    ghost outcome = { λ p p' op s s' r. Closes P.E.Kind.eq (λ u ran. RunsEachOf P.E.Kind.eq ⟦<P as ManagedPass>⟧.runs op
         p.passes.items p'.passes.items s u ran) s' r };
 
     fn name(&self) -> &str {

@@ -13,7 +13,7 @@ use crate::kinds::AnalysisKind;
 use crate::manager::AnalysisManager;
 use crate::pass::Pass;
 use crate::result::PassResult;
-use crate::run::{Managed, close};
+use crate::run::{ManagedPass, close};
 use pliron_core::{Context, IRStatus, Operation, Ptr};
 use pliron_laws::OptError;
 use std::alloc::Global;
@@ -64,7 +64,7 @@ fn run_repeated<P: Pass>(
     ensures change { IsPassChange P.D.meaning ctx.old.tree ctx.new.tree op }
     ensures fresh { OnOk result (IsFresh P.E.Kind.eq P.E.kind P.E.holds ctx.old.tree analyses.old.cache.entries →
         IsFresh P.E.Kind.eq P.E.kind P.E.holds ctx.new.tree analyses.new.cache.entries) }
-    ensures outcome { RepeatsTo P.E.Kind.eq ⟦<P as Managed>⟧.runs repeat.old.max op repeat.old.pass repeat.new.pass
+    ensures outcome { RepeatsTo P.E.Kind.eq ⟦<P as ManagedPass>⟧.runs repeat.old.max op repeat.old.pass repeat.new.pass
         (stage ctx.old analyses.old) repeat.new.runs (stage ctx.new analyses.new) result }
     ensures max { repeat.new.max ≡ repeat.old.max }
     ensures at_most { repeat.new.runs ≤ repeat.old.max }
@@ -91,7 +91,7 @@ impl<P: Pass> Pass for Repeat<P> {
     ghost name = { λ p. repeat_name };
 
     ghost outcome = { λ p p' op s s' r. (p'.max ≡ p.max) × (p'.runs ≤ p.max) × Closes P.E.Kind.eq
-        (λ u ran. RepeatsTo P.E.Kind.eq ⟦<P as Managed>⟧.runs p.max op p.pass p'.pass s p'.runs u ran) s' r };
+        (λ u ran. RepeatsTo P.E.Kind.eq ⟦<P as ManagedPass>⟧.runs p.max op p.pass p'.pass s p'.runs u ran) s' r };
 
     fn name(&self) -> &str {
         "repeat"

@@ -68,12 +68,12 @@ fn run_plain<P: Pass>(
 }
 
 /// A pass as a pass manager runs it. Each pass is; contracts alone speak of it.
-pub trait Managed: Pass {
+pub trait ManagedPass: Pass {
     // what `PassManager::run_pass` does with it, as `Pass::outcome` says what it does itself
     ghost runs: { OutcomeOf Self Self.E.Kind Self.E };
 }
 
-impl<P: Pass> Managed for P {
+impl<P: Pass> ManagedPass for P {
     ghost runs = { RunsPass P.name P.outcome ⟦<P::D as Verified>⟧.verifies P.is_pass_manager };
 }
 
@@ -100,7 +100,7 @@ impl PassManager {
         ensures change { IsPassChange P.D.meaning ctx.old.tree ctx.new.tree op }
         ensures fresh { IfOk result (λ a. FreshAfter P.E.Kind.eq P.E.kind P.E.holds ctx.old.tree
             analyses.old.cache.entries ctx.new.tree analyses.new.cache.entries a) }
-        ensures outcome { ⟦<P as Managed>⟧.runs pass.old pass.new op (stage ctx.old analyses.old)
+        ensures outcome { ⟦<P as ManagedPass>⟧.runs pass.old pass.new op (stage ctx.old analyses.old)
             (stage ctx.new analyses.new) result }
     {
         if pass.is_pass_manager() {

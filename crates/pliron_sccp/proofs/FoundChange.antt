@@ -13,12 +13,12 @@ use Rattle.pliron_theory.specs.Edges.{KeepsEdges}
 use Rattle.pliron_theory.proofs.ChangeLemmas.{change_refl}
 use Rattle.pliron_theory.specs.LatticeValues.{Says}
 use Rattle.pliron_theory.specs.Following.{Follows}
-use Rattle.pliron_sccp.specs.declared.rewrite.Found.{Found}
+use Rattle.pliron_sccp.specs.declared.rewrite.Replacements.{Replacements}
 use Rattle.pliron_sccp.specs.Chain.{IsPartlyRewritten}
-use Rattle.pliron_sccp.specs.Found.{HasFound}
+use Rattle.pliron_sccp.specs.Replacements.{HasFound}
 use Rattle.pliron_sccp.specs.Propagated.{IsPartlyPropagated, Propagates, pops_of, status_of}
 
-module _ (x : Says) (t : Tree) (root : ℕ) (found : Found) (pops : ℕ) (h : HasFound x x.can_fold t root found pops) (u : Tree) where
+module _ (x : Says) (t : Tree) (root : ℕ) (found : Replacements) (pops : ℕ) (h : HasFound x x.can_fold t root found pops) (u : Tree) where
   pub found_change : IsLive t root → IsWellLinked x.meaning t root → Follows x t root h.facts u → IsPassChange x.meaning t u root
   found_change live linked g = record {
     liveness = subst (λ z. IsSome z.head) (sym (g.rows root live)) live;

@@ -30,7 +30,7 @@ use Rattle.pliron_sccp.specs.OperationVisits.{AreReactions, AreTargetsNumbered, 
 use Rattle.pliron_sccp.specs.OperationVisits.VisitsInTurn.{Nothing, Then}
 use Rattle.pliron_sccp.specs.Feasible.{leads}
 use Rattle.pliron_sccp.specs.Starting.{IsStarted}
-use Rattle.pliron_sccp.specs.Searched.{IsSearched}
+use Rattle.pliron_sccp.specs.Fixpoint.{IsSearched}
 use Rattle.pliron_sccp.specs.Searching.{VisitsDeferred, VisitsOrDefersAll, TakesTurn, VisitsValues, IsSearchOnTheWay, IsSearching}
 use Rattle.pliron_sccp.specs.Searching.TakesTurn.{Block, Values}
 use Rattle.pliron_sccp.specs.WorklistCounts.{IsAccounted, AreKnownThere, AreWorklistsEmpty}

@@ -10,7 +10,7 @@ use Rattle.pliron_laws.specs.Datum.{Head}
 use Rattle.pliron_laws.specs.InPlace.{Outcome, ReportsChange}
 use Rattle.pliron_sccp.specs.declared.rewrite.Folds.{Folds}
 use Rattle.pliron_sccp.specs.declared.rewrite.ConstantArgument.{ConstantArgument}
-use Rattle.pliron_sccp.specs.declared.rewrite.Found.{Found}
+use Rattle.pliron_sccp.specs.declared.rewrite.Replacements.{Replacements}
 use Rattle.pliron_theory.specs.LatticeValues.{LatticeValues, Says}
 use Rattle.pliron_theory.specs.Following.{Follows}
 use Rattle.pliron_sccp.specs.RewriteSteps.{AreFoldSteps, AreArgumentSteps, IsFound, ReportsCreated, AreKnownArguments}
@@ -21,7 +21,7 @@ pub told_change : (t u : Tree) (status : IRStatus) → ReportsCreated status t u
 told_change t u Unchanged same = same
 told_change t u Changed (k, none, live) = λ same. live_dead u k live (ap (λ z. z.head) (same.operations k) ∙ none)
 
-module _ (x : Says) (can_fold : Head → Bool) (t : Tree) (root : ℕ) (f : LatticeValues) (found : Found) (w : IsTree t) (i : IsFound x can_fold t root f found) where
+module _ (x : Says) (can_fold : Head → Bool) (t : Tree) (root : ℕ) (f : LatticeValues) (found : Replacements) (w : IsTree t) (i : IsFound x can_fold t root f found) where
   pub found_folds : (folds : Folds) → folds ≡ found.folds → AreFoldSteps x t root f t folds
   found_folds folds e = subst (AreFoldSteps x t root f t) (sym e) (record { first = w; follows = started x t root f w i.closed i.held; each = i.each_fold })
 

@@ -5,14 +5,14 @@ pub mod Propagated
 pub mod RewriteSteps
 pub mod Settling
 pub mod Visiting
-pub mod Found
+pub mod Replacements
 pub mod LatticeCells
 pub mod LatticeTables
 pub mod Constraints
 pub mod Lowering
 pub mod Feasible
 pub mod Inside
-pub mod Searched
+pub mod Fixpoint
 pub mod Listed
 pub mod OperationVisits
 pub mod Starting

@@ -9,7 +9,7 @@ use Rattle.pliron_core.specs.Changes.{IsSameTree}
 use Rattle.pliron_sccp.specs.declared.rewrite.Fold.{Fold}
 use Rattle.pliron_sccp.specs.declared.rewrite.Folds.{Folds}
 use Rattle.pliron_sccp.specs.declared.rewrite.ConstantArgument.{ConstantArgument}
-use Rattle.pliron_sccp.specs.declared.rewrite.Found.{Found}
+use Rattle.pliron_sccp.specs.declared.rewrite.Replacements.{Replacements}
 use Rattle.pliron_core.specs.declared.attrs.AttrObj.{AttrObj}
 use Rattle.pliron_core.specs.Tree.{Tree, IsLive, head_of, arguments_of}
 use Rattle.pliron_core.specs.Invariant.{IsTree}
@@ -99,7 +99,7 @@ pub record IsPuttingOn (x : Says) (accepts : AttrObj → Bool) (head : AttrObj �
   pub stays : (k : ℕ) → IsLive start k → IsLive now k
 
 -- these are the folds and the arguments that closed lattice values of the tree say
-pub record IsFound (x : Says) (can_fold : Head → Bool) (t : Tree) (root : ℕ) (f : LatticeValues) (found : Found) : Type 0 where
+pub record IsFound (x : Says) (can_fold : Head → Bool) (t : Tree) (root : ℕ) (f : LatticeValues) (found : Replacements) : Type 0 where
   pub closed : AreClosed x t root f
   pub held : AreHeld t root f
   pub folds : map (λ fold. fold.op) found.folds.rows.items ≡ folding_operations can_fold t root f

@@ -11,7 +11,7 @@ use std::alloc::Global;
 /// among the arguments. The candidates of one operand are a chain in the list: `before` is the number of the previous
 /// one, counted from 1, and 0 ends the chain.
 #[derive(Clone, Copy)]
-pub struct EntryCandidate {
+pub struct EntryArgument {
     pub region: usize,
     pub index: usize,
     pub before: usize,
@@ -25,12 +25,12 @@ pub struct EntryCandidate {
 /// listed    in the order of the regions
 /// ```
 #[derive(Drop)]
-pub struct EntryCandidates {
+pub struct EntryArguments {
     last: Vec<usize>,
-    listed: Vec<EntryCandidate>,
+    listed: Vec<EntryArgument>,
 }
 
-impl EntryCandidates {
+impl EntryArguments {
     /// Those of this operation, each argument of each entry for which it names an operand.
     ///
     /// Asks that it is live. Errors: allocation failure. Cost: one step for each operand, region and argument
@@ -39,12 +39,12 @@ impl EntryCandidates {
         alloc: Global,
         op: Ptr<Operation>,
         ctx: &Context,
-    ) -> Result<EntryCandidates, OptError>
+    ) -> Result<EntryArguments, OptError>
         requires { IsLive ctx.now.tree op }
         ensures memory { IsOkUnless result OptError.Memory }
     {
         let last = Vec::from_elem(alloc, 0, op.num_operand(ctx))?;
-        let mut candidates = EntryCandidates {
+        let mut candidates = EntryArguments {
             last,
             listed: Vec::new(alloc),
         };
@@ -81,7 +81,7 @@ impl EntryCandidates {
     {
         if place < self.last.len() {
             let before = self.last[place];
-            self.listed.push(EntryCandidate {
+            self.listed.push(EntryArgument {
                 region,
                 index,
                 before,
@@ -101,7 +101,7 @@ impl EntryCandidates {
     }
 
     /// The one that was listed when so many were. Takes no memory. Cost: constant.
-    pub fn get(&self, count: usize) -> Option<EntryCandidate>
+    pub fn get(&self, count: usize) -> Option<EntryArgument>
         ensures { IfSome result (λ candidate. candidate.before < count) }
     {
         if count == 0 || count > self.listed.len() {

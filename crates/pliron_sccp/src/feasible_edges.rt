@@ -12,7 +12,7 @@ ghost use Rattle.indexmap.specs.IndexMap.{index_map_len};
 ghost use Rattle.pliron_core.specs.Tree.{IsLive};
 ghost use Rattle.pliron_sccp.specs.Feasible.{leads, KeepsAmong};
 
-use crate::entry_operands::EntryCandidates;
+use crate::entry_operands::EntryArguments;
 use indexmap::IndexMap;
 use pliron_core::{BasicBlock, Context, Operation, Ptr};
 use pliron_laws::{Dialect, OptError};
@@ -30,7 +30,7 @@ const FEW_VISITS: usize = 4;
 pub struct FeasibleEdges {
     visits: IndexMap<Ptr<Operation>, usize>,
     blocks: IndexMap<Ptr<Operation>, HashSet<u64>>,
-    named: IndexMap<Ptr<Operation>, EntryCandidates>,
+    named: IndexMap<Ptr<Operation>, EntryArguments>,
 }
 
 impl FeasibleEdges {
@@ -92,13 +92,13 @@ impl FeasibleEdges {
         if self.count(op)? <= FEW_VISITS || self.named.contains_key(&op) {
             return Ok(());
         }
-        let candidates = EntryCandidates::of::<D>(alloc, op, ctx)?;
+        let candidates = EntryArguments::of::<D>(alloc, op, ctx)?;
         self.named.insert(op, candidates)?;
         Ok(())
     }
 
     /// The arguments that the operation most likely names its operands for, where they are listed. Cost: a look-up.
-    pub fn entry_candidates(&self, op: Ptr<Operation>) -> Option<&EntryCandidates> {
+    pub fn entry_candidates(&self, op: Ptr<Operation>) -> Option<&EntryArguments> {
         self.named.get(&op)
     }
 

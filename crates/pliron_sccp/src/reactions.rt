@@ -18,7 +18,7 @@ ghost use Rattle.pliron_sccp.specs.OperationVisits.{either, ConstrainsEagerly, I
 ghost use Rattle.pliron_sccp.specs.LatticeTables.{lattice_value_in, known_constants, is_executable, lowered_stamp};
 
 use crate::constraints::Constraint;
-use crate::entry_operands::EntryCandidate;
+use crate::entry_operands::EntryArgument;
 use crate::feasible_edges::FeasibleEdges;
 use crate::lattice_tables::Tables;
 use indexmap::IndexSet;
@@ -56,7 +56,7 @@ pub(crate) struct LoweredUse {
 /// constraints   those on single arguments, of other users
 /// ```
 #[derive(Drop)]
-pub(crate) struct Scheduled {
+pub(crate) struct Reactions {
     pub(crate) users: IndexSet<Ptr<Operation>>,
     pub(crate) urgent: HashSet<u64>,
     pub(crate) constraints: Vec<Constraint>,
@@ -143,14 +143,14 @@ fn is_open(
 fn named_argument<D: Dialect>(
     op: Ptr<Operation>,
     place: usize,
-    candidate: EntryCandidate,
+    candidate: EntryArgument,
     ctx: &Context,
 ) -> Option<Value>
     requires { IsLive ctx.now.tree op }
     ensures { IfSome result (λ a. (o : OperationOf) → op_at ctx.now.tree op ≡ Some o
         → IsNamed ⟦<D as HasFolding>⟧.folding ctx.now.tree o place a) }
 {
-    let EntryCandidate { region, index, .. } = candidate;
+    let EntryArgument { region, index, .. } = candidate;
     if region >= op.num_region(ctx) {
         return None;
     }
@@ -167,7 +167,7 @@ fn named_argument<D: Dialect>(
 // Constrains the argument that is listed so, if the operation names this place for it.
 fn constrain_candidate<D: Dialect>(
     from: &LoweredUse,
-    candidate: EntryCandidate,
+    candidate: EntryArgument,
     ctx: &Context,
     tables: &Tables,
     constraints: &mut Vec<Constraint>,
@@ -307,7 +307,7 @@ fn add_use<D: Dialect>(
     ctx: &Context,
     tables: &Tables,
     edges: &FeasibleEdges,
-    scheduled: &mut Scheduled,
+    scheduled: &mut Reactions,
 ) -> Result<(), OptError>
     requires live { IsLive ctx.now.tree from.now.op }
     requires stamp { from.now.stamp ≡ lowered_stamp tables.now from.now.value }
@@ -341,7 +341,7 @@ pub(crate) fn add_uses<D: Dialect>(
     ctx: &Context,
     tables: &Tables,
     edges: &FeasibleEdges,
-    scheduled: &mut Scheduled,
+    scheduled: &mut Reactions,
 ) -> Result<(), OptError>
     requires { IsDefined ctx.now.tree value }
     ensures ok { OnOk result (SchedulesUses ⟦<D as HasFolding>⟧.folding ctx.now.tree tables.now edges.now value

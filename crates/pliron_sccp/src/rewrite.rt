@@ -71,7 +71,7 @@ pub struct ConstantArgument {
 /// What was found of a tree: the operations that fold and the constant arguments, both in executable blocks, in
 /// pre-order.
 #[derive(Drop)]
-pub struct Found {
+pub struct Replacements {
     pub(crate) folds: Folds,
     pub(crate) arguments: Vec<ConstantArgument>,
 }
@@ -325,7 +325,7 @@ pub fn put_all<D: Dialect, R: Rewriter + Room>(
 /// `fold_in_place` for each fold, and of `replace_argument_by_constant` for each argument.
 pub fn rewrite<D: Dialect, R: Rewriter + Room>(
     alloc: Global,
-    found: &Found,
+    found: &Replacements,
     ctx: &mut Context,
     rewriter: &mut R,
 ) -> Result<IRStatus, OptError>

@@ -33,10 +33,10 @@ ghost use Rattle.pliron_sccp.specs.Deferring.{deferred_operations};
 ghost use Rattle.pliron_sccp.specs.Constraints.{AreEntriesExecutable};
 ghost use Rattle.pliron_sccp.specs.Feasible.{leads, AreFound, KeepsAmong, KeepsFeasible};
 ghost use Rattle.pliron_sccp.specs.OperationVisits.{AreTargetsNumbered, VisitsInTurnAndKeeps, HasNumberedTargets, WasVisited, VisitsOperation, StampsIt, PopsUsers};
-ghost use Rattle.pliron_sccp.specs.Searched.{IsSearched};
+ghost use Rattle.pliron_sccp.specs.Fixpoint.{IsSearched};
 ghost use Rattle.pliron_sccp.specs.Searching.{IsVisitedOrDeferred, VisitsDeferred, VisitsOrDefersAll, TakesTurn, VisitsValues};
 ghost use Rattle.pliron_sccp.specs.Starting.{IsStarted};
-ghost use Rattle.pliron_sccp.specs.Found.{HasFound};
+ghost use Rattle.pliron_sccp.specs.Replacements.{HasFound};
 ghost use Rattle.pliron_sccp.specs.LatticeTables.{lattice_values_of, is_block_on_worklist, is_value_on_worklist};
 
 use crate::constraints::{Scratch, constrain_entries, constraints_of, satisfy_all};
@@ -44,8 +44,8 @@ use crate::deferred::DeferredOperations;
 use crate::feasible_edges::FeasibleEdges;
 use crate::inside::{all_blocks, block_numbers, count_values, value_numbers};
 use crate::lattice_tables::Tables;
-use crate::reactions::{FEW_OPERANDS, Scheduled, add_uses};
-use crate::rewrite::{Found, all_arguments, all_folds};
+use crate::reactions::{FEW_OPERANDS, Reactions, add_uses};
+use crate::rewrite::{Replacements, all_arguments, all_folds};
 use indexmap::IndexSet;
 use pliron_core::{BasicBlock, Context, Operation, Ptr};
 use pliron_laws::{Dialect, Interface, OptError};
@@ -92,7 +92,7 @@ fn take_values<D: Dialect>(
     ctx: &Context,
     tables: &mut Tables,
     edges: &FeasibleEdges,
-) -> Result<(Scheduled, u128), OptError>
+) -> Result<(Reactions, u128), OptError>
     requires { (v : ℕ) → is_value_on_worklist tables.old v ≡ true → IsDefined ctx.now.tree v }
     ensures ok { IfOk result (λ r. PopsUsers ⟦<D as HasFolding>⟧.folding ctx.now.tree edges.now r.0.users.keys
         r.0.constraints.items tables.old tables.new r.1) }
@@ -101,7 +101,7 @@ fn take_values<D: Dialect>(
     let users = IndexSet::new(alloc);
     let urgent = HashSet::new(alloc);
     let constraints = Vec::new(alloc);
-    let mut scheduled = Scheduled {
+    let mut scheduled = Reactions {
         users,
         urgent,
         constraints,
@@ -280,21 +280,21 @@ fn visit_or_defer<D: Dialect>(
     urgent: &HashSet<u64>,
     ctx: &Context,
     tables: &mut Tables,
-    delays: &mut DeferredOperations,
+    deferred: &mut DeferredOperations,
     scratch: &mut Scratch,
 ) -> Result<(), OptError>
     requires live { IsLive ctx.now.tree op }
     requires targets { HasNumberedTargets ctx.now.tree tables.old op }
     requires entered { AreEntriesExecutable ctx.now.tree (lattice_values_of tables.old) scratch.old.entered }
     ensures ok { OnOk result (IsVisitedOrDeferred ⟦<D as HasFolding>⟧.folding ctx.now.tree op tables.old tables.new
-        delays.old delays.new) }
+        deferred.old deferred.new) }
     ensures entered { OnOk result (AreEntriesExecutable ctx.now.tree (lattice_values_of tables.new)
         scratch.new.entered) }
     ensures memory { IsOkUnless result OptError.Memory }
 {
     let operands = op.num_operand(ctx);
     if operands > FEW_OPERANDS {
-        delays.put(scratch.alloc, op, operands, urgent.contains(&op.key()))
+        deferred.put(scratch.alloc, op, operands, urgent.contains(&op.key()))
     } else {
         visit_with_scratch::<D>(op, ctx, tables, scratch)
     }
@@ -307,20 +307,20 @@ fn visit_or_defer_all<D: Dialect>(
     urgent: &HashSet<u64>,
     ctx: &Context,
     tables: &mut Tables,
-    delays: &mut DeferredOperations,
+    deferred: &mut DeferredOperations,
     scratch: &mut Scratch,
 ) -> Result<(), OptError>
     requires live { (k : ℕ) → In k ops.now → IsLive ctx.now.tree k }
     requires targets { (k : ℕ) → In k ops.now → HasNumberedTargets ctx.now.tree tables.old k }
     requires entered { AreEntriesExecutable ctx.now.tree (lattice_values_of tables.old) scratch.old.entered }
     ensures ok { OnOk result (VisitsOrDefersAll ⟦<D as HasFolding>⟧.folding ctx.now.tree ops.now tables.old tables.new
-        delays.old delays.new) }
+        deferred.old deferred.new) }
     ensures entered { OnOk result (AreEntriesExecutable ctx.now.tree (lattice_values_of tables.new)
         scratch.new.entered) }
     ensures memory { IsOkUnless result OptError.Memory }
 {
     for i in 0..ops.len() {
-        visit_or_defer::<D>(ops[i], urgent, ctx, tables, delays, scratch)?;
+        visit_or_defer::<D>(ops[i], urgent, ctx, tables, deferred, scratch)?;
     }
     Ok(())
 }
@@ -358,7 +358,7 @@ fn visit_block<D: Dialect>(
 fn visit_values<D: Dialect>(
     ctx: &Context,
     tables: &mut Tables,
-    delays: &mut DeferredOperations,
+    deferred: &mut DeferredOperations,
     edges: &FeasibleEdges,
     scratch: &mut Scratch,
 ) -> Result<u128, OptError>
@@ -366,7 +366,7 @@ fn visit_values<D: Dialect>(
     requires targets { AreTargetsNumbered ctx.now.tree tables.old }
     requires entered { AreEntriesExecutable ctx.now.tree (lattice_values_of tables.old) scratch.old.entered }
     ensures ok { IfOk result (λ taken. VisitsValues ⟦<D as HasFolding>⟧.folding ctx.now.tree edges.now tables.old
-        tables.new delays.old delays.new taken) }
+        tables.new deferred.old deferred.new taken) }
     ensures entered { OnOk result (AreEntriesExecutable ctx.now.tree (lattice_values_of tables.new)
         scratch.new.entered) }
     ensures memory { IsOkUnless result OptError.Memory }
@@ -379,7 +379,7 @@ fn visit_values<D: Dialect>(
         &scheduled.urgent,
         ctx,
         tables,
-        delays,
+        deferred,
         scratch,
     )?;
     Ok(taken)
@@ -390,7 +390,7 @@ fn visit_values<D: Dialect>(
 fn step<D: Dialect>(
     ctx: &Context,
     tables: &mut Tables,
-    delays: &mut DeferredOperations,
+    deferred: &mut DeferredOperations,
     edges: &mut FeasibleEdges,
     scratch: &mut Scratch,
 ) -> Result<u128, OptError>
@@ -399,7 +399,7 @@ fn step<D: Dialect>(
     requires targets { AreTargetsNumbered ctx.now.tree tables.old }
     requires entered { AreEntriesExecutable ctx.now.tree (lattice_values_of tables.old) scratch.old.entered }
     ensures ok { IfOk result (λ taken. TakesTurn ⟦<D as HasFolding>⟧.folding ctx.now.tree tables.old tables.new
-        delays.old delays.new edges.old edges.new taken) }
+        deferred.old deferred.new edges.old edges.new taken) }
     ensures entered { OnOk result (AreEntriesExecutable ctx.now.tree (lattice_values_of tables.new)
         scratch.new.entered) }
     ensures memory { IsOkUnless result OptError.Memory }
@@ -410,7 +410,7 @@ fn step<D: Dialect>(
             visit_block::<D>(block, ctx, tables, edges, scratch)?;
             Ok(1)
         }
-        None => visit_values::<D>(ctx, tables, delays, edges, scratch),
+        None => visit_values::<D>(ctx, tables, deferred, edges, scratch),
     }
 }
 
@@ -419,21 +419,21 @@ fn step<D: Dialect>(
 fn visit_deferred<D: Dialect>(
     ctx: &Context,
     tables: &mut Tables,
-    delays: &mut DeferredOperations,
+    deferred: &mut DeferredOperations,
     edges: &mut FeasibleEdges,
     scratch: &mut Scratch,
 ) -> Result<bool, OptError>
-    requires placed { (k : ℕ) → In k (deferred_operations delays.old) → WasVisited ctx.now.tree tables.old k }
+    requires placed { (k : ℕ) → In k (deferred_operations deferred.old) → WasVisited ctx.now.tree tables.old k }
     requires targets { AreTargetsNumbered ctx.now.tree tables.old }
     requires entered { AreEntriesExecutable ctx.now.tree (lattice_values_of tables.old) scratch.old.entered }
     ensures ok { IfOk result (λ was_visited. VisitsDeferred ⟦<D as HasFolding>⟧.folding ctx.now.tree tables.old
-        tables.new delays.old delays.new edges.old edges.new was_visited) }
+        tables.new deferred.old deferred.new edges.old edges.new was_visited) }
     ensures entered { OnOk result (AreEntriesExecutable ctx.now.tree (lattice_values_of tables.new)
         scratch.new.entered) }
     ensures memory { IsOkUnless result OptError.Memory }
 {
     ctx.well_formed();
-    match delays.take() {
+    match deferred.take() {
         Some(op) => {
             visit_and_keep::<D>(op, ctx, tables, edges, scratch)?;
             Ok(true)
@@ -445,7 +445,7 @@ fn visit_deferred<D: Dialect>(
 /// What was found: the lattice values, and how many blocks and values were popped off the worklists, each as often
 /// as it was.
 #[derive(Drop)]
-pub struct Searched {
+pub struct Fixpoint {
     pub tables: Tables,
     pub pops: u128,
 }
@@ -458,7 +458,7 @@ pub fn search<D: Dialect>(
     alloc: Global,
     root: Ptr<Operation>,
     ctx: &Context,
-) -> Result<Searched, OptError>
+) -> Result<Fixpoint, OptError>
     requires live { IsLive ctx.now.tree root }
     requires linked { IsWellLinked D.meaning ctx.now.tree root }
     ensures ok { IfOk result (λ r. IsSearched ⟦<D as HasFolding>⟧.folding ctx.now.tree root r.tables r.pops) }
@@ -466,16 +466,16 @@ pub fn search<D: Dialect>(
 {
     ctx.well_formed();
     let mut tables = start(alloc, root, ctx)?;
-    let mut delays = DeferredOperations::new(alloc);
+    let mut deferred = DeferredOperations::new(alloc);
     let mut edges = FeasibleEdges::new(alloc);
     let mut scratch = Scratch::new(alloc);
     let mut pops: u128 = 0;
     loop {
-        let taken = step::<D>(ctx, &mut tables, &mut delays, &mut edges, &mut scratch)?;
+        let taken = step::<D>(ctx, &mut tables, &mut deferred, &mut edges, &mut scratch)?;
         if taken > 0 {
             pops += taken;
-        } else if !visit_deferred::<D>(ctx, &mut tables, &mut delays, &mut edges, &mut scratch)? {
-            return Ok(Searched { tables, pops });
+        } else if !visit_deferred::<D>(ctx, &mut tables, &mut deferred, &mut edges, &mut scratch)? {
+            return Ok(Fixpoint { tables, pops });
         }
     }
 }
@@ -488,7 +488,7 @@ pub(crate) fn find<D: Dialect>(
     alloc: Global,
     root: Ptr<Operation>,
     ctx: &Context,
-) -> Result<(Found, u128), OptError>
+) -> Result<(Replacements, u128), OptError>
     requires live { IsLive ctx.now.tree root }
     requires linked { IsWellLinked D.meaning ctx.now.tree root }
     ensures ok { IfOk result (λ r. HasFound ⟦<D as HasFolding>⟧.folding D.can_fold ctx.now.tree root r.0 r.1) }
@@ -497,5 +497,5 @@ pub(crate) fn find<D: Dialect>(
     let searched = search::<D>(alloc, root, ctx)?;
     let folds = all_folds::<D>(alloc, root, ctx, &searched.tables)?;
     let arguments = all_arguments(alloc, root, ctx, &searched.tables)?;
-    Ok((Found { folds, arguments }, searched.pops))
+    Ok((Replacements { folds, arguments }, searched.pops))
 }

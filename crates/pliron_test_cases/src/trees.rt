@@ -18,16 +18,16 @@ use std::alloc::Global;
 
 /// What was made.
 #[derive(Drop)]
-pub struct Made {
+pub struct TestTree {
     pub operations: Vec<Ptr<Operation>>,
     pub blocks: Vec<Ptr<BasicBlock>>,
     pub values: Vec<Value>,
 }
 
-impl Made {
+impl TestTree {
     /// Nothing yet. Cost: constant.
     pub fn new(alloc: Global) -> Self {
-        Made {
+        TestTree {
             operations: Vec::new(alloc),
             blocks: Vec::new(alloc),
             values: Vec::new(alloc),
@@ -54,7 +54,7 @@ impl Made {
 fn operation(
     alloc: Global,
     ctx: &mut Context,
-    made: &mut Made,
+    made: &mut TestTree,
     name: &str,
     number: i128,
 ) -> Option<Ptr<Operation>> {
@@ -85,7 +85,7 @@ fn operation(
 // A new last block of the operation's region with this index.
 fn block(
     ctx: &mut Context,
-    made: &mut Made,
+    made: &mut TestTree,
     op: Ptr<Operation>,
     region: usize,
     arguments: usize,
@@ -114,7 +114,7 @@ fn put(ctx: &mut Context, op: Ptr<Operation>, block: Ptr<BasicBlock>) -> Option<
 }
 
 // The operation gets its place, an operand or a successor.
-fn give(ctx: &mut Context, made: &Made, op: Ptr<Operation>, word: &str) -> Option<()> {
+fn give(ctx: &mut Context, made: &TestTree, op: Ptr<Operation>, word: &str) -> Option<()> {
     if let Some(index) = word.strip_prefix('@') {
         return put(ctx, op, made.block(index)?);
     }
@@ -137,7 +137,7 @@ fn give(ctx: &mut Context, made: &Made, op: Ptr<Operation>, word: &str) -> Optio
 
 // The block that the words ask for: an operation, how many arguments, and the index of a region, each of the
 // two 0 where it is missing.
-fn block_of_words(ctx: &mut Context, made: &mut Made, words: &str) -> Option<()> {
+fn block_of_words(ctx: &mut Context, made: &mut TestTree, words: &str) -> Option<()> {
     let mut words = words.split_ascii_whitespace();
     let op = made.operation(words.next()?)?;
     let arguments = number(words.next().unwrap_or("0"))?;
@@ -147,7 +147,7 @@ fn block_of_words(ctx: &mut Context, made: &mut Made, words: &str) -> Option<()>
 }
 
 // Does a step.
-fn step(alloc: Global, ctx: &mut Context, made: &mut Made, text: &str) -> Option<()> {
+fn step(alloc: Global, ctx: &mut Context, made: &mut TestTree, text: &str) -> Option<()> {
     let (name, rest) = text.split_once(' ').unwrap_or((text, ""));
     if name == "block" {
         return block_of_words(ctx, made, rest);
@@ -166,7 +166,7 @@ fn step(alloc: Global, ctx: &mut Context, made: &mut Made, text: &str) -> Option
 
 /// Does the steps, which `; ` sets apart; none where one can't be read or done. Cost: linear in the text, and
 /// what the steps do.
-pub fn make(alloc: Global, ctx: &mut Context, made: &mut Made, steps: &str) -> Option<()> {
+pub fn make(alloc: Global, ctx: &mut Context, made: &mut TestTree, steps: &str) -> Option<()> {
     for text in steps.split(';') {
         step(alloc, ctx, made, text.trim())?;
     }
@@ -177,7 +177,7 @@ pub fn make(alloc: Global, ctx: &mut Context, made: &mut Made, steps: &str) -> O
 /// what the steps do.
 pub fn build(alloc: Global, ctx: &mut Context, case: &str) -> Option<Ptr<Operation>> {
     let (index, steps) = fields(case)?;
-    let mut made = Made::new(alloc);
+    let mut made = TestTree::new(alloc);
     make(alloc, ctx, &mut made, steps)?;
     made.operation(index)
 }

@@ -1,7 +1,7 @@
 -- The worklist of the search for visited regions.
 use Rattle.std.specs.Prelude.{◌≡◌, ◌⊎◌, ◌+◌, ℕ, List, map, length}
 use Rattle.pliron_core.specs.Lists.{In, IsDistinct}
-use Rattle.pliron_cfg.specs.declared.visits.Postponed.{Postponed}
+use Rattle.pliron_cfg.specs.declared.visits.PostponedBlock.{PostponedBlock}
 
 -- these regions are seen too, and those that are seen for the first time are on the worklist
 pub record HasGrown (regions seen waiting seen' waiting' : List ℕ) : Type 0 where
@@ -15,5 +15,5 @@ pub record HasGrown (regions seen waiting seen' waiting' : List ℕ) : Type 0 wh
   pub distinct : IsDistinct seen → IsDistinct seen'
 
 -- the blocks that are postponed
-abbrev pub blocks_postponed : List Postponed → List ℕ
+abbrev pub blocks_postponed : List PostponedBlock → List ℕ
 blocks_postponed postponed = map (λ p. p.block) postponed

@@ -8,7 +8,7 @@ use std::alloc::{AllocError, Global};
 /// A move of a run: the operation that made it, and its input. At the first move that is the data of its operands, later
 /// what it was answered; there is none where an operand has no datum.
 #[derive(Drop)]
-pub struct Noted {
+pub struct NotedMove {
     pub op: Ptr<Operation>,
     pub input: Option<Vec<Datum>>,
 }
@@ -20,7 +20,7 @@ pub struct Notes {
     /// no operation ended.
     pub last: Option<Ptr<Operation>>,
     /// All moves in order, where they are noted.
-    pub moves: Vec<Noted>,
+    pub moves: Vec<NotedMove>,
     keeps_moves: bool,
 }
 
@@ -54,7 +54,7 @@ impl Notes {
         match self.last {
             Some(op) if self.keeps_moves && op.is_live(ctx) => {
                 let input = input_of(alloc, ctx, state, op)?;
-                self.moves.push(Noted { op, input })?;
+                self.moves.push(NotedMove { op, input })?;
                 Ok(())
             }
             _ => Ok(()),

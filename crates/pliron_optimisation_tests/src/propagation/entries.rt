@@ -11,7 +11,7 @@ use pliron_core::{AttrObj, Context, Def, Operation, Ptr, Value};
 use pliron_evaluator::evaluator::{Datum, Sight, evaluate};
 use pliron_evaluator::{Tiny, TinyKind};
 use pliron_test_cases::cases::{Row, fields, row_of};
-use pliron_test_cases::trees::{Made, make};
+use pliron_test_cases::trees::{TestTree, make};
 use std::alloc::Global;
 use std::process::Abort;
 
@@ -163,7 +163,7 @@ fn propagated(
     rt: &impl Abort,
     alloc: Global,
     ctx: &mut Context,
-    made: &Made,
+    made: &TestTree,
     index: &str,
 ) -> String {
     let root = made.operation("0").expect(rt, "a root");
@@ -178,7 +178,7 @@ fn propagated(
 fn case_in(rt: &impl Abort, alloc: Global, ctx: &mut Context, case: &str) {
     let Row { name, asked, want } = row_of(case).expect(rt, "a case");
     let (index, steps) = fields(asked).expect(rt, "a number");
-    let mut made = Made::new(alloc);
+    let mut made = TestTree::new(alloc);
     make(alloc, ctx, &mut made, steps).expect(rt, "a tree");
     let got = propagated(rt, alloc, ctx, &made, index);
     expect_text(rt, got.as_str(), want, name);

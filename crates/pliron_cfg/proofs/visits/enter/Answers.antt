@@ -1,9 +1,9 @@
 use Rattle.std.proofs.Common.{◌≡◌, ◌++◌, ◌∷◌, [], ◌∙◌, ◌+◌, append-nil, append_assoc, true≢false, ℕ, List, length, ◌≤◌, arith, ap, sym, refl, take, subst}
 use Rattle.std.specs.List.{flat_map}
-use Rattle.std.proofs.lemmas.List.{take_more, take_all, map-append}
+use Rattle.std.proofs.lemmas.List.{take_more, merge_all, map-append}
 use Rattle.pliron_core.specs.Tree.{regions_of, body_of}
 use Rattle.pliron_laws.proofs.MappedLists.{mapped_more}
-use Rattle.pliron_cfg.specs.declared.visits.Postponed.{Postponed}
+use Rattle.pliron_cfg.specs.declared.visits.PostponedBlock.{PostponedBlock}
 use Rattle.pliron_cfg.specs.Internal.Seen.{HasGrown, blocks_postponed}
 use Rattle.pliron_cfg.proofs.ListLemmas.{item_in}
 use Rattle.pliron_cfg.proofs.Growing.{grew_none, grew_both}
@@ -34,7 +34,7 @@ loop-block-preserved c =
     record {
       grown = subst (λ z. HasGrown z s w s' w') (sym more) (grew_both (flat_map f (take i xs)) (f x) s w c.loop-block.worklist.seen.keys c.loop-block.worklist.waiting.items s' w' c.loop-block.invariant.grown grew);
       listed = elim c.if-listed.branch [
-        | then-listed+in_ok-push v ↦ λ y. ap (λ z. blocks_postponed z.items) v.postponed-is ∙ ap blocks_postponed v.in_ok-push.ensures.items ∙ map-append (λ (p : Postponed). p.block) c.loop-block.postponed.items _ ∙ ap (λ z. z ++ x ∷ []) (c.loop-block.invariant.listed y) ∙ append_assoc (blocks_postponed before) (take i xs) (x ∷ []) ∙ ap (λ z. blocks_postponed before ++ z) (sym one)
+        | then-listed+in_ok-push v ↦ λ y. ap (λ z. blocks_postponed z.items) v.postponed-is ∙ ap blocks_postponed v.in_ok-push.ensures.items ∙ map-append (λ (p : PostponedBlock). p.block) c.loop-block.postponed.items _ ∙ ap (λ z. z ++ x ∷ []) (c.loop-block.invariant.listed y) ∙ append_assoc (blocks_postponed before) (take i xs) (x ∷ []) ∙ ap (λ z. blocks_postponed before ++ z) (sym one)
         | else-listed v ↦ λ y. absurd (true≢false (sym y ∙ v.if-listed.false))
       ];
       other = elim c.if-listed.branch [
@@ -46,4 +46,4 @@ loop-block-preserved c =
 pub returns-clause-grown : goal.returns-clause-grown
 returns-clause-grown c =
     let all : length c.args.entered.now ≤ c.loop-block.block-index = omega (arith, c.loop-block-test.false) in
-    subst (λ z. HasGrown (flat_map (λ b. flat_map (λ k. regions_of c.args.ctx.now.tree k) (body_of c.args.ctx.now.tree b)) z) c.args.worklist.now.seen.keys c.args.worklist.now.waiting.items c.loop-block.worklist.seen.keys c.loop-block.worklist.waiting.items) (take_all c.loop-block.block-index c.args.entered.now all) c.loop-block.invariant.grown
+    subst (λ z. HasGrown (flat_map (λ b. flat_map (λ k. regions_of c.args.ctx.now.tree k) (body_of c.args.ctx.now.tree b)) z) c.args.worklist.now.seen.keys c.args.worklist.now.waiting.items c.loop-block.worklist.seen.keys c.loop-block.worklist.waiting.items) (merge_all c.loop-block.block-index c.args.entered.now all) c.loop-block.invariant.grown

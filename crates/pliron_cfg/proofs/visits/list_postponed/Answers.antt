@@ -1,7 +1,7 @@
 use Rattle.std.proofs.Common.{rules, ◌≡◌, ◌↔◌, ◌++◌, ◌∷◌, [], ℕ, ◌∙◌, ap, sym, subst, append-nil}
 use Rattle.std.proofs.lemmas.List.{map-append}
 use Rattle.pliron_core.specs.Tree.{In}
-use Rattle.pliron_cfg.specs.declared.visits.Postponed.{Postponed}
+use Rattle.pliron_cfg.specs.declared.visits.PostponedBlock.{PostponedBlock}
 use Rattle.pliron_cfg.specs.Internal.Seen.{blocks_postponed}
 use Rattle.pliron_cfg.proofs.ListLemmas.{in_moved}
 use Rattle.pliron_cfg.proofs.visits.list_postponed.Goals as goal
@@ -14,7 +14,7 @@ returns-then-last-waiting-clause-same c = λ b.
 pub loop-last-preserved : goal.loop-last-preserved
 loop-last-preserved c = λ b.
     let rest = blocks_postponed c.pop.new.self.items in
-    let before : blocks_postponed c.loop-last.postponed.items ≡ rest ++ c.in-Some.last.block ∷ [] = ap blocks_postponed (c.in-Some.ensures.items) ∙ map-append (λ (p : Postponed). p.block) c.pop.new.self.items _ in
+    let before : blocks_postponed c.loop-last.postponed.items ≡ rest ++ c.in-Some.last.block ∷ [] = ap blocks_postponed (c.in-Some.ensures.items) ∙ map-append (λ (p : PostponedBlock). p.block) c.pop.new.self.items _ in
     let moved : In b ((c.loop-last.blocks.items ++ c.in-Some.last.block ∷ []) ++ rest) ↔ In b (c.loop-last.blocks.items ++ blocks_postponed c.loop-last.postponed.items) =
     subst (λ z. In b ((c.loop-last.blocks.items ++ c.in-Some.last.block ∷ []) ++ rest) ↔ In b (c.loop-last.blocks.items ++ z)) (sym before) (in_moved b c.in-Some.last.block c.loop-last.blocks.items rest) in
     let now : In b (c.push-in-Some.new.self.items ++ rest) ↔ In b (c.loop-last.blocks.items ++ blocks_postponed c.loop-last.postponed.items) =

@@ -2,7 +2,7 @@ use Rattle.std.proofs.Common.{◌≡◌, ◌+◌, ◌++◌, ◌∷◌, [], OnOk,
 use Rattle.pliron_core.specs.Tree.{arguments_of}
 use Rattle.pliron_notation.specs.Building.{AddsOnly}
 use Rattle.std.proofs.lemmas.Result.{on_ok_weaker}
-use Rattle.pliron_notation.specs.declared.build.Built.{Built}
+use Rattle.pliron_notation.specs.declared.build.BuiltTree.{BuiltTree}
 use Rattle.pliron_notation.specs.Laid.{IsLaid}
 use Rattle.pliron_notation.proofs.LaidLemmas.{laid-block}
 use Rattle.pliron_notation.proofs.BuildLemmas.{in-read, adds-last, adds-none, created-arguments, goes-block, all_in_place-block}
@@ -65,7 +65,7 @@ pub returns-clause-laid : goal.returns-clause-laid
 returns-clause-laid c =
     let u = c.args.ctx.now.tree in
     let built = c.args.built.now in
-    let more : Built = record { operations = built.operations; blocks = c.remember.new.table; regions = built.regions; values = c.remember_arguments.new.values } in
+    let more : BuiltTree = record { operations = built.operations; blocks = c.remember.new.table; regions = built.regions; values = c.remember_arguments.new.values } in
     let b = c.args.text.now in
     on_ok_weaker c.remember_arguments.result
     (λ count s at root base l.

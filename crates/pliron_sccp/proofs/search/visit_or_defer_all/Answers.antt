@@ -9,7 +9,7 @@ use Rattle.pliron_sccp.proofs.search.visit_or_defer_all.Goals as goal
 pub loop-i-init : goal.loop-i-init
 loop-i-init g c =
     let x : Says = record { meaning = g.D.HasMeaning.meaning; can_fold = g.D.ConstFoldInterface.can_fold; can_fold_branch = g.D.BranchOpFoldInterface.can_fold_branch; constants = g.D.ConstFoldInterface.constants; feasible = g.D.BranchOpFoldInterface.feasible; entry_operands = g.D.RegionBranchOpInterface.entry_operands } in
-    (seeing_start x c.args.ctx.now.tree c.args.ops.now c.args.tables.now c.args.delays.now, omega arith, c.requires.entered)
+    (seeing_start x c.args.ctx.now.tree c.args.ops.now c.args.tables.now c.args.deferred.now, omega arith, c.requires.entered)
 
 pub visit_or_defer-requires-clause-live : goal.visit_or_defer-requires-clause-live
 visit_or_defer-requires-clause-live g c =
@@ -31,12 +31,12 @@ loop-i-preserved g c =
     let ops = c.args.ops.now in
     let x : Says = record { meaning = g.D.HasMeaning.meaning; can_fold = g.D.ConstFoldInterface.can_fold; can_fold_branch = g.D.BranchOpFoldInterface.can_fold_branch; constants = g.D.ConstFoldInterface.constants; feasible = g.D.BranchOpFoldInterface.feasible; entry_operands = g.D.RegionBranchOpInterface.entry_operands } in
     let at : slice_get ops c.loop-i.i ≡ Some c.index-ops-i.result = slice_get_read ops (length ops) c.loop-i.i c.index-ops-i.result refl c.loop-i-test.true c.index-ops-i.is in
-    (seeing_next x c.args.ctx.now.tree ops c.args.tables.now c.args.delays.now c.loop-i.i c.index-ops-i.result at c.loop-i.tables c.visit_or_defer.new.tables c.loop-i.delays c.visit_or_defer.new.delays c.loop-i.invariant.0 c.in_ok-visit_or_defer.ensures.ok, omega (arith, c.loop-i-test.true), c.in_ok-visit_or_defer.ensures.entered)
+    (seeing_next x c.args.ctx.now.tree ops c.args.tables.now c.args.deferred.now c.loop-i.i c.index-ops-i.result at c.loop-i.tables c.visit_or_defer.new.tables c.loop-i.deferred c.visit_or_defer.new.deferred c.loop-i.invariant.0 c.in_ok-visit_or_defer.ensures.ok, omega (arith, c.loop-i-test.true), c.in_ok-visit_or_defer.ensures.entered)
 
 pub returns-clause-ok : goal.returns-clause-ok
 returns-clause-ok g c =
     let x : Says = record { meaning = g.D.HasMeaning.meaning; can_fold = g.D.ConstFoldInterface.can_fold; can_fold_branch = g.D.BranchOpFoldInterface.can_fold_branch; constants = g.D.ConstFoldInterface.constants; feasible = g.D.BranchOpFoldInterface.feasible; entry_operands = g.D.RegionBranchOpInterface.entry_operands } in
-    seeing_end x c.args.ctx.now.tree c.args.ops.now c.args.tables.now c.args.delays.now c.loop-i.i c.loop-i.tables c.loop-i.delays (omega arith) (omega arith) c.loop-i.invariant.1 c.loop-i.invariant.0
+    seeing_end x c.args.ctx.now.tree c.args.ops.now c.args.tables.now c.args.deferred.now c.loop-i.i c.loop-i.tables c.loop-i.deferred (omega arith) (omega arith) c.loop-i.invariant.1 c.loop-i.invariant.0
 
 pub returns-clause-entered : goal.returns-clause-entered
 returns-clause-entered g c = c.loop-i.invariant.2

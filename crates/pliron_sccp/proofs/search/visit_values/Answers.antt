@@ -43,5 +43,5 @@ returns-clause-ok g c =
       takes = c.in_ok-scheduled.ensures.ok;
       applied = c.satisfy_all.ensures.applied;
       stamped = c.satisfy_all.ensures.stamped;
-      sees = subst (λ ks. VisitsOrDefersAll x c.args.ctx.now.tree ks c.satisfy_all.new.tables c.visit_or_defer_all.new.tables c.args.delays.now c.visit_or_defer_all.new.delays) c.as_slice.ensures.keys c.in_ok-visit_or_defer_all.ensures.ok;
+      sees = subst (λ ks. VisitsOrDefersAll x c.args.ctx.now.tree ks c.satisfy_all.new.tables c.visit_or_defer_all.new.tables c.args.deferred.now c.visit_or_defer_all.new.deferred) c.as_slice.ensures.keys c.in_ok-visit_or_defer_all.ensures.ok;
     }

@@ -1,6 +1,6 @@
 use Rattle.std.proofs.Common.{arith, true≢false, sym}
 use Rattle.pliron_theory.proofs.RewriteLemmas.{may_have_effects}
-use Rattle.pliron_cse.proofs.take.may_repeat.Goals as goal
+use Rattle.pliron_cse.proofs.merge.is_mergeable.Goals as goal
 
 pub returns-in_default : goal.returns-in_default
 returns-in_default g c = (

@@ -9,8 +9,8 @@ use Rattle.pliron_laws.specs.Laws.{KeepsCounts, GivesAtOnce}
 use Rattle.pliron_laws.specs.Linked.{IsWellLinked}
 use Rattle.pliron_equivalence.specs.Merging.{after_merging, partly_merged}
 use Rattle.pliron_cse.specs.Left.{LeavesNoRedundancy, ReportsEquivalent}
-use Rattle.pliron_cse.specs.MergingSteps.{IsOnWay, IsOrdered, IsTaking, LeadsAt, LeadsOn, TakesInPart, TakesOrStays, ReportsErased, status_after}
-use Rattle.pliron_cse.specs.Taking.{IsPair, IsTakenSoFar, Pair}
+use Rattle.pliron_cse.specs.MergingSteps.{IsOnWay, IsOrdered, IsMergedUpTo, LeadsAt, LeadsOn, MergesInPart, MergesOrStays, ReportsErased, status_after}
+use Rattle.pliron_cse.specs.Merges.{IsPair, AreMergedSoFar, Pair}
 use Rattle.pliron_cse.proofs.Exact.{exact_start, exact_merged, exact_stays, exact_end}
 use Rattle.pliron_cse.proofs.OnWay.{way_start, way_more, way_merged, way_partly, ordered_merged, ordered_on, merged_gone, pair_of, turn_more}
 
@@ -23,10 +23,10 @@ tells_same t0 t Unchanged reported = (λ e. reported, λ e. refl)
 tells_same t0 t Changed reported = (λ e. absurd (cc e), λ e. absurd (reported.2 (subst (λ z. IsLive z reported.0) (sym e) reported.1)))
 
 module _ (m : Meaning) (side_effects : Head → Option Bool) (counts : KeepsCounts m) (free : GivesAtOnce m side_effects) (t0 : Tree) (root : ℕ) (live : IsLive t0 root) (linked : IsWellLinked m t0 root) (ops ends : List ℕ) where
-  pub taking_start : (find : List ℕ → Option ℕ) → IsOrdered t0 root ops ends 0 → IsTaking m side_effects t0 t0 root ops ends 0 find Unchanged
-  taking_start find o = record { way = way_start m t0 root live linked; taken = ([], refl); accurate = refl; ordered = o; exact = exact_start side_effects t0 root ops ends find }
+  pub merging_start : (find : List ℕ → Option ℕ) → IsOrdered t0 root ops ends 0 → IsMergedUpTo m side_effects t0 t0 root ops ends 0 find Unchanged
+  merging_start find o = record { way = way_start m t0 root live linked; taken = ([], refl); accurate = refl; ordered = o; exact = exact_start side_effects t0 root ops ends find }
 
-  module _ (t : Tree) (place : ℕ) (find find' : List ℕ → Option ℕ) (status : IRStatus) (w : IsTree t) (low : place < length ops) (h : IsTaking m side_effects t0 t root ops ends place find status) where
+  module _ (t : Tree) (place : ℕ) (find find' : List ℕ → Option ℕ) (status : IRStatus) (w : IsTree t) (low : place < length ops) (h : IsMergedUpTo m side_effects t0 t root ops ends place find status) where
     linked_now : IsWellLinked m t root
     linked_now = h.way.links root linked
 
@@ -36,8 +36,8 @@ module _ (m : Meaning) (side_effects : Head → Option Bool) (counts : KeepsCoun
     pair : (i : ℕ) → LeadsAt side_effects t ops ends i place → IsPair side_effects t root (get_or ops i 0) (get_or ops place 0)
     pair i q = pair_of side_effects t w root ops ends i place (get_or ops i 0) (get_or ops place 0) h.ordered q.first low q.within refl refl q.live q.alike
 
-    taken_one : (a : ℕ) → IsPair side_effects t root a (get_or ops place 0) → IsTree (after_merging t a (get_or ops place 0)) → ((key : List ℕ) → find' key ≡ find key) → IsTaking m side_effects t0 (after_merging t a (get_or ops place 0)) root ops ends (place + 1) find' Changed
-    taken_one a p w' same = record {
+    merged_one : (a : ℕ) → IsPair side_effects t root a (get_or ops place 0) → IsTree (after_merging t a (get_or ops place 0)) → ((key : List ℕ) → find' key ≡ find key) → IsMergedUpTo m side_effects t0 (after_merging t a (get_or ops place 0)) root ops ends (place + 1) find' Changed
+    merged_one a p w' same = record {
       way = way_more m t0 t (after_merging t a b) root h.way (way_merged m side_effects counts free t a b root w live_now linked_now p w');
       taken = (h.taken.0 ++ record { leader = a; redundant = b } ∷ [], turn_more side_effects root h.taken.0 (record { leader = a; redundant = b }) t0 t h.taken.1 p);
       accurate = (b, h.way.fewer b lives, λ l. merged_gone m side_effects counts free t a b root w live_now linked_now p w' b l refl);
@@ -51,9 +51,9 @@ module _ (m : Meaning) (side_effects : Head → Option Bool) (counts : KeepsCoun
         lives : IsLive t (get_or ops place 0)
         lives = (w.joined.all_in_place (get_or ops place 0) p.second.block p.second.in_block).0
 
-    pub taking_next : (t' : Tree) (taken : Bool) → IsTree t' → TakesOrStays side_effects t t' ops ends place taken → LeadsOn side_effects t ops ends place find find' taken → IsTaking m side_effects t0 t' root ops ends (place + 1) find' (status_after status taken)
-    taking_next t' true w' (i, q, is) same = subst (λ z. IsTaking m side_effects t0 z root ops ends (place + 1) find' Changed) (sym is) (taken_one (get_or ops i 0) (pair i q) (subst IsTree is w') same)
-    taking_next t' false w' is alone = subst (λ z. IsTaking m side_effects t0 z root ops ends (place + 1) find' status) (sym is) (record {
+    pub merging_next : (t' : Tree) (taken : Bool) → IsTree t' → MergesOrStays side_effects t t' ops ends place taken → LeadsOn side_effects t ops ends place find find' taken → IsMergedUpTo m side_effects t0 t' root ops ends (place + 1) find' (status_after status taken)
+    merging_next t' true w' (i, q, is) same = subst (λ z. IsMergedUpTo m side_effects t0 z root ops ends (place + 1) find' Changed) (sym is) (merged_one (get_or ops i 0) (pair i q) (subst IsTree is w') same)
+    merging_next t' false w' is alone = subst (λ z. IsMergedUpTo m side_effects t0 z root ops ends (place + 1) find' status) (sym is) (record {
       way = h.way;
       taken = h.taken;
       accurate = h.accurate;
@@ -62,13 +62,13 @@ module _ (m : Meaning) (side_effects : Head → Option Bool) (counts : KeepsCoun
     })
 
     -- memory was refused
-    pub refused_way : (t' : Tree) → IsTree t' → TakesInPart side_effects t t' ops ends place → IsOnWay m t0 t' root
+    pub refused_way : (t' : Tree) → IsTree t' → MergesInPart side_effects t t' ops ends place → IsOnWay m t0 t' root
     refused_way t' w' (inl e) = subst (λ z. IsOnWay m t0 z root) (sym e) h.way
     refused_way t' w' (inr (i, q, part)) = subst (λ z. IsOnWay m t0 z root) (sym part.tree) (way_more m t0 t (partly_merged t (get_or ops i 0) (get_or ops place 0) part.count) root h.way (way_partly m side_effects counts free t (get_or ops i 0) (get_or ops place 0) root w live_now linked_now (pair i q) part.count (subst IsTree part.tree w')))
 
-    pub refused_taken : (t' : Tree) → TakesInPart side_effects t t' ops ends place → (xs : List Pair) × IsTakenSoFar side_effects root xs t0 t'
-    refused_taken t' (inl e) = (h.taken.0, (t, h.taken.1, inl e))
-    refused_taken t' (inr (i, q, part)) = (h.taken.0, (t, h.taken.1, inr (record { leader = get_or ops i 0; redundant = get_or ops place 0 }, pair i q, part)))
+    pub refused_merged : (t' : Tree) → MergesInPart side_effects t t' ops ends place → (xs : List Pair) × AreMergedSoFar side_effects root xs t0 t'
+    refused_merged t' (inl e) = (h.taken.0, (t, h.taken.1, inl e))
+    refused_merged t' (inr (i, q, part)) = (h.taken.0, (t, h.taken.1, inr (record { leader = get_or ops i 0; redundant = get_or ops place 0 }, pair i q, part)))
 
-  pub taking_end : (t : Tree) (place : ℕ) (find : List ℕ → Option ℕ) (status : IRStatus) → IsTree t → length ops ≤ place → IsTaking m side_effects t0 t root ops ends place find status → LeavesNoRedundancy side_effects t0 t root × ReportsEquivalent side_effects t0 root status
-  taking_end t place find status w all h = exact_end side_effects t0 t w root ops ends place find status all h.ordered (tells_unchanged t0 t status h.accurate) h.exact
+  pub merging_end : (t : Tree) (place : ℕ) (find : List ℕ → Option ℕ) (status : IRStatus) → IsTree t → length ops ≤ place → IsMergedUpTo m side_effects t0 t root ops ends place find status → LeavesNoRedundancy side_effects t0 t root × ReportsEquivalent side_effects t0 root status
+  merging_end t place find status w all h = exact_end side_effects t0 t w root ops ends place find status all h.ordered (tells_unchanged t0 t status h.accurate) h.exact

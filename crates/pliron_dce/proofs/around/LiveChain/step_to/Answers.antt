@@ -2,7 +2,7 @@ use Rattle.std.proofs.Common.{◌≡◌, Some, refl, sym, ◌∙◌, subst}
 use Rattle.pliron_core.specs.Tree.{IsLive, parent_operation_of}
 use Rattle.pliron_core.proofs.EdgeLemmas.{same_key}
 use Rattle.pliron_dce.proofs.Reaches.{holds_next, key_differs}
-use Rattle.pliron_dce.proofs.around.Reach.step_to.Goals as goal
+use Rattle.pliron_dce.proofs.around.LiveChain.step_to.Goals as goal
 
 pub returns-then-eq-2 : goal.returns-then-eq-2
 returns-then-eq-2 c =

@@ -6,8 +6,8 @@ use Rattle.pliron_theory.specs.Keeps.{IsFit}
 use Rattle.pliron_opts.specs.Answered.{Reads}
 use Rattle.pliron_fit.specs.Violation.{IsViolation}
 use Rattle.pliron_fit.specs.declared.violation.Violation.{Violation}
-use Rattle.pliron_cli.specs.declared.checking.Checked.{Checked}
-use Rattle.pliron_cli.specs.declared.checking.Checked.TheVariants.{Unreadable, Fit, FitByParts, Unfit}
+use Rattle.pliron_cli.specs.declared.checking.CheckOutcome.{CheckOutcome}
+use Rattle.pliron_cli.specs.declared.checking.CheckOutcome.TheVariants.{Unreadable, Fit, FitByParts, Unfit}
 use Rattle.pliron_cli.specs.declared.outcome.Outcome.{Outcome}
 use Rattle.pliron_cli.specs.Parts.{IsContainer, AreFitParts, IsFitByParts, IsAtFault}
 
@@ -54,7 +54,7 @@ module _ (reads : Reads) (m : Meaning) (text : List ℕ) where
   IsUnfitText = (part : ℕ) × (violation : Violation) × IsUnfitBy part violation
 
   -- of a text that is called unreadable nothing is said
-  abbrev pub IsChecked : Checked → Type 0
+  abbrev pub IsChecked : CheckOutcome → Type 0
   IsChecked Unreadable = Unit {0}
   IsChecked Fit = IsWholeText
   IsChecked FitByParts = IsTextOfParts

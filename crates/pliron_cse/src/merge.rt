@@ -4,8 +4,8 @@ ghost use Rattle.pliron_core.specs.Tree.{IsLive};
 ghost use Rattle.pliron_laws.specs.Linked.{IsWellLinked};
 ghost use Rattle.pliron_cse.specs.Leaders.{leader_with};
 ghost use Rattle.pliron_cse.specs.Left.{LeavesNoRedundancy, ReportsEquivalent};
-ghost use Rattle.pliron_cse.specs.MergingSteps.{AreNearAlike, IsOnWay, IsOrdered, LeadsAt, LeadsOn, MayRepeat, TakesInPart, TakesOrStays, ReportsErased, status_after};
-ghost use Rattle.pliron_cse.specs.Taking.{IsTakenSoFar, Pair, TakeInTurn};
+ghost use Rattle.pliron_cse.specs.MergingSteps.{MayMerge, IsOnWay, IsOrdered, LeadsAt, LeadsOn, IsMergeable, MergesInPart, MergesOrStays, ReportsErased, status_after};
+ghost use Rattle.pliron_cse.specs.Merges.{AreMergedSoFar, Pair, MergeInTurn};
 
 use crate::keys::{key_of, region_of_operation};
 use crate::leaders::Leaders;
@@ -17,9 +17,9 @@ use pliron_order::DominanceOrder;
 use std::alloc::Global;
 
 // Whether the operation may be erased, or replace another: it has no regions, successors or side effects.
-fn may_repeat<D: Dialect>(op: Ptr<Operation>, ctx: &Context) -> bool
+fn is_mergeable<D: Dialect>(op: Ptr<Operation>, ctx: &Context) -> bool
     requires { IsLive ctx.now.tree op }
-    ensures { IsTrue result ↔ MayRepeat D.side_effects ctx.now.tree op }
+    ensures { IsTrue result ↔ IsMergeable D.side_effects ctx.now.tree op }
 {
     if op.num_region(ctx) != 0 || op.num_successor(ctx) != 0 {
         return false;
@@ -38,10 +38,10 @@ fn is_same_region(first: Option<Ptr<Region>>, second: Option<Ptr<Region>>) -> bo
 }
 
 // Whether the second does what the first does, and is in its region if it has no operands.
-fn are_near_alike<D: Dialect>(first: Ptr<Operation>, second: Ptr<Operation>, ctx: &Context) -> bool
+fn may_merge<D: Dialect>(first: Ptr<Operation>, second: Ptr<Operation>, ctx: &Context) -> bool
     requires first { IsLive ctx.now.tree first }
     requires second { IsLive ctx.now.tree second }
-    ensures { IsTrue result ↔ AreNearAlike D.side_effects ctx.now.tree first second }
+    ensures { IsTrue result ↔ MayMerge D.side_effects ctx.now.tree first second }
 {
     if !are_alike::<D>(first, second, ctx) {
         return false;
@@ -85,7 +85,7 @@ fn leader_at<D: Dialect>(
     if !first.is_live(ctx) {
         return None;
     }
-    if !are_near_alike::<D>(first, order.operations[place], ctx) {
+    if !may_merge::<D>(first, order.operations[place], ctx) {
         return None;
     }
     Some(first)
@@ -115,7 +115,7 @@ fn leader_of<D: Dialect>(
 
 // The operation at this place is erased if it is redundant, and else it may lead those behind it. Answers whether
 // it was erased.
-fn take_at<D: Dialect, R: Rewriter + Room>(
+fn merge_at<D: Dialect, R: Rewriter + Room>(
     alloc: Global,
     order: &DominanceOrder,
     place: usize,
@@ -125,17 +125,17 @@ fn take_at<D: Dialect, R: Rewriter + Room>(
 ) -> Result<bool, OptError>
     requires place { place < length order.now.operations.items }
     requires ordered { (root : ℕ) × IsOrdered ctx.old.tree root order.now.operations.items order.now.ends.items place }
-    ensures taken { IfOk result (λ taken. TakesOrStays D.side_effects ctx.old.tree ctx.new.tree
+    ensures taken { IfOk result (λ taken. MergesOrStays D.side_effects ctx.old.tree ctx.new.tree
         order.now.operations.items order.now.ends.items place taken) }
     ensures leaders { IfOk result (λ taken. LeadsOn D.side_effects ctx.old.tree order.now.operations.items
         order.now.ends.items place (λ key. leader_with leaders.old key) (λ key. leader_with leaders.new key) taken) }
-    ensures refused { OnErr result (TakesInPart D.side_effects ctx.old.tree ctx.new.tree order.now.operations.items
+    ensures refused { OnErr result (MergesInPart D.side_effects ctx.old.tree ctx.new.tree order.now.operations.items
         order.now.ends.items place) }
     ensures memory { IsOkUnless result OptError.Memory }
 {
     ctx.well_formed();
     let op = operation_at(order, place);
-    if !may_repeat::<D>(op, ctx) {
+    if !is_mergeable::<D>(op, ctx) {
         return Ok(false);
     }
     let key = key_of(alloc, op, ctx)?;
@@ -158,7 +158,7 @@ fn status_with(status: IRStatus, taken: bool) -> IRStatus
 ///
 /// Asks for the dominance order of what is inside the root, and that the root is live and is well linked. Errors:
 /// allocation failure. Cost: a look-up of the key of each operation, and a step for each use that is moved.
-pub fn take_all<D: Dialect, R: Rewriter + Room>(
+pub fn merge_all<D: Dialect, R: Rewriter + Room>(
     alloc: Global,
     root: Ptr<Operation>,
     order: &DominanceOrder,
@@ -168,8 +168,8 @@ pub fn take_all<D: Dialect, R: Rewriter + Room>(
     requires live { IsLive ctx.old.tree root }
     requires linked { IsWellLinked D.meaning ctx.old.tree root }
     requires ordered { IsOrdered ctx.old.tree root order.now.operations.items order.now.ends.items 0 }
-    ensures taken { (xs : List Pair) × IsTakenSoFar D.side_effects root xs ctx.old.tree ctx.new.tree × OnOk result
-        (TakeInTurn D.side_effects root xs ctx.old.tree ctx.new.tree) }
+    ensures taken { (xs : List Pair) × AreMergedSoFar D.side_effects root xs ctx.old.tree ctx.new.tree × OnOk result
+        (MergeInTurn D.side_effects root xs ctx.old.tree ctx.new.tree) }
     ensures way { IsOnWay D.meaning ctx.old.tree ctx.new.tree root }
     ensures accurate { IfOk result (λ a. ReportsErased ctx.old.tree ctx.new.tree a) }
     ensures none { IfOk result (λ a. LeavesNoRedundancy D.side_effects ctx.old.tree ctx.new.tree root) }
@@ -180,7 +180,7 @@ pub fn take_all<D: Dialect, R: Rewriter + Room>(
     let mut status = IRStatus::Unchanged;
     for place in 0..order.operations.len() {
         ctx.well_formed();
-        let outcome = take_at::<D, R>(alloc, order, place, &mut leaders, ctx, rewriter);
+        let outcome = merge_at::<D, R>(alloc, order, place, &mut leaders, ctx, rewriter);
         ctx.well_formed();
         let taken = outcome?;
         status = status_with(status, taken);

@@ -7,11 +7,11 @@ use Rattle.pliron_equivalence.specs.Redundancy.{IsLeader}
 use Rattle.pliron_equivalence.specs.Merging.{IsPartlyMerged, after_merging}
 use Rattle.pliron_cse.proofs.Alone.{alone_other, alone_leads}
 use Rattle.pliron_cse.proofs.OnWay.{pair_of}
-use Rattle.pliron_cse.proofs.Taken.{near_leader}
-use Rattle.pliron_cse.proofs.take.take_at.Goals as goal
+use Rattle.pliron_cse.proofs.Merged.{near_leader}
+use Rattle.pliron_cse.proofs.merge.merge_at.Goals as goal
 
-pub may_repeat-requires : goal.may_repeat-requires
-may_repeat-requires g c = subst (IsLive c.args.ctx.now.tree) (sym c.operation_at-op.ensures) (c.requires.ordered.1.left c.args.place (omega arith) c.requires.place)
+pub is_mergeable-requires : goal.is_mergeable-requires
+is_mergeable-requires g c = subst (IsLive c.args.ctx.now.tree) (sym c.operation_at-op.ensures) (c.requires.ordered.1.left c.args.place (omega arith) c.requires.place)
 
 pub key_of-requires : goal.key_of-requires
 key_of-requires g c = subst (IsLive c.args.ctx.now.tree) (sym c.operation_at-op.ensures) (c.requires.ordered.1.left c.args.place (omega arith) c.requires.place)
@@ -19,10 +19,10 @@ key_of-requires g c = subst (IsLive c.args.ctx.now.tree) (sym c.operation_at-op.
 pub leader_of-requires-clause-live : goal.leader_of-requires-clause-live
 leader_of-requires-clause-live g c = c.requires.ordered.1.left c.args.place (omega arith) c.requires.place
 
-pub returns-then-not-may_repeat-clause-leaders : goal.returns-then-not-may_repeat-clause-leaders
-returns-then-not-may_repeat-clause-leaders g c =
+pub returns-then-not-is_mergeable-clause-leaders : goal.returns-then-not-is_mergeable-clause-leaders
+returns-then-not-is_mergeable-clause-leaders g c =
     alone_other g.D.SideEffects.side_effects c.args.ctx.now.tree c.args.order.now.operations.items c.args.order.now.ends.items c.args.place c.operation_at-op.result c.operation_at-op.ensures (λ key. leader_with c.args.leaders.now key)
-    (λ r. true≢false (sym (c.may_repeat.ensures.1 r) ∙ c.if-not-may_repeat.true))
+    (λ r. true≢false (sym (c.is_mergeable.ensures.1 r) ∙ c.if-not-is_mergeable.true))
 
 pub merge_into_leader-requires : goal.merge_into_leader-requires
 merge_into_leader-requires g c =
@@ -53,4 +53,4 @@ returns-clause-leaders g c =
     let t = c.args.ctx.now.tree in
     let live = subst (IsLive t) (sym c.operation_at-op.ensures) (c.requires.ordered.1.left c.args.place (omega arith) c.requires.place) in
     let none = subst (λ o. IfNone o ((i : ℕ) → leader_with c.args.leaders.now c.in_ok-key.key.items ≡ Some i → LeadsAt g.D.SideEffects.side_effects t c.args.order.now.operations.items c.args.order.now.ends.items i c.args.place → ⊥)) c.in_default.is c.leader_of.ensures.none in
-    alone_leads g.D.SideEffects.side_effects t c.args.order.now.operations.items c.args.order.now.ends.items c.args.place c.operation_at-op.result c.operation_at-op.ensures (λ key. leader_with c.args.leaders.now key) (λ key. leader_with c.put.new.self key) c.in_ok-key.key.items c.in_ok-key.ensures.words c.requires.place live (c.may_repeat.ensures.0 c.if-not-may_repeat.false) none c.in_ok-put.ensures.put c.in_ok-put.ensures.others
+    alone_leads g.D.SideEffects.side_effects t c.args.order.now.operations.items c.args.order.now.ends.items c.args.place c.operation_at-op.result c.operation_at-op.ensures (λ key. leader_with c.args.leaders.now key) (λ key. leader_with c.put.new.self key) c.in_ok-key.key.items c.in_ok-key.ensures.words c.requires.place live (c.is_mergeable.ensures.0 c.if-not-is_mergeable.false) none c.in_ok-put.ensures.put c.in_ok-put.ensures.others
