@@ -49,7 +49,7 @@ impl MovedUses {
     }
 
     /// The uses, of which none is left here. Cost: constant.
-    pub fn merge_all(&mut self) -> Vec<(Ptr<Operation>, usize)>
+    pub fn take_all(&mut self) -> Vec<(Ptr<Operation>, usize)>
         ensures taken { result.items ≡ self.old.uses.items }
         ensures left { self.new.uses.items ≡ [] }
     {

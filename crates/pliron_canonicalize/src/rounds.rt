@@ -97,7 +97,7 @@ fn next_round<D: Dialect>(
     ensures memory { IsOkUnless result OptError.Memory }
 {
     let mut round = IndexSet::new(moved.alloc);
-    let uses = moved.merge_all();
+    let uses = moved.take_all();
     for (user, operand) in &uses {
         if user.is_live(ctx) {
             add_user::<D>(*user, *operand, ctx, places, &mut round)?;

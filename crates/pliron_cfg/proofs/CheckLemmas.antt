@@ -3,7 +3,7 @@ use Rattle.std.proofs.Common.{◌≡◌, ◌↔◌, ℕ, ◌<◌, ◌≤◌, ◌
 use Rattle.std.proofs.Common.{if◌then◌else◌}
 use Rattle.std.specs.List.{slice_get, list_any}
 use Rattle.pliron_cfg.proofs.Tested.{tested_in}
-use Rattle.std.proofs.lemmas.List.{take_more, merge_all}
+use Rattle.std.proofs.lemmas.List.{take_more, take_all}
 use Rattle.std.proofs.lemmas.Option.{slice_get_within}
 use Rattle.indexmap.specs.IndexSet.{insert_key}
 use Rattle.pliron_core.specs.declared.uses.Use.{Use}
@@ -30,7 +30,7 @@ taken_split xs i x y lt e =
     )
 
 pub taken_whole : (xs : List ℕ) (i y : ℕ) → length xs ≤ i → In y xs → In y (take i xs)
-taken_whole xs i y h j = subst (In y) (sym (merge_all i xs h)) j
+taken_whole xs i y h j = subst (In y) (sym (take_all i xs h)) j
 
 -- the first uses of the value are by these operations
 abbrev pub AreUsedWithin : View → List ℕ → (v i : ℕ) → Type 0

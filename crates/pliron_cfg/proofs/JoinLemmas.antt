@@ -87,14 +87,14 @@ forwarded_more t (q ∷ ps) (u ∷ vs) (suc i) p v e f = forwarded_more (after_r
 pub one_less : (xs ys : List ℕ) (k : ℕ) (rest : List ℕ) → ys ≡ k ∷ rest → xs ≡ rest → length xs < length ys
 one_less xs ys k rest e f = let a = ap length e in let b = ap length f in omega (arith, a, b)
 
-pub merge_all : (xs : List ℕ) (n : ℕ) → length xs ≤ n → take n xs ≡ xs
-merge_all [] n le = take_none n
+pub take_all : (xs : List ℕ) (n : ℕ) → length xs ≤ n → take n xs ≡ xs
+take_all [] n le = take_none n
   where
     take_none : (n : ℕ) → take {A = ℕ} n [] ≡ []
     take_none zero = refl
     take_none (suc n) = refl
-merge_all (x ∷ xs) zero le = absurd (omega (arith, le))
-merge_all (x ∷ xs) (suc n) le = ap (λ z. x ∷ z) (merge_all xs n (omega (arith, le)))
+take_all (x ∷ xs) zero le = absurd (omega (arith, le))
+take_all (x ∷ xs) (suc n) le = ap (λ z. x ∷ z) (take_all xs n (omega (arith, le)))
 
 -- values that stand go on standing while arguments are replaced
 pub forwarded_defined : (t : Tree) (ps vs : List ℕ) (v : ℕ) → IsDefined t v → IsDefined (forwarded_uses t ps vs) v

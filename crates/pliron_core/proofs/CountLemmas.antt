@@ -4,7 +4,7 @@ use Rattle.std.specs.List.{slice_get, sum}
 use Rattle.std.specs.Option.{option_map}
 use Rattle.std.proofs.lemmas.Bool.{cases_eq, eq-eqb, ne_eqb}
 use Rattle.std.proofs.lemmas.Option.{get_or_from_slice_get, slice_get_within, same_Some, slice_get-map}
-use Rattle.std.proofs.lemmas.List.{length-map, map-set, merge_all, map_more}
+use Rattle.std.proofs.lemmas.List.{length-map, map-set, take_all, map_more}
 use Rattle.std.proofs.lemmas.List.Sums.{sum_by-cons}
 use Rattle.pliron_core.specs.declared.use_slots.UseSlot.{UseSlot}
 use Rattle.pliron_core.specs.UseSlots.{no_target, targets_held, rank, mark_of, marks}
@@ -43,7 +43,7 @@ rank-marks (p ∷ ps) (suc n) = elim (cases_eq p.target no_target) [
 ]
 
 pub held-marks : (row : List UseSlot) → length (targets_held row) ≡ sum (marks row)
-held-marks row = sym (rank-all row) ∙ rank-marks row (length row) ∙ ap sum (merge_all (length row) (marks row) (omega (arith, length-map row mark_of)))
+held-marks row = sym (rank-all row) ∙ rank-marks row (length row) ∙ ap sum (take_all (length row) (marks row) (omega (arith, length-map row mark_of)))
 
 pub held-most : (row : List UseSlot) → length (targets_held row) ≤ length row
 held-most [] = omega arith

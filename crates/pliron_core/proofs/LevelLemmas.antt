@@ -4,7 +4,7 @@ use Rattle.std.specs.List.{slice_get, sum}
 use Rattle.std.proofs.lemmas.Bool.{cases_eq}
 use Rattle.std.proofs.lemmas.Option.{get_or_from_slice_get, slice_get-get_or}
 use Rattle.std.specs.Option.{IsSome}
-use Rattle.std.proofs.lemmas.List.{length-set, get_or-set_same, get_or-set_other, get_or_past, get_or_push, get_or_append_left, length_push, take_more, merge_all, get_or_default}
+use Rattle.std.proofs.lemmas.List.{length-set, get_or-set_same, get_or-set_other, get_or_past, get_or_push, get_or_append_left, length_push, take_more, take_all, get_or_default}
 use Rattle.std.proofs.lemmas.List.Sums.{sum_by-cons, sum_by_more, sum_by-le}
 use Rattle.pliron_core.specs.UseSlots.{at, put}
 use Rattle.pliron_core.specs.Counts.{pairs, AreMarks, level, AreSums, one_less, above}
@@ -232,10 +232,10 @@ module _ (xs : List ℕ) where
       let none : get_or xs (suc (2 * half)) 0 ≡ 0 = get_or_past xs (suc (2 * half)) 0 (omega (arith, h)) in
       let last : get_or (pairs xs) half 0 ≡ x = omega (arith, get-pairs xs half (2 * half) refl, one, none) in
       let long = length-pairs xs in
-      more ∙ ap (λ l. l ++ x ∷ []) is ∙ ap (λ n. take half (pairs xs) ++ n ∷ []) (sym last) ∙ sym (take_more (pairs xs) half 0 (omega (arith, long.0, odd))) ∙ merge_all (half + 1) (pairs xs) (omega (arith, long.1, h))
+      more ∙ ap (λ l. l ++ x ∷ []) is ∙ ap (λ n. take half (pairs xs) ++ n ∷ []) (sym last) ∙ sym (take_more (pairs xs) half 0 (omega (arith, long.0, odd))) ∙ take_all (half + 1) (pairs xs) (omega (arith, long.1, h))
 
   pub sums-even : (sums : List ℕ) (half : ℕ) → sums ≡ take half (pairs xs) → half ≡ length xs / 2 → length xs ≤ 2 * half → sums ≡ pairs xs
-  sums-even sums half is h even = is ∙ merge_all half (pairs xs) (omega (arith, (length-pairs xs).1, h, even))
+  sums-even sums half is h even = is ∙ take_all half (pairs xs) (omega (arith, (length-pairs xs).1, h, even))
 
 -- one level up in `rank`
 module _ (levels : List (List ℕ)) (is : AreSums levels) (k end count total : ℕ) (h : k < length levels) (within : end ≤ length (level levels k))

@@ -1,7 +1,7 @@
 -- What is known of the edges to a block before they lose an operand.
 use Rattle.std.proofs.Common.{◌≡◌, ◌⊎◌, inl, inr, ⊎_elim, ℕ, zero, suc, ◌+◌, ◌-◌, ◌<◌, ◌≤◌, Bool, true, false, take, List, [], ◌∷◌, ◌++◌, length, Option, Some, None, IsSome, is_some, IfSome, slice_get, slice_index_or, refl, sym, ap, ◌∙◌, subst, arith}
 use Rattle.std.proofs.lemmas.Option.{slice_get_within}
-use Rattle.std.proofs.lemmas.List.{length-append, merge_all}
+use Rattle.std.proofs.lemmas.List.{length-append, take_all}
 use Rattle.pliron_core.specs.declared.uses.Use.{Use as Edge}
 use Rattle.pliron_core.specs.declared.context.Def.TheVariants.{Argument}
 use Rattle.pliron_core.specs.Uses.{AreAgreed}
@@ -294,7 +294,7 @@ module _ (m : Meaning) (can_fold : Head → Bool) (SameTests : Head → Head →
   pub all_lose : (x : Tree) → count ≤ length edges → EdgesLose m shortened index (take count edges) t x → EdgesLose m shortened index edges t x
   all_lose x l q =
       let whole : count + (length edges - count) ≡ length edges = omega (arith, l) in
-      subst (λ z. EdgesLose m shortened index z t x) (ap (λ n. take n edges) whole ∙ merge_all (length edges) edges (omega arith)) (rest_lacks x (length edges - count) (omega (arith, l)) q)
+      subst (λ z. EdgesLose m shortened index z t x) (ap (λ n. take n edges) whole ∙ take_all (length edges) edges (omega arith)) (rest_lacks x (length edges - count) (omega (arith, l)) q)
 
 -- what leads to a block stands
 pub leads_live : (t : Tree) (w : IsTree t) (k i b : ℕ) → slice_get (successors_of t k) i ≡ Some b → IsLive t k

@@ -1,6 +1,6 @@
 -- How a text is written without its comments, byte by byte.
 use Rattle.std.proofs.Common.{◌≡◌, ◌<◌, ◌≤◌, ◌+◌, ◌∷◌, [], ◌++◌, ℕ, Bool, false, List, length, take, drop, get_or, if◌then◌else◌, sym, subst, ◌∙◌, ◌-◌, ap, arith}
-use Rattle.std.proofs.lemmas.List.{append-nil, append_assoc, at_drop_more, at_drop_all, length-drop, merge_all}
+use Rattle.std.proofs.lemmas.List.{append-nil, append_assoc, at_drop_more, at_drop_all, length-drop, take_all}
 use Rattle.pliron_diagnostics.specs.Comments.{is_comment, with_blanks}
 
 -- one byte more is written
@@ -19,4 +19,4 @@ blanked_whole text out inside i past so_far = sym (append-nil out) ∙ ap (λ l.
 
 -- what stands behind so many bytes
 pub rest_of : (text : List ℕ) (i : ℕ) → take (length text - i) (drop i text) ≡ drop i text
-rest_of text i = merge_all (length text - i) (drop i text) (subst (λ n. n ≤ length text - i) (sym (length-drop i text)) (omega arith))
+rest_of text i = take_all (length text - i) (drop i text) (subst (λ n. n ≤ length text - i) (sym (length-drop i text)) (omega arith))

@@ -2,7 +2,7 @@
 use Rattle.std.proofs.Common.{◌≡◌, ℕ, zero, suc, ◌+◌, ◌-◌, ◌<◌, Bool, true, List, [], ◌∷◌, ◌++◌, length, take, drop, reverse, slice_get, Some, refl, sym, ◌∙◌, ap, subst, arith, inl, inr, ◌⊎◌, Contains, ◌↔◌}
 use Rattle.std.specs.Cmp.{IsEquivalence}
 use Rattle.std.specs.List.{IsDistinct}
-use Rattle.std.proofs.lemmas.List.{length-reverse, length-drop, merge_all}
+use Rattle.std.proofs.lemmas.List.{length-reverse, length-drop, take_all}
 use Rattle.std.proofs.lemmas.List.Elements.{Contains-append_left, Contains-push, Contains-push_cases}
 use Rattle.std.proofs.lemmas.List.Sorted.{IsPermutation-sym, IsPermutation-reverse, Contains-permutation}
 use Rattle.std.proofs.lemmas.Option.{slice_get_within, get_or_from_slice_get}
@@ -75,7 +75,7 @@ item_of_drop (x ∷ xs) (suc n) k (suc m) e = item_of_drop xs n k m (omega (arit
 
 -- what stands behind, as it is read from a slice
 pub rest_of : {X : Type 0} (now xs : List X) (n : ℕ) → now ≡ xs → take (length now - n) (drop n now) ≡ drop n xs
-rest_of now xs n e = merge_all (length now - n) (drop n now) (omega (arith, length-drop n now)) ∙ ap (drop n) e
+rest_of now xs n e = take_all (length now - n) (drop n now) (omega (arith, length-drop n now)) ∙ ap (drop n) e
 
 pub drop_distinct : {N : Type 0} (eq : N → N → Bool) (n : ℕ) (xs : List N) → IsDistinct eq xs → IsDistinct eq (drop n xs)
 unfolding IsDistinct

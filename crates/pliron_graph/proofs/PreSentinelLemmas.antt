@@ -1,7 +1,7 @@
 -- How the pre-sentinels of a graph are found.
 use Rattle.std.proofs.Common.{◌≡◌, ℕ, zero, suc, ◌+◌, ◌<◌, ◌≤◌, Bool, true, false, List, [], ◌∷◌, ◌++◌, Some, length, take, get_or, refl, sym, ◌∙◌, ap, subst, arith, inl, inr, ◌⊎◌, ◌↔◌, Contains, slice_get, length-append}
 use Rattle.std.specs.List.{All, list_any, IsDistinct}
-use Rattle.std.proofs.lemmas.List.{merge_all, take_more}
+use Rattle.std.proofs.lemmas.List.{take_all, take_more}
 use Rattle.std.proofs.lemmas.List.Elements.{All-more, All-get_or, All-contains, Contains-get_or, Contains-append_left, Contains-push, Contains-push_cases}
 use Rattle.std.proofs.lemmas.Option.{slice_get_within, slice_get-get_or}
 use Rattle.pliron_traversal.specs.Digraph.{Digraph}
@@ -26,7 +26,7 @@ module _ {X : Type 0} (P : X → Type 0) (xs : List X) where
   all_at i x l e h = subst P (sym e) (All-get_or P xs i x l h)
 
   pub all_end : (i : ℕ) → length xs ≤ i → All P (take i xs) → All P xs
-  all_end i l h = subst (All P) (merge_all i xs l) h
+  all_end i l h = subst (All P) (take_all i xs l) h
 
 module _ {X : Type 0} where
   pub contains_item : (xs : List X) (x : X) → Contains xs x → (k : ℕ) × (slice_get xs k ≡ Some x)

@@ -1,7 +1,7 @@
 -- A search from a list of roots, one after the other.
 use Rattle.std.proofs.Common.{◌≡◌, ℕ, ◌+◌, ◌≤◌, Bool, true, List, [], ◌∷◌, ◌++◌, length, take, slice_get, Some, sym, ◌∙◌, ap, subst, refl, append_assoc, append-nil}
 use Rattle.std.specs.List.{list_any}
-use Rattle.std.proofs.lemmas.List.{merge_all}
+use Rattle.std.proofs.lemmas.List.{take_all}
 use Rattle.pliron_traversal.specs.Digraph.{Digraph}
 use Rattle.pliron_traversal.specs.Internal.Forest.{Forest, leaf, grow, forest_preorder, postorder, Grows, done, skip, Grew}
 use Rattle.pliron_traversal.proofs.WalkLemmas.{plus, pre_plus, grows_plus}
@@ -35,4 +35,4 @@ module _ {N : Type 0} (eq : N → N → Bool) (g : Digraph N) where
     grew_over p q seen old = grew_more p q p q (grew_past v p q seen) old
 
   pub grew_all : (roots p q : List N) (i : ℕ) → length roots ≤ i → Grew eq g (take i roots) [] [] p q → Grew eq g roots [] [] p q
-  grew_all roots p q i l old = subst (λ xs. Grew eq g xs [] [] p q) (merge_all i roots l) old
+  grew_all roots p q i l old = subst (λ xs. Grew eq g xs [] [] p q) (take_all i roots l) old

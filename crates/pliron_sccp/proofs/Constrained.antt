@@ -310,8 +310,8 @@ more_blocks xs i x old new at grown so b = by (nat_eq x b) refl
           λ m. as_old ∙ ⊎_elim (λ k. (so b).1 k) (λ e. absurd (true≢false (sym (eq-eqb x b (sym e)) ∙ other))) (got m),
         )
 
-pub merge_all : (xs : List ℕ) (i : ℕ) → length xs ≤ i → take i xs ≡ xs
-merge_all [] zero l = refl
-merge_all [] (suc i) l = refl
-merge_all (x ∷ xs) zero l = absurd (omega (arith, l))
-merge_all (x ∷ xs) (suc i) l = ap (λ z. x ∷ z) (merge_all xs i (omega (arith, l)))
+pub take_all : (xs : List ℕ) (i : ℕ) → length xs ≤ i → take i xs ≡ xs
+take_all [] zero l = refl
+take_all [] (suc i) l = refl
+take_all (x ∷ xs) zero l = absurd (omega (arith, l))
+take_all (x ∷ xs) (suc i) l = ap (λ z. x ∷ z) (take_all xs i (omega (arith, l)))

@@ -1,7 +1,7 @@
 -- The constant arguments inside an operation, listed one after the other.
 use Rattle.std.proofs.Common.{◌≡◌, ℕ, suc, ◌+◌, ◌≤◌, Bool, true, false, cond, List, [], ◌∷◌, ◌++◌, length, take, filter, Some, None, slice_get, refl, sym, ap, ◌∙◌, subst, append_assoc, append-nil, arith, IsTrue}
 use Rattle.std.specs.List.{flat_map}
-use Rattle.std.proofs.lemmas.List.{merge_all}
+use Rattle.std.proofs.lemmas.List.{take_all}
 use Rattle.std.proofs.lemmas.List.Concat.{flat_map-append}
 use Rattle.pliron_core.specs.declared.attrs.AttrObj.{AttrObj}
 use Rattle.pliron_core.specs.Tree.{Tree, arguments_of}
@@ -81,7 +81,7 @@ module _ (t : Tree) (f : LatticeValues) (b : ℕ) (old : List ConstantArgument) 
   pub added_all : (i : ℕ) (now : List ConstantArgument) → AreAdded i now → length (arguments_of t b) ≤ i → IsTrue (f.is_executable b) → AddsKnown t f b old now
   added_all i now so_far past reached ks are =
       let there : known_there t f b ≡ known_in_block f b (arguments_of t b) = ap (λ z. cond z (known_in_block f b (arguments_of t b)) []) reached in
-      subst (AreArguments t f now) (ap (λ xs. ks ++ known_in_block f b xs) (merge_all i (arguments_of t b) past) ∙ ap (λ z. ks ++ z) (sym there)) (so_far ks are)
+      subst (AreArguments t f now) (ap (λ xs. ks ++ known_in_block f b xs) (take_all i (arguments_of t b) past) ∙ ap (λ z. ks ++ z) (sym there)) (so_far ks are)
 
   pub added_unreached : f.is_executable b ≡ false → AddsKnown t f b old old
   added_unreached away ks are =
@@ -112,4 +112,4 @@ there_filtered t f (x ∷ xs) = go (there_filtered t f xs) (f.is_executable x)
 
 pub collected_all : (t : Tree) (root : ℕ) (f : LatticeValues) (blocks : List ℕ) (i : ℕ) (now : List ConstantArgument) → blocks ≡ blocks_inside t root → AreCollected t f blocks i now → length blocks ≤ i → AreArguments t f now (known_arguments t root f)
 collected_all t root f blocks i now e so_far past =
-    subst (AreArguments t f now) (ap (flat_map (λ b. known_there t f b)) (merge_all i blocks past ∙ e) ∙ there_filtered t f (blocks_inside t root)) so_far
+    subst (AreArguments t f now) (ap (flat_map (λ b. known_there t f b)) (take_all i blocks past ∙ e) ∙ there_filtered t f (blocks_inside t root)) so_far

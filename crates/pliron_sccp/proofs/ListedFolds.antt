@@ -1,5 +1,5 @@
 -- The folds inside an operation, listed one after the other.
-use Rattle.std.proofs.Common.{◌≡◌, ◌⊎◌, inl, inr, ℕ, zero, suc, ◌+◌, ◌-◌, ◌≤◌, ◌<◌, Bool, true, false, cond, List, [], ◌∷◌, ◌++◌, length, map, filter, take, drop, Option, Some, None, slice_get, slice_range, refl, sym, ap, ◌∙◌, subst, arith, IsTrue, true≢false, append-nil, append_assoc, length-append, length-drop, merge_all}
+use Rattle.std.proofs.Common.{◌≡◌, ◌⊎◌, inl, inr, ℕ, zero, suc, ◌+◌, ◌-◌, ◌≤◌, ◌<◌, Bool, true, false, cond, List, [], ◌∷◌, ◌++◌, length, map, filter, take, drop, Option, Some, None, slice_get, slice_range, refl, sym, ap, ◌∙◌, subst, arith, IsTrue, true≢false, append-nil, append_assoc, length-append, length-drop, take_all}
 use Rattle.std.proofs.lemmas.List.{take-append-le, drop-append-le}
 use Rattle.std.proofs.Math.Seq.{drop-append_seam}
 use Rattle.std.specs.List.{flat_map}
@@ -68,7 +68,7 @@ range_stays xs more a b rising within =
 -- what is added is the part from there to the end
 range_added : {A : Type 0} (xs more all : List A) → all ≡ xs ++ more → slice_range all (length xs) (length all) ≡ more
 range_added xs more all e =
-    ap (λ z. slice_range z (length xs) (length z)) e ∙ ap (take (length (xs ++ more) - length xs)) (drop-append_seam xs more) ∙ merge_all _ more (rw (length-append xs more) omega arith)
+    ap (λ z. slice_range z (length xs) (length z)) e ∙ ap (take (length (xs ++ more) - length xs)) (drop-append_seam xs more) ∙ take_all _ more (rw (length-append xs more) omega arith)
 
 grows : {A : Type 0} (xs more all : List A) → all ≡ xs ++ more → length xs ≤ length all
 grows xs more all e = rw (e, length-append xs more) omega arith

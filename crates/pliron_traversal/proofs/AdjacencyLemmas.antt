@@ -2,7 +2,7 @@
 use Rattle.std.proofs.Common.{◌≡◌, ℕ, zero, suc, ◌+◌, ◌-◌, ◌^◌, ◌<◌, ◌≤◌, Bool, true, false, ◌&&◌, ◌||◌, List, [], ◌∷◌, ◌++◌, length, set, get_or, replicate, length-set, length-append, map, take, drop, append-nil, Contains, Some, slice_get, nat_eq, refl, sym, ◌∙◌, ap, subst, arith, inl, inr, ◌⊎◌, true≢false, add-one}
 use Rattle.std.specs.Prelude.{nat_lt}
 use Rattle.std.specs.List.{All, list_any}
-use Rattle.std.proofs.lemmas.List.{get_or-set_same, get_or-set_other, map-set, get_or-map, take_more, merge_all, drop_all, length-map}
+use Rattle.std.proofs.lemmas.List.{get_or-set_same, get_or-set_other, map-set, get_or-map, take_more, take_all, drop_all, length-map}
 use Rattle.std.proofs.lemmas.List.Elements.{All-nil, All-replicate, All-get_or, All-set, All-push, All-map}
 use Rattle.std.proofs.lemmas.Option.{slice_get-get_or}
 use Rattle.std.proofs.Math.ListN.{get_or-append}
@@ -229,7 +229,7 @@ module _ {A : Type 0} (f : A → List ℕ) where
       → AddsRows (map f succ) (map f old) i → AddsEdges (map f old) (map f new) i targets → AddsRows (map f succ) (map f (take n (new ++ drop (length new) old))) (i + 1)
   row_added succ old new i n targets d l size count is rows edges =
       let whole : take n (new ++ drop (length new) old) ≡ new =
-      rw (drop_all (length new) old (omega (arith, size)), append-nil) (merge_all n new (omega (arith, size, count))) in
+      rw (drop_all (length new) old (omega (arith, size)), append-nil) (take_all n new (omega (arith, size, count))) in
       let row_is : row (map f succ) i ≡ targets = get_or-map f succ i d [] l ∙ sym is in
       rw whole (adds_row (map f succ) (map f old) (map f new) i (omega (arith, l, length-map succ f)) rows (rw row_is edges))
 

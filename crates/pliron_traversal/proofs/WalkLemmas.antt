@@ -1,6 +1,6 @@
 -- The walks of a search from a list of nodes, one after the other.
 use Rattle.std.proofs.Common.{◌≡◌, ℕ, zero, suc, ◌+◌, ◌<◌, ◌≤◌, Bool, true, false, List, [], ◌∷◌, ◌++◌, length, refl, sym, ◌∙◌, ap, subst, arith, inl, inr, ◌⊎◌, true≢false, append_assoc, append-nil, take, drop, set, map, reverse, get_or, add-one}
-use Rattle.std.proofs.lemmas.List.{take_more, merge_all}
+use Rattle.std.proofs.lemmas.List.{take_more, take_all}
 use Rattle.std.specs.List.{list_any, All, AllByRecursion}
 use Rattle.std.proofs.lemmas.List.Elements.{All-from_recursion}
 use Rattle.pliron_traversal.specs.Digraph.{Digraph}
@@ -147,4 +147,4 @@ pub next_take : {N : Type 0} (items ns : List N) (i : ℕ) (v : N) → items ≡
 next_take items ns i v same l e = subst (λ x. take (i + 1) x ≡ take i x ++ v ∷ []) same (take_more items i v l ∙ ap (λ x. take i items ++ x ∷ []) (sym e))
 
 pub walked_all : {N : Type 0} (eq : N → N → Bool) (g : Digraph N) (items seen : List N) (walks : List (List N)) (i : ℕ) → items ≡ g.nodes → length items ≤ i → Walked eq g (take i g.nodes) seen walks → Walked eq g g.nodes seen walks
-walked_all eq g items seen walks i same l w = subst (λ x. Walked eq g x seen walks) (let k : length g.nodes ≤ i = omega (arith, l, ap length same) in merge_all i g.nodes k) w
+walked_all eq g items seen walks i same l w = subst (λ x. Walked eq g x seen walks) (let k : length g.nodes ≤ i = omega (arith, l, ap length same) in take_all i g.nodes k) w

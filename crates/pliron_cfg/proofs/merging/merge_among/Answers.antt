@@ -5,7 +5,7 @@ use Rattle.pliron_core.specs.Tree.{In}
 use Rattle.pliron_core.proofs.HoldingLemmas.{in_slice}
 use Rattle.pliron_laws.proofs.FoldLemmas.{on_err}
 use Rattle.pliron_cfg.specs.Internal.Chains.{MergesAmong.Nothing, HasNoPairAmong}
-use Rattle.pliron_cfg.proofs.JoinLemmas.{merge_all}
+use Rattle.pliron_cfg.proofs.JoinLemmas.{take_all}
 use Rattle.pliron_cfg.proofs.ChainLemmas.{IsDone, moved_to, done_dead, done_more, linked_there, half_among, one_in}
 use Rattle.pliron_cfg.proofs.merging.merge_among.Goals as goal
 use Rattle.pliron_cfg.proofs.merging.merge_among.Goals.{then-is_live+in_ok-merged, else-is_live}
@@ -56,4 +56,4 @@ pub returns-clause-ok : goal.returns-clause-ok
 returns-clause-ok g c =
     let blocks = c.args.blocks.now in
     let le : length blocks ≤ c.loop-block.block-index = omega arith in
-    (c.loop-block.invariant.way, subst (λ xs. HasNoPairAmong g.D.HasMeaning.meaning xs c.loop-block.ctx.tree) (merge_all blocks c.loop-block.block-index le) c.loop-block.invariant.none, c.loop-block.invariant.accurate)
+    (c.loop-block.invariant.way, subst (λ xs. HasNoPairAmong g.D.HasMeaning.meaning xs c.loop-block.ctx.tree) (take_all blocks c.loop-block.block-index le) c.loop-block.invariant.none, c.loop-block.invariant.accurate)

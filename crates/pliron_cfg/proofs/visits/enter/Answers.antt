@@ -1,6 +1,6 @@
 use Rattle.std.proofs.Common.{◌≡◌, ◌++◌, ◌∷◌, [], ◌∙◌, ◌+◌, append-nil, append_assoc, true≢false, ℕ, List, length, ◌≤◌, arith, ap, sym, refl, take, subst}
 use Rattle.std.specs.List.{flat_map}
-use Rattle.std.proofs.lemmas.List.{take_more, merge_all, map-append}
+use Rattle.std.proofs.lemmas.List.{take_more, take_all, map-append}
 use Rattle.pliron_core.specs.Tree.{regions_of, body_of}
 use Rattle.pliron_laws.proofs.MappedLists.{mapped_more}
 use Rattle.pliron_cfg.specs.declared.visits.PostponedBlock.{PostponedBlock}
@@ -46,4 +46,4 @@ loop-block-preserved c =
 pub returns-clause-grown : goal.returns-clause-grown
 returns-clause-grown c =
     let all : length c.args.entered.now ≤ c.loop-block.block-index = omega (arith, c.loop-block-test.false) in
-    subst (λ z. HasGrown (flat_map (λ b. flat_map (λ k. regions_of c.args.ctx.now.tree k) (body_of c.args.ctx.now.tree b)) z) c.args.worklist.now.seen.keys c.args.worklist.now.waiting.items c.loop-block.worklist.seen.keys c.loop-block.worklist.waiting.items) (merge_all c.loop-block.block-index c.args.entered.now all) c.loop-block.invariant.grown
+    subst (λ z. HasGrown (flat_map (λ b. flat_map (λ k. regions_of c.args.ctx.now.tree k) (body_of c.args.ctx.now.tree b)) z) c.args.worklist.now.seen.keys c.args.worklist.now.waiting.items c.loop-block.worklist.seen.keys c.loop-block.worklist.waiting.items) (take_all c.loop-block.block-index c.args.entered.now all) c.loop-block.invariant.grown

@@ -1,5 +1,5 @@
 use Rattle.std.proofs.Common.{◌≤◌, ◌++◌, length, ap, sym, ◌∙◌, append-nil, arith}
-use Rattle.std.proofs.lemmas.List.{merge_all}
+use Rattle.std.proofs.lemmas.List.{take_all}
 use Rattle.pliron_cse.specs.Keys.{attrs_words}
 use Rattle.pliron_cse.proofs.KeyLemmas.{one_more_attr}
 use Rattle.pliron_cse.proofs.keys.push_attrs.Goals as goal
@@ -13,4 +13,4 @@ loop-i-preserved c = one_more_attr c.args.words.now.items c.loop-i.words.items c
 pub returns-clause-words : goal.returns-clause-words
 returns-clause-words c =
     let all : length c.args.attrs.now ≤ c.loop-i.i = omega (arith, c.loop-i-test.false, c.len-i-end.ensures) in
-    c.loop-i.invariant ∙ ap (λ z. c.args.words.now.items ++ attrs_words z) (merge_all c.loop-i.i c.args.attrs.now all)
+    c.loop-i.invariant ∙ ap (λ z. c.args.words.now.items ++ attrs_words z) (take_all c.loop-i.i c.args.attrs.now all)

@@ -1,5 +1,5 @@
 use Rattle.std.proofs.Common.{◌≡◌, ◌<◌, ◌^◌, length, sym, subst, ap, ◌∙◌, arith}
-use Rattle.std.proofs.lemmas.List.{merge_all}
+use Rattle.std.proofs.lemmas.List.{take_all}
 use Rattle.std.proofs.lemmas.Option.{slice_get_within}
 use Rattle.pliron_core.specs.Tree.{successors_of, uses_of}
 use Rattle.pliron_core.proofs.HoldingLemmas.{in_slice}
@@ -29,4 +29,4 @@ loop-i-preserved g c =
     }
 
 pub returns-clause-edges : goal.returns-clause-edges
-returns-clause-edges g c = c.loop-i.invariant.edges ∙ merge_all c.loop-i.i (uses_of c.args.ctx.now.block_uses c.args.block) (let e2 = c.num_use-i-end.ensures in let e3 = c.loop-i-test.false in omega (arith, e2, e3))
+returns-clause-edges g c = c.loop-i.invariant.edges ∙ take_all c.loop-i.i (uses_of c.args.ctx.now.block_uses c.args.block) (let e2 = c.num_use-i-end.ensures in let e3 = c.loop-i-test.false in omega (arith, e2, e3))

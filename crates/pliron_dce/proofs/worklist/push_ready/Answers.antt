@@ -1,5 +1,5 @@
 use Rattle.std.proofs.Common.{◌≡◌, ◌++◌, ◌∷◌, [], ◌+◌, ◌∙◌, take, length, ◌≤◌, arith, ap, sym, subst}
-use Rattle.std.proofs.lemmas.List.{take_more, merge_all}
+use Rattle.std.proofs.lemmas.List.{take_more, take_all}
 use Rattle.pliron_laws.proofs.AnswerLemmas.{refuted}
 use Rattle.pliron_dce.specs.Worklist.{KeepsReady}
 use Rattle.pliron_dce.proofs.WorkLemmas.{keeps_ready_past, keeps_ready_more}
@@ -24,4 +24,4 @@ loop-candidate-preserved g c =
 pub returns : goal.returns
 returns g c =
     let all : length c.args.candidates.now ≤ c.loop-candidate.candidate-index = omega (arith, c.loop-candidate-test.false) in
-    subst (λ z. KeepsReady g.D.HasMeaning.meaning g.D.SideEffects.side_effects g.D.BlockArgRemoval.removable c.args.ctx.now.tree c.args.root (z ++ c.args.round.now.items) c.loop-candidate.round.items) (merge_all c.loop-candidate.candidate-index c.args.candidates.now all) c.loop-candidate.invariant
+    subst (λ z. KeepsReady g.D.HasMeaning.meaning g.D.SideEffects.side_effects g.D.BlockArgRemoval.removable c.args.ctx.now.tree c.args.root (z ++ c.args.round.now.items) c.loop-candidate.round.items) (take_all c.loop-candidate.candidate-index c.args.candidates.now all) c.loop-candidate.invariant

@@ -1,5 +1,5 @@
 use Rattle.std.proofs.Common.{rules, ◌≡◌, ◌++◌, ◌∷◌, [], ◌+◌, ◌≤◌, ◌∙◌, take, map, length, arith, ap, sym, subst}
-use Rattle.std.proofs.lemmas.List.{take_more, merge_all, map-append}
+use Rattle.std.proofs.lemmas.List.{take_more, take_all, map-append}
 use Rattle.pliron_dce.specs.declared.worklist.DeadCandidate.TheVariants.{Operation}
 use Rattle.pliron_dce.specs.Worklist.{KeepsReady}
 use Rattle.pliron_dce.proofs.ReadyTests.{ready_unheld}
@@ -32,4 +32,4 @@ loop-op-preserved g c =
 pub returns : goal.returns
 returns g c root =
     let all : length c.args.ops.now ≤ c.loop-op.op-index = omega (arith, c.loop-op-test.false) in
-    subst (λ z. KeepsReady g.D.HasMeaning.meaning g.D.SideEffects.side_effects g.D.BlockArgRemoval.removable c.args.ctx.now.tree root (map (λ k. Operation k) z ++ c.args.round.now.items) c.loop-op.round.items) (merge_all c.loop-op.op-index c.args.ops.now all) (c.loop-op.invariant.kept root)
+    subst (λ z. KeepsReady g.D.HasMeaning.meaning g.D.SideEffects.side_effects g.D.BlockArgRemoval.removable c.args.ctx.now.tree root (map (λ k. Operation k) z ++ c.args.round.now.items) c.loop-op.round.items) (take_all c.loop-op.op-index c.args.ops.now all) (c.loop-op.invariant.kept root)

@@ -1,5 +1,5 @@
 use Rattle.std.proofs.Common.{◌≡◌, ◌<◌, suc, length, Some, refl, sym, ap, ap₂, ◌∙◌, subst, arith, slice_get, ◌+◌}
-use Rattle.std.proofs.lemmas.List.{merge_all}
+use Rattle.std.proofs.lemmas.List.{take_all}
 use Rattle.pliron_laws.proofs.FoldLemmas.{on_err}
 use Rattle.pliron_core.specs.Tree.{IsLive, results_of}
 use Rattle.pliron_core.specs.Writes.{after_replacing}
@@ -55,7 +55,7 @@ returns-clause-ok g c =
     let e = c.num_result-i-end.ensures in
     let l = c.loop-i-test.false in
     let k = c.requires.leads.alike.results in
-    c.loop-i.invariant.tree ∙ ap₂ (replaced_all c.args.ctx.now.tree) (merge_all c.loop-i.i (results_of c.args.ctx.now.tree c.args.redundant) (omega (arith, e, l))) (merge_all c.loop-i.i (results_of c.args.ctx.now.tree c.args.leader) (omega (arith, e, l, k)))
+    c.loop-i.invariant.tree ∙ ap₂ (replaced_all c.args.ctx.now.tree) (take_all c.loop-i.i (results_of c.args.ctx.now.tree c.args.redundant) (omega (arith, e, l))) (take_all c.loop-i.i (results_of c.args.ctx.now.tree c.args.leader) (omega (arith, e, l, k)))
 
 pub returns-clause-point : goal.returns-clause-point
 returns-clause-point g c = c.loop-i.invariant.point

@@ -1,6 +1,6 @@
 use Rattle.std.proofs.Common.{◌≤◌, ◌+◌, ◌≡◌, ◌∙◌, ℕ, suc, List, [], length, take, arith, sym, ap, subst, refl}
 use Rattle.std.proofs.lemmas.Option.{slice_get_read}
-use Rattle.std.proofs.lemmas.List.{merge_all}
+use Rattle.std.proofs.lemmas.List.{take_all}
 use Rattle.pliron_core.proofs.ArgumentLemmas.{take_more}
 use Rattle.pliron_theory.specs.Keeps.{IsFit}
 use Rattle.pliron_fit.specs.Chosen.{AreChosen}
@@ -26,4 +26,4 @@ pub returns-clause-fit : goal.returns-clause-fit
 returns-clause-fit g c =
     let xs : List ℕ = c.args.roots.now in
     let whole : length xs ≤ c.loop-root.root-index = omega (arith, c.loop-root-test.false) in
-    subst (λ z. AreChosen (IsFit g.D.HasMeaning.meaning c.args.ctx.now.tree) z c.loop-root.found.items) (merge_all c.loop-root.root-index xs whole) c.loop-root.invariant
+    subst (λ z. AreChosen (IsFit g.D.HasMeaning.meaning c.args.ctx.now.tree) z c.loop-root.found.items) (take_all c.loop-root.root-index xs whole) c.loop-root.invariant

@@ -1,5 +1,5 @@
 use Rattle.std.proofs.Common.{◌<◌, ◌≤◌, length, true≢false, sym, ◌∙◌, subst}
-use Rattle.std.proofs.lemmas.List.{merge_all}
+use Rattle.std.proofs.lemmas.List.{take_all}
 use Rattle.std.proofs.lemmas.List.Elements.{All-contains}
 use Rattle.pliron_traversal.specs.Search.{IsListed, number_in}
 use Rattle.pliron_graph.specs.Internal.Picking.{IsListedFrom}
@@ -51,7 +51,7 @@ returns-clause-same_nodes g c =
     let order = g.S.ListedSet.listed c.args.order.now in
     let held = g.S.ListedSet.listed c.args.held.now in
     let past : length (g.S.ListedSet.listed c.args.order.now) ≤ c.loop-node.node-index = subst (λ xs. length xs ≤ c.loop-node.node-index) c.loop-node.invariant.items c.loop-node-test.false in
-    let p = subst (λ xs. IsPicked (number_in eq order) (IsListedFrom eq held c.args.first) xs c.loop-node.nodes.items) (merge_all c.loop-node.node-index order past) c.loop-node.invariant.picked in
+    let p = subst (λ xs. IsPicked (number_in eq order) (IsListedFrom eq held c.args.first) xs c.loop-node.nodes.items) (take_all c.loop-node.node-index order past) c.loop-node.invariant.picked in
     rw c.reverse.ensures.items (λ v.
     let s = pick_same (number_in eq order) (IsListedFrom eq held c.args.first) order c.loop-node.nodes.items p v in
     let d = dropped_stand eq g.met.N.Eq.laws c.requires.same held c.args.first v c.requires.distinct in (
@@ -65,5 +65,5 @@ returns-clause-descends g c =
     let order = g.S.ListedSet.listed c.args.order.now in
     let held = g.S.ListedSet.listed c.args.held.now in
     let past : length (g.S.ListedSet.listed c.args.order.now) ≤ c.loop-node.node-index = subst (λ xs. length xs ≤ c.loop-node.node-index) c.loop-node.invariant.items c.loop-node-test.false in
-    let p = subst (λ xs. IsPicked (number_in eq order) (IsListedFrom eq held c.args.first) xs c.loop-node.nodes.items) (merge_all c.loop-node.node-index order past) c.loop-node.invariant.picked in
+    let p = subst (λ xs. IsPicked (number_in eq order) (IsListedFrom eq held c.args.first) xs c.loop-node.nodes.items) (take_all c.loop-node.node-index order past) c.loop-node.invariant.picked in
     rw c.reverse.ensures.items (pick_falls (number_in eq order) (IsListedFrom eq held c.args.first) order c.loop-node.nodes.items p)

@@ -1,5 +1,5 @@
 use Rattle.std.proofs.Common.{rules, ◌≡◌, ◌<◌, ◌≤◌, ◌+◌, ◌++◌, ◌∷◌, [], Err, length, take, drop, slice_set, sym, subst, ◌∙◌, refl, arith, length-set}
-use Rattle.std.proofs.lemmas.List.{merge_all}
+use Rattle.std.proofs.lemmas.List.{take_all}
 use Rattle.pliron_core.specs.Status.{changed_by_either}
 use Rattle.pliron_pass.specs.Outcome.{RunsPass}
 use Rattle.pliron_pass.specs.Stage.{stage}
@@ -48,5 +48,5 @@ pub returns-clause-outcome : goal.returns-clause-outcome
 returns-clause-outcome g c =
     let all : length c.args.passes.now.items ≤ c.loop-i.i = omega (arith, c.len-i-end.ensures, c.loop-i-test.false) in
     let now : length c.loop-i.passes.items ≤ c.loop-i.i = omega (arith, c.loop-i.invariant.same_length, all) in
-    subst (λ z. RunsEach g.P.E.Kind.PartialEq.eq (RunsPass g.P.Pass.name g.P.Pass.outcome (IsFirstFault g.P.D.Dialect.has_interface (verdict_by g.P.D.SideEffects.verdict g.P.D.BlockArgRemoval.verdict g.P.D.ConstFoldInterface.verdict g.P.D.BranchOpFoldInterface.verdict g.P.D.RegionBranchOpInterface.verdict)) g.P.Pass.is_pass_manager) c.args.op (stage c.args.ctx.now c.args.analyses.now) z c.loop-i.passes.items (stage c.loop-i.ctx c.loop-i.analyses) c.loop-i.changed) (merge_all c.loop-i.i c.args.passes.now.items all)
-    (subst (λ z. RunsEach g.P.E.Kind.PartialEq.eq (RunsPass g.P.Pass.name g.P.Pass.outcome (IsFirstFault g.P.D.Dialect.has_interface (verdict_by g.P.D.SideEffects.verdict g.P.D.BlockArgRemoval.verdict g.P.D.ConstFoldInterface.verdict g.P.D.BranchOpFoldInterface.verdict g.P.D.RegionBranchOpInterface.verdict)) g.P.Pass.is_pass_manager) c.args.op (stage c.args.ctx.now c.args.analyses.now) (take c.loop-i.i c.args.passes.now.items) z (stage c.loop-i.ctx c.loop-i.analyses) c.loop-i.changed) (merge_all c.loop-i.i c.loop-i.passes.items now) c.loop-i.invariant.ran)
+    subst (λ z. RunsEach g.P.E.Kind.PartialEq.eq (RunsPass g.P.Pass.name g.P.Pass.outcome (IsFirstFault g.P.D.Dialect.has_interface (verdict_by g.P.D.SideEffects.verdict g.P.D.BlockArgRemoval.verdict g.P.D.ConstFoldInterface.verdict g.P.D.BranchOpFoldInterface.verdict g.P.D.RegionBranchOpInterface.verdict)) g.P.Pass.is_pass_manager) c.args.op (stage c.args.ctx.now c.args.analyses.now) z c.loop-i.passes.items (stage c.loop-i.ctx c.loop-i.analyses) c.loop-i.changed) (take_all c.loop-i.i c.args.passes.now.items all)
+    (subst (λ z. RunsEach g.P.E.Kind.PartialEq.eq (RunsPass g.P.Pass.name g.P.Pass.outcome (IsFirstFault g.P.D.Dialect.has_interface (verdict_by g.P.D.SideEffects.verdict g.P.D.BlockArgRemoval.verdict g.P.D.ConstFoldInterface.verdict g.P.D.BranchOpFoldInterface.verdict g.P.D.RegionBranchOpInterface.verdict)) g.P.Pass.is_pass_manager) c.args.op (stage c.args.ctx.now c.args.analyses.now) (take c.loop-i.i c.args.passes.now.items) z (stage c.loop-i.ctx c.loop-i.analyses) c.loop-i.changed) (take_all c.loop-i.i c.loop-i.passes.items now) c.loop-i.invariant.ran)

@@ -2,7 +2,7 @@ use Rattle.std.proofs.Common.{◌≡◌, ◌≤◌, ◌↔◌, nat_eq, Some, len
 use Rattle.std.proofs.lemmas.Option.{slice_get_read}
 use Rattle.std.specs.HashSet.{contains}
 use Rattle.pliron_core.specs.Tree.{In}
-use Rattle.pliron_sccp.proofs.Constrained.{more_blocks, merge_all}
+use Rattle.pliron_sccp.proofs.Constrained.{more_blocks, take_all}
 use Rattle.pliron_sccp.proofs.constraints.branch_blocks.Goals as goal
 
 pub loop-block-preserved : goal.loop-block-preserved
@@ -15,5 +15,5 @@ pub returns-clause-ok : goal.returns-clause-ok
 returns-clause-ok g c = λ o e b.
     let items = c.deref-block-items.result.now in
     let past : length items ≤ c.loop-block.block-index = omega arith in
-    let same = merge_all items c.loop-block.block-index past ∙ c.deref-block-items.ensures.value ∙ c.in_ok-targets.ensures.ok o e in
+    let same = take_all items c.loop-block.block-index past ∙ c.deref-block-items.ensures.value ∙ c.in_ok-targets.ensures.ok o e in
     subst (λ z. IsTrue (contains nat_eq c.loop-block.blocks b) ↔ In b z) same (c.loop-block.invariant b)

@@ -1,5 +1,5 @@
 use Rattle.std.proofs.Common.{◌≤◌, ◌++◌, length, sym, ap, ◌∙◌, append-nil, arith}
-use Rattle.std.proofs.lemmas.List.{merge_all}
+use Rattle.std.proofs.lemmas.List.{take_all}
 use Rattle.std.specs.List.{flat_map}
 use Rattle.pliron_core.specs.Tree.{layout_of, regions_of}
 use Rattle.pliron_sccp.proofs.Listing.{flat_taken}
@@ -16,4 +16,4 @@ pub returns-clause-ok : goal.returns-clause-ok
 returns-clause-ok c =
     let rs = regions_of c.args.ctx.now.tree c.args.op in
     let whole : length rs ≤ c.loop-i.i = omega arith in
-    c.loop-i.invariant ∙ ap (λ xs. c.args.blocks.now.items ++ flat_map (λ r. layout_of c.args.ctx.now.tree r) xs) (merge_all c.loop-i.i rs whole)
+    c.loop-i.invariant ∙ ap (λ xs. c.args.blocks.now.items ++ flat_map (λ r. layout_of c.args.ctx.now.tree r) xs) (take_all c.loop-i.i rs whole)

@@ -1,6 +1,6 @@
 use Rattle.std.proofs.Common.{◌≡◌, ◌≤◌, ◌++◌, ◌+◌, ◌∷◌, ◌&&◌, [], true, false, nat_eq, length, take, sym, ap, ◌∙◌, subst, arith}
 use Rattle.std.specs.List.{list_any}
-use Rattle.std.proofs.lemmas.List.{take_more, merge_all}
+use Rattle.std.proofs.lemmas.List.{take_more, take_all}
 use Rattle.pliron_core.specs.Tree.{IsDistinct, layout_of}
 use Rattle.pliron_cfg.proofs.Tested.{tested_in, not_tested}
 use Rattle.pliron_cfg.proofs.CheckLemmas.{AreLeft, one_reached, one_left, fresh_at}
@@ -33,4 +33,4 @@ returns-clause-members c =
     let all = c.deref-block-items.result.now in
     let same : all ≡ layout_of t c.args.region = c.deref-block-items.ensures.value ∙ c.in_ok-push_layout.ensures ∙ ap (λ z. z ++ layout_of t c.args.region) c.new-all.ensures.items in
     let whole : length all ≤ c.loop-block.block-index = omega (arith, c.loop-block-test.false) in
-    (subst (λ z. AreLeft z c.args.reached.now.keys c.loop-block.left.items) (merge_all c.loop-block.block-index all whole ∙ same) c.loop-block.invariant).members
+    (subst (λ z. AreLeft z c.args.reached.now.keys c.loop-block.left.items) (take_all c.loop-block.block-index all whole ∙ same) c.loop-block.invariant).members

@@ -1,5 +1,5 @@
 use Rattle.std.proofs.Common.{◌≤◌, length, inl, inr, ⊎_elim, subst, sym, arith}
-use Rattle.std.proofs.lemmas.List.{merge_all}
+use Rattle.std.proofs.lemmas.List.{take_all}
 use Rattle.pliron_core.specs.Tree.{In}
 use Rattle.pliron_cfg.proofs.CheckLemmas.{taken_split, in_inserted}
 use Rattle.pliron_cfg.proofs.removal.contents.set_of.Goals as goal
@@ -20,5 +20,5 @@ loop-op-preserved c k =
 pub returns-clause-keys : goal.returns-clause-keys
 returns-clause-keys c k =
     let all : length c.args.ops.now ≤ c.loop-op.op-index = omega (arith, c.loop-op-test.false) in
-    let same = merge_all c.loop-op.op-index c.args.ops.now all in
+    let same = take_all c.loop-op.op-index c.args.ops.now all in
     (λ i. subst (In k) same ((c.loop-op.invariant k).0 i), λ i. (c.loop-op.invariant k).1 (subst (In k) (sym same) i))

@@ -1,5 +1,5 @@
 use Rattle.std.proofs.Common.{◌≤◌, length, inl, inr, ⊎_elim, subst, sym, arith}
-use Rattle.std.proofs.lemmas.List.{merge_all}
+use Rattle.std.proofs.lemmas.List.{take_all}
 use Rattle.pliron_core.specs.Tree.{In}
 use Rattle.pliron_cfg.proofs.CheckLemmas.{taken_split, in_inserted}
 use Rattle.pliron_cfg.proofs.removal.contents.set_of_blocks.Goals as goal
@@ -20,5 +20,5 @@ loop-block-preserved c k =
 pub returns-clause-keys : goal.returns-clause-keys
 returns-clause-keys c k =
     let all : length c.args.blocks.now ≤ c.loop-block.block-index = omega (arith, c.loop-block-test.false) in
-    let same = merge_all c.loop-block.block-index c.args.blocks.now all in
+    let same = take_all c.loop-block.block-index c.args.blocks.now all in
     (λ i. subst (In k) same ((c.loop-block.invariant k).0 i), λ i. (c.loop-block.invariant k).1 (subst (In k) (sym same) i))

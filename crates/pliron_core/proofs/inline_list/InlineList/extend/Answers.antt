@@ -1,6 +1,6 @@
 use Rattle.std.proofs.Common.{◌≡◌, ◌++◌, ◌∷◌, [], length, take, ◌+◌, sym, ap, ◌∙◌}
 use Rattle.std.proofs.Math.Seq.{take-append_seam}
-use Rattle.std.proofs.lemmas.List.{append_assoc, merge_all, take_more}
+use Rattle.std.proofs.lemmas.List.{append_assoc, take_all, take_more}
 use Rattle.std.proofs.lemmas.Option.{get_or_from_slice_get, slice_get_within}
 use Rattle.pliron_core.proofs.inline_list.InlineList.extend.Goals as goal
 
@@ -22,4 +22,4 @@ returns-in-Err-clause-err g c =
 
 pub returns-clause-ok : goal.returns-clause-ok
 returns-clause-ok g c =
-    c.loop-i.invariant.0 ∙ ap (λ s. c.args.self.now ++ s) (merge_all c.loop-i.i c.args.other.now (rw (sym c.len-i-end.ensures) c.loop-i-test.false))
+    c.loop-i.invariant.0 ∙ ap (λ s. c.args.self.now ++ s) (take_all c.loop-i.i c.args.other.now (rw (sym c.len-i-end.ensures) c.loop-i-test.false))
