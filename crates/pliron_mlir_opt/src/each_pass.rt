@@ -31,7 +31,7 @@ fn plan_of(alloc: Global, name: &str, nested: bool) -> Result<PipelineText<'_>, 
 }
 
 // Runs the pass of this name on the module. Where no pass has the name, nothing is run.
-fn run_alone<N: ModuleNotation>(
+fn run_pass<N: ModuleNotation>(
     alloc: Global,
     name: &str,
     nested: bool,
@@ -89,7 +89,7 @@ fn write_round<N: ModuleNotation>(
 {
     let mut changes = false;
     for name in &plan.names {
-        let status = run_alone::<N>(alloc, name, plan.nested, loaded, ctx)?;
+        let status = run_pass::<N>(alloc, name, plan.nested, loaded, ctx)?;
         changes = changes || status == IRStatus::Changed;
         write_module::<N>(alloc, trace, name, status, loaded, ctx)?;
     }

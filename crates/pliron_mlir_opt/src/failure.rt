@@ -18,7 +18,7 @@ pub struct ModuleFault {
 pub type ModuleFailure = TextFailure<ModuleFault>;
 
 /// Why a module isn't answered whose text has this fault. Cost: constant.
-pub(crate) fn failure_of(fault: Fault) -> ModuleFailure {
+pub fn failure_of(fault: Fault) -> ModuleFailure {
     match fault {
         Fault::Expected(place, expected) => TextFailure::Text(ModuleFault { place, expected }),
         Fault::KeptAsText => TextFailure::Text(ModuleFault {

@@ -17,7 +17,7 @@ mod tally;
 
 pub use closed::{Closed, ClosedForm};
 pub use each_pass::print_after_each;
-pub use failure::{ModuleFailure, ModuleFault, failure_message, failure_status};
+pub use failure::{ModuleFailure, ModuleFault, failure_message, failure_of, failure_status};
 pub use fitness::{Fitness, Unfit};
 pub use notation::{GenericForm, ModuleDocument, ModuleNotation};
 pub use optimise_module::{Counts, ModuleOptions, OptimisedModule, optimise};

@@ -12,11 +12,6 @@ use std::marker::PhantomData;
 /// A module that was read, with the sheet of what its text says beside the tree.
 pub type ModuleDocument = Document<Sheet>;
 
-/// A notation of modules.
-pub trait ModuleNotation: Notation<Sheet = Sheet, Fault = ModuleFault> {}
-
-impl<N: Notation<Sheet = Sheet, Fault = ModuleFault>> ModuleNotation for N {}
-
 /// The generic form as a notation of a dialect of MLIR.
 pub struct GenericForm<D>(PhantomData<D>);
 
@@ -57,3 +52,8 @@ impl<D: Dialect> Notation for GenericForm<D> {
         Sheet::new(alloc)
     }
 }
+
+/// A notation of modules.
+pub trait ModuleNotation: Notation<Sheet = Sheet, Fault = ModuleFault> {}
+
+impl<N: Notation<Sheet = Sheet, Fault = ModuleFault>> ModuleNotation for N {}

@@ -83,7 +83,7 @@ pub trait Notation {
     fn empty_sheet(alloc: Global) -> Self::Sheet;
 
     /// Reads a text, and leaves its sheet out. Its operation is live and well linked. `None` is a text outside the
-    /// notation. Asks that the context is empty. Errors: allocation failure.
+    /// notation. Asks that the context is empty. Errors: allocation failure. Cost: that of `read_document`.
     fn read(
         alloc: Global,
         text: &[u8],
@@ -102,7 +102,7 @@ pub trait Notation {
     }
 
     /// Prints the operation with an empty sheet. Asks that the operation is live (`is_live` tests it). Errors:
-    /// allocation failure.
+    /// allocation failure. Cost: that of `print_document`.
     fn print(alloc: Global, root: Ptr<Operation>, ctx: &Context) -> Result<Vec<u8>, OptError>
         requires { IsLive ctx.now.tree root }
         ensures { IfOk result (λ printed. prints ctx.now.tree root printed.items) }
