@@ -38,7 +38,7 @@ abbrev pub while_act : Shape → Datum → List Datum → Move
 while_act s memo input = once memo (visit_of 0 s input) (again_unless (is_zero (condition_of input)) s (drop 1 input))
 
 abbrev pub arithmetic_role_of : ArithmeticKind → Role
-arithmetic_role_of Function = Acts true function_act
+arithmetic_role_of Function = Acts true true function_act
 arithmetic_role_of Lit = Constant
 arithmetic_role_of Add = computes 2 (λ os. wrapped_sum (known_at os 0) (known_at os 1))
 arithmetic_role_of Mul = computes 2 (λ os. wrapped_product (known_at os 0) (known_at os 1))
@@ -47,8 +47,8 @@ arithmetic_role_of Less = computes 2 (λ os. less (known_at os 0) (known_at os 1
 arithmetic_role_of Jump = Jumps
 arithmetic_role_of Branch = branches_by_condition
 arithmetic_role_of Return = Leaves
-arithmetic_role_of If = Acts true if_act
-arithmetic_role_of While = Acts true while_act
+arithmetic_role_of If = Acts true true if_act
+arithmetic_role_of While = Acts true true while_act
 
 -- which counts a kind has beyond its role
 abbrev pub arithmetic_takes : ArithmeticKind → ℕ → ℕ → ℕ → Bool

@@ -70,7 +70,7 @@ impl Roles for ArithmeticKind {
 
     fn form(self) -> Form {
         match self {
-            ArithmeticKind::Function => Form::Acts(true),
+            ArithmeticKind::Function => Form::Acts(true, true),
             ArithmeticKind::Lit => Form::Constant,
             ArithmeticKind::Add => Form::Folds(2, Otherwise::Never),
             ArithmeticKind::Mul => Form::Folds(2, Otherwise::Never),
@@ -79,8 +79,8 @@ impl Roles for ArithmeticKind {
             ArithmeticKind::Jump => Form::Jumps,
             ArithmeticKind::Branch => Form::Chooses(Counting::OfFirst),
             ArithmeticKind::Return => Form::Leaves,
-            ArithmeticKind::If => Form::Acts(true),
-            ArithmeticKind::While => Form::Acts(true),
+            ArithmeticKind::If => Form::Acts(true, true),
+            ArithmeticKind::While => Form::Acts(true, true),
         }
     }
 

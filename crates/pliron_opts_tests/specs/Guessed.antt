@@ -18,11 +18,11 @@ guessed_value h [] = []
 guessed_value h (d ∷ ds) = d ∷ []
 
 abbrev pub guessed_role_of : GuessedKind → Role
-guessed_role_of Function = Acts true function_act
+guessed_role_of Function = Acts true true function_act
 guessed_role_of Lit = Constant
 guessed_role_of Jump = Jumps
 guessed_role_of Return = Leaves
-guessed_role_of Ask = Acts true (ask_world (pos 4))
+guessed_role_of Ask = Acts true true (ask_world (pos 4))
 guessed_role_of Guess = Opaque
 
 -- which counts a kind has beyond its role

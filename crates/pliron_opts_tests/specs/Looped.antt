@@ -26,14 +26,14 @@ abbrev pub twice_act : Shape → Datum → List Datum → Move
 twice_act s memo input = next_of (int_lt (whole_number_of memo) (pos 2)) s (whole_number_of memo) input
 
 abbrev pub looped_role_of : LoopedKind → Role
-looped_role_of Function = Acts true function_act
+looped_role_of Function = Acts true true function_act
 looped_role_of Lit = Constant
 looped_role_of Add = computes 2 (λ os. wrapped_sum (known_at os 0) (known_at os 1))
 looped_role_of Jump = Jumps
 looped_role_of Return = Leaves
 looped_role_of Repeat = Names counted_loop (operands_from 1)
-looped_role_of Ask = Acts true (ask_world (pos 6))
-looped_role_of Twice = Acts true twice_act
+looped_role_of Ask = Acts true true (ask_world (pos 6))
+looped_role_of Twice = Acts true true twice_act
 
 -- which counts a kind has beyond its role
 abbrev pub looped_takes : LoopedKind → ℕ → ℕ → ℕ → Bool

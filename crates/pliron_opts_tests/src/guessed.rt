@@ -63,11 +63,11 @@ impl Roles for GuessedKind {
 
     fn form(self) -> Form {
         match self {
-            GuessedKind::Function => Form::Acts(true),
+            GuessedKind::Function => Form::Acts(true, true),
             GuessedKind::Lit => Form::Constant,
             GuessedKind::Jump => Form::Jumps,
             GuessedKind::Return => Form::Leaves,
-            GuessedKind::Ask => Form::Acts(true),
+            GuessedKind::Ask => Form::Acts(true, true),
             GuessedKind::Guess => Form::Opaque,
         }
     }

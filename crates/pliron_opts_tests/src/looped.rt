@@ -75,14 +75,14 @@ impl Roles for LoopedKind {
 
     fn form(self) -> Form {
         match self {
-            LoopedKind::Function => Form::Acts(true),
+            LoopedKind::Function => Form::Acts(true, true),
             LoopedKind::Lit => Form::Constant,
             LoopedKind::Add => Form::Folds(2, Otherwise::Never),
             LoopedKind::Jump => Form::Jumps,
             LoopedKind::Return => Form::Leaves,
             LoopedKind::Repeat => Form::Names,
-            LoopedKind::Ask => Form::Acts(true),
-            LoopedKind::Twice => Form::Acts(true),
+            LoopedKind::Ask => Form::Acts(true, true),
+            LoopedKind::Twice => Form::Acts(true, true),
         }
     }
 

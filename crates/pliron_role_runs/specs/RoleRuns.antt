@@ -20,7 +20,7 @@ shape_by h c = record {
 
 -- what an operation does that acts by its own table
 abbrev pub own_act : Role → Shape → Datum → List Datum → Move
-own_act (Acts says act) s memo input = act s memo input
+own_act (Acts says removes act) s memo input = act s memo input
 own_act (Names act named) s memo input = act s memo input
 own_act (Forks says act) s memo input = act s memo input
 own_act _ s memo input = Trap

@@ -283,7 +283,7 @@ fn move_by<K: Interprets>(
         Form::Chooses(counting) => branch_move(alloc, kind, counting, head, counts, input),
         Form::Leaves => Ok(Some(Move::Leave(all_copies(alloc, input)?))),
         Form::Stops => Ok(Some(Move::Trap)),
-        Form::Acts(_) | Form::Names | Form::Forks(_) => {
+        Form::Acts(_, _) | Form::Names | Form::Forks(_) => {
             let next = kind.own_move(alloc, head, counts, memo, input)?;
             Ok(Some(next))
         }
