@@ -19,8 +19,8 @@ pub struct KnownRun {
     pub steps: usize,
 }
 
-/// What is seen of a run of the root, as `evaluate` does; where it isn't known what an operation gives, or where it goes,
-/// the run ends there, as if its steps were used up.
+/// What is seen of a run of the root, as `evaluate` does; where it isn't known what an operation gives, or where it
+/// goes, the run ends there, as if its steps were used up.
 ///
 /// Errors: allocation failure. Cost: that of `evaluate`, with one more copy of what each operation reads; where the run
 /// ends so, about as many runs more as the logarithm of its steps.

@@ -104,7 +104,8 @@ pub fn visit(
     visit_keeping(alloc, counts, region, values, Datum::Number(1))
 }
 
-/// A visit, and then a leave with what it gave. The region has this index, and the input is passed. Errors: allocation failure. Cost: that of copies.
+/// A visit, and then a leave with what it gave. The region has this index, and the input is passed. Errors: allocation
+/// failure. Cost: that of copies.
 pub fn visit_and_leave(
     alloc: Global,
     counts: &Counts,

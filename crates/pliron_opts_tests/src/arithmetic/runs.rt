@@ -2,7 +2,7 @@
 use super::texts::read;
 use crate::expect::expect_sight;
 use pliron_arithmetic::{Arithmetic, ArithmeticKind};
-use pliron_core::{Context, Operation, Ptr};
+use pliron_core::{AttrObj, Context, Operation, Ptr};
 use pliron_dce::dce;
 use pliron_evaluator::evaluator::{Datum, Sight, evaluate};
 use pliron_laws::is_well_linked;
