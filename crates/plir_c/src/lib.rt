@@ -15,13 +15,13 @@ ghost use Rattle.pliron_buffers.specs.Modules.{IsWord, OptimisesModule};
 
 use pliron_bench::Bench;
 use pliron_buffers::{
-    BenchNotation, Failure, ModulePass, ModuleSchedule, Place, describe_graph_into,
+    BenchNotation, Failure, ModulePass, ModulePipeline, Place, describe_graph_into,
     find_fault_into, find_module_fault_into, optimise_into, optimise_module_into,
 };
 use pliron_laws::HasMeaning;
 use pliron_mlir::{AnyMeaning, Mlir};
 use pliron_mlir_opt::{Closed, ClosedForm};
-use pliron_opts::Schedule;
+use pliron_opts::PassPipeline;
 use pliron_pass::{BenchFactKind, BenchFacts, Pass};
 use std::alloc::Global;
 
@@ -57,7 +57,7 @@ pub extern "C" fn plir_optimise(
     needed: &mut usize,
 ) -> u32
     ensures { FillsBy (Optimises (closed_reads ReadsBench) (closed_prints PrintsBench) bench
-        (RunsAlone ⟦<BenchFactKind as PartialEq>⟧.eq ⟦<Schedule<Bench, BenchFacts> as Pass>⟧.outcome)
+        (RunsAlone ⟦<BenchFactKind as PartialEq>⟧.eq ⟦<PassPipeline<Bench, BenchFacts> as Pass>⟧.outcome)
         pipeline.now text.now) (Explains (IsListed pipeline.now)) output.old output.new needed.new result }
 {
     optimise_into::<Text>(alloc, pipeline, text, output, needed).number()
@@ -117,7 +117,7 @@ pub extern "C" fn plir_optimise_mlir(
     ensures { FillsBy (OptimisesModule ⟦<ModulePass<Form> as Pass>⟧.name
         (closed_reads (ReadsKinds ⟦<Mlir<AnyMeaning> as HasMeaning>⟧.meaning)) (closed_prints PrintsKinds)
         ⟦<Mlir<AnyMeaning> as HasMeaning>⟧.meaning
-        (RunsAlone ⟦<BenchFactKind as PartialEq>⟧.eq ⟦<ModuleSchedule<Form> as Pass>⟧.outcome)
+        (RunsAlone ⟦<BenchFactKind as PartialEq>⟧.eq ⟦<ModulePipeline<Form> as Pass>⟧.outcome)
         pipeline.now text.now changed.new) (λ failure. Explains (IsWord pipeline.now) failure × (changed.new ≡ 0))
         output.old output.new needed.new result }
 {

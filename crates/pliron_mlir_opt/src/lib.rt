@@ -17,9 +17,9 @@ mod tally;
 
 pub use closed::{Closed, ClosedForm};
 pub use each_pass::print_after_each;
-pub use failure::ModuleFailure;
+pub use failure::{ModuleFailure, ModuleFault, failure_message, failure_status};
 pub use fitness::{Fitness, Unfit};
-pub use notation::{GenericForm, ModuleNotation};
+pub use notation::{GenericForm, ModuleDocument, ModuleNotation};
 pub use optimise_module::{Counts, ModuleOptions, OptimisedModule, optimise};
 pub use outcome::{Outcome, Source, misspelling_outcome, run_passes};
 pub use plans::read_plan;

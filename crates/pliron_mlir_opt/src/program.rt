@@ -10,7 +10,7 @@ use crate::notation::ModuleNotation;
 use crate::optimise_module::ModuleOptions;
 use crate::outcome::{Outcome, Source, misspelling_outcome, run_passes, unusable_outcome};
 use crate::plans::read_plan;
-use pliron_instrument::{Instrumented, InstrumentedSchedule, PipelineText, PlanError, Progress};
+use pliron_instrument::{Instrumented, InstrumentedPipeline, PipelineText, PlanError, Progress};
 use pliron_pass::{BenchFactKind, Pass};
 use std::alloc::{AllocError, Global};
 use std::io::{self, ErrorKind, Read, Write};
@@ -40,8 +40,8 @@ fn run_plan<N: ModuleNotation, E: Write, C: Progress + Copy + Drop>(
     clock: C,
 ) -> Result<Outcome, AllocError>
     ensures { IfOk result (EndsByPlan ⟦<Instrumented<N, C> as Pass>⟧.name
-        (λ schedule. EndsOptimised N.reads N.prints N.D.meaning (RunsAlone ⟦<BenchFactKind as PartialEq>⟧.eq
-        ⟦<InstrumentedSchedule<N, C> as Pass>⟧.outcome schedule) source.now.text.now)
+        (λ pipeline. EndsOptimised N.reads N.prints N.D.meaning (RunsAlone ⟦<BenchFactKind as PartialEq>⟧.eq
+        ⟦<InstrumentedPipeline<N, C> as Pass>⟧.outcome pipeline) source.now.text.now)
         plan.now.runs plan.now.nested (map (λ name. name.now) plan.now.names.items)) }
 {
     if request.prints_all {
@@ -61,8 +61,8 @@ fn run_word<N: ModuleNotation, E: Write, C: Progress + Copy + Drop>(
     clock: C,
 ) -> Result<Outcome, AllocError>
     ensures { IfOk result (EndsByWord ⟦<Instrumented<N, C> as Pass>⟧.name
-        (λ schedule. EndsOptimised N.reads N.prints N.D.meaning (RunsAlone ⟦<BenchFactKind as PartialEq>⟧.eq
-        ⟦<InstrumentedSchedule<N, C> as Pass>⟧.outcome schedule) text.now)
+        (λ pipeline. EndsOptimised N.reads N.prints N.D.meaning (RunsAlone ⟦<BenchFactKind as PartialEq>⟧.eq
+        ⟦<InstrumentedPipeline<N, C> as Pass>⟧.outcome pipeline) text.now)
         request.now.pipeline.now) }
 {
     let source = Source {
@@ -97,8 +97,8 @@ fn outcome_of_input<N: ModuleNotation, R: Read, E: Write, C: Progress + Copy + D
     clock: C,
 ) -> Result<Outcome, AllocError>
     ensures { IfOk result (IsOfInput (λ text. EndsByWord ⟦<Instrumented<N, C> as Pass>⟧.name
-        (λ schedule. EndsOptimised N.reads N.prints N.D.meaning (RunsAlone ⟦<BenchFactKind as PartialEq>⟧.eq
-        ⟦<InstrumentedSchedule<N, C> as Pass>⟧.outcome schedule) text) request.now.pipeline.now)
+        (λ pipeline. EndsOptimised N.reads N.prints N.D.meaning (RunsAlone ⟦<BenchFactKind as PartialEq>⟧.eq
+        ⟦<InstrumentedPipeline<N, C> as Pass>⟧.outcome pipeline) text) request.now.pipeline.now)
         (R.remaining input.old)) }
 {
     let mut text = Vec::new(alloc);
@@ -172,8 +172,8 @@ pub fn run_on<N: ModuleNotation, R: Read, W: Write, E: Write, C: Progress + Copy
     clock: C,
 ) -> u8
     ensures { EndsOnStreams (λ text. EndsByWord ⟦<Instrumented<N, C> as Pass>⟧.name
-        (λ schedule. EndsOptimised N.reads N.prints N.D.meaning (RunsAlone ⟦<BenchFactKind as PartialEq>⟧.eq
-        ⟦<InstrumentedSchedule<N, C> as Pass>⟧.outcome schedule) text) request.now.pipeline.now)
+        (λ pipeline. EndsOptimised N.reads N.prints N.D.meaning (RunsAlone ⟦<BenchFactKind as PartialEq>⟧.eq
+        ⟦<InstrumentedPipeline<N, C> as Pass>⟧.outcome pipeline) text) request.now.pipeline.now)
         (R.remaining input.old) (W.contents output.old) (W.contents output.new) result }
 {
     match outcome_of_input::<N, R, E, C>(alloc, request, input, errors, clock) {

@@ -7,3 +7,4 @@ pub mod ControlFlow
 pub mod DeadCode
 pub mod PassNames
 pub mod PassSteps
+pub mod Pipelines
