@@ -2,7 +2,7 @@
 use Rattle.std.proofs.Common.{ℕ, List, Result, Ok, Err, IfOk}
 use Rattle.pliron_core.specs.Tree.{Tree}
 use Rattle.pliron_opts.specs.Answered.{Reads, Prints}
-use Rattle.pliron_mlir_opt.specs.Closed.{closed_reads, closed_prints, read_closed, print_closed}
+use Rattle.pliron_opts.specs.Closed.{closed_reads, closed_prints, read_closed, print_closed}
 
 pub document_read : {M E : Type 0} (reads : Reads) (text : List ℕ) (tree : Tree) (root : M → ℕ) (r : Result M E) → IfOk r (λ read. reads text tree (root read)) → IfOk r (λ read. closed_reads reads text tree (root read))
 document_read reads text tree root (Ok read) is = read_closed reads text tree (root read) is

@@ -1,8 +1,8 @@
 use Rattle.std.proofs.Common.{◌≡◌, ℕ, ◌-◌, List, ◌++◌, length, take, drop, sym, ap, ◌∙◌, subst, append_assoc, take-append-drop}
 use Rattle.std.proofs.lemmas.List.{take_rest}
 use Rattle.std.proofs.KnownBytes.{Appends-trans, Appends-kept}
-use Rattle.pliron_opts.proofs.program.streams.write_answer.Goals as goal
-use Rattle.pliron_opts.proofs.program.streams.write_answer.Goals.{in-Ok-write, in-Err-write+else-ne}
+use Rattle.pliron_opts.proofs.program.streams.write_bytes.Goals as goal
+use Rattle.pliron_opts.proofs.program.streams.write_bytes.Goals.{in-Ok-write, in-Err-write+else-ne}
 
 -- n more bytes went to the front
 moves_front : (all done rest : List ℕ) (n : ℕ) → all ≡ done ++ rest → all ≡ (done ++ take n rest) ++ take (length rest - n) (drop n rest)
@@ -17,7 +17,7 @@ loop-preserved g c =
       | in-Ok-write w ↦
           let n = w.in-Ok-write.count in
           let moved = done ++ take n rest in
-          (moved, subst (λ r. c.args.answer.now ≡ moved ++ r.now) (sym w.rest-is) (moves_front _ done rest n split), Appends-trans _ _ _ _ _ appended w.in-Ok-write.ensures.bytes)
+          (moved, subst (λ r. c.args.bytes.now ≡ moved ++ r.now) (sym w.rest-is) (moves_front _ done rest n split), Appends-trans _ _ _ _ _ appended w.in-Ok-write.ensures.bytes)
       | in-Err-write+else-ne w ↦
-          (done, subst (λ r. c.args.answer.now ≡ done ++ r.now) (sym w.rest-is) split, Appends-kept _ _ _ _ appended w.in-Err-write.ensures.bytes)
+          (done, subst (λ r. c.args.bytes.now ≡ done ++ r.now) (sym w.rest-is) split, Appends-kept _ _ _ _ appended w.in-Err-write.ensures.bytes)
     ]
