@@ -50,8 +50,8 @@ fn answer<N: Notation>(
     text: &[u8],
 ) -> Result<Option<Vec<u8>>, OptError>
     ensures { IfOk result (λ found. IfSome found (λ answer. Answers N.reads N.prints N.D.meaning
-        (RunsAlone ⟦<BenchFactKind as PartialEq>⟧.eq ⟦<PassPipeline<N::D, BenchFacts> as Pass>⟧.outcome) command text.now
-        answer.items)) }
+        (RunsAlone ⟦<BenchFactKind as PartialEq>⟧.eq ⟦<PassPipeline<N::D, BenchFacts> as Pass>⟧.outcome) command
+        text.now answer.items)) }
 {
     match command {
         Command::Optimise(pipeline) => optimise_text::<N>(alloc, pipeline, text),
