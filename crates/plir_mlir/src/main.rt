@@ -6,7 +6,7 @@
 ghost use Rattle.std.specs.Prelude.{None, ◌≤◌, ◌⊎◌, ◌≡◌};
 ghost use Rattle.pliron_opts.specs.Ran.{RunsAlone};
 ghost use Rattle.pliron_opts.specs.Read.{ReadsKinds, PrintsKinds};
-ghost use Rattle.pliron_mlir_opt.specs.Closed.{closed_reads, closed_prints};
+ghost use Rattle.pliron_opts.specs.Closed.{closed_reads, closed_prints};
 ghost use Rattle.pliron_mlir_opt.specs.Outcomes.{EndsOptimised, EndsByWord};
 ghost use Rattle.pliron_mlir_opt.specs.Streams.{EndsOnStreams};
 

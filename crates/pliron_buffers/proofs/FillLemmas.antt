@@ -41,8 +41,8 @@ pub explains_list : (listed : Type 0) (failure : Failure) → (failure ≡ Argum
 explains_list listed failure (inl e) = subst (λ f. Explains listed f) (sym e) tt
 explains_list listed failure (inr e) = subst (λ f. Explains listed f) (sym e) tt
 
-pub lists : {D E B K : Type 0} (list : List ℕ) (pipeline : PassPipelineOf D E B K) → IsPlanned list pipeline → IsListed list
-lists list pipeline p = record { runs = p.runs; nested = p.nested; names = p.names; plan = p.plan }
+pub lists : {D B : Type 0} (ran : PassPipelineOf D BenchFacts B BenchFactKind → ℕ → Tree → Tree → IRStatus → Type 0) (list : List ℕ) (pipeline : PassPipelineOf D BenchFacts B BenchFactKind) → IsPlanned list pipeline → IsListed ran list
+lists ran list pipeline p = record { pipeline = pipeline; planned = p }
 
 pub explains_text : {listed : Type 0} (failure : Failure) → listed → failure ≢ Arguments → Explains listed failure
 explains_text Arguments is other = absurd (other refl)

@@ -16,9 +16,9 @@ asks_same word text runs nested names same asked = subst (λ w. AsksFor w runs n
 pub asked_of : {P D E B K : Type 0} (name : P → List ℕ) (word : List ℕ) (runs : Option ℕ) (nested : Bool) (names : List (List ℕ)) (pipeline : PipelineOf P D E B K) → AsksFor word runs nested names → IsPipelineOf name runs nested names pipeline → IsAsked name word pipeline
 asked_of name word runs nested names pipeline asked planned = record { runs = runs; nested = nested; names = names; asked = asked; planned = planned }
 
--- so the word asks for something
-pub word_of : {P D E B K : Type 0} (name : P → List ℕ) (word : List ℕ) (pipeline : PipelineOf P D E B K) → IsAsked name word pipeline → IsWord word
-word_of name word pipeline asked = record { runs = asked.runs; nested = asked.nested; names = asked.names; asked = asked.asked }
+-- so the word asks for one
+pub word_of : {P D E B K : Type 0} (name : P → List ℕ) (ran : PipelineOf P D E B K → ℕ → Tree → Tree → IRStatus → Type 0) (word : List ℕ) (pipeline : PipelineOf P D E B K) → IsAsked name word pipeline → IsWord name ran word
+word_of name ran word pipeline asked = record { pipeline = pipeline; asked = asked }
 
 -- what a pipeline that the word asks for makes of a module is what the word asks for
 pub optimises_module : {P D E B K T X : Type 0} (name : P → List ℕ) (reads : Reads) (prints : Prints) (m : Meaning) (ran : PipelineOf P D E B K → ℕ → Tree → Tree → IRStatus → Type 0) (bytes : T → List ℕ) (status : T → IRStatus) (word text : List ℕ) (pipeline : PipelineOf P D E B K) → IsAsked name word pipeline → (r : Result T X) → IfOk r (λ made. IsOptimised reads prints m (ran pipeline) text (bytes made ++ status_line (status made))) → IfOk r (λ made. OptimisesModule name reads prints m ran word text (number_of_change (status made)) (bytes made))

@@ -8,13 +8,6 @@ use Rattle.pliron_opts.specs.Answered.{Reads, Prints, IsOptimised, status_line}
 use Rattle.pliron_pipeline.specs.Pipelines.{PipelineOf, IsPipelineOf}
 use Rattle.pliron_mlir_opt.specs.Outcomes.{AsksFor}
 
--- the word asks for something
-pub record IsWord (word : List ℕ) : Type 0 where
-  pub runs : Option ℕ
-  pub nested : Bool
-  pub names : List (List ℕ)
-  pub asked : AsksFor word runs nested names
-
 -- the word asks for what the pipeline runs
 pub record IsAsked {P D E B K : Type 0} (name : P → List ℕ) (word : List ℕ) (pipeline : PipelineOf P D E B K) : Type 0 where
   pub runs : Option ℕ
@@ -22,6 +15,11 @@ pub record IsAsked {P D E B K : Type 0} (name : P → List ℕ) (word : List ℕ
   pub names : List (List ℕ)
   pub asked : AsksFor word runs nested names
   pub planned : IsPipelineOf name runs nested names pipeline
+
+-- the word asks for a pipeline of passes, of those that run so
+pub record IsWord {P D E B K : Type 0} (name : P → List ℕ) (ran : PipelineOf P D E B K → ℕ → Tree → Tree → IRStatus → Type 0) (word : List ℕ) : Type 0 where
+  pub pipeline : PipelineOf P D E B K
+  pub asked : IsAsked name word pipeline
 
 -- the numbers by which other languages know whether a tree changed
 abbrev pub number_of_change : IRStatus → ℕ

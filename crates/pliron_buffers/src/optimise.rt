@@ -66,7 +66,8 @@ pub fn optimise_by_list<N: Notation>(
     ensures answer { IfOk result (λ answer. Optimises N.reads N.prints N.D.meaning
         (RunsAlone ⟦<BenchFactKind as PartialEq>⟧.eq ⟦<PassPipeline<N::D, BenchFacts> as Pass>⟧.outcome)
         list.now text.now answer.items) }
-    ensures failure { IfErr result (Explains (IsListed list.now)) }
+    ensures failure { IfErr result (Explains (IsListed (RunsAlone ⟦<BenchFactKind as PartialEq>⟧.eq
+        ⟦<PassPipeline<N::D, BenchFacts> as Pass>⟧.outcome) list.now)) }
 {
     let pipeline = pipeline_of(alloc, list)?;
     answer_of::<N>(alloc, pipeline, text)
@@ -84,7 +85,8 @@ pub fn optimise_into<N: Notation>(
 ) -> Status
     ensures { Fills (Optimises N.reads N.prints N.D.meaning
         (RunsAlone ⟦<BenchFactKind as PartialEq>⟧.eq ⟦<PassPipeline<N::D, BenchFacts> as Pass>⟧.outcome)
-        list.now text.now) (Explains (IsListed list.now)) output.old output.new needed.new result }
+        list.now text.now) (Explains (IsListed (RunsAlone ⟦<BenchFactKind as PartialEq>⟧.eq
+        ⟦<PassPipeline<N::D, BenchFacts> as Pass>⟧.outcome) list.now)) output.old output.new needed.new result }
 {
     fill(optimise_by_list::<N>(alloc, list, text), output, needed)
 }

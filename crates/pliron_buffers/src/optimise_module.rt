@@ -94,7 +94,8 @@ fn optimise_module<N: ModuleNotation>(
         N.reads N.prints N.D.meaning
         (RunsAlone ⟦<BenchFactKind as PartialEq>⟧.eq ⟦<ModulePipeline<N> as Pass>⟧.outcome)
         word.now text.now (number_of_change made.status) made.printed.items) }
-    ensures failure { IfErr result (Explains (IsWord word.now)) }
+    ensures failure { IfErr result (Explains (IsWord ⟦<ModulePass<N> as Pass>⟧.name
+        (RunsAlone ⟦<BenchFactKind as PartialEq>⟧.eq ⟦<ModulePipeline<N> as Pass>⟧.outcome) word.now)) }
 {
     let mut pipeline = pipeline_of::<N>(alloc, word)?;
     answer_of::<N>(alloc, &mut pipeline, text)
@@ -128,8 +129,9 @@ pub fn optimise_module_into<N: ModuleNotation>(
 ) -> Status
     ensures { Fills (OptimisesModule ⟦<ModulePass<N> as Pass>⟧.name N.reads N.prints N.D.meaning
         (RunsAlone ⟦<BenchFactKind as PartialEq>⟧.eq ⟦<ModulePipeline<N> as Pass>⟧.outcome)
-        word.now text.now changed.new) (λ failure. Explains (IsWord word.now) failure × (changed.new ≡ 0))
-        output.old output.new needed.new result }
+        word.now text.now changed.new) (λ failure. Explains (IsWord ⟦<ModulePass<N> as Pass>⟧.name
+        (RunsAlone ⟦<BenchFactKind as PartialEq>⟧.eq ⟦<ModulePipeline<N> as Pass>⟧.outcome) word.now) failure
+        × (changed.new ≡ 0)) output.old output.new needed.new result }
 {
     match optimise_module::<N>(alloc, word, text) {
         Ok(made) => {

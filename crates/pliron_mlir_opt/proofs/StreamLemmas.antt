@@ -1,18 +1,10 @@
 -- How the program ends on its streams.
 use Rattle.std.proofs.Common.{◌≡◌, ℕ, Bool, List, [], ◌++◌, Option, Some, None, IfSome, Result, Ok, Err, IfOk, refl, sym, ap, ◌∙◌}
-use Rattle.std.specs.Io.KnownBytes.{Appends, Keeps}
 use Rattle.pliron_opts.specs.Ending.{IsRestOfInput}
 use Rattle.pliron_pipeline.specs.Pipelines.{PipelineOf}
 use Rattle.pliron_mlir_opt.specs.declared.outcome.Outcome.{Outcome}
 use Rattle.pliron_mlir_opt.specs.Outcomes.{EndsWithout, EndsByPlan, AsksFor, EndsByWord, EndsByWord.ByWord, EndsByWord.WithoutWord}
 use Rattle.pliron_mlir_opt.specs.Streams.{IsOfInput, IsWritten, EndsOnStreams, EndsOnStreams.WithOutcome}
-
--- what was appended stays
-pub appends_kept : (old between new : Option (List ℕ)) (bytes : List ℕ) → Appends old between bytes → Keeps between new → Appends old new bytes
-appends_kept None between new bytes appends keeps = tt
-appends_kept (Some xs) None new bytes appends keeps = absurd appends
-appends_kept (Some xs) (Some ys) None bytes appends keeps = absurd keeps
-appends_kept (Some xs) (Some ys) (Some zs) bytes appends keeps = keeps ∙ appends
 
 -- all that was left is read into an empty buffer, and passed on
 pub is_rest : (known : Option (List ℕ)) (old new text : List ℕ) → IfSome known (λ bytes. new ≡ old ++ bytes) → old ≡ [] → text ≡ new → IsRestOfInput known text

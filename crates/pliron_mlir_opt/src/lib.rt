@@ -15,7 +15,7 @@ mod program;
 mod report;
 mod tally;
 
-pub use closed::{Closed, ClosedForm};
+pub use closed::ClosedForm;
 pub use each_pass::print_after_each;
 pub use failure::{ModuleFailure, ModuleFault, failure_message, failure_of, failure_status};
 pub use fitness::{Fitness, Unfit};

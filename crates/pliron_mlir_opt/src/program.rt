@@ -1,6 +1,5 @@
 //! The program over streams: what is read and what is written.
 ghost use Rattle.std.specs.Prelude.{◌≡◌, map, IfOk, OnOk};
-ghost use Rattle.std.specs.Io.KnownBytes.{Appends};
 ghost use Rattle.pliron_opts.specs.Ran.{RunsAlone};
 ghost use Rattle.pliron_mlir_opt.specs.Outcomes.{EndsWithout, EndsOptimised, EndsByPlan, EndsByWord};
 ghost use Rattle.pliron_mlir_opt.specs.Streams.{EndsOnStreams, IsOfInput, IsWritten};
@@ -11,6 +10,7 @@ use crate::optimise_module::ModuleOptions;
 use crate::outcome::{Outcome, Source, misspelling_outcome, run_passes, unusable_outcome};
 use crate::plans::read_plan;
 use pliron_instrument::{Instrumented, InstrumentedPipeline, PipelineText, PlanError, Progress};
+use pliron_opts::write_bytes;
 use pliron_pass::{BenchFactKind, Pass};
 use std::alloc::{AllocError, Global};
 use std::io::{self, ErrorKind, Read, Write};
@@ -113,15 +113,6 @@ fn outcome_of_input<N: ModuleNotation, R: Read, E: Write, C: Progress + Copy + D
     }
 }
 
-// Writes all of the module. Errors: those of the writer.
-#[tactic(auto, using(crate::proofs::StreamLemmas::appends_kept))]
-fn write_module<W: Write>(bytes: &[u8], output: &mut W) -> io::Result<()>
-    ensures { OnOk result (Appends (W.contents output.old) (W.contents output.new) bytes.now) }
-{
-    output.write_all(bytes)?;
-    output.flush()
-}
-
 // Says why the module isn't written, and answers the status.
 fn report_unwritten<E: Write>(error: &io::Error, errors: &mut E) -> u8
     ensures { result ≡ 2 }
@@ -147,7 +138,7 @@ fn write_outcome<W: Write, E: Write>(outcome: &Outcome, output: &mut W, errors: 
     if outcome.status != 0 {
         return outcome.status;
     }
-    match write_module(&outcome.output, output) {
+    match write_bytes(&outcome.output, output) {
         Ok(()) => 0,
         Err(error) => report_unwritten(&error, errors),
     }
@@ -161,7 +152,7 @@ fn write_outcome<W: Write, E: Write>(outcome: &Outcome, output: &mut W, errors: 
 ///
 /// Statuses: those of `run_passes`; 1 also where memory for a report is refused, and 2 where the input can't be read, is
 /// longer than 268,435,456 bytes, or the module can't be written. With all but 0 nothing is written to `output`, unless
-/// writing the module fails. A failed write to `errors` is ignored. Cost: reading, the passes, what is counted, and
+/// writing the module fails: then a first part of it is. A failed write to `errors` is ignored. Cost: reading, the passes, what is counted, and
 /// printing.
 pub fn run_on<N: ModuleNotation, R: Read, W: Write, E: Write, C: Progress + Copy + Drop>(
     alloc: Global,

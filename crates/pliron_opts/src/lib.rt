@@ -8,6 +8,7 @@ ghost use Rattle.std.specs.Prelude.{map, IfOk, IfSome, string_bytes};
 ghost use Rattle.pliron_bench.specs.BenchMoves.{bench};
 ghost use Rattle.pliron_opts.specs.Answered.{Answers};
 ghost use Rattle.pliron_opts.specs.Asked.{AskFor};
+ghost use Rattle.pliron_opts.specs.Closed.{closed_reads, closed_prints};
 ghost use Rattle.pliron_opts.specs.Ending.{IsAnswer, Ends};
 ghost use Rattle.pliron_opts.specs.Ran.{RunsAlone};
 ghost use Rattle.pliron_opts.specs.Read.{ReadsBench, PrintsBench};
@@ -18,7 +19,7 @@ mod host;
 mod program;
 
 pub use driver::{
-    BenchNotation, Document, KindNotation, Notation, Observer, OptimisedText, PlainPasses,
+    BenchNotation, Closed, Document, KindNotation, Notation, Observer, OptimisedText, PlainPasses,
     StepFactory, TextFailure, Unobserved, build_pipeline, optimise, optimise_text, passes_of,
     read_pipeline, run_alone,
 };
@@ -37,7 +38,7 @@ pub use pliron_pipeline::{
     DCEPass, PassPipeline, PassStep, Pipeline, SCCPPass, SimplifyCFGPass, run_pipeline,
 };
 pub use pliron_sccp::{sccp, sccp_counted};
-pub use program::{MAX_TEXT, PipelineText, PlanError, WordFault};
+pub use program::{MAX_TEXT, PipelineText, PlanError, WordFault, write_bytes};
 use program::{Failure, read_input, write_answer};
 use std::alloc::Global;
 use std::io::{Read, Write};
@@ -115,7 +116,8 @@ pub fn run_optimiser<N: Notation, R: Read, W: Write, E: Write>(
 }
 
 /// Runs the program `plir_opt` on the words after its name and these streams, and answers its status: that
-/// of `run_optimiser` over the notation of the dialect `Bench`.
+/// of `run_optimiser` over the notation of the dialect `Bench`, closed to proofs: the text that is read is the input, and
+/// what is written is printed of the tree that the passes made.
 ///
 /// Cost: reading and printing, linear in the text, and that of the passes.
 pub fn plir_run<R: Read, W: Write, E: Write>(
@@ -125,9 +127,10 @@ pub fn plir_run<R: Read, W: Write, E: Write>(
     output: &mut W,
     errors: &mut E,
 ) -> u8
-    ensures { Ends (IsAnswer AskFor (Answers ReadsBench PrintsBench bench (RunsAlone ⟦<BenchFactKind as PartialEq>⟧.eq
-        ⟦<PassPipeline<Bench, BenchFacts> as Pass>⟧.outcome)) (map string_bytes args.now) (R.remaining input.old))
+    ensures { Ends (IsAnswer AskFor (Answers (closed_reads ReadsBench) (closed_prints PrintsBench) bench
+        (RunsAlone ⟦<BenchFactKind as PartialEq>⟧.eq ⟦<PassPipeline<Bench, BenchFacts> as Pass>⟧.outcome))
+        (map string_bytes args.now) (R.remaining input.old))
         (W.contents output.old) (W.contents output.new) result }
 {
-    run_optimiser::<BenchNotation, R, W, E>(alloc, "plir_opt", args, input, output, errors)
+    run_optimiser::<Closed<BenchNotation>, R, W, E>(alloc, "plir_opt", args, input, output, errors)
 }

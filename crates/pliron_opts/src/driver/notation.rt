@@ -4,14 +4,14 @@ ghost use Rattle.pliron_core.specs.Tree.{IsLive};
 ghost use Rattle.pliron_core.specs.Writes.{no_tree};
 ghost use Rattle.pliron_laws.specs.Linked.{IsWellLinked};
 ghost use Rattle.pliron_opts.specs.Answered.{Reads, Prints};
-ghost use Rattle.pliron_dialects.specs.Roles.{meaning_by, role_at};
+ghost use Rattle.pliron_roles.specs.Roles.{meaning_by, role_at, allows_at};
 ghost use Rattle.pliron_opts.specs.Read.{ReadsBench, ReadsKinds, PrintsBench, PrintsKinds};
 
 use pliron_bench::Bench;
 use pliron_core::{Context, Operation, Ptr};
-use pliron_dialects::{ByKinds, Kinds};
 use pliron_laws::{Dialect, OptError};
 use pliron_notation::{Word, print_text, read_text};
+use pliron_roles::{ByRoles, Roles};
 use pliron_table_text as texts;
 use std::alloc::Global;
 use std::marker::PhantomData;
@@ -161,14 +161,14 @@ impl Notation for BenchNotation {
 /// The notation of the dialect of these kinds, by their words.
 pub struct KindNotation<K>(PhantomData<K>);
 
-impl<K: Kinds + Word> Notation for KindNotation<K> {
-    type D = ByKinds<K>;
+impl<K: Roles + Word> Notation for KindNotation<K> {
+    type D = ByRoles<K>;
 
     type Sheet = ();
 
     type Fault = ();
 
-    ghost reads = { ReadsKinds (meaning_by (role_at K.tables)) };
+    ghost reads = { ReadsKinds (meaning_by K.tables.value (role_at K.tables) (allows_at K.tables)) };
 
     ghost prints = { PrintsKinds };
 

@@ -1,12 +1,10 @@
-use Rattle.pliron_buffers.specs.Optimises.{Explains}
-use Rattle.pliron_buffers.specs.Modules.{IsWord}
 use Rattle.pliron_buffers.proofs.FillLemmas.{if_err, passed_on, explains_list, explains_text}
 use Rattle.pliron_buffers.proofs.ModuleLemmas.{word_of, optimises_module}
 use Rattle.pliron_buffers.proofs.optimise_module.optimise_module.Goals as goal
 
 pub returns-in_err-pipeline-clause-failure : goal.returns-in_err-pipeline-clause-failure
 returns-in_err-pipeline-clause-failure g c =
-    passed_on (Explains (IsWord c.args.word.now)) c.from_residual.result c.in_err-pipeline.field-0.0 c.from_residual.ensures.1 (explains_list (IsWord c.args.word.now) _ c.in_err-pipeline.ensures.failure)
+    passed_on _ c.from_residual.result c.in_err-pipeline.field-0.0 c.from_residual.ensures.1 (explains_list _ _ c.in_err-pipeline.ensures.failure)
 
 pub returns-clause-answer : goal.returns-clause-answer
 returns-clause-answer g c =
@@ -15,4 +13,4 @@ returns-clause-answer g c =
 pub returns-clause-failure : goal.returns-clause-failure
 returns-clause-failure g c =
     if_err c.answer_of.result c.answer_of.ensures.failure
-    (λ failure other. explains_text failure (word_of _ c.args.word.now c.in_ok-pipeline.pipeline c.in_ok-pipeline.ensures.asked) other)
+    (λ failure other. explains_text failure (word_of _ _ c.args.word.now c.in_ok-pipeline.pipeline c.in_ok-pipeline.ensures.asked) other)
