@@ -8,3 +8,4 @@ pub mod DeadCode
 pub mod PassNames
 pub mod PassSteps
 pub mod Pipelines
+pub mod AccurateSteps

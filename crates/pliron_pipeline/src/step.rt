@@ -1,9 +1,9 @@
 //! One of the passes here.
 ghost use Rattle.std.specs.Prelude.{◌≡◌, false, IfSome, IfNone};
+ghost use Rattle.pliron_pipeline.specs.AccurateSteps.{optimisation_same};
 ghost use Rattle.pliron_pipeline.specs.Optimising.{RunsOptimisation};
 ghost use Rattle.pliron_pipeline.specs.PassNames.{IsNoPass};
 ghost use Rattle.pliron_pipeline.specs.PassSteps.{of_step, step_name};
-ghost use Rattle.pliron_pipeline.proofs.ReportLemmas.{optimisation_same};
 
 use crate::canonicalization::{Canonicalization, CanonicalizePass};
 use crate::common_subexpressions::{CSEPass, CommonSubexpressions};
