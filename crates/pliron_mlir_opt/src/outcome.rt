@@ -5,8 +5,8 @@ ghost use Rattle.pliron_mlir_opt.specs.Outcomes.{EndsWithout, Writes, EndsOptimi
 
 use crate::failure::{ModuleFailure, failure_message, failure_status};
 use crate::fitness::write_fitness;
+use crate::module_observer::{ModuleObserver, ModuleOptions};
 use crate::notation::ModuleNotation;
-use crate::optimise_module::{ModuleOptions, OptimisedModule, optimise};
 use crate::report::report_of;
 use crate::tally::write_tallies;
 use pliron_core::IRStatus;
@@ -15,7 +15,7 @@ use pliron_instrument::{
     has_fault, instrumented_pipeline, is_short,
 };
 use pliron_laws::OptError;
-use pliron_opts::{TextFailure, passes_of};
+use pliron_opts::{OptimisedText, TextFailure, optimise, passes_of};
 use pliron_pass::{BenchFactKind, Pass};
 use std::alloc::{AllocError, Global};
 
@@ -69,17 +69,18 @@ fn failure_outcome(
 fn write_made(
     report: &mut String,
     source: &Source,
-    made: &OptimisedModule,
+    status: IRStatus,
+    observer: &ModuleObserver,
 ) -> Result<(), AllocError> {
-    if let Some(counts) = &made.counts {
+    if let Some(counts) = &observer.counts {
         write_tallies(report, &counts.before, &counts.after)?;
         write_fitness(report, &counts.fitness, source.name, source.text)?;
     }
-    report.push_str(match made.status {
+    report.push_str(match status {
         IRStatus::Changed => "changed\n",
         IRStatus::Unchanged => "unchanged\n",
     })?;
-    match made.agrees {
+    match observer.agrees {
         Some(true) => report.push_str("checked: what is printed says the same tree\n"),
         Some(false) => report.push_str("error: what is printed says another tree\n"),
         None => Ok(()),
@@ -91,14 +92,15 @@ fn success_outcome(
     alloc: Global,
     source: &Source,
     report: String,
-    made: OptimisedModule,
+    made: OptimisedText,
+    observer: &ModuleObserver,
     has_fault: bool,
 ) -> Result<Outcome, AllocError>
     ensures { IfOk result (Writes made.printed.items) }
 {
     let mut report = report;
-    write_made(&mut report, source, &made)?;
-    if has_fault || made.agrees == Some(false) {
+    write_made(&mut report, source, made.status, observer)?;
+    if has_fault || observer.agrees == Some(false) {
         return Ok(Outcome {
             output: Vec::new(alloc),
             report,
@@ -124,7 +126,13 @@ fn run_pipeline<N: ModuleNotation, C: Progress + Copy + Drop>(
         (RunsAlone ⟦<BenchFactKind as PartialEq>⟧.eq ⟦<InstrumentedPipeline<N, C> as Pass>⟧.outcome
         pipeline.old) source.now.text.now) }
 {
-    let made = optimise::<N, C>(alloc, pipeline, source.text, options);
+    let mut observer = ModuleObserver::new(*options);
+    let made = optimise::<N, Instrumented<N, C>, ModuleObserver>(
+        alloc,
+        pipeline,
+        source.text,
+        &mut observer,
+    );
     let passes = passes_of(pipeline);
     let report = report_of(alloc, passes, options)?;
     match made {
@@ -136,7 +144,7 @@ fn run_pipeline<N: ModuleNotation, C: Progress + Copy + Drop>(
                 TextFailure::Refused(OptError::Memory),
             )
         }
-        Ok(made) => success_outcome(alloc, source, report, made, has_fault(passes)),
+        Ok(made) => { success_outcome(alloc, source, report, made, &observer, has_fault(passes)) }
         Err(failure) => failure_outcome(alloc, source, report, failure),
     }
 }

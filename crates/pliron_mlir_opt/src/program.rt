@@ -5,8 +5,8 @@ ghost use Rattle.pliron_mlir_opt.specs.Outcomes.{EndsWithout, EndsOptimised, End
 ghost use Rattle.pliron_mlir_opt.specs.Streams.{EndsOnStreams, IsOfInput, IsWritten};
 
 use crate::each_pass::print_after_each;
+use crate::module_observer::ModuleOptions;
 use crate::notation::ModuleNotation;
-use crate::optimise_module::ModuleOptions;
 use crate::outcome::{Outcome, Source, misspelling_outcome, run_passes, unusable_outcome};
 use crate::plans::read_plan;
 use pliron_instrument::{Instrumented, InstrumentedPipeline, PipelineText, PlanError, Progress};

@@ -1,5 +1,5 @@
 //! What is reported about the runs of passes: what verifying found after each, counts, and times.
-use crate::optimise_module::ModuleOptions;
+use crate::module_observer::ModuleOptions;
 use pliron_instrument::{ContentsCount, Instrumented, Progress, RoundRecord};
 use pliron_opts::Notation;
 use std::alloc::{AllocError, Global};

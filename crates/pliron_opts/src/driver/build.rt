@@ -20,16 +20,9 @@ pub trait StepFactory {
         ensures unknown { IfNone result (IsNoPass name.now) };
 }
 
-/// Makes the passes as they are.
+/// Makes the passes of a dialect as they are.
 #[derive(Drop)]
-pub struct PlainPasses<D>(PhantomData<D>);
-
-impl<D: Dialect> PlainPasses<D> {
-    /// The factory, which has no state. Cost: constant.
-    pub fn new() -> Self {
-        PlainPasses(PhantomData)
-    }
-}
+pub struct PlainPasses<D>(pub PhantomData<D>);
 
 impl<D: Dialect> StepFactory for PlainPasses<D> {
     type S = PassStep<D, BenchFacts>;

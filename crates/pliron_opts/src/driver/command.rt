@@ -8,6 +8,7 @@ use pliron_laws::Dialect;
 use pliron_pass::BenchFacts;
 use pliron_pipeline::PassPipeline;
 use std::alloc::{AllocError, Global};
+use std::marker::PhantomData;
 
 /// What the arguments ask for.
 #[derive(Drop)]
@@ -28,7 +29,7 @@ pub fn read_pipeline<D: Dialect>(
     ensures { IfOk result (λ found. IfSome found (λ pipeline. IsPlanned word.now pipeline)) }
 {
     match PipelineText::read_for_program(alloc, word)? {
-        Some(text) => build_pipeline(alloc, &text, &PlainPasses::<D>::new()),
+        Some(text) => build_pipeline(alloc, &text, &PlainPasses::<D>(PhantomData)),
         None => Ok(None),
     }
 }

@@ -6,45 +6,38 @@ use pliron_core::Context;
 use pliron_laws::OptError;
 use std::alloc::Global;
 
-/// What looks at a tree before and after passes. It can't change it.
+/// What looks at a tree before and after passes, which it can't change. An observer that looks at nothing writes nothing.
 pub trait Observer<N: Notation> {
     /// Looks at what was read of a text, before the passes. Asks that its operation is live. Errors: allocation failure.
+    /// Cost: constant, unless it looks.
     fn before(
         &mut self,
-        alloc: Global,
-        document: &Document<N::Sheet>,
-        ctx: &Context,
+        _: Global,
+        _document: &Document<N::Sheet>,
+        _ctx: &Context,
     ) -> Result<(), OptError>
-        requires { IsLive ctx.now.tree document.now.root };
+        requires { IsLive _ctx.now.tree _document.now.root }
+    {
+        Ok(())
+    }
 
     /// Looks at what the passes left, and at how that is printed. Asks that its operation is live. Errors: allocation
-    /// failure.
+    /// failure. Cost: constant, unless it looks.
     fn after(
         &mut self,
-        alloc: Global,
-        document: &Document<N::Sheet>,
-        printed: &[u8],
-        ctx: &Context,
+        _: Global,
+        _document: &Document<N::Sheet>,
+        _printed: &[u8],
+        _ctx: &Context,
     ) -> Result<(), OptError>
-        requires { IsLive ctx.now.tree document.now.root };
+        requires { IsLive _ctx.now.tree _document.now.root }
+    {
+        Ok(())
+    }
 }
 
 /// Looks at nothing.
 #[derive(Clone, Copy, Debug, Drop)]
 pub struct Unobserved;
 
-impl<N: Notation> Observer<N> for Unobserved {
-    fn before(&mut self, _: Global, _: &Document<N::Sheet>, _: &Context) -> Result<(), OptError> {
-        Ok(())
-    }
-
-    fn after(
-        &mut self,
-        _: Global,
-        _: &Document<N::Sheet>,
-        _: &[u8],
-        _: &Context,
-    ) -> Result<(), OptError> {
-        Ok(())
-    }
-}
+impl<N: Notation> Observer<N> for Unobserved {}

@@ -9,7 +9,7 @@ ghost use Rattle.pliron_pass.specs.Headline.{DoAsBefore};
 ghost use Rattle.pliron_opts.specs.Answered.{IsOptimised, status_line};
 ghost use Rattle.pliron_opts.specs.Ran.{RunsAlone};
 
-use super::notation::{Document, Notation, TextFailure};
+use super::notation::{Notation, TextFailure};
 use super::observer::{Observer, Unobserved};
 use pliron_core::{Context, IRStatus, Operation, Ptr};
 use pliron_laws::OptError;
@@ -82,34 +82,11 @@ fn optimise_in<N: Notation, S: Step<D = N::D>, O: Observer<N>>(
         (RunsAlone S.E.Kind.eq ⟦<Pipeline<S> as Pass>⟧.outcome pipeline.old) text.now
         (made.printed.items ++ status_line made.status)) }
 {
-    match N::read_document(alloc, text, ctx) {
-        Ok(document) => {
-            optimise_document::<N, S, O>(alloc, pipeline, text, &document, observer, ctx)
-        }
-        Err(failure) => Err(failure),
-    }
-}
-
-// The same of what was read from the text, of which only the contract speaks.
-fn optimise_document<N: Notation, S: Step<D = N::D>, O: Observer<N>>(
-    alloc: Global,
-    pipeline: &mut Pipeline<S>,
-    text: &[u8],
-    document: &Document<N::Sheet>,
-    observer: &mut O,
-    ctx: &mut Context,
-) -> Result<OptimisedText, TextFailure<N::Fault>>
-    requires live { IsLive ctx.old.tree document.now.root }
-    requires linked { IsWellLinked N.D.meaning ctx.old.tree document.now.root }
-    requires reads { N.reads text.now ctx.old.tree document.now.root }
-    ensures { IfOk result (λ made. IsOptimised N.reads N.prints N.D.meaning
-        (RunsAlone S.E.Kind.eq ⟦<Pipeline<S> as Pass>⟧.outcome pipeline.old) text.now
-        (made.printed.items ++ status_line made.status)) }
-{
-    observer.before(alloc, document, ctx)?;
+    let document = N::read_document(alloc, text, ctx)?;
+    observer.before(alloc, &document, ctx)?;
     let status = run_alone(alloc, pipeline, document.root, ctx)?;
-    let printed = N::print_document(alloc, document, ctx)?;
-    observer.after(alloc, document, &printed, ctx)?;
+    let printed = N::print_document(alloc, &document, ctx)?;
+    observer.after(alloc, &document, &printed, ctx)?;
     Ok(OptimisedText { printed, status })
 }
 

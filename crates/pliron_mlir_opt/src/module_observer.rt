@@ -1,32 +1,15 @@
-//! What passes make of a module.
-ghost use Rattle.std.specs.Prelude.{◌≡◌, ◌++◌, IfOk};
-ghost use Rattle.pliron_core.specs.Tree.{IsLive};
+//! What is seen of a module around passes.
+ghost use Rattle.std.specs.Prelude.{◌≡◌};
 ghost use Rattle.pliron_core.specs.Writes.{no_tree};
-ghost use Rattle.pliron_opts.specs.Answered.{IsOptimised, status_line};
-ghost use Rattle.pliron_opts.specs.Ran.{RunsAlone};
 
-use crate::failure::ModuleFailure;
 use crate::fitness::{Fitness, fitness_of};
 use crate::notation::{ModuleDocument, ModuleNotation};
 use crate::tally::Tally;
-use pliron_core::{Context, IRStatus};
-use pliron_instrument::{Instrumented, InstrumentedPipeline, Progress};
+use pliron_core::Context;
 use pliron_laws::OptError;
 use pliron_mlir_text::{ModuleView, is_same_module};
-use pliron_opts::{Observer, TextFailure, optimise as optimise_observed};
-use pliron_pass::{BenchFactKind, Pass};
+use pliron_opts::{Observer, TextFailure};
 use std::alloc::Global;
-
-/// What passes made of a module: it printed, and whether it changed.
-#[derive(Drop)]
-pub struct OptimisedModule {
-    pub printed: Vec<u8>,
-    pub status: IRStatus,
-    /// Whether what was printed says the same tree when it is read again, where that was asked for.
-    pub agrees: Option<bool>,
-    /// What was live before and after, where that is asked for.
-    pub counts: Option<Counts>,
-}
 
 /// Counts of live operations by class, before and after, and which functions are fit to run.
 #[derive(Drop)]
@@ -51,10 +34,23 @@ pub struct ModuleOptions {
 
 /// What is seen of a module around the passes, as far as the options ask for it.
 #[derive(Drop)]
-struct ModuleObserver {
+pub struct ModuleObserver {
     options: ModuleOptions,
-    counts: Option<Counts>,
-    agrees: Option<bool>,
+    /// What was live before and after.
+    pub counts: Option<Counts>,
+    /// Whether what was printed says the same tree when it is read again.
+    pub agrees: Option<bool>,
+}
+
+impl ModuleObserver {
+    /// The observer, by whom nothing was seen. Cost: constant.
+    pub fn new(options: ModuleOptions) -> Self {
+        ModuleObserver {
+            options,
+            counts: None,
+            agrees: None,
+        }
+    }
 }
 
 impl<N: ModuleNotation> Observer<N> for ModuleObserver {
@@ -90,49 +86,6 @@ impl<N: ModuleNotation> Observer<N> for ModuleObserver {
             counts.after = Tally::of(document.root, ctx);
         }
         Ok(())
-    }
-}
-
-/// What the passes make of the module that the text says, printed, and whether it changed.
-///
-/// For every notation, and each dialect that keeps its laws: the tree that is printed is what these passes, run once as
-/// a whole, made of a tree that was read from this text; every operation that was fit to run and is still live behaves
-/// as before; and `status` says truly whether it changed. Errors: the place where the text can't be used, and what was
-/// expected; those of the passes; allocation failure. Cost: reading, the passes, what is counted, and printing.
-pub fn optimise<N: ModuleNotation, C: Progress + Drop>(
-    alloc: Global,
-    pipeline: &mut InstrumentedPipeline<N, C>,
-    text: &[u8],
-    options: &ModuleOptions,
-) -> Result<OptimisedModule, ModuleFailure>
-    ensures { IfOk result (λ made. IsOptimised N.reads N.prints N.D.meaning
-        (RunsAlone ⟦<BenchFactKind as PartialEq>⟧.eq ⟦<InstrumentedPipeline<N, C> as Pass>⟧.outcome pipeline.old)
-        text.now (made.printed.items ++ status_line made.status)) }
-{
-    let mut observer = ModuleObserver {
-        options: *options,
-        counts: None,
-        agrees: None,
-    };
-    let made = optimise_observed::<N, Instrumented<N, C>, ModuleObserver>(
-        alloc,
-        pipeline,
-        text,
-        &mut observer,
-    );
-    let ModuleObserver {
-        options: _,
-        counts,
-        agrees,
-    } = observer;
-    match made {
-        Ok(made) => Ok(OptimisedModule {
-            printed: made.printed,
-            status: made.status,
-            agrees,
-            counts,
-        }),
-        Err(failure) => Err(failure),
     }
 }
 
