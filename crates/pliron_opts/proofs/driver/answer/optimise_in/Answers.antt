@@ -1,5 +1,5 @@
 use Rattle.std.proofs.Common.{◌≡◌, refl}
-use Rattle.pliron_opts.proofs.driver.optimise.optimise_in.Goals as goal
+use Rattle.pliron_opts.proofs.driver.answer.optimise_in.Goals as goal
 
 pub returns : goal.returns
 returns g c =

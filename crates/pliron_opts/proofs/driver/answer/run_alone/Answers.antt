@@ -1,6 +1,6 @@
 use Rattle.pliron_pass.specs.Stage.{stage}
 use Rattle.pliron_opts.proofs.RunLemmas.{manages, runs_alone, steps_managed, steps_truly}
-use Rattle.pliron_opts.proofs.driver.optimise.run_alone.Goals as goal
+use Rattle.pliron_opts.proofs.driver.answer.run_alone.Goals as goal
 
 pub returns-clause-ran : goal.returns-clause-ran
 returns-clause-ran g c =
