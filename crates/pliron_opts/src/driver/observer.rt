@@ -18,7 +18,6 @@ pub trait Observer<N: Notation> {
     ) -> Result<(), OptError>
         requires { IsLive ctx.now.tree document.now.root }
     {
-        let _ = (document, ctx);
         Ok(())
     }
 
@@ -33,7 +32,6 @@ pub trait Observer<N: Notation> {
     ) -> Result<(), OptError>
         requires { IsLive ctx.now.tree document.now.root }
     {
-        let _ = (document, printed, ctx);
         Ok(())
     }
 }
