@@ -112,7 +112,7 @@ fn draw_as_asked(
         nested: matches.get_flag("nested"),
         title: matches.get_str("title").unwrap_or(""),
     };
-    Ok(draw_flow(alloc, source, &options)?)
+    Ok(draw_flow::<BenchNotation>(alloc, source, &options)?)
 }
 
 // Explains what the passes did.
@@ -127,7 +127,7 @@ fn explain_as_asked(
         pipeline: pipeline.as_str(),
         missed: matches.get_flag("missed"),
     };
-    Ok(explain(alloc, source, &options)?)
+    Ok(explain::<BenchNotation>(alloc, source, &options)?)
 }
 
 // Explains what the passes did to an operation inside a function.

@@ -152,7 +152,7 @@ fn stages(
         reports_changes: matches.get_flag("print-changed"),
         is_coloured: is_coloured(rt, matches),
     };
-    match run_stages(alloc, text, &plan, &options) {
+    match run_stages::<BenchNotation>(alloc, text, &plan, &options) {
         Ok(staged) => Ok(staged),
         Err(_) => Err(io::Error::from(AllocError)),
     }

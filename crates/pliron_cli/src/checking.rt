@@ -8,13 +8,13 @@ ghost use Rattle.pliron_cli.specs.Outcomes.{Ends};
 use crate::failure::CommandFailure;
 use crate::one_by_one::{first_unfit, is_container};
 use crate::outcome::{Outcome, failure_outcome};
-use crate::shown::Shown;
 use crate::violation_message::violation_message;
 use pliron_core::{Context, Operation, Ptr};
 use pliron_diagnostics::Source;
 use pliron_fit::Violation;
 use pliron_laws::OptError;
 use pliron_opts::Notation;
+use pliron_show::Shown;
 use std::alloc::{AllocError, Global};
 
 /// What a check finds of a text.

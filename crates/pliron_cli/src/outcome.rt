@@ -4,9 +4,9 @@ ghost use Rattle.pliron_cli.specs.Outcomes.{EndsBadly, IsRefused};
 ghost use Rattle.pliron_cli.specs.Reports.{FaultsWord, TellsRefusal};
 
 use crate::failure::CommandFailure;
-use crate::shown::Shown;
 use pliron_diagnostics::Source;
 use pliron_laws::OptError;
+use pliron_show::Shown;
 use std::alloc::{AllocError, Global};
 
 /// What a command leaves to be written, and its status.

@@ -11,13 +11,13 @@ use crate::failure::CommandFailure;
 use crate::one_by_one::first_unfit;
 use crate::optimising::{OptOptions, opt, opt_after};
 use crate::outcome::{Outcome, failure_outcome};
-use crate::shown::Shown;
 use crate::violation_message::violation_message;
 use pliron_core::Context;
 use pliron_diagnostics::Source;
 use pliron_instrument::{Instrumented, InstrumentedPipeline, Progress};
 use pliron_laws::OptError;
 use pliron_pass::{BenchFactKind, Pass};
+use pliron_show::Shown;
 use std::alloc::{AllocError, Global};
 
 // The severity of a text that isn't fit to run; where each run is verified, it says that this was so before the first

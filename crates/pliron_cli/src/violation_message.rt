@@ -5,11 +5,11 @@ ghost use Rattle.pliron_diagnostics.specs.Messages.{BeginsWith, heading};
 ghost use Rattle.pliron_cli.specs.Reports.{TellsRefusal};
 
 use crate::live_use::LiveUse;
-use crate::shown::Shown;
 use pliron_core::{BasicBlock, Context, Def, Operation, Ptr, Region, Value};
 use pliron_diagnostics::{Source, SourceMark, TextPart, TextParts, mark_source_as};
 use pliron_fit::Violation;
 use pliron_laws::{Dialect, OptError};
+use pliron_show::Shown;
 use std::alloc::{AllocError, Global};
 
 /// Another place in the text, and what is said of it.

@@ -9,7 +9,7 @@ use crate::flow_picture::{FlowOptions, flow_picture};
 use crate::region_path::region_at;
 use pliron_core::{Context, Ptr, Region};
 use pliron_laws::{OptError, edges_last};
-use pliron_notation::read_text;
+use pliron_show::Shown;
 use std::alloc::Global;
 
 /// The result of drawing a text.
@@ -33,16 +33,16 @@ pub(crate) fn may_be_read(ctx: &Context, region: Ptr<Region>) -> bool
 }
 
 // The picture of the region that is asked for, in this empty context.
-fn flow_in(
+fn flow_in<N: Shown>(
     alloc: Global,
     text: &[u8],
     options: &FlowOptions,
     ctx: &mut Context,
 ) -> Result<Drawing, OptError>
     requires { ctx.old.tree ≡ no_tree }
-    ensures { IfOk result IsDrawing }
+    ensures { IfOk result (IsDrawing N.reads text.now) }
 {
-    let Some(root) = read_text(alloc, text, ctx)? else {
+    let Some(root) = N::read(alloc, text, ctx)? else {
         return Ok(Drawing::Unreadable);
     };
     let Some(region) = region_at(alloc, ctx, root, options.region)? else {
@@ -51,7 +51,7 @@ fn flow_in(
     if !may_be_read(ctx, region) {
         return Ok(Drawing::NoRegion);
     }
-    let picture = flow_picture(alloc, text, ctx, region, options)?;
+    let picture = flow_picture::<N>(alloc, text, ctx, region, options)?;
     Ok(Drawing::Drawn(picture))
 }
 
@@ -61,9 +61,13 @@ fn flow_in(
 /// by their heads alone, the regions inside in frames, and a title.
 ///
 /// Errors: allocation failure. Cost: reading, and that of `graph_rows`.
-pub fn text_flow(alloc: Global, text: &[u8], options: &FlowOptions) -> Result<Drawing, OptError>
-    ensures { IfOk result IsDrawing }
+pub fn text_flow<N: Shown>(
+    alloc: Global,
+    text: &[u8],
+    options: &FlowOptions,
+) -> Result<Drawing, OptError>
+    ensures { IfOk result (IsDrawing N.reads text.now) }
 {
     let mut ctx = Context::new(alloc);
-    flow_in(alloc, text, options, &mut ctx)
+    flow_in::<N>(alloc, text, options, &mut ctx)
 }
