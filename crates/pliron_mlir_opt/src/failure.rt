@@ -56,7 +56,7 @@ impl ModuleFailure {
             ModuleFailure::Text(at, expected) => {
                 let place = position_of(text, at);
                 let (line, column) = (place.line, place.column);
-                format!(in alloc; "{name}:{line}:{column}: expected {expected}\n")
+                format!(in alloc; "{name}:{line}:{column}: error: expected {expected}\n")
             }
             ModuleFailure::Refused(error) => format!(in alloc; "error: refused: {error}\n"),
         }
