@@ -113,7 +113,7 @@ impl Stages<'_> {
         Ok(self.report.push_str("\n")?)
     }
 
-    // Writes which run of which pass it is, and on which operation.
+    // Writes the number of the run, the pass and the operation.
     fn push_head(
         &mut self,
         when: &str,

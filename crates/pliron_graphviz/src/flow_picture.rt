@@ -120,7 +120,7 @@ fn way_of(branch: &[u8], index: usize) -> &'static str {
     }
 }
 
-// Adds which way an edge is and what it forwards, with a blank on both sides, which keeps it apart from the line.
+// Adds which way an edge is and what it forwards, with a blank on both sides to keep the words off the line.
 fn push_passed(label: &mut String, way: &str, names: &[u8]) -> Result<(), AllocError> {
     if names.is_empty() && way.is_empty() {
         return Ok(());

@@ -1,4 +1,4 @@
-//! A pass that is instrumented.
+//! Instrumented passes.
 ghost use Rattle.std.specs.Prelude.{◌≡◌, false};
 ghost use Rattle.pliron_core.specs.Tree.{IsLive};
 
@@ -24,7 +24,7 @@ pub struct Instrumentation {
     pub prints: bool,
 }
 
-/// One of the passes, which notes what is seen of its runs. It does to trees and caches what the pass does.
+/// A pass with records of its runs. It does to trees and caches what the pass does.
 #[derive(Drop)]
 pub struct Instrumented<N: Notation, C: Progress + Drop> {
     step: PassStep<N::D, BenchFacts>,
@@ -33,7 +33,7 @@ pub struct Instrumented<N: Notation, C: Progress + Drop> {
     records: InstrumentationRecord,
 }
 
-// What was inside the operation, what is there now, and what was rewritten, where it is known what was there.
+// What was inside the operation, what is there now, and what was rewritten, where a snapshot from before is at hand.
 fn compare_after(before: &Option<Snapshot>, op: Ptr<Operation>, ctx: &Context) -> Comparison
     requires { IsLive ctx.now.tree op }
 {

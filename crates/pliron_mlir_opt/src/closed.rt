@@ -15,10 +15,10 @@ use pliron_opts::Notation;
 use std::alloc::{AllocError, Global};
 use std::marker::PhantomData;
 
-/// The notation, closed to proofs: one that runs over it has what a text says only from reading that very text, and what
-/// is printed of a tree only from printing that tree.
+/// The notation, closed to proofs: a program over this notation knows what a text says only by reading that very text,
+/// and what is printed of a tree only by printing that tree.
 ///
-/// A notation of which it is open what its texts say would else allow any text in the place of the one that was given.
+/// Over an open notation a program could answer any text in the place of the one that was given.
 pub struct Closed<N>(PhantomData<N>);
 
 impl<N: Notation> Notation for Closed<N> {
@@ -52,8 +52,8 @@ impl<N: ModuleNotation> ModuleNotation for Closed<N> {
     }
 }
 
-/// The generic form of MLIR under [`AnyMeaning`], closed to proofs: the notation of the programs. It has a name of its own,
-/// since a clause on [`Closed`] at that notation is more than a check has steps for.
+/// The generic form of MLIR under [`AnyMeaning`], closed to proofs: the notation of the programs. It has a name of its
+/// own, since a clause on [`Closed`] at that notation is more than a check has steps for.
 pub struct ClosedForm;
 
 impl Notation for ClosedForm {

@@ -51,9 +51,9 @@ pub struct ModuleOptions {
 
 /// What the passes make of the module that the text says, printed, and whether it changed.
 ///
-/// For every notation, and each dialect that keeps its laws: the tree that is printed is what these passes, run once as
-/// a whole, made of a tree that was read from this text; every operation that was fit to run and is still live behaves
-/// as before; and `status` says truly whether it changed. Errors: the place where the text can't be used, and what was
+/// For every notation, and each dialect that keeps its laws: this text was read as a tree; these passes, run once as a
+/// whole, made the printed tree of it; every operation that was fit to run and is still live behaves as before; and
+/// `status` says truly whether the tree changed. Errors: the place where the text can't be used, and what was
 /// expected; those of the passes; allocation failure. Cost: reading, the passes, what is counted, and printing.
 pub fn optimise<N: ModuleNotation, C: Progress + Drop>(
     alloc: Global,

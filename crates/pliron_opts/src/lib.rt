@@ -81,9 +81,9 @@ fn answer_to_input<N: Notation, R: Read>(
 /// answers its status. `program` is its name in the line on how it is used.
 ///
 /// For every dialect that keeps its laws and every notation of it: an answer to a schedule of passes (a pass
-/// pipeline) is a tree printed, and a line on whether it changed: where that says that it didn't, the tree is the
-/// same. The tree is what these passes, run once as a whole, made of one that was read from the whole input, and
-/// every operation that was fit to run and is still live does as before.
+/// pipeline) is a tree printed, and a line on whether it changed; a tree that is called unchanged is the same. The
+/// whole input was read as a tree; these passes, run once as a whole, made the printed tree of it; and every
+/// operation that was fit to run and is still live does as before.
 ///
 /// Faults are found in this order: arguments, reading, text, passes and printing, writing. Nothing is written
 /// to `output` before the whole answer is known. Statuses: 0; 1 on allocation failure or where the passes gave

@@ -143,8 +143,8 @@ fn push_pre_sentinels(
     Ok(())
 }
 
-/// What the program prints of a graph, with the numbers of its nodes: its orders, its search numbers, the
-/// kinds of its edges, its components and the pre-sentinels of its reverse, a line each.
+/// What the program prints of a graph, with nodes by number: a line each for orders, search numbers, kinds of edges,
+/// components, and pre-sentinels of the reverse.
 ///
 /// Asks that each node is among the predecessors of exactly its successors. Errors: allocation failure. Cost:
 /// linear in the nodes and edges, but for sorting each component.
