@@ -15,7 +15,7 @@ use crate::shown::Shown;
 use crate::violation_message::violation_message;
 use pliron_core::Context;
 use pliron_diagnostics::Source;
-use pliron_instrument::{Instrumented, InstrumentedSchedule, Progress};
+use pliron_instrument::{Instrumented, InstrumentedPipeline, Progress};
 use pliron_laws::OptError;
 use pliron_pass::{BenchFactKind, Pass};
 use std::alloc::{AllocError, Global};
@@ -72,8 +72,8 @@ fn opt_if_fit<N: Shown, C: Progress + Copy + Drop>(
     clock: C,
 ) -> Result<Outcome, AllocError>
     ensures answer { IfOk result (λ outcome. EndsByWord ⟦<Instrumented<N, C> as Pass>⟧.name
-        (λ schedule. EndsOptimised N.reads N.prints N.faults N.D.meaning
-        (RunsAlone ⟦<BenchFactKind as PartialEq>⟧.eq ⟦<InstrumentedSchedule<N, C> as Pass>⟧.outcome schedule)
+        (λ pipeline. EndsOptimised N.reads N.prints N.faults N.D.meaning
+        (RunsAlone ⟦<BenchFactKind as PartialEq>⟧.eq ⟦<InstrumentedPipeline<N, C> as Pass>⟧.outcome pipeline)
         options.now.instrumentation.verifies source.now.text.now)
         (N.faults source.now.text.now) options.now.pipeline.now outcome
         ⊎ IsRejected N.reads N.D.meaning source.now.text.now outcome) }
@@ -106,8 +106,8 @@ pub fn opt_with_check<N: Shown, C: Progress + Copy + Drop>(
     clock: C,
 ) -> Result<Outcome, AllocError>
     ensures answer { IfOk result (λ outcome. EndsByWord ⟦<Instrumented<N, C> as Pass>⟧.name
-        (λ schedule. EndsOptimised N.reads N.prints N.faults N.D.meaning
-        (RunsAlone ⟦<BenchFactKind as PartialEq>⟧.eq ⟦<InstrumentedSchedule<N, C> as Pass>⟧.outcome schedule)
+        (λ pipeline. EndsOptimised N.reads N.prints N.faults N.D.meaning
+        (RunsAlone ⟦<BenchFactKind as PartialEq>⟧.eq ⟦<InstrumentedPipeline<N, C> as Pass>⟧.outcome pipeline)
         options.now.instrumentation.verifies source.now.text.now)
         (N.faults source.now.text.now) options.now.pipeline.now outcome
         ⊎ (IsTrue is_strict × IsRejected N.reads N.D.meaning source.now.text.now outcome)) }
