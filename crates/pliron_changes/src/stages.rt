@@ -119,7 +119,7 @@ impl<N: Shown> Stages<'_, N> {
         Ok(self.report.push_str("\n")?)
     }
 
-    // Writes which run of which pass it is, and on which operation.
+    // Writes the number of the run, the pass and the operation.
     fn push_head(
         &mut self,
         when: &str,

@@ -13,9 +13,8 @@ use pliron_opts::BenchNotation;
 use pliron_show::Shown;
 use std::alloc::{AllocError, Global};
 
-/// Draws the control flow of a region of the text's operation in the dot language: its blocks with their operations,
-/// its edges with the values that they forward, what the entry doesn't reach in grey, and, where asked for, a dotted
-/// edge from the immediate dominator of each block.
+/// Draws the control flow of a region of the text's operation in the dot language: blocks with their operations, edges
+/// with forwarded values, unreached blocks in grey, and, where asked for, a dotted edge from each immediate dominator.
 ///
 /// Statuses: 0; 1 on allocation failure; 2 for an unreadable text, and where no region has the path. With 1 and 2
 /// nothing is to be written to the output. Errors: allocation failure for what is reported. Cost: reading, and that of

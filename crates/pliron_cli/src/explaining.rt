@@ -90,9 +90,9 @@ pub struct ExplainOptions<'w> {
     pub missed: bool,
 }
 
-/// Explains what changed in a text: for each operation and argument that changed or was erased when the passes that the
-/// word asks for were run, where it is, and why; where the options ask for it, also for each operation that the passes
-/// left as it is though they change operations of its kind.
+/// Explains what the passes that the word asks for changed in a text: place and reason of each operation and argument
+/// that changed or was erased; where the options ask for missed operations, also of each that the passes left alone
+/// though they change operations of its kind.
 ///
 /// Statuses: 0; 1 where memory or the passes were refused; 2 for an unreadable text, or a word that asks for no passes.
 /// With 1 and 2 nothing is to be written to the output. Errors: allocation failure for what is reported. Cost: that of

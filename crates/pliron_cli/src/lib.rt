@@ -39,4 +39,4 @@ pub use pliron_instrument::{InstrumentationOptions, PipelineText, PlanError, Pro
 pub use pliron_opts::BenchNotation;
 pub use pliron_show::{Runnable, Shown};
 pub use running::{run, run_streamed};
-pub use strict::opt_with_check;
+pub use strict::{opt_with_check, unfit_warning};

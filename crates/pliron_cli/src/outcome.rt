@@ -50,7 +50,7 @@ pub(crate) fn refusing_outcome(alloc: Global, report: String) -> Outcome
     no_answer(alloc, report, 1)
 }
 
-// What is reported where something was refused for this reason, which ends its line. Errors: allocation failure.
+// The report of a refusal, a line that ends with this reason. Errors: allocation failure.
 fn refusal_report(alloc: Global, reason: &str) -> Result<String, AllocError>
     ensures { IfOk result (λ report. TellsRefusal (string_bytes report)) }
 {

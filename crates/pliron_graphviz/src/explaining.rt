@@ -162,8 +162,8 @@ impl<N: Shown> Explaining<'_, N> {
         Ok(status)
     }
 
-    // Runs the list on these operations as often as it says, and reports what changed, and whether the last run that it
-    // may make still changed something.
+    // Runs the list on these operations as often as it says. Reports what changed, and whether the last run allowed
+    // still changed something.
     fn list(
         &mut self,
         list: &PassList,
@@ -188,7 +188,7 @@ impl<N: Shown> Explaining<'_, N> {
     }
 }
 
-// The operations that a list is run on: the operation itself, or those directly inside it, which stay where they are.
+// The operations that a list is run on: the operation itself, or the operations directly inside it.
 fn subjects(
     alloc: Global,
     list: &PassList,
@@ -249,9 +249,9 @@ fn explain_in<N: Shown>(
     Ok(Some(lines))
 }
 
-/// What changed in a text: for each operation and argument that changed or was erased when these passes were run, a
-/// line with its place and the reason, and where the list asks for it the same for each operation that they left as it
-/// is though they change operations of its kind; `None` for an unreadable text.
+/// What these passes changed in a text: a line with place and reason for each operation and argument that changed or
+/// was erased; where the list asks for missed operations, also for each that the passes left alone though they change
+/// operations of its kind. `None` for an unreadable text.
 ///
 /// Each pass is made of its own calls, the tree before each call is compared with the tree after it, and the reason is
 /// what that call does. Errors: allocation failure, and those of the passes. Cost: reading, and for each pass its own

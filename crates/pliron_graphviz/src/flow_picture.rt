@@ -113,7 +113,7 @@ fn looks<'l>(
     Ok(looks)
 }
 
-// Adds which way an edge is and what it forwards, with a blank on both sides, which keeps it apart from the line.
+// Adds which way an edge is and what it forwards, with a blank on both sides to keep the words off the line.
 fn push_passed(label: &mut String, way: &str, names: &[u8]) -> Result<(), AllocError> {
     if names.is_empty() && way.is_empty() {
         return Ok(());

@@ -55,10 +55,10 @@ fn flow_in<N: Shown>(
     Ok(Drawing::Drawn(picture))
 }
 
-/// The picture of a region of a text's operation in the dot language: its blocks with their operations, its edges with
-/// the values that they forward, and true and false on those of a two-way branch, two lines around the entry, and what
-/// the entry doesn't reach in grey. Where asked for, a dotted edge from the immediate dominator of each block, blocks
-/// by their heads alone, the regions inside in frames, and a title.
+/// The picture of a region of a text's operation in the dot language. It has the blocks with their operations; the
+/// edges with forwarded values, and with true and false at a two-way branch; two lines around the entry; and unreached
+/// blocks in grey. Where asked for, also a dotted edge from each immediate dominator, blocks by their heads alone, the
+/// regions inside in frames, and a title.
 ///
 /// Errors: allocation failure. Cost: reading, and that of `graph_rows`.
 pub fn text_flow<N: Shown>(

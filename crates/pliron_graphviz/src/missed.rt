@@ -218,9 +218,9 @@ impl<N: Shown> MissedReport<'_, N> {
     }
 }
 
-/// Adds a line for each operation of the text inside the root that passes of the list left as it is though they change
-/// operations of its kind, with its place, and why; nothing where the root isn't live. Errors: allocation failure.
-/// Cost: linear in what is live.
+/// Adds a line with place and reason for each operation of the text inside the root that the list's passes left alone
+/// though they change operations of its kind; nothing where the root isn't live. Errors: allocation failure. Cost:
+/// linear in what is live.
 pub fn push_missed<N: Shown>(
     alloc: Global,
     reported: &MissedText,

@@ -9,7 +9,7 @@ use std::alloc::{AllocError, Global};
 use std::collections::{HashMap, HashSet};
 use std::marker::PhantomData;
 
-/// A rewrite of a tree, as a pass makes it: what it changes is explained by what it does.
+/// A rewrite of a tree by a pass: the kind of rewrite is the reason of each change.
 #[derive(Clone, Copy, Debug, Drop, PartialEq, Eq)]
 pub enum Rewrite {
     /// Results and arguments are replaced by constants.
@@ -22,9 +22,9 @@ pub enum Rewrite {
     Unreachable,
     /// Blocks are joined.
     Joining,
-    /// Operations that did what one before them did are erased.
+    /// Redundant operations are erased.
     Subexpressions,
-    /// Uses of results and arguments are replaced by uses of what these are.
+    /// Results and arguments are replaced by the values that they equal.
     Canonicalization,
 }
 
