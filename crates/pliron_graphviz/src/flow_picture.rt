@@ -231,7 +231,7 @@ impl<N: Shown> FlowPicture<'_, N> {
                 Some(op) => N::edge_way(op, ctx, i),
                 None => "",
             };
-            push_passed(&mut label, way, N::forwarded(words, i))?;
+            push_passed(&mut label, way, N::edge_names(words, i))?;
             let looks = looks(self.alloc, label.as_str(), look)?;
             let to = row.successors[i].key();
             self.dot.edge(row.node.key(), to, &looks)?;

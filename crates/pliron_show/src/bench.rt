@@ -58,7 +58,7 @@ impl Shown for BenchNotation {
         }
     }
 
-    fn forwarded<'t>(words: &'t [u8], index: usize) -> &'t [u8] {
+    fn edge_names<'t>(words: &'t [u8], index: usize) -> &'t [u8] {
         forwarded_names(words, index).unwrap_or(b"")
     }
 }

@@ -93,7 +93,7 @@ impl<K: Roles + Word> Shown for KindNotation<K> {
         }
     }
 
-    fn forwarded<'t>(words: &'t [u8], index: usize) -> &'t [u8] {
+    fn edge_names<'t>(words: &'t [u8], index: usize) -> &'t [u8] {
         forwarded_names(words, index).unwrap_or(b"")
     }
 }

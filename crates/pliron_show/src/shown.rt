@@ -50,7 +50,7 @@ pub trait Shown: Notation {
 
     /// The names of the values that the edge at this index forwards, as the words of its operation have them. Cost: linear
     /// in the words.
-    fn forwarded<'t>(words: &'t [u8], index: usize) -> &'t [u8];
+    fn edge_names<'t>(words: &'t [u8], index: usize) -> &'t [u8];
 }
 
 /// A notation whose operations are run for people, on numbers.
