@@ -11,7 +11,7 @@ pub enum Answer {
     Unreadable,
     /// A value of an unreachable block is used.
     Refused,
-    /// It ended with status 0, but didn't write a text and a line `changed` or `unchanged`.
+    /// It ended with status 0, and what it wrote isn't a line and one that says whether the tree changed.
     Formless,
     /// It ended with this status, otherwise than it should.
     Ended(u8),

@@ -50,7 +50,8 @@ pub enum Verdict {
     Found(AnswerFault),
 }
 
-// Whether the status is true. A single pass never makes again what it took away, so its changes show in the text.
+// Whether the status is true. A list of one pass never makes again what it took away, so that it changed
+// the tree is seen in the text.
 fn reports_truly(list: &str, is_same: bool, is_changed: bool) -> bool {
     let is_one_pass = !list.contains(',');
     if is_one_pass {
