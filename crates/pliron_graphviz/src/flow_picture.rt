@@ -228,8 +228,8 @@ impl<N: Shown> FlowPicture<'_, N> {
         for i in 0..row.successors.len() {
             let mut label = String::new(self.alloc);
             let way = match branch {
-                Some(op) => N::edge_way(op, ctx, i),
-                None => "",
+                Some(op) if op.is_live(ctx) => N::edge_way(op, ctx, i),
+                _ => "",
             };
             push_passed(&mut label, way, N::edge_names(words, i))?;
             let looks = looks(self.alloc, label.as_str(), look)?;
