@@ -113,7 +113,13 @@ static OWN_RESULT: PlainWords = PlainWords {
 
 // Whether the value is a result of the operation.
 fn is_result_of(ctx: &Context, op: Ptr<Operation>, value: Value) -> bool {
-    value.is_live(ctx) && matches!(value.def(ctx), Def::Result(maker, _) if maker == op)
+    if !value.is_live(ctx) {
+        return false;
+    }
+    match value.def(ctx) {
+        Def::Result(maker, _) => maker == op,
+        Def::Argument(_, _) => false,
+    }
 }
 
 // What is said of a use for which passes are refused.

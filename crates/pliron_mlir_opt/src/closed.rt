@@ -10,13 +10,14 @@ use pliron_mlir::{AnyMeaning, Mlir};
 use pliron_mlir_text::Sheet;
 use pliron_opts::{Closed, Notation};
 use std::alloc::Global;
+use std::marker::PhantomData;
 
 /// The generic form of MLIR under [`AnyMeaning`].
 type MlirForm = GenericForm<Mlir<AnyMeaning>>;
 
 /// The generic form of MLIR under [`AnyMeaning`], closed to proofs: the notation of the programs. It has a name of its
 /// own, since a clause on [`Closed`] at that notation is more than a check has steps for.
-pub struct ClosedForm;
+pub struct ClosedForm(PhantomData<Sheet>);
 
 impl Notation for ClosedForm {
     type D = Mlir<AnyMeaning>;

@@ -12,8 +12,9 @@ use std::marker::PhantomData;
 /// A module that was read, with the sheet of what its text says beside the tree.
 pub type ModuleDocument = Document<Sheet>;
 
-/// The generic form as a notation of a dialect of MLIR.
-pub struct GenericForm<D>(PhantomData<D>);
+/// The generic form as a notation of a dialect of MLIR. Its type names the sheet of its texts: what checks borrows looks for
+/// the types of a notation there.
+pub struct GenericForm<D>(PhantomData<(D, Sheet)>);
 
 impl<D: Dialect> Notation for GenericForm<D> {
     type D = D;
