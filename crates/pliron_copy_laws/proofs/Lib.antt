@@ -1,0 +1,13 @@
+pub mod Maps
+pub mod Holders
+pub mod Covered
+pub mod CopiedWays
+pub mod CopiedRecords
+pub mod CopiedFit
+pub mod TwinData
+pub mod CopiedPlaces
+pub mod CopiedRuns
+pub mod CopiedKeeps
+pub mod AddedKeeps
+pub mod MovedAgree
+pub mod MovedKeeps

@@ -1,0 +1,4 @@
+pub mod Copies
+pub mod CopyLaws
+pub mod Adding
+pub mod Moving

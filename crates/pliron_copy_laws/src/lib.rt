@@ -1,0 +1,26 @@
+//! The theory of copies of blocks: what loops and inlined calls share.
+//!
+//! As in the theory of runs, a call here does nothing when it runs: its contract is a law, for every meaning.
+//!
+//! It knows the theory of runs and the laws of dialects, and no graph, no dialect and no optimisation.
+#![tactic(auto)]
+ghost use Rattle.pliron_copy_laws.specs.Adding.{AddingLaw};
+ghost use Rattle.pliron_copy_laws.specs.CopyLaws.{CopiesLaw};
+ghost use Rattle.pliron_copy_laws.specs.Moving.{MovingLaw};
+
+/// Blocks may be copied, and edges to a block may lead to a copy of it, if each copy is entered at its header alone
+/// and nothing outside a copy uses a value of it.
+pub fn blocks_are_copied()
+    ensures { CopiesLaw }
+{}
+
+/// An argument may be added to a block that branches alone lead to, each of which forwards one more value that it may
+/// name.
+pub fn arguments_are_added()
+    ensures { AddingLaw }
+{}
+
+/// An edge to a block that only jumps may lead where that block jumps to, by an operation that acts alike at once.
+pub fn edges_are_moved()
+    ensures { MovingLaw }
+{}
