@@ -88,7 +88,7 @@ module _ (t u : Tree) (o : Originals) (w : IsTree t) (w' : IsTree u) (h : HasOri
         let k = from_map o.value vs (o.value v) j in
         let z = made_here k.0 k.1 in
         let there : up_from (defining_block t (definition_of t (o.value v))) (λ b. block_parent_of t b) ≡ Some (o.region region) =
-            ap (λ a. up_from (defining_block t (definition_of t a)) (λ b. block_parent_of t b)) (sym k.2) ∙ ap (λ a. up_from a (λ b. block_parent_of t b)) (ap (defining_block t) (def_forth t u o w w' h k.0 z.0 z.1) ∙ defining_forth t u o w w' h z.0 block z.2) ∙ (h.blocks block region in_region).parent in
+        ap (λ a. up_from (defining_block t (definition_of t a)) (λ b. block_parent_of t b)) (sym k.2) ∙ ap (λ a. up_from a (λ b. block_parent_of t b)) (ap (defining_block t) (def_forth t u o w w' h k.0 z.0 z.1) ∙ defining_forth t u o w w' h z.0 block z.2) ∙ (h.blocks block region in_region).parent in
         let same : o.region r ≡ o.region region = some_is (sym (home_before v user i r home) ∙ there) in
         let holders : o.operation g ≡ o.operation holder = some_is (sym held' ∙ ap (region_parent_of t) same ∙ held) in
         not_itself w.joined.rooted (subst (IsInside t (o.operation g)) (sym holders) (inside_forth t u o w w' h g holder deep))
@@ -109,9 +109,9 @@ module _ (t u : Tree) (o : Originals) (w : IsTree t) (w' : IsTree u) (h : HasOri
       before = p.before;
       way = p.way;
       claims = λ v user i home reach. ⊎_elim
-        (λ x. inl (twin_kept o.value vs ds env env' e e' b b' v (apart_around holder g p.region held p.held_before deep v user i home) x))
-        (λ x. inr x)
-        (p.claims v user i home reach);
+          (λ x. inl (twin_kept o.value vs ds env env' e e' b b' v (apart_around holder g p.region held p.held_before deep v user i home) x))
+          (λ x. inr x)
+          (p.claims v user i home reach);
     }
 
     -- what is in reach keeps its datum, or is bound
@@ -153,12 +153,12 @@ module _ (t u : Tree) (o : Originals) (w : IsTree t) (w' : IsTree u) (h : HasOri
     before = p.before;
     way = p.way;
     claims = λ v user i home reach. ⊎_elim
-      (λ j. inl (here_bound p.block p.region p.in_region (results_of u k) results ds env env' e e' b b' v user i home reach j))
-      (λ out. ⊎_elim
-      (λ x. inl (here_kept p.block p.region p.in_region (results_of u k) results ds env env' e e' b b' v user i home reach out x))
-      (λ x. inr (still v user i out (definition_of u v) refl x))
-      (p.claims v user i home reach))
-      (decide_in v (results_of u k));
+        (λ j. inl (here_bound p.block p.region p.in_region (results_of u k) results ds env env' e e' b b' v user i home reach j))
+        (λ out. ⊎_elim
+        (λ x. inl (here_kept p.block p.region p.in_region (results_of u k) results ds env env' e e' b b' v user i home reach out x))
+        (λ x. inr (still v user i out (definition_of u v) refl x))
+        (p.claims v user i home reach))
+        (decide_in v (results_of u k));
   }
     where
       results : (x : ℕ) → In x (results_of u k) → (d : Def) × IsMadeBy u x (Some d) × (defining_block u (Some d) ≡ Some p.block)
@@ -171,8 +171,8 @@ module _ (t u : Tree) (o : Originals) (w : IsTree t) (w' : IsTree u) (h : HasOri
         before = x.before;
         path = x.path;
         missed = ⊎_elim
-          (λ z. x.missed (inl (not_there a k p.done (λ s. out (subst (λ y. In v (results_of u y)) s (in_slice (results_of u a) j v (subst (IsMadeBy u v) q (w'.joined.operands user v i))))) z)))
-          (λ z. x.missed (inr z));
+            (λ z. x.missed (inl (not_there a k p.done (λ s. out (subst (λ y. In v (results_of u y)) s (in_slice (results_of u a) j v (subst (IsMadeBy u v) q (w'.joined.operands user v i))))) z)))
+            (λ z. x.missed (inr z));
       }
 
   -- a region is entered
@@ -193,9 +193,9 @@ module _ (t u : Tree) (o : Originals) (w : IsTree t) (w' : IsTree u) (h : HasOri
         before = [];
         way = refl;
         claims = λ v user j home reach. ⊎_elim
-          (λ x. inl (here_bound a r in_region (arguments_of u a) (argument_here a) ds env env' e e' b b' v user j home reach x))
-          (λ out. inr (record { before = []; path = refl; missed = begins v user j out (definition_of u v) refl }))
-          (decide_in v (arguments_of u a));
+            (λ x. inl (here_bound a r in_region (arguments_of u a) (argument_here a) ds env env' e e' b b' v user j home reach x))
+            (λ out. inr (record { before = []; path = refl; missed = begins v user j out (definition_of u v) refl }))
+            (decide_in v (arguments_of u a));
       }
     where
       in_region : block_parent_of u a ≡ Some r
@@ -227,15 +227,15 @@ module _ (t u : Tree) (o : Originals) (w : IsTree t) (w' : IsTree u) (h : HasOri
       before = p.block ∷ p.before;
       way = (leads, p.way);
       claims = λ v user i home reach. ⊎_elim
-        (λ j. inl (here_bound d p.region in_region (arguments_of u d) (argument_here d) ds env env' e e' b b' v user i home reach j))
-        (λ out. ⊎_elim
-        (λ near. ⊎_elim
-        (λ x. inl (here_kept d p.region in_region (arguments_of u d) (argument_here d) ds env env' e e' b b' v user i home reach out x))
-        (λ x. inr (still v user i out (definition_of u v) refl x))
-        (p.claims v user i home near))
-        (λ far. inr (begins v user i out far (definition_of u v) refl))
-        (near_or_far v home reach))
-        (decide_in v (arguments_of u d));
+          (λ j. inl (here_bound d p.region in_region (arguments_of u d) (argument_here d) ds env env' e e' b b' v user i home reach j))
+          (λ out. ⊎_elim
+          (λ near. ⊎_elim
+          (λ x. inl (here_kept d p.region in_region (arguments_of u d) (argument_here d) ds env env' e e' b b' v user i home reach out x))
+          (λ x. inr (still v user i out (definition_of u v) refl x))
+          (p.claims v user i home near))
+          (λ far. inr (begins v user i out far (definition_of u v) refl))
+          (near_or_far v home reach))
+          (decide_in v (arguments_of u d));
     }
       where
         inside : IsInside u root k

@@ -87,9 +87,9 @@ module _ (m : Meaning) (t u : Tree) (o : Originals) (w : IsTree t) (w' : IsTree 
       let results : length y.results ≡ length x.results = ap length s.results ∙ length-map x.results o.value in
       let successors : length y.successors ≡ length x.successors = ap length s.successors ∙ length-map x.successors o.block in
       let entries : map (λ r. count_arguments (entry_block t r)) y.regions ≡ map (λ r. count_arguments (entry_block u r)) x.regions =
-          ap (map (λ r. count_arguments (entry_block t r))) s.regions ∙ map_map (λ r. count_arguments (entry_block t r)) (λ r. count_arguments (entry_block u r)) o.region x.regions (λ r i. let j = slice_in x.regions r i in count_original _ _ (entry_original k j.0 r x e j.1)) in
+      ap (map (λ r. count_arguments (entry_block t r))) s.regions ∙ map_map (λ r. count_arguments (entry_block t r)) (λ r. count_arguments (entry_block u r)) o.region x.regions (λ r i. let j = slice_in x.regions r i in count_original _ _ (entry_original k j.0 r x e j.1)) in
       let targets : map (λ b. count_arguments (block_at t b)) y.successors ≡ map (λ b. count_arguments (block_at u b)) x.successors =
-          ap (map (λ b. count_arguments (block_at t b))) s.successors ∙ map_map (λ b. count_arguments (block_at t b)) (λ b. count_arguments (block_at u b)) o.block x.successors (λ b i. let j = slice_in x.successors b i in count_original _ _ (target_original k j.0 b x e j.1)) in
+      ap (map (λ b. count_arguments (block_at t b))) s.successors ∙ map_map (λ b. count_arguments (block_at t b)) (λ b. count_arguments (block_at u b)) o.block x.successors (λ b i. let j = slice_in x.successors b i in count_original _ _ (target_original k j.0 b x e j.1)) in
       let branches : unless (m.is_branch y.head) (map (λ b. count_arguments (block_at t b)) y.successors) ≡ unless (m.is_branch x.head) (map (λ b. count_arguments (block_at u b)) x.successors) = ap₂ (λ z l. unless (m.is_branch z) l) s.head targets in
       built s.head operands results successors entries branches
     where

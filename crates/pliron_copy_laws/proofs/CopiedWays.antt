@@ -91,10 +91,13 @@ module _ (u : Tree) (o : Originals) (copy header : ℕ → ℕ) (root : ℕ) (c 
   pub misses_copy : (n b : ℕ) (before : List ℕ) → Path u entry b before → n ≢ 0 → copy b ≡ n → b ≡ header n → (part : List ℕ) × Path u entry b part × ((z : ℕ) → In z part → copy z ≢ n)
   misses_copy n b before p ne e s =
       let f = comes_to_copy u (λ x. x) entry b b before p (inl refl) in
-      let same = f.is_copy in
-      (f.part, subst (λ x. Path u entry x f.part) same f.path, λ z i q.
-      let k = way_to u entry f.block z f.part f.path i in
-      f.none_before (header n) (k.2 (header n) (by_header n z k.0 k.1 ne q)) (sym s))
+      let same = f.is_copy in (
+        f.part,
+        subst (λ x. Path u entry x f.part) same f.path,
+        λ z i q.
+            let k = way_to u entry f.block z f.part f.path i in
+            f.none_before (header n) (k.2 (header n) (by_header n z k.0 k.1 ne q)) (sym s),
+      )
 
   module _ (t : Tree) (w : IsTree t) (w' : IsTree u) (h : HasOriginals t u o) where
     -- a path to a block in the region of b, and in its copy if b is in one, has its like before, which passes the original of b
@@ -115,16 +118,16 @@ module _ (u : Tree) (o : Originals) (copy header : ℕ → ℕ) (root : ℕ) (c 
           blocks = map o.block before;
           path = path_forth t u o w w' h entry d before p;
           passes = λ i.
-            let k = from_map o.block before (o.block b) i in
-            subst (λ z. In z before) (sym (c.apart b k.0 region rb (here k.0 k.1) (sym k.2) (inr e))) k.1;
+              let k = from_map o.block before (o.block b) i in
+              subst (λ z. In z before) (sym (c.apart b k.0 region rb (here k.0 k.1) (sym k.2) (inr e))) k.1;
         }
 
         copied : copy b ≢ 0 → HasLike b d before
         copied ne = record {
           blocks = map o.block e.later ++ map o.block f.part;
           path = way_append t (o.block entry) (o.block (header (copy b))) (o.block d) (map o.block f.part) (map o.block e.later)
-            (subst (λ x. Path t (o.block entry) x (map o.block f.part)) f.is_copy (path_forth t u o w w' h entry f.block f.part f.path))
-            (path_forth t u o w w' h (header (copy b)) d e.later e.in_copy);
+              (subst (λ x. Path t (o.block entry) x (map o.block f.part)) f.is_copy (path_forth t u o w w' h entry f.block f.part f.path))
+              (path_forth t u o w w' h (header (copy b)) d e.later e.in_copy);
           passes = λ i. ⊎_elim later first (In-cases (o.block b) (map o.block e.later) (map o.block f.part) i);
         }
           where

@@ -11,3 +11,4 @@ pub mod CopiedKeeps
 pub mod AddedKeeps
 pub mod MovedAgree
 pub mod MovedKeeps
+pub mod BlocksMade

@@ -111,7 +111,7 @@ module _ (m : Meaning) (t u : Tree) (a op e jump : ℕ) (front : List ℕ) (w : 
       straight r l = record { blocks = c ∷ r.blocks; path = (l, r.path); same = λ z i. kept r z i }
 
       past : CameBefore entry c before → Leads t c e → Leads t e b → CameBefore entry b (c ∷ before)
-      past r l l' = record { blocks = e ∷ c ∷ r.blocks; path = (l', l, r.path); same = λ z i. ⊎_elim (λ q. inr q) (λ j. kept r z j) i }
+      past r l l' = record { blocks = e ∷ c ∷ r.blocks; path = (l', (l, r.path)); same = λ z i. ⊎_elim (λ q. inr q) (λ j. kept r z j) i }
 
   -- nothing is defined in e
   passed_forth : (v user : ℕ) → In v (operands_of t user) → (d : Option Def) → definition_of t v ≡ d → (b : ℕ) (before blocks done : List ℕ) → ((z : ℕ) → In z blocks → In z before ⊎ (z ≡ e)) → HasPassed t d blocks b done → HasPassed u d before b done
@@ -146,8 +146,8 @@ module _ (m : Meaning) (t u : Tree) (a op e jump : ℕ) (front : List ℕ) (w : 
     in_region = h.block_parents d.block ∙ d.in_region;
     defined = subst (λ x. up_from (defining_block u x) (λ b. block_parent_of u b) ≡ Some d.region) (sym (definition_same user v i)) (home_forth d.region (definition_of t v) d.defined);
     passes = λ entry before done rest fe pe be.
-      let c = came_before entry d.block before pe in
-      subst (λ x. HasPassed u x before d.block done) (sym (definition_same user v i)) (passed_forth v user i (definition_of t v) refl d.block before c.blocks done c.same (d.passes entry c.blocks done rest (ap (λ xs. first_of xs None) (sym (h.layouts d.region)) ∙ fe) c.path (sym (h.bodies d.block) ∙ be)));
+        let c = came_before entry d.block before pe in
+        subst (λ x. HasPassed u x before d.block done) (sym (definition_same user v i)) (passed_forth v user i (definition_of t v) refl d.block before c.blocks done c.same (d.passes entry c.blocks done rest (ap (λ xs. first_of xs None) (sym (h.layouts d.region)) ∙ fe) c.path (sym (h.bodies d.block) ∙ be)));
   }
 
   module _ (root : ℕ) (f : IsFit m t root) (other : root ≢ op) (more : MayNameMore t u root op) (fits : IsInside t root op → FitsInPlace m u op) where

@@ -2,3 +2,4 @@ pub mod Copies
 pub mod CopyLaws
 pub mod Adding
 pub mod Moving
+pub mod Making

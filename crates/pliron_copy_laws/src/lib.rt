@@ -4,8 +4,10 @@
 //!
 //! It knows the theory of runs and the laws of dialects, and no graph, no dialect and no optimisation.
 #![tactic(auto)]
+
 ghost use Rattle.pliron_copy_laws.specs.Adding.{AddingLaw};
 ghost use Rattle.pliron_copy_laws.specs.CopyLaws.{CopiesLaw};
+ghost use Rattle.pliron_copy_laws.specs.Making.{MakingBlocks};
 ghost use Rattle.pliron_copy_laws.specs.Moving.{MovingLaw};
 
 /// Blocks may be copied, and edges to a block may lead to a copy of it, if each copy is entered at its header alone
@@ -23,4 +25,9 @@ pub fn arguments_are_added()
 /// An edge to a block that only jumps may lead where that block jumps to, by an operation that acts alike at once.
 pub fn edges_are_moved()
     ensures { MovingLaw }
+{}
+
+/// Blocks may be made that nothing leads to, with what is in them, where that is well defined.
+pub fn blocks_are_made()
+    ensures { MakingBlocks }
 {}
