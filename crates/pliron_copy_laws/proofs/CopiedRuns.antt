@@ -3,32 +3,30 @@ use Rattle.std.proofs.Common.{◌≡◌, ◌⊎◌, inl, inr, ⊎_elim, ℕ, Lis
 use Rattle.std.proofs.lemmas.Bool.{cases_eq}
 use Rattle.pliron_core.specs.declared.context.Def.{Def}
 use Rattle.pliron_core.specs.Changes.{IsDefinedInside}
-use Rattle.pliron_core.specs.Tree.{Tree, In, IsLive, IsInside, IsInside.Directly, IsWithin, IsMadeBy, head_of, first_of, operands_of, successors_of, results_of, regions_of, parent_of, body_of, arguments_of, block_parent_of, layout_of, region_parent_of, parent_operation_of, definition_of, up_from}
+use Rattle.pliron_core.specs.Tree.{Tree, In, IsLive, IsInside, IsInside.Directly, IsWithin, IsMadeBy, IsRegion, head_of, first_of, operands_of, successors_of, results_of, regions_of, parent_of, body_of, arguments_of, block_parent_of, layout_of, region_parent_of, block_parent_operation_of, parent_operation_of, definition_of, up_from}
 use Rattle.pliron_core.specs.Invariant.{IsTree}
-use Rattle.pliron_core.proofs.HoldingLemmas.{some_is, some_of, not_none, in_slice, inside_up, deeper, inside_by, within_inside, not_itself}
+use Rattle.pliron_core.proofs.HoldingLemmas.{some_is, some_of, not_none, in_slice, inside_up, holder_by, block_held, deeper, within_inside, not_itself}
 use Rattle.pliron_core.proofs.NeighbourLemmas.{first_of-In}
 use Rattle.pliron_laws.specs.Datum.{Datum, Empty, Meaning, Move, Give, Visit, Goto, Leave, Emit, Trap}
 use Rattle.pliron_laws.specs.Tree.{Operation, Block, op_at, block_at, entry_block, shape_of}
 use Rattle.pliron_laws.specs.Machine.{Environment, Waiting, State, Next, Continues, Over, Ended, Trapped, Reached, trap, bind, data_of, input_of, at_rest, leave, after_giving, begin, enter, entry_in, block_in, go_to, emit, perform, move, turn, step_at, step, start}
 use Rattle.pliron_laws.specs.Agree.{Agree}
 use Rattle.pliron_laws.specs.Paths.{Path}
-use Rattle.pliron_laws.specs.Root.{defining_block, HasPassed, WellDefined}
+use Rattle.pliron_laws.specs.Root.{defining_block, HasPassed, IsDominated}
 use Rattle.pliron_theory.specs.Keeps.{IsFit}
-use Rattle.pliron_theory.proofs.Simulation.{Pace, KeepPace, agree_by, agree_sym}
+use Rattle.pliron_theory.proofs.Simulation.{Pace, KeepPace, agree_by}
 use Rattle.pliron_theory.proofs.Lockstep.{NextAlike, paced}
 use Rattle.pliron_theory.proofs.Bound.{HasAnswer, has_some, home_of, made_within, Missed}
 use Rattle.pliron_laws.proofs.Records.{op_shows, block_shows, entry_shows, operation_of, make_op}
 use Rattle.pliron_copy_laws.specs.Copies.{Originals, HasOriginals, IsUsedBeside, AreClosedCopies}
+use Rattle.pliron_copy_laws.proofs.Maps.{head_same, tail_same, not_empty}
 use Rattle.pliron_copy_laws.proofs.Covered.{live_in, region_forth}
 use Rattle.pliron_copy_laws.proofs.CopiedRecords.{ShowsOriginal, IsOriginalBlock, original_op, shows_original, shape_original, entries_original, targets_original}
-use Rattle.pliron_copy_laws.proofs.CopiedFit.{Places, places, passes, own_values, copied_fit}
+use Rattle.pliron_copy_laws.proofs.Holders.{one_around}
 use Rattle.pliron_copy_laws.proofs.TwinData.{IsTwin, BindAlike, bind_alike, data_twin}
 use Rattle.pliron_copy_laws.proofs.CopiedPlaces.{IsInReach, IsTwinPlace, at_parent, at_holder, at_inside, around_kept, result_here, argument_here, target_region, after_give, after_visit, after_goto}
 
-module _ (m : Meaning) (t u : Tree) (o : Originals) (w : IsTree t) (w' : IsTree u) (h : HasOriginals t u o) (copy header : ℕ → ℕ) (root : ℕ) (c : AreClosedCopies u o copy header root) (f : IsFit m t root) (own : o.operation root ≡ root) (live : IsLive u root) where
-  well : WellDefined m u root
-  well = (copied_fit m t u o w w' h copy header root c f own live).defined
-
+module _ (m : Meaning) (t u : Tree) (o : Originals) (w : IsTree t) (w' : IsTree u) (h : HasOriginals t u o) (copy header : ℕ → ℕ) (root : ℕ) (c : AreClosedCopies u o copy header root) (fit : IsFit m u root) (own : o.operation root ≡ root) where
   abbrev Placed : Environment → Environment → ℕ → List ℕ → Type 0
   Placed env env' g rest = IsTwinPlace t u o w w' h copy header root c env env' g rest
 
@@ -91,10 +89,7 @@ module _ (m : Meaning) (t u : Tree) (o : Originals) (w : IsTree t) (w' : IsTree 
 
   -- an operation around the one that moves heads a place of the stack, or the root is within it
   find : (env env' : Environment) (k around : ℕ) → IsWithin u around k → (rest : List ℕ) (g : Option ℕ) (xs ys : List Waiting) → TwinAt env env' g (k ∷ rest) → Under env env' g xs ys → ((j : ℕ) × (others : List ℕ) × Placed env env' j (around ∷ others)) ⊎ IsWithin u around root
-  find env env' k around i rest None xs ys p b = let q : k ≡ root = head_is k root rest p in inr (subst (IsWithin u around) q i)
-    where
-      head_is : (a b : ℕ) (l : List ℕ) → a ∷ l ≡ b ∷ [] → a ≡ b
-      head_is a b l q = cc
+  find env env' k around i rest None xs ys p b = inr (subst (IsWithin u around) (head_same k root rest [] p) i)
   find env env' k around (inl e) rest (Some g) xs ys p b = inl (g, rest, subst (λ z. Placed env env' g (z ∷ rest)) e p)
   find env env' k around (inr i) rest (Some g) [] ys p b = absurd b
   find env env' k around (inr i) rest (Some g) (x ∷ xs) [] p b = absurd b
@@ -104,52 +99,68 @@ module _ (m : Meaning) (t u : Tree) (o : Originals) (w : IsTree t) (w' : IsTree 
       find env env' g around (subst (IsWithin u around) s q.2) b.0 b.1 xs ys (subst (TwinAt env env' b.1) b.2 b.5) b.6
 
   used_at : (env env' : Environment) (g k v : ℕ) (rest : List ℕ) (xs ys : List Waiting) → Placed env env' g (k ∷ rest) → Under env env' (Some g) xs ys → In v (operands_of u k) → IsTwin o.value env env' v
-  used_at env env' g k v rest xs ys p b i = ⊎_elim (λ z. found z.0 z.1 z.2) (λ z. absurd (not_around z)) (find env env' k x.around x.holds rest (Some g) xs ys p b)
+  used_at env env' g k v rest xs ys p b i = ⊎_elim (λ z. found z.0 z.1 z.2) (λ z. absurd (not_around z)) (find env env' k d.around d.holds rest (Some g) xs ys p b)
     where
       inside : IsInside u root k
       inside = at_inside t u o w w' h copy header root c env env' g k rest p
 
       made : IsDefinedInside u root v
-      made = own_values m t u o w w' h copy header root c f own k v inside i
+      made = fit.defined.own_values k v inside i
+
+      d : IsDominated u k v
+      d = fit.defined.dominated k v i made
 
       x : IsUsedBeside u copy k v
       x = c.used k v i (inl inside)
 
-      q : Places m t u o w w' h copy header root c f own k v x
-      q = places m t u o w w' h copy header root c f own k v i x
+      held : (r q : ℕ) × (block_parent_of u d.block ≡ Some r) × IsRegion u r × (region_parent_of u r ≡ Some q) × (block_parent_operation_of u d.block ≡ Some q) × IsLive u q
+      held = block_held u d.block w'.joined (subst IsSome (sym d.in_region) refl)
 
-      found : (j : ℕ) (others : List ℕ) → Placed env env' j (x.around ∷ others) → IsTwin o.value env env' v
+      up : parent_operation_of u d.around ≡ Some held.1
+      up = holder_by u d.around d.block held.1 d.in_block held.5
+
+      -- the block that defines the value is beside the user's
+      beside : block_parent_of u x.block ≡ block_parent_of u d.block
+      beside = x.beside ∙ ap (λ z. up_from z (λ b. block_parent_of u b)) (sym x.defined) ∙ d.defined ∙ sym d.in_region
+
+      same_around : x.around ≡ d.around
+      same_around = one_around u w'.joined.rooted x.around d.around held.1 k (holder_by u x.around x.block held.1 x.in_block (ap (λ z. up_from z (λ r. region_parent_of u r)) beside ∙ held.5)) up x.holds d.holds
+
+      same_spot : x.block ≡ d.block
+      same_spot = some_is (sym x.in_block ∙ ap (parent_of u) same_around ∙ d.in_block)
+
+      found : (j : ℕ) (others : List ℕ) → Placed env env' j (d.around ∷ others) → IsTwin o.value env env' v
       found j others y = ⊎_elim (λ z. z) (λ z. absurd (z.missed (passed z))) (y.claims v k i home reach)
         where
-          same_block : y.block ≡ x.block
-          same_block = some_is (sym (at_parent t u o w w' h copy header root c env env' j x.around others y) ∙ x.in_block)
+          same_block : y.block ≡ d.block
+          same_block = some_is (sym (at_parent t u o w w' h copy header root c env env' j d.around others y) ∙ d.in_block)
 
-          same_region : y.region ≡ q.region
-          same_region = some_is (sym y.in_region ∙ ap (block_parent_of u) same_block ∙ q.used_in)
+          same_region : y.region ≡ d.region
+          same_region = some_is (sym y.in_region ∙ ap (block_parent_of u) same_block ∙ d.in_region)
 
           home : home_of u v ≡ Some y.region
-          home = ap (λ z. up_from z (λ d. block_parent_of u d)) x.defined ∙ q.defined_in ∙ ap Some (sym same_region)
+          home = d.defined ∙ ap Some (sym same_region)
 
           reach : IsInReach t u o w w' h copy header root c y.block v
-          reach d e = ⊎_elim
+          reach a e = ⊎_elim
               (λ z. inl (ap copy (some_is (sym e ∙ x.defined)) ∙ z))
-              (λ n. inr (ap copy (some_is (sym e ∙ x.defined)) ∙ sym (x.same_copy n) ∙ ap copy (sym same_block)))
+              (λ n. inr (ap copy (some_is (sym e ∙ x.defined)) ∙ sym (x.same_copy n) ∙ ap copy (same_spot ∙ sym same_block)))
               (cases_eq (copy x.definer) 0)
 
           passed : (z : Missed u y.entry y.block y.done (definition_of u v)) → HasPassed u (definition_of u v) z.before y.block y.done
           passed z = subst (λ a. HasPassed u (definition_of u v) z.before a y.done) (sym same_block)
-              (passes m t u o w w' h copy header root c f own k v i made x q y.entry z.before y.done others (ap (λ r. first_of (layout_of u r) None) (sym same_region) ∙ y.entry_first) (subst (λ a. Path u y.entry a z.before) same_block z.path) (ap (body_of u) (sym same_block) ∙ y.split))
+              (d.passes y.entry z.before y.done others (ap (λ r. first_of (layout_of u r) None) (sym same_region) ∙ y.entry_first) (subst (λ a. Path u y.entry a z.before) same_block z.path) (ap (body_of u) (sym same_block) ∙ y.split))
 
-      not_around : IsWithin u x.around root → ⊥
+      not_around : IsWithin u d.around root → ⊥
       not_around j = not_itself w'.joined.rooted (turn within)
         where
-          within : IsWithin u root q.holder
-          within = made_within u root q.region q.holder (definition_of u v) (ap (λ z. up_from z (λ r. region_parent_of u r)) (sym q.defined_in) ∙ q.held) (ap (λ z. up_from z (λ d. block_parent_of u d)) x.defined ∙ q.defined_in) made
+          within : IsWithin u root held.1
+          within = made_within u root d.region held.1 (definition_of u v) (ap (λ z. up_from z (λ r. region_parent_of u r)) (sym d.in_region) ∙ held.5) d.defined made
 
-          below : IsInside u q.holder root
-          below = within_inside (Directly q.around_held) j
+          below : IsInside u held.1 root
+          below = within_inside (Directly up) j
 
-          turn : IsWithin u root q.holder → IsInside u root root
+          turn : IsWithin u root held.1 → IsInside u root root
           turn (inl s) = subst (λ z. IsInside u z root) s below
           turn (inr z) = deeper z below
 
@@ -258,7 +269,7 @@ module _ (m : Meaning) (t u : Tree) (o : Originals) (w : IsTree t) (w' : IsTree 
                 let sh = block_shows u d b e in
                 let q0 : bind s.environment (arguments_of u d) ds ≡ Some e1 = ap (λ vs. bind s.environment vs ds) sh.arguments ∙ q in
                 let q1 : bind s'.environment (map o.value (arguments_of u d)) ds ≡ Some e1' = ap (λ vs. bind s'.environment (map o.value vs) ds) sh.arguments ∙ q' in
-                let place = after_goto t u o w w' h copy header root c m well s.environment s'.environment e1 e1' g k d rest ds target q0 q1 p in
+                let place = after_goto t u o w w' h copy header root c m fit.defined s.environment s'.environment e1 e1' g k d rest ds target q0 q1 p in
                 let kept = kept_by d p.region g (target_region t u o w w' h copy header root c s.environment s'.environment g k d rest target p) p.held_before (arguments_of u d) (argument_here t u o w w' h copy header root c d) ds s.environment s'.environment e1 e1' q0 q1 in
                 (subst (Placed e1 e1' g) sh.operations place, under_kept s.environment s'.environment e1 e1' g kept (Some g) xs ys (λ j a. inr (sym (some_is a))) under)
 
@@ -285,10 +296,7 @@ module _ (m : Meaning) (t u : Tree) (o : Originals) (w : IsTree t) (w' : IsTree 
         waits' = record { rest = o.operation k ∷ map o.operation rest; memo = next } ∷ s'.waiting
 
         within : (g : Option ℕ) → TwinAt s.environment s'.environment g (k ∷ rest) → IsWithin u root k
-        within None p = inl (head_is k root rest p)
-          where
-            head_is : (a b : ℕ) (l : List ℕ) → a ∷ l ≡ b ∷ [] → a ≡ b
-            head_is a b l q = cc
+        within None p = inl (head_same k root rest [] p)
         within (Some g) p = inr (at_inside t u o w w' h copy header root c s.environment s'.environment g k rest p)
 
         deep : (g : Option ℕ) → TwinAt s.environment s'.environment g (k ∷ rest) → (j : ℕ) → g ≡ Some j → IsInside u j k ⊎ (j ≡ k)
@@ -312,31 +320,19 @@ module _ (m : Meaning) (t u : Tree) (o : Originals) (w : IsTree t) (w' : IsTree 
     emit_alike : (e next : Datum) (world world' : List Datum) → world ≡ world' → Alike (emit s e next world) (emit s' e next world')
     unfolding Alike
     emit_alike e next [] [] q = ap (λ l. Reached (e ∷ l)) r.effects
-    emit_alike e next [] (d ∷ ds) q = absurd (nothing d ds q)
-      where
-        nothing : (d : Datum) (ds : List Datum) → [] ≡ d ∷ ds → ⊥
-        nothing d ds q = cc
-    emit_alike e next (d ∷ ds) [] q = absurd (nothing d ds (sym q))
-      where
-        nothing : (d : Datum) (ds : List Datum) → [] ≡ d ∷ ds → ⊥
-        nothing d ds q = cc
+    emit_alike e next [] (d ∷ ds) q = absurd (not_empty d ds q)
+    emit_alike e next (d ∷ ds) [] q = absurd (not_empty d ds (sym q))
     emit_alike e next (d ∷ ds) (d' ∷ ds') q = record {
       holder = r.holder;
       rest = r.rest;
       memo = refl;
-      answer = ap (λ z. Some (z ∷ [])) (first d d' ds ds' q);
+      answer = ap (λ z. Some (z ∷ [])) (head_same d d' ds ds' q);
       place = r.place;
       answered = has_some r.holder (d ∷ []);
       under = r.under;
-      world = others d d' ds ds' q;
+      world = tail_same d d' ds ds' q;
       effects = ap (λ l. e ∷ l) r.effects;
     }
-      where
-        first : (d d' : Datum) (ds ds' : List Datum) → d ∷ ds ≡ d' ∷ ds' → d ≡ d'
-        first d d' ds ds' q = cc
-
-        others : (d d' : Datum) (ds ds' : List Datum) → d ∷ ds ≡ d' ∷ ds' → ds ≡ ds'
-        others d d' ds ds' q = cc
 
     perform_alike : (a : Move) → Alike (perform u s x k rest a) (perform t s' y (o.operation k) (map o.operation rest) a)
     perform_alike (Give ds) = subst (λ z. Alike (after_giving s rest s.waiting ds (bind s.environment x.results ds)) (after_giving s' (map o.operation rest) s'.waiting ds z)) (sym (results_shown ds)) (give_alike r.holder here s.waiting s'.waiting r.under ds (bind s.environment x.results ds) (bind s'.environment (map o.value (results_of u k)) ds) (ap (λ vs. bind s.environment vs ds) (op_shows u k x xe).results) refl)
@@ -357,11 +353,8 @@ module _ (m : Meaning) (t u : Tree) (o : Originals) (w : IsTree t) (w' : IsTree 
   live_at : (s s' : State) (r : AreTwins s s') (k : ℕ) (rest : List ℕ) → s.rest ≡ k ∷ rest → IsLive u k
   live_at s s' r k rest e = go r.holder (subst (TwinAt s.environment s'.environment r.holder) e r.place)
     where
-      head_is : (a b : ℕ) (l : List ℕ) → a ∷ l ≡ b ∷ [] → a ≡ b
-      head_is a b l q = cc
-
       go : (g : Option ℕ) → TwinAt s.environment s'.environment g (k ∷ rest) → IsLive u k
-      go None p = subst (IsLive u) (sym (head_is k root rest p)) live
+      go None p = subst (IsLive u) (sym (head_same k root rest [] p)) fit.live
       go (Some g) p = live_in t u o w w' h k p.block (at_parent t u o w w' h copy header root c s.environment s'.environment g k rest p)
 
   rest_alike : (s s' : State) → AreTwins s s' → (rest : List ℕ) → s.rest ≡ rest → Alike (step_at m u s rest) (step_at m t s' (map o.operation rest))
@@ -393,5 +386,5 @@ module _ (m : Meaning) (t u : Tree) (o : Originals) (w : IsTree t) (w' : IsTree 
     effects = refl;
   }
 
-  pub copied_agree : Agree m t u root
-  copied_agree = agree_sym (agree_by m u t root AreTwins (λ s s'. 0) keep_pace starts)
+  pub copied_agree : Agree m u t root
+  copied_agree = agree_by m u t root AreTwins (λ s s'. 0) keep_pace starts

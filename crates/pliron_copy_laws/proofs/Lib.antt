@@ -7,8 +7,13 @@ pub mod CopiedFit
 pub mod TwinData
 pub mod CopiedPlaces
 pub mod CopiedRuns
+pub mod JoinedParts
+pub mod JoinedFit
 pub mod CopiedKeeps
 pub mod AddedKeeps
+pub mod RenamedBack
 pub mod MovedAgree
 pub mod MovedKeeps
 pub mod BlocksMade
+pub mod SplitPlaces
+pub mod SplitKeeps

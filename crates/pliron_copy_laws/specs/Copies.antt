@@ -5,10 +5,10 @@
 --
 --     ^c is a copy of ^h: each operation, edge and value of it has an original there; the edge from ^a to ^h became
 --     one to ^c, which has the same original
-use Rattle.std.specs.Prelude.{◌≡◌, ◌≢◌, ◌<◌, ◌⊎◌, ℕ, Some, None, length, map}
+use Rattle.std.specs.Prelude.{◌≡◌, ◌≢◌, ◌⊎◌, ℕ, Some, None, map}
 use Rattle.std.specs.Option.{option_map}
 use Rattle.pliron_core.specs.Changes.{IsDefinedInside}
-use Rattle.pliron_core.specs.Tree.{Tree, In, IsLive, IsInside, IsWithin, first_of, head_of, operands_of, successors_of, results_of, regions_of, parent_of, body_of, arguments_of, block_parent_of, layout_of, definition_of}
+use Rattle.pliron_core.specs.Tree.{Tree, In, IsLive, IsRegion, IsInside, IsWithin, first_of, head_of, operands_of, successors_of, results_of, regions_of, parent_of, body_of, arguments_of, block_parent_of, layout_of, definition_of}
 use Rattle.pliron_laws.specs.Paths.{Leads}
 use Rattle.pliron_laws.specs.Root.{defining_block}
 use Rattle.pliron_laws.specs.Linked.{EdgesLast}
@@ -40,8 +40,6 @@ pub record HasOriginals (t u : Tree) (o : Originals) : Type 0 where
   pub operations : (k : ℕ) → IsLive u k → IsCopiedOperation t u o k
   pub blocks : (b r : ℕ) → block_parent_of u b ≡ Some r → IsCopiedBlock t u o b r
   pub entries : (k r : ℕ) → In r (regions_of u k) → first_of (layout_of t (o.region r)) None ≡ option_map o.block (first_of (layout_of u r) None)
-  -- an operation that t had is its own original, and what was erased does not come back
-  pub own : (k : ℕ) → k < length t.operations → IsLive u k → IsLive t k × (o.operation k ≡ k)
 
 -- the user, or an operation that it is inside, is in the region whose block defines the value, and where that block is
 -- in a copy it is in the same one
@@ -68,3 +66,10 @@ pub record AreClosedCopies (u : Tree) (o : Originals) (copy header : ℕ → ℕ
   pub headers : (b c r : ℕ) → block_parent_of u b ≡ Some r → block_parent_of u c ≡ Some r → o.block b ≡ o.block c → copy b ≢ 0 → o.block (header (copy b)) ≡ o.block (header (copy c))
   pub used : (user v : ℕ) → In v (operands_of u user) → IsInside u root user ⊎ IsDefinedInside u root v → IsUsedBeside u copy user v
   pub edges : EdgesLast u root
+
+-- all that is live in t has a copy in u, as far as the root is concerned: each operation, and each block in each copy of
+-- its region; and copies of the root and of what is inside are these
+pub record HasCopies (t u : Tree) (o : Originals) (root : ℕ) : Type 0 where
+  pub operations : (k : ℕ) → IsLive t k → (c : ℕ) × IsLive u c × (o.operation c ≡ k)
+  pub blocks : (r b : ℕ) → IsRegion u r → block_parent_of t b ≡ Some (o.region r) → (c : ℕ) × (block_parent_of u c ≡ Some r) × (o.block c ≡ b)
+  pub inside : (k : ℕ) → IsLive u k → IsWithin t root (o.operation k) → IsWithin u root k

@@ -3,3 +3,4 @@ pub mod CopyLaws
 pub mod Adding
 pub mod Moving
 pub mod Making
+pub mod Splitting

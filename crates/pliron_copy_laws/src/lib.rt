@@ -5,10 +5,11 @@
 //! It knows the theory of runs and the laws of dialects, and no graph, no dialect and no optimisation.
 #![tactic(auto)]
 
-ghost use Rattle.pliron_copy_laws.specs.Adding.{AddingLaw};
-ghost use Rattle.pliron_copy_laws.specs.CopyLaws.{CopiesLaw};
+ghost use Rattle.pliron_copy_laws.specs.Adding.{AddingLaw, RenamingBackLaw};
+ghost use Rattle.pliron_copy_laws.specs.CopyLaws.{CopiesLaw, JoinedCopiesLaw};
 ghost use Rattle.pliron_copy_laws.specs.Making.{MakingBlocks};
 ghost use Rattle.pliron_copy_laws.specs.Moving.{MovingLaw};
+ghost use Rattle.pliron_copy_laws.specs.Splitting.{SplittingLaw};
 
 /// Blocks may be copied, and edges to a block may lead to a copy of it, if each copy is entered at its header alone
 /// and nothing outside a copy uses a value of it.
@@ -16,10 +17,21 @@ pub fn blocks_are_copied()
     ensures { CopiesLaw }
 {}
 
+/// Copies of blocks may go, where each edge to a copy leads to the block that it is a copy of.
+pub fn copies_are_joined()
+    ensures { JoinedCopiesLaw }
+{}
+
 /// An argument may be added to a block that branches alone lead to, each of which forwards one more value that it may
 /// name.
 pub fn arguments_are_added()
     ensures { AddingLaw }
+{}
+
+/// Operands that were renamed, as the uses of an argument that became uses of its one value, may become what they were
+/// again: the uses of a value may become uses of an argument to which each edge forwards it.
+pub fn operands_are_renamed_back()
+    ensures { RenamingBackLaw }
 {}
 
 /// An edge to a block that only jumps may lead where that block jumps to, by an operation that acts alike at once.
@@ -30,4 +42,9 @@ pub fn edges_are_moved()
 /// Blocks may be made that nothing leads to, with what is in them, where that is well defined.
 pub fn blocks_are_made()
     ensures { MakingBlocks }
+{}
+
+/// A block may be split: its last operations become another block, to which a new jump leads.
+pub fn blocks_are_split()
+    ensures { SplittingLaw }
 {}
