@@ -3,8 +3,8 @@
 --     before:   ^a: jump ^h       ^h: .. ; branch ^k ^e       ^k: .. ; jump ^h
 --     after:    ^a: jump ^c       ^h: .. ; branch ^k ^e       ^k: .. ; jump ^h       ^c: .. ; branch ^k ^e
 --
---     ^c is a copy of ^h: each operation, edge and value of it has an original there; the edge from ^a to ^h became
---     one to ^c, which has the same original
+--     ^c is a copy of ^h: each operation and value of it has its original there. The edge from ^a, which led to ^h, leads to
+--     ^c, whose original ^h is
 use Rattle.std.specs.Prelude.{◌≡◌, ◌≢◌, ◌⊎◌, ℕ, Some, None, map}
 use Rattle.std.specs.Option.{option_map}
 use Rattle.pliron_core.specs.Changes.{IsDefinedInside}
@@ -13,15 +13,14 @@ use Rattle.pliron_laws.specs.Paths.{Leads}
 use Rattle.pliron_laws.specs.Root.{defining_block}
 use Rattle.pliron_laws.specs.Linked.{EdgesLast}
 
--- the original, in the tree before, of each operation, block, region and value of the tree after; of what is no copy it
--- is the same handle
+-- the original, in the tree before, of each operation, block, region and value of the tree after
 pub record Originals : Type 0 where
   pub operation : ℕ → ℕ
   pub block : ℕ → ℕ
   pub region : ℕ → ℕ
   pub value : ℕ → ℕ
 
--- the operation k of u is its original of t, but that it names copies
+-- the operation k of u is as its original in t, but that it names copies of what that names
 pub record IsCopiedOperation (t u : Tree) (o : Originals) (k : ℕ) : Type 0 where
   pub head : head_of t (o.operation k) ≡ head_of u k
   pub operands : operands_of t (o.operation k) ≡ map o.value (operands_of u k)
