@@ -7,7 +7,7 @@ ghost use Rattle.std.specs.Prelude.{◌≡◌, ◌≢◌, ⊤, []};
 ghost use Rattle.pliron_bench.specs.BenchMoves.{bench};
 ghost use Rattle.pliron_opts.specs.Ran.{RunsAlone};
 ghost use Rattle.pliron_opts.specs.Read.{ReadsBench, PrintsBench, ReadsKinds, PrintsKinds};
-ghost use Rattle.pliron_mlir_opt.specs.Closed.{closed_reads, closed_prints};
+ghost use Rattle.pliron_opts.specs.Closed.{closed_reads, closed_prints};
 ghost use Rattle.pliron_buffers.specs.Faults.{nowhere, IsFaultPlace};
 ghost use Rattle.pliron_buffers.specs.Fills.{FillsBy};
 ghost use Rattle.pliron_buffers.specs.Optimises.{Optimises, IsListed, Explains};
@@ -15,13 +15,13 @@ ghost use Rattle.pliron_buffers.specs.Modules.{IsWord, OptimisesModule};
 
 use pliron_bench::Bench;
 use pliron_buffers::{
-    BenchNotation, Failure, ModulePass, ModuleSchedule, Place, describe_graph_into,
+    BenchNotation, Failure, ModulePass, ModulePipeline, Place, describe_graph_into,
     find_fault_into, find_module_fault_into, optimise_into, optimise_module_into,
 };
 use pliron_laws::HasMeaning;
 use pliron_mlir::{AnyMeaning, Mlir};
-use pliron_mlir_opt::{Closed, ClosedForm};
-use pliron_opts::Schedule;
+use pliron_mlir_opt::ClosedForm;
+use pliron_opts::{Closed, PassPipeline};
 use pliron_pass::{BenchFactKind, BenchFacts, Pass};
 use std::alloc::Global;
 
@@ -43,8 +43,8 @@ pub extern "C" fn plir_version() -> u32
     VERSION
 }
 
-/// Runs the passes of a list on a text of the bench notation, and puts the text that they leave, and a line that says
-/// whether they changed it, into the buffer: what `plir_opt` writes for the word and the input. Answers the number of a
+/// Runs the passes of a list on a text of the bench notation, and puts what `plir_opt` writes for the word and the
+/// input into the buffer: the text that the passes leave, and a line `changed` or `unchanged`. Answers the number of a
 /// status, and reports the length of the answer, or 0 where none is known.
 ///
 /// Nothing is written to the buffer unless the whole answer fits. Cost: linear in the texts, and that of the passes.
@@ -57,8 +57,9 @@ pub extern "C" fn plir_optimise(
     needed: &mut usize,
 ) -> u32
     ensures { FillsBy (Optimises (closed_reads ReadsBench) (closed_prints PrintsBench) bench
-        (RunsAlone ⟦<BenchFactKind as PartialEq>⟧.eq ⟦<Schedule<Bench, BenchFacts> as Pass>⟧.outcome)
-        pipeline.now text.now) (Explains (IsListed pipeline.now)) output.old output.new needed.new result }
+        (RunsAlone ⟦<BenchFactKind as PartialEq>⟧.eq ⟦<PassPipeline<Bench, BenchFacts> as Pass>⟧.outcome)
+        pipeline.now text.now) (Explains (IsListed (RunsAlone ⟦<BenchFactKind as PartialEq>⟧.eq
+        ⟦<PassPipeline<Bench, BenchFacts> as Pass>⟧.outcome) pipeline.now)) output.old output.new needed.new result }
 {
     optimise_into::<Text>(alloc, pipeline, text, output, needed).number()
 }
@@ -117,9 +118,10 @@ pub extern "C" fn plir_optimise_mlir(
     ensures { FillsBy (OptimisesModule ⟦<ModulePass<Form> as Pass>⟧.name
         (closed_reads (ReadsKinds ⟦<Mlir<AnyMeaning> as HasMeaning>⟧.meaning)) (closed_prints PrintsKinds)
         ⟦<Mlir<AnyMeaning> as HasMeaning>⟧.meaning
-        (RunsAlone ⟦<BenchFactKind as PartialEq>⟧.eq ⟦<ModuleSchedule<Form> as Pass>⟧.outcome)
-        pipeline.now text.now changed.new) (λ failure. Explains (IsWord pipeline.now) failure × (changed.new ≡ 0))
-        output.old output.new needed.new result }
+        (RunsAlone ⟦<BenchFactKind as PartialEq>⟧.eq ⟦<ModulePipeline<Form> as Pass>⟧.outcome)
+        pipeline.now text.now changed.new) (λ failure. Explains (IsWord ⟦<ModulePass<Form> as Pass>⟧.name
+        (RunsAlone ⟦<BenchFactKind as PartialEq>⟧.eq ⟦<ModulePipeline<Form> as Pass>⟧.outcome) pipeline.now) failure
+        × (changed.new ≡ 0)) output.old output.new needed.new result }
 {
     let status = optimise_module_into::<Form>(alloc, pipeline, text, output, needed, changed);
     status.number()

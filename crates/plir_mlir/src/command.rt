@@ -16,8 +16,8 @@ The text is one operation in the generic form, as `mlir-opt
 nothing else; whether it changed stands on standard error.
 
 Statuses: 0 where the answer is written; 1 where memory or the passes were
-refused; 2 for words, files and texts that can't be used; 3 where verifying
-found a fault.";
+refused; 2 for words, files and texts that can't be used, or where writing
+fails; 3 where verifying found a fault.";
 
 /// What `PIPELINE` may be.
 static PIPELINE: &str = "\

@@ -6,7 +6,7 @@
 ghost use Rattle.std.specs.Prelude.{None, ◌≤◌, ◌⊎◌, ◌≡◌};
 ghost use Rattle.pliron_opts.specs.Ran.{RunsAlone};
 ghost use Rattle.pliron_opts.specs.Read.{ReadsKinds, PrintsKinds};
-ghost use Rattle.pliron_mlir_opt.specs.Closed.{closed_reads, closed_prints};
+ghost use Rattle.pliron_opts.specs.Closed.{closed_reads, closed_prints};
 ghost use Rattle.pliron_mlir_opt.specs.Outcomes.{EndsOptimised, EndsByWord};
 ghost use Rattle.pliron_mlir_opt.specs.Streams.{EndsOnStreams};
 
@@ -15,7 +15,7 @@ mod target;
 
 use clap::{ArgMatches, Error};
 use command::parse_arguments;
-use pliron_instrument::{Instrumented, InstrumentedSchedule, Progress};
+use pliron_instrument::{Instrumented, InstrumentedPipeline, Progress};
 use pliron_laws::HasMeaning;
 use pliron_mlir::{AnyMeaning, Mlir};
 use pliron_mlir_opt::{ClosedForm, MAX_TEXT, ModuleOptions, Request, run_on};
@@ -77,9 +77,9 @@ fn run_to<'r, R: Read>(
     file: Option<&str>,
 ) -> u8
     ensures { EndsOnStreams (λ text. EndsByWord ⟦<Instrumented<Form, Terminal<'r>> as Pass>⟧.name
-        (λ schedule. EndsOptimised (closed_reads (ReadsKinds ⟦<Mlir<AnyMeaning> as HasMeaning>⟧.meaning))
+        (λ pipeline. EndsOptimised (closed_reads (ReadsKinds ⟦<Mlir<AnyMeaning> as HasMeaning>⟧.meaning))
         (closed_prints PrintsKinds) ⟦<Mlir<AnyMeaning> as HasMeaning>⟧.meaning (RunsAlone
-        ⟦<BenchFactKind as PartialEq>⟧.eq ⟦<InstrumentedSchedule<Form, Terminal<'r>> as Pass>⟧.outcome schedule)
+        ⟦<BenchFactKind as PartialEq>⟧.eq ⟦<InstrumentedPipeline<Form, Terminal<'r>> as Pass>⟧.outcome pipeline)
         text) request.now.pipeline.now) (R.remaining input.old) None None result }
 {
     let mut target = Target::new(rt, file);

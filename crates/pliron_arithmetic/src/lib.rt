@@ -9,7 +9,7 @@ mod tables;
 mod words;
 
 pub use kind::ArithmeticKind;
-use pliron_dialects::ByKinds;
+use pliron_roles::ByRoles;
 
 /// The dialect of these kinds.
 ///
@@ -30,4 +30,4 @@ use pliron_dialects::ByKinds;
 ///
 /// Where an operation passes or gives more values than there are places for, the last ones are cut; where it has
 /// fewer, the others are 0.
-pub type Arithmetic = ByKinds<ArithmeticKind>;
+pub type Arithmetic = ByRoles<ArithmeticKind>;

@@ -1,27 +1,29 @@
 //! What the kinds do when they run that act by their own tables.
-ghost use Rattle.std.specs.Prelude.{map, drop, IfOk};
-ghost use Rattle.pliron_dialects.specs.Numbers.{is_zero};
-ghost use Rattle.pliron_dialects.specs.Roles.{condition_of};
+ghost use Rattle.std.specs.Prelude.{◌≡◌, map, drop, IfOk};
+ghost use Rattle.pliron_roles.specs.Roles.{is_zero};
 ghost use Rattle.pliron_evaluator.specs.Evaluator.{datum_of_value, move_of};
-ghost use Rattle.pliron_evaluator.specs.OwnMoves.{MovesBy};
+ghost use Rattle.pliron_role_runs.specs.Numbers.{condition_of};
+ghost use Rattle.pliron_role_runs.specs.OwnMoves.{shape_of_counts};
 ghost use Rattle.pliron_arithmetic.specs.Arithmetic.{if_act, while_act, again_unless};
 
 use crate::kind::ArithmeticKind;
-use pliron_evaluator::evaluator::own_moves::{
-    OwnMoves, ShapeCounts, behind_first, choice_by_input, give, is_over, visit, visit_and_leave,
-};
+use pliron_core::Head;
 use pliron_evaluator::evaluator::{Datum, Move};
+use pliron_role_runs::own_moves::{
+    behind_first, choice_by_input, give, is_over, visit, visit_and_leave,
+};
+use pliron_role_runs::{Counts, Interprets};
 use std::alloc::{AllocError, Global};
 
 // A choice between two regions.
 fn if_move(
     alloc: Global,
-    counts: &ShapeCounts,
+    counts: &Counts,
     memo: &Datum,
     input: &[Datum],
 ) -> Result<Move, AllocError>
-    ensures { IfOk result (λ next. MovesBy counts.now (move_of next) (λ s. if_act s (datum_of_value memo.now)
-        (map datum_of_value input.now))) }
+    ensures { IfOk result (λ next. move_of next ≡ if_act (shape_of_counts counts.now)
+        (datum_of_value memo.now) (map datum_of_value input.now)) }
 {
     let region = choice_by_input(input);
     let rest = behind_first(input);
@@ -32,10 +34,9 @@ fn if_move(
 }
 
 // The region once more, unless the first value says that it is over.
-fn again_move(alloc: Global, counts: &ShapeCounts, input: &[Datum]) -> Result<Move, AllocError>
-    ensures { IfOk result (λ next. MovesBy counts.now (move_of next)
-        (λ s. again_unless (is_zero (condition_of (map datum_of_value input.now))) s
-        (drop 1 (map datum_of_value input.now)))) }
+fn again_move(alloc: Global, counts: &Counts, input: &[Datum]) -> Result<Move, AllocError>
+    ensures { IfOk result (λ next. move_of next ≡ again_unless (is_zero (condition_of (map datum_of_value input.now)))
+        (shape_of_counts counts.now) (drop 1 (map datum_of_value input.now))) }
 {
     let rest = behind_first(input);
     if is_over(input) {
@@ -48,12 +49,12 @@ fn again_move(alloc: Global, counts: &ShapeCounts, input: &[Datum]) -> Result<Mo
 // A region again and again.
 fn while_move(
     alloc: Global,
-    counts: &ShapeCounts,
+    counts: &Counts,
     memo: &Datum,
     input: &[Datum],
 ) -> Result<Move, AllocError>
-    ensures { IfOk result (λ next. MovesBy counts.now (move_of next) (λ s. while_act s (datum_of_value memo.now)
-        (map datum_of_value input.now))) }
+    ensures { IfOk result (λ next. move_of next ≡ while_act (shape_of_counts counts.now)
+        (datum_of_value memo.now) (map datum_of_value input.now)) }
 {
     match memo {
         Datum::Empty => visit(alloc, counts, 0, input),
@@ -61,11 +62,20 @@ fn while_move(
     }
 }
 
-impl OwnMoves for ArithmeticKind {
+impl Interprets for ArithmeticKind {
+    fn interpret(
+        alloc: Global,
+        _head: &Head,
+        _input: &[Datum],
+    ) -> Result<Option<Vec<Datum>>, AllocError> {
+        Ok(Some(Vec::new(alloc)))
+    }
+
     fn own_move(
         self,
         alloc: Global,
-        counts: &ShapeCounts,
+        _head: &Head,
+        counts: &Counts,
         memo: &Datum,
         input: &[Datum],
     ) -> Result<Move, AllocError> {

@@ -5,9 +5,9 @@ use Rattle.pliron_core.specs.declared.attrs.IRStatus.{IRStatus}
 use Rattle.pliron_laws.specs.Datum.{Meaning}
 use Rattle.pliron_pass.specs.declared.bench_facts.BenchFactKind.{BenchFactKind}
 use Rattle.pliron_pass.specs.declared.bench_facts.BenchFacts.{BenchFacts}
-use Rattle.pliron_pipeline.specs.PassSteps.{ScheduleOf}
+use Rattle.pliron_pipeline.specs.PassSteps.{PassPipelineOf}
 use Rattle.pliron_opts.specs.Answered.{Reads, Prints, IsOptimised}
-use Rattle.pliron_opts.specs.Asked.{IsPlanned, is_nested, names_of}
+use Rattle.pliron_opts.specs.Asked.{IsPlanned}
 use Rattle.pliron_buffers.specs.declared.status.Failure.{Failure}
 use Rattle.pliron_buffers.specs.declared.status.Failure.TheVariants.{Arguments, Text, Refused, Memory}
 use Rattle.pliron_buffers.specs.declared.status.Status.{Status}
@@ -41,8 +41,8 @@ pub explains_list : (listed : Type 0) (failure : Failure) → (failure ≡ Argum
 explains_list listed failure (inl e) = subst (λ f. Explains listed f) (sym e) tt
 explains_list listed failure (inr e) = subst (λ f. Explains listed f) (sym e) tt
 
-pub lists : {D E B K : Type 0} (list : List ℕ) (schedule : ScheduleOf D E B K) → IsPlanned list schedule → IsListed list
-lists list schedule p = record { runs = p.runs; nested = is_nested p.pipeline; names = names_of p.pipeline; plan = p.plan }
+pub lists : {D B : Type 0} (ran : PassPipelineOf D BenchFacts B BenchFactKind → ℕ → Tree → Tree → IRStatus → Type 0) (list : List ℕ) (pipeline : PassPipelineOf D BenchFacts B BenchFactKind) → IsPlanned list pipeline → IsListed ran list
+lists ran list pipeline p = record { pipeline = pipeline; planned = p }
 
 pub explains_text : {listed : Type 0} (failure : Failure) → listed → failure ≢ Arguments → Explains listed failure
 explains_text Arguments is other = absurd (other refl)
@@ -50,7 +50,7 @@ explains_text Text is other = is
 explains_text Refused is other = is
 explains_text Memory is other = tt
 
--- what the passes of a schedule make of a text is what the list that plans it asks for
-pub optimises : {D B T E : Type 0} (reads : Reads) (prints : Prints) (m : Meaning) (ran : ScheduleOf D BenchFacts B BenchFactKind → ℕ → Tree → Tree → IRStatus → Type 0) (bytes : T → List ℕ) (list text : List ℕ) (schedule : ScheduleOf D BenchFacts B BenchFactKind) → IsPlanned list schedule → (r : Result T E) → IfOk r (λ answer. IsOptimised reads prints m (ran schedule) text (bytes answer)) → IfOk r (λ answer. Optimises reads prints m ran list text (bytes answer))
-optimises reads prints m ran bytes list text schedule plan (Ok answer) made = record { schedule = schedule; planned = plan; optimised = made }
-optimises reads prints m ran bytes list text schedule plan (Err e) made = tt
+-- what the passes of a pipeline make of a text is what the list that plans it asks for
+pub optimises : {D B T E : Type 0} (reads : Reads) (prints : Prints) (m : Meaning) (ran : PassPipelineOf D BenchFacts B BenchFactKind → ℕ → Tree → Tree → IRStatus → Type 0) (bytes : T → List ℕ) (list text : List ℕ) (pipeline : PassPipelineOf D BenchFacts B BenchFactKind) → IsPlanned list pipeline → (r : Result T E) → IfOk r (λ answer. IsOptimised reads prints m (ran pipeline) text (bytes answer)) → IfOk r (λ answer. Optimises reads prints m ran list text (bytes answer))
+optimises reads prints m ran bytes list text pipeline plan (Ok answer) made = record { pipeline = pipeline; planned = plan; optimised = made }
+optimises reads prints m ran bytes list text pipeline plan (Err e) made = tt

@@ -1,5 +1,5 @@
 //! An answer in a buffer.
-ghost use Rattle.std.specs.Prelude.{◌≡◌, IsOkAnd, IsErrOf, string_bytes};
+ghost use Rattle.std.specs.Prelude.{◌≡◌, IsOkAnd, IsErrOf};
 ghost use Rattle.pliron_buffers.specs.Fills.{Fills};
 ghost use Rattle.pliron_buffers.specs.Statuses.{status_of};
 
@@ -7,12 +7,12 @@ use crate::status::{Failure, Status};
 
 /// Writes the answer to the start of the buffer, if it fits, and its length to `needed`; for a failure it writes 0 to
 /// `needed`, and nothing to the buffer. Cost: linear in the answer.
-pub fn fill(answer: Result<String, Failure>, output: &mut [u8], needed: &mut usize) -> Status
-    ensures { Fills (λ bytes. IsOkAnd answer (λ text. bytes ≡ string_bytes text)) (λ failure. IsErrOf answer failure)
+pub fn fill(answer: Result<Vec<u8>, Failure>, output: &mut [u8], needed: &mut usize) -> Status
+    ensures { Fills (λ bytes. IsOkAnd answer (λ text. bytes ≡ text.items)) (λ failure. IsErrOf answer failure)
         output.old output.new needed.new result }
 {
     match answer {
-        Ok(text) => put(text.as_bytes(), output, needed),
+        Ok(text) => put(&text, output, needed),
         Err(failure) => put_nothing(failure, needed),
     }
 }

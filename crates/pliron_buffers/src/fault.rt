@@ -9,10 +9,10 @@ use crate::status::{Failure, Status};
 use pliron_core::Context;
 use pliron_diagnostics::position_of;
 use pliron_laws::Dialect;
-use pliron_mlir_opt::ModuleFailure;
+use pliron_mlir_opt::failure_of;
 use pliron_mlir_text::{Expected, read_module};
 use pliron_notation::find_text_fault;
-use pliron_opts::MAX_TEXT;
+use pliron_opts::{MAX_TEXT, TextFailure};
 use std::alloc::Global;
 
 /// A part of a text: after how many bytes it begins and how many it has, and the line and column of its first
@@ -156,13 +156,13 @@ fn fault_of_module_in<D: Dialect>(
     let Err(fault) = read_module::<D>(alloc, text, ctx) else {
         return Ok(None);
     };
-    match ModuleFailure::from(fault) {
-        ModuleFailure::Text(start, expected) => Ok(Some(Fault {
-            start: start.min(text.len()),
+    match failure_of(fault) {
+        TextFailure::Text(fault) => Ok(Some(Fault {
+            start: fault.place.min(text.len()),
             len: 0,
-            expected: expected.to_string(alloc)?,
+            expected: fault.expected.to_string(alloc)?,
         })),
-        ModuleFailure::Refused(_) => Err(Failure::Memory),
+        TextFailure::Refused(_) => Err(Failure::Memory),
     }
 }
 

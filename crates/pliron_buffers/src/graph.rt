@@ -8,7 +8,7 @@ use pliron_opts::{MAX_TEXT, describe_graph};
 use std::alloc::Global;
 
 // What the program describes of a graph. Errors: the text is no graph or too long; allocation failure.
-fn answer_of_graph(alloc: Global, text: &[u8]) -> Result<String, Failure>
+fn answer_of_graph(alloc: Global, text: &[u8]) -> Result<Vec<u8>, Failure>
     ensures { IfErr result (λ failure. failure ≢ Failure.Arguments) }
 {
     if text.len() > MAX_TEXT {

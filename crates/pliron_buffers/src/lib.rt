@@ -14,6 +14,6 @@ mod status;
 pub use fault::{Place, find_fault_into, find_module_fault_into};
 pub use graph::describe_graph_into;
 pub use optimise::{optimise_by_list, optimise_into};
-pub use optimise_module::{MAX_MODULE, ModulePass, ModuleSchedule, optimise_module_into};
+pub use optimise_module::{MAX_MODULE, ModulePass, ModulePipeline, optimise_module_into};
 pub use pliron_opts::{BenchNotation, Notation};
 pub use status::{Failure, Status};

@@ -1,5 +1,5 @@
 //! Passes on a text.
-ghost use Rattle.std.specs.Prelude.{◌≡◌, ◌≢◌, ◌⊎◌, IfOk, IfErr, string_bytes};
+ghost use Rattle.std.specs.Prelude.{◌≡◌, ◌≢◌, ◌⊎◌, IfOk, IfErr};
 ghost use Rattle.pliron_opts.specs.Answered.{IsOptimised};
 ghost use Rattle.pliron_opts.specs.Asked.{IsPlanned};
 ghost use Rattle.pliron_opts.specs.Ran.{RunsAlone};
@@ -9,20 +9,23 @@ ghost use Rattle.pliron_buffers.specs.Optimises.{Optimises, IsListed, Explains};
 use crate::buffer::fill;
 use crate::status::{Failure, Status};
 use pliron_laws::Dialect;
-use pliron_opts::{MAX_TEXT, Notation, Schedule, optimise_text, plan_schedule};
+use pliron_opts::{MAX_TEXT, Notation, PassPipeline, optimise_text, read_pipeline};
 use pliron_pass::{BenchFactKind, BenchFacts, Pass};
 use std::alloc::Global;
 
-// The schedule that the list plans. Errors: the list isn't one of names of passes; allocation failure.
-fn schedule_of<D: Dialect>(alloc: Global, list: &[u8]) -> Result<Schedule<D, BenchFacts>, Failure>
-    ensures planned { IfOk result (λ schedule. IsPlanned list.now schedule) }
+// The pipeline that the list plans. Errors: the list isn't one of names of passes; allocation failure.
+fn pipeline_of<D: Dialect>(
+    alloc: Global,
+    list: &[u8],
+) -> Result<PassPipeline<D, BenchFacts>, Failure>
+    ensures planned { IfOk result (λ pipeline. IsPlanned list.now pipeline) }
     ensures failure { IfErr result (λ failure. (failure ≡ Failure.Arguments) ⊎ (failure ≡ Failure.Memory)) }
 {
     let Ok(word) = str::from_utf8(list) else {
         return Err(Failure::Arguments);
     };
-    match plan_schedule(alloc, word)? {
-        Some(schedule) => Ok(schedule),
+    match read_pipeline(alloc, word)? {
+        Some(pipeline) => Ok(pipeline),
         None => Err(Failure::Arguments),
     }
 }
@@ -32,18 +35,18 @@ fn schedule_of<D: Dialect>(alloc: Global, list: &[u8]) -> Result<Schedule<D, Ben
 // Errors: the text is outside the notation or too long; those of the passes; allocation failure.
 fn answer_of<N: Notation>(
     alloc: Global,
-    schedule: Schedule<N::D, BenchFacts>,
+    pipeline: PassPipeline<N::D, BenchFacts>,
     text: &[u8],
-) -> Result<String, Failure>
+) -> Result<Vec<u8>, Failure>
     ensures answer { IfOk result (λ answer. IsOptimised N.reads N.prints N.D.meaning
-        (RunsAlone ⟦<BenchFactKind as PartialEq>⟧.eq ⟦<Schedule<N::D, BenchFacts> as Pass>⟧.outcome schedule)
-        text.now (string_bytes answer)) }
+        (RunsAlone ⟦<BenchFactKind as PartialEq>⟧.eq ⟦<PassPipeline<N::D, BenchFacts> as Pass>⟧.outcome pipeline)
+        text.now answer.items) }
     ensures failure { IfErr result (λ failure. failure ≢ Failure.Arguments) }
 {
     if text.len() > MAX_TEXT {
         return Err(Failure::Text);
     }
-    match optimise_text::<N>(alloc, schedule, text) {
+    match optimise_text::<N>(alloc, pipeline, text) {
         Ok(Some(answer)) => Ok(answer),
         Ok(None) => Err(Failure::Text),
         Err(error) => Err(Failure::of(error)),
@@ -59,14 +62,15 @@ pub fn optimise_by_list<N: Notation>(
     alloc: Global,
     list: &[u8],
     text: &[u8],
-) -> Result<String, Failure>
+) -> Result<Vec<u8>, Failure>
     ensures answer { IfOk result (λ answer. Optimises N.reads N.prints N.D.meaning
-        (RunsAlone ⟦<BenchFactKind as PartialEq>⟧.eq ⟦<Schedule<N::D, BenchFacts> as Pass>⟧.outcome)
-        list.now text.now (string_bytes answer)) }
-    ensures failure { IfErr result (Explains (IsListed list.now)) }
+        (RunsAlone ⟦<BenchFactKind as PartialEq>⟧.eq ⟦<PassPipeline<N::D, BenchFacts> as Pass>⟧.outcome)
+        list.now text.now answer.items) }
+    ensures failure { IfErr result (Explains (IsListed (RunsAlone ⟦<BenchFactKind as PartialEq>⟧.eq
+        ⟦<PassPipeline<N::D, BenchFacts> as Pass>⟧.outcome) list.now)) }
 {
-    let schedule = schedule_of(alloc, list)?;
-    answer_of::<N>(alloc, schedule, text)
+    let pipeline = pipeline_of(alloc, list)?;
+    answer_of::<N>(alloc, pipeline, text)
 }
 
 /// Puts what `optimise_by_list` answers into the buffer, and reports its length, or 0 where no answer is known.
@@ -80,8 +84,9 @@ pub fn optimise_into<N: Notation>(
     needed: &mut usize,
 ) -> Status
     ensures { Fills (Optimises N.reads N.prints N.D.meaning
-        (RunsAlone ⟦<BenchFactKind as PartialEq>⟧.eq ⟦<Schedule<N::D, BenchFacts> as Pass>⟧.outcome)
-        list.now text.now) (Explains (IsListed list.now)) output.old output.new needed.new result }
+        (RunsAlone ⟦<BenchFactKind as PartialEq>⟧.eq ⟦<PassPipeline<N::D, BenchFacts> as Pass>⟧.outcome)
+        list.now text.now) (Explains (IsListed (RunsAlone ⟦<BenchFactKind as PartialEq>⟧.eq
+        ⟦<PassPipeline<N::D, BenchFacts> as Pass>⟧.outcome) list.now)) output.old output.new needed.new result }
 {
     fill(optimise_by_list::<N>(alloc, list, text), output, needed)
 }

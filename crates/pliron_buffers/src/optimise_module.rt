@@ -11,12 +11,11 @@ use crate::buffer::{put, put_nothing};
 use crate::status::{Failure, Status};
 use pliron_core::IRStatus;
 use pliron_instrument::{
-    InstrumentationOptions, Instrumented, InstrumentedSchedule, PipelineText, PlanError, Timeless,
-    build_schedule, instrumented_passes,
+    InstrumentationOptions, Instrumented, InstrumentedPipeline, PipelineText, PlanError, Timeless,
+    instrumented_pipeline, is_short,
 };
-use pliron_mlir_opt::{
-    ModuleFailure, ModuleNotation, ModuleOptions, OptimisedModule, optimise, read_plan,
-};
+use pliron_mlir_opt::{ModuleNotation, read_plan};
+use pliron_opts::{OptimisedText, TextFailure, Unobserved, optimise, passes_of};
 use pliron_pass::{BenchFactKind, Pass};
 use std::alloc::Global;
 
@@ -27,7 +26,7 @@ pub const MAX_MODULE: usize = 268_435_456;
 pub type ModulePass<N> = Instrumented<N, Timeless>;
 
 /// Passes that a word asks for.
-pub type ModuleSchedule<N> = InstrumentedSchedule<N, Timeless>;
+pub type ModulePipeline<N> = InstrumentedPipeline<N, Timeless>;
 
 // The passes that the word asks for: of an empty one, none. Errors: it isn't a list of names of passes; allocation
 // failure.
@@ -46,20 +45,15 @@ fn plan_of<'w>(alloc: Global, word: &'w [u8]) -> Result<PipelineText<'w>, Failur
     }
 }
 
-// The schedule that the word asks for. Errors: it isn't a list of names of passes; allocation failure.
-fn schedule_of<N: ModuleNotation>(alloc: Global, word: &[u8]) -> Result<ModuleSchedule<N>, Failure>
+// The pipeline that the word asks for. Errors: it isn't a list of names of passes; allocation failure.
+fn pipeline_of<N: ModuleNotation>(alloc: Global, word: &[u8]) -> Result<ModulePipeline<N>, Failure>
     ensures asked { IfOk result (IsAsked ⟦<ModulePass<N> as Pass>⟧.name word.now) }
     ensures failure { IfErr result (λ failure. (failure ≡ Failure.Arguments) ⊎ (failure ≡ Failure.Memory)) }
 {
     let plan = plan_of(alloc, word)?;
-    let nothing = InstrumentationOptions {
-        counts: false,
-        verifies: false,
-        prints_all: false,
-        prints: &[],
-    };
-    match build_schedule::<N, Timeless>(alloc, &plan, &nothing, Timeless)? {
-        Some(schedule) => Ok(schedule),
+    let nothing = InstrumentationOptions::nothing();
+    match instrumented_pipeline::<N, Timeless>(alloc, &plan, &nothing, Timeless)? {
+        Some(pipeline) => Ok(pipeline),
         None => Err(Failure::Arguments),
     }
 }
@@ -67,38 +61,27 @@ fn schedule_of<N: ModuleNotation>(alloc: Global, word: &[u8]) -> Result<ModuleSc
 // What the passes make of the module, printed, and whether it changed.
 //
 // Errors: the text is outside the generic form or too long; those of the passes; allocation failure.
-fn run_schedule<N: ModuleNotation>(
+fn answer_of<N: ModuleNotation>(
     alloc: Global,
-    schedule: &mut ModuleSchedule<N>,
+    pipeline: &mut ModulePipeline<N>,
     text: &[u8],
-) -> Result<OptimisedModule, Failure>
+) -> Result<OptimisedText, Failure>
     ensures answer { IfOk result (λ made. IsOptimised N.reads N.prints N.D.meaning
-        (RunsAlone ⟦<BenchFactKind as PartialEq>⟧.eq ⟦<ModuleSchedule<N> as Pass>⟧.outcome schedule.old)
+        (RunsAlone ⟦<BenchFactKind as PartialEq>⟧.eq ⟦<ModulePipeline<N> as Pass>⟧.outcome pipeline.old)
         text.now (made.printed.items ++ status_line made.status)) }
     ensures failure { IfErr result (λ failure. failure ≢ Failure.Arguments) }
 {
     if text.len() > MAX_MODULE {
         return Err(Failure::Text);
     }
-    let nothing = ModuleOptions {
-        counts: false,
-        verifies: false,
-        times: false,
-        checks: false,
-    };
-    match optimise::<N, Timeless>(alloc, schedule, text, &nothing) {
-        Ok(_) if lacks_a_record(schedule) => Err(Failure::Memory),
+    let mut nothing = Unobserved;
+    match optimise::<N, ModulePass<N>, Unobserved>(alloc, pipeline, text, &mut nothing) {
+        // Memory was refused for what is noted of a pass: with that `plir_mlir` gives no answer either.
+        Ok(_) if is_short(passes_of(pipeline)) => Err(Failure::Memory),
         Ok(made) => Ok(made),
-        Err(ModuleFailure::Text(_, _)) => Err(Failure::Text),
-        Err(ModuleFailure::Refused(error)) => Err(Failure::of(error)),
+        Err(TextFailure::Text(_)) => Err(Failure::Text),
+        Err(TextFailure::Refused(error)) => Err(Failure::of(error)),
     }
-}
-
-// Whether memory was refused for what is noted of a pass, with which `plir_mlir` gives no answer either.
-fn lacks_a_record<N: ModuleNotation>(schedule: &ModuleSchedule<N>) -> bool {
-    instrumented_passes(schedule)
-        .iter()
-        .any(|pass| pass.run_record().is_short)
 }
 
 // What the passes that the word asks for make of the module, printed, and whether it changed.
@@ -106,15 +89,16 @@ fn optimise_module<N: ModuleNotation>(
     alloc: Global,
     word: &[u8],
     text: &[u8],
-) -> Result<OptimisedModule, Failure>
+) -> Result<OptimisedText, Failure>
     ensures answer { IfOk result (λ made. OptimisesModule ⟦<ModulePass<N> as Pass>⟧.name
         N.reads N.prints N.D.meaning
-        (RunsAlone ⟦<BenchFactKind as PartialEq>⟧.eq ⟦<ModuleSchedule<N> as Pass>⟧.outcome)
+        (RunsAlone ⟦<BenchFactKind as PartialEq>⟧.eq ⟦<ModulePipeline<N> as Pass>⟧.outcome)
         word.now text.now (number_of_change made.status) made.printed.items) }
-    ensures failure { IfErr result (Explains (IsWord word.now)) }
+    ensures failure { IfErr result (Explains (IsWord ⟦<ModulePass<N> as Pass>⟧.name
+        (RunsAlone ⟦<BenchFactKind as PartialEq>⟧.eq ⟦<ModulePipeline<N> as Pass>⟧.outcome) word.now)) }
 {
-    let mut schedule = schedule_of::<N>(alloc, word)?;
-    run_schedule::<N>(alloc, &mut schedule, text)
+    let mut pipeline = pipeline_of::<N>(alloc, word)?;
+    answer_of::<N>(alloc, &mut pipeline, text)
 }
 
 // The number by which other languages know whether a tree changed.
@@ -144,9 +128,10 @@ pub fn optimise_module_into<N: ModuleNotation>(
     changed: &mut u32,
 ) -> Status
     ensures { Fills (OptimisesModule ⟦<ModulePass<N> as Pass>⟧.name N.reads N.prints N.D.meaning
-        (RunsAlone ⟦<BenchFactKind as PartialEq>⟧.eq ⟦<ModuleSchedule<N> as Pass>⟧.outcome)
-        word.now text.now changed.new) (λ failure. Explains (IsWord word.now) failure × (changed.new ≡ 0))
-        output.old output.new needed.new result }
+        (RunsAlone ⟦<BenchFactKind as PartialEq>⟧.eq ⟦<ModulePipeline<N> as Pass>⟧.outcome)
+        word.now text.now changed.new) (λ failure. Explains (IsWord ⟦<ModulePass<N> as Pass>⟧.name
+        (RunsAlone ⟦<BenchFactKind as PartialEq>⟧.eq ⟦<ModulePipeline<N> as Pass>⟧.outcome) word.now) failure
+        × (changed.new ≡ 0)) output.old output.new needed.new result }
 {
     match optimise_module::<N>(alloc, word, text) {
         Ok(made) => {

@@ -25,7 +25,7 @@ fn reads_as_in<N: Notation>(
         return Ok(false);
     };
     let printed = N::print(alloc, root, ctx)?;
-    if printed.as_str() != answer {
+    if printed.as_slice() != answer.as_bytes() {
         return Ok(false);
     }
     Ok(true)

@@ -13,7 +13,7 @@ use Rattle.pliron_evaluator.specs.declared.evaluator.values.Sight.{Sight}
 use Rattle.pliron_diagnostics.proofs.LayoutLemmas.{line_ended}
 use Rattle.pliron_opts.specs.Answered.{Reads, Prints, IsOptimised, status_line}
 use Rattle.pliron_opts.specs.PipelineTexts.{Plans}
-use Rattle.pliron_instrument.specs.Schedules.{ScheduleOf, IsPlanned}
+use Rattle.pliron_pipeline.specs.Pipelines.{PipelineOf, IsPipelineOf}
 use Rattle.pliron_cli.specs.declared.outcome.Outcome.{Outcome}
 use Rattle.pliron_cli.specs.declared.comparing.Likeness.{Likeness}
 use Rattle.pliron_cli.specs.declared.comparing.Likeness.TheVariants.{Same, SoFar, Different}
@@ -27,7 +27,8 @@ use Rattle.pliron_cli.specs.Compared.{AreSeen, are_same, are_same_so_far, effect
 use Rattle.pliron_cli.specs.Likeness.{IsLikeness, EndsLike, EndsLike.AreAlike, EndsLike.AreUnlike, last_line, status_for}
 use Rattle.pliron_cli.specs.Optimised.{IsLaidOut, IsMade, EndsOptimised}
 use Rattle.pliron_cli.specs.Outcomes.{Ends, Ends.Says, Ends.Denies, Ends.Fails, EndsBadly, EndsBadly.Refuses, IsRefused}
-use Rattle.pliron_cli.specs.Reports.{Faults, TextFaults, FaultsWord}
+use Rattle.pliron_cli.specs.Reports.{FaultsWord}
+use Rattle.pliron_show.specs.Faults.{Faults, TextFaults}
 
 pub ends_by : (faults : Faults) (o : Outcome) → (o.status ≡ 0) ⊎ (o.status ≡ 3) → Ends faults ⊤ ⊤ o
 ends_by faults o (inl e) = Says tt e
@@ -138,10 +139,10 @@ pub refused_so : {X : Type 0} (faults : Faults) (this that : Outcome → Type 0)
 refused_so faults this that (Ok o) refused = Fails (Refuses refused)
 refused_so faults this that (Err e) refused = tt
 
-module _ {P D E B K X : Type 0} (name : P → List ℕ) (EndsSo : ScheduleOf P D E B K → Outcome → Type 0) where
-  pub is_planned : (runs : Option ℕ) (nested : Bool) (names : List (List ℕ)) (schedule : ScheduleOf P D E B K) (found : Option (ScheduleOf P D E B K)) (r : Result Outcome X) → found ≡ Some schedule → IfSome found (IsPlanned name runs nested names) → IfOk r (EndsSo schedule) → IfOk r (EndsByPlan name EndsSo runs nested names)
-  is_planned runs nested names schedule found (Ok o) is planned ends = ByPasses schedule (subst (λ f. IfSome f (IsPlanned name runs nested names)) is planned) ends
-  is_planned runs nested names schedule found (Err e) is planned ends = tt
+module _ {P D E B K X : Type 0} (name : P → List ℕ) (EndsSo : PipelineOf P D E B K → Outcome → Type 0) where
+  pub is_planned : (runs : Option ℕ) (nested : Bool) (names : List (List ℕ)) (pipeline : PipelineOf P D E B K) (found : Option (PipelineOf P D E B K)) (r : Result Outcome X) → found ≡ Some pipeline → IfSome found (IsPipelineOf name runs nested names) → IfOk r (EndsSo pipeline) → IfOk r (EndsByPlan name EndsSo runs nested names)
+  is_planned runs nested names pipeline found (Ok o) is planned ends = ByPasses pipeline (subst (λ f. IfSome f (IsPipelineOf name runs nested names)) is planned) ends
+  is_planned runs nested names pipeline found (Err e) is planned ends = tt
 
   pub no_passes : (runs : Option ℕ) (nested : Bool) (names : List (List ℕ)) (r : Result Outcome X) → IfOk r (EndsBadly FaultsWord) → IfOk r (EndsByPlan name EndsSo runs nested names)
   no_passes runs nested names (Ok o) bad = WithoutPasses bad

@@ -1,15 +1,16 @@
 -- How commands end that run the passes a word asks for.
 use Rattle.std.specs.Prelude.{ℕ, Bool, true, List, Option}
 use Rattle.pliron_opts.specs.PipelineTexts.{Plans}
-use Rattle.pliron_instrument.specs.Schedules.{ScheduleOf, IsPlanned}
+use Rattle.pliron_pipeline.specs.Pipelines.{PipelineOf, IsPipelineOf}
 use Rattle.pliron_cli.specs.Outcomes.{EndsBadly}
-use Rattle.pliron_cli.specs.Reports.{Faults, FaultsWord}
+use Rattle.pliron_cli.specs.Reports.{FaultsWord}
+use Rattle.pliron_show.specs.Faults.{Faults}
 use Rattle.pliron_cli.specs.declared.outcome.Outcome.{Outcome}
 
-module _ {P D E B K : Type 0} (name : P → List ℕ) (EndsSo : ScheduleOf P D E B K → Outcome → Type 0) where
-  -- it ends so by a schedule of passes with these names that are run in this way, or since no passes have them
+module _ {P D E B K : Type 0} (name : P → List ℕ) (EndsSo : PipelineOf P D E B K → Outcome → Type 0) where
+  -- it ends so by a pipeline of passes with these names that are run in this way, or since no passes have them
   pub data EndsByPlan (runs : Option ℕ) (nested : Bool) (names : List (List ℕ)) (o : Outcome) : Type 0 where
-    ByPasses : (schedule : ScheduleOf P D E B K) → IsPlanned name runs nested names schedule → EndsSo schedule o → EndsByPlan runs nested names o
+    ByPasses : (pipeline : PipelineOf P D E B K) → IsPipelineOf name runs nested names pipeline → EndsSo pipeline o → EndsByPlan runs nested names o
     WithoutPasses : EndsBadly FaultsWord o → EndsByPlan runs nested names o
 
   -- it ends so by what the word plans, or since it plans nothing, or before the word is read, since the text has a fault

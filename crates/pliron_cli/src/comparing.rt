@@ -11,16 +11,17 @@ use crate::failure::CommandFailure;
 use crate::optimising::misspelling_outcome;
 use crate::outcome::{Outcome, failure_outcome, no_passes_outcome};
 use crate::refusal::refused_outcome;
-use crate::shown::Shown;
 use pliron_core::Context;
 use pliron_diagnostics::{RunOptions, Source, sight_text};
 use pliron_evaluator::evaluator::{Datum, Sight};
 use pliron_instrument::{
-    InstrumentationOptions, Instrumented, InstrumentedSchedule, PipelineText, PlanError, Timeless,
-    build_schedule, run_instrumented,
+    InstrumentationOptions, Instrumented, InstrumentedPipeline, PipelineText, PlanError, Timeless,
+    instrumented_pipeline,
 };
 use pliron_laws::OptError;
+use pliron_opts::run_alone;
 use pliron_pass::{BenchFactKind, Pass};
+use pliron_show::Runnable;
 use std::alloc::{AllocError, Global};
 
 /// The options of runs before and after passes.
@@ -118,29 +119,29 @@ fn likeness_of(sights: &Sights) -> Likeness
 }
 
 /// Reads a text of any notation into the context, and answers what is seen of a run of its operation, and of one after
-/// the passes of the schedule; `None` for an unreadable text.
+/// the passes of the pipeline; `None` for an unreadable text.
 ///
 /// Asks that the context is empty. Errors: those of the passes; allocation failure. Cost: reading, two runs, and the
 /// passes.
 #[tactic(auto, using(crate::proofs::CommandLemmas::are_seen))]
-pub fn compare_text<N: Shown>(
+pub fn compare_text<N: Runnable>(
     alloc: Global,
     text: &[u8],
     options: &RunOptions,
-    schedule: &mut InstrumentedSchedule<N, Timeless>,
+    pipeline: &mut InstrumentedPipeline<N, Timeless>,
     ctx: &mut Context,
 ) -> Result<Option<Sights>, OptError>
     requires { ctx.old.tree ≡ no_tree }
     ensures { IfOk result (λ found. IfSome found (AreSeen N.reads N.D.meaning (map NumberOf options.now.inputs.now)
         (map NumberOf options.now.world.now)
         options.now.steps (RunsAlone ⟦<BenchFactKind as PartialEq>⟧.eq
-        ⟦<InstrumentedSchedule<N, Timeless> as Pass>⟧.outcome schedule.old) text.now)) }
+        ⟦<InstrumentedPipeline<N, Timeless> as Pass>⟧.outcome pipeline.old) text.now)) }
 {
     let Some(root) = N::read(alloc, text, ctx)? else {
         return Ok(None);
     };
     let before = N::run_sight(alloc, root, ctx, options)?;
-    let _status = run_instrumented(alloc, schedule, root, ctx)?;
+    let _status = run_alone(alloc, pipeline, root, ctx)?;
     let after = N::run_sight(alloc, root, ctx, options)?;
     Ok(Some(Sights { before, after }))
 }
@@ -206,24 +207,24 @@ fn outcome_of(alloc: Global, sights: &Sights) -> Result<Outcome, AllocError>
     })
 }
 
-// Compares runs before and after the passes of the schedule, which are the plan's.
+// Compares runs before and after the passes of the pipeline, which are the plan's.
 #[tactic(auto, using(crate::proofs::CommandLemmas::are_compared, crate::proofs::CommandLemmas::refused_so))]
-fn compare_in<N: Shown>(
+fn compare_in<N: Runnable>(
     alloc: Global,
     source: &Source,
     options: &RunOptions,
     plan: &PipelineText,
-    schedule: &mut InstrumentedSchedule<N, Timeless>,
+    pipeline: &mut InstrumentedPipeline<N, Timeless>,
     ctx: &mut Context,
 ) -> Result<Outcome, AllocError>
     requires { ctx.old.tree ≡ no_tree }
     ensures { IfOk result (EndsCompared N.reads N.D.meaning (map NumberOf options.now.inputs.now)
         (map NumberOf options.now.world.now) options.now.steps N.faults
         ⟦<Sight as PartialEq>⟧.eq ⟦<Datum as PartialEq>⟧.eq (RunsAlone ⟦<BenchFactKind as PartialEq>⟧.eq
-        ⟦<InstrumentedSchedule<N, Timeless> as Pass>⟧.outcome schedule.old)
+        ⟦<InstrumentedPipeline<N, Timeless> as Pass>⟧.outcome pipeline.old)
         source.now.text.now) }
 {
-    match compare_text(alloc, source.text, options, schedule, ctx) {
+    match compare_text(alloc, source.text, options, pipeline, ctx) {
         Ok(Some(sights)) => outcome_of(alloc, &sights),
         Ok(None) => failure_outcome::<N>(alloc, CommandFailure::Text, source),
         Err(error) => refused_outcome::<N>(alloc, source, error, plan),
@@ -231,46 +232,41 @@ fn compare_in<N: Shown>(
 }
 
 // The same in a context of its own.
-fn compare_with<N: Shown>(
+fn compare_with<N: Runnable>(
     alloc: Global,
     source: &Source,
     options: &RunOptions,
     plan: &PipelineText,
-    schedule: &mut InstrumentedSchedule<N, Timeless>,
+    pipeline: &mut InstrumentedPipeline<N, Timeless>,
 ) -> Result<Outcome, AllocError>
     ensures { IfOk result (EndsCompared N.reads N.D.meaning (map NumberOf options.now.inputs.now)
         (map NumberOf options.now.world.now) options.now.steps N.faults
         ⟦<Sight as PartialEq>⟧.eq ⟦<Datum as PartialEq>⟧.eq (RunsAlone ⟦<BenchFactKind as PartialEq>⟧.eq
-        ⟦<InstrumentedSchedule<N, Timeless> as Pass>⟧.outcome schedule.old)
+        ⟦<InstrumentedPipeline<N, Timeless> as Pass>⟧.outcome pipeline.old)
         source.now.text.now) }
 {
     let mut ctx = Context::new(alloc);
-    compare_in(alloc, source, options, plan, schedule, &mut ctx)
+    compare_in(alloc, source, options, plan, pipeline, &mut ctx)
 }
 
 // Compares runs before and after the passes that the plan asks for.
 #[tactic(auto, using(crate::proofs::CommandLemmas::is_planned, crate::proofs::CommandLemmas::no_passes))]
-fn compare_by<N: Shown>(
+fn compare_by<N: Runnable>(
     alloc: Global,
     source: &Source,
     options: &RunOptions,
     plan: &PipelineText,
 ) -> Result<Outcome, AllocError>
     ensures { IfOk result (EndsByPlan ⟦<Instrumented<N, Timeless> as Pass>⟧.name
-        (λ schedule. EndsCompared N.reads N.D.meaning (map NumberOf options.now.inputs.now)
+        (λ pipeline. EndsCompared N.reads N.D.meaning (map NumberOf options.now.inputs.now)
         (map NumberOf options.now.world.now) options.now.steps N.faults ⟦<Sight as PartialEq>⟧.eq
         ⟦<Datum as PartialEq>⟧.eq (RunsAlone ⟦<BenchFactKind as PartialEq>⟧.eq
-        ⟦<InstrumentedSchedule<N, Timeless> as Pass>⟧.outcome schedule) source.now.text.now)
+        ⟦<InstrumentedPipeline<N, Timeless> as Pass>⟧.outcome pipeline) source.now.text.now)
         plan.now.runs plan.now.nested (map (λ name. name.now) plan.now.names.items)) }
 {
-    let nothing = InstrumentationOptions {
-        counts: false,
-        verifies: false,
-        prints_all: false,
-        prints: &[],
-    };
-    match build_schedule(alloc, plan, &nothing, Timeless)? {
-        Some(mut schedule) => compare_with::<N>(alloc, source, options, plan, &mut schedule),
+    let nothing = InstrumentationOptions::nothing();
+    match instrumented_pipeline(alloc, plan, &nothing, Timeless)? {
+        Some(mut pipeline) => compare_with::<N>(alloc, source, options, plan, &mut pipeline),
         None => no_passes_outcome(alloc),
     }
 }
@@ -283,16 +279,16 @@ fn compare_by<N: Shown>(
 /// With 1 and 2 nothing is to be written to the output. Errors: allocation failure for what is reported. Cost: reading,
 /// two runs by `evaluate_noting`, and the passes.
 #[tactic(auto, using(crate::proofs::CommandLemmas::is_asked, crate::proofs::CommandLemmas::no_plan, crate::proofs::CommandLemmas::no_text))]
-pub fn compare<N: Shown>(
+pub fn compare<N: Runnable>(
     alloc: Global,
     source: &Source,
     options: &CompareOptions,
 ) -> Result<Outcome, AllocError>
     ensures { IfOk result (EndsByWord ⟦<Instrumented<N, Timeless> as Pass>⟧.name
-        (λ schedule. EndsCompared N.reads N.D.meaning (map NumberOf options.now.run.inputs.now)
+        (λ pipeline. EndsCompared N.reads N.D.meaning (map NumberOf options.now.run.inputs.now)
         (map NumberOf options.now.run.world.now) options.now.run.steps N.faults ⟦<Sight as PartialEq>⟧.eq
         ⟦<Datum as PartialEq>⟧.eq (RunsAlone ⟦<BenchFactKind as PartialEq>⟧.eq
-        ⟦<InstrumentedSchedule<N, Timeless> as Pass>⟧.outcome schedule) source.now.text.now)
+        ⟦<InstrumentedPipeline<N, Timeless> as Pass>⟧.outcome pipeline) source.now.text.now)
         (N.faults source.now.text.now) options.now.pipeline.now) }
 {
     match PipelineText::read(alloc, options.pipeline) {

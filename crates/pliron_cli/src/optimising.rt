@@ -12,15 +12,15 @@ use crate::outcome::{
 };
 use crate::refusal::refused_outcome;
 use crate::report::{ReportOptions, refused_note, report_of};
-use crate::shown::Shown;
 use pliron_diagnostics::{Source, SourceMark, mark_source, pretty};
 use pliron_instrument::{
-    InstrumentationOptions, Instrumented, InstrumentedSchedule, PipelineText, PlanError, Progress,
-    WordFault, build_schedule, instrumented_passes, optimise,
+    InstrumentationOptions, Instrumented, InstrumentedPipeline, PipelineText, PlanError, Progress,
+    WordFault, has_fault, instrumented_pipeline, is_short,
 };
 use pliron_laws::OptError;
-use pliron_opts::Notation;
+use pliron_opts::{TextFailure, Unobserved, optimise, passes_of};
 use pliron_pass::{BenchFactKind, Pass};
+use pliron_show::Shown;
 use std::alloc::{AllocError, Global};
 
 /// The options of passes.
@@ -65,38 +65,24 @@ pub fn misspelling_outcome(
 }
 
 // The text with each operation on a line of its own, or as it is.
-fn break_lines(alloc: Global, printed: String, is_pretty: bool) -> Result<Vec<u8>, AllocError>
-    ensures { IfOk result (λ output. IsLaidOut (string_bytes printed) output.items) }
+fn break_lines(alloc: Global, printed: Vec<u8>, is_pretty: bool) -> Result<Vec<u8>, AllocError>
+    ensures { IfOk result (λ output. IsLaidOut printed.items output.items) }
 {
     if is_pretty {
-        pretty(alloc, printed.as_bytes())
+        pretty(alloc, &printed)
     } else {
-        Ok(printed.into_bytes())
+        Ok(printed)
     }
 }
 
 // The same, with the end of a line behind it.
 #[tactic(auto, using(crate::proofs::CommandLemmas::ended))]
-fn lay_out(alloc: Global, printed: String, is_pretty: bool) -> Result<Vec<u8>, AllocError>
-    ensures { IfOk result (λ output. IsLaidOut (string_bytes printed) output.items) }
+fn lay_out(alloc: Global, printed: Vec<u8>, is_pretty: bool) -> Result<Vec<u8>, AllocError>
+    ensures { IfOk result (λ output. IsLaidOut printed.items output.items) }
 {
     let mut output = break_lines(alloc, printed, is_pretty)?;
     output.push(b'\n')?;
     Ok(output)
-}
-
-// Whether something is missing in what was noted.
-fn is_short<N: Notation, C: Progress + Drop>(passes: &[Instrumented<N, C>]) -> bool {
-    passes.iter().any(|pass| pass.run_record().is_short)
-}
-
-// Whether verifying found something.
-fn has_fault<N: Notation, C: Progress + Drop>(passes: &[Instrumented<N, C>]) -> bool {
-    passes.iter().any(|pass| pass
-        .run_record()
-        .notes
-        .iter()
-        .any(|note| note.fault.is_some()))
 }
 
 // What is reported beside the answer.
@@ -138,19 +124,25 @@ fn opt_with<N: Shown, C: Progress + Copy + Drop>(
     source: &Source,
     options: &OptOptions,
     plan: &PipelineText,
-    schedule: &mut InstrumentedSchedule<N, C>,
+    pipeline: &mut InstrumentedPipeline<N, C>,
     mut report: String,
 ) -> Result<Outcome, AllocError>
     ensures { IfOk result (EndsOptimised N.reads N.prints N.faults N.D.meaning
-        (RunsAlone ⟦<BenchFactKind as PartialEq>⟧.eq ⟦<InstrumentedSchedule<N, C> as Pass>⟧.outcome schedule.old)
+        (RunsAlone ⟦<BenchFactKind as PartialEq>⟧.eq ⟦<InstrumentedPipeline<N, C> as Pass>⟧.outcome pipeline.old)
         options.now.instrumentation.verifies
         source.now.text.now) }
 {
-    let made = optimise(alloc, schedule, source.text);
-    let passes = instrumented_passes(schedule);
+    let mut nothing = Unobserved;
+    let made = optimise::<N, Instrumented<N, C>, Unobserved>(
+        alloc,
+        pipeline,
+        source.text,
+        &mut nothing,
+    );
+    let passes = passes_of(pipeline);
     report.push_str(report_of(alloc, passes, &report_options(options))?.as_str())?;
     match made {
-        Ok(Some(_)) if is_short(passes) => refusal_outcome(
+        Ok(_) if is_short(passes) => refusal_outcome(
             alloc,
             report,
             source,
@@ -158,18 +150,20 @@ fn opt_with<N: Shown, C: Progress + Copy + Drop>(
             plan,
             passes,
         ),
-        Ok(Some(_)) if options.instrumentation.verifies && has_fault(passes) => Ok(Outcome {
+        Ok(_) if options.instrumentation.verifies && has_fault(passes) => Ok(Outcome {
             output: Vec::new(alloc),
             report,
             status: 3,
         }),
-        Ok(Some(made)) => Ok(Outcome {
+        Ok(made) => Ok(Outcome {
             output: lay_out(alloc, made.printed, options.is_pretty)?,
             report,
             status: 0,
         }),
-        Ok(None) => failure_outcome::<N>(alloc, CommandFailure::Text, source),
-        Err(error) => refusal_outcome(alloc, report, source, error, plan, passes),
+        Err(TextFailure::Text(_)) => failure_outcome::<N>(alloc, CommandFailure::Text, source),
+        Err(TextFailure::Refused(error)) => {
+            refusal_outcome(alloc, report, source, error, plan, passes)
+        }
     }
 }
 
@@ -184,13 +178,13 @@ fn opt_by<N: Shown, C: Progress + Copy + Drop>(
     report: String,
 ) -> Result<Outcome, AllocError>
     ensures { IfOk result (EndsByPlan ⟦<Instrumented<N, C> as Pass>⟧.name
-        (λ schedule. EndsOptimised N.reads N.prints N.faults N.D.meaning
-        (RunsAlone ⟦<BenchFactKind as PartialEq>⟧.eq ⟦<InstrumentedSchedule<N, C> as Pass>⟧.outcome schedule)
+        (λ pipeline. EndsOptimised N.reads N.prints N.faults N.D.meaning
+        (RunsAlone ⟦<BenchFactKind as PartialEq>⟧.eq ⟦<InstrumentedPipeline<N, C> as Pass>⟧.outcome pipeline)
         options.now.instrumentation.verifies source.now.text.now) plan.now.runs
         plan.now.nested (map (λ name. name.now) plan.now.names.items)) }
 {
-    match build_schedule::<N, C>(alloc, plan, &options.instrumentation, clock)? {
-        Some(mut schedule) => opt_with(alloc, source, options, plan, &mut schedule, report),
+    match instrumented_pipeline::<N, C>(alloc, plan, &options.instrumentation, clock)? {
+        Some(mut pipeline) => opt_with(alloc, source, options, plan, &mut pipeline, report),
         None => no_passes_outcome(alloc),
     }
 }
@@ -205,8 +199,8 @@ pub(crate) fn opt_after<N: Shown, C: Progress + Copy + Drop>(
     report: String,
 ) -> Result<Outcome, AllocError>
     ensures { IfOk result (EndsByWord ⟦<Instrumented<N, C> as Pass>⟧.name
-        (λ schedule. EndsOptimised N.reads N.prints N.faults N.D.meaning
-        (RunsAlone ⟦<BenchFactKind as PartialEq>⟧.eq ⟦<InstrumentedSchedule<N, C> as Pass>⟧.outcome schedule)
+        (λ pipeline. EndsOptimised N.reads N.prints N.faults N.D.meaning
+        (RunsAlone ⟦<BenchFactKind as PartialEq>⟧.eq ⟦<InstrumentedPipeline<N, C> as Pass>⟧.outcome pipeline)
         options.now.instrumentation.verifies source.now.text.now) (N.faults source.now.text.now)
         options.now.pipeline.now) }
 {
@@ -233,8 +227,8 @@ pub fn opt<N: Shown, C: Progress + Copy + Drop>(
     clock: C,
 ) -> Result<Outcome, AllocError>
     ensures { IfOk result (EndsByWord ⟦<Instrumented<N, C> as Pass>⟧.name
-        (λ schedule. EndsOptimised N.reads N.prints N.faults N.D.meaning
-        (RunsAlone ⟦<BenchFactKind as PartialEq>⟧.eq ⟦<InstrumentedSchedule<N, C> as Pass>⟧.outcome schedule)
+        (λ pipeline. EndsOptimised N.reads N.prints N.faults N.D.meaning
+        (RunsAlone ⟦<BenchFactKind as PartialEq>⟧.eq ⟦<InstrumentedPipeline<N, C> as Pass>⟧.outcome pipeline)
         options.now.instrumentation.verifies source.now.text.now) (N.faults source.now.text.now)
         options.now.pipeline.now) }
 {

@@ -7,15 +7,13 @@ ghost use Rattle.pliron_cli.specs.Reports.{TellsRefusal};
 use crate::live_use::find_live_use;
 use crate::outcome::{Outcome, refused_by, refusing_outcome};
 use crate::report::refused_note;
-use crate::shown::Shown;
 use crate::violation_message::live_use_message;
 use pliron_core::Context;
 use pliron_diagnostics::Source;
-use pliron_instrument::{
-    InstrumentationOptions, PipelineText, Timeless, build_schedule, instrumented_passes,
-    run_instrumented,
-};
+use pliron_instrument::{InstrumentationOptions, PipelineText, Timeless, instrumented_pipeline};
 use pliron_laws::OptError;
+use pliron_opts::{passes_of, run_alone};
+use pliron_show::Shown;
 use std::alloc::{AllocError, Global};
 
 // What is reported of the plan's passes on the text, in this empty context.
@@ -28,19 +26,15 @@ fn refusal_message_in<N: Shown>(
     requires { ctx.old.tree ≡ no_tree }
     ensures { IfOk result (λ found. IfSome found (λ message. TellsRefusal (string_bytes message))) }
 {
-    let nothing = InstrumentationOptions {
-        counts: false,
-        verifies: false,
-        prints_all: false,
-        prints: &[],
-    };
+    let nothing = InstrumentationOptions::nothing();
     let Some(root) = N::read(alloc, source.text, ctx)? else {
         return Ok(None);
     };
-    let Some(mut schedule) = build_schedule::<N, Timeless>(alloc, plan, &nothing, Timeless)? else {
+    let Some(mut pipeline) = instrumented_pipeline::<N, Timeless>(alloc, plan, &nothing, Timeless)?
+    else {
         return Ok(None);
     };
-    match run_instrumented(alloc, &mut schedule, root, ctx) {
+    match run_alone(alloc, &mut pipeline, root, ctx) {
         Err(OptError::LiveUse) => {}
         Err(error) => return Err(error),
         Ok(_) => return Ok(None),
@@ -49,7 +43,7 @@ fn refusal_message_in<N: Shown>(
         return Ok(None);
     };
     let mut message = live_use_message::<N>(alloc, source, &found, ctx)?;
-    let note = refused_note(alloc, instrumented_passes(&schedule))?;
+    let note = refused_note(alloc, passes_of(&pipeline))?;
     message.push_str(note.as_str())?;
     Ok(Some(message))
 }

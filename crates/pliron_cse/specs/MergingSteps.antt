@@ -93,7 +93,7 @@ pub record IsExact (side_effects : Head → Option Bool) (t0 t : Tree) (root : �
 -- what holds when the operations before the place were visited
 pub record IsMergedUpTo (m : Meaning) (side_effects : Head → Option Bool) (t0 t : Tree) (root : ℕ) (ops ends : List ℕ) (place : ℕ) (find : List ℕ → Option ℕ) (status : IRStatus) : Type 0 where
   pub way : IsOnWay m t0 t root
-  pub taken : (xs : List Pair) × MergeInTurn side_effects root xs t0 t
+  pub merged : (xs : List Pair) × MergeInTurn side_effects root xs t0 t
   pub accurate : ReportsErased t0 t status
   pub ordered : IsOrdered t root ops ends place
   pub exact : IsExact side_effects t0 t root ops ends place find status

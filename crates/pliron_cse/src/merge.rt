@@ -125,10 +125,10 @@ fn merge_at<D: Dialect, R: Rewriter + Room>(
 ) -> Result<bool, OptError>
     requires place { place < length order.now.operations.items }
     requires ordered { (root : ℕ) × IsOrdered ctx.old.tree root order.now.operations.items order.now.ends.items place }
-    ensures taken { IfOk result (λ taken. MergesOrStays D.side_effects ctx.old.tree ctx.new.tree
-        order.now.operations.items order.now.ends.items place taken) }
-    ensures leaders { IfOk result (λ taken. LeadsOn D.side_effects ctx.old.tree order.now.operations.items
-        order.now.ends.items place (λ key. leader_with leaders.old key) (λ key. leader_with leaders.new key) taken) }
+    ensures merged { IfOk result (λ merged. MergesOrStays D.side_effects ctx.old.tree ctx.new.tree
+        order.now.operations.items order.now.ends.items place merged) }
+    ensures leaders { IfOk result (λ merged. LeadsOn D.side_effects ctx.old.tree order.now.operations.items
+        order.now.ends.items place (λ key. leader_with leaders.old key) (λ key. leader_with leaders.new key) merged) }
     ensures refused { OnErr result (MergesInPart D.side_effects ctx.old.tree ctx.new.tree order.now.operations.items
         order.now.ends.items place) }
     ensures memory { IsOkUnless result OptError.Memory }
@@ -148,10 +148,10 @@ fn merge_at<D: Dialect, R: Rewriter + Room>(
 }
 
 // `Changed` if one was erased, else as before.
-fn status_with(status: IRStatus, taken: bool) -> IRStatus
-    ensures { result ≡ status_after status taken }
+fn status_with(status: IRStatus, merged: bool) -> IRStatus
+    ensures { result ≡ status_after status merged }
 {
-    if taken { IRStatus::Changed } else { status }
+    if merged { IRStatus::Changed } else { status }
 }
 
 /// The redundant ones among these operations are erased. Answers whether one was.
@@ -168,7 +168,7 @@ pub fn merge_all<D: Dialect, R: Rewriter + Room>(
     requires live { IsLive ctx.old.tree root }
     requires linked { IsWellLinked D.meaning ctx.old.tree root }
     requires ordered { IsOrdered ctx.old.tree root order.now.operations.items order.now.ends.items 0 }
-    ensures taken { (xs : List Pair) × AreMergedSoFar D.side_effects root xs ctx.old.tree ctx.new.tree × OnOk result
+    ensures merged { (xs : List Pair) × AreMergedSoFar D.side_effects root xs ctx.old.tree ctx.new.tree × OnOk result
         (MergeInTurn D.side_effects root xs ctx.old.tree ctx.new.tree) }
     ensures way { IsOnWay D.meaning ctx.old.tree ctx.new.tree root }
     ensures accurate { IfOk result (λ a. ReportsErased ctx.old.tree ctx.new.tree a) }
@@ -182,8 +182,8 @@ pub fn merge_all<D: Dialect, R: Rewriter + Room>(
         ctx.well_formed();
         let outcome = merge_at::<D, R>(alloc, order, place, &mut leaders, ctx, rewriter);
         ctx.well_formed();
-        let taken = outcome?;
-        status = status_with(status, taken);
+        let merged = outcome?;
+        status = status_with(status, merged);
     }
     ctx.well_formed();
     Ok(status)

@@ -3,4 +3,3 @@ pub mod EvaluatorLemmas
 pub mod EvaluatorSteps
 pub mod TinyMoves
 pub mod BenchActs
-mod KindMoves

@@ -2,4 +2,3 @@ pub mod Tiny
 pub mod Evaluator
 pub mod TinyLaws
 pub mod TinyEntries
-pub mod OwnMoves

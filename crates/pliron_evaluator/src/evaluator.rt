@@ -8,9 +8,7 @@ ghost use Rattle.pliron_evaluator.specs.Evaluator.{datum_of_value, sight_of};
 
 mod bench_moves;
 mod environment;
-mod kind_moves;
 mod notes;
-pub mod own_moves;
 mod shapes;
 mod state;
 mod tiny_moves;

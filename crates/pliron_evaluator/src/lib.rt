@@ -1,7 +1,6 @@
-//! The evaluator, which is for tests: what is seen of a run, for `Bench`, for dialects by tables, and for the tiny
-//! dialect, which is here too.
+//! The evaluator, which is for tests: what is seen of a run, for `Bench` and for the tiny dialect, which is here too.
 //!
-//! It knows the laws of dialects and these dialects; of texts and of rewrites it knows nothing.
+//! It knows the laws of dialects and these two dialects; of texts and of rewrites it knows nothing.
 #![tactic(auto)]
 
 pub mod evaluator;

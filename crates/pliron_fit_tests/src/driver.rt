@@ -1,6 +1,7 @@
 //! docs/DRIVERS.md: a driver that makes a tree by calls, checks it, optimises and prints.
 ghost use Rattle.pliron_core.specs.Tree.{IsLive};
 
+use super::expect::expect_text;
 use pliron_bench::heads::{attribute_head, plain_head};
 use pliron_bench::{Bench, BenchKind};
 use pliron_core::{
@@ -94,7 +95,7 @@ fn check_in(rt: &impl Abort, alloc: Global, ctx: &mut Context, is_right: bool, w
     let root = square(alloc, ctx, is_right).expect(rt, "memory");
     assert!(rt; root.is_live(ctx));
     let said = optimise_root(alloc, root, ctx).expect(rt, "memory");
-    assert_eq!(rt; said.as_str(), want);
+    expect_text(rt, said.as_str(), want, "the driver");
 }
 
 #[test]

@@ -15,6 +15,6 @@ mod reading;
 #[cfg(test)]
 mod texts;
 #[cfg(test)]
-mod trees;
+pub mod trees;
 #[cfg(test)]
 mod wholes;

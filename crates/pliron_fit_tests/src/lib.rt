@@ -7,6 +7,8 @@ mod by_definition;
 #[cfg(test)]
 mod driver;
 #[cfg(test)]
+mod expect;
+#[cfg(test)]
 mod ill_defined;
 #[cfg(test)]
 mod random;

@@ -1,6 +1,7 @@
 //! Each operation with regions, of texts made at random, is fit to run exactly where the definition says so,
 //! and the functions of texts that are well defined by construction are.
-use super::by_definition::{Use, all_of, all_uses, holders_among, is_fit_by_definition};
+use super::by_definition::{Use, all_uses, is_fit_by_definition};
+use super::ill_defined::trees::{all_of, holders_of};
 use pliron_bench::Bench;
 use pliron_core::{Context, Operation, Ptr};
 use pliron_fit::is_fit;
@@ -29,12 +30,9 @@ fn compare(
     assert!(rt; root.is_live(ctx));
     assert!(rt; is_well_linked::<Bench>(root, ctx));
     let fit = is_fit::<Bench>(alloc, root, ctx).expect(rt, "memory");
+    let by_definition = is_fit_by_definition(rt, alloc, all, uses, root, ctx);
     let key = root.key();
-    assert_eq!(rt;
-        fit,
-        is_fit_by_definition(rt, alloc, all, uses, root, ctx),
-        "operation {key}"
-    );
+    assert!(rt; fit == by_definition, "operation {key}");
     fit
 }
 
@@ -46,26 +44,37 @@ fn is_function(op: Ptr<Operation>, whole: Ptr<Operation>, ctx: &Context) -> bool
     op == whole || (is_module(whole, ctx) && op.get_parent_op(ctx) == Some(whole))
 }
 
-fn compare_all(rt: &impl Abort, alloc: Global, ctx: &mut Context, subject: &Subject) {
-    let Some(whole) = read(alloc, ctx, &subject.text) else {
-        return;
-    };
+fn compare_roots(
+    rt: &impl Abort,
+    alloc: Global,
+    ctx: &Context,
+    whole: Ptr<Operation>,
+    subject: &Subject,
+) {
     let all = all_of(rt, alloc, whole, ctx);
     let uses = all_uses(rt, alloc, &all, ctx);
-    let text = subject.text.as_str();
-    for root in &holders_among(rt, alloc, &all, ctx) {
+    for root in &holders_of(rt, alloc, whole, ctx) {
         let fit = compare(rt, alloc, &all, &uses, *root, ctx);
-        if subject.kind == Kind::Defined && is_function(*root, whole, ctx) {
-            assert!(rt; fit, "{text}");
-        }
+        let is_defined = subject.kind == Kind::Defined && is_function(*root, whole, ctx);
+        assert!(rt; fit || !is_defined);
     }
+}
+
+fn compare_all(rt: &impl Abort, alloc: Global, ctx: &mut Context, subject: &Subject) {
+    if let Some(whole) = read(alloc, ctx, &subject.text) {
+        compare_roots(rt, alloc, ctx, whole, subject);
+    }
+}
+
+fn compare_text(rt: &impl Abort, alloc: Global, seed: u64) {
+    let subject = Subject::new(alloc, seed).expect(rt, "memory");
+    let mut ctx = Context::new(alloc);
+    compare_all(rt, alloc, &mut ctx, &subject);
 }
 
 fn compare_texts(rt: &impl Abort, alloc: Global, first: u64) {
     for place in 0..TEXTS {
-        let subject = Subject::new(alloc, first.wrapping_add(place)).expect(rt, "memory");
-        let mut ctx = Context::new(alloc);
-        compare_all(rt, alloc, &mut ctx, &subject);
+        compare_text(rt, alloc, first.wrapping_add(place));
     }
 }
 

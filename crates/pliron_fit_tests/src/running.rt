@@ -1,5 +1,5 @@
 //! Checked passes: roots that were fit to run are fit afterwards, and what is not well linked is refused.
-use super::by_definition::{all_of, holders_among};
+use super::ill_defined::trees::holders_of;
 use pliron_bench::Bench;
 use pliron_core::{Context, IRStatus, Operation, Ptr};
 use pliron_fit::{RunError, fit_roots, is_fit, run_checked, run_checked_for};
@@ -37,29 +37,48 @@ fn are_fit(rt: &impl Abort, alloc: Global, roots: &[Ptr<Operation>], ctx: &Conte
     }
 }
 
-// Where a malformed text has a use of what is unreachable, simplification gives up.
-fn run_in(rt: &impl Abort, alloc: Global, ctx: &mut Context, text: &str) {
-    let Some(whole) = read(alloc, ctx, text) else {
-        return;
-    };
-    let all = all_of(rt, alloc, whole, ctx);
-    let roots = holders_among(rt, alloc, &all, ctx);
-    let before = fit_roots::<Bench>(alloc, &roots, ctx).expect(rt, "memory");
+// A run of the passes on the whole answers which of the roots were fit before it. Where a malformed text has a use
+// of what is unreachable, simplification gives up.
+fn run_line(
+    rt: &impl Abort,
+    alloc: Global,
+    ctx: &mut Context,
+    whole: Ptr<Operation>,
+    roots: &[Ptr<Operation>],
+    before: &[Ptr<Operation>],
+) {
     let mut passes = line(rt, alloc);
     let mut analyses = AnalysisManager::new(alloc);
     assert!(rt; whole.is_live(ctx));
-    match run_checked_for(&mut passes, alloc, whole, &roots, ctx, &mut analyses) {
-        Ok(run) => assert!(rt; run.fit == before),
+    match run_checked_for(&mut passes, alloc, whole, roots, ctx, &mut analyses) {
+        Ok(run) => assert!(rt; run.fit.as_slice() == before),
         Err(fault) => assert!(rt; fault == RunError::Fault(OptError::LiveUse), "{fault}"),
     }
+}
+
+// The roots that were fit to run are fit afterwards.
+fn run_whole(rt: &impl Abort, alloc: Global, ctx: &mut Context, whole: Ptr<Operation>) {
+    let roots = holders_of(rt, alloc, whole, ctx);
+    let before = fit_roots::<Bench>(alloc, &roots, ctx).expect(rt, "memory");
+    run_line(rt, alloc, ctx, whole, &roots, &before);
     are_fit(rt, alloc, &before, ctx);
+}
+
+fn run_in(rt: &impl Abort, alloc: Global, ctx: &mut Context, text: &str) {
+    if let Some(whole) = read(alloc, ctx, text) {
+        run_whole(rt, alloc, ctx, whole);
+    }
+}
+
+fn run_text(rt: &impl Abort, alloc: Global, seed: u64) {
+    let subject = Subject::new(alloc, seed).expect(rt, "memory");
+    let mut ctx = Context::new(alloc);
+    run_in(rt, alloc, &mut ctx, &subject.text);
 }
 
 fn run_texts(rt: &impl Abort, alloc: Global, first: u64) {
     for place in 0..TEXTS {
-        let subject = Subject::new(alloc, first.wrapping_add(place)).expect(rt, "memory");
-        let mut ctx = Context::new(alloc);
-        run_in(rt, alloc, &mut ctx, &subject.text);
+        run_text(rt, alloc, first.wrapping_add(place));
     }
 }
 

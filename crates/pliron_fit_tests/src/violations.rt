@@ -1,5 +1,6 @@
 //! Operations, and what keeps them from being fit to run: each kind of violation with a small tree that has it, and
 //! one beside it that has none.
+use super::expect::expect_text;
 use super::traps::Traps;
 use pliron_bench::Bench;
 use pliron_core::{Context, Operation, Ptr};
@@ -88,56 +89,70 @@ fn find_in_text<D: Dialect>(
     assert!(rt; root.is_live(ctx));
     let violation = find_violation::<D>(alloc, root, ctx).expect(rt, "memory");
     let fit = is_fit::<D>(alloc, root, ctx).expect(rt, "memory");
-    assert_eq!(rt; fit, violation.is_none());
+    assert!(rt; fit == violation.is_none());
     match violation {
         Some(violation) => format!(in alloc; "{violation}").expect(rt, "memory"),
         None => format!(in alloc; "fit").expect(rt, "memory"),
     }
 }
 
-fn tree_in(rt: &impl Abort, alloc: Global, ctx: &mut Context, case: &str) {
-    let Row { name, asked, want } = row_of(case).expect(rt, "a case");
-    let root = build(alloc, ctx, asked).expect(rt, "a tree");
-    let answer = find_in_text::<Tiny>(rt, alloc, ctx, root);
-    assert_eq!(rt; answer.as_str(), want, "{name}");
+/// What the cases of a table are.
+#[derive(Clone, Copy)]
+enum Subject {
+    Tree,
+    Text,
+    Trap,
 }
 
-fn trap_in(rt: &impl Abort, alloc: Global, ctx: &mut Context, case: &str) {
-    let Row { name, asked, want } = row_of(case).expect(rt, "a case");
-    let root = build(alloc, ctx, asked).expect(rt, "a tree");
-    let answer = find_in_text::<Traps>(rt, alloc, ctx, root);
-    assert_eq!(rt; answer.as_str(), want, "{name}");
+fn answer(
+    rt: &impl Abort,
+    alloc: Global,
+    ctx: &mut Context,
+    subject: Subject,
+    asked: &str,
+) -> String {
+    match subject {
+        Subject::Tree => {
+            let root = build(alloc, ctx, asked).expect(rt, "a tree");
+            find_in_text::<Tiny>(rt, alloc, ctx, root)
+        }
+        Subject::Text => {
+            let (place, text) = fields(asked).expect(rt, "a place");
+            let whole = read(alloc, ctx, text).expect(rt, "a text");
+            let root = operation_at(ctx, whole, place).expect(rt, "an operation");
+            find_in_text::<Bench>(rt, alloc, ctx, root)
+        }
+        Subject::Trap => {
+            let root = build(alloc, ctx, asked).expect(rt, "a tree");
+            find_in_text::<Traps>(rt, alloc, ctx, root)
+        }
+    }
 }
 
-fn text_in(rt: &impl Abort, alloc: Global, ctx: &mut Context, case: &str) {
+fn check(rt: &impl Abort, alloc: Global, subject: Subject, case: &str) {
     let Row { name, asked, want } = row_of(case).expect(rt, "a case");
-    let (place, text) = fields(asked).expect(rt, "a place");
-    let whole = read(alloc, ctx, text).expect(rt, "a text");
-    let root = operation_at(ctx, whole, place).expect(rt, "an operation");
-    let answer = find_in_text::<Bench>(rt, alloc, ctx, root);
-    assert_eq!(rt; answer.as_str(), want, "{name}");
+    let mut ctx = Context::new(alloc);
+    let answer = answer(rt, alloc, &mut ctx, subject, asked);
+    expect_text(rt, answer.as_str(), want, name);
+}
+
+fn check_table(rt: &impl Abort, alloc: Global, subject: Subject, table: &str) {
+    for case in table.lines() {
+        check(rt, alloc, subject, case);
+    }
 }
 
 #[test]
 fn trees_are_fit_or_not(rt: HostRuntime) {
-    for case in TREES.lines() {
-        let mut ctx = Context::new(rt.alloc());
-        tree_in(&rt, rt.alloc(), &mut ctx, case);
-    }
+    check_table(&rt, rt.alloc(), Subject::Tree, TREES);
 }
 
 #[test]
 fn texts_are_fit_or_not(rt: HostRuntime) {
-    for case in TEXTS.lines() {
-        let mut ctx = Context::new(rt.alloc());
-        text_in(&rt, rt.alloc(), &mut ctx, case);
-    }
+    check_table(&rt, rt.alloc(), Subject::Text, TEXTS);
 }
 
 #[test]
 fn trees_of_loose_dialects_are_fit_or_not(rt: HostRuntime) {
-    for case in TRAPS.lines() {
-        let mut ctx = Context::new(rt.alloc());
-        trap_in(&rt, rt.alloc(), &mut ctx, case);
-    }
+    check_table(&rt, rt.alloc(), Subject::Trap, TRAPS);
 }

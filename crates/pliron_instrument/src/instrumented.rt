@@ -1,6 +1,7 @@
 //! A pass that is instrumented.
 ghost use Rattle.std.specs.Prelude.{◌≡◌, false};
 ghost use Rattle.pliron_core.specs.Tree.{IsLive};
+ghost use Rattle.pliron_pipeline.specs.AccurateSteps.{optimisation_same};
 
 use crate::comparison::{Comparison, Snapshot};
 use crate::progress::Progress;
@@ -9,7 +10,7 @@ use pliron_core::{Context, IRStatus, Operation, Ptr};
 use pliron_laws::OptError;
 use pliron_opts::Notation;
 use pliron_pass::{AnalysisKind, AnalysisManager, BenchFacts, Pass, PassResult, verify_operation};
-use pliron_pipeline::PassStep;
+use pliron_pipeline::{PassStep, Step};
 use std::alloc::{AllocError, Global};
 use std::time::Clock;
 
@@ -113,7 +114,8 @@ impl<N: Notation, C: Progress + Drop> Instrumented<N, C> {
             None
         };
         let printed = if self.instrumentation.prints {
-            Some(N::print(alloc, op, ctx)?)
+            let printed = N::print(alloc, op, ctx)?;
+            Some(String::from_utf8_lossy(alloc, &printed)?)
         } else {
             None
         };
@@ -193,4 +195,18 @@ impl<N: Notation, C: Progress + Drop> Pass for Instrumented<N, C> {
     fn is_pass_manager(&self) -> bool {
         false
     }
+}
+
+impl<N: Notation, C: Progress + Drop> Step for Instrumented<N, C> {
+    ghost accurate = { record { same = λ p q op s s' a runs. optimisation_same _ _ _ op s s' a runs.1 } };
+}
+
+/// Whether verifying found something after a run of one of the passes. Cost: linear in the runs.
+pub fn has_fault<N: Notation, C: Progress + Drop>(passes: &[Instrumented<N, C>]) -> bool {
+    passes.iter().any(|pass| pass.records.notes.iter().any(|note| note.fault.is_some()))
+}
+
+/// Whether something is missing in what was noted of the passes, since memory was refused. Cost: linear in the passes.
+pub fn is_short<N: Notation, C: Progress + Drop>(passes: &[Instrumented<N, C>]) -> bool {
+    passes.iter().any(|pass| pass.records.is_short)
 }

@@ -3,23 +3,17 @@
 //! It knows passes and notations of any dialect; of marks, tables, arguments, files and streams it knows nothing.
 #![tactic(auto)]
 
-mod change_reports;
 mod comparison;
 mod contents_count;
 mod instrumented;
-mod optimise_text;
+mod pipeline;
 mod progress;
 mod run_records;
-mod schedule;
 
 pub use comparison::{Comparison, RewriteCounts};
 pub use contents_count::ContentsCount;
-pub use instrumented::{Instrumentation, Instrumented};
-pub use optimise_text::{OptimisedText, optimise, run_instrumented};
+pub use instrumented::{Instrumentation, Instrumented, has_fault, is_short};
+pub use pipeline::{InstrumentationOptions, InstrumentedPipeline, instrumented_pipeline};
 pub use pliron_opts::{PipelineText, PlanError, WordFault};
 pub use progress::{Progress, Timeless};
 pub use run_records::{InstrumentationRecord, RoundRecord, RunNote};
-pub use schedule::{
-    InstrumentationOptions, InstrumentedPipeline, InstrumentedSchedule, build_schedule,
-    instrumented_passes,
-};

@@ -94,6 +94,7 @@ switch_edge kind (width ∷ cases) c = option_map (edge_of_case 1 cases) (bits_a
 -- how many parts of each sort it has: any number, no regions, or nothing but one region
 abbrev pub allows_of_class : Class → Head → (a b c d : ℕ) → Bool
 allows_of_class Effect h a b c d = nat_eq d 0
+allows_of_class Fork h a b c d = nat_eq d 0
 allows_of_class Root h a b c d = nat_eq a 0 && (nat_eq b 0 && nat_eq d 1)
 allows_of_class Module h a b c d = nat_eq a 0 && (nat_eq b 0 && nat_eq d 1)
 allows_of_class _ h a b c d = true

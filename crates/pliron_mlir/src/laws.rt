@@ -2,8 +2,7 @@
 ghost use Rattle.pliron_laws.specs.Folding.{FoldsMonotonely};
 
 use crate::kind::{Interpretation, MlirKind};
-use crate::meaning::{AnyMeaning, Mlir};
-use pliron_laws::{BranchOpFoldInterface, ConstFoldInterface, Dialect, HasMeaning};
+use pliron_laws::{BranchOpFoldInterface, ConstFoldInterface, HasMeaning};
 use pliron_roles::ByRoles;
 
 /// Knowing more operands keeps each constant that folding answers, and adds no block that a branch may go to: so the
@@ -16,13 +15,4 @@ pub fn folds_are_monotone<I: Interpretation>()
         ⟦<ByRoles<MlirKind<I>> as BranchOpFoldInterface>⟧.feasible }
 {
     pliron_roles::laws::folds_are_monotone::<MlirKind<I>>()
-}
-
-// Asks for a dialect.
-fn of_dialect<D: Dialect>() {}
-
-/// `Mlir<I>` is a dialect under every interpretation, and so is that of programs. Cost: constant.
-pub fn is_dialect<I: Interpretation>() {
-    of_dialect::<Mlir<I>>();
-    of_dialect::<Mlir<AnyMeaning>>()
 }

@@ -1,4 +1,3 @@
-mod ClosedLemmas
 mod OutcomeLemmas
 mod PlanLemmas
 mod StreamLemmas

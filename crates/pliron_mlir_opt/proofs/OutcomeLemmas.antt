@@ -4,7 +4,7 @@ use Rattle.pliron_core.specs.Tree.{Tree}
 use Rattle.pliron_core.specs.declared.attrs.IRStatus.{IRStatus}
 use Rattle.pliron_laws.specs.Datum.{Meaning}
 use Rattle.pliron_opts.specs.Answered.{Reads, Prints, IsOptimised, status_line}
-use Rattle.pliron_instrument.specs.Schedules.{ScheduleOf, IsPlanned}
+use Rattle.pliron_pipeline.specs.Pipelines.{PipelineOf, IsPipelineOf}
 use Rattle.pliron_mlir_opt.specs.declared.outcome.Outcome.{Outcome}
 use Rattle.pliron_mlir_opt.specs.Outcomes.{EndsWithout, Writes, EndsOptimised, EndsOptimised.WithModule, EndsOptimised.WithoutModule, EndsByPlan, EndsByPlan.ByPasses, EndsByPlan.WithoutPasses}
 
@@ -21,10 +21,10 @@ module _ (reads : Reads) (prints : Prints) (m : Meaning) (ran : ℕ → Tree →
   ends_without (Ok o) without = WithoutModule without
   ends_without (Err e) without = tt
 
-module _ {P D E B K X : Type 0} (name : P → List ℕ) (EndsSo : ScheduleOf P D E B K → Outcome → Type 0) where
-  pub ends_planned : (runs : Option ℕ) (nested : Bool) (names : List (List ℕ)) (schedule : ScheduleOf P D E B K) (found : Option (ScheduleOf P D E B K)) (r : Result Outcome X) → found ≡ Some schedule → IfSome found (IsPlanned name runs nested names) → IfOk r (EndsSo schedule) → IfOk r (EndsByPlan name EndsSo runs nested names)
-  ends_planned runs nested names schedule found (Ok o) is planned ends = ByPasses schedule (subst (λ f. IfSome f (IsPlanned name runs nested names)) is planned) ends
-  ends_planned runs nested names schedule found (Err e) is planned ends = tt
+module _ {P D E B K X : Type 0} (name : P → List ℕ) (EndsSo : PipelineOf P D E B K → Outcome → Type 0) where
+  pub ends_planned : (runs : Option ℕ) (nested : Bool) (names : List (List ℕ)) (pipeline : PipelineOf P D E B K) (found : Option (PipelineOf P D E B K)) (r : Result Outcome X) → found ≡ Some pipeline → IfSome found (IsPipelineOf name runs nested names) → IfOk r (EndsSo pipeline) → IfOk r (EndsByPlan name EndsSo runs nested names)
+  ends_planned runs nested names pipeline found (Ok o) is planned ends = ByPasses pipeline (subst (λ f. IfSome f (IsPipelineOf name runs nested names)) is planned) ends
+  ends_planned runs nested names pipeline found (Err e) is planned ends = tt
 
   pub ends_unplanned : (runs : Option ℕ) (nested : Bool) (names : List (List ℕ)) (r : Result Outcome X) → IfOk r EndsWithout → IfOk r (EndsByPlan name EndsSo runs nested names)
   ends_unplanned runs nested names (Ok o) without = WithoutPasses without

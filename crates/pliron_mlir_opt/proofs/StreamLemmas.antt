@@ -1,18 +1,10 @@
 -- How the program ends on its streams.
 use Rattle.std.proofs.Common.{◌≡◌, ℕ, Bool, List, [], ◌++◌, Option, Some, None, IfSome, Result, Ok, Err, IfOk, refl, sym, ap, ◌∙◌}
-use Rattle.std.specs.Io.KnownBytes.{Appends, Keeps}
 use Rattle.pliron_opts.specs.Ending.{IsRestOfInput}
-use Rattle.pliron_instrument.specs.Schedules.{ScheduleOf}
+use Rattle.pliron_pipeline.specs.Pipelines.{PipelineOf}
 use Rattle.pliron_mlir_opt.specs.declared.outcome.Outcome.{Outcome}
 use Rattle.pliron_mlir_opt.specs.Outcomes.{EndsWithout, EndsByPlan, AsksFor, EndsByWord, EndsByWord.ByWord, EndsByWord.WithoutWord}
 use Rattle.pliron_mlir_opt.specs.Streams.{IsOfInput, IsWritten, EndsOnStreams, EndsOnStreams.WithOutcome}
-
--- what was appended stays
-pub appends_kept : (old between new : Option (List ℕ)) (bytes : List ℕ) → Appends old between bytes → Keeps between new → Appends old new bytes
-appends_kept None between new bytes appends keeps = tt
-appends_kept (Some xs) None new bytes appends keeps = absurd appends
-appends_kept (Some xs) (Some ys) None bytes appends keeps = absurd keeps
-appends_kept (Some xs) (Some ys) (Some zs) bytes appends keeps = keeps ∙ appends
 
 -- all that was left is read into an empty buffer, and passed on
 pub is_rest : (known : Option (List ℕ)) (old new text : List ℕ) → IfSome known (λ bytes. new ≡ old ++ bytes) → old ≡ [] → text ≡ new → IsRestOfInput known text
@@ -20,11 +12,11 @@ is_rest None old new text is none same = tt
 is_rest (Some bytes) old new text is none same = sym (same ∙ is ∙ ap (λ first. first ++ bytes) none)
 
 module _ {P D E B K X : Type 0} (name : P → List ℕ) where
-  pub ends_by_word : (EndsSo : ScheduleOf P D E B K → Outcome → Type 0) (word : List ℕ) (runs : Option ℕ) (nested : Bool) (names : List (List ℕ)) (r : Result Outcome X) → AsksFor word runs nested names → IfOk r (EndsByPlan name EndsSo runs nested names) → IfOk r (EndsByWord name EndsSo word)
+  pub ends_by_word : (EndsSo : PipelineOf P D E B K → Outcome → Type 0) (word : List ℕ) (runs : Option ℕ) (nested : Bool) (names : List (List ℕ)) (r : Result Outcome X) → AsksFor word runs nested names → IfOk r (EndsByPlan name EndsSo runs nested names) → IfOk r (EndsByWord name EndsSo word)
   ends_by_word EndsSo word runs nested names (Ok o) asked ends = ByWord runs nested names asked ends
   ends_by_word EndsSo word runs nested names (Err e) asked ends = tt
 
-  pub ends_without_word : (EndsSo : ScheduleOf P D E B K → Outcome → Type 0) (word : List ℕ) (r : Result Outcome X) → IfOk r EndsWithout → IfOk r (EndsByWord name EndsSo word)
+  pub ends_without_word : (EndsSo : PipelineOf P D E B K → Outcome → Type 0) (word : List ℕ) (r : Result Outcome X) → IfOk r EndsWithout → IfOk r (EndsByWord name EndsSo word)
   ends_without_word EndsSo word (Ok o) without = WithoutWord without
   ends_without_word EndsSo word (Err e) without = tt
 
@@ -43,7 +35,7 @@ unfolding whole_of
 whole_is_rest None = tt
 whole_is_rest (Some bytes) = refl
 
-pub of_unread : {P D E B K X : Type 0} (name : P → List ℕ) (EndsSo : List ℕ → ScheduleOf P D E B K → Outcome → Type 0) (word : List ℕ) (known : Option (List ℕ)) (r : Result Outcome X) → IfOk r EndsWithout → IfOk r (IsOfInput (λ text. EndsByWord name (EndsSo text) word) known)
+pub of_unread : {P D E B K X : Type 0} (name : P → List ℕ) (EndsSo : List ℕ → PipelineOf P D E B K → Outcome → Type 0) (word : List ℕ) (known : Option (List ℕ)) (r : Result Outcome X) → IfOk r EndsWithout → IfOk r (IsOfInput (λ text. EndsByWord name (EndsSo text) word) known)
 of_unread name EndsSo word known (Ok o) without = (whole_of known, whole_is_rest known, WithoutWord without)
 of_unread name EndsSo word known (Err e) without = tt
 

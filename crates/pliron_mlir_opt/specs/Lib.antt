@@ -1,3 +1,2 @@
-pub mod Closed
 pub mod Outcomes
 pub mod Streams

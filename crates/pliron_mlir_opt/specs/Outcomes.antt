@@ -5,7 +5,7 @@ use Rattle.pliron_core.specs.declared.attrs.IRStatus.{IRStatus}
 use Rattle.pliron_laws.specs.Datum.{Meaning}
 use Rattle.pliron_opts.specs.Answered.{Reads, Prints, IsOptimised, status_line}
 use Rattle.pliron_opts.specs.PipelineTexts.{Plans}
-use Rattle.pliron_instrument.specs.Schedules.{ScheduleOf, IsPlanned}
+use Rattle.pliron_pipeline.specs.Pipelines.{PipelineOf, IsPipelineOf}
 use Rattle.pliron_mlir_opt.specs.declared.outcome.Outcome.{Outcome}
 
 -- nothing is to be written, and the status is 1, 2 or 3
@@ -28,8 +28,8 @@ module _ (reads : Reads) (prints : Prints) (m : Meaning) (ran : ℕ → Tree →
     WithoutModule : EndsWithout o → EndsOptimised o
 
 -- it ends so by passes that have these names and are run so, or nothing is to be written
-pub data EndsByPlan {P D E B K : Type 0} (name : P → List ℕ) (EndsSo : ScheduleOf P D E B K → Outcome → Type 0) (runs : Option ℕ) (nested : Bool) (names : List (List ℕ)) (o : Outcome) : Type 0 where
-  ByPasses : (schedule : ScheduleOf P D E B K) → IsPlanned name runs nested names schedule → EndsSo schedule o → EndsByPlan name EndsSo runs nested names o
+pub data EndsByPlan {P D E B K : Type 0} (name : P → List ℕ) (EndsSo : PipelineOf P D E B K → Outcome → Type 0) (runs : Option ℕ) (nested : Bool) (names : List (List ℕ)) (o : Outcome) : Type 0 where
+  ByPasses : (pipeline : PipelineOf P D E B K) → IsPipelineOf name runs nested names pipeline → EndsSo pipeline o → EndsByPlan name EndsSo runs nested names o
   WithoutPasses : EndsWithout o → EndsByPlan name EndsSo runs nested names o
 
 -- the word is empty, and asks for no pass; or it plans passes of these names
@@ -38,6 +38,6 @@ pub data AsksFor (word : List ℕ) : Option ℕ → Bool → List (List ℕ) →
   Passes : (runs : Option ℕ) (nested : Bool) (names : List (List ℕ)) → Plans true word runs nested names → AsksFor word runs nested names
 
 -- it ends so by passes that the word asks for, or nothing is to be written
-pub data EndsByWord {P D E B K : Type 0} (name : P → List ℕ) (EndsSo : ScheduleOf P D E B K → Outcome → Type 0) (word : List ℕ) (o : Outcome) : Type 0 where
+pub data EndsByWord {P D E B K : Type 0} (name : P → List ℕ) (EndsSo : PipelineOf P D E B K → Outcome → Type 0) (word : List ℕ) (o : Outcome) : Type 0 where
   ByWord : (runs : Option ℕ) (nested : Bool) (names : List (List ℕ)) → AsksFor word runs nested names → EndsByPlan name EndsSo runs nested names o → EndsByWord name EndsSo word o
   WithoutWord : EndsWithout o → EndsByWord name EndsSo word o

@@ -1,7 +1,7 @@
 -- What streams get.
 use Rattle.std.specs.Prelude.{◌≡◌, ◌≢◌, ◌⊎◌, ℕ, List, Option}
 use Rattle.std.specs.Io.KnownBytes.{Appends, Keeps}
-use Rattle.pliron_opts.specs.Ending.{IsRestOfInput}
+use Rattle.pliron_opts.specs.Ending.{IsRestOfInput, WritesPart}
 use Rattle.pliron_mlir_opt.specs.declared.outcome.Outcome.{Outcome}
 
 -- an outcome on the output, of which it is known what it holds before and after, and the status
@@ -10,8 +10,8 @@ pub data IsWritten (o : Outcome) (before after : Option (List ℕ)) (status : �
   Whole : o.status ≡ 0 → status ≡ 0 → Appends before after o.output.items → IsWritten o before after status
   -- with another status of the outcome nothing
   Nothing : o.status ≢ 0 → status ≡ o.status → Keeps before after → IsWritten o before after status
-  -- writing the module failed
-  Failed : o.status ≡ 0 → status ≡ 2 → IsWritten o before after status
+  -- writing the module failed, after a first part of it
+  Failed : o.status ≡ 0 → status ≡ 2 → WritesPart before after o.output.items → IsWritten o before after status
 
 -- the outcome is one of all that was left to be read, where that is known
 abbrev pub IsOfInput : (ends : List ℕ → Outcome → Type 0) (known : Option (List ℕ)) → Outcome → Type 0

@@ -5,13 +5,11 @@ ghost use Rattle.pliron_core.specs.Writes.{no_tree};
 ghost use Rattle.pliron_laws.specs.Linked.{IsWellLinked};
 
 use crate::failure::ModuleFailure;
-use crate::notation::ModuleNotation;
+use crate::notation::{ModuleDocument, ModuleNotation};
 use pliron_core::{Context, IRStatus};
-use pliron_instrument::{
-    InstrumentationOptions, PipelineText, Timeless, build_schedule, run_instrumented,
-};
+use pliron_instrument::{InstrumentationOptions, PipelineText, Timeless, instrumented_pipeline};
 use pliron_laws::OptError;
-use pliron_mlir_text::Module;
+use pliron_opts::{TextFailure, run_alone};
 use std::alloc::{AllocError, Global};
 
 /// What is written of runs of passes, and how many there were.
@@ -33,11 +31,11 @@ fn plan_of(alloc: Global, name: &str, nested: bool) -> Result<PipelineText<'_>, 
 }
 
 // Runs the pass of this name on the module. Where no pass has the name, nothing is run.
-fn run_alone<N: ModuleNotation>(
+fn run_pass<N: ModuleNotation>(
     alloc: Global,
     name: &str,
     nested: bool,
-    loaded: &Module,
+    loaded: &ModuleDocument,
     ctx: &mut Context,
 ) -> Result<IRStatus, OptError>
     requires live { IsLive ctx.old.tree loaded.now.root }
@@ -46,27 +44,22 @@ fn run_alone<N: ModuleNotation>(
     ensures links { IsWellLinked N.D.meaning ctx.new.tree loaded.now.root }
 {
     let plan = plan_of(alloc, name, nested)?;
-    let nothing = InstrumentationOptions {
-        counts: false,
-        verifies: false,
-        prints_all: false,
-        prints: &[],
-    };
-    match build_schedule::<N, Timeless>(alloc, &plan, &nothing, Timeless)? {
-        Some(mut schedule) => run_instrumented(alloc, &mut schedule, loaded.root, ctx),
+    let nothing = InstrumentationOptions::nothing();
+    match instrumented_pipeline::<N, Timeless>(alloc, &plan, &nothing, Timeless)? {
+        Some(mut pipeline) => run_alone(alloc, &mut pipeline, loaded.root, ctx),
         None => Ok(IRStatus::Unchanged),
     }
 }
 
-// Writes the module behind a line that says which run it was, of which pass, and whether that changed something.
+// Writes the module behind a line with the number of the run, the pass, and whether the run changed something.
 fn write_module<N: ModuleNotation>(
     alloc: Global,
     trace: &mut Trace,
     name: &str,
     status: IRStatus,
-    loaded: &Module,
+    loaded: &ModuleDocument,
     ctx: &Context,
-) -> Result<(), AllocError>
+) -> Result<(), OptError>
     requires { IsLive ctx.now.tree loaded.now.root }
 {
     trace.runs = trace.runs.saturating_add(1);
@@ -77,9 +70,8 @@ fn write_module<N: ModuleNotation>(
     };
     let heading = format!(in alloc; "// --- run {run}, after {name}: {word}\n")?;
     trace.text.extend_from_slice(heading.as_bytes())?;
-    trace
-        .text
-        .extend_from_slice(&N::print_module(alloc, loaded, ctx)?)
+    let printed = N::print_document(alloc, loaded, ctx)?;
+    Ok(trace.text.extend_from_slice(&printed)?)
 }
 
 // A round of the passes: the module is written after each. Answers whether one changed something.
@@ -87,7 +79,7 @@ fn write_round<N: ModuleNotation>(
     alloc: Global,
     trace: &mut Trace,
     plan: &PipelineText,
-    loaded: &Module,
+    loaded: &ModuleDocument,
     ctx: &mut Context,
 ) -> Result<bool, OptError>
     requires live { IsLive ctx.old.tree loaded.now.root }
@@ -97,7 +89,7 @@ fn write_round<N: ModuleNotation>(
 {
     let mut changes = false;
     for name in &plan.names {
-        let status = run_alone::<N>(alloc, name, plan.nested, loaded, ctx)?;
+        let status = run_pass::<N>(alloc, name, plan.nested, loaded, ctx)?;
         changes = changes || status == IRStatus::Changed;
         write_module::<N>(alloc, trace, name, status, loaded, ctx)?;
     }
@@ -109,7 +101,7 @@ fn write_rounds<N: ModuleNotation>(
     alloc: Global,
     trace: &mut Trace,
     plan: &PipelineText,
-    loaded: &Module,
+    loaded: &ModuleDocument,
     ctx: &mut Context,
 ) -> Result<(), OptError>
     requires live { IsLive ctx.old.tree loaded.now.root }
@@ -133,9 +125,9 @@ fn write_in<N: ModuleNotation>(
 ) -> Result<(), ModuleFailure>
     requires { ctx.old.tree ≡ no_tree }
 {
-    match N::read_module(alloc, text, ctx) {
+    match N::read_document(alloc, text, ctx) {
         Ok(module) => Ok(write_rounds::<N>(alloc, trace, plan, &module, ctx)?),
-        Err(fault) => Err(ModuleFailure::from(fault)),
+        Err(failure) => Err(failure),
     }
 }
 
@@ -153,12 +145,12 @@ fn print_in<N: ModuleNotation>(
         runs: 0,
     };
     match write_in::<N>(alloc, &mut trace, text, plan, ctx) {
-        Err(ModuleFailure::Refused(OptError::Memory)) => Err(AllocError),
+        Err(TextFailure::Refused(OptError::Memory)) => Err(AllocError),
         _ => Ok(trace.text),
     }
 }
 
-/// The module that the text says as it is after each pass of the plan, each behind a line that says which run it was.
+/// The text's module after each pass of the plan, each behind a line with the number of the run.
 ///
 /// The passes are run on a module of their own, one by one, until a round of them changes nothing. Where the plan says
 /// that they run on each operation directly inside the module, a pass visits all of these before the next pass does. A

@@ -3,62 +3,57 @@ ghost use Rattle.std.specs.Prelude.{◌≤◌};
 
 use pliron_laws::OptError;
 use pliron_mlir_text::{Expected, Fault, position_of};
+use pliron_opts::TextFailure;
 use std::alloc::{AllocError, Global};
 
-/// Why a module isn't answered.
+/// Where a text leaves the generic form, and what was expected there.
 #[derive(Clone, Copy, Debug, Drop, PartialEq, Eq)]
-pub enum ModuleFailure {
-    /// Something else was expected at this byte of the text.
-    Text(usize, Expected),
-    /// Memory was refused, or the passes were.
-    Refused(OptError),
+pub struct ModuleFault {
+    /// A byte of the text.
+    pub place: usize,
+    pub expected: Expected,
 }
 
-impl From<OptError> for ModuleFailure {
-    fn from(error: OptError) -> Self {
-        ModuleFailure::Refused(error)
+/// Why a module isn't answered.
+pub type ModuleFailure = TextFailure<ModuleFault>;
+
+/// Why a module isn't answered whose text has this fault. Cost: constant.
+pub fn failure_of(fault: Fault) -> ModuleFailure {
+    match fault {
+        Fault::Expected(place, expected) => TextFailure::Text(ModuleFault { place, expected }),
+        Fault::KeptAsText => TextFailure::Text(ModuleFault {
+            place: 0,
+            expected: Expected::FewerRegions,
+        }),
+        Fault::NoMemory => TextFailure::Refused(OptError::Memory),
     }
 }
 
-impl From<AllocError> for ModuleFailure {
-    fn from(_: AllocError) -> Self {
-        ModuleFailure::Refused(OptError::Memory)
+/// The status that a program ends with: 1 where something was refused, 2 where the text can't be used. Cost: constant.
+pub fn failure_status(failure: ModuleFailure) -> u8
+    ensures least { 1 ≤ result }
+    ensures most { result ≤ 2 }
+{
+    match failure {
+        TextFailure::Refused(_) => 1,
+        TextFailure::Text(_) => 2,
     }
 }
 
-impl From<Fault> for ModuleFailure {
-    fn from(fault: Fault) -> Self {
-        match fault {
-            Fault::Expected(place, expected) => ModuleFailure::Text(place, expected),
-            Fault::KeptAsText => ModuleFailure::Text(0, Expected::FewerRegions),
-            Fault::NoMemory => ModuleFailure::Refused(OptError::Memory),
+/// A line that says why a text that is called so isn't answered. Errors: allocation failure. Cost: linear in the text
+/// before the place.
+pub fn failure_message(
+    alloc: Global,
+    failure: ModuleFailure,
+    name: &str,
+    text: &[u8],
+) -> Result<String, AllocError> {
+    match failure {
+        TextFailure::Text(fault) => {
+            let position = position_of(text, fault.place);
+            let (line, column, expected) = (position.line, position.column, fault.expected);
+            format!(in alloc; "{name}:{line}:{column}: error: expected {expected}\n")
         }
-    }
-}
-
-impl ModuleFailure {
-    /// The status that a program ends with: 1 where something was refused, 2 where the text can't be used. Cost:
-    /// constant.
-    pub fn status(self) -> u8
-        ensures least { 1 ≤ result }
-        ensures most { result ≤ 2 }
-    {
-        match self {
-            ModuleFailure::Refused(_) => 1,
-            ModuleFailure::Text(_, _) => 2,
-        }
-    }
-
-    /// A line that says why, of a text that is called so. Errors: allocation failure. Cost: linear in the text before
-    /// the place.
-    pub fn message(self, alloc: Global, name: &str, text: &[u8]) -> Result<String, AllocError> {
-        match self {
-            ModuleFailure::Text(at, expected) => {
-                let place = position_of(text, at);
-                let (line, column) = (place.line, place.column);
-                format!(in alloc; "{name}:{line}:{column}: expected {expected}\n")
-            }
-            ModuleFailure::Refused(error) => format!(in alloc; "error: refused: {error}\n"),
-        }
+        TextFailure::Refused(error) => format!(in alloc; "error: refused: {error}\n"),
     }
 }

@@ -1,11 +1,12 @@
 //! Which functions of a module are fit to run, and why others aren't.
 ghost use Rattle.pliron_core.specs.Tree.{IsLive};
 
+use crate::notation::ModuleDocument;
 use pliron_core::{Context, Operation, Ptr};
 use pliron_fit::{Violation, find_violation};
 use pliron_laws::{Dialect, OptError};
 use pliron_mlir::{Class, class_of_head};
-use pliron_mlir_text::{Module, position_of};
+use pliron_mlir_text::position_of;
 use pliron_walks::Contents;
 use std::alloc::{AllocError, Global};
 
@@ -27,7 +28,7 @@ pub struct Fitness {
 fn add<D: Dialect>(
     alloc: Global,
     op: Ptr<Operation>,
-    loaded: &Module,
+    loaded: &ModuleDocument,
     fitness: &mut Fitness,
     ctx: &Context,
 ) -> Result<(), OptError> {
@@ -49,7 +50,7 @@ fn add<D: Dialect>(
 /// function.
 pub fn fitness_of<D: Dialect>(
     alloc: Global,
-    loaded: &Module,
+    loaded: &ModuleDocument,
     ctx: &Context,
 ) -> Result<Fitness, OptError>
     requires { IsLive ctx.now.tree loaded.now.root }
@@ -67,7 +68,7 @@ pub fn fitness_of<D: Dialect>(
 // Counts all functions.
 fn add_all<D: Dialect>(
     alloc: Global,
-    loaded: &Module,
+    loaded: &ModuleDocument,
     fitness: &mut Fitness,
     ctx: &Context,
 ) -> Result<(), OptError>

@@ -1,75 +1,59 @@
 //! Texts in MLIR's generic form, as passes know texts.
-ghost use Rattle.std.specs.Prelude.{◌≡◌, IfOk};
-ghost use Rattle.pliron_core.specs.Tree.{IsLive};
-ghost use Rattle.pliron_core.specs.Writes.{no_tree};
-ghost use Rattle.pliron_laws.specs.Linked.{IsWellLinked};
 ghost use Rattle.pliron_opts.specs.Read.{ReadsKinds, PrintsKinds};
 
-use pliron_core::{Context, Operation, Ptr};
+use crate::failure::{ModuleFailure, ModuleFault, failure_of};
+use pliron_core::Context;
 use pliron_laws::{Dialect, OptError};
-use pliron_mlir_text::{Fault, Module, Sheet, print_module, read_module};
-use pliron_opts::Notation;
-use std::alloc::{AllocError, Global};
+use pliron_mlir_text::{Sheet, print_module, read_module};
+use pliron_opts::{Document, Notation};
+use std::alloc::Global;
 use std::marker::PhantomData;
 
-/// A notation whose texts say more than the tree: what they say beside it is kept in a sheet.
-///
-/// What passes make of a module is proved for each of these notations. So an answer comes from the very text that was
-/// given, by the relation of that notation between texts and trees, whatever it is.
-pub trait ModuleNotation: Notation {
-    /// Reads a text with its sheet. Its operation is live and well linked. Asks that the context is empty. Errors: the
-    /// place where the text is outside the notation, and what was expected; allocation failure.
-    fn read_module(alloc: Global, text: &[u8], ctx: &mut Context) -> Result<Module, Fault>
-        requires { ctx.old.tree ≡ no_tree }
-        ensures liveness { IfOk result (λ read. IsLive ctx.new.tree read.root) }
-        ensures linked { IfOk result (λ read. IsWellLinked Self.D.meaning ctx.new.tree read.root) }
-        ensures text { IfOk result (λ read. Self.reads text.now ctx.new.tree read.root) };
+/// A module that was read, with the sheet of what its text says beside the tree.
+pub type ModuleDocument = Document<Sheet>;
 
-    /// Prints the module with its sheet. Asks that its operation is live (`is_live` tests it). Errors: allocation
-    /// failure.
-    fn print_module(alloc: Global, loaded: &Module, ctx: &Context) -> Result<Vec<u8>, AllocError>
-        requires { IsLive ctx.now.tree loaded.now.root }
-        ensures { IfOk result (λ printed. Self.prints ctx.now.tree loaded.now.root printed.items) };
-}
-
-/// The generic form as a notation of a dialect of MLIR. What the text says beside the tree is kept where it is read as a
-/// module; else it is left out, and so is missing when the tree is printed.
+/// The generic form as a notation of a dialect of MLIR.
 pub struct GenericForm<D>(PhantomData<D>);
 
 impl<D: Dialect> Notation for GenericForm<D> {
     type D = D;
 
+    type Sheet = Sheet;
+
+    type Fault = ModuleFault;
+
     ghost reads = { ReadsKinds D.meaning };
 
     ghost prints = { PrintsKinds };
 
-    fn read(
+    fn read_document(
         alloc: Global,
         text: &[u8],
         ctx: &mut Context,
-    ) -> Result<Option<Ptr<Operation>>, OptError> {
+    ) -> Result<ModuleDocument, ModuleFailure> {
         match read_module::<D>(alloc, text, ctx) {
-            Ok(module) => Ok(Some(module.root)),
-            Err(Fault::NoMemory) => Err(OptError::Memory),
-            Err(_) => Ok(None),
+            Ok(module) => Ok(Document {
+                root: module.root,
+                sheet: module.sheet,
+            }),
+            Err(fault) => Err(failure_of(fault)),
         }
     }
 
-    fn print(alloc: Global, root: Ptr<Operation>, ctx: &Context) -> Result<String, OptError> {
-        let sheet = Sheet::new(alloc);
-        match print_module(alloc, root, &sheet, ctx) {
-            Ok(printed) => Ok(String::from_utf8_lossy(alloc, &printed)?),
-            Err(_) => Err(OptError::Memory),
-        }
+    fn print_document(
+        alloc: Global,
+        document: &ModuleDocument,
+        ctx: &Context,
+    ) -> Result<Vec<u8>, OptError> {
+        Ok(print_module(alloc, document.root, &document.sheet, ctx)?)
+    }
+
+    fn empty_sheet(alloc: Global) -> Sheet {
+        Sheet::new(alloc)
     }
 }
 
-impl<D: Dialect> ModuleNotation for GenericForm<D> {
-    fn read_module(alloc: Global, text: &[u8], ctx: &mut Context) -> Result<Module, Fault> {
-        read_module::<D>(alloc, text, ctx)
-    }
+/// A notation of modules.
+pub trait ModuleNotation: Notation<Sheet = Sheet, Fault = ModuleFault> {}
 
-    fn print_module(alloc: Global, loaded: &Module, ctx: &Context) -> Result<Vec<u8>, AllocError> {
-        print_module(alloc, loaded.root, &loaded.sheet, ctx)
-    }
-}
+impl<N: Notation<Sheet = Sheet, Fault = ModuleFault>> ModuleNotation for N {}

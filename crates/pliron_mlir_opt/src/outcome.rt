@@ -3,18 +3,19 @@ ghost use Rattle.std.specs.Prelude.{◌≡◌, map, IfOk};
 ghost use Rattle.pliron_opts.specs.Ran.{RunsAlone};
 ghost use Rattle.pliron_mlir_opt.specs.Outcomes.{EndsWithout, Writes, EndsOptimised, EndsByPlan};
 
-use crate::failure::ModuleFailure;
+use crate::failure::{ModuleFailure, failure_message, failure_status};
 use crate::fitness::write_fitness;
+use crate::module_observer::{ModuleObserver, ModuleOptions};
 use crate::notation::ModuleNotation;
-use crate::optimise_module::{ModuleOptions, OptimisedModule, optimise};
-use crate::report::{has_fault, is_short, report_of};
+use crate::report::report_of;
 use crate::tally::write_tallies;
 use pliron_core::IRStatus;
 use pliron_instrument::{
-    InstrumentationOptions, Instrumented, InstrumentedSchedule, PipelineText, Progress, WordFault,
-    build_schedule, instrumented_passes,
+    InstrumentationOptions, Instrumented, InstrumentedPipeline, PipelineText, Progress, WordFault,
+    has_fault, instrumented_pipeline, is_short,
 };
 use pliron_laws::OptError;
+use pliron_opts::{OptimisedText, TextFailure, optimise, passes_of};
 use pliron_pass::{BenchFactKind, Pass};
 use std::alloc::{AllocError, Global};
 
@@ -56,11 +57,11 @@ fn failure_outcome(
     ensures { IfOk result EndsWithout }
 {
     let mut report = report;
-    report.push_str(failure.message(alloc, source.name, source.text)?.as_str())?;
+    report.push_str(failure_message(alloc, failure, source.name, source.text)?.as_str())?;
     Ok(Outcome {
         output: Vec::new(alloc),
         report,
-        status: failure.status(),
+        status: failure_status(failure),
     })
 }
 
@@ -68,17 +69,18 @@ fn failure_outcome(
 fn write_made(
     report: &mut String,
     source: &Source,
-    made: &OptimisedModule,
+    status: IRStatus,
+    observer: &ModuleObserver,
 ) -> Result<(), AllocError> {
-    if let Some(counts) = &made.counts {
+    if let Some(counts) = &observer.counts {
         write_tallies(report, &counts.before, &counts.after)?;
         write_fitness(report, &counts.fitness, source.name, source.text)?;
     }
-    report.push_str(match made.status {
+    report.push_str(match status {
         IRStatus::Changed => "changed\n",
         IRStatus::Unchanged => "unchanged\n",
     })?;
-    match made.agrees {
+    match observer.agrees {
         Some(true) => report.push_str("checked: what is printed says the same tree\n"),
         Some(false) => report.push_str("error: what is printed says another tree\n"),
         None => Ok(()),
@@ -90,14 +92,15 @@ fn success_outcome(
     alloc: Global,
     source: &Source,
     report: String,
-    made: OptimisedModule,
+    made: OptimisedText,
+    observer: &ModuleObserver,
     has_fault: bool,
 ) -> Result<Outcome, AllocError>
     ensures { IfOk result (Writes made.printed.items) }
 {
     let mut report = report;
-    write_made(&mut report, source, &made)?;
-    if has_fault || made.agrees == Some(false) {
+    write_made(&mut report, source, made.status, observer)?;
+    if has_fault || observer.agrees == Some(false) {
         return Ok(Outcome {
             output: Vec::new(alloc),
             report,
@@ -113,18 +116,24 @@ fn success_outcome(
 
 // Runs these passes on the module that the text says.
 #[tactic(auto, using(crate::proofs::OutcomeLemmas::ends_made, crate::proofs::OutcomeLemmas::ends_without))]
-fn run_schedule<N: ModuleNotation, C: Progress + Copy + Drop>(
+fn run_pipeline<N: ModuleNotation, C: Progress + Copy + Drop>(
     alloc: Global,
     source: &Source,
     options: &ModuleOptions,
-    schedule: &mut InstrumentedSchedule<N, C>,
+    pipeline: &mut InstrumentedPipeline<N, C>,
 ) -> Result<Outcome, AllocError>
     ensures { IfOk result (EndsOptimised N.reads N.prints N.D.meaning
-        (RunsAlone ⟦<BenchFactKind as PartialEq>⟧.eq ⟦<InstrumentedSchedule<N, C> as Pass>⟧.outcome
-        schedule.old) source.now.text.now) }
+        (RunsAlone ⟦<BenchFactKind as PartialEq>⟧.eq ⟦<InstrumentedPipeline<N, C> as Pass>⟧.outcome
+        pipeline.old) source.now.text.now) }
 {
-    let made = optimise::<N, C>(alloc, schedule, source.text, options);
-    let passes = instrumented_passes(schedule);
+    let mut observer = ModuleObserver::new(*options);
+    let made = optimise::<N, Instrumented<N, C>, ModuleObserver>(
+        alloc,
+        pipeline,
+        source.text,
+        &mut observer,
+    );
+    let passes = passes_of(pipeline);
     let report = report_of(alloc, passes, options)?;
     match made {
         Ok(_) if is_short(passes) => {
@@ -132,10 +141,10 @@ fn run_schedule<N: ModuleNotation, C: Progress + Copy + Drop>(
                 alloc,
                 source,
                 report,
-                ModuleFailure::Refused(OptError::Memory),
+                TextFailure::Refused(OptError::Memory),
             )
         }
-        Ok(made) => success_outcome(alloc, source, report, made, has_fault(passes)),
+        Ok(made) => { success_outcome(alloc, source, report, made, &observer, has_fault(passes)) }
         Err(failure) => failure_outcome(alloc, source, report, failure),
     }
 }
@@ -157,9 +166,9 @@ pub fn run_passes<N: ModuleNotation, C: Progress + Copy + Drop>(
     clock: C,
 ) -> Result<Outcome, AllocError>
     ensures { IfOk result (EndsByPlan ⟦<Instrumented<N, C> as Pass>⟧.name
-        (λ schedule. EndsOptimised N.reads N.prints N.D.meaning
-        (RunsAlone ⟦<BenchFactKind as PartialEq>⟧.eq ⟦<InstrumentedSchedule<N, C> as Pass>⟧.outcome
-        schedule) source.now.text.now) plan.now.runs plan.now.nested (map (λ name. name.now) plan.now.names.items)) }
+        (λ pipeline. EndsOptimised N.reads N.prints N.D.meaning
+        (RunsAlone ⟦<BenchFactKind as PartialEq>⟧.eq ⟦<InstrumentedPipeline<N, C> as Pass>⟧.outcome
+        pipeline) source.now.text.now) plan.now.runs plan.now.nested (map (λ name. name.now) plan.now.names.items)) }
 {
     let watch = InstrumentationOptions {
         counts: options.counts,
@@ -167,8 +176,8 @@ pub fn run_passes<N: ModuleNotation, C: Progress + Copy + Drop>(
         prints_all: false,
         prints: &[],
     };
-    match build_schedule::<N, C>(alloc, plan, &watch, clock)? {
-        Some(mut schedule) => run_schedule(alloc, source, options, &mut schedule),
+    match instrumented_pipeline::<N, C>(alloc, plan, &watch, clock)? {
+        Some(mut pipeline) => run_pipeline(alloc, source, options, &mut pipeline),
         None => {
             let report = String::from_str(alloc, "error: no such passes\n")?;
             Ok(unusable_outcome(alloc, report))

@@ -1,16 +1,16 @@
 //! The program over streams: what is read and what is written.
 ghost use Rattle.std.specs.Prelude.{◌≡◌, map, IfOk, OnOk};
-ghost use Rattle.std.specs.Io.KnownBytes.{Appends};
 ghost use Rattle.pliron_opts.specs.Ran.{RunsAlone};
 ghost use Rattle.pliron_mlir_opt.specs.Outcomes.{EndsWithout, EndsOptimised, EndsByPlan, EndsByWord};
 ghost use Rattle.pliron_mlir_opt.specs.Streams.{EndsOnStreams, IsOfInput, IsWritten};
 
 use crate::each_pass::print_after_each;
+use crate::module_observer::ModuleOptions;
 use crate::notation::ModuleNotation;
-use crate::optimise_module::ModuleOptions;
 use crate::outcome::{Outcome, Source, misspelling_outcome, run_passes, unusable_outcome};
 use crate::plans::read_plan;
-use pliron_instrument::{Instrumented, InstrumentedSchedule, PipelineText, PlanError, Progress};
+use pliron_instrument::{Instrumented, InstrumentedPipeline, PipelineText, PlanError, Progress};
+use pliron_opts::write_bytes;
 use pliron_pass::{BenchFactKind, Pass};
 use std::alloc::{AllocError, Global};
 use std::io::{self, ErrorKind, Read, Write};
@@ -40,8 +40,8 @@ fn run_plan<N: ModuleNotation, E: Write, C: Progress + Copy + Drop>(
     clock: C,
 ) -> Result<Outcome, AllocError>
     ensures { IfOk result (EndsByPlan ⟦<Instrumented<N, C> as Pass>⟧.name
-        (λ schedule. EndsOptimised N.reads N.prints N.D.meaning (RunsAlone ⟦<BenchFactKind as PartialEq>⟧.eq
-        ⟦<InstrumentedSchedule<N, C> as Pass>⟧.outcome schedule) source.now.text.now)
+        (λ pipeline. EndsOptimised N.reads N.prints N.D.meaning (RunsAlone ⟦<BenchFactKind as PartialEq>⟧.eq
+        ⟦<InstrumentedPipeline<N, C> as Pass>⟧.outcome pipeline) source.now.text.now)
         plan.now.runs plan.now.nested (map (λ name. name.now) plan.now.names.items)) }
 {
     if request.prints_all {
@@ -61,8 +61,8 @@ fn run_word<N: ModuleNotation, E: Write, C: Progress + Copy + Drop>(
     clock: C,
 ) -> Result<Outcome, AllocError>
     ensures { IfOk result (EndsByWord ⟦<Instrumented<N, C> as Pass>⟧.name
-        (λ schedule. EndsOptimised N.reads N.prints N.D.meaning (RunsAlone ⟦<BenchFactKind as PartialEq>⟧.eq
-        ⟦<InstrumentedSchedule<N, C> as Pass>⟧.outcome schedule) text.now)
+        (λ pipeline. EndsOptimised N.reads N.prints N.D.meaning (RunsAlone ⟦<BenchFactKind as PartialEq>⟧.eq
+        ⟦<InstrumentedPipeline<N, C> as Pass>⟧.outcome pipeline) text.now)
         request.now.pipeline.now) }
 {
     let source = Source {
@@ -97,8 +97,8 @@ fn outcome_of_input<N: ModuleNotation, R: Read, E: Write, C: Progress + Copy + D
     clock: C,
 ) -> Result<Outcome, AllocError>
     ensures { IfOk result (IsOfInput (λ text. EndsByWord ⟦<Instrumented<N, C> as Pass>⟧.name
-        (λ schedule. EndsOptimised N.reads N.prints N.D.meaning (RunsAlone ⟦<BenchFactKind as PartialEq>⟧.eq
-        ⟦<InstrumentedSchedule<N, C> as Pass>⟧.outcome schedule) text) request.now.pipeline.now)
+        (λ pipeline. EndsOptimised N.reads N.prints N.D.meaning (RunsAlone ⟦<BenchFactKind as PartialEq>⟧.eq
+        ⟦<InstrumentedPipeline<N, C> as Pass>⟧.outcome pipeline) text) request.now.pipeline.now)
         (R.remaining input.old)) }
 {
     let mut text = Vec::new(alloc);
@@ -111,15 +111,6 @@ fn outcome_of_input<N: ModuleNotation, R: Read, E: Write, C: Progress + Copy + D
         }
         Ok(_) => run_word::<N, E, C>(alloc, request, &text, errors, clock),
     }
-}
-
-// Writes all of the module. Errors: those of the writer.
-#[tactic(auto, using(crate::proofs::StreamLemmas::appends_kept))]
-fn write_module<W: Write>(bytes: &[u8], output: &mut W) -> io::Result<()>
-    ensures { OnOk result (Appends (W.contents output.old) (W.contents output.new) bytes.now) }
-{
-    output.write_all(bytes)?;
-    output.flush()
 }
 
 // Says why the module isn't written, and answers the status.
@@ -147,7 +138,7 @@ fn write_outcome<W: Write, E: Write>(outcome: &Outcome, output: &mut W, errors: 
     if outcome.status != 0 {
         return outcome.status;
     }
-    match write_module(&outcome.output, output) {
+    match write_bytes(&outcome.output, output) {
         Ok(()) => 0,
         Err(error) => report_unwritten(&error, errors),
     }
@@ -155,13 +146,13 @@ fn write_outcome<W: Write, E: Write>(outcome: &Outcome, output: &mut W, errors: 
 
 /// Runs the program on these streams. Answers its status.
 ///
-/// For every dialect that keeps its laws and every notation of its modules: with status 0 the output gets a tree printed,
-/// and nothing else. The tree is what the passes that the word asks for, run once as a whole, made of one that was read
-/// from the whole input, and every operation that was fit to run and is still live does as before.
+/// For every dialect that keeps its laws and every notation of its modules: with status 0 the output gets a tree
+/// printed, and nothing else. The whole input was read as a tree; the passes that the word asks for, run once as a
+/// whole, made the printed tree of it; and every operation that was fit to run and is still live does as before.
 ///
 /// Statuses: those of `run_passes`; 1 also where memory for a report is refused, and 2 where the input can't be read, is
 /// longer than 268,435,456 bytes, or the module can't be written. With all but 0 nothing is written to `output`, unless
-/// writing the module fails. A failed write to `errors` is ignored. Cost: reading, the passes, what is counted, and
+/// writing the module fails: then a first part of it is. A failed write to `errors` is ignored. Cost: reading, the passes, what is counted, and
 /// printing.
 pub fn run_on<N: ModuleNotation, R: Read, W: Write, E: Write, C: Progress + Copy + Drop>(
     alloc: Global,
@@ -172,8 +163,8 @@ pub fn run_on<N: ModuleNotation, R: Read, W: Write, E: Write, C: Progress + Copy
     clock: C,
 ) -> u8
     ensures { EndsOnStreams (λ text. EndsByWord ⟦<Instrumented<N, C> as Pass>⟧.name
-        (λ schedule. EndsOptimised N.reads N.prints N.D.meaning (RunsAlone ⟦<BenchFactKind as PartialEq>⟧.eq
-        ⟦<InstrumentedSchedule<N, C> as Pass>⟧.outcome schedule) text) request.now.pipeline.now)
+        (λ pipeline. EndsOptimised N.reads N.prints N.D.meaning (RunsAlone ⟦<BenchFactKind as PartialEq>⟧.eq
+        ⟦<InstrumentedPipeline<N, C> as Pass>⟧.outcome pipeline) text) request.now.pipeline.now)
         (R.remaining input.old) (W.contents output.old) (W.contents output.new) result }
 {
     match outcome_of_input::<N, R, E, C>(alloc, request, input, errors, clock) {

@@ -1,22 +1,8 @@
 //! What is reported about the runs of passes: what verifying found after each, counts, and times.
-use crate::optimise_module::ModuleOptions;
+use crate::module_observer::ModuleOptions;
 use pliron_instrument::{ContentsCount, Instrumented, Progress, RoundRecord};
 use pliron_opts::Notation;
 use std::alloc::{AllocError, Global};
-
-/// Whether verifying found something. Cost: linear in the runs.
-pub fn has_fault<N: Notation, C: Progress + Drop>(passes: &[Instrumented<N, C>]) -> bool {
-    passes.iter().any(|pass| pass
-        .run_record()
-        .notes
-        .iter()
-        .any(|note| note.fault.is_some()))
-}
-
-/// Whether something is missing in what was noted, since memory was refused. Cost: linear in the passes.
-pub fn is_short<N: Notation, C: Progress + Drop>(passes: &[Instrumented<N, C>]) -> bool {
-    passes.iter().any(|pass| pass.run_record().is_short)
-}
 
 // Writes what verifying found after the runs of a pass, and answers after how many it found nothing.
 fn write_faults_of<N: Notation, C: Progress + Drop>(

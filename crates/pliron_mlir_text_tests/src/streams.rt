@@ -2,7 +2,8 @@
 use crate::lines::in_one_line;
 use pliron_instrument::Timeless;
 use pliron_mlir::{AnyMeaning, Mlir};
-use pliron_mlir_opt::{Closed, GenericForm, ModuleOptions, Request, run_on};
+use pliron_mlir_opt::{GenericForm, ModuleOptions, Request, run_on};
+use pliron_opts::Closed;
 use std::alloc::Global;
 use std::io::{self, ErrorKind, Write};
 use std::process::Abort;

@@ -1,17 +1,15 @@
 -- What words ask for.
-use Rattle.std.proofs.Common.{◌≡◌, ℕ, Bool, List, [], ◌∷◌, Option, length, get_or, sym, ap, subst, arith}
+use Rattle.std.proofs.Common.{◌≡◌, ℕ, Bool, List, [], ◌∷◌, Option, Some, None, IfSome, Result, Ok, Err, IfOk, length, get_or, sym, ap, arith}
+use Rattle.pliron_pipeline.specs.Pipelines.{IsPipelineOf}
+use Rattle.pliron_pipeline.specs.PassSteps.{PassPipelineOf, step_name}
 use Rattle.pliron_opts.specs.Plans.{IsPlan}
-use Rattle.pliron_pipeline.specs.PassSteps.{PipelineOf, ScheduleOf}
-use Rattle.pliron_opts.specs.Asked.{IsPlanned, is_nested, names_of}
-use Rattle.pliron_opts.specs.Ran.{IsScheduled}
+use Rattle.pliron_opts.specs.Asked.{IsPlanned}
 
-pub planned : {D E B K : Type 0} (word : List ℕ) (runs : Option ℕ) (nested : Bool) (names : List (List ℕ)) (pipeline : PipelineOf D E B K) (schedule : ScheduleOf D E B K) → IsPlan word runs nested names → is_nested pipeline ≡ nested → names_of pipeline ≡ names → IsScheduled runs pipeline schedule → IsPlanned word schedule
-planned word runs nested names pipeline schedule plan inside named scheduled = record {
-  runs = runs;
-  pipeline = pipeline;
-  plan = subst (λ n. IsPlan word runs n (names_of pipeline)) (sym inside) (subst (λ l. IsPlan word runs nested l) (sym named) plan);
-  scheduled = scheduled;
-}
+-- a pipeline of the names that a word plans is planned by the word
+pub planned : {D E B K X : Type 0} (word : List ℕ) (runs : Option ℕ) (nested : Bool) (names : List (List ℕ)) (r : Result (Option (PassPipelineOf D E B K)) X) → IsPlan word runs nested names → IfOk r (λ found. IfSome found (λ pipeline. IsPipelineOf step_name runs nested names pipeline)) → IfOk r (λ found. IfSome found (λ pipeline. IsPlanned word pipeline))
+planned word runs nested names (Ok (Some pipeline)) plan is = record { runs = runs; nested = nested; names = names; plan = plan; planned = is }
+planned word runs nested names (Ok None) plan is = tt
+planned word runs nested names (Err e) plan is = tt
 
 -- a list of one item
 pub only_item : {A : Type 0} (xs : List A) (x : A) → length xs ≡ 1 → x ≡ get_or xs 0 x → xs ≡ x ∷ []

@@ -1,3 +1,4 @@
 mod RunLemmas
 mod AskLemmas
 mod WordLemmas
+mod ClosedLemmas

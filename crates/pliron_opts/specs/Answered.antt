@@ -9,9 +9,9 @@ use Rattle.pliron_laws.specs.Linked.{IsWellLinked}
 use Rattle.pliron_pass.specs.declared.bench_facts.BenchFactKind.{BenchFactKind}
 use Rattle.pliron_pass.specs.declared.bench_facts.BenchFacts.{BenchFacts}
 use Rattle.pliron_pass.specs.Headline.{DoAsBefore}
-use Rattle.pliron_pipeline.specs.PassSteps.{ScheduleOf}
-use Rattle.pliron_opts.specs.declared.optimise.command.Command.{Command}
-use Rattle.pliron_opts.specs.declared.optimise.command.Command.TheVariants.{Optimise, Graph}
+use Rattle.pliron_pipeline.specs.PassSteps.{PassPipelineOf}
+use Rattle.pliron_opts.specs.declared.driver.command.Command.{Command}
+use Rattle.pliron_opts.specs.declared.driver.command.Command.TheVariants.{Optimise, Graph}
 
 -- what a notation reads of a text: a tree and its operation; and what it prints of an operation
 abbrev pub Reads : Type 1
@@ -47,6 +47,6 @@ module _ (reads : Reads) (prints : Prints) (m : Meaning) where
     pub lines : answer ≡ printed ++ status_line status
 
   -- what the command answers to the text; of a graph nothing is said
-  abbrev pub Answers : {D B : Type 0} → (ScheduleOf D BenchFacts B BenchFactKind → ℕ → Tree → Tree → IRStatus → Type 0) → Command D B → (text answer : List ℕ) → Type 0
-  Answers ran (Optimise schedule) text answer = IsOptimised (ran schedule) text answer
+  abbrev pub Answers : {D B : Type 0} → (PassPipelineOf D BenchFacts B BenchFactKind → ℕ → Tree → Tree → IRStatus → Type 0) → Command D B → (text answer : List ℕ) → Type 0
+  Answers ran (Optimise pipeline) text answer = IsOptimised (ran pipeline) text answer
   Answers ran Graph text answer = Unit {0}

@@ -5,3 +5,4 @@ pub mod Ran
 pub mod Asked
 pub mod Answered
 pub mod Read
+pub mod Closed

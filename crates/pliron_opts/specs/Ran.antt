@@ -1,5 +1,5 @@
 -- What the program runs.
-use Rattle.std.specs.Prelude.{◌≡◌, ℕ, Bool, false, List, [], Option, Some, None}
+use Rattle.std.specs.Prelude.{◌≡◌, ℕ, Bool, false, List, []}
 use Rattle.pliron_core.specs.Tree.{Tree}
 use Rattle.pliron_core.specs.declared.attrs.IRStatus.{IRStatus}
 use Rattle.pliron_pass.specs.Combined.{StepsTo}
@@ -7,13 +7,6 @@ use Rattle.pliron_pass.specs.Config.{skips, verifies_before, verifies_after}
 use Rattle.pliron_pass.specs.Outcome.{OutcomeOf}
 use Rattle.pliron_pass.specs.Stage.{Stage}
 use Rattle.pliron_pass.specs.declared.config.PMData.{PMData}
-use Rattle.either.specs.declared.Either.TheVariants.{Left, Right}
-use Rattle.pliron_pipeline.specs.PassSteps.{PipelineOf, ScheduleOf}
-
--- the pipeline once, or at most so many times where a number is given
-abbrev pub IsScheduled : {D E B K : Type 0} → Option ℕ → PipelineOf D E B K → ScheduleOf D E B K → Type 0
-IsScheduled runs pipeline (Left once) = (runs ≡ None) × (once ≡ pipeline)
-IsScheduled runs pipeline (Right repeated) = (runs ≡ Some repeated.max) × (repeated.pass ≡ pipeline)
 
 -- nothing is skipped, verified or counted
 pub record IsPlain (d : PMData) : Type 0 where

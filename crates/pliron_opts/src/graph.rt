@@ -8,9 +8,9 @@ use std::alloc::Global;
 /// What the program writes for a graph; `None` for a text that is none.
 ///
 /// Errors: allocation failure. Cost: that of reading and printing it.
-pub fn describe_graph(alloc: Global, text: &[u8]) -> Result<Option<String>, OptError> {
+pub fn describe_graph(alloc: Global, text: &[u8]) -> Result<Option<Vec<u8>>, OptError> {
     match read_graph(alloc, text)? {
-        Some(graph) => Ok(Some(graph_lines::print_graph(alloc, &graph)?)),
+        Some(graph) => Ok(Some(graph_lines::print_graph(alloc, &graph)?.into_bytes())),
         None => Ok(None),
     }
 }

@@ -3,7 +3,7 @@
 //! These two calls have no clause: none can say what words a process is given, nor what its streams give or take. They
 //! are read. What is done with the words and the streams is said by `run_optimiser`, to which both are passed as they
 //! are.
-use crate::optimise::Notation;
+use crate::driver::Notation;
 use crate::run_optimiser;
 use pliron_laws::OptError;
 use std::env;

@@ -8,19 +8,24 @@ ghost use Rattle.std.specs.Prelude.{map, IfOk, IfSome, string_bytes};
 ghost use Rattle.pliron_bench.specs.BenchMoves.{bench};
 ghost use Rattle.pliron_opts.specs.Answered.{Answers};
 ghost use Rattle.pliron_opts.specs.Asked.{AskFor};
+ghost use Rattle.pliron_opts.specs.Closed.{closed_reads, closed_prints};
 ghost use Rattle.pliron_opts.specs.Ending.{IsAnswer, Ends};
 ghost use Rattle.pliron_opts.specs.Ran.{RunsAlone};
 ghost use Rattle.pliron_opts.specs.Read.{ReadsBench, PrintsBench};
 
+mod driver;
 mod graph;
 mod host;
-mod optimise;
 mod program;
 
+pub use driver::{
+    BenchNotation, Closed, Document, KindNotation, Notation, Observer, OptimisedText, PlainPasses,
+    StepFactory, TextFailure, Unobserved, build_pipeline, optimise, optimise_text, passes_of,
+    read_pipeline, run_alone,
+};
+use driver::{Command, read_command};
 pub use graph::describe_graph;
 pub use host::{host_words, optimise_host};
-pub use optimise::{BenchNotation, KindNotation, Notation, optimise_text, plan_schedule};
-use optimise::{Command, read_command};
 use pliron_bench::Bench;
 pub use pliron_cfg::{
     merge_inside_block, merge_inside_op, merge_inside_region, remove_blocks_inside_block,
@@ -30,10 +35,10 @@ pub use pliron_dce::dce;
 pub use pliron_laws::OptError;
 use pliron_pass::{BenchFactKind, BenchFacts, Pass};
 pub use pliron_pipeline::{
-    DCEPass, PassStep, Pipeline, SCCPPass, Schedule, SimplifyCFGPass, run_pipeline,
+    DCEPass, PassPipeline, PassStep, Pipeline, SCCPPass, SimplifyCFGPass, run_pipeline,
 };
 pub use pliron_sccp::{sccp, sccp_counted};
-pub use program::{MAX_TEXT, PipelineText, PlanError, WordFault};
+pub use program::{MAX_TEXT, PipelineText, PlanError, WordFault, write_bytes};
 use program::{Failure, read_input, write_answer};
 use std::alloc::Global;
 use std::io::{Read, Write};
@@ -43,13 +48,13 @@ fn answer<N: Notation>(
     alloc: Global,
     command: Command<N::D>,
     text: &[u8],
-) -> Result<Option<String>, OptError>
+) -> Result<Option<Vec<u8>>, OptError>
     ensures { IfOk result (λ found. IfSome found (λ answer. Answers N.reads N.prints N.D.meaning
-        (RunsAlone ⟦<BenchFactKind as PartialEq>⟧.eq ⟦<Schedule<N::D, BenchFacts> as Pass>⟧.outcome) command text.now
-        (string_bytes answer))) }
+        (RunsAlone ⟦<BenchFactKind as PartialEq>⟧.eq ⟦<PassPipeline<N::D, BenchFacts> as Pass>⟧.outcome) command
+        text.now answer.items)) }
 {
     match command {
-        Command::Optimise(schedule) => optimise_text::<N>(alloc, schedule, text),
+        Command::Optimise(pipeline) => optimise_text::<N>(alloc, pipeline, text),
         Command::Graph => describe_graph(alloc, text),
     }
 }
@@ -59,10 +64,10 @@ fn answer_to_input<N: Notation, R: Read>(
     alloc: Global,
     words: &[String],
     input: &mut R,
-) -> Result<String, Failure>
+) -> Result<Vec<u8>, Failure>
     ensures { IfOk result (λ answer. IsAnswer AskFor (Answers N.reads N.prints N.D.meaning
-        (RunsAlone ⟦<BenchFactKind as PartialEq>⟧.eq ⟦<Schedule<N::D, BenchFacts> as Pass>⟧.outcome))
-        (map string_bytes words.now) (R.remaining input.old) (string_bytes answer)) }
+        (RunsAlone ⟦<BenchFactKind as PartialEq>⟧.eq ⟦<PassPipeline<N::D, BenchFacts> as Pass>⟧.outcome))
+        (map string_bytes words.now) (R.remaining input.old) answer.items) }
 {
     let Some(command) = read_command(alloc, words)? else {
         return Err(Failure::Arguments);
@@ -80,10 +85,10 @@ fn answer_to_input<N: Notation, R: Read>(
 /// Runs the program over the texts of a notation, on the words after its name and these streams, and
 /// answers its status. `program` is its name in the line on how it is used.
 ///
-/// For every dialect that keeps its laws and every notation of it: an answer to a schedule of passes (a pass
-/// pipeline) is a tree printed, and a line on whether it changed: where that says that it didn't, the tree is the
-/// same. The tree is what these passes, run once as a whole, made of one that was read from the whole input, and
-/// every operation that was fit to run and is still live does as before.
+/// For every dialect that keeps its laws and every notation of it: an answer to a pipeline is a tree printed, and a
+/// line on whether it changed: where that says that it didn't, the tree is the same. The tree is what these passes, run
+/// once as a whole, made of one that was read from the whole input, and every operation that was fit to run and is still
+/// live does as before.
 ///
 /// Faults are found in this order: arguments, reading, text, passes and printing, writing. Nothing is written
 /// to `output` before the whole answer is known. Statuses: 0; 1 on allocation failure or where the passes gave
@@ -98,11 +103,11 @@ pub fn run_optimiser<N: Notation, R: Read, W: Write, E: Write>(
     errors: &mut E,
 ) -> u8
     ensures { Ends (IsAnswer AskFor (Answers N.reads N.prints N.D.meaning (RunsAlone ⟦<BenchFactKind as PartialEq>⟧.eq
-        ⟦<Schedule<N::D, BenchFacts> as Pass>⟧.outcome)) (map string_bytes args.now) (R.remaining input.old))
+        ⟦<PassPipeline<N::D, BenchFacts> as Pass>⟧.outcome)) (map string_bytes args.now) (R.remaining input.old))
         (W.contents output.old) (W.contents output.new) result }
 {
     match answer_to_input::<N, R>(alloc, args, input) {
-        Ok(answer) => match write_answer(answer.as_bytes(), output) {
+        Ok(answer) => match write_answer(&answer, output) {
             Ok(()) => 0,
             Err(failure) => failure.report(program, errors),
         },
@@ -111,7 +116,8 @@ pub fn run_optimiser<N: Notation, R: Read, W: Write, E: Write>(
 }
 
 /// Runs the program `plir_opt` on the words after its name and these streams, and answers its status: that
-/// of `run_optimiser` over the notation of the dialect `Bench`.
+/// of `run_optimiser` over the notation of the dialect `Bench`, closed to proofs: the text that is read is the input, and
+/// what is written is printed of the tree that the passes made.
 ///
 /// Cost: reading and printing, linear in the text, and that of the passes.
 pub fn plir_run<R: Read, W: Write, E: Write>(
@@ -121,9 +127,10 @@ pub fn plir_run<R: Read, W: Write, E: Write>(
     output: &mut W,
     errors: &mut E,
 ) -> u8
-    ensures { Ends (IsAnswer AskFor (Answers ReadsBench PrintsBench bench (RunsAlone ⟦<BenchFactKind as PartialEq>⟧.eq
-        ⟦<Schedule<Bench, BenchFacts> as Pass>⟧.outcome)) (map string_bytes args.now) (R.remaining input.old))
+    ensures { Ends (IsAnswer AskFor (Answers (closed_reads ReadsBench) (closed_prints PrintsBench) bench
+        (RunsAlone ⟦<BenchFactKind as PartialEq>⟧.eq ⟦<PassPipeline<Bench, BenchFacts> as Pass>⟧.outcome))
+        (map string_bytes args.now) (R.remaining input.old))
         (W.contents output.old) (W.contents output.new) result }
 {
-    run_optimiser::<BenchNotation, R, W, E>(alloc, "plir_opt", args, input, output, errors)
+    run_optimiser::<Closed<BenchNotation>, R, W, E>(alloc, "plir_opt", args, input, output, errors)
 }

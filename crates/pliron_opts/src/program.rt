@@ -7,4 +7,4 @@ mod streams;
 
 pub use failure::Failure;
 pub use pipeline_text::{PipelineText, PlanError, WordFault};
-pub use streams::{MAX_TEXT, read_input, write_answer};
+pub use streams::{MAX_TEXT, read_input, write_answer, write_bytes};

@@ -5,9 +5,10 @@ use Rattle.pliron_opts_tests.specs.declared.looped_kind.LoopedKind.{LoopedKind}
 use Rattle.pliron_opts_tests.specs.declared.looped_kind.LoopedKind.TheVariants.{Function, Lit, Add, Jump, Return, Repeat, Ask, Twice}
 use Rattle.pliron_laws.specs.Datum.{Datum, Number, Shape, Move, Give, Leave}
 use Rattle.pliron_laws.specs.Laws.{CountsFit}
-use Rattle.pliron_dialects.specs.Numbers.{nth_number, whole_number_of, wrapped_sum}
-use Rattle.pliron_dialects.specs.Roles.{Role, Tables, KeepsTables, ActsFit, Constant, Computes, Jumps, Leaves, Acts, Names}
-use Rattle.pliron_dialects.specs.Visits.{once, fit_data, length-fitted, visit_of, visit_fits, visit_keeping, visit_keeping_fits, once_fits, ask_world, asks_fit, operands_from, counted_loop, counted_fits}
+use Rattle.pliron_roles.specs.Roles.{Role, Tables, KeepsTables, RoleFits, Constant, Jumps, Leaves, Acts, Names}
+use Rattle.pliron_role_runs.specs.Numbers.{known_at, whole_number_of, is_whole_number, wrapped_sum}
+use Rattle.pliron_role_runs.specs.Plain.{computes, never_asked, any_counts, allows_plain, computes_fits, jump_fits}
+use Rattle.pliron_role_runs.specs.Visits.{once, fit_data, length-fitted, visit_of, visit_fits, visit_keeping, visit_keeping_fits, once_fits, ask_world, asks_fit, operands_from, counted_loop, counted_fits}
 
 abbrev pub function_takes : ℕ → ℕ → ℕ → Bool
 function_takes operands results regions = nat_eq operands 0 && nat_eq results 0 && nat_eq regions 1
@@ -15,7 +16,7 @@ function_takes operands results regions = nat_eq operands 0 && nat_eq results 0 
 abbrev pub function_act : Shape → Datum → List Datum → Move
 function_act s memo input = once memo (visit_of 0 s input) (Leave input)
 
--- a `twice` invokes its region with its operands, and again with what that gave; then it gives what the second one
+-- a `twice` visits its region with its operands, and again with what that gave; then it gives what the second one
 -- gave. Its memo is how often it did
 abbrev pub next_of : Bool → Shape → ℤ → List Datum → Move
 next_of true s visits input = visit_keeping 0 s input (Number (wrapped_sum visits (pos 1)))
@@ -25,14 +26,22 @@ abbrev pub twice_act : Shape → Datum → List Datum → Move
 twice_act s memo input = next_of (int_lt (whole_number_of memo) (pos 2)) s (whole_number_of memo) input
 
 abbrev pub looped_role_of : LoopedKind → Role
-looped_role_of Function = Acts function_takes function_act
+looped_role_of Function = Acts true true function_act
 looped_role_of Lit = Constant
-looped_role_of Add = Computes 2 (λ ns. wrapped_sum (nth_number ns 0) (nth_number ns 1))
+looped_role_of Add = computes 2 (λ os. wrapped_sum (known_at os 0) (known_at os 1))
 looped_role_of Jump = Jumps
 looped_role_of Return = Leaves
-looped_role_of Repeat = Names (λ operands results regions. nat_eq regions 1) counted_loop (operands_from 1)
-looped_role_of Ask = Acts (λ operands results regions. nat_eq regions 0) (ask_world (pos 6))
-looped_role_of Twice = Acts (λ operands results regions. nat_eq regions 1) twice_act
+looped_role_of Repeat = Names counted_loop (operands_from 1)
+looped_role_of Ask = Acts true true (ask_world (pos 6))
+looped_role_of Twice = Acts true true twice_act
+
+-- which counts a kind has beyond its role
+abbrev pub looped_takes : LoopedKind → ℕ → ℕ → ℕ → Bool
+looped_takes Function operands results regions = function_takes operands results regions
+looped_takes Repeat operands results regions = nat_eq regions 1
+looped_takes Ask operands results regions = nat_eq regions 0
+looped_takes Twice operands results regions = nat_eq regions 1
+looped_takes _ operands results regions = any_counts operands results regions
 
 abbrev pub looped_number_of : LoopedKind → ℕ
 looped_number_of Function = 0
@@ -57,7 +66,18 @@ looped_kind_of n =
     else None
 
 abbrev pub looped : Tables LoopedKind
-looped = record { role_of = looped_role_of; number_of = looped_number_of; kind_of = looped_kind_of; constant = Lit; jump = Jump }
+looped = record {
+  role_of = looped_role_of;
+  number_of = looped_number_of;
+  kind_of = looped_kind_of;
+  constant = Lit;
+  jump = Jump;
+  value = never_asked;
+  allows = λ k. allows_plain (looped_takes k) (looped_role_of k);
+  is_ssa = λ k. true;
+  accepts = is_whole_number;
+  checks_edges = λ k. false;
+}
 
 numbered : (k : LoopedKind) → looped_kind_of (looped_number_of k) ≡ Some k
 numbered Function = refl
@@ -73,12 +93,21 @@ next_fits : (b : Bool) (s : Shape) (visits : ℤ) (input : List Datum) → Count
 next_fits true s visits input = visit_keeping_fits false 0 s input (Number (wrapped_sum visits (pos 1)))
 next_fits false s visits input = length-fitted s.results input
 
-acts : (k : LoopedKind) → ActsFit (looped_role_of k)
-acts Function = λ s h memo input. once_fits false s memo (visit_of 0 s input) (Leave input) (visit_fits false 0 s input) tt
-acts Repeat = counted_fits
-acts Ask = λ s h. asks_fit (pos 6) s
-acts Twice = λ s h memo input. next_fits (int_lt (whole_number_of memo) (pos 2)) s (whole_number_of memo) input
-acts _ = tt
+fit : (k : LoopedKind) (s : Shape) → RoleFits (looped.allows k) (looped_role_of k) s
+fit Function s = λ h memo input. once_fits false s memo (visit_of 0 s input) (Leave input) (visit_fits false 0 s input) tt
+fit Add s = computes_fits 2 (λ os. wrapped_sum (known_at os 0) (known_at os 1))
+fit Jump s = jump_fits s
+fit Repeat s = counted_fits s
+fit Ask s = λ h. asks_fit (pos 6) s
+fit Twice s = λ h memo input. next_fits (int_lt (whole_number_of memo) (pos 2)) s (whole_number_of memo) input
+fit _ s = tt
 
 pub keeps_looped : KeepsTables looped
-keeps_looped = record { numbered = numbered; constant = refl; jump = refl; acts = acts }
+keeps_looped = record {
+  numbered = numbered;
+  constant = refl;
+  jump = refl;
+  constants_allowed = λ attr h. h;
+  jumps_allowed = λ n. refl;
+  roles = fit;
+}

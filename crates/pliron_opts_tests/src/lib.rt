@@ -1,5 +1,5 @@
-//! Tests of the program: texts, graphs, arguments and streams that fail; of a dialect by tables, which is here; and the code
-//! of the pages.
+//! Tests of the program: texts, graphs, arguments and streams that fail; of two dialects by roles, which are here; and
+//! the code of the pages.
 #![tactic(auto)]
 
 #[cfg(test)]
@@ -10,6 +10,11 @@ mod docs;
 mod expect;
 #[cfg(test)]
 mod graphs;
+#[cfg(test)]
+mod guessed;
+pub mod guessed_kind;
+#[cfg(test)]
+mod guesses;
 #[cfg(test)]
 mod looped;
 pub mod looped_kind;

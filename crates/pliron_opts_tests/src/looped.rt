@@ -1,25 +1,41 @@
-//! A dialect by tables with a counted loop, which names the operands that each visit of its region passes, an effect
+//! A dialect by roles with a counted loop, which names the operands that each visit of its region passes, an effect
 //! with its answer, and a kind that keeps a memo of its own.
-ghost use Rattle.std.specs.Prelude.{map, IfOk};
+ghost use Rattle.std.specs.Prelude.{◌≡◌, map, IfOk};
 ghost use Rattle.pliron_evaluator.specs.Evaluator.{datum_of_value, move_of};
-ghost use Rattle.pliron_evaluator.specs.OwnMoves.{MovesBy};
-ghost use Rattle.pliron_opts_tests.specs.Looped.{looped, keeps_looped, twice_act};
+ghost use Rattle.pliron_role_runs.specs.OwnMoves.{shape_of_counts};
+ghost use Rattle.pliron_opts_tests.specs.Looped.{looped, looped_takes, keeps_looped, twice_act};
 
 use crate::looped_kind::LoopedKind;
-use pliron_dialects::entries::operand_from;
-use pliron_dialects::numbers::{nth_number, sum};
-use pliron_dialects::{ByKinds, Form, Kinds};
-use pliron_evaluator::evaluator::own_moves::{
-    OwnMoves, ShapeCounts, ask_world, counted_loop, give, number_of, visit_and_leave, visit_keeping,
-};
+use pliron_core::{AttrObj, Head};
 use pliron_evaluator::evaluator::{Datum, Move};
 use pliron_notation::Word;
+use pliron_role_runs::entries::operand_from;
+use pliron_role_runs::numbers::{is_number, known_at, number_of, sum, where_known};
+use pliron_role_runs::own_moves::{ask_world, counted_loop, give, visit_and_leave, visit_keeping};
+use pliron_role_runs::plain::is_plain;
+use pliron_role_runs::{Counts, Interprets};
+use pliron_roles::{ByRoles, Form, Identity, Otherwise, Roles};
 use std::alloc::{AllocError, Global};
 
 /// The dialect of these kinds.
-pub type Looped = ByKinds<LoopedKind>;
+pub type Looped = ByRoles<LoopedKind>;
 
-impl Kinds for LoopedKind {
+impl LoopedKind {
+    // Whether an operation of the kind may have so many operands, results and regions, beyond its form.
+    fn takes(self, operands: usize, results: usize, regions: usize) -> bool
+        ensures { result ≡ looped_takes self operands results regions }
+    {
+        match self {
+            LoopedKind::Function => operands == 0 && results == 0 && regions == 1,
+            LoopedKind::Repeat => regions == 1,
+            LoopedKind::Ask => regions == 0,
+            LoopedKind::Twice => regions == 1,
+            _ => true,
+        }
+    }
+}
+
+impl Roles for LoopedKind {
     ghost tables = { looped };
 
     fn number(self) -> u32 {
@@ -59,32 +75,55 @@ impl Kinds for LoopedKind {
 
     fn form(self) -> Form {
         match self {
-            LoopedKind::Function => Form::Acts,
+            LoopedKind::Function => Form::Acts(true, true),
             LoopedKind::Lit => Form::Constant,
-            LoopedKind::Add => Form::Computes(2),
+            LoopedKind::Add => Form::Folds(2, Otherwise::Never),
             LoopedKind::Jump => Form::Jumps,
             LoopedKind::Return => Form::Leaves,
             LoopedKind::Repeat => Form::Names,
-            LoopedKind::Ask => Form::Acts,
-            LoopedKind::Twice => Form::Acts,
+            LoopedKind::Ask => Form::Acts(true, true),
+            LoopedKind::Twice => Form::Acts(true, true),
         }
     }
 
-    fn value(self, operands: &[i64]) -> i64 {
+    fn fold_numbers(self, _head: &Head, numbers: &[Option<i128>]) -> Option<i128> {
         match self {
-            LoopedKind::Add => sum(nth_number(operands, 0), nth_number(operands, 1)),
-            _ => 0,
+            LoopedKind::Add => {
+                where_known(numbers, sum(known_at(numbers, 0), known_at(numbers, 1)))
+            }
+            _ => None,
         }
     }
 
-    fn takes(self, operands: usize, results: usize, regions: usize) -> bool {
-        match self {
-            LoopedKind::Function => operands == 0 && results == 0 && regions == 1,
-            LoopedKind::Repeat => regions == 1,
-            LoopedKind::Ask => regions == 0,
-            LoopedKind::Twice => regions == 1,
-            _ => false,
-        }
+    fn identity(self, _head: &Head) -> Identity {
+        Identity::none()
+    }
+
+    fn picks(self, _number: i128) -> Option<bool> {
+        None
+    }
+
+    fn choose_edge(self, _head: &Head, _edges: usize, _number: i128) -> Option<usize> {
+        None
+    }
+
+    fn allows(
+        self,
+        head: &Head,
+        operands: usize,
+        results: usize,
+        _successors: usize,
+        regions: usize,
+    ) -> bool {
+        self.takes(operands, results, regions) && is_plain(self.form(), head, operands)
+    }
+
+    fn is_ssa(self) -> bool {
+        true
+    }
+
+    fn accepts(attr: &AttrObj) -> bool {
+        is_number(attr)
     }
 
     fn entry_operand(self, operands: usize, _region: usize, argument: usize) -> Option<usize> {
@@ -94,18 +133,22 @@ impl Kinds for LoopedKind {
         }
     }
 
+    fn checks_edges(self) -> bool {
+        false
+    }
+
     ghost keeps_tables = { keeps_looped };
 }
 
 // A region two times; the memo counts the visits.
 fn twice_move(
     alloc: Global,
-    counts: &ShapeCounts,
+    counts: &Counts,
     memo: &Datum,
     input: &[Datum],
 ) -> Result<Move, AllocError>
-    ensures { IfOk result (λ next. MovesBy counts.now (move_of next) (λ s. twice_act s (datum_of_value memo.now)
-        (map datum_of_value input.now))) }
+    ensures { IfOk result (λ next. move_of next ≡ twice_act (shape_of_counts counts.now) (datum_of_value memo.now)
+        (map datum_of_value input.now)) }
 {
     let visits = number_of(memo);
     if visits < 2 {
@@ -116,11 +159,20 @@ fn twice_move(
     }
 }
 
-impl OwnMoves for LoopedKind {
+impl Interprets for LoopedKind {
+    fn interpret(
+        alloc: Global,
+        _head: &Head,
+        _input: &[Datum],
+    ) -> Result<Option<Vec<Datum>>, AllocError> {
+        Ok(Some(Vec::new(alloc)))
+    }
+
     fn own_move(
         self,
         alloc: Global,
-        counts: &ShapeCounts,
+        _head: &Head,
+        counts: &Counts,
         memo: &Datum,
         input: &[Datum],
     ) -> Result<Move, AllocError> {

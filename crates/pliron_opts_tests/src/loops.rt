@@ -1,4 +1,4 @@
-//! Counted loops, effects and a memo in a dialect by tables, before and after constant propagation, and their runs,
+//! Counted loops, effects and a memo in a dialect by roles, before and after constant propagation, and their runs,
 //! worked by hand.
 use crate::expect::{expect_sight, expect_text};
 use crate::looped::Looped;
@@ -6,6 +6,7 @@ use crate::looped_kind::LoopedKind;
 use pliron_core::{Context, Operation, Ptr};
 use pliron_evaluator::evaluator::{Datum, Sight, evaluate};
 use pliron_laws::is_well_linked;
+use pliron_role_runs::RunByRoles;
 use pliron_sccp::sccp;
 use pliron_table_text::{print_text, read_text};
 use pliron_test_cases::cases;
@@ -87,7 +88,9 @@ fn check_run(rt: &impl Abort, alloc: Global, ctx: &Context, root: Ptr<Operation>
     let (input, world) = case.input.split_once("?").unwrap_or((case.input, ""));
     let world = numbers(rt, alloc, world);
     let input = numbers(rt, alloc, input);
-    let seen = evaluate::<Looped>(alloc, ctx, root, input, world, 200).expect(rt, "memory");
+    let seen = evaluate::<RunByRoles<LoopedKind>>(alloc, ctx, root, input, world, 200).expect(
+        rt, "memory",
+    );
     let want = sight(rt, alloc, case.seen);
     expect_sight(rt, &seen, &want, case.name);
 }

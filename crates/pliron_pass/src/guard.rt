@@ -135,8 +135,8 @@ impl<G: Guard, P: Pass> Pass for GuardedPass<G, P> {
 
     ghost name = { λ p. guarded_name };
 
-    ghost outcome = { λ p p' op s s' r. Guards G.allows ⟦<P as ManagedPass>⟧.runs p.guard p'.guard p.pass p'.pass op s s'
-        r };
+    ghost outcome = { λ p p' op s s' r. Guards G.allows ⟦<P as ManagedPass>⟧.runs p.guard p'.guard p.pass p'.pass
+        op s s' r };
 
     fn name(&self) -> &str {
         "guarded_pass"

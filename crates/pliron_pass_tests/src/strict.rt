@@ -1,5 +1,4 @@
-//! A dialect with the operations of `Bench`, whose checks find more faults. No table says so: the checks of a dialect
-//! by tables or roles find none.
+//! A dialect with the operations of `Bench`, whose checks find more faults. No role says so.
 ghost use Rattle.std.specs.Prelude.{◌≡◌, MatchResult, ⊤};
 ghost use Rattle.pliron_core.specs.Tree.{IsLive};
 ghost use Rattle.pliron_laws.specs.declared.fault.OptError.TheVariants.{Pass as Code};

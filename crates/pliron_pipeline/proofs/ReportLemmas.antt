@@ -14,22 +14,12 @@ use Rattle.pliron_pass.specs.Repeating.{Repeats, Repeats.NoRun, Repeats.OneMore,
 use Rattle.pliron_pass.specs.Stage.{Stage}
 use Rattle.pliron_pass.specs.declared.result.PassResult.{PassResult}
 use Rattle.pliron_pipeline.specs.ChangeReports.{IsAccurate}
-use Rattle.pliron_pipeline.specs.Optimising.{RunsOptimisation, RunsOptimisation.Optimised, RunsOptimisation.Refused as Fails, RunsOptimisation.Short as Lacks_room}
-use Rattle.pliron_pipeline.specs.declared.optimisation.Effect.{Effect}
 use Rattle.either.specs.declared.Either.{Either}
 use Rattle.either.specs.declared.Either.TheVariants.{Left, Right}
 
 both_unchanged : (c d : IRStatus) → changed_by_either c d ≡ Unchanged → (c ≡ Unchanged) × (d ≡ Unchanged)
 both_unchanged Unchanged d e = (refl, e)
 both_unchanged Changed d e = absurd (cc)
-
--- the pass of an optimisation
-pub optimisation_same : {K E : Type 0} (eq : K → K → Bool) (edges : K → Bool) (outcome : Tree → Tree → ℕ → Result Effect OptError → Type 0) (op : ℕ) (s s' : Stage K E) (a : PassResult K) → RunsOptimisation eq edges outcome op s s' (Ok a) → has_changed a ≡ Unchanged → IsSameTree s.tree s'.tree
-optimisation_same eq edges outcome op s s' a (Optimised effect b is ran truly changed kept cache common) e =
-    let same : b ≡ a = cc in
-    truly.same (sym changed ∙ ap has_changed same ∙ e)
-optimisation_same eq edges outcome op s s' a (Fails err is ran cache common) e = absurd (cc)
-optimisation_same eq edges outcome op s s' a (Lacks_room effect is ran cache common) e = absurd (cc)
 
 -- a pass that is skipped, or verified before and after
 pub plain_honest : {K E P : Type 0} (name : P → List ℕ) (outcome : OutcomeOf P K E) (verifies : Verifying) → IsAccurate outcome → IsAccurate (RunsPlain name outcome verifies)

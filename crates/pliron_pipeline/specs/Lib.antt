@@ -7,3 +7,5 @@ pub mod ControlFlow
 pub mod DeadCode
 pub mod PassNames
 pub mod PassSteps
+pub mod Pipelines
+pub mod AccurateSteps

@@ -5,10 +5,7 @@ use Rattle.pliron_pipeline.specs.CommonSubexpressions.{cse_name}
 use Rattle.pliron_pipeline.specs.Constants.{sccp_name}
 use Rattle.pliron_pipeline.specs.ControlFlow.{simplify_cfg_name}
 use Rattle.pliron_pipeline.specs.DeadCode.{dce_name}
-use Rattle.either.specs.declared.Either.{Either}
-use Rattle.pliron_pass.specs.declared.passes.Passes.{Passes}
-use Rattle.pliron_pass.specs.declared.nested.NestedOpsPass.{NestedOpsPass}
-use Rattle.pliron_pass.specs.declared.repeat.Repeat.{Repeat}
+use Rattle.pliron_pipeline.specs.Pipelines.{PipelineOf}
 use Rattle.pliron_pipeline.specs.declared.step.PassStep.{PassStep}
 use Rattle.pliron_pipeline.specs.declared.step.PassStep.TheVariants.{Sccp, Dce, SimplifyCfg, Cse, Canonicalize}
 
@@ -27,10 +24,6 @@ of_step sccp dce simplify_cfg cse canonicalize (SimplifyCfg p) = simplify_cfg
 of_step sccp dce simplify_cfg cse canonicalize (Cse p) = cse
 of_step sccp dce simplify_cfg cse canonicalize (Canonicalize p) = canonicalize
 
--- a list of passes for the operation itself, or for each operation directly inside it
-abbrev pub PipelineOf : (D E B K : Type 0) → Type 0
-PipelineOf D E B K = Either (Passes (PassStep D E B K) D E B K) (NestedOpsPass (Passes (PassStep D E B K) D E B K) D E B K)
-
--- a pipeline once, or again and again
-abbrev pub ScheduleOf : (D E B K : Type 0) → Type 0
-ScheduleOf D E B K = Either (PipelineOf D E B K) (Repeat (PipelineOf D E B K) D E B K)
+-- a pipeline of the passes here
+abbrev pub PassPipelineOf : (D E B K : Type 0) → Type 0
+PassPipelineOf D E B K = PipelineOf (PassStep D E B K) D E B K

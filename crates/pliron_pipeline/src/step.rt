@@ -1,5 +1,6 @@
-//! One of the passes here, and lists of them.
+//! One of the passes here.
 ghost use Rattle.std.specs.Prelude.{◌≡◌, false, IfSome, IfNone};
+ghost use Rattle.pliron_pipeline.specs.AccurateSteps.{optimisation_same};
 ghost use Rattle.pliron_pipeline.specs.Optimising.{RunsOptimisation};
 ghost use Rattle.pliron_pipeline.specs.PassNames.{IsNoPass};
 ghost use Rattle.pliron_pipeline.specs.PassSteps.{of_step, step_name};
@@ -11,15 +12,13 @@ use crate::control_flow::{ControlFlow, SimplifyCFGPass};
 use crate::dead_code::{DCEPass, DeadCode};
 use crate::optimisation::Optimisation;
 use crate::pass_name::PassName;
+use crate::pipeline::{Pipeline, Step};
 use pliron_core::{Context, Operation, Ptr};
 use pliron_laws::{Dialect, OptError};
-use pliron_pass::{
-    Analyses, AnalysisKind, AnalysisManager, Either, NestedOpsPass, Pass, PassResult, Passes,
-    Repeat,
-};
+use pliron_pass::{Analyses, AnalysisKind, AnalysisManager, Pass, PassResult};
 use std::alloc::Global;
 
-/// One of the five passes, for a list of different ones.
+/// One of the five passes, for pipelines of different ones.
 #[derive(Drop)]
 pub enum PassStep<D: Dialect, E: Analyses + Drop> {
     Sccp(SCCPPass<D, E>),
@@ -94,8 +93,9 @@ impl<D: Dialect, E: Analyses + Drop> Pass for PassStep<D, E> {
     }
 }
 
-/// A list of passes that is run on an operation itself (`Left`), or on each operation directly inside it.
-pub type Pipeline<D, E> = Either<Passes<PassStep<D, E>>, NestedOpsPass<Passes<PassStep<D, E>>>>;
+impl<D: Dialect, E: Analyses + Drop> Step for PassStep<D, E> {
+    ghost accurate = { record { same = λ p q op s s' a runs. optimisation_same _ _ _ op s s' a runs.1 } };
+}
 
-/// A pipeline that is run once (`Left`), or again and again until it changes nothing, at most so many times.
-pub type Schedule<D, E> = Either<Pipeline<D, E>, Repeat<Pipeline<D, E>>>;
+/// A pipeline of the passes here.
+pub type PassPipeline<D, E> = Pipeline<PassStep<D, E>>;

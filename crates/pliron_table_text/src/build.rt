@@ -5,11 +5,10 @@ ghost use Rattle.pliron_core.specs.Tree.{IsLive};
 
 use crate::syntax::{TableBlock, TableOperation, TableStep, TableSyntax};
 use pliron_core::{
-    AttrObj, BasicBlock, Context, Head, IRRewriter, Operation, Ptr, Rewriter, Value,
+    AttrObj, Attrs, BasicBlock, Context, Head, IRRewriter, Operation, Ptr, Rewriter, Value,
 };
-use pliron_dialects::Kinds;
-use pliron_dialects::heads::{attribute_head, plain_head};
 use pliron_notation::{Expected, Stop};
+use pliron_roles::Roles;
 use std::alloc::{AllocFailed, Global};
 
 /// What is built so far, by number.
@@ -25,22 +24,26 @@ fn no_tree() -> Stop {
     Stop::at(0, Expected::Tree)
 }
 
-fn head_of<K: Kinds>(
+fn head_of<K: Roles>(
     alloc: Global,
     text: &TableOperation<K>,
 ) -> Result<Head, AllocFailed<AttrObj>> {
-    let number = text.kind.number();
-    match text.attribute {
-        Some(attribute) => attribute_head(alloc, number, AttrObj::Int(attribute as i128)),
-        None => Ok(plain_head(alloc, number)),
-    }
+    let attrs = match text.attribute {
+        Some(attribute) => Attrs::one(alloc, AttrObj::Int(attribute as i128))?,
+        None => Attrs::new(Vec::new(alloc)),
+    };
+    Ok(Head {
+        kind: text.kind.number(),
+        ssa: text.kind.is_ssa(),
+        attrs,
+    })
 }
 
 /// Builds the operation of a text, in no block.
 ///
 /// Errors: allocation failure, after which a part of the text may be live. Cost: linear in the text, with a
 /// step for each region around an operation.
-pub fn build<K: Kinds>(
+pub fn build<K: Roles>(
     alloc: Global,
     syntax: &TableSyntax<K>,
     ctx: &mut Context,
@@ -72,7 +75,7 @@ pub fn build<K: Kinds>(
 }
 
 // The next operation of the text, at the end of its block, without operands and successors.
-fn add_operation<K: Kinds>(
+fn add_operation<K: Roles>(
     alloc: Global,
     text: &TableOperation<K>,
     ctx: &mut Context,

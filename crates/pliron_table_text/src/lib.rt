@@ -1,4 +1,4 @@
-//! Texts of dialects by tables, read into a tree and printed from one.
+//! Texts of dialects by roles, read into a tree and printed from one.
 //!
 //! It knows the roles of kinds and their words, and no dialect. `docs/DIALECTS.md` has the grammar.
 #![tactic(auto)]

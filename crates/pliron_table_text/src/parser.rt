@@ -1,10 +1,10 @@
 //! From tokens to syntax.
 use crate::syntax::{TableBlock, TableOperation, TableStep, TableSyntax};
-use pliron_dialects::{Form, Kinds};
 use pliron_notation::cursor::Cursor;
 use pliron_notation::labels::{Label, Labels};
 use pliron_notation::tokens::{Name, Token, Tokens};
 use pliron_notation::{Expected, Stop, Word};
+use pliron_roles::{Counting, Form, Roles};
 use std::alloc::Global;
 
 /// How deeply regions may be nested.
@@ -49,7 +49,7 @@ struct TableParser<'t, K> {
 
 /// The syntax of a text, by its tokens. Errors: `Unreadable` where the text is outside the grammar; allocation
 /// failure. Cost: linear in the tokens.
-pub fn parse<K: Kinds + Word>(alloc: Global, text: &Tokens<K>) -> Result<TableSyntax<K>, Stop> {
+pub fn parse<K: Roles + Word>(alloc: Global, text: &Tokens<K>) -> Result<TableSyntax<K>, Stop> {
     let mut parser = TableParser {
         alloc,
         cursor: Cursor::new(&text.tokens),
@@ -65,7 +65,7 @@ pub fn parse<K: Kinds + Word>(alloc: Global, text: &Tokens<K>) -> Result<TableSy
     Ok(parser.syntax)
 }
 
-impl<K: Kinds + Word> TableParser<'_, K> {
+impl<K: Roles + Word> TableParser<'_, K> {
     // Reads the operation that is the whole text.
     fn whole(&mut self, count: usize) -> Result<(), Stop> {
         let mut place = self.operation(None)?;
@@ -234,9 +234,9 @@ impl<K: Kinds + Word> TableParser<'_, K> {
     fn tail(&mut self, text: &mut TableOperation<K>) -> Result<(), Stop> {
         match text.kind.form() {
             Form::Constant => text.attribute = Some(self.cursor.number()?),
-            Form::Computes(_) | Form::Leaves | Form::Acts | Form::Names => self.operands(text)?,
             Form::Jumps => self.edge(text)?,
-            Form::Branches => self.edges(text)?,
+            Form::Chooses(Counting::OfFirst) => self.edges(text)?,
+            _ => self.operands(text)?,
         }
         Ok(())
     }

@@ -1,20 +1,20 @@
-//! How the operations of a dialect by tables are printed.
+//! How the operations of a dialect by roles are printed.
 ghost use Rattle.std.specs.Prelude.{IsOkUnless};
 ghost use Rattle.pliron_core.specs.Tree.{IsLive};
 ghost use Rattle.pliron_laws.specs.declared.fault.OptError.TheVariants.{Memory};
 
 use pliron_core::{Context, Operation, Ptr};
-use pliron_dialects::{Form, Kinds};
 use pliron_laws::OptError;
 use pliron_notation::printed::{Printed, Tail, counted_tail, number_of};
 use pliron_notation::{Word, print_as};
+use pliron_roles::{Counting, Form, Roles};
 use std::alloc::Global;
 use std::marker::PhantomData;
 
 /// The way in which operations of these kinds are printed.
 struct Texts<K>(PhantomData<K>);
 
-impl<K: Kinds + Word> Printed for Texts<K> {
+impl<K: Roles + Word> Printed for Texts<K> {
     fn begins_names(_op: Ptr<Operation>, _ctx: &Context) -> bool {
         false
     }
@@ -34,7 +34,7 @@ impl<K: Kinds + Word> Printed for Texts<K> {
         match (kind.form(), number) {
             (Form::Constant, Some(number)) => Tail::Number(number),
             (Form::Jumps, _) => Tail::Edge,
-            (Form::Branches, number) => counted_tail(number),
+            (Form::Chooses(Counting::OfFirst), number) => counted_tail(number),
             _ => Tail::Names,
         }
     }
@@ -45,7 +45,7 @@ impl<K: Kinds + Word> Printed for Texts<K> {
 /// values and blocks that are outside what is printed.
 ///
 /// Asks that the operation is live. Errors: allocation failure. Cost: linear in the tree.
-pub fn print_text<K: Kinds + Word>(
+pub fn print_text<K: Roles + Word>(
     alloc: Global,
     root: Ptr<Operation>,
     ctx: &Context,

@@ -1,6 +1,6 @@
 //! What is around each operation and each block, in each region.
 use super::texts::{TEXTS, name_and_text};
-use super::trees::{all_of, blocks_of, holders_of};
+use super::trees::{all_of, holders_of, push_blocks};
 use pliron_bench::{Bench, BenchKind};
 use pliron_core::{BasicBlock, Context, Operation, Ptr, Region};
 use pliron_graph::{
@@ -71,7 +71,6 @@ fn check_kinds(rt: &impl Abort, op: Ptr<Operation>, ctx: &Context) {
 
 fn check_holder(
     rt: &impl Abort,
-    alloc: Global,
     all: &[Ptr<Operation>],
     blocks: &[Ptr<BasicBlock>],
     holder: Ptr<Operation>,
@@ -88,26 +87,38 @@ fn check_holder(
     }
 }
 
+fn check_regions(
+    rt: &impl Abort,
+    alloc: Global,
+    all: &[Ptr<Operation>],
+    whole: Ptr<Operation>,
+    ctx: &Context,
+) {
+    let holders = holders_of(rt, alloc, whole, ctx);
+    let mut blocks = Vec::new(alloc);
+    for holder in &holders {
+        push_blocks(rt, *holder, ctx, &mut blocks);
+    }
+    for holder in &holders {
+        check_holder(rt, all, &blocks, *holder, ctx);
+    }
+}
+
+fn check_pairs(rt: &impl Abort, all: &[Ptr<Operation>], ctx: &Context) {
+    for a in all {
+        check_kinds(rt, *a, ctx);
+        for b in all {
+            check_places(rt, *a, *b, ctx);
+        }
+    }
+}
+
 fn check_case(rt: &impl Abort, alloc: Global, ctx: &mut Context, case: &str) {
     let (name, text) = name_and_text(rt, case);
     let whole = read(alloc, ctx, text).expect(rt, name);
     let all = all_of(rt, alloc, whole, ctx);
-    let holders = holders_of(rt, alloc, whole, ctx);
-    let mut blocks = Vec::new(alloc);
-    for holder in &holders {
-        for block in &blocks_of(rt, alloc, *holder, ctx) {
-            blocks.push(*block).expect(rt, "memory");
-        }
-    }
-    for holder in &holders {
-        check_holder(rt, alloc, &all, &blocks, *holder, ctx);
-    }
-    for a in &all {
-        check_kinds(rt, *a, ctx);
-        for b in &all {
-            check_places(rt, *a, *b, ctx);
-        }
-    }
+    check_regions(rt, alloc, &all, whole, ctx);
+    check_pairs(rt, &all, ctx);
 }
 
 fn check(rt: &impl Abort, alloc: Global, case: &str) {

@@ -8,7 +8,7 @@ use super::trees::{blocks_of, holders_of};
 use pliron_core::{Context, Operation, Ptr, Region};
 use pliron_dominance::DominatorTree;
 use pliron_graph::{ReverseGraph, sccs_in_topological_order};
-use pliron_laws::edges_last;
+use pliron_laws::{OptError, edges_last};
 use pliron_test_cases::cases::read;
 use pliron_traversal::{
     ControlFlowGraph, DFSTraversal, post_order, post_order_by_component, topological_order,
@@ -26,6 +26,16 @@ fn total<N>(lists: &[Vec<N>]) -> usize {
     total
 }
 
+fn check_order<N: Copy>(rt: &impl Abort, order: Result<Vec<N>, OptError>, nodes: usize) {
+    let order = order.expect(rt, "memory");
+    assert!(rt; order.len() == nodes);
+}
+
+fn check_walks<N: Copy>(rt: &impl Abort, walks: Result<Vec<Vec<N>>, OptError>, nodes: usize) {
+    let walks = walks.expect(rt, "memory");
+    assert!(rt; total(&walks) == nodes);
+}
+
 // Each order has so many nodes, and is made of walks that have as many together.
 fn check_orders<C, G: ControlFlowGraph<C>>(
     rt: &impl Abort,
@@ -36,14 +46,10 @@ fn check_orders<C, G: ControlFlowGraph<C>>(
 )
     requires { G.is_lawful graph.now ctx.now }
 {
-    let order = post_order(alloc, ctx, graph).expect(rt, "memory");
-    assert_eq!(rt; order.len(), nodes);
-    let order = topological_order(alloc, ctx, graph).expect(rt, "memory");
-    assert_eq!(rt; order.len(), nodes);
-    let walks = post_order_by_component(alloc, ctx, graph).expect(rt, "memory");
-    assert_eq!(rt; total(&walks), nodes);
-    let walks = topological_order_by_component(alloc, ctx, graph).expect(rt, "memory");
-    assert_eq!(rt; total(&walks), nodes);
+    check_order(rt, post_order(alloc, ctx, graph), nodes);
+    check_order(rt, topological_order(alloc, ctx, graph), nodes);
+    check_walks(rt, post_order_by_component(alloc, ctx, graph), nodes);
+    check_walks(rt, topological_order_by_component(alloc, ctx, graph), nodes);
 }
 
 // The components have so many nodes together.
@@ -62,7 +68,7 @@ fn check_components<C, G: ControlFlowGraph<C>>(
         count = count.saturating_add(component.nodes.len());
         assert!(rt; component.nodes.len() < 2 || component.is_cyclic);
     }
-    assert_eq!(rt; count, nodes);
+    assert!(rt; count == nodes);
 }
 
 // A search and the tree of dominators reach the same nodes. The entry dominates each node, and only itself
@@ -79,7 +85,7 @@ fn check_dominators<C, G: ControlFlowGraph<C>>(
     let search = DFSTraversal::new(alloc, ctx, graph).expect(rt, "memory");
     let tree = DominatorTree::new(alloc, ctx, graph).expect(rt, "memory");
     let all = graph.nodes(alloc, ctx).expect(rt, "memory");
-    assert_eq!(rt; all.len(), nodes);
+    assert!(rt; all.len() == nodes);
     let entry = graph.entry_node(ctx);
     for node in &all {
         assert!(rt; tree.is_reached(node) == search.is_reached(node));

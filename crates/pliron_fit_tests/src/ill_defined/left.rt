@@ -1,4 +1,5 @@
 //! What is asked of a tree after a call, without knowing what it left.
+use crate::expect::expect_text;
 use pliron_bench::Bench;
 use pliron_core::{Context, IRStatus, Operation, Ptr};
 use pliron_laws::{OptError, is_well_linked};
@@ -27,7 +28,7 @@ pub fn answer_if_any(rt: &impl Abort, reported: Result<IRStatus, OptError>) -> O
 fn check_again(rt: &impl Abort, alloc: Global, ctx: &mut Context, text: &str) {
     let root = read(alloc, ctx, text).expect(rt, "a readable line");
     let printed = line(alloc, ctx, root).expect(rt, "memory");
-    assert_eq!(rt; printed.as_str(), text);
+    expect_text(rt, printed.as_str(), text, "the line again");
 }
 
 // The line is read again and printed the same.

@@ -157,110 +157,119 @@ fn check_twice(
     }
 }
 
-fn check_region(
-    rt: &impl Abort,
-    alloc: Global,
-    ctx: &mut Context,
-    case: &str,
-    index: usize,
-    call: Call,
-) -> bool {
-    let (name, text) = name_and_text(rt, case);
-    let whole = read(alloc, ctx, text).expect(rt, name);
-    let Some(holder) = holders_of(rt, alloc, whole, ctx).get(index).copied() else {
-        return false;
-    };
-    let target = Target::Region(holder);
-    check_twice(rt, alloc, whole, &target, ctx, call);
-    true
+/// What is called on.
+#[derive(Clone, Copy)]
+enum Parts {
+    Regions,
+    Blocks,
 }
 
-// The blocks of the whole.
-fn all_blocks(
+/// A call on each of some parts.
+#[derive(Clone, Copy)]
+struct CallOnParts {
+    parts: Parts,
+    call: Call,
+}
+
+fn push_held(
+    rt: &impl Abort,
+    alloc: Global,
+    holder: Ptr<Operation>,
+    ctx: &Context,
+    all: &mut Vec<Target>,
+) {
+    for block in &blocks_of(rt, alloc, holder, ctx) {
+        let held = HeldBlock {
+            holder,
+            block: *block,
+        };
+        all.push(Target::Block(held)).expect(rt, "memory");
+    }
+}
+
+// The regions of the whole, or its blocks.
+fn all_parts(
     rt: &impl Abort,
     alloc: Global,
     whole: Ptr<Operation>,
     ctx: &Context,
-) -> Vec<HeldBlock> {
+    parts: Parts,
+) -> Vec<Target> {
     let mut all = Vec::new(alloc);
     for holder in &holders_of(rt, alloc, whole, ctx) {
-        for block in &blocks_of(rt, alloc, *holder, ctx) {
-            let held = HeldBlock {
-                holder: *holder,
-                block: *block,
-            };
-            all.push(held).expect(rt, "memory");
+        match parts {
+            Parts::Regions => all.push(Target::Region(*holder)).expect(rt, "memory"),
+            Parts::Blocks => push_held(rt, alloc, *holder, ctx, &mut all),
         }
     }
     all
 }
 
-fn check_block(
+// Calls it on the part with this index. Answers whether there is one.
+fn check_part(
     rt: &impl Abort,
     alloc: Global,
     ctx: &mut Context,
     case: &str,
+    call: CallOnParts,
     index: usize,
-    call: Call,
 ) -> bool {
     let (name, text) = name_and_text(rt, case);
     let whole = read(alloc, ctx, text).expect(rt, name);
-    let Some(held) = all_blocks(rt, alloc, whole, ctx).get(index).copied() else {
-        return false;
-    };
-    let target = Target::Block(held);
-    check_twice(rt, alloc, whole, &target, ctx, call);
-    true
+    match all_parts(rt, alloc, whole, ctx, call.parts)
+        .get(index)
+        .copied()
+    {
+        Some(target) => {
+            check_twice(rt, alloc, whole, &target, ctx, call.call);
+            true
+        }
+        None => false,
+    }
 }
 
-// Calls it on the region with this index, if there is one.
-fn check_one_region(rt: &impl Abort, alloc: Global, case: &str, index: usize, call: Call) -> bool {
+fn check_one(rt: &impl Abort, alloc: Global, case: &str, call: CallOnParts, index: usize) -> bool {
     let mut ctx = Context::new(alloc);
-    check_region(rt, alloc, &mut ctx, case, index, call)
+    check_part(rt, alloc, &mut ctx, case, call, index)
 }
 
-// Calls it on the block with this index, if there is one.
-fn check_one_block(rt: &impl Abort, alloc: Global, case: &str, index: usize, call: Call) -> bool {
-    let mut ctx = Context::new(alloc);
-    check_block(rt, alloc, &mut ctx, case, index, call)
-}
-
-fn check_all_regions(rt: &impl Abort, alloc: Global, case: &str, call: Call) -> usize {
+// Calls it on each part, and answers how many these are.
+fn check_all(rt: &impl Abort, alloc: Global, case: &str, call: CallOnParts) -> usize {
     for index in 0..MOST {
-        if !check_one_region(rt, alloc, case, index, call) {
+        if !check_one(rt, alloc, case, call, index) {
             return index;
         }
     }
     MOST
 }
 
-fn check_all_blocks(rt: &impl Abort, alloc: Global, case: &str, call: Call) -> usize {
-    for index in 0..MOST {
-        if !check_one_block(rt, alloc, case, index, call) {
-            return index;
-        }
+// All texts together have so many parts.
+fn check_texts(rt: &impl Abort, alloc: Global, call: CallOnParts, want: usize) {
+    let mut count = 0usize;
+    for case in TEXTS.lines() {
+        count = count.saturating_add(check_all(rt, alloc, case, call));
     }
-    MOST
+    assert!(rt; count == want);
 }
 
 #[test]
 fn each_call_on_a_region_answers(rt: HostRuntime) {
     for call in &CALLS {
-        let mut count = 0usize;
-        for case in TEXTS.lines() {
-            count = count.saturating_add(check_all_regions(&rt, rt.alloc(), case, *call));
-        }
-        assert_eq!(&rt; count, HOLDERS);
+        let call = CallOnParts {
+            parts: Parts::Regions,
+            call: *call,
+        };
+        check_texts(&rt, rt.alloc(), call, HOLDERS);
     }
 }
 
 #[test]
 fn each_call_on_a_block_answers(rt: HostRuntime) {
     for call in &CALLS {
-        let mut count = 0usize;
-        for case in TEXTS.lines() {
-            count = count.saturating_add(check_all_blocks(&rt, rt.alloc(), case, *call));
-        }
-        assert_eq!(&rt; count, BLOCKS);
+        let call = CallOnParts {
+            parts: Parts::Blocks,
+            call: *call,
+        };
+        check_texts(&rt, rt.alloc(), call, BLOCKS);
     }
 }

@@ -146,6 +146,6 @@ fn each_call_answers(rt: HostRuntime) {
         for case in TEXTS.lines() {
             count = count.saturating_add(check_all(&rt, rt.alloc(), case, *call));
         }
-        assert_eq!(&rt; count, HOLDERS);
+        assert!(&rt; count == HOLDERS);
     }
 }

@@ -8,7 +8,7 @@ use pliron_core::{Context, IRStatus, Operation, Ptr};
 use pliron_laws::OptError;
 use pliron_pass::{AnalysisManager, BenchFacts, Pass, Passes};
 use pliron_pipeline::{
-    CanonicalizePass, DCEPass, PassStep, run_pipeline, schedules_report_accurately,
+    CanonicalizePass, DCEPass, PassStep, pipelines_report_accurately, run_pipeline,
 };
 use pliron_test_cases::cases::{line, read};
 use std::alloc::Global;
@@ -55,7 +55,7 @@ fn the_pass_and_another_in_a_list(rt: HostRuntime) {
 
 #[test]
 fn the_name_of_the_pass(rt: HostRuntime) {
-    schedules_report_accurately::<Bench, BenchFacts>();
+    pipelines_report_accurately::<PassStep<Bench, BenchFacts>>();
     let pass = Canonicalize::new();
     assert!(rt; pass.name() == "canonicalize");
 }

@@ -1,6 +1,6 @@
 //! A dialect whose made constants do not fold: the tiny dialect, but that a constant folds only where it
-//! has a second attribute. What it makes for an attribute has one, so propagation does not see through it. No table
-//! says so: the constants of a dialect by tables or roles fold.
+//! has a second attribute. What it makes for an attribute has one, so propagation does not see through it. No role
+//! says so: the constants of a dialect by roles fold.
 ghost use Rattle.std.specs.Prelude.{◌≡◌, Ok};
 ghost use Rattle.pliron_core.specs.Tree.{IsLive};
 ghost use Rattle.pliron_laws.specs.Answers.{ReadsHead};

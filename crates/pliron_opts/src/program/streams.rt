@@ -5,7 +5,7 @@ ghost use Rattle.pliron_opts.specs.Ending.{IsRestOfInput, WritesPart};
 
 use super::failure::Failure;
 use std::alloc::Global;
-use std::io::{ErrorKind, Read, Write};
+use std::io::{self, ErrorKind, Read, Write};
 
 /// The most bytes of a text.
 pub const MAX_TEXT: usize = 1_048_576;
@@ -36,6 +36,31 @@ pub fn read_input<R: Read>(alloc: Global, input: &mut R) -> Result<Vec<u8>, Fail
     Err(Failure::Reading)
 }
 
+/// Writes the bytes, and flushes. Errors: those of the writer, after a first part of the bytes. Cost: linear in the bytes.
+pub fn write_bytes<W: Write>(bytes: &[u8], output: &mut W) -> io::Result<()>
+    ensures whole { OnOk result (Appends (W.contents output.old) (W.contents output.new) bytes.now) }
+    ensures part { OnErr result (WritesPart (W.contents output.old) (W.contents output.new) bytes.now) }
+{
+    let mut rest = bytes;
+    // Each turn that doesn't end the loop writes a byte at least, or was interrupted.
+    for _ in 0..u64::MAX {
+        if rest.is_empty() {
+            output.flush()?;
+            return Ok(());
+        }
+        match output.write(rest) {
+            Ok(0) => return Err(ErrorKind::WriteZero.into()),
+            Ok(count) => rest = &rest[count..],
+            Err(error) => {
+                if error.kind() != ErrorKind::Interrupted {
+                    return Err(error);
+                }
+            }
+        }
+    }
+    Err(ErrorKind::WriteZero.into())
+}
+
 /// Writes the answer. Errors: a write that fails, after a first part of the answer. Cost: linear in the
 /// answer.
 pub fn write_answer<W: Write>(answer: &[u8], output: &mut W) -> Result<(), Failure>
@@ -43,24 +68,8 @@ pub fn write_answer<W: Write>(answer: &[u8], output: &mut W) -> Result<(), Failu
     ensures part { OnErr result (WritesPart (W.contents output.old) (W.contents output.new) answer.now) }
     ensures err { IfErr result (λ e. e ≡ Failure.Writing) }
 {
-    let mut rest = answer;
-    // Each turn that doesn't end the loop writes a byte at least, or was interrupted.
-    for _ in 0..u64::MAX {
-        if rest.is_empty() {
-            return match output.flush() {
-                Ok(()) => Ok(()),
-                Err(_) => Err(Failure::Writing),
-            };
-        }
-        match output.write(rest) {
-            Ok(0) => return Err(Failure::Writing),
-            Ok(count) => rest = &rest[count..],
-            Err(error) => {
-                if error.kind() != ErrorKind::Interrupted {
-                    return Err(Failure::Writing);
-                }
-            }
-        }
+    match write_bytes(answer, output) {
+        Ok(()) => Ok(()),
+        Err(_) => Err(Failure::Writing),
     }
-    Err(Failure::Writing)
 }

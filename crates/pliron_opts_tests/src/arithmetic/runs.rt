@@ -1,11 +1,12 @@
 //! Runs of functions, worked by hand, before and after constant propagation and dead code elimination.
 use super::texts::read;
 use crate::expect::expect_sight;
-use pliron_arithmetic::Arithmetic;
+use pliron_arithmetic::{Arithmetic, ArithmeticKind};
 use pliron_core::{AttrObj, Context, Operation, Ptr};
 use pliron_dce::dce;
 use pliron_evaluator::evaluator::{Datum, Sight, evaluate};
 use pliron_laws::is_well_linked;
+use pliron_role_runs::RunByRoles;
 use pliron_sccp::sccp;
 use pliron_test_cases::cases::{all_known, row_of};
 use std::alloc::Global;
@@ -62,7 +63,9 @@ struct Run<'t> {
 fn check_run(rt: &impl Abort, alloc: Global, ctx: &Context, root: Ptr<Operation>, run: &Run) {
     let world = Vec::new(alloc);
     let inputs = data(rt, alloc, run.inputs);
-    let seen = evaluate::<Arithmetic>(alloc, ctx, root, inputs, world, 200).expect(rt, "memory");
+    let seen = evaluate::<RunByRoles<ArithmeticKind>>(alloc, ctx, root, inputs, world, 200).expect(
+        rt, "memory",
+    );
     let want = Sight::Ended(data(rt, alloc, run.values), Vec::new(alloc));
     expect_sight(rt, &seen, &want, run.name);
 }

@@ -1,4 +1,4 @@
-//! docs/PASSES.md: a pass that rewrites, over a dialect by tables.
+//! docs/PASSES.md: a pass that rewrites, over a dialect by roles.
 ghost use Rattle.std.specs.Prelude.{◌≡◌, ℕ, false, IfOk};
 ghost use Rattle.pliron_core.specs.Tree.{IsLive};
 ghost use Rattle.pliron_core.specs.declared.attrs.IRStatus.TheVariants.{Unchanged};

@@ -36,8 +36,8 @@ merge_into_leader-requires g c =
     (pair_of se t w c.requires.ordered.0 ops ends leads.0 c.args.place (get_or ops leads.0 0) (get_or ops c.args.place 0) c.requires.ordered.1 leads.2.first c.requires.place leads.2.within refl refl leads.2.live leads.2.alike).leads in
     record { leads = subst (λ z. IsLeader se t z c.operation_at-op.result) (sym leads.1) (subst (IsLeader se t (get_or ops leads.0 0)) (sym c.operation_at-op.ensures) leader) }
 
-pub returns-in-Some-clause-taken : goal.returns-in-Some-clause-taken
-returns-in-Some-clause-taken g c =
+pub returns-in-Some-clause-merged : goal.returns-in-Some-clause-merged
+returns-in-Some-clause-merged g c =
     let leads = c.in-Some.ensures.some in
     (leads.0, leads.2, c.in_ok-merge_into_leader.ensures.ok ∙ ap (λ z. after_merging c.args.ctx.now.tree z c.operation_at-op.result) leads.1 ∙ ap (after_merging c.args.ctx.now.tree (get_or c.args.order.now.operations.items leads.0 0)) c.operation_at-op.ensures)
 

@@ -1,0 +1,5 @@
+mod NumberReads
+mod ListReads
+mod EdgeReads
+mod CountReads
+mod RoleMoves

@@ -1,0 +1,5 @@
+pub mod Numbers
+pub mod RoleRuns
+pub mod Visits
+pub mod OwnMoves
+pub mod Plain
