@@ -48,13 +48,13 @@ module _ (t u : Tree) (o : Originals) (e c : ℕ) (w : IsTree t) (w' : IsTree u)
   e_own : o.block e ≡ e
   e_own = h.others e (λ s. h.apart (sym s))
 
-  one_two : 1 ≡ 2 → ⊥
+  one_two : ◌≡◌ {A = ℕ} 1 2 → ⊥
   one_two s = omega (arith, s)
 
-  two_zero : 2 ≡ 0 → ⊥
+  two_zero : ◌≡◌ {A = ℕ} 2 0 → ⊥
   two_zero s = omega (arith, s)
 
-  one_zero : 1 ≡ 0 → ⊥
+  one_zero : ◌≡◌ {A = ℕ} 1 0 → ⊥
   one_zero s = omega (arith, s)
 
   -- a block in a copy is its header

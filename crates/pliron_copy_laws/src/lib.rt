@@ -29,7 +29,7 @@ pub fn copies_are_joined()
     ensures { JoinedCopiesLaw }
 {}
 
-/// An argument may be added to a block that branches alone lead to, each of which forwards one more value that it may
+/// An argument may be added to a block, where each operation that leads there forwards one more value, which it may
 /// name.
 pub fn arguments_are_added()
     ensures { AddingLaw }
