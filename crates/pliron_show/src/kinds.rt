@@ -15,13 +15,13 @@ use pliron_roles::{Form, Roles};
 use std::alloc::{AllocError, Global};
 
 // The message for a text that isn't read, with the name of its source.
+#[tactic(auto, using(crate::proofs::FaultLemmas::first_line))]
 fn unreadable_message(alloc: Global, source: &Source) -> Result<String, AllocError>
     ensures { IfOk result (λ message. faults_as_unreadable source.now.text.now (string_bytes message)) }
 {
     let mut message = String::from_str(alloc, "error: unreadable text\n")?;
-    message.push_str(" --> ")?;
-    message.push_str(source.name)?;
-    message.push_str("\n")?;
+    let place = format!(in alloc; " --> {}\n", source.name)?;
+    message.push_str(place.as_str())?;
     Ok(message)
 }
 
