@@ -10,6 +10,7 @@ pub mod CopiedRuns
 pub mod JoinedParts
 pub mod JoinedFit
 pub mod CopiedKeeps
+pub mod BlockCopied
 pub mod AddedKeeps
 pub mod RenamedBack
 pub mod MovedAgree

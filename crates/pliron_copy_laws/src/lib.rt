@@ -6,6 +6,7 @@
 #![tactic(auto)]
 
 ghost use Rattle.pliron_copy_laws.specs.Adding.{AddingLaw, RenamingBackLaw};
+ghost use Rattle.pliron_copy_laws.specs.ClosedBlock.{ClosedBlockLaw};
 ghost use Rattle.pliron_copy_laws.specs.CopyLaws.{CopiesLaw, JoinedCopiesLaw};
 ghost use Rattle.pliron_copy_laws.specs.Making.{MakingBlocks};
 ghost use Rattle.pliron_copy_laws.specs.Moving.{MovingLaw};
@@ -15,6 +16,12 @@ ghost use Rattle.pliron_copy_laws.specs.Splitting.{SplittingLaw};
 /// and nothing outside a copy uses a value of it.
 pub fn blocks_are_copied()
     ensures { CopiesLaw }
+{}
+
+/// A block whose values are used in it alone may be copied, as the header of a loop that is rotated, or a block that
+/// edges are threaded through.
+pub fn closed_blocks_are_copied()
+    ensures { ClosedBlockLaw }
 {}
 
 /// Copies of blocks may go, where each edge to a copy leads to the block that it is a copy of.
