@@ -126,13 +126,14 @@ module _ (reads : Reads) (m : Meaning) (inputs world : List Datum) (steps : ℕ)
 pub ended : (laid text : List ℕ) → IsLaidOut text laid → IsLaidOut text (laid ++ 10 ∷ [])
 ended laid text e = line_ended laid ∙ e
 
--- what holds of what was made, if something was
-pub made_when : {A X : Type 0} (P : A → Type 0) (r : Result (Option A) X) (found : Option A) (made : A) → r ≡ Ok found → found ≡ Some made → IfOk r (λ z. IfSome z P) → P made
-made_when P r found made e is all = subst (λ z. IfSome z P) is (subst (λ z. IfOk z (λ x. IfSome x P)) e all)
-
 module _ (reads : Reads) (prints : Prints) (faults : TextFaults) (m : Meaning) (ran : ℕ → Tree → Tree → IRStatus → Type 0) (verifies : Bool) (text : List ℕ) where
   pub is_made : (printed : List ℕ) (status : IRStatus) (o : Outcome) → IsOptimised reads prints m ran text (printed ++ status_line status) → IsLaidOut printed o.output.items → o.status ≡ 0 → EndsOptimised reads prints faults m ran verifies text o
   is_made printed status o made laid e = Says (record { printed = printed; status = status; made = made; laid = laid }) e
+
+-- without an answer
+pub ends_badly : {X : Type 0} (faults : Faults) (this that : Outcome → Type 0) (r : Result Outcome X) → IfOk r (EndsBadly faults) → IfOk r (λ o. Ends faults (this o) (that o) o)
+ends_badly faults this that (Ok o) badly = Fails badly
+ends_badly faults this that (Err e) badly = tt
 
 -- where something was refused
 pub refused_so : {X : Type 0} (faults : Faults) (this that : Outcome → Type 0) (r : Result Outcome X) → IfOk r IsRefused → IfOk r (λ o. Ends faults (this o) (that o) o)

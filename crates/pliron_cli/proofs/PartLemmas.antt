@@ -10,7 +10,7 @@ use Rattle.pliron_opts.specs.Answered.{Reads}
 use Rattle.pliron_fit.specs.Violation.{IsViolation}
 use Rattle.pliron_fit.specs.declared.violation.Violation.{Violation}
 use Rattle.pliron_cli.specs.declared.checking.CheckOutcome.TheVariants.{Unfit}
-use Rattle.pliron_cli.specs.CheckOutcome.{IsChecked, IsTextOfParts}
+use Rattle.pliron_cli.specs.CheckOutcome.{IsChecked, IsTextOfParts, IsWholeText}
 use Rattle.pliron_cli.specs.Parts.{IsContainer, IsPart, AreFitParts, IsFitByParts, IsFitByParts.AsAWhole, IsFitByParts.InParts, IsFirstPart, IsAtFault, IsAtFault.Itself, IsAtFault.Inside}
 
 -- the regions of what is fit have dominance, so it is no container
@@ -84,6 +84,14 @@ unfit_found reads m text tree root found it read none reported some is = record 
 -- and of a container in which nothing was found each part is fit
 pub parts_found : (reads : Reads) (m : Meaning) (text : List ℕ) (tree : Tree) (root : ℕ) → reads text tree root → IsContainer tree root → IsFitByParts m tree root → IsTextOfParts reads m text
 parts_found reads m text tree root read it fit = record { tree = tree; root = root; read = read; container = it; parts = fit_parts m tree root it fit }
+
+-- and of what is no container nothing was found, it is fit
+fit_alone : (m : Meaning) (t : Tree) (root : ℕ) → (IsContainer t root → ⊥) → IsFitByParts m t root → IsFit m t root
+fit_alone m t root none (AsAWhole fit) = fit
+fit_alone m t root none (InParts it parts) = absurd (none it)
+
+pub whole_found : (reads : Reads) (m : Meaning) (text : List ℕ) (tree : Tree) (root : ℕ) → reads text tree root → (IsContainer tree root → ⊥) → IsFitByParts m tree root → IsWholeText reads m text
+whole_found reads m text tree root read none fit = record { tree = tree; root = root; read = read; fit = fit_alone m tree root none fit }
 
 -- where a fault is reported
 pub reported_itself : (m : Meaning) (t : Tree) (root : ℕ) → (IsContainer t root → ⊥) → IsAtFault m t root root
