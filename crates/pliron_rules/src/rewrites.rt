@@ -69,8 +69,8 @@ pub fn insert_new_operation<R: Rewriter>(
     Ok(())
 }
 
-/// Puts a new operation with this head, these operands and one result just before `at`, and answers it. So many more
-/// changes through the rewriter take no memory in its listener then. The rewriter inserts before `at` from now on.
+/// Puts a new operation with this head, these operands and one result just before `at`, and answers it. A replacement
+/// by its result takes no memory in the rewriter's listener then. The rewriter inserts before `at` from now on.
 ///
 /// Asks that `at` is in a block, that such an operation may be inserted, and that its operands are available there.
 /// Errors: allocation failure, which leaves the tree as it was but for erased handles. Cost: the operands.
@@ -79,7 +79,6 @@ pub fn put_operation_before<D: Dialect, R: Rewriter + Room>(
     at: Ptr<Operation>,
     head: Head,
     operands: &[Value],
-    more: usize,
     ctx: &mut Context,
     rewriter: &mut R,
 ) -> Result<Ptr<Operation>, OptError>
@@ -94,8 +93,8 @@ pub fn put_operation_before<D: Dialect, R: Rewriter + Room>(
     ensures point { R.point rewriter.new ≡ BeforeOperation at }
 {
     rewriter.set_insertion_point_before_operation(at);
-    // an insertion, and erasing on the way back
-    rewriter.room(alloc, more.saturating_add(2))?;
+    // an insertion, and what the caller does with the result, or erasing on the way back
+    rewriter.room(alloc, 3)?;
     ctx.well_formed();
     let made = create_with_operands(head, operands, ctx, rewriter);
     ctx.well_formed();
