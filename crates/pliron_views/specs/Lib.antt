@@ -1,0 +1,5 @@
+pub mod Views
+pub mod RuleLaws
+pub mod Tables
+pub mod Seen
+pub mod Rewriting
