@@ -3,8 +3,8 @@ ghost use Rattle.pliron_core.specs.Tree.{IsLive};
 
 use pliron_bench::Bench;
 use pliron_core::{Context, Operation, Ptr};
-use pliron_notation::read_text;
 use pliron_laws::OptError;
+use pliron_notation::read_text;
 use pliron_views::seeing::{is_pure, view_of};
 use pliron_views::{Leaf, Operand, terms_replace_results};
 use std::alloc::Global;
