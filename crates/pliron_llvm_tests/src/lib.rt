@@ -14,4 +14,6 @@ mod lines;
 #[cfg(test)]
 mod parts;
 #[cfg(test)]
+mod statements;
+#[cfg(test)]
 mod tokens;

@@ -1,0 +1,4 @@
+pub mod TokenLemmas
+pub mod StopLemmas
+pub mod CursorLemmas
+pub mod HoleLemmas

@@ -1,0 +1,50 @@
+-- What is left of a statement.
+use Rattle.std.specs.Prelude.{◌≡◌, ℕ, ◌<◌, ◌≤◌, List, [], ◌∷◌, length, slice_get, Option, Some, None}
+use Rattle.pliron_llvm_syntax.specs.Tokens.{bytes_of_span}
+use Rattle.pliron_llvm_syntax.specs.declared.tokens.Token.{Token}
+use Rattle.pliron_llvm_syntax.specs.declared.tokens.TokenKind.{TokenKind}
+use Rattle.pliron_llvm_reader.specs.declared.cursor.Cursor.{Cursor}
+
+-- the text that is read
+abbrev pub text_of : Cursor → List ℕ
+text_of cursor = cursor.text.now
+
+abbrev pub first_start : List Token → ℕ → ℕ
+first_start [] end = end
+first_start (token ∷ tokens) end = token.span.start
+
+-- where the next token begins, or the end of the text
+abbrev pub place_of : Cursor → ℕ
+place_of cursor = first_start cursor.tokens.now (length (text_of cursor))
+
+abbrev pub first_kind : List Token → Option TokenKind
+first_kind [] = None
+first_kind (token ∷ tokens) = Some token.kind
+
+-- what the next token is
+abbrev pub kind_of_next : Cursor → Option TokenKind
+kind_of_next cursor = first_kind cursor.tokens.now
+
+abbrev pub first_bytes : List ℕ → List Token → List ℕ
+first_bytes text [] = []
+first_bytes text (token ∷ tokens) = bytes_of_span text token.span
+
+-- the bytes of the next token
+abbrev pub bytes_of_next : Cursor → List ℕ
+bytes_of_next cursor = first_bytes (text_of cursor) cursor.tokens.now
+
+-- a token is left
+abbrev pub HasNext : Cursor → Type 0
+HasNext cursor = place_of cursor < length (text_of cursor)
+
+-- of the same text as much or more was taken, and nothing behind its end
+abbrev pub IsForward : Cursor → Cursor → Type 0
+IsForward before after =
+    (text_of after ≡ text_of before)
+    × (before.end ≤ after.end)
+    × (place_of before ≤ place_of after)
+    × (after.end ≤ length (text_of before))
+
+-- the next token was taken
+abbrev pub HasTaken : Cursor → Cursor → Type 0
+HasTaken before after = (before.end ≤ place_of before) × (place_of before < after.end)

@@ -1,0 +1,40 @@
+-- Statements.
+use Rattle.std.specs.Prelude.{◌≡◌, ℕ, ◌<◌, ◌≤◌, Bool, false, true, List, [], ◌∷◌, length, Some, IfSome, ⊤, codes}
+use Rattle.pliron_llvm_syntax.specs.Tokens.{bytes_of_span}
+use Rattle.pliron_llvm_syntax.specs.declared.tokens.Span.{Span}
+use Rattle.pliron_llvm_reader.specs.declared.statement.Statement.{Statement}
+use Rattle.pliron_llvm_reader.specs.declared.table.Gives.{Gives}
+use Rattle.pliron_llvm_reader.specs.declared.table.Gives.TheVariants.{Always, Never, UnlessVoid}
+use Rattle.pliron_llvm_reader.specs.declared.table.Row.{Row}
+use Rattle.pliron_llvm_reader.specs.Holes.{IsLocalAt}
+use Rattle.pliron_llvm_reader.specs.Table.{row_named}
+use Rattle.pliron_llvm_reader.specs.Words.{is_named}
+
+abbrev pub funclet_opcodes : List (List ℕ)
+funclet_opcodes =
+    codes "cleanuppad" ∷ codes "catchpad" ∷ codes "catchswitch" ∷ codes "cleanupret" ∷ codes "catchret" ∷ []
+
+abbrev pub is_funclet : List ℕ → Bool
+is_funclet opcode = is_named funclet_opcodes opcode
+
+-- a local name, which ends before this byte or there
+abbrev pub IsNameOf : List ℕ → Span → ℕ → Type 0
+IsNameOf text name end = IsLocalAt text name.start × (name.start < name.end) × (name.end ≤ end)
+
+-- what gives a value always gives one, and what never does gives none
+abbrev pub MayGive : Gives → Bool → Type 0
+MayGive Always gives = gives ≡ true
+MayGive Never gives = gives ≡ false
+MayGive UnlessVoid gives = ⊤
+
+-- a statement of the text: its opcode has a row in the table, which says whether it gives a value and ends a block; the
+-- name of its result is before the opcode
+abbrev pub IsStatementOf : List ℕ → Statement → Type 0
+IsStatementOf text statement =
+    (statement.opcode.start < statement.opcode.end)
+    × (statement.opcode.end ≤ length text)
+    × IfSome statement.name (λ name. IsNameOf text name statement.opcode.start)
+    × ((row : Row)
+    × (row_named (bytes_of_span text statement.opcode) ≡ Some row)
+    × MayGive row.gives statement.gives
+    × (statement.is_terminator ≡ row.is_terminator))

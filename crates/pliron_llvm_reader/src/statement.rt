@@ -1,0 +1,147 @@
+//! A statement, read by the table.
+ghost use Rattle.std.specs.Prelude.{◌≡◌, [], length, Some, IfOk, IfErr, IfSome, OnOk};
+ghost use Rattle.pliron_llvm_syntax.specs.Forms.{AreHoles};
+ghost use Rattle.pliron_llvm_reader.specs.TokenLists.{AreTokens};
+ghost use Rattle.pliron_llvm_reader.specs.Cursors.{text_of, IsForward};
+ghost use Rattle.pliron_llvm_reader.specs.Holes.{AreHolesOf, AreHolesBetween};
+ghost use Rattle.pliron_llvm_reader.specs.Statements.{is_funclet, IsNameOf, IsStatementOf, MayGive};
+ghost use Rattle.pliron_llvm_reader.specs.Table.{row_named as row_named_in};
+ghost use Rattle.pliron_llvm_reader.specs.Stops.{IsUnread, IsStopIn};
+
+use crate::cursor::Cursor;
+use crate::stop::{Reason, Stop};
+use crate::table::{Gives, Row, row_named};
+use crate::tokens::push_tokens;
+use crate::values::unless;
+use pliron_llvm_syntax::{Hole, Span, Token};
+
+/// A statement, but for its operands and successors.
+#[doc(hidden)]
+#[derive(Clone, Copy, Debug, Drop, PartialEq, Eq)]
+pub struct Statement {
+    /// The name of its result, where the text says one.
+    pub name: Option<Span>,
+    /// Its first word.
+    pub opcode: Span,
+    /// Whether it gives a value.
+    pub gives: bool,
+    /// Whether it ends a block.
+    pub is_terminator: bool,
+}
+
+// Whether the opcode is of a funclet.
+fn is_funclet(opcode: &[u8]) -> bool
+    ensures { result ≡ is_funclet opcode.now }
+{
+    opcode == b"cleanuppad".as_slice()
+        || opcode == b"catchpad".as_slice()
+        || opcode == b"catchswitch".as_slice()
+        || opcode == b"cleanupret".as_slice()
+        || opcode == b"catchret".as_slice()
+}
+
+// The row of the opcode.
+fn row_of(opcode: &[u8]) -> Result<Row, Stop>
+    ensures row { IfOk result (λ row. row_named_in opcode.now ≡ Some row) }
+    ensures stop { IfErr result (λ stop. IsUnread stop) }
+{
+    match row_named(opcode) {
+        Some(row) => Ok(row),
+        None if is_funclet(opcode) => Err(Stop::Kept(Reason::Funclet)),
+        None => Err(Stop::Kept(Reason::Opcode)),
+    }
+}
+
+impl Cursor<'_> {
+    // Takes the name of the result and the `=`, if they are next.
+    fn result_name(&mut self) -> Option<Span>
+        ensures forward { IsForward self.old self.new }
+        ensures name { IfSome result (λ name. IsNameOf (text_of self.old) name self.new.end) }
+    {
+        let start = self.place();
+        if !self.at_name(b'%') {
+            return None;
+        }
+        self.skip_token();
+        let name = self.since(start);
+        self.accept_mark(b'=');
+        Some(name)
+    }
+
+    // Whether what is behind the opcode of a call has another type than `void`.
+    fn is_given(mut self) -> bool {
+        self.skip_flags();
+        !self.at_word(b"void")
+    }
+
+    // Whether what is behind an opcode gives a value.
+    fn gives(&self, gives: Gives) -> bool
+        ensures { MayGive gives result }
+    {
+        match gives {
+            Gives::Always => true,
+            Gives::Never => false,
+            Gives::UnlessVoid => self.is_given(),
+        }
+    }
+
+    // Takes what the row says, and adds its holes; then nothing is left.
+    fn read_row(&mut self, row: Row, holes: &mut Vec<Hole>) -> Result<(), Stop>
+        requires { AreHolesOf self.old holes.old.items }
+        ensures forward { IsForward self.old self.new }
+        ensures holes { OnOk result (AreHolesOf self.new holes.new.items) }
+        ensures all { OnOk result (self.new.tokens.now ≡ []) }
+        ensures stop { IfErr result (λ stop. IsUnread stop) }
+    {
+        for step in row.layout.steps() {
+            self.step(*step, row.reads, holes)?;
+        }
+        unless(self.is_at_end(), Reason::Rest)
+    }
+}
+
+// Reads the statement that has these tokens, and adds its holes to none.
+fn read_tokens(text: &[u8], tokens: &[Token], holes: &mut Vec<Hole>) -> Result<Statement, Stop>
+    requires tokens { AreTokens 0 (length text.now) tokens.now }
+    requires holes { holes.old.items ≡ [] }
+    ensures statement { IfOk result (λ statement. IsStatementOf text.now statement) }
+    ensures holes { OnOk result (AreHolesBetween text.now 0 (length text.now) holes.new.items) }
+    ensures stop { IfErr result (λ stop. IsUnread stop) }
+{
+    let mut cursor = Cursor::new(text, tokens);
+    let name = cursor.result_name();
+    let start = cursor.place();
+    let row = row_of(cursor.bytes())?;
+    cursor.skip_token();
+    let opcode = cursor.since(start);
+    let gives = cursor.gives(row.gives);
+    cursor.read_row(row, holes)?;
+    Ok(Statement {
+        name,
+        opcode,
+        gives,
+        is_terminator: row.is_terminator,
+    })
+}
+
+/// Reads a statement: the text of one line of a body, and nothing else. `holes` is left with its operands and
+/// successors, in order: local values, constants where what the statement gives follows from its operands, and blocks.
+/// `tokens` is room for the statement's tokens.
+///
+/// Errors: an opcode that the table doesn't have, or something that the opcode doesn't have behind it; a token is
+/// broken; allocation failure. Cost: linear in the statement.
+#[doc(hidden)]
+pub fn read_statement(
+    text: &[u8],
+    tokens: &mut Vec<Token>,
+    holes: &mut Vec<Hole>,
+) -> Result<Statement, Stop>
+    ensures statement { IfOk result (λ statement. IsStatementOf text.now statement) }
+    ensures holes { OnOk result (AreHoles text.now 0 holes.new.items) }
+    ensures stop { IfErr result (λ stop. IsStopIn text.now stop) }
+{
+    tokens.clear();
+    holes.clear();
+    push_tokens(text, tokens)?;
+    read_tokens(text, tokens, holes)
+}
