@@ -1,5 +1,5 @@
 -- Cursors that move forward.
-use Rattle.std.proofs.Common.{◌≡◌, ℕ, ◌<◌, ◌≤◌, List, [], ◌∷◌, length, refl, sym, ◌∙◌, ap, subst, arith}
+use Rattle.std.proofs.Common.{◌≡◌, ℕ, ◌<◌, ◌≤◌, List, [], ◌∷◌, length, get_or, refl, sym, ◌∙◌, ap, subst, arith}
 use Rattle.pliron_llvm_syntax.specs.declared.tokens.Token.{Token}
 use Rattle.pliron_llvm_reader.specs.TokenLists.{AreTokens}
 use Rattle.pliron_llvm_reader.specs.declared.cursor.Cursor.{Cursor}
@@ -18,16 +18,27 @@ end_place cursor = first_start_ge cursor.end (length (text_of cursor)) cursor.to
 pub end_within : (cursor : Cursor) → cursor.end ≤ length (text_of cursor)
 end_within cursor = tokens_le cursor.end (length (text_of cursor)) cursor.tokens.now cursor.in_order
 
-pub forward_same : (cursor : Cursor) → IsForward cursor cursor
-forward_same cursor = let within = end_within cursor in (refl, omega arith, omega arith, within)
+pub first_start_lt : (start end : ℕ) (tokens : List Token) → AreTokens start end tokens → 0 < length tokens → first_start tokens end < end
+first_start_lt start end [] h some = omega (arith, some)
+first_start_lt start end (token ∷ tokens) h some = let le = tokens_le token.span.end end tokens h.1.1 in omega (arith, h.1.0, le)
 
-pub forward_then : (first second third : Cursor) → IsForward first second → IsForward second third → IsForward first third
-forward_then first second third h g =
-    let same : length (text_of second) ≡ length (text_of first) = ap length h.0 in
-    (g.0 ∙ h.0, omega (arith, h.1, g.1), omega (arith, h.2, g.2), omega (arith, same, g.3))
+-- where tokens are left, there is a next one
+pub next_some : (cursor : Cursor) → 0 < length cursor.tokens.now → HasNext cursor
+next_some cursor some = first_start_lt cursor.end (length (text_of cursor)) cursor.tokens.now cursor.in_order some
 
-pub taken_then : (first second third : Cursor) → HasTaken first second → IsForward second third → HasTaken first third
-taken_then first second third h g = (h.0, omega (arith, h.1, g.1))
+pub first_fits : (start end : ℕ) (tokens : List Token) (d : Token) → AreTokens start end tokens → 0 < length tokens
+    → (first_start tokens end ≡ (get_or tokens 0 d).span.start) × ((get_or tokens 0 d).span.start < (get_or tokens 0 d).span.end) × ((get_or tokens 0 d).span.end ≤ end)
+first_fits start end [] d h some = absurd (omega (arith, some))
+first_fits start end (token ∷ tokens) d h some = (refl, h.1.0, tokens_le token.span.end end tokens h.1.1)
 
-pub then_taken : (first second third : Cursor) → IsForward first second → HasTaken second third → HasTaken first third
-then_taken first second third h g = let le = end_place first in (le, omega (arith, h.2, g.1))
+-- the next token begins at the place
+pub first_place : (cursor : Cursor) (d : Token) → 0 < length cursor.tokens.now → place_of cursor ≡ (get_or cursor.tokens.now 0 d).span.start
+first_place cursor d some = (first_fits cursor.end (length (text_of cursor)) cursor.tokens.now d cursor.in_order some).0
+
+-- it isn't empty
+pub first_some : (cursor : Cursor) (d : Token) → 0 < length cursor.tokens.now → (get_or cursor.tokens.now 0 d).span.start < (get_or cursor.tokens.now 0 d).span.end
+first_some cursor d some = (first_fits cursor.end (length (text_of cursor)) cursor.tokens.now d cursor.in_order some).1
+
+-- it is in the text
+pub first_within : (cursor : Cursor) (d : Token) → 0 < length cursor.tokens.now → (get_or cursor.tokens.now 0 d).span.end ≤ length (text_of cursor)
+first_within cursor d some = (first_fits cursor.end (length (text_of cursor)) cursor.tokens.now d cursor.in_order some).2

@@ -2,10 +2,8 @@
 use Rattle.std.proofs.Common.{◌≡◌, ℕ, ◌<◌, ◌≤◌, List, [], ◌∷◌, ◌++◌, length, sym, subst, arith}
 use Rattle.pliron_llvm_syntax.specs.declared.forms.Hole.{Hole}
 use Rattle.pliron_llvm_syntax.specs.Forms.{AreHoles}
-use Rattle.pliron_llvm_reader.specs.declared.cursor.Cursor.{Cursor}
-use Rattle.pliron_llvm_reader.specs.Cursors.{text_of, place_of, IsForward}
-use Rattle.pliron_llvm_reader.specs.Holes.{HasName, AreHolesBetween, AreHolesOf}
-use Rattle.pliron_llvm_reader.proofs.CursorLemmas.{end_place}
+use Rattle.pliron_llvm_syntax.specs.declared.forms.HoleKind.{HoleKind}
+use Rattle.pliron_llvm_reader.specs.Holes.{HasName, AreHolesBetween, hole_between}
 
 -- one more hole behind the last
 pub holes_append : (text : List ℕ) (start at : ℕ) (holes : List Hole) (hole : Hole) → AreHolesBetween text start at holes → at ≤ hole.span.start → hole.span.start < hole.span.end → HasName text hole.kind hole.span.start → AreHolesBetween text start hole.span.end (holes ++ hole ∷ [])
@@ -22,15 +20,16 @@ pub holes_none : (text : List ℕ) (start end : ℕ) (holes : List Hole) → hol
 holes_none text start end holes e le = subst (AreHolesBetween text start end) (sym e) le
 
 -- what was taken before was taken
-pub holes_forward : (before after : Cursor) (holes : List Hole) → AreHolesOf before holes → IsForward before after → AreHolesOf after holes
-holes_forward before after holes h forward =
-    subst (λ text. AreHolesBetween text 0 after.end holes) (sym forward.0) (holes_wider (text_of before) 0 before.end after.end holes h forward.1)
-
--- no hole ends behind the place
-pub holes_place : (cursor : Cursor) (holes : List Hole) → AreHolesOf cursor holes → AreHolesBetween (text_of cursor) 0 (place_of cursor) holes
-holes_place cursor holes h = holes_wider (text_of cursor) 0 cursor.end (place_of cursor) holes h (end_place cursor)
+pub holes_moved : (before after : List ℕ) (at end : ℕ) (holes : List Hole) → AreHolesBetween before 0 at holes → after ≡ before → at ≤ end → AreHolesBetween after 0 end holes
+holes_moved before after at end holes h same le = subst (λ text. AreHolesBetween text 0 end holes) (sym same) (holes_wider before 0 at end holes h le)
 
 -- holes in a text are in order there
 pub holes_order : (text : List ℕ) (start : ℕ) (holes : List Hole) → AreHolesBetween text start (length text) holes → AreHoles text start holes
 holes_order text start [] h = h
 holes_order text start (hole ∷ holes) h = (h.0, (let less : hole.span.start < hole.span.end = h.1 in omega (arith, less)), holes_order text hole.span.end holes h.3)
+
+-- what was taken since this byte is one more
+pub hole_pushed : (text : List ℕ) (start end : ℕ) (holes after : List Hole) (kind : HoleKind) → after ≡ holes ++ hole_between kind start end ∷ [] → AreHolesBetween text 0 start holes → start < end → HasName text kind start → AreHolesBetween text 0 end after
+hole_pushed text start end holes after kind e h some name =
+    let le : start ≤ start = omega arith in
+    subst (AreHolesBetween text 0 end) (sym e) (holes_append text 0 start holes (hole_between kind start end) h le some name)

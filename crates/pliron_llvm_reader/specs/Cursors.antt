@@ -1,8 +1,10 @@
 -- What is left of a statement.
-use Rattle.std.specs.Prelude.{◌≡◌, ℕ, ◌<◌, ◌≤◌, List, [], ◌∷◌, length, slice_get, Option, Some, None}
+use Rattle.std.specs.Prelude.{◌≡◌, ◌==◌, ◌&&◌, ℕ, ◌<◌, ◌≤◌, Bool, false, true, List, [], ◌∷◌, length, slice_get, Option, Some, None}
 use Rattle.pliron_llvm_syntax.specs.Tokens.{bytes_of_span}
 use Rattle.pliron_llvm_syntax.specs.declared.tokens.Token.{Token}
+use Rattle.pliron_llvm_syntax.specs.declared.tokens.Span.{Span}
 use Rattle.pliron_llvm_syntax.specs.declared.tokens.TokenKind.{TokenKind}
+use Rattle.pliron_llvm_syntax.specs.declared.tokens.TokenKind.TheVariants.{Name}
 use Rattle.pliron_llvm_reader.specs.declared.cursor.Cursor.{Cursor}
 
 -- the text that is read
@@ -32,6 +34,21 @@ first_bytes text (token ∷ tokens) = bytes_of_span text token.span
 -- the bytes of the next token
 abbrev pub bytes_of_next : Cursor → List ℕ
 bytes_of_next cursor = first_bytes (text_of cursor) cursor.tokens.now
+
+abbrev pub is_byte : Option ℕ → ℕ → Bool
+is_byte None byte = false
+is_byte (Some first) byte = first == byte
+
+abbrev pub is_name : Option TokenKind → Bool
+is_name (Some Name) = true
+is_name _ = false
+
+-- a name that begins with this byte is next
+abbrev pub is_name_next : Cursor → ℕ → Bool
+is_name_next cursor sign = is_name (kind_of_next cursor) && is_byte (slice_get (text_of cursor) (place_of cursor)) sign
+
+abbrev pub span_between : ℕ → ℕ → Span
+span_between start end = record { start = start; end = end }
 
 -- a token is left
 abbrev pub HasNext : Cursor → Type 0

@@ -3,11 +3,38 @@ use Rattle.std.specs.Prelude.{◌||◌, ℕ, Bool, false, true, List, [], ◌∷
 use Rattle.pliron_llvm_reader.specs.declared.table.Row.{Row}
 use Rattle.pliron_llvm_reader.specs.declared.table.Layout.{Layout}
 use Rattle.pliron_llvm_reader.specs.declared.table.Layout.TheVariants.{Binary, Values, Cast, Access, Allocation, Fence, Variadic, Pad, Phi, Call, Invoke, CallBranch, Return, Resume, Nothing, Branch, Switch, Indirect, Record}
+use Rattle.pliron_llvm_reader.specs.declared.table.Step.{Step}
+use Rattle.pliron_llvm_reader.specs.declared.table.Step.TheVariants.{Flags, TypeName, Value, TypedValue, MoreTypedValues, Comma, To, Unwind, Label, Labels, Cases, Entries, Arguments, Attributes, Clauses, Branch as BranchStep, ReturnValue, Rest}
 use Rattle.pliron_llvm_reader.specs.declared.table.Gives.{Gives}
 use Rattle.pliron_llvm_reader.specs.declared.table.Gives.TheVariants.{Always, Never, UnlessVoid}
 use Rattle.pliron_llvm_reader.specs.declared.values.Reads.{Reads}
 use Rattle.pliron_llvm_reader.specs.declared.values.Reads.TheVariants.{Constants, Locals}
 use Rattle.pliron_llvm_reader.specs.Words.{is_named}
+
+-- ---- what stands behind an opcode
+
+abbrev pub steps_of : Layout → List Step
+steps_of Binary = Flags ∷ TypeName ∷ Value ∷ Comma ∷ Value ∷ Rest ∷ []
+steps_of Values = Flags ∷ TypedValue ∷ MoreTypedValues ∷ Rest ∷ []
+steps_of Cast = Flags ∷ TypeName ∷ Value ∷ To ∷ TypeName ∷ Rest ∷ []
+steps_of Access = Flags ∷ TypeName ∷ Comma ∷ TypedValue ∷ MoreTypedValues ∷ Rest ∷ []
+steps_of Allocation = Flags ∷ TypeName ∷ MoreTypedValues ∷ Rest ∷ []
+steps_of Fence = Flags ∷ Rest ∷ []
+steps_of Variadic = TypedValue ∷ Comma ∷ TypeName ∷ Rest ∷ []
+steps_of Pad = TypeName ∷ Clauses ∷ Rest ∷ []
+steps_of Phi = Flags ∷ TypeName ∷ Entries ∷ Rest ∷ []
+steps_of Call = Flags ∷ TypeName ∷ Value ∷ Arguments ∷ Attributes ∷ Rest ∷ []
+steps_of Invoke =
+    Flags ∷ TypeName ∷ Value ∷ Arguments ∷ Attributes ∷ To ∷ Label ∷ Unwind ∷ Label ∷ Rest ∷ []
+steps_of CallBranch =
+    Flags ∷ TypeName ∷ Value ∷ Arguments ∷ Attributes ∷ To ∷ Label ∷ Labels ∷ Rest ∷ []
+steps_of Return = ReturnValue ∷ Rest ∷ []
+steps_of Resume = TypedValue ∷ Rest ∷ []
+steps_of Nothing = Rest ∷ []
+steps_of Branch = BranchStep ∷ Rest ∷ []
+steps_of Switch = TypedValue ∷ Comma ∷ Label ∷ Cases ∷ Rest ∷ []
+steps_of Indirect = TypedValue ∷ Comma ∷ Labels ∷ Rest ∷ []
+steps_of Record = Arguments ∷ []
 
 -- ---- rows
 

@@ -50,12 +50,20 @@ constant_words =
 abbrev pub is_constant : List ℕ → Bool
 is_constant word = is_number word || is_named constant_words word
 
-abbrev pub expression_words : List (List ℕ)
-expression_words =
-    codes "getelementptr" ∷ codes "ptrtoint" ∷ codes "ptrtoaddr" ∷ codes "inttoptr" ∷ codes "bitcast" ∷ codes "addrspacecast" ∷
-    codes "trunc" ∷ codes "add" ∷ codes "sub" ∷ codes "mul" ∷ codes "xor" ∷ codes "shl" ∷ codes "icmp" ∷ codes "fcmp" ∷
-    codes "extractelement" ∷ codes "insertelement" ∷ codes "shufflevector" ∷ codes "splat" ∷ codes "blockaddress" ∷
-    codes "ptrauth" ∷ []
+-- casts, addresses, and pointers with a signature
+abbrev pub address_words : List (List ℕ)
+address_words =
+    codes "getelementptr" ∷ codes "ptrtoint" ∷ codes "ptrtoaddr" ∷ codes "inttoptr" ∷ codes "bitcast" ∷
+    codes "addrspacecast" ∷ codes "trunc" ∷ codes "blockaddress" ∷ codes "ptrauth" ∷ []
+
+abbrev pub operation_words : List (List ℕ)
+operation_words =
+    codes "add" ∷ codes "sub" ∷ codes "mul" ∷ codes "xor" ∷ codes "shl" ∷ codes "icmp" ∷ codes "fcmp" ∷
+    codes "extractelement" ∷ codes "insertelement" ∷ codes "shufflevector" ∷ codes "splat" ∷ []
+
+-- a constant expression
+abbrev pub is_expression : List ℕ → Bool
+is_expression word = is_named address_words word || is_named operation_words word
 
 abbrev pub reference_words : List (List ℕ)
 reference_words = codes "dso_local_equivalent" ∷ codes "no_cfi" ∷ []
@@ -65,4 +73,4 @@ assembly_words = codes "asm" ∷ []
 
 abbrev pub is_value_word : List ℕ → Bool
 is_value_word word =
-    is_constant word || is_named expression_words word || is_named reference_words word || is_named assembly_words word
+    is_constant word || is_expression word || is_named reference_words word || is_named assembly_words word

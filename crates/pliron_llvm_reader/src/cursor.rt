@@ -1,4 +1,6 @@
 //! Tokens of a statement, taken one by one.
+#![tactic(auto, using(crate::proofs::CursorLemmas::end_within, crate::proofs::CursorLemmas::end_place, crate::proofs::CursorLemmas::next_some, crate::proofs::CursorLemmas::first_place, crate::proofs::CursorLemmas::first_some, crate::proofs::CursorLemmas::first_within))]
+
 ghost use Rattle.std.specs.Prelude.{length};
 ghost use Rattle.pliron_llvm_reader.specs.TokenLists.{AreTokens, AreTokens-prop};
 
@@ -19,7 +21,18 @@ pub struct Cursor<'t> {
 impl<'t> Cursor<'t> {
     ghost use Rattle.std.specs.Prelude.{◌≡◌, ◌≤◌, [], Some, slice_get, IsTrue, IsSome};
     ghost use Rattle.std.specs.Bool.{OnTrue, OnFalse};
-    ghost use Rattle.pliron_llvm_reader.specs.Cursors.{text_of, place_of, kind_of_next, bytes_of_next, HasNext, IsForward, HasTaken};
+    ghost use Rattle.pliron_llvm_reader.specs.Cursors.{text_of, place_of, kind_of_next, bytes_of_next, span_between};
+    ghost use Rattle.pliron_llvm_reader.specs.Cursors.{is_byte, is_name_next, HasNext, IsForward, HasTaken};
+
+    // These tokens are left behind this byte.
+    fn left(text: &'t [u8], tokens: &'t [Token], end: usize) -> Self
+        requires { AreTokens end (length text.now) tokens.now }
+        ensures text { text_of result ≡ text.now }
+        ensures tokens { result.tokens.now ≡ tokens.now }
+        ensures end { result.end ≡ end }
+    {
+        Cursor { text, tokens, end }
+    }
 
     /// All of these tokens are left. Asks that they are tokens of the text, in their order. Cost: constant.
     pub fn new(text: &'t [u8], tokens: &'t [Token]) -> Self
@@ -28,11 +41,7 @@ impl<'t> Cursor<'t> {
         ensures tokens { result.tokens.now ≡ tokens.now }
         ensures end { result.end ≡ 0 }
     {
-        Cursor {
-            text,
-            tokens,
-            end: 0,
-        }
+        Cursor::left(text, tokens, 0)
     }
 
     /// Whether none is left. Cost: constant.
@@ -84,8 +93,7 @@ impl<'t> Cursor<'t> {
 
     /// What was taken since this place. Cost: constant.
     pub fn since(&self, start: usize) -> Span
-        ensures start { result.start ≡ start }
-        ensures end { result.end ≡ self.now.end }
+        ensures { result ≡ span_between start self.now.end }
     {
         Span {
             start,
@@ -99,8 +107,7 @@ impl<'t> Cursor<'t> {
         ensures taken { HasNext self.old → HasTaken self.old self.new }
     {
         if let [token, rest @ ..] = self.tokens {
-            self.end = token.span.end;
-            self.tokens = rest;
+            *self = Cursor::left(self.text, rest, token.span.end);
         }
     }
 
@@ -224,12 +231,26 @@ impl<'t> Cursor<'t> {
         self.skip_if(is_next)
     }
 
+    // Whether the next one begins with this byte.
+    fn begins_with(&self, byte: u8) -> bool
+        ensures { result ≡ is_byte (slice_get (text_of self.now) (place_of self.now)) byte }
+    {
+        match self.first_byte() {
+            Some(first) => first == byte,
+            None => false,
+        }
+    }
+
     /// Whether a name with this sign is next. Cost: constant.
     pub fn at_name(&self, sign: u8) -> bool
+        ensures exact { result ≡ is_name_next self.now sign }
         ensures next { OnTrue result (HasNext self.now) }
         ensures sign { OnTrue result (slice_get (text_of self.now) (place_of self.now) ≡ Some sign) }
     {
-        matches!(self.kind(), Some(TokenKind::Name)) && self.first_byte() == Some(sign)
+        match self.kind() {
+            Some(TokenKind::Name) => self.begins_with(sign),
+            _ => false,
+        }
     }
 
     /// Takes a name with this sign, if it is next. Cost: constant.

@@ -13,4 +13,3 @@ mod words;
 
 pub use statement::{Statement, read_statement};
 pub use stop::{Reason, Stop};
-pub use table::Gives;

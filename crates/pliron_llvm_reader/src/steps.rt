@@ -1,8 +1,11 @@
 //! The steps of the table.
-ghost use Rattle.std.specs.Prelude.{◌≡◌, OnOk, IfErr};
+#![tactic(auto, using(crate::proofs::CursorLemmas::end_within, crate::proofs::CursorLemmas::end_place, crate::proofs::CursorLemmas::next_some, crate::proofs::HoleLemmas::holes_moved, crate::proofs::HoleLemmas::hole_pushed, crate::proofs::StopLemmas::unread_memory))]
+
+ghost use Rattle.std.specs.Prelude.{◌≡◌, ◌∷◌, ◌++◌, [], OnOk, IfErr};
 ghost use Rattle.std.specs.Bool.{OnTrue};
-ghost use Rattle.pliron_llvm_reader.specs.Cursors.{HasNext, IsForward, HasTaken};
-ghost use Rattle.pliron_llvm_reader.specs.Holes.{AreHolesOf};
+ghost use Rattle.pliron_llvm_reader.specs.Cursors.{place_of, HasNext, IsForward, HasTaken};
+ghost use Rattle.pliron_llvm_reader.specs.Holes.{AreHolesOf, hole_between};
+ghost use Rattle.pliron_llvm_syntax.specs.declared.forms.HoleKind.TheVariants.{Successor};
 ghost use Rattle.pliron_llvm_reader.specs.Stops.{IsUnread};
 
 use crate::cursor::Cursor;
@@ -17,6 +20,8 @@ impl Cursor<'_> {
         requires { AreHolesOf self.old holes.old.items }
         ensures forward { IsForward self.old self.new }
         ensures taken { OnOk result (HasTaken self.old self.new) }
+        ensures added { OnOk result (holes.new.items
+            ≡ holes.old.items ++ hole_between Successor (place_of self.old) self.new.end ∷ []) }
         ensures holes { OnOk result (AreHolesOf self.new holes.new.items) }
         ensures stop { IfErr result (λ stop. IsUnread stop) }
     {
@@ -277,7 +282,7 @@ impl Cursor<'_> {
         ensures stop { IfErr result (λ stop. IsUnread stop) }
     {
         match step {
-            Step::Type => unless(self.accept_type(), Reason::Type),
+            Step::TypeName => unless(self.accept_type(), Reason::Type),
             Step::Comma => unless(self.accept_mark(b','), Reason::Comma),
             Step::To => unless(self.accept_word(b"to"), Reason::To),
             Step::Unwind => unless(self.accept_word(b"unwind"), Reason::Unwind),
@@ -309,8 +314,9 @@ impl Cursor<'_> {
             Step::Attributes => self.attributes(holes),
             Step::Clauses => self.clauses(holes),
             Step::Branch => self.branch(reads, holes),
-            Step::Returned => self.return_value(reads, holes),
-            Step::Flags | Step::Type | Step::Comma | Step::To | Step::Unwind | Step::Rest => self.plain_step(step),
+            Step::ReturnValue => self.return_value(reads, holes),
+            Step::Flags | Step::TypeName | Step::Comma | Step::To | Step::Unwind | Step::Rest =>
+                self.plain_step(step),
         }
     }
 }

@@ -4,7 +4,7 @@ ghost use Rattle.pliron_llvm_reader.specs.Words.{is_named};
 ghost use Rattle.pliron_llvm_reader.specs.Table.{integer_operators, integer_casts, float_operators, other_casts};
 ghost use Rattle.pliron_llvm_reader.specs.Table.{element_opcodes, call_opcodes, records, value_row, effect_row};
 ghost use Rattle.pliron_llvm_reader.specs.Table.{terminator_row, call_row, row_by_constants, row_of_value, row_of_end};
-ghost use Rattle.pliron_llvm_reader.specs.Table.{row_of_effect, row_named};
+ghost use Rattle.pliron_llvm_reader.specs.Table.{row_of_effect, row_named, steps_of};
 
 use crate::values::Reads;
 
@@ -14,7 +14,8 @@ use crate::values::Reads;
 pub enum Step {
     /// Words, with the brackets behind them, and strings, up to a type.
     Flags,
-    Type,
+    /// A type.
+    TypeName,
     /// A value whose type was before it.
     Value,
     /// A type, attributes and a value.
@@ -43,7 +44,7 @@ pub enum Step {
     /// A label; or a typed value and two labels.
     Branch,
     /// `void`, or a typed value.
-    Returned,
+    ReturnValue,
     /// Whatever else there is: alignments, orders, numbers, attachments.
     Rest,
 }
@@ -96,7 +97,7 @@ pub struct Row {
 
 static BINARY: [Step; 6] = [
     Step::Flags,
-    Step::Type,
+    Step::TypeName,
     Step::Value,
     Step::Comma,
     Step::Value,
@@ -112,35 +113,40 @@ static VALUES: [Step; 4] = [
 
 static CAST: [Step; 6] = [
     Step::Flags,
-    Step::Type,
+    Step::TypeName,
     Step::Value,
     Step::To,
-    Step::Type,
+    Step::TypeName,
     Step::Rest,
 ];
 
 static ACCESS: [Step; 6] = [
     Step::Flags,
-    Step::Type,
+    Step::TypeName,
     Step::Comma,
     Step::TypedValue,
     Step::MoreTypedValues,
     Step::Rest,
 ];
 
-static ALLOCATION: [Step; 4] = [Step::Flags, Step::Type, Step::MoreTypedValues, Step::Rest];
+static ALLOCATION: [Step; 4] = [
+    Step::Flags,
+    Step::TypeName,
+    Step::MoreTypedValues,
+    Step::Rest,
+];
 
 static FENCE: [Step; 2] = [Step::Flags, Step::Rest];
 
-static VARIADIC: [Step; 4] = [Step::TypedValue, Step::Comma, Step::Type, Step::Rest];
+static VARIADIC: [Step; 4] = [Step::TypedValue, Step::Comma, Step::TypeName, Step::Rest];
 
-static PAD: [Step; 3] = [Step::Type, Step::Clauses, Step::Rest];
+static PAD: [Step; 3] = [Step::TypeName, Step::Clauses, Step::Rest];
 
-static PHI: [Step; 4] = [Step::Flags, Step::Type, Step::Entries, Step::Rest];
+static PHI: [Step; 4] = [Step::Flags, Step::TypeName, Step::Entries, Step::Rest];
 
 static CALL: [Step; 6] = [
     Step::Flags,
-    Step::Type,
+    Step::TypeName,
     Step::Value,
     Step::Arguments,
     Step::Attributes,
@@ -149,7 +155,7 @@ static CALL: [Step; 6] = [
 
 static INVOKE: [Step; 10] = [
     Step::Flags,
-    Step::Type,
+    Step::TypeName,
     Step::Value,
     Step::Arguments,
     Step::Attributes,
@@ -162,7 +168,7 @@ static INVOKE: [Step; 10] = [
 
 static CALL_BRANCH: [Step; 9] = [
     Step::Flags,
-    Step::Type,
+    Step::TypeName,
     Step::Value,
     Step::Arguments,
     Step::Attributes,
@@ -172,7 +178,7 @@ static CALL_BRANCH: [Step; 9] = [
     Step::Rest,
 ];
 
-static RETURN: [Step; 2] = [Step::Returned, Step::Rest];
+static RETURN: [Step; 2] = [Step::ReturnValue, Step::Rest];
 
 static RESUME: [Step; 2] = [Step::TypedValue, Step::Rest];
 
@@ -194,7 +200,9 @@ static RECORD: [Step; 1] = [Step::Arguments];
 
 impl Layout {
     /// What is read one after another. Cost: constant.
-    pub fn steps(self) -> &'static [Step] {
+    pub fn steps(self) -> &'static [Step]
+        ensures { result.now ≡ steps_of self }
+    {
         match self {
             Layout::Binary => &BINARY,
             Layout::Values => &VALUES,

@@ -1,4 +1,6 @@
 //! Types, and words before them.
+#![tactic(auto, using(crate::proofs::CursorLemmas::end_within, crate::proofs::CursorLemmas::end_place, crate::proofs::CursorLemmas::next_some))]
+
 ghost use Rattle.std.specs.Bool.{OnTrue};
 ghost use Rattle.pliron_llvm_reader.specs.Cursors.{HasNext, IsForward, HasTaken};
 

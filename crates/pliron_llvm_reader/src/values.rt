@@ -1,8 +1,10 @@
 //! Values, and attributes between a type and its value.
-ghost use Rattle.std.specs.Prelude.{◌≡◌, ◌<◌, true, OnOk, IfErr};
+#![tactic(auto, using(crate::proofs::CursorLemmas::end_within, crate::proofs::CursorLemmas::end_place, crate::proofs::CursorLemmas::next_some, crate::proofs::HoleLemmas::holes_moved, crate::proofs::HoleLemmas::hole_pushed, crate::proofs::StopLemmas::unread_memory))]
+
+ghost use Rattle.std.specs.Prelude.{◌≡◌, ◌<◌, ◌∷◌, ◌++◌, [], true, OnOk, IfErr};
 ghost use Rattle.std.specs.Bool.{OnTrue};
 ghost use Rattle.pliron_llvm_reader.specs.Cursors.{text_of, HasNext, IsForward, HasTaken};
-ghost use Rattle.pliron_llvm_reader.specs.Holes.{HasName, AreHolesBetween, AreHolesOf};
+ghost use Rattle.pliron_llvm_reader.specs.Holes.{HasName, AreHolesBetween, AreHolesOf, hole_between, are_constants, with_value};
 ghost use Rattle.pliron_llvm_reader.specs.Stops.{IsUnread};
 
 use crate::cursor::Cursor;
@@ -18,6 +20,18 @@ pub enum Reads {
     Constants,
     /// Local values alone: constants are part of the form.
     Locals,
+}
+
+impl Reads {
+    // Whether constants are read.
+    fn are_constants(self) -> bool
+        ensures { result ≡ are_constants self }
+    {
+        match self {
+            Reads::Constants => true,
+            Reads::Locals => false,
+        }
+    }
 }
 
 /// Goes on where it was taken. Errors: this reason, where it wasn't. Cost: constant.
@@ -40,6 +54,7 @@ impl Cursor<'_> {
         requires some { start < self.now.end }
         requires name { HasName (text_of self.now) kind start }
         requires holes { AreHolesBetween (text_of self.now) 0 start holes.old.items }
+        ensures added { OnOk result (holes.new.items ≡ holes.old.items ++ hole_between kind start self.now.end ∷ []) }
         ensures holes { OnOk result (AreHolesOf self.now holes.new.items) }
         ensures stop { IfErr result (λ stop. IsUnread stop) }
     {
@@ -146,11 +161,12 @@ impl Cursor<'_> {
         requires { AreHolesOf self.old holes.old.items }
         ensures forward { IsForward self.old self.new }
         ensures taken { OnOk result (HasTaken self.old self.new) }
+        ensures added { OnOk result (holes.new.items ≡ with_value self.old reads self.new.end holes.old.items) }
         ensures holes { OnOk result (AreHolesOf self.new holes.new.items) }
         ensures stop { IfErr result (λ stop. IsUnread stop) }
     {
         let start = self.place();
-        let is_hole = self.at_name(b'%') || reads == Reads::Constants;
+        let is_hole = self.at_name(b'%') || reads.are_constants();
         unless(self.accept_value(), Reason::Value)?;
         if is_hole {
             self.push_hole(HoleKind::Operand, start, holes)?;

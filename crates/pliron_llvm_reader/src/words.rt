@@ -1,19 +1,26 @@
 //! Words that are types, and words that are values.
 ghost use Rattle.std.specs.Prelude.{◌≡◌};
+ghost use Rattle.std.specs.List.{list_all};
+ghost use Rattle.std.specs.Char.{is_ascii_digit};
 ghost use Rattle.pliron_llvm_reader.specs.Words.{is_integer_type, is_named, type_words, is_type_word, constant_words};
-ghost use Rattle.pliron_llvm_reader.specs.Words.{begins_with_digit, is_number, is_constant, expression_words};
+ghost use Rattle.pliron_llvm_reader.specs.Words.{begins_with_digit, is_number, is_constant, address_words, operation_words, is_expression};
 ghost use Rattle.pliron_llvm_reader.specs.Words.{reference_words, assembly_words, is_value_word, is_sign, is_prefix};
+
+// Whether all of the text are digits.
+fn are_digits(text: &[u8]) -> bool
+    ensures { result ≡ list_all is_ascii_digit text.now }
+{
+    text.iter().all(|byte| byte.is_ascii_digit())
+}
 
 // Whether the word is `i` or `b` and a number.
 fn is_integer_type(word: &[u8]) -> bool
     ensures { result ≡ is_integer_type word.now }
 {
     match word {
-        [first, width @ ..] => {
-            (*first == b'i' || *first == b'b')
-                && !width.is_empty()
-                && width.iter().all(|byte| byte.is_ascii_digit())
-        }
+        [first, width @ ..] => (*first == b'i' || *first == b'b')
+            && !width.is_empty()
+            && are_digits(width),
         [] => false,
     }
 }
@@ -105,10 +112,9 @@ pub fn is_constant(word: &[u8]) -> bool
     is_number(word) || is_other_constant(word)
 }
 
-/// Whether the word begins a constant expression, which ends with a bracket. Cost: constant.
-#[doc(hidden)]
-pub fn is_expression(word: &[u8]) -> bool
-    ensures { result ≡ is_named expression_words word.now }
+// Whether the word begins a cast, an address, or a pointer with a signature.
+fn is_address(word: &[u8]) -> bool
+    ensures { result ≡ is_named address_words word.now }
 {
     word == b"getelementptr".as_slice()
         || word == b"ptrtoint".as_slice()
@@ -117,7 +123,15 @@ pub fn is_expression(word: &[u8]) -> bool
         || word == b"bitcast".as_slice()
         || word == b"addrspacecast".as_slice()
         || word == b"trunc".as_slice()
-        || word == b"add".as_slice()
+        || word == b"blockaddress".as_slice()
+        || word == b"ptrauth".as_slice()
+}
+
+// Whether the word begins an operation on constants that gives no address.
+fn is_operation(word: &[u8]) -> bool
+    ensures { result ≡ is_named operation_words word.now }
+{
+    word == b"add".as_slice()
         || word == b"sub".as_slice()
         || word == b"mul".as_slice()
         || word == b"xor".as_slice()
@@ -128,8 +142,14 @@ pub fn is_expression(word: &[u8]) -> bool
         || word == b"insertelement".as_slice()
         || word == b"shufflevector".as_slice()
         || word == b"splat".as_slice()
-        || word == b"blockaddress".as_slice()
-        || word == b"ptrauth".as_slice()
+}
+
+/// Whether the word begins a constant expression, which ends with a bracket. Cost: constant.
+#[doc(hidden)]
+pub fn is_expression(word: &[u8]) -> bool
+    ensures { result ≡ is_expression word.now }
+{
+    is_address(word) || is_operation(word)
 }
 
 /// Whether the word begins a value that is a name behind it. Cost: constant.
