@@ -1,9 +1,10 @@
 -- Cursors that move forward.
 use Rattle.std.proofs.Common.{◌≡◌, ℕ, ◌<◌, ◌≤◌, List, [], ◌∷◌, length, get_or, refl, sym, ◌∙◌, ap, subst, arith}
 use Rattle.pliron_llvm_syntax.specs.declared.tokens.Token.{Token}
+use Rattle.pliron_llvm_syntax.specs.Tokens.{bytes_of_span}
 use Rattle.pliron_llvm_reader.specs.TokenLists.{AreTokens}
 use Rattle.pliron_llvm_reader.specs.declared.cursor.Cursor.{Cursor}
-use Rattle.pliron_llvm_reader.specs.Cursors.{text_of, first_start, place_of, HasNext, IsForward, HasTaken}
+use Rattle.pliron_llvm_reader.specs.Cursors.{text_of, first_start, place_of, first_bytes, bytes_of_next, HasNext, IsForward, HasTaken}
 use Rattle.pliron_llvm_reader.proofs.TokenLemmas.{tokens_le}
 
 pub first_start_ge : (start end : ℕ) (tokens : List Token) → AreTokens start end tokens → start ≤ first_start tokens end
@@ -42,3 +43,11 @@ first_some cursor d some = (first_fits cursor.end (length (text_of cursor)) curs
 -- it is in the text
 pub first_within : (cursor : Cursor) (d : Token) → 0 < length cursor.tokens.now → (get_or cursor.tokens.now 0 d).span.end ≤ length (text_of cursor)
 first_within cursor d some = (first_fits cursor.end (length (text_of cursor)) cursor.tokens.now d cursor.in_order some).2
+
+first_text_of : (text : List ℕ) (tokens : List Token) (d : Token) → 0 < length tokens → first_bytes text tokens ≡ bytes_of_span text (get_or tokens 0 d).span
+first_text_of text [] d some = absurd (omega (arith, some))
+first_text_of text (token ∷ tokens) d some = refl
+
+-- its bytes
+pub first_text : (cursor : Cursor) (d : Token) → 0 < length cursor.tokens.now → bytes_of_next cursor ≡ bytes_of_span (text_of cursor) (get_or cursor.tokens.now 0 d).span
+first_text cursor d some = first_text_of (text_of cursor) cursor.tokens.now d some

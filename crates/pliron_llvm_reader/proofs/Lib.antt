@@ -2,3 +2,4 @@ pub mod TokenLemmas
 pub mod StopLemmas
 pub mod CursorLemmas
 pub mod HoleLemmas
+pub mod BlockLemmas

@@ -5,3 +5,4 @@ pub mod Stops
 pub mod Words
 pub mod Table
 pub mod Statements
+pub mod Blocks

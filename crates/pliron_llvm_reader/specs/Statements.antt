@@ -27,14 +27,15 @@ MayGive Always gives = gives ≡ true
 MayGive Never gives = gives ≡ false
 MayGive UnlessVoid gives = ⊤
 
--- a statement of the text: its opcode has a row in the table, which says whether it gives a value and ends a block; the
--- name of its result is before the opcode
+-- a word of the text that has this row in the table
+abbrev pub IsOpcodeOf : List ℕ → Span → Row → Type 0
+IsOpcodeOf text opcode row =
+    (opcode.start < opcode.end) × (opcode.end ≤ length text) × (row_named (bytes_of_span text opcode) ≡ Some row)
+
+-- a statement of the text: the table has its opcode, and says whether it gives a value; the name of its result ends
+-- before the opcode
 abbrev pub IsStatementOf : List ℕ → Statement → Type 0
 IsStatementOf text statement =
-    (statement.opcode.start < statement.opcode.end)
-    × (statement.opcode.end ≤ length text)
+    IsOpcodeOf text statement.opcode statement.row
     × IfSome statement.name (λ name. IsNameOf text name statement.opcode.start)
-    × ((row : Row)
-    × (row_named (bytes_of_span text statement.opcode) ≡ Some row)
-    × MayGive row.gives statement.gives
-    × (statement.is_terminator ≡ row.is_terminator))
+    × MayGive statement.row.gives statement.gives

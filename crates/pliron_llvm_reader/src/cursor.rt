@@ -1,5 +1,5 @@
 //! Tokens of a statement, taken one by one.
-#![tactic(auto, using(crate::proofs::CursorLemmas::end_within, crate::proofs::CursorLemmas::end_place, crate::proofs::CursorLemmas::next_some, crate::proofs::CursorLemmas::first_place, crate::proofs::CursorLemmas::first_some, crate::proofs::CursorLemmas::first_within))]
+#![tactic(auto, using(crate::proofs::CursorLemmas::end_within, crate::proofs::CursorLemmas::end_place, crate::proofs::CursorLemmas::next_some, crate::proofs::CursorLemmas::first_place, crate::proofs::CursorLemmas::first_some, crate::proofs::CursorLemmas::first_within, crate::proofs::CursorLemmas::first_text))]
 
 ghost use Rattle.std.specs.Prelude.{length};
 ghost use Rattle.pliron_llvm_reader.specs.TokenLists.{AreTokens, AreTokens-prop};
@@ -21,6 +21,7 @@ pub struct Cursor<'t> {
 impl<'t> Cursor<'t> {
     ghost use Rattle.std.specs.Prelude.{◌≡◌, ◌≤◌, [], Some, slice_get, IsTrue, IsSome};
     ghost use Rattle.std.specs.Bool.{OnTrue, OnFalse};
+    ghost use Rattle.pliron_llvm_syntax.specs.Tokens.{bytes_of_span};
     ghost use Rattle.pliron_llvm_reader.specs.Cursors.{text_of, place_of, kind_of_next, bytes_of_next, span_between};
     ghost use Rattle.pliron_llvm_reader.specs.Cursors.{is_byte, is_name_next, HasNext, IsForward, HasTaken};
 
@@ -105,6 +106,8 @@ impl<'t> Cursor<'t> {
     pub fn skip_token(&mut self)
         ensures forward { IsForward self.old self.new }
         ensures taken { HasNext self.old → HasTaken self.old self.new }
+        ensures token { HasNext self.old
+            → bytes_of_span (text_of self.old) (span_between (place_of self.old) self.new.end) ≡ bytes_of_next self.old }
     {
         if let [token, rest @ ..] = self.tokens {
             *self = Cursor::left(self.text, rest, token.span.end);

@@ -1,6 +1,8 @@
-//! Reading statements of LLVM's textual IR: by a table of opcodes, where a statement names operands and successors.
+//! Reading LLVM's textual IR: statements by a table of opcodes, which says where they name operands and successors, and
+//! the blocks of a body.
 #![tactic(auto)]
 
+mod blocks;
 mod cursor;
 mod statement;
 mod steps;
@@ -11,5 +13,8 @@ mod types;
 mod values;
 mod words;
 
+pub use blocks::{BlockFault, BlockLines, LineRole, split_blocks};
 pub use statement::{Statement, read_statement};
 pub use stop::{Reason, Stop};
+pub use table::{Gives, Layout, Row};
+pub use values::Reads;

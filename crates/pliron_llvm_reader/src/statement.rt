@@ -1,10 +1,12 @@
 //! A statement, read by the table.
+#![tactic(auto, using(crate::proofs::CursorLemmas::end_within, crate::proofs::CursorLemmas::end_place, crate::proofs::HoleLemmas::holes_moved, crate::proofs::HoleLemmas::holes_none, crate::proofs::HoleLemmas::holes_order, crate::proofs::StopLemmas::stop_unread, crate::proofs::StopLemmas::stop_fault))]
+
 ghost use Rattle.std.specs.Prelude.{◌≡◌, [], length, Some, IfOk, IfErr, IfSome, OnOk};
 ghost use Rattle.pliron_llvm_syntax.specs.Forms.{AreHoles};
 ghost use Rattle.pliron_llvm_reader.specs.TokenLists.{AreTokens};
-ghost use Rattle.pliron_llvm_reader.specs.Cursors.{text_of, IsForward};
+ghost use Rattle.pliron_llvm_reader.specs.Cursors.{text_of, place_of, span_between, IsForward};
 ghost use Rattle.pliron_llvm_reader.specs.Holes.{AreHolesOf, AreHolesBetween};
-ghost use Rattle.pliron_llvm_reader.specs.Statements.{is_funclet, IsNameOf, IsStatementOf, MayGive};
+ghost use Rattle.pliron_llvm_reader.specs.Statements.{is_funclet, IsNameOf, IsOpcodeOf, IsStatementOf, MayGive};
 ghost use Rattle.pliron_llvm_reader.specs.Table.{row_named as row_named_in};
 ghost use Rattle.pliron_llvm_reader.specs.Stops.{IsUnread, IsStopIn};
 
@@ -23,10 +25,17 @@ pub struct Statement {
     pub name: Option<Span>,
     /// Its first word.
     pub opcode: Span,
+    /// What the table says of its opcode.
+    pub row: Row,
     /// Whether it gives a value.
     pub gives: bool,
-    /// Whether it ends a block.
-    pub is_terminator: bool,
+}
+
+/// A word that the table has.
+#[derive(Clone, Copy)]
+struct Opcode {
+    span: Span,
+    row: Row,
 }
 
 // Whether the opcode is of a funclet.
@@ -66,6 +75,23 @@ impl Cursor<'_> {
         let name = self.since(start);
         self.accept_mark(b'=');
         Some(name)
+    }
+
+    // Takes the opcode.
+    fn opcode(&mut self) -> Result<Opcode, Stop>
+        ensures forward { IsForward self.old self.new }
+        ensures opcode { IfOk result (λ opcode. IsOpcodeOf (text_of self.old) opcode.span opcode.row) }
+        ensures place { IfOk result (λ opcode. opcode.span ≡ span_between (place_of self.old) self.new.end) }
+        ensures stop { IfErr result (λ stop. IsUnread stop) }
+    {
+        unless(!self.is_at_end(), Reason::Opcode)?;
+        let start = self.place();
+        let row = row_of(self.bytes())?;
+        self.skip_token();
+        Ok(Opcode {
+            span: self.since(start),
+            row,
+        })
     }
 
     // Whether what is behind the opcode of a call has another type than `void`.
@@ -110,17 +136,14 @@ fn read_tokens(text: &[u8], tokens: &[Token], holes: &mut Vec<Hole>) -> Result<S
 {
     let mut cursor = Cursor::new(text, tokens);
     let name = cursor.result_name();
-    let start = cursor.place();
-    let row = row_of(cursor.bytes())?;
-    cursor.skip_token();
-    let opcode = cursor.since(start);
-    let gives = cursor.gives(row.gives);
-    cursor.read_row(row, holes)?;
+    let opcode = cursor.opcode()?;
+    let gives = cursor.gives(opcode.row.gives);
+    cursor.read_row(opcode.row, holes)?;
     Ok(Statement {
         name,
-        opcode,
+        opcode: opcode.span,
+        row: opcode.row,
         gives,
-        is_terminator: row.is_terminator,
     })
 }
 

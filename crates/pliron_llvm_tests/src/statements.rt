@@ -105,7 +105,7 @@ fn described(
     let mut out = String::new(alloc);
     out.push_str(if statement.gives { "v " } else { "- " })
         .expect(rt, "memory");
-    if statement.is_terminator {
+    if statement.row.is_terminator {
         out.push_str("t ").expect(rt, "memory");
     }
     assert!(rt; are_holes(text, holes), "holes in order");
