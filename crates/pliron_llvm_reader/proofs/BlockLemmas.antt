@@ -25,8 +25,8 @@ block_whole (Plain ∷ roles) h = run_ended (Plain ∷ roles) h
 block_whole (Terminator ∷ roles) h = run_ended (Terminator ∷ roles) h
 
 -- a block up to its end
-pub block_ended : (roles : List LineRole) (open len : ℕ) → open ≡ open_len roles → is_end (slice_get roles open) ≡ true → len ≡ open + 1 → IsBlockAt roles len
-block_ended roles open len same h e =
+pub block_ended : (roles : List LineRole) (last len : ℕ) → last ≡ open_len roles → is_end (slice_get roles last) ≡ true → len ≡ last + 1 → IsBlockAt roles len
+block_ended roles last len same h e =
     let ends : is_end (slice_get roles (open_len roles)) ≡ true = subst (λ n. is_end (slice_get roles n) ≡ true) same h in
     let within = end_within roles (open_len roles) ends in
     let longer : suc (open_len roles) ≡ len = omega (arith, e, same) in
@@ -50,10 +50,10 @@ blocks_end roles start at end blocks h le ge = subst (λ n. AreBlocks roles star
 
 -- a block more
 pub block_added : (roles rest : List LineRole) (at len end : ℕ) (blocks after : List BlockLines) → AreBlocks roles 0 at blocks → at ≤ length roles → rest ≡ drop at roles → IsBlockAt rest len → end ≡ at + len
-    → after ≡ blocks ++ (record {start = at; end = end}) ∷ [] → AreBlocks roles 0 end after × (end ≤ length roles)
+    → after ≡ blocks ++ (record { start = at; end = end }) ∷ [] → AreBlocks roles 0 end after × (end ≤ length roles)
 block_added roles rest at len end blocks after h within same block sum e =
     let long : length rest ≡ length roles - at = ap length same ∙ length-drop at roles in
     let less : at < end = omega (arith, sum, block.0) in
     let count : len ≡ end - at = omega (arith, sum) in
     let whole : is_block (take (end - at) (drop at roles)) ≡ true = subst (λ xs. is_block (take (end - at) xs) ≡ true) same (subst (λ n. is_block (take n rest) ≡ true) count block.2) in
-    (subst (AreBlocks roles 0 end) (sym e) (blocks_append roles 0 at blocks (record {start = at; end = end}) h refl less whole), omega (arith, sum, long, block.1, within))
+    (subst (AreBlocks roles 0 end) (sym e) (blocks_append roles 0 at blocks (record { start = at; end = end }) h refl less whole), omega (arith, sum, long, block.1, within))

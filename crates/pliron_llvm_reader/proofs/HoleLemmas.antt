@@ -20,16 +20,26 @@ pub holes_none : (text : List ℕ) (start end : ℕ) (holes : List Hole) → hol
 holes_none text start end holes e le = subst (AreHolesBetween text start end) (sym e) le
 
 -- what was taken before was taken
-pub holes_moved : (before after : List ℕ) (at end : ℕ) (holes : List Hole) → AreHolesBetween before 0 at holes → after ≡ before → at ≤ end → AreHolesBetween after 0 end holes
-holes_moved before after at end holes h same le = subst (λ text. AreHolesBetween text 0 end holes) (sym same) (holes_wider before 0 at end holes h le)
+pub holes_moved : (before after : List ℕ) (low start at end : ℕ) (holes : List Hole) → AreHolesBetween before low at holes → after ≡ before → start ≡ low → at ≤ end → AreHolesBetween after start end holes
+holes_moved before after low start at end holes h same begins le =
+    subst (λ text. AreHolesBetween text start end holes) (sym same) (subst (λ n. AreHolesBetween before n end holes) (sym begins) (holes_wider before low at end holes h le))
 
 -- holes in a text are in order there
 pub holes_order : (text : List ℕ) (start : ℕ) (holes : List Hole) → AreHolesBetween text start (length text) holes → AreHoles text start holes
 holes_order text start [] h = h
 holes_order text start (hole ∷ holes) h = (h.0, (let less : hole.span.start < hole.span.end = h.1 in omega (arith, less)), holes_order text hole.span.end holes h.3)
 
+-- holes that begin later are in order from the first byte on
+pub holes_lower : (text : List ℕ) (low start end : ℕ) (holes : List Hole) → low ≤ start → AreHolesBetween text start end holes → AreHolesBetween text low end holes
+holes_lower text low start end [] le h = omega (arith, h, le)
+holes_lower text low start end (hole ∷ holes) le h = ((let begins = h.0 in omega (arith, begins, le)), h.1, h.2, h.3)
+
 -- what was taken since this byte is one more
-pub hole_pushed : (text : List ℕ) (start end : ℕ) (holes after : List Hole) (kind : HoleKind) → after ≡ holes ++ hole_between kind start end ∷ [] → AreHolesBetween text 0 start holes → start < end → HasName text kind start → AreHolesBetween text 0 end after
-hole_pushed text start end holes after kind e h some name =
+pub hole_pushed : (text : List ℕ) (low start end : ℕ) (holes after : List Hole) (kind : HoleKind) → after ≡ holes ++ hole_between kind start end ∷ [] → AreHolesBetween text low start holes → start < end → HasName text kind start → AreHolesBetween text low end after
+hole_pushed text low start end holes after kind e h some name =
     let le : start ≤ start = omega arith in
-    subst (AreHolesBetween text 0 end) (sym e) (holes_append text 0 start holes (hole_between kind start end) h le some name)
+    subst (AreHolesBetween text low end) (sym e) (holes_append text low start holes (hole_between kind start end) h le some name)
+
+-- holes behind an opcode are holes of the text
+pub holes_whole : (text : List ℕ) (start : ℕ) (holes : List Hole) → AreHolesBetween text start (length text) holes → AreHoles text 0 holes
+holes_whole text start holes h = holes_order text 0 holes (holes_lower text 0 start (length text) holes (omega arith) h)

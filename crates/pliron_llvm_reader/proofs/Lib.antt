@@ -3,3 +3,4 @@ pub mod StopLemmas
 pub mod CursorLemmas
 pub mod HoleLemmas
 pub mod BlockLemmas
+pub mod BodyLemmas

@@ -54,13 +54,14 @@ span_between start end = record { start = start; end = end }
 abbrev pub HasNext : Cursor → Type 0
 HasNext cursor = place_of cursor < length (text_of cursor)
 
--- of the same text as much or more was taken, and nothing behind its end
+-- of the same text as much or more was taken, and nothing behind its end; the operands are the same
 abbrev pub IsForward : Cursor → Cursor → Type 0
 IsForward before after =
     (text_of after ≡ text_of before)
     × (before.end ≤ after.end)
     × (place_of before ≤ place_of after)
     × (after.end ≤ length (text_of before))
+    × (after.start ≡ before.start)
 
 -- the next token was taken
 abbrev pub HasTaken : Cursor → Cursor → Type 0

@@ -26,9 +26,9 @@ AreHolesBetween text start end (hole ∷ holes) =
     × HasName text hole.kind hole.span.start
     × AreHolesBetween text hole.span.end end holes
 
--- holes of what was taken
+-- holes of what was taken since the operands begin
 abbrev pub AreHolesOf : Cursor → List Hole → Type 0
-AreHolesOf cursor holes = AreHolesBetween (text_of cursor) 0 cursor.end holes
+AreHolesOf cursor holes = AreHolesBetween (text_of cursor) cursor.start cursor.end holes
 
 abbrev pub hole_between : HoleKind → ℕ → ℕ → Hole
 hole_between kind start end = record { kind = kind; span = span_between start end }

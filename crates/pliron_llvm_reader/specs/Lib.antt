@@ -6,3 +6,4 @@ pub mod Words
 pub mod Table
 pub mod Statements
 pub mod Blocks
+pub mod Bodies

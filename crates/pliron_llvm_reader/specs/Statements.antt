@@ -17,9 +17,10 @@ funclet_opcodes =
 abbrev pub is_funclet : List ℕ → Bool
 is_funclet opcode = is_named funclet_opcodes opcode
 
--- a local name, which ends before this byte or there
-abbrev pub IsNameOf : List ℕ → Span → ℕ → Type 0
-IsNameOf text name end = IsLocalAt text name.start × (name.start < name.end) × (name.end ≤ end)
+-- a local name between these bytes
+abbrev pub IsNameBetween : List ℕ → ℕ → ℕ → Span → Type 0
+IsNameBetween text start end name =
+    IsLocalAt text name.start × (start ≤ name.start) × (name.start < name.end) × (name.end ≤ end)
 
 -- what gives a value always gives one, and what never does gives none
 abbrev pub MayGive : Gives → Bool → Type 0
@@ -32,10 +33,11 @@ abbrev pub IsOpcodeOf : List ℕ → Span → Row → Type 0
 IsOpcodeOf text opcode row =
     (opcode.start < opcode.end) × (opcode.end ≤ length text) × (row_named (bytes_of_span text opcode) ≡ Some row)
 
--- a statement of the text: the table has its opcode, and says whether it gives a value; the name of its result ends
--- before the opcode
-abbrev pub IsStatementOf : List ℕ → Statement → Type 0
-IsStatementOf text statement =
-    IsOpcodeOf text statement.opcode statement.row
-    × IfSome statement.name (λ name. IsNameOf text name statement.opcode.start)
+-- a statement of the text from this byte on: the table has its opcode, and says whether it gives a value; the name of
+-- its result is before the opcode
+abbrev pub IsStatementOf : List ℕ → ℕ → Statement → Type 0
+IsStatementOf text start statement =
+    (start ≤ statement.opcode.start)
+    × IsOpcodeOf text statement.opcode statement.row
+    × IfSome statement.name (IsNameBetween text start statement.opcode.start)
     × MayGive statement.row.gives statement.gives

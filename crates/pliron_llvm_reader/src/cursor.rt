@@ -13,6 +13,8 @@ pub struct Cursor<'t> {
     text: &'t [u8],
     /// The tokens that are left.
     tokens: &'t [Token],
+    /// Where the operands begin that are read.
+    start: usize,
     /// Where the last token ended that was taken.
     end: usize,
     ghost in_order: { AreTokens end (length text.now) tokens.now } by { AreTokens-prop end (length text.now) tokens.now },
@@ -25,24 +27,47 @@ impl<'t> Cursor<'t> {
     ghost use Rattle.pliron_llvm_reader.specs.Cursors.{text_of, place_of, kind_of_next, bytes_of_next, span_between};
     ghost use Rattle.pliron_llvm_reader.specs.Cursors.{is_byte, is_name_next, HasNext, IsForward, HasTaken};
 
-    // These tokens are left behind this byte.
-    fn left(text: &'t [u8], tokens: &'t [Token], end: usize) -> Self
-        requires { AreTokens end (length text.now) tokens.now }
+    /// All of these tokens are left, and operands begin at this byte. Asks that they are tokens of the text from there
+    /// on, in their order. Cost: constant.
+    pub fn new(text: &'t [u8], tokens: &'t [Token], start: usize) -> Self
+        requires { AreTokens start (length text.now) tokens.now }
         ensures text { text_of result ≡ text.now }
         ensures tokens { result.tokens.now ≡ tokens.now }
-        ensures end { result.end ≡ end }
+        ensures start { result.start ≡ start }
+        ensures end { result.end ≡ start }
     {
-        Cursor { text, tokens, end }
+        Cursor {
+            text,
+            tokens,
+            start,
+            end: start,
+        }
     }
 
-    /// All of these tokens are left. Asks that they are tokens of the text, in their order. Cost: constant.
-    pub fn new(text: &'t [u8], tokens: &'t [Token]) -> Self
-        requires { AreTokens 0 (length text.now) tokens.now }
-        ensures text { text_of result ≡ text.now }
+    // These tokens are left behind this byte.
+    fn behind(&self, tokens: &'t [Token], end: usize) -> Self
+        requires { AreTokens end (length (text_of self.now)) tokens.now }
+        ensures text { text_of result ≡ text_of self.now }
         ensures tokens { result.tokens.now ≡ tokens.now }
-        ensures end { result.end ≡ 0 }
+        ensures start { result.start ≡ self.now.start }
+        ensures end { result.end ≡ end }
     {
-        Cursor::left(text, tokens, 0)
+        Cursor {
+            text: self.text,
+            tokens,
+            start: self.start,
+            end,
+        }
+    }
+
+    /// The operands that are read begin behind what was taken. Cost: constant.
+    pub fn begin_operands(&mut self)
+        ensures text { text_of self.new ≡ text_of self.old }
+        ensures tokens { self.new.tokens.now ≡ self.old.tokens.now }
+        ensures start { self.new.start ≡ self.old.end }
+        ensures end { self.new.end ≡ self.old.end }
+    {
+        self.start = self.end;
     }
 
     /// Whether none is left. Cost: constant.
@@ -110,7 +135,7 @@ impl<'t> Cursor<'t> {
             → bytes_of_span (text_of self.old) (span_between (place_of self.old) self.new.end) ≡ bytes_of_next self.old }
     {
         if let [token, rest @ ..] = self.tokens {
-            *self = Cursor::left(self.text, rest, token.span.end);
+            *self = self.behind(rest, token.span.end);
         }
     }
 

@@ -3,6 +3,7 @@
 #![tactic(auto)]
 
 mod blocks;
+mod body;
 mod cursor;
 mod statement;
 mod steps;
@@ -14,6 +15,7 @@ mod values;
 mod words;
 
 pub use blocks::{BlockFault, BlockLines, LineRole, split_blocks};
+pub use body::{Body, BodyLine, BodyStatement, BodyStop, read_body};
 pub use statement::{Statement, read_statement};
 pub use stop::{Reason, Stop};
 pub use table::{Gives, Layout, Row};

@@ -1,12 +1,12 @@
 //! A statement, read by the table.
-#![tactic(auto, using(crate::proofs::CursorLemmas::end_within, crate::proofs::CursorLemmas::end_place, crate::proofs::HoleLemmas::holes_moved, crate::proofs::HoleLemmas::holes_none, crate::proofs::HoleLemmas::holes_order, crate::proofs::StopLemmas::stop_unread, crate::proofs::StopLemmas::stop_fault))]
+#![tactic(auto, using(crate::proofs::CursorLemmas::end_within, crate::proofs::CursorLemmas::end_place, crate::proofs::HoleLemmas::holes_moved, crate::proofs::HoleLemmas::holes_none, crate::proofs::HoleLemmas::holes_whole, crate::proofs::StopLemmas::stop_unread, crate::proofs::StopLemmas::stop_fault))]
 
-ghost use Rattle.std.specs.Prelude.{◌≡◌, [], length, Some, IfOk, IfErr, IfSome, OnOk};
+ghost use Rattle.std.specs.Prelude.{◌≡◌, ◌≤◌, [], length, Some, IfOk, IfErr, IfSome, OnOk};
 ghost use Rattle.pliron_llvm_syntax.specs.Forms.{AreHoles};
 ghost use Rattle.pliron_llvm_reader.specs.TokenLists.{AreTokens};
 ghost use Rattle.pliron_llvm_reader.specs.Cursors.{text_of, place_of, span_between, IsForward};
 ghost use Rattle.pliron_llvm_reader.specs.Holes.{AreHolesOf, AreHolesBetween};
-ghost use Rattle.pliron_llvm_reader.specs.Statements.{is_funclet, IsNameOf, IsOpcodeOf, IsStatementOf, MayGive};
+ghost use Rattle.pliron_llvm_reader.specs.Statements.{is_funclet, IsNameBetween, IsOpcodeOf, IsStatementOf, MayGive};
 ghost use Rattle.pliron_llvm_reader.specs.Table.{row_named as row_named_in};
 ghost use Rattle.pliron_llvm_reader.specs.Stops.{IsUnread, IsStopIn};
 
@@ -65,7 +65,7 @@ impl Cursor<'_> {
     // Takes the name of the result and the `=`, if they are next.
     fn result_name(&mut self) -> Option<Span>
         ensures forward { IsForward self.old self.new }
-        ensures name { IfSome result (λ name. IsNameOf (text_of self.old) name self.new.end) }
+        ensures name { IfSome result (λ name. IsNameBetween (text_of self.old) self.old.end self.new.end name) }
     {
         let start = self.place();
         if !self.at_name(b'%') {
@@ -126,17 +126,24 @@ impl Cursor<'_> {
     }
 }
 
-// Reads the statement that has these tokens, and adds its holes to none.
-fn read_tokens(text: &[u8], tokens: &[Token], holes: &mut Vec<Hole>) -> Result<Statement, Stop>
-    requires tokens { AreTokens 0 (length text.now) tokens.now }
+// Reads the statement that has these tokens from this byte on, and adds its holes to none.
+fn read_tokens(
+    text: &[u8],
+    start: usize,
+    tokens: &[Token],
+    holes: &mut Vec<Hole>,
+) -> Result<Statement, Stop>
+    requires tokens { AreTokens start (length text.now) tokens.now }
     requires holes { holes.old.items ≡ [] }
-    ensures statement { IfOk result (λ statement. IsStatementOf text.now statement) }
-    ensures holes { OnOk result (AreHolesBetween text.now 0 (length text.now) holes.new.items) }
+    ensures statement { IfOk result (λ statement. IsStatementOf text.now start statement) }
+    ensures holes { IfOk result (λ statement.
+        AreHolesBetween text.now statement.opcode.end (length text.now) holes.new.items) }
     ensures stop { IfErr result (λ stop. IsUnread stop) }
 {
-    let mut cursor = Cursor::new(text, tokens);
+    let mut cursor = Cursor::new(text, tokens, start);
     let name = cursor.result_name();
     let opcode = cursor.opcode()?;
+    cursor.begin_operands();
     let gives = cursor.gives(opcode.row.gives);
     cursor.read_row(opcode.row, holes)?;
     Ok(Statement {
@@ -147,24 +154,28 @@ fn read_tokens(text: &[u8], tokens: &[Token], holes: &mut Vec<Hole>) -> Result<S
     })
 }
 
-/// Reads a statement: the text of one line of a body, and nothing else. `holes` is left with its operands and
-/// successors, in order: local values, constants where what the statement gives follows from its operands, and blocks.
-/// `tokens` is room for the statement's tokens.
+/// Reads a statement: a line of a body that begins at this byte, and ends with the text. `holes` is left with its
+/// operands and successors, in order, all behind its opcode: local values, constants where what the statement gives
+/// follows from its operands, and blocks. `tokens` is room for the statement's tokens.
 ///
-/// Errors: an opcode that the table doesn't have, or something that the opcode doesn't have behind it; a token is
+/// Asks that the byte is in the text, or its end. Errors: an opcode that the table doesn't have, or something that the opcode doesn't have behind it; a token is
 /// broken; allocation failure. Cost: linear in the statement.
 #[doc(hidden)]
 pub fn read_statement(
     text: &[u8],
+    start: usize,
     tokens: &mut Vec<Token>,
     holes: &mut Vec<Hole>,
 ) -> Result<Statement, Stop>
-    ensures statement { IfOk result (λ statement. IsStatementOf text.now statement) }
+    requires { start ≤ length text.now }
+    ensures statement { IfOk result (λ statement. IsStatementOf text.now start statement) }
+    ensures behind { IfOk result (λ statement.
+        AreHolesBetween text.now statement.opcode.end (length text.now) holes.new.items) }
     ensures holes { OnOk result (AreHoles text.now 0 holes.new.items) }
     ensures stop { IfErr result (λ stop. IsStopIn text.now stop) }
 {
     tokens.clear();
     holes.clear();
-    push_tokens(text, tokens)?;
-    read_tokens(text, tokens, holes)
+    push_tokens(text, start, tokens)?;
+    read_tokens(text, start, tokens, holes)
 }

@@ -53,7 +53,7 @@ impl Cursor<'_> {
     pub fn push_hole(&self, kind: HoleKind, start: usize, holes: &mut Vec<Hole>) -> Result<(), Stop>
         requires some { start < self.now.end }
         requires name { HasName (text_of self.now) kind start }
-        requires holes { AreHolesBetween (text_of self.now) 0 start holes.old.items }
+        requires holes { AreHolesBetween (text_of self.now) self.now.start start holes.old.items }
         ensures added { OnOk result (holes.new.items ≡ holes.old.items ++ hole_between kind start self.now.end ∷ []) }
         ensures holes { OnOk result (AreHolesOf self.now holes.new.items) }
         ensures stop { IfErr result (λ stop. IsUnread stop) }

@@ -16,6 +16,8 @@ mod lines;
 #[cfg(test)]
 mod parts;
 #[cfg(test)]
+mod readings;
+#[cfg(test)]
 mod statements;
 #[cfg(test)]
 mod tokens;

@@ -123,7 +123,7 @@ fn described(
 fn reading_of(rt: &impl Abort, alloc: Global, text: &[u8]) -> String {
     let mut tokens = Vec::new(alloc);
     let mut holes = Vec::new(alloc);
-    match read_statement(text, &mut tokens, &mut holes) {
+    match read_statement(text, 0, &mut tokens, &mut holes) {
         Ok(statement) => described(rt, alloc, text, &statement, &holes),
         Err(Stop::Kept(reason)) => format!(in alloc; "{reason}").expect(rt, "memory"),
         Err(Stop::Broken(_)) => format!(in alloc; "broken").expect(rt, "memory"),

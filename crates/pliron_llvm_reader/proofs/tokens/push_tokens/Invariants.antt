@@ -4,7 +4,7 @@ use Rattle.pliron_llvm_reader.specs.TokenLists.{AreTokens}
 use Rattle.pliron_llvm_reader.proofs.tokens.push_tokens.Given as goal
 
 abbrev pub invariant-loop-at : goal.invariant-loop-at
-invariant-loop-at l = AreTokens 0 l.at l.tokens.items × (l.at ≤ length l.text)
+invariant-loop-at l = AreTokens l.start l.at l.tokens.items × (l.at ≤ length l.text)
 
 abbrev pub decreases-loop-at : goal.decreases-loop-at
 decreases-loop-at l = length l.text - l.at
