@@ -54,6 +54,14 @@ span_between start end = record { start = start; end = end }
 abbrev pub HasNext : Cursor → Type 0
 HasNext cursor = place_of cursor < length (text_of cursor)
 
+-- none is left
+abbrev pub IsAtEnd : Cursor → Type 0
+IsAtEnd cursor = cursor.tokens.now ≡ []
+
+-- nothing was taken
+abbrev pub IsUnmoved : Cursor → Cursor → Type 0
+IsUnmoved before after = after ≡ before
+
 -- of the same text as much or more was taken, and nothing behind its end; the operands are the same
 abbrev pub IsForward : Cursor → Cursor → Type 0
 IsForward before after =

@@ -91,7 +91,7 @@ fn is_end(role: Option<LineRole>) -> bool
 #[tactic(auto, using(crate::proofs::BlockLemmas::block_ended))]
 fn block_len(roles: &[LineRole]) -> Result<usize, usize>
     ensures block { IfOk result (λ len. IsBlockAt roles.now len) }
-    ensures fault { IfErr result (λ line. IsOpenAt roles.now line) }
+    ensures is_open { IfErr result (λ line. IsOpenAt roles.now line) }
 {
     let last = open_len(roles);
     if is_end(roles.get(last).copied()) {

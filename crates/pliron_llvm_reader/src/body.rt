@@ -143,7 +143,8 @@ fn read_body_statement(
     requires ordered { span.start ≤ span.end }
     requires within { span.end ≤ length text.now }
     ensures statement { IfOk result (λ line. IsStatementLine text.now span line) }
-    ensures more { IfOk result (λ line. (line.first_hole ≡ length holes.old.items) × (line.end_hole ≡ length holes.new.items)) }
+    ensures holes { IfOk result (λ line.
+        (line.first_hole ≡ length holes.old.items) × (line.end_hole ≡ length holes.new.items)) }
 {
     let before = text_before(text, span.end);
     let statement = match read_statement(before, span.start, &mut room.tokens, &mut room.holes) {

@@ -1,5 +1,5 @@
 //! Tokens of a statement, taken one by one.
-#![tactic(auto, using(crate::proofs::CursorLemmas::end_within, crate::proofs::CursorLemmas::end_place, crate::proofs::CursorLemmas::next_some, crate::proofs::CursorLemmas::first_place, crate::proofs::CursorLemmas::first_some, crate::proofs::CursorLemmas::first_within, crate::proofs::CursorLemmas::first_text))]
+#![tactic(auto, using(crate::proofs::CursorLemmas::end_within, crate::proofs::CursorLemmas::end_place, crate::proofs::CursorLemmas::next_some))]
 
 ghost use Rattle.std.specs.Prelude.{length};
 ghost use Rattle.pliron_llvm_reader.specs.TokenLists.{AreTokens, AreTokens-prop};
@@ -17,7 +17,7 @@ pub struct Cursor<'t> {
     start: usize,
     /// Where the last token ended that was taken.
     end: usize,
-    ghost in_order: { AreTokens end (length text.now) tokens.now } by { AreTokens-prop end (length text.now) tokens.now },
+    ghost order: { AreTokens end (length text.now) tokens.now } by { AreTokens-prop end (length text.now) tokens.now },
 }
 
 impl<'t> Cursor<'t> {
@@ -25,7 +25,7 @@ impl<'t> Cursor<'t> {
     ghost use Rattle.std.specs.Bool.{OnTrue, OnFalse};
     ghost use Rattle.pliron_llvm_syntax.specs.Tokens.{bytes_of_span};
     ghost use Rattle.pliron_llvm_reader.specs.Cursors.{text_of, place_of, kind_of_next, bytes_of_next, span_between};
-    ghost use Rattle.pliron_llvm_reader.specs.Cursors.{is_byte, is_name_next, HasNext, IsForward, HasTaken};
+    ghost use Rattle.pliron_llvm_reader.specs.Cursors.{is_byte, is_name_next, HasNext, IsAtEnd, IsForward, IsUnmoved, HasTaken};
 
     /// All of these tokens are left, and operands begin at this byte. Asks that they are tokens of the text from there
     /// on, in their order. Cost: constant.
@@ -72,7 +72,7 @@ impl<'t> Cursor<'t> {
 
     /// Whether none is left. Cost: constant.
     pub fn is_at_end(&self) -> bool
-        ensures none { OnTrue result (self.now.tokens.now ≡ []) }
+        ensures end { OnTrue result (IsAtEnd self.now) }
         ensures next { OnFalse result (HasNext self.now) }
     {
         self.tokens.is_empty()
@@ -90,6 +90,7 @@ impl<'t> Cursor<'t> {
     }
 
     /// The bytes of the next one, none at the end. Cost: constant.
+    #[tactic(auto, using(crate::proofs::CursorLemmas::first_some, crate::proofs::CursorLemmas::first_within))]
     pub fn bytes(&self) -> &'t [u8]
         ensures { result.now ≡ bytes_of_next self.now }
     {
@@ -128,11 +129,13 @@ impl<'t> Cursor<'t> {
     }
 
     /// Takes the next one alone, if one is left. Cost: constant.
+    #[tactic(auto, using(crate::proofs::CursorLemmas::end_place, crate::proofs::CursorLemmas::first_place, crate::proofs::CursorLemmas::first_some, crate::proofs::CursorLemmas::first_within, crate::proofs::CursorLemmas::first_text))]
     pub fn skip_token(&mut self)
         ensures forward { IsForward self.old self.new }
         ensures taken { HasNext self.old → HasTaken self.old self.new }
-        ensures token { HasNext self.old
-            → bytes_of_span (text_of self.old) (span_between (place_of self.old) self.new.end) ≡ bytes_of_next self.old }
+        ensures bytes { HasNext self.old
+            → bytes_of_span (text_of self.old) (span_between (place_of self.old) self.new.end)
+            ≡ bytes_of_next self.old }
     {
         if let [token, rest @ ..] = self.tokens {
             *self = self.behind(rest, token.span.end);
@@ -167,7 +170,7 @@ impl<'t> Cursor<'t> {
         ensures wanted { result ≡ is_wanted }
         ensures forward { IsForward self.old self.new }
         ensures taken { OnTrue result (HasTaken self.old self.new) }
-        ensures left { OnFalse result (self.new ≡ self.old) }
+        ensures unmoved { OnFalse result (IsUnmoved self.old self.new) }
     {
         if is_wanted {
             self.skip_token();
@@ -194,7 +197,7 @@ impl<'t> Cursor<'t> {
     pub fn accept_word(&mut self, word: &[u8]) -> bool
         ensures forward { IsForward self.old self.new }
         ensures taken { OnTrue result (HasTaken self.old self.new) }
-        ensures left { OnFalse result (self.new ≡ self.old) }
+        ensures unmoved { OnFalse result (IsUnmoved self.old self.new) }
     {
         let is_next = self.at_word(word);
         self.skip_if(is_next)
@@ -219,7 +222,7 @@ impl<'t> Cursor<'t> {
     pub fn accept_mark(&mut self, mark: u8) -> bool
         ensures forward { IsForward self.old self.new }
         ensures taken { OnTrue result (HasTaken self.old self.new) }
-        ensures left { OnFalse result (self.new ≡ self.old) }
+        ensures unmoved { OnFalse result (IsUnmoved self.old self.new) }
     {
         let is_next = self.at_mark(mark);
         self.skip_if(is_next)
@@ -236,7 +239,7 @@ impl<'t> Cursor<'t> {
     pub fn accept_open(&mut self, bracket: Bracket) -> bool
         ensures forward { IsForward self.old self.new }
         ensures taken { OnTrue result (HasTaken self.old self.new) }
-        ensures left { OnFalse result (self.new ≡ self.old) }
+        ensures unmoved { OnFalse result (IsUnmoved self.old self.new) }
     {
         let is_next = self.at_open(bracket);
         self.skip_if(is_next)
@@ -253,7 +256,7 @@ impl<'t> Cursor<'t> {
     pub fn accept_close(&mut self, bracket: Bracket) -> bool
         ensures forward { IsForward self.old self.new }
         ensures taken { OnTrue result (HasTaken self.old self.new) }
-        ensures left { OnFalse result (self.new ≡ self.old) }
+        ensures unmoved { OnFalse result (IsUnmoved self.old self.new) }
     {
         let is_next = self.at_close(bracket);
         self.skip_if(is_next)
@@ -285,7 +288,7 @@ impl<'t> Cursor<'t> {
     pub fn accept_name(&mut self, sign: u8) -> bool
         ensures forward { IsForward self.old self.new }
         ensures taken { OnTrue result (HasTaken self.old self.new) }
-        ensures left { OnFalse result (self.new ≡ self.old) }
+        ensures unmoved { OnFalse result (IsUnmoved self.old self.new) }
     {
         let is_next = self.at_name(sign);
         self.skip_if(is_next)

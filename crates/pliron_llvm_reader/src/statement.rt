@@ -1,10 +1,10 @@
 //! A statement, read by the table.
-#![tactic(auto, using(crate::proofs::CursorLemmas::end_within, crate::proofs::CursorLemmas::end_place, crate::proofs::HoleLemmas::holes_moved, crate::proofs::HoleLemmas::holes_none, crate::proofs::HoleLemmas::holes_whole, crate::proofs::StopLemmas::stop_unread, crate::proofs::StopLemmas::stop_fault))]
+#![tactic(auto, using(crate::proofs::CursorLemmas::end_within, crate::proofs::CursorLemmas::end_place, crate::proofs::HoleLemmas::holes_moved))]
 
 ghost use Rattle.std.specs.Prelude.{◌≡◌, ◌≤◌, [], length, Some, IfOk, IfErr, IfSome, OnOk};
 ghost use Rattle.pliron_llvm_syntax.specs.Forms.{AreHoles};
 ghost use Rattle.pliron_llvm_reader.specs.TokenLists.{AreTokens};
-ghost use Rattle.pliron_llvm_reader.specs.Cursors.{text_of, place_of, span_between, IsForward};
+ghost use Rattle.pliron_llvm_reader.specs.Cursors.{text_of, place_of, span_between, IsAtEnd, IsForward};
 ghost use Rattle.pliron_llvm_reader.specs.Holes.{AreHolesOf, AreHolesBetween};
 ghost use Rattle.pliron_llvm_reader.specs.Statements.{is_funclet, IsNameBetween, IsOpcodeOf, IsStatementOf, MayGive};
 ghost use Rattle.pliron_llvm_reader.specs.Table.{row_named as row_named_in};
@@ -116,7 +116,7 @@ impl Cursor<'_> {
         requires { AreHolesOf self.old holes.old.items }
         ensures forward { IsForward self.old self.new }
         ensures holes { OnOk result (AreHolesOf self.new holes.new.items) }
-        ensures all { OnOk result (self.new.tokens.now ≡ []) }
+        ensures end { OnOk result (IsAtEnd self.new) }
         ensures stop { IfErr result (λ stop. IsUnread stop) }
     {
         for step in row.layout.steps() {
@@ -127,6 +127,7 @@ impl Cursor<'_> {
 }
 
 // Reads the statement that has these tokens from this byte on, and adds its holes to none.
+#[tactic(auto, using(crate::proofs::CursorLemmas::end_within, crate::proofs::CursorLemmas::end_place, crate::proofs::HoleLemmas::holes_moved, crate::proofs::HoleLemmas::holes_none))]
 fn read_tokens(
     text: &[u8],
     start: usize,
@@ -161,6 +162,7 @@ fn read_tokens(
 /// Asks that the byte is in the text, or its end. Errors: an opcode that the table doesn't have, or something that the opcode doesn't have behind it; a token is
 /// broken; allocation failure. Cost: linear in the statement.
 #[doc(hidden)]
+#[tactic(auto, using(crate::proofs::HoleLemmas::holes_whole, crate::proofs::StopLemmas::stop_unread, crate::proofs::StopLemmas::stop_fault))]
 pub fn read_statement(
     text: &[u8],
     start: usize,
@@ -169,7 +171,7 @@ pub fn read_statement(
 ) -> Result<Statement, Stop>
     requires { start ≤ length text.now }
     ensures statement { IfOk result (λ statement. IsStatementOf text.now start statement) }
-    ensures behind { IfOk result (λ statement.
+    ensures between { IfOk result (λ statement.
         AreHolesBetween text.now statement.opcode.end (length text.now) holes.new.items) }
     ensures holes { OnOk result (AreHoles text.now 0 holes.new.items) }
     ensures stop { IfErr result (λ stop. IsStopIn text.now stop) }
