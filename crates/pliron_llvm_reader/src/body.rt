@@ -1,5 +1,5 @@
 //! Bodies of functions: statements with their operands and successors, and the blocks that they are in.
-ghost use Rattle.std.specs.Prelude.{◌≡◌, ◌≤◌, ℕ, [], ◌++◌, length, map, take, IfOk, OnOk};
+ghost use Rattle.std.specs.Prelude.{◌≡◌, ◌≤◌, ◌++◌, length, map, take, IfOk, OnOk};
 ghost use Rattle.pliron_llvm_syntax.specs.Lines.{span_of_line, AreLines};
 ghost use Rattle.pliron_llvm_syntax.specs.declared.fault.Fault.TheVariants.{NoMemory};
 ghost use Rattle.pliron_llvm_reader.specs.declared.body.BodyStop.TheVariants.{Broken};
@@ -182,14 +182,14 @@ fn read_line(
 }
 
 // Reads the lines, and adds them and the holes of their statements.
-#[tactic(auto, using(crate::proofs::BodyLemmas::line_ordered, crate::proofs::BodyLemmas::line_within))]
+#[tactic(auto, using(crate::proofs::BodyLemmas::line_ordered, crate::proofs::BodyLemmas::line_within, crate::proofs::BodyLemmas::lines_grown))]
 fn read_lines(
     text: &[u8],
     lines: &[Line],
     room: &mut StatementRoom,
     body: &mut Body,
 ) -> Result<(), BodyStop>
-    requires { (start : ℕ) × AreLines start (length text.now) lines.now }
+    requires { AreLines 0 (length text.now) lines.now }
     ensures lines { OnOk result (map line_of body.new.lines.items ≡ map line_of body.old.lines.items ++ lines.now) }
     ensures blocks { body.new.blocks ≡ body.old.blocks }
 {
@@ -228,6 +228,7 @@ fn block_stop(lines: &[BodyLine], end: usize, fault: BlockFault) -> BodyStop {
 /// Asks that it is in the text. Errors: a statement that isn't in the table, and so keeps its function as it is written;
 /// a token or a bracket is broken; there is no block, or a block without an end; allocation failure. Cost: linear in it.
 #[doc(hidden)]
+#[tactic(auto, using(crate::proofs::BodyLemmas::lines_lower, crate::proofs::BodyLemmas::lines_within, crate::proofs::BodyLemmas::blocks_read))]
 pub fn read_body(alloc: Global, text: &[u8], inside: Span) -> Result<Body, BodyStop>
     requires ordered { inside.start ≤ inside.end }
     requires within { inside.end ≤ length text.now }
