@@ -4,3 +4,4 @@ pub mod CursorLemmas
 pub mod HoleLemmas
 pub mod BlockLemmas
 pub mod BodyLemmas
+pub mod StatementLemmas

@@ -1,5 +1,5 @@
 //! Blocks of a body, by what its lines are for.
-ghost use Rattle.std.specs.Prelude.{◌≡◌, ◌≤◌, [], length, drop, take_while, IfOk, IfErr, OnOk};
+ghost use Rattle.std.specs.Prelude.{◌≡◌, ◌≤◌, [], length, drop, take_while, slice_get, IfOk, IfErr, OnOk};
 ghost use Rattle.pliron_llvm_reader.specs.Blocks.{is_plain, is_end, open_len, IsBlockAt, IsOpenAt, AreBlocks, IsBlockFault};
 ghost use Rattle.pliron_llvm_reader.specs.declared.blocks.BlockFault.TheVariants.{NoMemory};
 
@@ -87,6 +87,13 @@ fn is_end(role: Option<LineRole>) -> bool
     matches!(role, Some(LineRole::Terminator))
 }
 
+// What this line is for its block, if there is one.
+fn role_at(roles: &[LineRole], line: usize) -> Option<LineRole>
+    ensures { result ≡ slice_get roles.now line }
+{
+    roles.get(line).copied()
+}
+
 // How many lines the first block has. Errors: no statement ends it; one was expected at this line.
 #[tactic(auto, using(crate::proofs::BlockLemmas::block_ended))]
 fn block_len(roles: &[LineRole]) -> Result<usize, usize>
@@ -94,7 +101,7 @@ fn block_len(roles: &[LineRole]) -> Result<usize, usize>
     ensures is_open { IfErr result (λ line. IsOpenAt roles.now line) }
 {
     let last = open_len(roles);
-    if is_end(roles.get(last).copied()) {
+    if is_end(role_at(roles, last)) {
         Ok(last + 1)
     } else {
         Err(last)

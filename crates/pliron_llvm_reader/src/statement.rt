@@ -78,6 +78,7 @@ impl Cursor<'_> {
     }
 
     // Takes the opcode.
+    #[tactic(auto, using(crate::proofs::CursorLemmas::end_within, crate::proofs::CursorLemmas::end_place, crate::proofs::StatementLemmas::opcode_read))]
     fn opcode(&mut self) -> Result<Opcode, Stop>
         ensures forward { IsForward self.old self.new }
         ensures opcode { IfOk result (λ opcode. IsOpcodeOf (text_of self.old) opcode.span opcode.row) }
