@@ -2,6 +2,8 @@
 #![tactic(auto)]
 
 #[cfg(test)]
+mod blocks;
+#[cfg(test)]
 mod bodies;
 #[cfg(test)]
 mod broken;
@@ -13,5 +15,9 @@ mod hostile;
 mod lines;
 #[cfg(test)]
 mod parts;
+#[cfg(test)]
+mod readings;
+#[cfg(test)]
+mod statements;
 #[cfg(test)]
 mod tokens;

@@ -1,0 +1,48 @@
+-- Lines of a body.
+use Rattle.std.proofs.Common.{◌≡◌, ℕ, zero, suc, ◌+◌, ◌<◌, ◌≤◌, List, [], ◌∷◌, ◌++◌, length, get_or, take, map, sym, ap, ◌∙◌, subst, append_assoc, arith}
+use Rattle.std.proofs.lemmas.List.{take_more, length-take-le, length-map}
+use Rattle.pliron_llvm_syntax.specs.declared.lines.Line.{Line}
+use Rattle.pliron_llvm_syntax.specs.Lines.{span_of_line, AreLines}
+use Rattle.pliron_llvm_reader.specs.declared.blocks.LineRole.{LineRole}
+use Rattle.pliron_llvm_reader.specs.declared.blocks.BlockLines.{BlockLines}
+use Rattle.pliron_llvm_reader.specs.declared.body.BodyLine.{BodyLine}
+use Rattle.pliron_llvm_reader.specs.Blocks.{AreBlocks}
+use Rattle.pliron_llvm_reader.specs.Bodies.{role_of_line}
+
+lines_le : (start end : ℕ) (lines : List Line) → AreLines start end lines → start ≤ end
+lines_le start end [] h = h
+lines_le start end (line ∷ lines) h = let le = lines_le (span_of_line line).end end lines h.2 in omega (arith, h.0, h.1, le)
+
+-- no line ends before it begins
+pub line_ordered : (start end : ℕ) (lines : List Line) (i : ℕ) (d : Line) → AreLines start end lines → i < length lines → (span_of_line (get_or lines i d)).start ≤ (span_of_line (get_or lines i d)).end
+line_ordered start end [] i d h less = absurd (omega (arith, less))
+line_ordered start end (line ∷ lines) zero d h less = let some = h.1 in omega (arith, some)
+line_ordered start end (line ∷ lines) (suc i) d h less = line_ordered (span_of_line line).end end lines i d h.2 (omega (arith, less))
+
+-- none is behind the end
+pub line_within : (start end : ℕ) (lines : List Line) (i : ℕ) (d : Line) → AreLines start end lines → i < length lines → (span_of_line (get_or lines i d)).end ≤ end
+line_within start end [] i d h less = absurd (omega (arith, less))
+line_within start end (line ∷ lines) zero d h less = lines_le (span_of_line line).end end lines h.2
+line_within start end (line ∷ lines) (suc i) d h less = line_within (span_of_line line).end end lines i d h.2 (omega (arith, less))
+
+-- lines that begin later begin later than the first byte
+pub lines_lower : (low start end : ℕ) (lines : List Line) → low ≤ start → AreLines start end lines → AreLines low end lines
+lines_lower low start end [] le h = omega (arith, h, le)
+lines_lower low start end (line ∷ lines) le h = ((let begins = h.0 in omega (arith, begins, le)), h.1, h.2)
+
+-- a line more was read
+pub lines_grown : (before now after lines : List Line) (i : ℕ) (d : Line) → i < length lines → now ≡ before ++ take i lines → after ≡ now ++ get_or lines i d ∷ [] → after ≡ before ++ take (i + 1) lines
+lines_grown before now after lines i d less e grown =
+    grown ∙ ap (λ xs. xs ++ get_or lines i d ∷ []) e ∙ append_assoc before (take i lines) (get_or lines i d ∷ []) ∙ ap (λ xs. before ++ xs) (sym (take_more lines i d less))
+
+-- lines of the text up to this byte end there
+pub lines_within : (text before : List ℕ) (start end : ℕ) (lines read : List Line) → before ≡ take end text → end ≤ length text → AreLines start (length before) lines → read ≡ lines → AreLines start end read
+lines_within text before start end lines read e within h same =
+    let long : length before ≡ end = ap length e ∙ length-take-le end text within in
+    subst (AreLines start end) (sym same) (subst (λ n. AreLines start n lines) long h)
+
+-- blocks by the roles of lines are blocks of the lines
+pub blocks_read : (roles : List LineRole) (lines : List BodyLine) (blocks : List BlockLines) → roles ≡ map role_of_line lines → AreBlocks roles 0 (length roles) blocks → AreBlocks (map role_of_line lines) 0 (length lines) blocks
+blocks_read roles lines blocks e h =
+    let long : length roles ≡ length lines = ap length e ∙ length-map lines role_of_line in
+    subst (λ rs. AreBlocks rs 0 (length lines) blocks) e (subst (λ n. AreBlocks roles 0 n blocks) long h)

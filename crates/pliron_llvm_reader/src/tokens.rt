@@ -1,0 +1,27 @@
+//! Tokens of a statement.
+ghost use Rattle.std.specs.Prelude.{◌≡◌, ◌≤◌, [], length, OnOk, IfErr};
+ghost use Rattle.pliron_llvm_syntax.specs.Tokens.{IsFaultIn};
+ghost use Rattle.pliron_llvm_reader.specs.TokenLists.{AreTokens};
+
+use pliron_llvm_syntax::{Fault, Token, TokenKind, token_at};
+
+/// Adds the tokens of the text from this byte on to none, but for blanks and comments, in their order. Asks that the
+/// byte is in the text, or its end. Errors: a token is broken; allocation failure. Cost: linear in the text from there on.
+#[doc(hidden)]
+#[tactic(auto, using(crate::proofs::TokenLemmas::tokens_append, crate::proofs::TokenLemmas::tokens_wider, crate::proofs::TokenLemmas::tokens_none, crate::proofs::StopLemmas::fault_memory))]
+pub fn push_tokens(text: &[u8], start: usize, tokens: &mut Vec<Token>) -> Result<(), Fault>
+    requires start { start ≤ length text.now }
+    requires empty { tokens.old.items ≡ [] }
+    ensures tokens { OnOk result (AreTokens start (length text.now) tokens.new.items) }
+    ensures fault { IfErr result (λ fault. IsFaultIn text.now fault) }
+{
+    let mut at = start;
+    while at < text.len() {
+        let token = token_at(text, at)?;
+        if token.kind != TokenKind::Trivia {
+            tokens.push(token)?;
+        }
+        at = token.span.end;
+    }
+    Ok(())
+}
