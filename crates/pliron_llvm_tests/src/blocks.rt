@@ -45,7 +45,9 @@ fn reading_of(rt: &impl Abort, alloc: Global, letters: &str) -> String {
     match split_blocks(&roles, &mut blocks) {
         Ok(()) => ends_of(rt, alloc, &blocks),
         Err(BlockFault::NoBlock) => format!(in alloc; "no block").expect(rt, "memory"),
-        Err(BlockFault::NoTerminator(line)) => format!(in alloc; "line {line}").expect(rt, "memory"),
+        Err(BlockFault::NoTerminator(line)) => format!(in alloc; "line {line}").expect(
+            rt, "memory",
+        ),
         Err(BlockFault::NoMemory) => format!(in alloc; "no memory").expect(rt, "memory"),
     }
 }
@@ -56,6 +58,9 @@ fn splits_bodies_into_blocks(rt: HostRuntime) {
         let (name, row) = case.split_once(" => ").expect(&rt, "a name");
         let (letters, wanted) = row.split_once("=> ").expect(&rt, "a case");
         let found = reading_of(&rt, rt.alloc(), letters.trim_end());
-        assert!(rt; found.as_str().trim_end() == wanted.trim_end(), "{name}: {found}");
+        assert!(rt;
+            found.as_str().trim_end() == wanted.trim_end(),
+            "{name}: {found}"
+        );
     }
 }

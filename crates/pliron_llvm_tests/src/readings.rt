@@ -28,10 +28,14 @@ fn counted(rt: &impl Abort, alloc: Global, body: &Body) -> String {
 // Where and why reading stopped.
 fn stopped(rt: &impl Abort, alloc: Global, stop: BodyStop) -> String {
     match stop {
-        BodyStop::Kept(place, reason) => format!(in alloc; "at {place}: {reason}").expect(rt, "memory"),
+        BodyStop::Kept(place, reason) => format!(in alloc; "at {place}: {reason}").expect(
+            rt, "memory",
+        ),
         BodyStop::Broken(_) => format!(in alloc; "broken").expect(rt, "memory"),
         BodyStop::NoBlock(place) => format!(in alloc; "a block at {place}").expect(rt, "memory"),
-        BodyStop::NoTerminator(place) => format!(in alloc; "a terminator at {place}").expect(rt, "memory"),
+        BodyStop::NoTerminator(place) => format!(in alloc; "a terminator at {place}").expect(
+            rt, "memory",
+        ),
     }
 }
 
@@ -40,7 +44,8 @@ fn reading_of(rt: &impl Abort, alloc: Global, body: &str) -> String {
     let mut text = String::new(alloc);
     text.push_str("define void @f() {").expect(rt, "memory");
     for letter in body.chars() {
-        text.push(if letter == '/' { '\n' } else { letter }).expect(rt, "memory");
+        text.push(if letter == '/' { '\n' } else { letter })
+            .expect(rt, "memory");
     }
     let end = text.len();
     text.push('}').expect(rt, "memory");
