@@ -162,8 +162,8 @@ fn read_tokens(
 /// operands and successors, in order, all behind its opcode: local values, constants where what the statement gives
 /// follows from its operands, and blocks. `tokens` is room for the statement's tokens.
 ///
-/// Asks that the byte is in the text, or its end. Errors: an opcode that the table doesn't have, or something that the opcode doesn't have behind it; a token is
-/// broken; allocation failure. Cost: linear in the statement.
+/// Asks that the byte is in the text, or its end. Errors: an opcode that the table doesn't have, or something that the
+/// opcode doesn't have behind it; a token is broken; allocation failure. Cost: linear in the statement.
 #[doc(hidden)]
 #[tactic(auto, using(crate::proofs::HoleLemmas::holes_whole, crate::proofs::StopLemmas::stop_unread, crate::proofs::StopLemmas::stop_fault))]
 pub fn read_statement(
