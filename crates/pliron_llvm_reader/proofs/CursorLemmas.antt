@@ -1,10 +1,10 @@
 -- Cursors that move forward.
-use Rattle.std.proofs.Common.{◌≡◌, ℕ, ◌<◌, ◌≤◌, List, [], ◌∷◌, length, get_or, refl, sym, ◌∙◌, ap, subst, arith}
+use Rattle.std.proofs.Common.{◌≡◌, ℕ, ◌<◌, ◌≤◌, List, [], ◌∷◌, length, get_or, refl, arith}
 use Rattle.pliron_llvm_syntax.specs.declared.tokens.Token.{Token}
 use Rattle.pliron_llvm_syntax.specs.Tokens.{bytes_of_span}
 use Rattle.pliron_llvm_reader.specs.TokenLists.{AreTokens}
 use Rattle.pliron_llvm_reader.specs.declared.cursor.Cursor.{Cursor}
-use Rattle.pliron_llvm_reader.specs.Cursors.{text_of, first_start, place_of, first_bytes, bytes_of_next, HasNext, IsForward, HasTaken}
+use Rattle.pliron_llvm_reader.specs.Cursors.{text_of, first_start, place_of, first_bytes, bytes_of_next, HasNext}
 use Rattle.pliron_llvm_reader.proofs.TokenLemmas.{tokens_le}
 
 pub first_start_ge : (start end : ℕ) (tokens : List Token) → AreTokens start end tokens → start ≤ first_start tokens end

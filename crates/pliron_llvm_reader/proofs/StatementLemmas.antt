@@ -1,5 +1,5 @@
 -- Opcodes that were read.
-use Rattle.std.proofs.Common.{◌≡◌, ℕ, ◌<◌, ◌≤◌, List, length, sym, ◌∙◌, ap, subst, arith}
+use Rattle.std.proofs.Common.{◌≡◌, ℕ, ◌<◌, ◌≤◌, List, length, sym, ◌∙◌, ap, subst}
 use Rattle.std.specs.Prelude.{Some}
 use Rattle.pliron_llvm_syntax.specs.Tokens.{bytes_of_span}
 use Rattle.pliron_llvm_syntax.specs.declared.tokens.Span.{Span}

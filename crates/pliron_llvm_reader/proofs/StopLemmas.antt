@@ -2,7 +2,7 @@
 use Rattle.std.proofs.Common.{◌≡◌, ℕ, List, sym, subst, refl}
 use Rattle.pliron_llvm_syntax.specs.Tokens.{IsFaultIn}
 use Rattle.pliron_llvm_syntax.specs.declared.fault.Fault.{Fault}
-use Rattle.pliron_llvm_syntax.specs.declared.fault.Fault.TheVariants.{Expected, NoMemory}
+use Rattle.pliron_llvm_syntax.specs.declared.fault.Fault.TheVariants.{NoMemory}
 use Rattle.pliron_llvm_reader.specs.declared.stop.Stop.{Stop}
 use Rattle.pliron_llvm_reader.specs.declared.stop.Stop.TheVariants.{Kept, Broken}
 use Rattle.pliron_llvm_reader.specs.Stops.{IsUnread, IsStopIn}

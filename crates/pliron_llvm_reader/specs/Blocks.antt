@@ -1,5 +1,5 @@
 -- Blocks of a body.
-use Rattle.std.specs.Prelude.{◌≡◌, ℕ, suc, ◌+◌, ◌-◌, ◌<◌, ◌≤◌, Bool, false, true, List, [], ◌∷◌, length, take, drop, take_while, slice_get, Option, Some, None, ⊤}
+use Rattle.std.specs.Prelude.{◌≡◌, ℕ, suc, ◌+◌, ◌-◌, ◌<◌, ◌≤◌, Bool, false, true, List, [], ◌∷◌, length, take, drop, take_while, slice_get, Option, Some, ⊤}
 use Rattle.pliron_llvm_reader.specs.declared.blocks.LineRole.{LineRole}
 use Rattle.pliron_llvm_reader.specs.declared.blocks.LineRole.TheVariants.{Label, Plain, Terminator}
 use Rattle.pliron_llvm_reader.specs.declared.blocks.BlockLines.{BlockLines}

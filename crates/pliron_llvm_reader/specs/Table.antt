@@ -5,7 +5,6 @@ use Rattle.pliron_llvm_reader.specs.declared.table.Layout.{Layout}
 use Rattle.pliron_llvm_reader.specs.declared.table.Layout.TheVariants.{Binary, Values, Cast, Access, Allocation, Fence, Variadic, Pad, Phi, Call, Invoke, CallBranch, Return, Resume, Nothing, Branch, Switch, Indirect, Record}
 use Rattle.pliron_llvm_reader.specs.declared.table.Step.{Step}
 use Rattle.pliron_llvm_reader.specs.declared.table.Step.TheVariants.{Flags, TypeName, Value, TypedValue, MoreTypedValues, Comma, To, Unwind, Label, Labels, Cases, Entries, Arguments, Attributes, Clauses, Branch as BranchStep, ReturnValue, Rest}
-use Rattle.pliron_llvm_reader.specs.declared.table.Gives.{Gives}
 use Rattle.pliron_llvm_reader.specs.declared.table.Gives.TheVariants.{Always, Never, UnlessVoid}
 use Rattle.pliron_llvm_reader.specs.declared.values.Reads.{Reads}
 use Rattle.pliron_llvm_reader.specs.declared.values.Reads.TheVariants.{Constants, Locals}

@@ -1,4 +1,4 @@
-use Rattle.std.proofs.Common.{rules, ◌≡◌, ◌≤◌, ◌+◌, [], length, drop, refl, arith}
+use Rattle.std.proofs.Common.{◌+◌, refl}
 use Rattle.pliron_llvm_reader.proofs.BlockLemmas.{block_added}
 use Rattle.pliron_llvm_reader.proofs.blocks.split_blocks.Goals as goal
 

@@ -1,6 +1,5 @@
-use Rattle.std.proofs.Common.{rules, ◌≡◌, ◌≤◌, length, Some, refl, sym, ◌∙◌, ap, subst, arith}
+use Rattle.std.proofs.Common.{rules, ◌≡◌, sym, ◌∙◌, ap}
 use Rattle.pliron_llvm_reader.specs.Cursors.{text_of, place_of, span_between, HasNext}
-use Rattle.pliron_llvm_reader.specs.Table.{row_named as row_named_in}
 use Rattle.pliron_llvm_reader.proofs.StatementLemmas.{opcode_read}
 use Rattle.pliron_llvm_reader.proofs.cursor.Cursor.opcode.Goals as goal
 
