@@ -197,6 +197,7 @@ impl<'t> Cursor<'t> {
     pub fn accept_word(&mut self, word: &[u8]) -> bool
         ensures forward { IsForward self.old self.new }
         ensures taken { OnTrue result (HasTaken self.old self.new) }
+        ensures word { OnTrue result (bytes_of_next self.old ≡ word.now) }
         ensures unmoved { OnFalse result (IsUnmoved self.old self.new) }
     {
         let is_next = self.at_word(word);
