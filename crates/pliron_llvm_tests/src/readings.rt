@@ -50,6 +50,7 @@ fn reading_of(rt: &impl Abort, alloc: Global, body: &str) -> String {
     let end = text.len();
     text.push('}').expect(rt, "memory");
     let inside = Span { start: 18, end };
+    assert!(rt; inside.start <= inside.end, "a body");
     match read_body(alloc, text.as_bytes(), inside) {
         Ok(body) => counted(rt, alloc, &body),
         Err(stop) => stopped(rt, alloc, stop),
