@@ -5,7 +5,7 @@ use crate::tree_state::{BlockState, OperationState, TreeState};
 use pliron_bench::BenchKind;
 use pliron_core::{BasicBlock, Context, Def, Operation, Ptr, Value};
 use pliron_diagnostics::{TextPart, TextParts, push_on_one_line};
-use pliron_notation::printed::number_of;
+use pliron_notation::number_of;
 use std::alloc::{AllocError, Global};
 use std::collections::HashMap;
 

@@ -2,21 +2,21 @@
 use crate::expect::expect_text;
 use pliron_arithmetic::ArithmeticKind;
 use pliron_core::{Context, Operation, Ptr};
-use pliron_table_text::{print_text, read_text};
+use pliron_notation::{print_operation, read_operation};
 use std::alloc::Global;
 use std::process::Abort;
 
 /// The operation of a text of the notation.
 pub fn read(rt: &impl Abort, alloc: Global, ctx: &mut Context, text: &str) -> Ptr<Operation> {
-    let read = read_text::<ArithmeticKind>(alloc, text.as_bytes(), ctx).expect(rt, "memory");
+    let read = read_operation::<ArithmeticKind>(alloc, text.as_bytes(), ctx).expect(rt, "memory");
     read.expect(rt, "readable")
 }
 
 // What is printed of a text; of one outside the notation it is `none`.
 fn printed_in(rt: &impl Abort, alloc: Global, ctx: &mut Context, text: &str) -> String {
-    let read = read_text::<ArithmeticKind>(alloc, text.as_bytes(), ctx).expect(rt, "memory");
+    let read = read_operation::<ArithmeticKind>(alloc, text.as_bytes(), ctx).expect(rt, "memory");
     match read {
-        Some(root) => print_text::<ArithmeticKind>(alloc, root, ctx).expect(rt, "memory"),
+        Some(root) => print_operation::<ArithmeticKind>(alloc, root, ctx).expect(rt, "memory"),
         None => String::from_str(alloc, "none").expect(rt, "memory"),
     }
 }
