@@ -20,20 +20,6 @@ struct Parent {
     regions: Count,
 }
 
-/// A region that is open.
-#[derive(Clone, Copy, Drop)]
-struct OpenRegion {
-    parent: Parent,
-    /// Its place among the regions of its parent.
-    place: usize,
-    /// How many regions were opened before it.
-    number: usize,
-    /// The number of the region around it, or its own, from which on names of values began anew.
-    scope: usize,
-    /// Its last block so far.
-    block: Option<usize>,
-}
-
 impl Parent {
     fn of<K: Grammar>(operation: Option<usize>, kind: K) -> Self {
         Parent {
@@ -42,6 +28,20 @@ impl Parent {
             regions: kind.regions(),
         }
     }
+}
+
+/// A region that is open.
+#[derive(Clone, Copy, Drop)]
+struct OpenRegion {
+    parent: Parent,
+    /// Its place among the regions of its parent.
+    place: usize,
+    /// How many regions were opened before it.
+    number: usize,
+    /// The number of the region in which names of its values began anew: its own, or one around it.
+    scope: usize,
+    /// Its last block so far.
+    block: Option<usize>,
 }
 
 impl OpenRegion {

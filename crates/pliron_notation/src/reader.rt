@@ -81,12 +81,12 @@ fn read_syntax<K: Grammar>(alloc: Global, text: &[u8]) -> Result<Syntax, Stop>
     let parsed = parse(alloc, &tokens);
     match tokens.misread {
         Some(misread) => Err(earlier(parsed, misread)),
-        None => checked(alloc, parsed?, &tokens),
+        None => buildable(alloc, parsed?, &tokens),
     }
 }
 
 // The syntax that was parsed of these tokens, if it makes a tree of the dialect.
-fn checked<K: Grammar>(alloc: Global, syntax: Syntax, text: &Tokens<K>) -> Result<Syntax, Stop>
+fn buildable<K: Grammar>(alloc: Global, syntax: Syntax, text: &Tokens<K>) -> Result<Syntax, Stop>
     ensures sound { IfOk result (λ syntax. IsSoundSyntax syntax) }
     ensures admitted { IfOk result (λ syntax. IsAdmittedSyntax (meaning_by K.tables.value (role_at K.tables)
         (allows_at K.tables)) syntax) }
