@@ -50,11 +50,13 @@ pub fn first_not_admitted<K: Roles>(
     ensures { IfOk result (λ found. found ≡ None → IsAdmittedSyntax (meaning_by K.tables.value (role_at K.tables)
         (allows_at K.tables)) syntax.now) }
 {
-    if !is_admitted::<K>(alloc, &syntax.root)? {
+    let admits_root = is_admitted::<K>(alloc, &syntax.root)?;
+    if !admits_root {
         return Ok(Some(0));
     }
     for number in 0..syntax.operations.len() {
-        if !is_admitted::<K>(alloc, &syntax.operations[number])? {
+        let admits_operation = is_admitted::<K>(alloc, &syntax.operations[number])?;
+        if !admits_operation {
             return Ok(Some(number + 1));
         }
     }

@@ -21,6 +21,7 @@ struct Parent {
 }
 
 impl Parent {
+    #[inline(always)]
     fn of<K: Grammar>(operation: Option<usize>, kind: K) -> Self {
         Parent {
             operation,
@@ -160,7 +161,10 @@ impl<K: Grammar> Parser<'_, K> {
         } else {
             self.kind()?
         };
-        self.syntax.root = self.text(kind, results, 0)?;
+        let mut text = OperationText::new(self.alloc, kind.number(), kind.is_ssa());
+        text.results = results;
+        self.tail(kind.tail(), &mut text)?;
+        self.syntax.root = text;
         self.next_region(Parent::of(None, kind), 0)
     }
 
@@ -203,6 +207,7 @@ impl<K: Grammar> Parser<'_, K> {
     }
 
     // Opens the region at this place of an operation, if it has one there.
+    #[inline(always)]
     fn next_region(&mut self, parent: Parent, place: usize) -> Result<LastRead, Stop> {
         let opens = match parent.regions {
             Count::Exactly(count) => place < count,
@@ -324,7 +329,10 @@ impl<K: Grammar> Parser<'_, K> {
         let Some(block) = self.region.block else {
             return Err(self.cursor.stop_before(Expected::BlockOfRegion));
         };
-        let text = self.text(kind, results, block)?;
+        let mut text = OperationText::new(self.alloc, kind.number(), kind.is_ssa());
+        text.results = results;
+        text.block = block;
+        self.tail(kind.tail(), &mut text)?;
         let is_branch = !text.successors.is_empty();
         let number = self.syntax.add_operation(text)?;
         if let Some(block) = self.syntax.blocks.get_mut(block) {
@@ -338,6 +346,7 @@ impl<K: Grammar> Parser<'_, K> {
 
     // Reads the results and the kind of an operation, which are to fit one another and the region, and answers the kind
     // and how many results there are.
+    #[inline(always)]
     fn kind(&mut self) -> Result<(K, usize), Stop> {
         let count = self.results()?;
         let kind = self.cursor.kind(Expected::Kind)?;
@@ -377,15 +386,8 @@ impl<K: Grammar> Parser<'_, K> {
         Ok(K::most_results())
     }
 
-    // Reads what is behind a kind with so many results, up to a region: the text of an operation in this block.
-    fn text(&mut self, kind: K, results: usize, block: usize) -> Result<OperationText, Stop> {
-        let mut text = OperationText::new(self.alloc, kind.number(), kind.is_ssa(), block);
-        text.results = results;
-        self.tail(kind.tail(), &mut text)?;
-        Ok(text)
-    }
-
-    // Reads this behind a kind.
+    // Reads what is behind a kind, up to a region.
+    #[inline(always)]
     fn tail(&mut self, tail: Tail, text: &mut OperationText) -> Result<(), Stop> {
         match tail {
             Tail::Number => {

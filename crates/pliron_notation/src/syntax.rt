@@ -34,15 +34,16 @@ pub struct OperationText {
 }
 
 impl OperationText {
-    /// An operation of the kind with this number and mark, in the block, without anything else. Cost: constant.
-    pub fn new(alloc: Global, kind: u32, ssa: bool, block: usize) -> Self {
+    /// An operation of the kind with this number and mark, in the first block, without anything else. Cost: constant.
+    #[inline(always)]
+    pub fn new(alloc: Global, kind: u32, ssa: bool) -> Self {
         OperationText {
             kind,
             ssa,
             attribute: AttributeText::Nothing,
             results: 0,
             regions: 0,
-            block,
+            block: 0,
             operands: SmallVec::new(alloc),
             successors: Vec::new(alloc),
         }
@@ -80,7 +81,7 @@ impl Syntax {
     /// The syntax of a text of which nothing is read. Cost: constant.
     pub fn new(alloc: Global) -> Self {
         Syntax {
-            root: OperationText::new(alloc, 0, false, 0),
+            root: OperationText::new(alloc, 0, false),
             steps: Vec::new(alloc),
             operations: Vec::new(alloc),
             blocks: Vec::new(alloc),
@@ -96,6 +97,7 @@ impl Syntax {
 
     /// Adds the next operation of the text, as the next step, and answers its number. Errors: allocation failure.
     /// Cost: constant, amortised.
+    #[inline(always)]
     pub fn add_operation(&mut self, operation: OperationText) -> Result<usize, AllocError> {
         let number = self.operations.len();
         self.steps.push(SyntaxStep::Operation(number))?;

@@ -164,7 +164,8 @@ fn expect_fault(rt: &impl Abort, alloc: Global, text: &str, wanted: &str) {
 // Texts outside the notation, and for each after how many bytes and in how many it leaves that, and what was expected
 // there.
 static FAULTS: &str = "\
-func { } => 0 4 a kind of operations
+{ } => 0 1 a kind of operations
+func { } => 5 1 `,` or `=`
 function { return } => 11 6 a block, or `}`
 function { b0(): return # } => 24 1 a word, a number or one of `{ } ( ) , : ; =`
 function { b0(): a = add b; return } => 26 1 the name of a value
