@@ -1,8 +1,14 @@
-"""The texts of `Bench` as plain objects: reading, walking and printing them. Nothing is shared with the crates."""
-import re
+"""The texts of `Bench` as plain objects, linked, walked and printed; `tools/people/notation.py` reads them. Nothing is shared with the crates."""
+import sys
+from importlib.machinery import SourceFileLoader
+from importlib.util import module_from_spec, spec_from_loader
+from pathlib import Path
 
-TOKEN = re.compile(r"[A-Za-z_][A-Za-z_0-9]*|-?\d+|[{}():;,=]")
-NAME = re.compile(r"[A-Za-z_]")
+READER = SourceFileLoader("texts", str(Path(__file__).resolve().parent.parent / "people/notation.py"))
+texts = module_from_spec(spec_from_loader("texts", READER))
+sys.modules["texts"] = texts
+READER.exec_module(texts)
+
 # the folds, and what has no side effects, may lose arguments of any block, or of any block but the entry
 FOLDS = ("const", "add", "mul", "div")
 PURE = ("const", "add", "mul", "pair", "sink", "box")
@@ -39,117 +45,57 @@ class Op:
         return range(first, first + self.counts[i])
 
 
-class Reader:
-    """Reads one operation with what is inside it."""
+class Linker:
+    """Makes these objects of the tree of a text: names become values and blocks."""
 
-    def __init__(self, text):
-        self.tokens, self.at, self.values = TOKEN.findall(text), 0, {}
+    def __init__(self):
+        self.values = {}
 
-    def peek(self, ahead=0):
-        place = self.at + ahead
-        return self.tokens[place] if place < len(self.tokens) else ""
+    def value(self, name, maker=None):
+        """The value of this name; `maker` defines it."""
+        value = self.values.setdefault(name, Value())
+        value.maker = maker or value.maker
+        return value
 
-    def take(self, expected=None):
-        token = self.tokens[self.at]
-        self.at += 1
-        assert expected in (None, token), (expected, token)
-        return token
-
-    def value(self, name):
-        return self.values.setdefault(name, Value())
-
-    def names(self, end):
-        found = []
-        while self.peek() != end:
-            found.append(self.take())
-            if self.peek() == ",":
-                self.take()
-        self.take(end)
-        return found
-
-    def begins_block(self):
-        """NAME ( .. ) :"""
-        place = 1
-        if self.peek(place) != "(":
-            return False
-        while self.peek(place) != ")":
-            place += 1
-        return self.peek(place + 1) == ":"
-
-    def block(self, region, labels):
+    def block(self, tree, region):
         block = Block()
-        labels[self.take()] = block
-        self.take("(")
-        block.args, block.region = [self.value(name) for name in self.names(")")], region
-        for value in block.args:
-            value.maker = block
-        self.take(":")
-        region.blocks.append(block)
-        while self.peek() != "}" and not self.begins_block():
-            if self.peek() == ";":
-                self.take(";")
-                continue
-            op = self.operation()
+        block.args, block.region = [self.value(name, block) for name in tree.arguments], region
+        for inner in tree.operations:
+            op = self.operation(inner)
             op.block = block
             block.ops.append(op)
+        return block
 
-    def region(self, holder):
+    def region(self, holder, trees):
         region, labels = Region(holder), {}
-        self.take("{")
-        while self.peek() != "}":
-            self.block(region, labels)
-        self.take("}")
+        for tree in trees:
+            labels[tree.name] = self.block(tree, region)
+            region.blocks.append(labels[tree.name])
         for block in region.blocks:
             for op in block.ops:
                 op.successors = [labels[name] for name in op.successors]
         return region
 
-    def edge(self, op):
-        op.successors.append(self.take())
-        values = []
-        if self.peek() == "(":
-            self.take("(")
-            values = self.names(")")
-        op.operands += [self.value(name) for name in values]
-        op.counts.append(len(values))
-
-    def result_names(self):
-        place = 0
-        while NAME.match(self.peek(place)) and self.peek(place + 1) == ",":
-            place += 2
-        return self.names("=") if NAME.match(self.peek(place)) and self.peek(place + 1) == "=" else []
-
-    def operation(self):
+    def operation(self, tree):
         op = Op()
-        op.results = [self.value(name) for name in self.result_names()]
-        for value in op.results:
-            value.maker = op
-        op.kind = self.take()
-        if op.kind == "const":
-            op.attr = int(self.take())
-        elif op.kind == "br":
-            self.edge(op)
-        elif op.kind == "cbr":
-            op.operands.append(self.value(self.take()))
-            self.edge(op)
-            self.edge(op)
-        elif op.kind == "fork":
-            op.operands.append(self.value(self.take()))
-            op.successors, op.counts = [self.take(), self.take()], [0, 0]
-        else:
-            while NAME.match(self.peek()):
-                op.operands.append(self.value(self.take()))
-            outer = self.values
-            if op.kind == "func":
-                self.values = {}
-            while self.peek() == "{":
-                op.regions.append(self.region(op))
-            self.values = outer
+        op.kind, op.attr = tree.kind, tree.number if tree.kind == "const" else None
+        op.results = [self.value(name, op) for name in tree.results]
+        op.operands = [self.value(name) for name in tree.operands]
+        for target, passed in tree.edges:
+            op.successors.append(target)
+            op.operands += [self.value(name) for name in passed]
+            op.counts.append(len(passed))
+        outer = self.values
+        if op.kind == "func":
+            self.values = {}
+        if tree.blocks is not None:
+            op.regions.append(self.region(op, tree.blocks))
+        self.values = outer
         return op
 
 
 def read(text):
-    return Reader(text).operation()
+    return Linker().operation(texts.read(text))
 
 
 def inside(op):

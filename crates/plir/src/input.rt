@@ -91,6 +91,32 @@ pub fn read_input(rt: &HostRuntime, name: &str, path: Option<&str>) -> io::Resul
     }))
 }
 
+// The blanks with which the last line begins. Cost: linear in the text.
+fn indentation_of(before: &[u8]) -> &[u8] {
+    let start = match before.iter().rposition(|byte| *byte == b'\n') {
+        Some(place) => place.saturating_add(1),
+        None => 0,
+    };
+    let line = before.get(start..).unwrap_or(b"");
+    let blanks = line
+        .iter()
+        .position(|byte| *byte != b' ' && *byte != b'\t')
+        .unwrap_or(line.len());
+    line.get(..blanks).unwrap_or(b"")
+}
+
+// Adds the answer, each of whose lines but the first gets these blanks. Errors: allocation failure. Cost: linear in the
+// answer, and in the blanks for each line.
+fn push_lines(text: &mut Vec<u8>, answer: &[u8], blanks: &[u8]) -> Result<(), AllocError> {
+    for byte in answer {
+        text.push(*byte)?;
+        if *byte == b'\n' {
+            text.extend_from_slice(blanks)?;
+        }
+    }
+    Ok(())
+}
+
 impl Input {
     /// The text with blanks for all but the function around the operation that the path leads to. Errors: allocation
     /// failure. Cost: that of `function_around`.
@@ -104,15 +130,20 @@ impl Input {
     }
 
     /// The whole text with an answer in the place of the operation that was asked for, if one was, and else the answer.
-    /// Errors: allocation failure. Cost: linear in both.
+    /// Lines of the answer are indented as the line is in which that operation begins. Errors: allocation failure. Cost:
+    /// linear in both, and in that indentation for each line.
     pub fn around(&self, alloc: Global, answer: &[u8]) -> Result<Vec<u8>, AllocError> {
         let Some(part) = self.part else {
             return Vec::from_slice(alloc, answer);
         };
         let end = part.start.saturating_add(part.len);
-        let mut text = Vec::new(alloc);
-        text.extend_from_slice(self.whole.get(..part.start).unwrap_or(b""))?;
-        text.extend_from_slice(answer.strip_suffix(b"\n").unwrap_or(answer))?;
+        let before = self.whole.get(..part.start).unwrap_or(b"");
+        let mut text = Vec::from_slice(alloc, before)?;
+        push_lines(
+            &mut text,
+            answer.strip_suffix(b"\n").unwrap_or(answer),
+            indentation_of(before),
+        )?;
         text.extend_from_slice(self.whole.get(end..).unwrap_or(b""))?;
         Ok(text)
     }

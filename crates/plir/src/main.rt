@@ -22,9 +22,9 @@ use pipeline::{pipeline_and_file, without_blanks};
 use pliron_cli::{
     BenchNotation, CompareOptions, EffectSink, ExplainOptions, FlowOptions, MessageForm, Outcome,
     RunOptions, Source, TextRange, check, compare, draw_flow, draw_graph, explain, in_form, run,
-    run_streamed,
+    run_streamed, unfit_warning,
 };
-use std::alloc::Global;
+use std::alloc::{AllocError, Global};
 use std::env;
 use std::io::{self, ErrorKind};
 use std::process::ExitCode;
@@ -112,10 +112,10 @@ fn draw_as_asked(
         nested: matches.get_flag("nested"),
         title: matches.get_str("title").unwrap_or(""),
     };
-    Ok(draw_flow(alloc, source, &options)?)
+    Ok(draw_flow::<BenchNotation>(alloc, source, &options)?)
 }
 
-// Explains what the passes did.
+// Explains what the passes did, and warns of a text that isn't fit to run.
 fn explain_as_asked(
     alloc: Global,
     source: &Source,
@@ -127,7 +127,18 @@ fn explain_as_asked(
         pipeline: pipeline.as_str(),
         missed: matches.get_flag("missed"),
     };
-    Ok(explain(alloc, source, &options)?)
+    let explained = explain::<BenchNotation>(alloc, source, &options)?;
+    if explained.status != 0 {
+        return Ok(explained);
+    }
+    match unfit_warning::<BenchNotation>(alloc, source, false) {
+        Ok(report) => Ok(Outcome {
+            output: explained.output,
+            report,
+            status: 0,
+        }),
+        Err(_) => Err(io::Error::from(AllocError)),
+    }
 }
 
 // Explains what the passes did to an operation inside a function.

@@ -152,14 +152,13 @@ fn stages(
         reports_changes: matches.get_flag("print-changed"),
         is_coloured: is_coloured(rt, matches),
     };
-    match run_stages(alloc, text, &plan, &options) {
+    match run_stages::<BenchNotation>(alloc, text, &plan, &options) {
         Ok(staged) => Ok(staged),
         Err(_) => Err(io::Error::from(AllocError)),
     }
 }
 
-// The outcome with what is reported of the passes one by one before the rest, and an answer that keeps the names of the
-// text where that is asked for.
+// The outcome with the reports of single passes before the rest; where asked for, the answer keeps the text's names.
 fn join_stages(
     alloc: Global,
     whole: Outcome,
@@ -206,7 +205,7 @@ fn pipeline_of(alloc: Global, matches: &ArgMatches, word: &str) -> io::Result<St
 }
 
 /// Runs the passes that the words ask for on the input, and answers the text that they leave; for one operation inside
-/// a text, that text with what they leave in its place.
+/// a text, the whole text with the answer in the place of that operation.
 ///
 /// Errors: allocation failure. Cost: that of `opt_with_check`, and where names are kept or trees reported that of
 /// `run_stages`.

@@ -43,8 +43,8 @@ pub extern "C" fn plir_version() -> u32
     VERSION
 }
 
-/// Runs the passes of a list on a text of the bench notation, and puts the text that they leave, and a line that says
-/// whether they changed it, into the buffer: what `plir_opt` writes for the word and the input. Answers the number of a
+/// Runs the passes of a list on a text of the bench notation, and puts what `plir_opt` writes for the word and the
+/// input into the buffer: the text that the passes leave, and a line `changed` or `unchanged`. Answers the number of a
 /// status, and reports the length of the answer, or 0 where none is known.
 ///
 /// Nothing is written to the buffer unless the whole answer fits. Cost: linear in the texts, and that of the passes.

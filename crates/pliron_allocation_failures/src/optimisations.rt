@@ -104,8 +104,8 @@ fn is_one_of(trees: &str, line: &str) -> bool {
     trees.split('|').any(|tree| tree.trim() == line)
 }
 
-/// What is seen of an optimisation that answered so and left this line, where it passes through these trees, the last
-/// of which is the answer. Cost: linear in the trees.
+/// What is seen of an optimisation with this answer that left this line. On its way it passes through these trees; the
+/// last is the wanted one. Cost: linear in the trees.
 pub fn seen_of<T>(answer: &Result<T, OptError>, trees: &str, line: &str) -> Observation {
     match answer {
         Ok(_) => Observation::of_answer(

@@ -1,16 +1,15 @@
 //! Values and blocks in the order in which the text of an operation defines them.
 ghost use Rattle.pliron_core.specs.Tree.{IsLive};
 
-use pliron_bench::BenchKind;
-use pliron_bench::tables::kind_at;
 use pliron_core::{BasicBlock, Context, Operation, Ptr, Value};
 use pliron_laws::reads::{all_arguments, all_operations, all_results, push_layouts};
+use pliron_show::Shown;
 use std::alloc::{AllocError, Global};
 
 /// Values and blocks in the order in which the text of an operation defines them.
 #[derive(Drop)]
 pub struct DefinitionOrder {
-    /// The values that are defined in each `func`, and first those outside all.
+    /// The values that are defined in each operation at which names begin anew, and first those outside all.
     pub functions: Vec<Vec<Value>>,
     /// The blocks of each region, in the order in which regions open.
     pub regions: Vec<Vec<Ptr<BasicBlock>>>,
@@ -59,7 +58,7 @@ impl DefinitionOrder {
     }
 
     // Adds an operation; its blocks come next.
-    fn add_operation(
+    fn add_operation<N: Shown>(
         &mut self,
         alloc: Global,
         ctx: &Context,
@@ -69,7 +68,7 @@ impl DefinitionOrder {
         if !op.is_live(ctx) {
             return Ok(());
         }
-        if kind_at(op, ctx) == Some(BenchKind::Func) {
+        if N::begins_names(op, ctx) {
             self.functions.push(Vec::new(alloc))?;
         }
         let results = all_results(alloc, op, ctx)?;
@@ -102,7 +101,7 @@ impl DefinitionOrder {
     }
 
     // Adds what comes next.
-    fn add_item(
+    fn add_item<N: Shown>(
         &mut self,
         alloc: Global,
         ctx: &Context,
@@ -110,14 +109,18 @@ impl DefinitionOrder {
         waiting: &mut Waiting,
     ) -> Result<(), AllocError> {
         match item {
-            TextItem::Operation(op) => self.add_operation(alloc, ctx, op, waiting),
+            TextItem::Operation(op) => self.add_operation::<N>(alloc, ctx, op, waiting),
             TextItem::Block(block) => self.add_block(alloc, ctx, block, waiting),
         }
     }
 
     /// What the text of the operation defines, in order. Errors: allocation failure. Cost: linear in the operation,
     /// where none inside has more than one region.
-    pub fn of(alloc: Global, root: Ptr<Operation>, ctx: &Context) -> Result<Self, AllocError> {
+    pub fn of<N: Shown>(
+        alloc: Global,
+        root: Ptr<Operation>,
+        ctx: &Context,
+    ) -> Result<Self, AllocError> {
         let mut order = DefinitionOrder {
             functions: Vec::new(alloc),
             regions: Vec::new(alloc),
@@ -132,7 +135,7 @@ impl DefinitionOrder {
             let Some(item) = waiting.items.pop() else {
                 break;
             };
-            order.add_item(alloc, ctx, item, &mut waiting)?;
+            order.add_item::<N>(alloc, ctx, item, &mut waiting)?;
         }
         Ok(order)
     }

@@ -1,7 +1,7 @@
 //! What passes change, in the names of the text: trees between passes, the lines that each run changed, and an answer
 //! whose values and blocks keep their names.
 //!
-//! It knows the bench notation and its passes; of words of a process, files and streams it knows nothing.
+//! It knows what people ask of notations, and passes; of words of a process, files and streams it knows nothing.
 #![tactic(auto)]
 
 mod definition_order;

@@ -9,15 +9,15 @@ use crate::names::{Names, OperandsBefore, operands_before};
 use crate::renaming::rename_text;
 use crate::subjects::{Subject, subjects_of};
 use crate::written_changes::write_changes;
-use pliron_bench::Bench;
 use pliron_core::{Context, IRStatus, Operation, Ptr};
-use pliron_diagnostics::{TextParts, parts_of, pretty};
+use pliron_diagnostics::pretty;
 use pliron_instrument::PipelineText;
 use pliron_laws::{OptError, is_well_linked};
-use pliron_notation::{print_text, read_text};
 use pliron_pass::{AnalysisManager, BenchFacts};
 use pliron_pipeline::{PassStep, run_pipeline};
+use pliron_show::Shown;
 use std::alloc::{AllocError, Global};
+use std::marker::PhantomData;
 
 /// What is reported of passes that are run one by one.
 #[derive(Clone, Copy)]
@@ -46,8 +46,9 @@ pub struct StageReport {
 
 /// Passes that are run one by one on the operation of a text.
 #[derive(Drop)]
-struct Stages<'s> {
+struct Stages<'s, N> {
     alloc: Global,
+    of: PhantomData<N>,
     options: &'s StageOptions<'s>,
     names: Names<'s>,
     analyses: AnalysisManager<BenchFacts>,
@@ -77,16 +78,21 @@ fn status_word(status: IRStatus) -> &'static str {
     }
 }
 
-impl Stages<'_> {
+// The bytes that a notation prints, as a text.
+fn text_of(alloc: Global, printed: &[u8]) -> Result<String, AllocError> {
+    String::from_str(alloc, std::str::from_utf8(printed).unwrap_or(""))
+}
+
+impl<N: Shown> Stages<'_, N> {
     // The operation as it is written on one line. Asks that it is live.
     fn print(&self, op: Ptr<Operation>, ctx: &Context) -> Result<String, OptError>
         requires { IsLive ctx.now.tree op }
     {
-        let printed = print_text(self.alloc, op, ctx)?;
+        let printed = text_of(self.alloc, &N::print(self.alloc, op, ctx)?)?;
         if !self.options.keeps_names {
             return Ok(printed);
         }
-        let order = DefinitionOrder::of(self.alloc, op, ctx)?;
+        let order = DefinitionOrder::of::<N>(self.alloc, op, ctx)?;
         Ok(rename_text(self.alloc, printed.as_str(), &self.names, &order)?)
     }
 
@@ -113,7 +119,7 @@ impl Stages<'_> {
         Ok(self.report.push_str("\n")?)
     }
 
-    // Writes which run of which pass it is, and on which operation.
+    // Writes the number of the run, the pass and the operation.
     fn push_head(
         &mut self,
         when: &str,
@@ -213,7 +219,7 @@ impl Stages<'_> {
         if !self.options.keeps_names {
             return Ok(());
         }
-        let order = DefinitionOrder::of(self.alloc, op, ctx)?;
+        let order = DefinitionOrder::of::<N>(self.alloc, op, ctx)?;
         Ok(self.names.extend(ctx, &before.operands, &order)?)
     }
 
@@ -226,10 +232,10 @@ impl Stages<'_> {
     ) -> Result<IRStatus, OptError> {
         let op = subject.op;
         let alloc = self.alloc;
-        let Some(mut step) = PassStep::<Bench, BenchFacts>::from_name(name) else {
+        let Some(mut step) = PassStep::<N::D, BenchFacts>::from_name(name) else {
             return Ok(IRStatus::Unchanged);
         };
-        if !op.is_live(ctx) || !is_well_linked::<Bench>(op, ctx) {
+        if !op.is_live(ctx) || !is_well_linked::<N::D>(op, ctx) {
             return Ok(IRStatus::Unchanged);
         }
         self.number = self.number.saturating_add(1);
@@ -287,7 +293,7 @@ impl Stages<'_> {
 }
 
 // Runs the passes on the operation that was read from the text, which has these parts.
-fn stage_operation(
+fn stage_operation<N: Shown>(
     alloc: Global,
     text: &[u8],
     plan: &PipelineText,
@@ -297,9 +303,10 @@ fn stage_operation(
 ) -> Result<StageReport, OptError>
     requires { IsLive ctx.old.tree root }
 {
-    let parts = parts_of(alloc, text)?;
-    let mut stages = Stages {
+    let parts = N::parts(alloc, text)?;
+    let mut stages = Stages::<N> {
         alloc,
+        of: PhantomData,
         options,
         names: Names::new(alloc, text, &parts)?,
         analyses: AnalysisManager::new(alloc),
@@ -318,7 +325,7 @@ fn stage_operation(
 }
 
 // The same for a text, in this empty context.
-fn run_stages_in(
+fn run_stages_in<N: Shown>(
     alloc: Global,
     text: &[u8],
     plan: &PipelineText,
@@ -327,8 +334,8 @@ fn run_stages_in(
 ) -> Result<Option<StageReport>, OptError>
     requires { ctx.old.tree ≡ no_tree }
 {
-    match read_text(alloc, text, ctx)? {
-        Some(root) => Ok(Some(stage_operation(alloc, text, plan, options, root, ctx)?)),
+    match N::read(alloc, text, ctx)? {
+        Some(root) => Ok(Some(stage_operation::<N>(alloc, text, plan, options, root, ctx)?)),
         None => Ok(None),
     }
 }
@@ -339,12 +346,12 @@ fn run_stages_in(
 ///
 /// Errors: allocation failure. Cost: reading, the passes, for each run that is reported or named a step for all that is
 /// live, and what `changed_lines` costs.
-pub fn run_stages(
+pub fn run_stages<N: Shown>(
     alloc: Global,
     text: &[u8],
     plan: &PipelineText,
     options: &StageOptions,
 ) -> Result<Option<StageReport>, OptError> {
     let mut ctx = Context::new(alloc);
-    run_stages_in(alloc, text, plan, options, &mut ctx)
+    run_stages_in::<N>(alloc, text, plan, options, &mut ctx)
 }

@@ -9,7 +9,7 @@ use std::alloc::{AllocError, Global};
 #[derive(Clone, Copy)]
 pub struct Subject {
     pub op: Ptr<Operation>,
-    /// Its number among those directly inside the text's operation, where it is one of them.
+    /// Its number among the operations directly inside the text's operation, where it stands there.
     pub number: Option<usize>,
 }
 

@@ -27,7 +27,8 @@ use Rattle.pliron_cli.specs.Compared.{AreSeen, are_same, are_same_so_far, effect
 use Rattle.pliron_cli.specs.Likeness.{IsLikeness, EndsLike, EndsLike.AreAlike, EndsLike.AreUnlike, last_line, status_for}
 use Rattle.pliron_cli.specs.Optimised.{IsLaidOut, IsMade, EndsOptimised}
 use Rattle.pliron_cli.specs.Outcomes.{Ends, Ends.Says, Ends.Denies, Ends.Fails, EndsBadly, EndsBadly.Refuses, IsRefused}
-use Rattle.pliron_cli.specs.Reports.{Faults, TextFaults, FaultsWord}
+use Rattle.pliron_cli.specs.Reports.{FaultsWord}
+use Rattle.pliron_show.specs.Faults.{Faults, TextFaults}
 
 pub ends_by : (faults : Faults) (o : Outcome) → (o.status ≡ 0) ⊎ (o.status ≡ 3) → Ends faults ⊤ ⊤ o
 ends_by faults o (inl e) = Says tt e

@@ -4,7 +4,8 @@ use Rattle.std.proofs.Common.{◌≡◌, ◌⊎◌, inl, inr, ℕ, List, [], ◌
 use Rattle.pliron_diagnostics.specs.Messages.{BeginsWith, heading}
 use Rattle.pliron_cli.specs.declared.outcome.Outcome.{Outcome}
 use Rattle.pliron_cli.specs.Outcomes.{IsRefused, EndsBadly, EndsBadly.Refuses, EndsBadly.IsFaulty, Ends, Ends.Fails}
-use Rattle.pliron_cli.specs.Reports.{Faults, FaultsRegion, TellsRefusal}
+use Rattle.pliron_cli.specs.Reports.{FaultsRegion, TellsRefusal}
+use Rattle.pliron_show.specs.Faults.{Faults}
 
 -- how reports begin
 pub whole_line : (first report : List ℕ) → report ≡ first → BeginsWith report first

@@ -3,7 +3,8 @@ use Rattle.std.specs.Prelude.{ℕ, Bool, true, List, Option}
 use Rattle.pliron_opts.specs.PipelineTexts.{Plans}
 use Rattle.pliron_pipeline.specs.Pipelines.{PipelineOf, IsPipelineOf}
 use Rattle.pliron_cli.specs.Outcomes.{EndsBadly}
-use Rattle.pliron_cli.specs.Reports.{Faults, FaultsWord}
+use Rattle.pliron_cli.specs.Reports.{FaultsWord}
+use Rattle.pliron_show.specs.Faults.{Faults}
 use Rattle.pliron_cli.specs.declared.outcome.Outcome.{Outcome}
 
 module _ {P D E B K : Type 0} (name : P → List ℕ) (EndsSo : PipelineOf P D E B K → Outcome → Type 0) where

@@ -12,7 +12,7 @@ use Rattle.pliron_evaluator.specs.declared.evaluator.values.Sight.{Sight}
 use Rattle.pliron_evaluator.specs.declared.evaluator.values.Sight.TheVariants.{Ended, Trapped, Reached}
 use Rattle.pliron_opts.specs.Answered.{Reads}
 use Rattle.pliron_cli.specs.Outcomes.{Ends}
-use Rattle.pliron_cli.specs.Reports.{TextFaults}
+use Rattle.pliron_show.specs.Faults.{TextFaults}
 use Rattle.pliron_cli.specs.declared.comparing.Sights.{Sights}
 use Rattle.pliron_cli.specs.declared.outcome.Outcome.{Outcome}
 

@@ -6,7 +6,7 @@ use Rattle.pliron_laws.specs.Datum.{Meaning}
 use Rattle.pliron_diagnostics.specs.Layout.{words_of}
 use Rattle.pliron_opts.specs.Answered.{Reads, Prints, IsOptimised, status_line}
 use Rattle.pliron_cli.specs.Outcomes.{Ends}
-use Rattle.pliron_cli.specs.Reports.{TextFaults}
+use Rattle.pliron_show.specs.Faults.{TextFaults}
 use Rattle.pliron_cli.specs.declared.outcome.Outcome.{Outcome}
 
 -- it has the same words in the same order

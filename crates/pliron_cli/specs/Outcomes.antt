@@ -1,6 +1,7 @@
 -- How a command ends.
 use Rattle.std.specs.Prelude.{◌≡◌, [], string_bytes}
-use Rattle.pliron_cli.specs.Reports.{Faults, TellsRefusal}
+use Rattle.pliron_cli.specs.Reports.{TellsRefusal}
+use Rattle.pliron_show.specs.Faults.{Faults}
 use Rattle.pliron_cli.specs.declared.outcome.Outcome.{Outcome}
 
 -- memory or passes were refused, and the report says so: nothing is to be written

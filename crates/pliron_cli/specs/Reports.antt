@@ -1,21 +1,7 @@
 -- What is reported of commands that end without an answer.
 use Rattle.std.specs.Prelude.{◌≡◌, ℕ, List, ◌++◌, codes}
-use Rattle.pliron_diagnostics.specs.Messages.{BeginsWith, heading}
-
--- which reports say what is wrong; and which do so of a text
-abbrev pub Faults : Type 1
-Faults = (report : List ℕ) → Type 0
-
-abbrev pub TextFaults : Type 1
-TextFaults = (text : List ℕ) → Faults
-
--- the first line of a report
-abbrev pub error_line : (wrong : List ℕ) → List ℕ
-error_line wrong = heading (codes "error") wrong
-
--- it says of a text of `Bench` that it is unreadable; where and why is open
-abbrev pub FaultsBench : TextFaults
-FaultsBench text report = BeginsWith report (error_line (codes "unreadable text"))
+use Rattle.pliron_diagnostics.specs.Messages.{BeginsWith}
+use Rattle.pliron_show.specs.Faults.{Faults, error_line}
 
 abbrev pub FaultsGraph : Faults
 FaultsGraph report = BeginsWith report (error_line (codes "unreadable graph"))

@@ -8,13 +8,13 @@ ghost use Rattle.pliron_cli.specs.Outcomes.{Ends};
 use crate::failure::CommandFailure;
 use crate::one_by_one::{first_unfit, is_container};
 use crate::outcome::{Outcome, failure_outcome};
-use crate::shown::Shown;
 use crate::violation_message::violation_message;
 use pliron_core::{Context, Operation, Ptr};
 use pliron_diagnostics::Source;
 use pliron_fit::Violation;
 use pliron_laws::OptError;
 use pliron_opts::Notation;
+use pliron_show::Shown;
 use std::alloc::{AllocError, Global};
 
 /// What a check finds of a text.
@@ -111,10 +111,10 @@ fn fit_outcome(alloc: Global, line: &[u8]) -> Result<Outcome, AllocError>
     })
 }
 
-/// Checks whether the operation of a text is well linked and fit to run, and reports one thing that keeps it from that,
-/// with its place. Where no run begins at it, as at a `mod`, each part inside it, as a `func`, is checked instead.
+/// Checks whether the operation of a text is well linked and fit to run, and reports one violation with its place. Of
+/// an operation at which no run begins, as a `mod`, each part inside, as a `func`, is checked instead.
 ///
-/// Statuses: 0 where nothing keeps it; 1 where memory was refused; 2 for an unreadable text; 3 where something does.
+/// Statuses: 0 where there is no violation; 1 where memory was refused; 2 for an unreadable text; 3 for a violation.
 /// With all but 0 nothing is to be written to the output. Errors: allocation failure for what is reported. Cost: that
 /// of `check_text`.
 #[tactic(auto, using(crate::proofs::CommandLemmas::says_whole, crate::proofs::CommandLemmas::says_parts, crate::proofs::CommandLemmas::says_unfit))]

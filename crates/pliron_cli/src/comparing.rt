@@ -11,7 +11,6 @@ use crate::failure::CommandFailure;
 use crate::optimising::misspelling_outcome;
 use crate::outcome::{Outcome, failure_outcome, no_passes_outcome};
 use crate::refusal::refused_outcome;
-use crate::shown::Shown;
 use pliron_core::Context;
 use pliron_diagnostics::{RunOptions, Source, sight_text};
 use pliron_evaluator::evaluator::{Datum, Sight};
@@ -22,6 +21,7 @@ use pliron_instrument::{
 use pliron_laws::OptError;
 use pliron_opts::run_alone;
 use pliron_pass::{BenchFactKind, Pass};
+use pliron_show::Runnable;
 use std::alloc::{AllocError, Global};
 
 /// The options of runs before and after passes.
@@ -124,7 +124,7 @@ fn likeness_of(sights: &Sights) -> Likeness
 /// Asks that the context is empty. Errors: those of the passes; allocation failure. Cost: reading, two runs, and the
 /// passes.
 #[tactic(auto, using(crate::proofs::CommandLemmas::are_seen))]
-pub fn compare_text<N: Shown>(
+pub fn compare_text<N: Runnable>(
     alloc: Global,
     text: &[u8],
     options: &RunOptions,
@@ -209,7 +209,7 @@ fn outcome_of(alloc: Global, sights: &Sights) -> Result<Outcome, AllocError>
 
 // Compares runs before and after the passes of the pipeline, which are the plan's.
 #[tactic(auto, using(crate::proofs::CommandLemmas::are_compared, crate::proofs::CommandLemmas::refused_so))]
-fn compare_in<N: Shown>(
+fn compare_in<N: Runnable>(
     alloc: Global,
     source: &Source,
     options: &RunOptions,
@@ -232,7 +232,7 @@ fn compare_in<N: Shown>(
 }
 
 // The same in a context of its own.
-fn compare_with<N: Shown>(
+fn compare_with<N: Runnable>(
     alloc: Global,
     source: &Source,
     options: &RunOptions,
@@ -251,7 +251,7 @@ fn compare_with<N: Shown>(
 
 // Compares runs before and after the passes that the plan asks for.
 #[tactic(auto, using(crate::proofs::CommandLemmas::is_planned, crate::proofs::CommandLemmas::no_passes))]
-fn compare_by<N: Shown>(
+fn compare_by<N: Runnable>(
     alloc: Global,
     source: &Source,
     options: &RunOptions,
@@ -279,7 +279,7 @@ fn compare_by<N: Shown>(
 /// With 1 and 2 nothing is to be written to the output. Errors: allocation failure for what is reported. Cost: reading,
 /// two runs by `evaluate_noting`, and the passes.
 #[tactic(auto, using(crate::proofs::CommandLemmas::is_asked, crate::proofs::CommandLemmas::no_plan, crate::proofs::CommandLemmas::no_text))]
-pub fn compare<N: Shown>(
+pub fn compare<N: Runnable>(
     alloc: Global,
     source: &Source,
     options: &CompareOptions,

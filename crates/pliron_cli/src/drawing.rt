@@ -1,7 +1,8 @@
 //! The commands that draw.
 ghost use Rattle.std.specs.Prelude.{◌⊎◌, ⊤, IfOk};
 ghost use Rattle.pliron_cli.specs.Outcomes.{Ends};
-ghost use Rattle.pliron_cli.specs.Reports.{FaultsBench, FaultsGraph, FaultsRegion};
+ghost use Rattle.pliron_cli.specs.Reports.{FaultsGraph, FaultsRegion};
+ghost use Rattle.pliron_show.specs.Faults.{faults_as_unreadable};
 ghost use Rattle.pliron_graphviz.specs.Drawn.{IsFlowText};
 
 use crate::ending::{graph_outcome, region_outcome, success_outcome};
@@ -9,35 +10,29 @@ use crate::outcome::failure_outcome;
 use crate::{CommandFailure, Outcome, Source};
 use pliron_graphviz::{Drawing, FlowOptions, text_flow, text_graph};
 use pliron_opts::BenchNotation;
+use pliron_show::Shown;
 use std::alloc::{AllocError, Global};
 
-/// Draws the control flow of a region of the text's operation in the dot language: its blocks with their operations,
-/// its edges with the values that they forward, what the entry doesn't reach in grey, and, where asked for, a dotted
-/// edge from the immediate dominator of each block.
+/// Draws the control flow of a region of the text's operation in the dot language: blocks with their operations, edges
+/// with forwarded values, unreached blocks in grey, and, where asked for, a dotted edge from each immediate dominator.
 ///
 /// Statuses: 0; 1 on allocation failure; 2 for an unreadable text, and where no region has the path. With 1 and 2
 /// nothing is to be written to the output. Errors: allocation failure for what is reported. Cost: reading, and that of
 /// `graph_rows`.
 #[tactic(auto, using(crate::proofs::EndingLemmas::text_fails, crate::proofs::EndingLemmas::other_fails))]
-pub fn draw_flow(
+pub fn draw_flow<N: Shown>(
     alloc: Global,
     source: &Source,
     options: &FlowOptions,
 ) -> Result<Outcome, AllocError>
-    ensures { IfOk result (Ends (λ report. FaultsBench source.now.text.now report
-        ⊎ FaultsRegion options.now.region.now report) IsFlowText ⊥) }
+    ensures { IfOk result (Ends (λ report. N.faults source.now.text.now report
+        ⊎ FaultsRegion options.now.region.now report) (IsFlowText N.reads source.now.text.now) ⊥) }
 {
-    match text_flow(alloc, source.text, options) {
+    match text_flow::<N>(alloc, source.text, options) {
         Ok(Drawing::Drawn(picture)) => Ok(success_outcome(alloc, picture)),
-        Ok(Drawing::Unreadable) => {
-            failure_outcome::<BenchNotation>(alloc, CommandFailure::Text, source)
-        }
+        Ok(Drawing::Unreadable) => { failure_outcome::<N>(alloc, CommandFailure::Text, source) }
         Ok(Drawing::NoRegion) => region_outcome(alloc, options.region),
-        Err(error) => failure_outcome::<BenchNotation>(
-            alloc,
-            CommandFailure::Refused(error),
-            source,
-        ),
+        Err(error) => failure_outcome::<N>(alloc, CommandFailure::Refused(error), source),
     }
 }
 
@@ -50,7 +45,7 @@ pub fn draw_flow(
 /// component.
 #[tactic(auto, using(crate::proofs::EndingLemmas::text_fails, crate::proofs::EndingLemmas::other_fails))]
 pub fn draw_graph(alloc: Global, source: &Source) -> Result<Outcome, AllocError>
-    ensures { IfOk result (Ends (λ report. FaultsBench source.now.text.now report ⊎ FaultsGraph report) ⊤ ⊥) }
+    ensures { IfOk result (Ends (λ report. faults_as_unreadable source.now.text.now report ⊎ FaultsGraph report) ⊤ ⊥) }
 {
     match text_graph(alloc, source.text) {
         Ok(Some(picture)) => Ok(success_outcome(alloc, picture)),

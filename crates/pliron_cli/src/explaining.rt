@@ -1,7 +1,7 @@
 //! The command that explains what passes did.
 ghost use Rattle.std.specs.Prelude.{◌≡◌, ◌⊎◌, ⊤, length, IfOk, IfSome};
 ghost use Rattle.pliron_cli.specs.Outcomes.{Ends};
-ghost use Rattle.pliron_cli.specs.Reports.{FaultsBench, FaultsWord};
+ghost use Rattle.pliron_cli.specs.Reports.{FaultsWord};
 
 use crate::ending::success_outcome;
 use crate::outcome::{failure_outcome, no_passes_outcome};
@@ -10,8 +10,8 @@ use crate::{CommandFailure, Outcome, Source, misspelling_outcome};
 use pliron_graphviz::{PassList, explain_changes};
 use pliron_instrument::{PipelineText, PlanError};
 use pliron_laws::OptError;
-use pliron_opts::BenchNotation;
 use pliron_pipeline::PassName;
+use pliron_show::Shown;
 use std::alloc::{AllocError, Global};
 
 // The outcome for these lines.
@@ -63,21 +63,21 @@ fn list_of(
 
 // Explains what the passes that the plan asks for did.
 #[tactic(auto, using(crate::proofs::EndingLemmas::text_fails, crate::proofs::EndingLemmas::other_fails, crate::proofs::CommandLemmas::refused_so))]
-fn explain_by(
+fn explain_by<N: Shown>(
     alloc: Global,
     source: &Source,
     plan: &PipelineText,
     reports_missed: bool,
 ) -> Result<Outcome, AllocError>
-    ensures { IfOk result (Ends (λ report. FaultsBench source.now.text.now report ⊎ FaultsWord report) ⊤ ⊥) }
+    ensures { IfOk result (Ends (λ report. N.faults source.now.text.now report ⊎ FaultsWord report) ⊤ ⊥) }
 {
     let Some(list) = list_of(alloc, plan, reports_missed)? else {
         return no_passes_outcome(alloc);
     };
-    match explain_changes(alloc, source.text, &list) {
+    match explain_changes::<N>(alloc, source.text, &list) {
         Ok(Some(lines)) => explanation_outcome(alloc, lines),
-        Ok(None) => failure_outcome::<BenchNotation>(alloc, CommandFailure::Text, source),
-        Err(error) => refused_outcome::<BenchNotation>(alloc, source, error, plan),
+        Ok(None) => failure_outcome::<N>(alloc, CommandFailure::Text, source),
+        Err(error) => refused_outcome::<N>(alloc, source, error, plan),
     }
 }
 
@@ -90,25 +90,25 @@ pub struct ExplainOptions<'w> {
     pub missed: bool,
 }
 
-/// Explains what changed in a text: for each operation and argument that changed or was erased when the passes that the
-/// word asks for were run, where it is, and why; where the options ask for it, also for each operation that the passes
-/// left as it is though they change operations of its kind.
+/// Explains what the passes that the word asks for changed in a text: place and reason of each operation and argument
+/// that changed or was erased; where the options ask for missed operations, also of each that the passes left alone
+/// though they change operations of its kind.
 ///
 /// Statuses: 0; 1 where memory or the passes were refused; 2 for an unreadable text, or a word that asks for no passes.
 /// With 1 and 2 nothing is to be written to the output. Errors: allocation failure for what is reported. Cost: that of
 /// `explain_changes`.
 #[tactic(auto, using(crate::proofs::EndingLemmas::text_fails, crate::proofs::EndingLemmas::other_fails))]
-pub fn explain(
+pub fn explain<N: Shown>(
     alloc: Global,
     source: &Source,
     options: &ExplainOptions,
 ) -> Result<Outcome, AllocError>
-    ensures { IfOk result (Ends (λ report. FaultsBench source.now.text.now report ⊎ FaultsWord report) ⊤ ⊥) }
+    ensures { IfOk result (Ends (λ report. N.faults source.now.text.now report ⊎ FaultsWord report) ⊤ ⊥) }
 {
     match PipelineText::read(alloc, options.pipeline) {
-        Ok(plan) => explain_by(alloc, source, &plan, options.missed),
+        Ok(plan) => explain_by::<N>(alloc, source, &plan, options.missed),
         Err(PlanError::Word(fault)) => misspelling_outcome(alloc, options.pipeline, &fault),
-        Err(PlanError::Memory) => failure_outcome::<BenchNotation>(
+        Err(PlanError::Memory) => failure_outcome::<N>(
             alloc,
             CommandFailure::Refused(OptError::Memory),
             source,

@@ -18,7 +18,6 @@ mod outcome;
 mod refusal;
 mod report;
 mod running;
-mod shown;
 mod statistics;
 mod strict;
 mod table;
@@ -38,6 +37,6 @@ pub use pliron_diagnostics::{
 pub use pliron_graphviz::FlowOptions;
 pub use pliron_instrument::{InstrumentationOptions, PipelineText, PlanError, Progress};
 pub use pliron_opts::BenchNotation;
+pub use pliron_show::{Runnable, Shown};
 pub use running::{run, run_streamed};
-pub use shown::Shown;
-pub use strict::opt_with_check;
+pub use strict::{opt_with_check, unfit_warning};

@@ -62,7 +62,8 @@ fn part_violation<D: Dialect>(
     }
 }
 
-// The first part inside the operation, in the order of the text, that isn't fit to run, with what keeps it from that. Errors: allocation failure.
+// The first part inside the operation, in the order of the text, that isn't fit to run, with what keeps it from that.
+// Errors: allocation failure.
 #[tactic(auto, using(crate::proofs::PartLemmas::search_begins, crate::proofs::PartLemmas::search_live, crate::proofs::PartLemmas::search_continues, crate::proofs::PartLemmas::search_found, crate::proofs::PartLemmas::search_ends))]
 fn first_unfit_part<D: Dialect>(
     alloc: Global,
@@ -84,8 +85,8 @@ fn first_unfit_part<D: Dialect>(
     Ok(None)
 }
 
-/// What keeps the operation, or, for a container, the first unfit part inside it, from being fit to run, with the
-/// operation that it keeps from that; `None` exactly if it is fit by its parts. Asks that it is live. Errors:
+/// The operation that isn't fit to run and why: the given one, or, for a container, the first unfit part inside; `None`
+/// exactly if the operation is fit by its parts. Asks that it is live. Errors:
 /// allocation failure. Cost: linear in what is inside, and that of `find_violation` for each part.
 #[tactic(auto, using(crate::proofs::PartLemmas::fit_whole, crate::proofs::PartLemmas::fit_parts, crate::proofs::PartLemmas::reported_itself, crate::proofs::PartLemmas::reported_inside))]
 pub(crate) fn first_unfit<D: Dialect>(

@@ -12,7 +12,6 @@ use crate::outcome::{
 };
 use crate::refusal::refused_outcome;
 use crate::report::{ReportOptions, refused_note, report_of};
-use crate::shown::Shown;
 use pliron_diagnostics::{Source, SourceMark, mark_source, pretty};
 use pliron_instrument::{
     InstrumentationOptions, Instrumented, InstrumentedPipeline, PipelineText, PlanError, Progress,
@@ -21,6 +20,7 @@ use pliron_instrument::{
 use pliron_laws::OptError;
 use pliron_opts::{TextFailure, Unobserved, optimise, passes_of};
 use pliron_pass::{BenchFactKind, Pass};
+use pliron_show::Shown;
 use std::alloc::{AllocError, Global};
 
 /// The options of passes.

@@ -4,9 +4,9 @@ ghost use Rattle.pliron_cli.specs.Outcomes.{EndsBadly, IsRefused};
 ghost use Rattle.pliron_cli.specs.Reports.{FaultsWord, TellsRefusal};
 
 use crate::failure::CommandFailure;
-use crate::shown::Shown;
 use pliron_diagnostics::Source;
 use pliron_laws::OptError;
+use pliron_show::Shown;
 use std::alloc::{AllocError, Global};
 
 /// What a command leaves to be written, and its status.
@@ -50,7 +50,7 @@ pub(crate) fn refusing_outcome(alloc: Global, report: String) -> Outcome
     no_answer(alloc, report, 1)
 }
 
-// What is reported where something was refused for this reason, which ends its line. Errors: allocation failure.
+// The report of a refusal, a line that ends with this reason. Errors: allocation failure.
 fn refusal_report(alloc: Global, reason: &str) -> Result<String, AllocError>
     ensures { IfOk result (λ report. TellsRefusal (string_bytes report)) }
 {

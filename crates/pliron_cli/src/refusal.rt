@@ -7,13 +7,13 @@ ghost use Rattle.pliron_cli.specs.Reports.{TellsRefusal};
 use crate::live_use::find_live_use;
 use crate::outcome::{Outcome, refused_by, refusing_outcome};
 use crate::report::refused_note;
-use crate::shown::Shown;
 use crate::violation_message::live_use_message;
 use pliron_core::Context;
 use pliron_diagnostics::Source;
 use pliron_instrument::{InstrumentationOptions, PipelineText, Timeless, instrumented_pipeline};
 use pliron_laws::OptError;
 use pliron_opts::{passes_of, run_alone};
+use pliron_show::Shown;
 use std::alloc::{AllocError, Global};
 
 // What is reported of the plan's passes on the text, in this empty context.

@@ -11,13 +11,13 @@ use crate::failure::CommandFailure;
 use crate::one_by_one::first_unfit;
 use crate::optimising::{OptOptions, opt, opt_after};
 use crate::outcome::{Outcome, failure_outcome};
-use crate::shown::Shown;
 use crate::violation_message::violation_message;
 use pliron_core::Context;
 use pliron_diagnostics::Source;
 use pliron_instrument::{Instrumented, InstrumentedPipeline, Progress};
 use pliron_laws::OptError;
 use pliron_pass::{BenchFactKind, Pass};
+use pliron_show::Shown;
 use std::alloc::{AllocError, Global};
 
 // The severity of a text that isn't fit to run; where each run is verified, it says that this was so before the first
@@ -30,8 +30,20 @@ fn severity_of(verifies: bool) -> &'static str {
     }
 }
 
-// A warning of what keeps the text's operation from being fit to run, or, for a `mod`, one of its functions; empty
-// where nothing does, and for an unreadable text. Asks that the context is empty. Errors: allocation failure.
+/// A warning of what keeps the text's operation from being fit to run, or, for a `mod`, one of its functions; empty where
+/// nothing does, and for an unreadable text. With `verifies` it says that this was so in the input already.
+///
+/// Errors: allocation failure. Cost: that of `check`.
+pub fn unfit_warning<N: Shown>(
+    alloc: Global,
+    source: &Source,
+    verifies: bool,
+) -> Result<String, OptError> {
+    let mut ctx = Context::new(alloc);
+    warning_in::<N>(alloc, source, verifies, &mut ctx)
+}
+
+// The same, where the context is empty.
 fn warning_in<N: Shown>(
     alloc: Global,
     source: &Source,
@@ -49,12 +61,6 @@ fn warning_in<N: Shown>(
         }
         None => Ok(String::new(alloc)),
     }
-}
-
-// The same in a context of its own.
-fn warning<N: Shown>(alloc: Global, source: &Source, verifies: bool) -> Result<String, OptError> {
-    let mut ctx = Context::new(alloc);
-    warning_in::<N>(alloc, source, verifies, &mut ctx)
 }
 
 // Runs the passes where the text's operation is fit to run.
@@ -111,7 +117,7 @@ pub fn opt_with_check<N: Shown, C: Progress + Copy + Drop>(
     if is_strict {
         return opt_if_fit::<N, C>(alloc, source, options, clock);
     }
-    match warning::<N>(alloc, source, options.instrumentation.verifies) {
+    match unfit_warning::<N>(alloc, source, options.instrumentation.verifies) {
         Ok(report) => opt_after::<N, C>(alloc, source, options, clock, report),
         Err(error) => failure_outcome::<N>(alloc, CommandFailure::Refused(error), source),
     }

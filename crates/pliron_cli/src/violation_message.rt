@@ -5,11 +5,11 @@ ghost use Rattle.pliron_diagnostics.specs.Messages.{BeginsWith, heading};
 ghost use Rattle.pliron_cli.specs.Reports.{TellsRefusal};
 
 use crate::live_use::LiveUse;
-use crate::shown::Shown;
 use pliron_core::{BasicBlock, Context, Def, Operation, Ptr, Region, Value};
 use pliron_diagnostics::{Source, SourceMark, TextPart, TextParts, mark_source_as};
 use pliron_fit::Violation;
 use pliron_laws::{Dialect, OptError};
+use pliron_show::Shown;
 use std::alloc::{AllocError, Global};
 
 /// Another place in the text, and what is said of it.
@@ -104,6 +104,18 @@ static INVISIBLE: PlainWords = PlainWords {
     help: "a value is visible in its own region and inside that: define it before the operation that holds it",
 };
 
+/// What is said of an operand that is a result of the same operation.
+static OWN_RESULT: PlainWords = PlainWords {
+    message: "an operand isn't defined on each way to this operation",
+    label: "is a result of this very operation",
+    help: "an operation can't take what it gives: pass the value along an edge, as an argument of a block",
+};
+
+// Whether the value is a result of the operation.
+fn is_result_of(ctx: &Context, op: Ptr<Operation>, value: Value) -> bool {
+    value.is_live(ctx) && matches!(value.def(ctx), Def::Result(maker, _) if maker == op)
+}
+
 // What is said of a use for which passes are refused.
 fn unreached_words() -> PlainWords
     ensures { result.message.now ≡ codes "refused: a value of an unreachable block is used" }
@@ -177,6 +189,20 @@ fn operand_at(ctx: &Context, op: Ptr<Operation>, index: usize) -> Option<Value> 
         Some(op.get_operand(ctx, index))
     } else {
         None
+    }
+}
+
+// What is said of an operand whose definition doesn't dominate the operation.
+fn undominated_words(
+    ctx: &Context,
+    op: Ptr<Operation>,
+    index: usize,
+    plain: PlainWords,
+) -> PlainWords {
+    match operand_at(ctx, op, index) {
+        Some(value) if is_result_of(ctx, op, value) => OWN_RESULT,
+        Some(value) if !is_visible(ctx, op, value) => INVISIBLE,
+        _ => plain,
     }
 }
 
@@ -319,12 +345,7 @@ impl ViolationText<'_> {
         let plain = plain_words(violation);
         Ok(match violation {
             Violation::NotDominated(op, index) => {
-                let is_seen = match operand_at(ctx, *op, *index) {
-                    Some(value) => is_visible(ctx, *op, value),
-                    None => true,
-                };
-                let plain = if is_seen { plain } else { INVISIBLE };
-                self.operand_words(ctx, *op, *index, plain)?
+                self.operand_words(ctx, *op, *index, undominated_words(ctx, *op, *index, plain))?
             }
             Violation::ForeignValue(op, index) | Violation::UsedOutside(op, index) => {
                 self.operand_words(ctx, *op, *index, plain)?

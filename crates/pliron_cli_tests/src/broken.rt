@@ -46,7 +46,7 @@ static BROKEN: &str = "\
 |  fun {|b0():|  ret|} => 2:3 expected `mod` or `func`; is `func` meant?
 function {|b0():|  ret|} => 1:1 expected `mod` or `func`; is `func` meant?
 ret => 1:1 expected `mod` or `func`
-func {|b0():|  ret => 3:6 expected the name of a value, `;` or `}`
+func {|b0():|  ret => 3:6 expected the name of a value, `;` or `}`; the `{` at 1:6 isn't closed
 func {|b0(|  ret|} => 3:3 expected the name of a value or `)`; `ret` is reserved for a kind of operations
 func {|b0(x|  ret|} => 3:3 expected `,` or `)`
 func {|b0(x, 1):|  ret|} => 2:7 expected the name of a value
@@ -74,8 +74,9 @@ func {|b0(x):|  y = add x;|  ret y|} => 3:12 expected the name of a value
 func {|b0(x):|  y = add x x x;|  ret y|} => 3:15 expected `;` or `}`
 func {|b0(x):|  y = add x ret;|  ret y|} => 3:13 expected the name of a value; `ret` is reserved for a kind of operations
 func {|b0(x):|  y = add x z;|  ret y|} => 3:13 expected the name of a value that its `func` defines
-func {|b0(x):|  x = const 1;|  ret x|} => 3:3 expected a value's name that its `func` doesn't define before
-func {|b0(x, x):|  ret x|} => 2:7 expected a value's name that its `func` doesn't define before
+func {|b0(x):|  x = const 1;|  ret x|} => 3:3 expected a value's name that its `func` doesn't define before; it is defined at 2:4
+mod {|b0():|  func { b0(x): ret x };|b1():|  func { b0(): ret x; b1(y): x, z = pair; z = const 1; ret x }|} => 5:43 expected a value's name that its `func` doesn't define before; it is defined at 5:33
+func {|b0(x, x):|  ret x|} => 2:7 expected a value's name that its `func` doesn't define before; it is defined at 2:4
 func {|b0():|  add = const 1;|  ret|} => 3:3 expected the name of a value; `add` is reserved for a kind of operations
 func {|b0():|  br b1()|} => 3:6 expected the name of a block that its region defines
 func {|b0():|  br b0|} => 4:1 expected `(`
@@ -110,7 +111,10 @@ func {|b0():|  x = const 1; # one|  ret x|} => 3:16 expected a word, a number or
 func {|b0():|  _x = const 1;|  ret|} => 3:3 expected a word, a number or one of `{ } ( ) , : ; =`; `_` begins nothing: a name begins with a letter
 func {|b0():|  x = const 1 + 1;|  ret|} => 3:15 expected a word, a number or one of `{ } ( ) , : ; =`; `+` begins nothing
 func {|b0():|\tx = const 1 const 2;|  ret x|} => 3:14 expected `;` or `}`
-func {|b0(x):|  ret x| => 4:1 expected the name of a value, `;` or `}`";
+func {|b0(x):|  ret x| => 4:1 expected the name of a value, `;` or `}`; the `{` at 1:6 isn't closed
+func {|b0():|  x = CONST 1;|  ret x|} => 3:7 expected a kind of operations with results: `const`, `add`, `mul`, `div`, `read` or `pair`; is `const` meant?
+func {|b0():|  scope {|  b0():|    ret|  };|  ret => 7:6 expected the name of a value, `;` or `}`; the `{` at 1:6 isn't closed
+func {|b0():|  scope {|  b0():|    ret => 5:8 expected the name of a value, `;` or `}`; the `{` at 3:9 isn't closed";
 
 #[test]
 fn broken_texts(rt: HostRuntime) {

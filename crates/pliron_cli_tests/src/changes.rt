@@ -79,7 +79,7 @@ fn staged(
     options: &StageOptions,
 ) -> Option<StageReport> {
     let plan = PipelineText::read(alloc, list).expect(rt, "a plan");
-    run_stages(alloc, text.as_bytes(), &plan, options).expect(rt, "memory")
+    run_stages::<BenchNotation>(alloc, text.as_bytes(), &plan, options).expect(rt, "memory")
 }
 
 /// Lists, texts, and what they become with names that stay.

@@ -1,5 +1,5 @@
 //! The control flow of texts as pictures, worked by hand.
-use pliron_cli::{FlowOptions, Outcome, Source, draw_flow};
+use pliron_cli::{BenchNotation, FlowOptions, Outcome, Source, draw_flow};
 use std::alloc::Global;
 use std::process::Abort;
 
@@ -29,7 +29,7 @@ fn draw_region(rt: &impl Abort, alloc: Global, region: &str, text: &str) -> Outc
         nested: region.starts_with('+'),
         title: if region.starts_with('-') { "T" } else { "" },
     };
-    draw_flow(alloc, &source, &options).expect(rt, "memory")
+    draw_flow::<BenchNotation>(alloc, &source, &options).expect(rt, "memory")
 }
 
 // The picture: its head, and its lines in order, each behind a bar, where `'` stands for a quote and `/` for a

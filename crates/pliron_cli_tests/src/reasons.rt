@@ -1,5 +1,5 @@
 //! Why passes changed what, worked by hand.
-use pliron_cli::{ExplainOptions, Outcome, Source, explain};
+use pliron_cli::{BenchNotation, ExplainOptions, Outcome, Source, explain};
 use std::alloc::Global;
 use std::process::Abort;
 
@@ -40,7 +40,7 @@ fn explained(
     missed: bool,
 ) -> Outcome {
     let options = ExplainOptions { pipeline, missed };
-    explain(alloc, source, &options).expect(rt, "memory")
+    explain::<BenchNotation>(alloc, source, &options).expect(rt, "memory")
 }
 
 #[test]

@@ -1,7 +1,7 @@
 //! Reports on texts, in the form that people read or in one that editors and programs read.
 //!
 //! A report writes each message in the form of `mark_source`: a line with `error:`, `warning:` or `note:` and what is
-//! wrong, one with `-->` and its place, its line with a mark and a label under it, and lines with `help:`.
+//! wrong; a line with `-->` and the place; the text's line with a mark and a label below; lines with `help:`.
 ghost use Rattle.std.specs.Prelude.{◌≡◌, IfOk, string_bytes};
 ghost use Rattle.pliron_diagnostics.specs.declared.message_form.MessageForm.TheVariants.{Full};
 

@@ -18,8 +18,8 @@ fn on_first_line(text: &[u8], part: TextPart) -> TextPart {
     TextPart { len, ..part }
 }
 
-/// The source range of each operation up to its first region, as far as it is on its first line, in parse order, which
-/// is the order in which `read_text` makes them.
+/// The source range of each operation up to its first region, cut at the end of its first line. Operations come in
+/// parse order, as `read_text` makes them.
 ///
 /// Errors: allocation failure. Cost: linear in the text.
 pub fn operation_places(alloc: Global, text: &[u8]) -> Result<Vec<TextPart>, AllocError> {

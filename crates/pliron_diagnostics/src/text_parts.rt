@@ -29,9 +29,8 @@ pub struct ValueName {
     pub block: Option<usize>,
 }
 
-/// The parts of a text. It is one that the notation has, and each kind of part is in the order in which it is written,
-/// which is the order in which `read_text` makes what the parts name: so the number of each is the handle of what it
-/// names in the tree that was read.
+/// The parts of a readable text, each kind in the order of the text. `read_text` makes operations, blocks and values in
+/// that order, so the number of a part is the handle of what the part names.
 #[derive(Drop)]
 pub struct TextParts {
     /// The operations, up to their regions.

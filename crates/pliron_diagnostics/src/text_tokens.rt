@@ -72,6 +72,21 @@ pub(crate) fn first_token(text: &[u8], at: usize) -> Option<Span> {
     token_from(text, start)
 }
 
+// The last brace before here that is open still. Cost: linear in the text before it.
+pub(crate) fn open_brace(text: &[u8], end: usize) -> Option<usize> {
+    let before = text.get(..end)?;
+    let mut closed: usize = 0;
+    before.iter().rposition(|byte| {
+        let is_open = *byte == b'{' && closed == 0;
+        match *byte {
+            b'}' => closed = closed.saturating_add(1),
+            b'{' => closed = closed.saturating_sub(1),
+            _ => {}
+        }
+        is_open
+    })
+}
+
 // Whether the head of a block begins with this word: a colon follows its brackets. Cost: linear in the head.
 pub(crate) fn is_head(text: &[u8], span: Span) -> bool {
     let rest = text
@@ -84,4 +99,69 @@ pub(crate) fn is_head(text: &[u8], span: Span) -> bool {
         Some(next) => bytes_of(rest, next) == b":".as_slice(),
         None => false,
     }
+}
+
+// Whether the word is the name of a result: an equals sign follows it, or one more name and such a sign.
+fn is_result(text: &[u8], word: Span) -> bool {
+    let Some(next) = token_behind(text, word) else {
+        return false;
+    };
+    match bytes_of(text, next) {
+        b"=" => true,
+        b"," => token_behind(text, next).is_some_and(|second| is_followed_by(text, second, b"=")),
+        _ => false,
+    }
+}
+
+/// A walk over the words of a text, for the place where a value of this name is defined.
+#[derive(Clone, Copy)]
+struct DefinitionWalk<'t> {
+    text: &'t [u8],
+    name: &'t [u8],
+    /// The word before.
+    before: Option<Span>,
+    /// Whether the words are arguments in the head of a block.
+    is_in_head: bool,
+    /// The definition in the `func` that begins last.
+    found: Option<Span>,
+}
+
+impl DefinitionWalk<'_> {
+    // Goes over the next word.
+    fn take(&mut self, token: Span) {
+        match bytes_of(self.text, token) {
+            b"func" => self.found = None,
+            b"(" => self.is_in_head = self.before.is_some_and(|word| is_head(self.text, word)),
+            b")" => self.is_in_head = false,
+            word if word == self.name && self.found.is_none() => {
+                if self.is_in_head || is_result(self.text, token) {
+                    self.found = Some(token);
+                }
+            }
+            _ => {}
+        }
+        self.before = Some(token);
+    }
+}
+
+// Where the value that this word names is defined before it, in the same `func`, if it is. Cost: linear in the text
+// before it.
+pub(crate) fn definition_before(text: &[u8], word: Span) -> Option<Span> {
+    let mut walk = DefinitionWalk {
+        text,
+        name: bytes_of(text, word),
+        before: None,
+        is_in_head: false,
+        found: None,
+    };
+    let mut at = 0;
+    for _ in 0..text.len() {
+        let token = token_from(text, at)?;
+        if token.start >= word.start {
+            return walk.found;
+        }
+        walk.take(token);
+        at = token.start.saturating_add(token.len);
+    }
+    walk.found
 }

@@ -59,8 +59,8 @@ fn earlier_moves(moves: &[NotedMove]) -> &[NotedMove] {
     moves.get(..moves.len().saturating_sub(1)).unwrap_or(moves)
 }
 
-// Whether one of the moves before the last one was made by the operation that defines the value, or, for an argument,
-// one of all moves by an operation of its block.
+// Whether the value was defined: its operation moved before the last move, or, for an argument, an operation of its
+// block moved.
 fn is_defined_by(ctx: &Context, moves: &[NotedMove], value: Value) -> bool {
     if !value.is_live(ctx) {
         return false;

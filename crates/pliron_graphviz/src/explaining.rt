@@ -3,25 +3,24 @@ ghost use Rattle.std.specs.Prelude.{◌≡◌};
 ghost use Rattle.pliron_core.specs.Tree.{IsLive};
 ghost use Rattle.pliron_core.specs.Writes.{no_tree};
 ghost use Rattle.pliron_laws.specs.Linked.{IsWellLinked};
-ghost use Rattle.pliron_bench.specs.BenchMoves.{bench};
 
 use crate::missed::{MissedText, push_missed};
 use crate::pass_list::PassList;
 use crate::reasons::{Reasons, Rewrite};
 use crate::tree_state::{TreeState, tree_state};
-use pliron_bench::Bench;
 use pliron_canonicalize::canonicalize;
 use pliron_cfg::{fold_branches, merge_inside_op, remove_blocks_inside_op};
 use pliron_core::{Context, IRRewriter, IRStatus, Operation, Ptr};
 use pliron_cse::cse;
 use pliron_dce::dce;
-use pliron_diagnostics::{TextParts, parts_of};
-use pliron_laws::{OptError, is_well_linked};
-use pliron_notation::read_text;
+use pliron_diagnostics::TextParts;
+use pliron_laws::{Dialect, OptError, is_well_linked};
 use pliron_pipeline::PassName;
 use pliron_sccp::sccp;
+use pliron_show::Shown;
 use pliron_walks::Children;
 use std::alloc::{AllocError, Global};
+use std::marker::PhantomData;
 
 // The rewrites of a pass, in turn.
 fn rewrites_of(pass: PassName) -> &'static [Rewrite] {
@@ -46,33 +45,34 @@ fn name_of(pass: PassName) -> &'static str {
 }
 
 // Makes one rewrite of a pass, by the call that the pass makes. Errors: those of that call.
-fn make_rewrite(
+fn make_rewrite<D: Dialect>(
     alloc: Global,
     rewrite: Rewrite,
     op: Ptr<Operation>,
     ctx: &mut Context,
 ) -> Result<IRStatus, OptError>
     requires live { IsLive ctx.old.tree op }
-    requires linked { IsWellLinked bench ctx.old.tree op }
+    requires linked { IsWellLinked D.meaning ctx.old.tree op }
 {
     let mut rewriter = IRRewriter::new();
     match rewrite {
-        Rewrite::Constants => sccp::<Bench>(alloc, op, ctx),
-        Rewrite::DeadCode => dce::<Bench>(alloc, op, ctx),
-        Rewrite::Branches => fold_branches::<Bench, IRRewriter>(alloc, op, ctx, &mut rewriter),
+        Rewrite::Constants => sccp::<D>(alloc, op, ctx),
+        Rewrite::DeadCode => dce::<D>(alloc, op, ctx),
+        Rewrite::Branches => fold_branches::<D, IRRewriter>(alloc, op, ctx, &mut rewriter),
         Rewrite::Unreachable => {
-            remove_blocks_inside_op::<Bench, IRRewriter>(alloc, op, ctx, &mut rewriter)
+            remove_blocks_inside_op::<D, IRRewriter>(alloc, op, ctx, &mut rewriter)
         }
-        Rewrite::Joining => merge_inside_op::<Bench, IRRewriter>(alloc, op, ctx, &mut rewriter),
-        Rewrite::Subexpressions => cse::<Bench>(alloc, op, ctx),
-        Rewrite::Canonicalization => canonicalize::<Bench>(alloc, op, ctx),
+        Rewrite::Joining => merge_inside_op::<D, IRRewriter>(alloc, op, ctx, &mut rewriter),
+        Rewrite::Subexpressions => cse::<D>(alloc, op, ctx),
+        Rewrite::Canonicalization => canonicalize::<D>(alloc, op, ctx),
     }
 }
 
 /// A text that is explained.
 #[derive(Drop)]
-struct Explaining<'e> {
+struct Explaining<'e, N> {
     alloc: Global,
+    of: PhantomData<N>,
     text: &'e [u8],
     words: &'e TextParts,
     /// Whether the list may be run more than once.
@@ -82,9 +82,9 @@ struct Explaining<'e> {
     lines: String,
 }
 
-impl Explaining<'_> {
+impl<N: Shown> Explaining<'_, N> {
     // Writes a line for each reason.
-    fn push_reasons(&mut self, pass: PassName, reasons: &Reasons) -> Result<(), AllocError> {
+    fn push_reasons(&mut self, pass: PassName, reasons: &Reasons<N>) -> Result<(), AllocError> {
         for reason in &reasons.reasons {
             let name = name_of(pass);
             write!(
@@ -108,11 +108,11 @@ impl Explaining<'_> {
         op: Ptr<Operation>,
         ctx: &mut Context,
     ) -> Result<IRStatus, OptError> {
-        if !op.is_live(ctx) || !is_well_linked::<Bench>(op, ctx) {
+        if !op.is_live(ctx) || !is_well_linked::<N::D>(op, ctx) {
             return Ok(IRStatus::Unchanged);
         }
         let before = tree_state(self.alloc, op, ctx)?;
-        let status = make_rewrite(self.alloc, rewrite, op, ctx)?;
+        let status = make_rewrite::<N::D>(self.alloc, rewrite, op, ctx)?;
         if status == IRStatus::Changed {
             self.accept(pass, rewrite, &before, ctx)?;
         }
@@ -127,7 +127,7 @@ impl Explaining<'_> {
         before: &TreeState,
         ctx: &Context,
     ) -> Result<(), AllocError> {
-        let mut reasons = Reasons::new(self.alloc, self.text, self.words, rewrite);
+        let mut reasons = Reasons::<N>::new(self.alloc, self.text, self.words, rewrite);
         reasons.compare(ctx, before)?;
         self.push_reasons(pass, &reasons)
     }
@@ -162,8 +162,8 @@ impl Explaining<'_> {
         Ok(status)
     }
 
-    // Runs the list on these operations as often as it says, and reports what changed, and whether the last run that it
-    // may make still changed something.
+    // Runs the list on these operations as often as it says. Reports what changed, and whether the last run allowed
+    // still changed something.
     fn list(
         &mut self,
         list: &PassList,
@@ -188,7 +188,7 @@ impl Explaining<'_> {
     }
 }
 
-// The operations that a list is run on: the operation itself, or those directly inside it, which stay where they are.
+// The operations that a list is run on: the operation itself, or the operations directly inside it.
 fn subjects(
     alloc: Global,
     list: &PassList,
@@ -209,7 +209,7 @@ fn subjects(
 }
 
 // What the list did to the text, in this empty context; `None` for an unreadable text.
-fn explain_in(
+fn explain_in<N: Shown>(
     alloc: Global,
     text: &[u8],
     list: &PassList,
@@ -217,13 +217,14 @@ fn explain_in(
 ) -> Result<Option<String>, OptError>
     requires { ctx.old.tree ≡ no_tree }
 {
-    let Some(root) = read_text(alloc, text, ctx)? else {
+    let Some(root) = N::read(alloc, text, ctx)? else {
         return Ok(None);
     };
-    let words = parts_of(alloc, text)?;
+    let words = N::parts(alloc, text)?;
     let operations = subjects(alloc, list, root, ctx)?;
-    let mut explaining = Explaining {
+    let mut explaining = Explaining::<N> {
         alloc,
+        of: PhantomData,
         text,
         words: &words,
         counts_runs: list.runs > 1,
@@ -233,7 +234,7 @@ fn explain_in(
     explaining.list(list, &operations, ctx)?;
     let mut lines = explaining.lines;
     if list.reports_missed {
-        push_missed(
+        push_missed::<N>(
             alloc,
             &MissedText {
                 text,
@@ -248,18 +249,18 @@ fn explain_in(
     Ok(Some(lines))
 }
 
-/// What changed in a text: for each operation and argument that changed or was erased when these passes were run, a
-/// line with its place and the reason, and where the list asks for it the same for each operation that they left as it
-/// is though they change operations of its kind; `None` for an unreadable text.
+/// What these passes changed in a text: a line with place and reason for each operation and argument that changed or
+/// was erased; where the list asks for missed operations, also for each that the passes left alone though they change
+/// operations of its kind. `None` for an unreadable text.
 ///
 /// Each pass is made of its own calls, the tree before each call is compared with the tree after it, and the reason is
 /// what that call does. Errors: allocation failure, and those of the passes. Cost: reading, and for each pass its own
 /// cost and a step for all that is live.
-pub fn explain_changes(
+pub fn explain_changes<N: Shown>(
     alloc: Global,
     text: &[u8],
     list: &PassList,
 ) -> Result<Option<String>, OptError> {
     let mut ctx = Context::new(alloc);
-    explain_in(alloc, text, list, &mut ctx)
+    explain_in::<N>(alloc, text, list, &mut ctx)
 }

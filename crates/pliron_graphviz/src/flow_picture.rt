@@ -6,10 +6,12 @@ use crate::dot::{Attribute, Dot};
 use crate::flow_text::may_be_read;
 use crate::graph_row::{GraphRow, graph_rows};
 use pliron_core::{BasicBlock, Context, Operation, Ptr, Region};
-use pliron_diagnostics::{TextParts, forwarded_names, parts_of, push_on_one_line};
+use pliron_diagnostics::{TextParts, push_on_one_line};
 use pliron_laws::OptError;
 use pliron_laws::reads::all_operations;
+use pliron_show::Shown;
 use std::alloc::{AllocError, Global};
+use std::marker::PhantomData;
 
 /// Which region of a text's operation is drawn, and how.
 #[derive(Clone, Copy)]
@@ -111,16 +113,7 @@ fn looks<'l>(
     Ok(looks)
 }
 
-// Which way an edge of a two-way branch is, by its words and its index.
-fn way_of(branch: &[u8], index: usize) -> &'static str {
-    match (branch.starts_with(b"cbr"), index) {
-        (true, 0) => "true",
-        (true, _) => "false",
-        _ => "",
-    }
-}
-
-// Adds which way an edge is and what it forwards, with a blank on both sides, which keeps it apart from the line.
+// Adds which way an edge is and what it forwards, with a blank on both sides to keep the words off the line.
 fn push_passed(label: &mut String, way: &str, names: &[u8]) -> Result<(), AllocError> {
     if names.is_empty() && way.is_empty() {
         return Ok(());
@@ -145,8 +138,9 @@ enum PictureStep {
 
 /// A region that is drawn, and those inside it.
 #[derive(Drop)]
-struct FlowPicture<'p> {
+struct FlowPicture<'p, N> {
     alloc: Global,
+    of: PhantomData<N>,
     text: &'p [u8],
     words: &'p TextParts,
     options: &'p FlowOptions<'p>,
@@ -157,7 +151,7 @@ struct FlowPicture<'p> {
     frames: u64,
 }
 
-impl FlowPicture<'_> {
+impl<N: Shown> FlowPicture<'_, N> {
     // The label of an operation: its words, and the paths to its regions. `path` leads to the operation.
     fn push_operation(
         &mut self,
@@ -222,7 +216,8 @@ impl FlowPicture<'_> {
     ) -> Result<(), AllocError>
         requires { IsBlock ctx.now.tree row.now.node }
     {
-        let branch = match row.node.get_tail(ctx) {
+        let branch = row.node.get_tail(ctx);
+        let words = match branch {
             Some(op) => self.words.operation(self.text, op.key()).unwrap_or(b""),
             None => b"",
         };
@@ -232,8 +227,11 @@ impl FlowPicture<'_> {
         };
         for i in 0..row.successors.len() {
             let mut label = String::new(self.alloc);
-            let names = forwarded_names(branch, i).unwrap_or(b"");
-            push_passed(&mut label, way_of(branch, i), names)?;
+            let way = match branch {
+                Some(op) if op.is_live(ctx) => N::edge_way(op, ctx, i),
+                _ => "",
+            };
+            push_passed(&mut label, way, N::edge_names(words, i))?;
             let looks = looks(self.alloc, label.as_str(), look)?;
             let to = row.successors[i].key();
             self.dot.edge(row.node.key(), to, &looks)?;
@@ -395,7 +393,7 @@ fn title_of(title: &str) -> [Attribute<'_>; 3] {
 /// The picture of a region of the text's operation. Asks that the region is live, and that edges are last in the
 /// operation that holds it (`edges_last` tests it). Errors: allocation failure. Cost: linear in the text, and that of
 /// `graph_rows` for each region that is drawn.
-pub fn flow_picture(
+pub fn flow_picture<N: Shown>(
     alloc: Global,
     text: &[u8],
     ctx: &Context,
@@ -404,9 +402,10 @@ pub fn flow_picture(
 ) -> Result<Vec<u8>, OptError>
     requires { IsLawfulRegion ctx.now.tree region }
 {
-    let words = parts_of(alloc, text)?;
-    let mut picture = FlowPicture {
+    let words = N::parts(alloc, text)?;
+    let mut picture = FlowPicture::<N> {
         alloc,
+        of: PhantomData,
         text,
         words: &words,
         options,

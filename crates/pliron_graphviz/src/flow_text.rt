@@ -9,7 +9,7 @@ use crate::flow_picture::{FlowOptions, flow_picture};
 use crate::region_path::region_at;
 use pliron_core::{Context, Ptr, Region};
 use pliron_laws::{OptError, edges_last};
-use pliron_notation::read_text;
+use pliron_show::Shown;
 use std::alloc::Global;
 
 /// The result of drawing a text.
@@ -33,16 +33,16 @@ pub(crate) fn may_be_read(ctx: &Context, region: Ptr<Region>) -> bool
 }
 
 // The picture of the region that is asked for, in this empty context.
-fn flow_in(
+fn flow_in<N: Shown>(
     alloc: Global,
     text: &[u8],
     options: &FlowOptions,
     ctx: &mut Context,
 ) -> Result<Drawing, OptError>
     requires { ctx.old.tree ≡ no_tree }
-    ensures { IfOk result IsDrawing }
+    ensures { IfOk result (IsDrawing N.reads text.now) }
 {
-    let Some(root) = read_text(alloc, text, ctx)? else {
+    let Some(root) = N::read(alloc, text, ctx)? else {
         return Ok(Drawing::Unreadable);
     };
     let Some(region) = region_at(alloc, ctx, root, options.region)? else {
@@ -51,19 +51,23 @@ fn flow_in(
     if !may_be_read(ctx, region) {
         return Ok(Drawing::NoRegion);
     }
-    let picture = flow_picture(alloc, text, ctx, region, options)?;
+    let picture = flow_picture::<N>(alloc, text, ctx, region, options)?;
     Ok(Drawing::Drawn(picture))
 }
 
-/// The picture of a region of a text's operation in the dot language: its blocks with their operations, its edges with
-/// the values that they forward, and true and false on those of a two-way branch, two lines around the entry, and what
-/// the entry doesn't reach in grey. Where asked for, a dotted edge from the immediate dominator of each block, blocks
-/// by their heads alone, the regions inside in frames, and a title.
+/// The picture of a region of a text's operation in the dot language. It has the blocks with their operations; the
+/// edges with forwarded values, and with true and false at a two-way branch; two lines around the entry; and unreached
+/// blocks in grey. Where asked for, also a dotted edge from each immediate dominator, blocks by their heads alone, the
+/// regions inside in frames, and a title.
 ///
 /// Errors: allocation failure. Cost: reading, and that of `graph_rows`.
-pub fn text_flow(alloc: Global, text: &[u8], options: &FlowOptions) -> Result<Drawing, OptError>
-    ensures { IfOk result IsDrawing }
+pub fn text_flow<N: Shown>(
+    alloc: Global,
+    text: &[u8],
+    options: &FlowOptions,
+) -> Result<Drawing, OptError>
+    ensures { IfOk result (IsDrawing N.reads text.now) }
 {
     let mut ctx = Context::new(alloc);
-    flow_in(alloc, text, options, &mut ctx)
+    flow_in::<N>(alloc, text, options, &mut ctx)
 }

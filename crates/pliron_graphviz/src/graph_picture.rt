@@ -62,8 +62,8 @@ fn look(
     }
 }
 
-// Draws the nodes of the components, those of a cyclic one in a frame, in the order in which the search from the entry
-// reaches them, which Graphviz takes for the order from top to bottom.
+// Draws the nodes of the components, each cyclic component in a frame, in the order of the search from the entry, since
+// Graphviz draws nodes from top to bottom in the order of the text.
 fn draw_components(
     graph: &NumberedGraph,
     search: &DFSTraversal<u32>,

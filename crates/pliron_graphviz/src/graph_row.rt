@@ -21,7 +21,7 @@ pub struct GraphRow<N> {
     pub is_reached: bool,
     /// Its successors, by index.
     pub successors: Vec<N>,
-    /// Its immediate dominator: it has one where the entry reaches it, and isn't it.
+    /// Its immediate dominator, which the entry and unreached nodes lack.
     pub dominator: Option<N>,
 }
 

@@ -1,7 +1,7 @@
 //! Texts as pictures, and what passes did to them: the control flow of a region and numbered graphs in the dot language
 //! of Graphviz, and a reason for each operation and argument that changed or was erased.
 //!
-//! It knows the bench notation, graphs with their searches and dominators, the dot language, and the calls of which
+//! It knows what people ask of notations, graphs with their searches and dominators, the dot language, and the calls of which
 //! passes are made; of words, files, streams and statuses it knows nothing.
 #![tactic(auto)]
 

@@ -2,13 +2,14 @@
 ghost use Rattle.pliron_core.specs.Tree.{IsLive};
 
 use crate::pass_list::PassList;
-use pliron_bench::BenchKind;
-use pliron_bench::tables::kind_at;
 use pliron_core::{Context, Def, Operation, Ptr, Value};
 use pliron_diagnostics::{TextParts, push_on_one_line};
+use pliron_laws::{ConstFoldInterface, SideEffects};
 use pliron_pipeline::PassName;
+use pliron_show::Shown;
 use pliron_walks::Contents;
 use std::alloc::{AllocError, Global};
+use std::marker::PhantomData;
 
 /// A text whose missed rewrites are reported, with its parts and the passes that ran.
 #[derive(Clone, Copy)]
@@ -18,34 +19,63 @@ pub struct MissedText<'m> {
     pub list: &'m PassList,
 }
 
-/// What is reported of what stayed.
+/// An operation that a pass of the list would change, if so many operands were known.
 #[derive(Clone, Copy)]
-struct MissedReport<'m> {
+struct MissedKind {
+    what: &'static str,
+    most: usize,
+    /// Whether it may trap where all of them are.
+    may_trap: bool,
+}
+
+/// What is reported of what stayed.
+#[derive(Drop)]
+struct MissedReport<'m, N> {
     alloc: Global,
+    of: PhantomData<N>,
     reported: &'m MissedText<'m>,
 }
 
-// Whether a `const` makes the value.
-fn is_constant(ctx: &Context, value: Value) -> bool {
+// Whether an operation makes the value as a constant.
+fn is_constant<N: Shown>(alloc: Global, ctx: &Context, value: Value) -> Result<bool, AllocError> {
     if !value.is_live(ctx) {
-        return false;
+        return Ok(false);
     }
     match value.def(ctx) {
-        Def::Result(op, _) => kind_at(op, ctx) == Some(BenchKind::Const),
-        Def::Argument(_, _) => false,
+        Def::Result(op, _) => Ok(N::constant(alloc, op, ctx)?.is_some()),
+        Def::Argument(_, _) => Ok(false),
     }
 }
 
-// The first operand that no `const` makes, among the first so many.
-fn unknown_operand(ctx: &Context, op: Ptr<Operation>, most: usize) -> Option<usize>
+// The first operand that no operation makes as a constant, among the first so many.
+fn unknown_operand<N: Shown>(
+    alloc: Global,
+    ctx: &Context,
+    op: Ptr<Operation>,
+    most: usize,
+) -> Result<Option<usize>, AllocError>
     requires { IsLive ctx.now.tree op }
 {
     for index in 0..op.num_operand(ctx).min(most) {
-        if !is_constant(ctx, op.get_operand(ctx, index)) {
-            return Some(index);
+        if !is_constant::<N>(alloc, ctx, op.get_operand(ctx, index))? {
+            return Ok(Some(index));
         }
     }
-    None
+    Ok(None)
+}
+
+// Whether the operation is one of several ways.
+fn is_fork(ctx: &Context, op: Ptr<Operation>) -> bool
+    requires { IsLive ctx.now.tree op }
+{
+    op.num_successor(ctx) > 1
+}
+
+// Whether the operation may have side effects, as the dialect says.
+fn has_effects<N: Shown>(ctx: &Context, op: Ptr<Operation>) -> bool
+    requires { IsLive ctx.now.tree op }
+{
+    N::D::has_side_effects(op, ctx) == Some(true)
 }
 
 // Whether something uses a result of the operation.
@@ -61,7 +91,7 @@ fn is_used(ctx: &Context, op: Ptr<Operation>) -> bool
     false
 }
 
-impl MissedReport<'_> {
+impl<N: Shown> MissedReport<'_, N> {
     // Whether the list has the pass.
     fn has(&self, pass: PassName) -> bool {
         self.reported.list.passes.iter().any(|other| *other == pass)
@@ -89,31 +119,47 @@ impl MissedReport<'_> {
         why.push_str(" isn't known")
     }
 
+    // Of which operations what is reported, and how many operands have to be known: what folds, and what goes one of
+    // several ways; `None` where no pass of the list changes the operation.
+    fn subject(&self, ctx: &Context, op: Ptr<Operation>) -> Result<Option<MissedKind>, AllocError>
+        requires { IsLive ctx.now.tree op }
+    {
+        if is_fork(ctx, op) {
+            return Ok(if self.has(PassName::SimplifyCfg) {
+                Some(MissedKind {
+                    what: "goes either way: ",
+                    most: 1,
+                    may_trap: false,
+                })
+            } else {
+                None
+            });
+        }
+        let computes = N::D::folds(op, ctx) && N::constant(self.alloc, op, ctx)?.is_none();
+        if !computes || !self.has(PassName::Sccp) {
+            return Ok(None);
+        }
+        Ok(Some(MissedKind {
+            what: "not folded: ",
+            most: op.num_operand(ctx),
+            may_trap: has_effects::<N>(ctx, op),
+        }))
+    }
+
     // Why no result of the operation was replaced by a constant, or its branch stayed; empty where nothing was missed.
-    fn why_not_folded(
-        &self,
-        ctx: &Context,
-        op: Ptr<Operation>,
-        kind: BenchKind,
-    ) -> Result<String, AllocError>
+    fn why_not_folded(&self, ctx: &Context, op: Ptr<Operation>) -> Result<String, AllocError>
         requires { IsLive ctx.now.tree op }
     {
         let mut why = String::new(self.alloc);
-        let (what, most) = match kind {
-            BenchKind::Add | BenchKind::Mul | BenchKind::Div if self.has(PassName::Sccp) => {
-                ("not folded: ", 2)
-            }
-            BenchKind::Cbr | BenchKind::Fork if self.has(PassName::SimplifyCfg) => {
-                ("goes either way: ", 1)
-            }
-            _ => return Ok(why),
+        let Some(kind) = self.subject(ctx, op)? else {
+            return Ok(why);
         };
-        match unknown_operand(ctx, op, most) {
+        match unknown_operand::<N>(self.alloc, ctx, op, kind.most)? {
             Some(index) => {
-                why.push_str(what)?;
+                why.push_str(kind.what)?;
                 self.push_unknown(ctx, op, index, &mut why)?;
             }
-            None if kind == BenchKind::Div => {
+            None if kind.may_trap => {
                 why.push_str("not folded: it traps, or its block isn't reached")?;
             }
             None => {}
@@ -122,26 +168,17 @@ impl MissedReport<'_> {
     }
 
     // Why the operation stays though nothing uses it; empty where it is used, or has no result.
-    fn why_not_erased(
-        &self,
-        ctx: &Context,
-        op: Ptr<Operation>,
-        kind: BenchKind,
-    ) -> Result<String, AllocError>
+    fn why_not_erased(&self, ctx: &Context, op: Ptr<Operation>) -> Result<String, AllocError>
         requires { IsLive ctx.now.tree op }
     {
         let mut why = String::new(self.alloc);
-        if self.has(PassName::Dce) && op.num_result(ctx) > 0 && !is_used(ctx, op) {
-            match kind {
-                BenchKind::Div | BenchKind::Read => {
-                    let word = kind.word();
-                    write!(
-                        why,
-                        "stays, though nothing uses it: a {word} has side effects"
-                    )?;
-                }
-                _ => {}
-            }
+        let is_unused = op.num_result(ctx) > 0 && !is_used(ctx, op);
+        if self.has(PassName::Dce) && is_unused && has_effects::<N>(ctx, op) {
+            let word = N::word(op, ctx).unwrap_or("_");
+            write!(
+                why,
+                "stays, though nothing uses it: a {word} has side effects"
+            )?;
         }
         Ok(why)
     }
@@ -169,25 +206,22 @@ impl MissedReport<'_> {
     fn push(&self, ctx: &Context, op: Ptr<Operation>, lines: &mut String) -> Result<(), AllocError>
         requires { IsLive ctx.now.tree op }
     {
-        let Some(kind) = kind_at(op, ctx) else {
-            return Ok(());
-        };
-        let folding = if kind == BenchKind::Cbr || kind == BenchKind::Fork {
+        let folding = if is_fork(ctx, op) {
             "simplify-cfg"
         } else {
             "sccp"
         };
-        let why = self.why_not_folded(ctx, op, kind)?;
+        let why = self.why_not_folded(ctx, op)?;
         self.push_line(op, why.as_str(), folding, lines)?;
-        let why = self.why_not_erased(ctx, op, kind)?;
+        let why = self.why_not_erased(ctx, op)?;
         self.push_line(op, why.as_str(), "dce", lines)
     }
 }
 
-/// Adds a line for each operation of the text inside the root that passes of the list left as it is though they change
-/// operations of its kind, with its place, and why; nothing where the root isn't live. Errors: allocation failure.
-/// Cost: linear in what is live.
-pub fn push_missed(
+/// Adds a line with place and reason for each operation of the text inside the root that the list's passes left alone
+/// though they change operations of its kind; nothing where the root isn't live. Errors: allocation failure. Cost:
+/// linear in what is live.
+pub fn push_missed<N: Shown>(
     alloc: Global,
     reported: &MissedText,
     root: Ptr<Operation>,
@@ -197,7 +231,11 @@ pub fn push_missed(
     if !root.is_live(ctx) {
         return Ok(());
     }
-    let missed = MissedReport { alloc, reported };
+    let missed = MissedReport::<N> {
+        alloc,
+        of: PhantomData,
+        reported,
+    };
     for op in Contents::new(root, ctx) {
         if op.is_live(ctx) {
             missed.push(ctx, op, lines)?;

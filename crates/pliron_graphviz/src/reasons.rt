@@ -2,14 +2,14 @@
 ghost use Rattle.pliron_core.specs.Tree.{IsBlock, IsDefined, IsLive};
 
 use crate::tree_state::{BlockState, OperationState, TreeState};
-use pliron_bench::BenchKind;
 use pliron_core::{BasicBlock, Context, Def, Operation, Ptr, Value};
 use pliron_diagnostics::{TextPart, TextParts, push_on_one_line};
-use pliron_notation::number_of;
+use pliron_show::Shown;
 use std::alloc::{AllocError, Global};
-use std::collections::HashMap;
+use std::collections::{HashMap, HashSet};
+use std::marker::PhantomData;
 
-/// A rewrite of a tree, as a pass makes it: what it changes is explained by what it does.
+/// A rewrite of a tree by a pass: the kind of rewrite is the reason of each change.
 #[derive(Clone, Copy, Debug, Drop, PartialEq, Eq)]
 pub enum Rewrite {
     /// Results and arguments are replaced by constants.
@@ -22,9 +22,9 @@ pub enum Rewrite {
     Unreachable,
     /// Blocks are joined.
     Joining,
-    /// Operations that did what one before them did are erased.
+    /// Redundant operations are erased.
     Subexpressions,
-    /// Uses of results and arguments are replaced by uses of what these are.
+    /// Results and arguments are replaced by the values that they equal.
     Canonicalization,
 }
 
@@ -41,15 +41,16 @@ const SHOWN: usize = 60;
 
 /// What is reported of a rewrite, so far.
 #[derive(Drop)]
-pub struct Reasons<'t> {
+pub struct Reasons<'t, N> {
     alloc: Global,
+    of: PhantomData<N>,
     text: &'t [u8],
     words: &'t TextParts,
     rewrite: Rewrite,
     /// The constants that replaced values.
-    constants: HashMap<Value, i128>,
+    constants: HashMap<Value, String>,
     /// Those of them that nothing uses.
-    unused: HashMap<Value, i128>,
+    unused: HashSet<Value>,
     /// The values that replaced others.
     replacements: HashMap<Value, Value>,
     /// For a block, the number of the state of the branch that led to it and was erased.
@@ -57,14 +58,17 @@ pub struct Reasons<'t> {
     pub reasons: Vec<Reason>,
 }
 
-// The number that the value is, where a `const` makes it.
-fn number_made(ctx: &Context, value: Value) -> Option<i128>
+// The constant that the value is, as people read it, where an operation makes it.
+fn constant_made<N: Shown>(
+    alloc: Global,
+    ctx: &Context,
+    value: Value,
+) -> Result<Option<String>, AllocError>
     requires { IsDefined ctx.now.tree value }
 {
     match value.def(ctx) {
-        Def::Result(op, _) if BenchKind::from_number(op.head(ctx).kind) == Some(BenchKind::Const) =>
-            { number_of(op, ctx) }
-        _ => None,
+        Def::Result(op, _) => N::constant(alloc, op, ctx),
+        Def::Argument(_, _) => Ok(None),
     }
 }
 
@@ -94,16 +98,17 @@ fn part_phrases(why: &mut String) -> Result<(), AllocError> {
     why.push_str(if why.is_empty() { "" } else { ", " })
 }
 
-impl<'t> Reasons<'t> {
+impl<'t, N: Shown> Reasons<'t, N> {
     /// No reasons so far, for a text with these words. Cost: constant.
     pub fn new(alloc: Global, text: &'t [u8], words: &'t TextParts, rewrite: Rewrite) -> Self {
         Reasons {
             alloc,
+            of: PhantomData,
             text,
             words,
             rewrite,
             constants: HashMap::new(alloc),
-            unused: HashMap::new(alloc),
+            unused: HashSet::new(alloc),
             replacements: HashMap::new(alloc),
             branches: HashMap::new(alloc),
             reasons: Vec::new(alloc),
@@ -126,12 +131,13 @@ impl<'t> Reasons<'t> {
         if let Some(name) = self.words.value(value.key()) {
             return push_on_one_line(reported, name.part.of(self.text));
         }
-        match if value.is_live(ctx) {
-            number_made(ctx, value)
+        let made = if value.is_live(ctx) {
+            constant_made::<N>(self.alloc, ctx, value)?
         } else {
             None
-        } {
-            Some(number) => write!(reported, "{number}"),
+        };
+        match made {
+            Some(constant) => reported.push_str(constant.as_str()),
             None => reported.push_str("a new value"),
         }
     }
@@ -177,7 +183,7 @@ impl<'t> Reasons<'t> {
     }
 }
 
-impl Reasons<'_> {
+impl<N: Shown> Reasons<'_, N> {
     // Notes the constants that operands of the operation name now.
     fn note_constants(&mut self, ctx: &Context, state: &OperationState) -> Result<(), AllocError>
         requires { IsLive ctx.now.tree state.now.op }
@@ -186,9 +192,9 @@ impl Reasons<'_> {
         for i in 0..count {
             let (old, new) = (state.operands[i], state.op.get_operand(ctx, i));
             if old != new
-                && let Some(number) = number_made(ctx, new)
+                && let Some(constant) = constant_made::<N>(self.alloc, ctx, new)?
             {
-                self.constants.insert(old, number)?;
+                self.constants.insert(old, constant)?;
             }
         }
         Ok(())
@@ -225,9 +231,9 @@ impl Reasons<'_> {
         if !is_new || self.constants.contains_key(result) {
             return Ok(());
         }
-        if let Some(number) = number_made(ctx, put.get_result(ctx, 0)) {
-            self.constants.insert(*result, number)?;
-            self.unused.insert(*result, number)?;
+        if let Some(constant) = constant_made::<N>(self.alloc, ctx, put.get_result(ctx, 0))? {
+            self.constants.insert(*result, constant)?;
+            self.unused.insert(*result)?;
         }
         Ok(())
     }
@@ -356,11 +362,10 @@ impl Reasons<'_> {
     // Adds which constants the results of an operation are.
     fn push_constants(&self, state: &OperationState, why: &mut String) -> Result<(), AllocError> {
         for value in &state.results {
-            if let Some(number) = self.constants.get(value) {
-                let number = *number;
+            if let Some(constant) = self.constants.get(value) {
                 part_phrases(why)?;
-                write!(why, "folded to {number} by its operands")?;
-                if self.unused.contains_key(value) {
+                write!(why, "folded to {constant} by its operands")?;
+                if self.unused.contains(value) {
                     why.push_str(", and nothing uses it")?;
                 }
             }
@@ -465,9 +470,8 @@ impl Reasons<'_> {
         let mut why = String::new(self.alloc);
         match (self.rewrite, argument.is_live(ctx)) {
             (Rewrite::Constants, true) => {
-                if let Some(number) = self.constants.get(&argument) {
-                    let number = *number;
-                    write!(why, "always {number}")?;
+                if let Some(constant) = self.constants.get(&argument) {
+                    write!(why, "always {constant}")?;
                 }
             }
             (Rewrite::Canonicalization, true) => {

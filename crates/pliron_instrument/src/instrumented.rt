@@ -1,6 +1,7 @@
 //! A pass that is instrumented.
 ghost use Rattle.std.specs.Prelude.{◌≡◌, false};
 ghost use Rattle.pliron_core.specs.Tree.{IsLive};
+ghost use Rattle.pliron_pipeline.specs.AccurateSteps.{optimisation_same};
 
 use crate::comparison::{Comparison, Snapshot};
 use crate::progress::Progress;
@@ -197,7 +198,7 @@ impl<N: Notation, C: Progress + Drop> Pass for Instrumented<N, C> {
 }
 
 impl<N: Notation, C: Progress + Drop> Step for Instrumented<N, C> {
-    ghost accurate = { record { same = λ p q. ⟦<PassStep<N::D, BenchFacts> as Step>⟧.accurate.same p.step q.step } };
+    ghost accurate = { record { same = λ p q op s s' a runs. optimisation_same _ _ _ op s s' a runs.1 } };
 }
 
 /// Whether verifying found something after a run of one of the passes. Cost: linear in the runs.

@@ -2,7 +2,8 @@
 use pliron_bench::Bench;
 use pliron_linked::{linked_runs_agree, linked_runs_agree_on_inputs, linked_runs_kept};
 use pliron_rules::{
-    equal_values_replace_one_another, leaves_replace_results, results_before_replace_results,
+    equal_values_replace_one_another, leaves_replace_results, operations_are_inserted,
+    results_before_replace_results,
 };
 
 #[test]
@@ -17,4 +18,5 @@ fn laws_of_rules(_rt: HostRuntime) {
     equal_values_replace_one_another::<Bench>();
     leaves_replace_results::<Bench>();
     results_before_replace_results::<Bench>();
+    operations_are_inserted::<Bench>();
 }

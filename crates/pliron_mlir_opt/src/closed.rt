@@ -14,8 +14,8 @@ use std::alloc::Global;
 /// The generic form of MLIR under [`AnyMeaning`].
 type MlirForm = GenericForm<Mlir<AnyMeaning>>;
 
-/// The generic form of MLIR under [`AnyMeaning`], closed to proofs: the notation of the programs. It has a name of its own,
-/// since a clause on [`Closed`] at that notation is more than a check has steps for.
+/// The generic form of MLIR under [`AnyMeaning`], closed to proofs: the notation of the programs. It has a name of its
+/// own, since a clause on [`Closed`] at that notation is more than a check has steps for.
 pub struct ClosedForm;
 
 impl Notation for ClosedForm {

@@ -51,7 +51,7 @@ fn run_pass<N: ModuleNotation>(
     }
 }
 
-// Writes the module behind a line that says which run it was, of which pass, and whether that changed something.
+// Writes the module behind a line with the number of the run, the pass, and whether the run changed something.
 fn write_module<N: ModuleNotation>(
     alloc: Global,
     trace: &mut Trace,
@@ -150,7 +150,7 @@ fn print_in<N: ModuleNotation>(
     }
 }
 
-/// The module that the text says as it is after each pass of the plan, each behind a line that says which run it was.
+/// The text's module after each pass of the plan, each behind a line with the number of the run.
 ///
 /// The passes are run on a module of their own, one by one, until a round of them changes nothing. Where the plan says
 /// that they run on each operation directly inside the module, a pass visits all of these before the next pass does. A

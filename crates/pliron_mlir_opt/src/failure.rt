@@ -52,7 +52,7 @@ pub fn failure_message(
         TextFailure::Text(fault) => {
             let position = position_of(text, fault.place);
             let (line, column, expected) = (position.line, position.column, fault.expected);
-            format!(in alloc; "{name}:{line}:{column}: expected {expected}\n")
+            format!(in alloc; "{name}:{line}:{column}: error: expected {expected}\n")
         }
         TextFailure::Refused(error) => format!(in alloc; "error: refused: {error}\n"),
     }

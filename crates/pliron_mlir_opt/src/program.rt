@@ -146,9 +146,9 @@ fn write_outcome<W: Write, E: Write>(outcome: &Outcome, output: &mut W, errors: 
 
 /// Runs the program on these streams. Answers its status.
 ///
-/// For every dialect that keeps its laws and every notation of its modules: with status 0 the output gets a tree printed,
-/// and nothing else. The tree is what the passes that the word asks for, run once as a whole, made of one that was read
-/// from the whole input, and every operation that was fit to run and is still live does as before.
+/// For every dialect that keeps its laws and every notation of its modules: with status 0 the output gets a tree
+/// printed, and nothing else. The whole input was read as a tree; the passes that the word asks for, run once as a
+/// whole, made the printed tree of it; and every operation that was fit to run and is still live does as before.
 ///
 /// Statuses: those of `run_passes`; 1 also where memory for a report is refused, and 2 where the input can't be read, is
 /// longer than 268,435,456 bytes, or the module can't be written. With all but 0 nothing is written to `output`, unless

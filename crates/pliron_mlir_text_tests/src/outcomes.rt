@@ -51,9 +51,10 @@ static OUTCOMES: &str = "\
 an unused constant -- dce :: \"m\"() ({|  %0 = \"arith.constant\"() <{value = 1 : i32}> : () -> i32|}) : () -> () \
     => 0 \"m\"() ({|^bb0:|}) : () -> ()| => changed|
 no passes --  :: \"m\"()  : ()->() => 0 \"m\"() : () -> ()| => unchanged|
-a word -- dce :: m => 2  => t:1:1: expected the name of an operation in quotes; print with --mlir-print-op-generic|
-a block that the region lacks -- dce :: \"m\"() ({|  \"a\"()[^b] : () -> ()|}) : () -> () => 2  => t:2:9: expected \
-    a block of this region|
+a word -- dce :: m => 2  => t:1:1: error: expected the name of an operation in quotes; \
+    print with --mlir-print-op-generic|
+a block that the region lacks -- dce :: \"m\"() ({|  \"a\"()[^b] : () -> ()|}) : () -> () => 2  => t:2:9: error: \
+    expected a block of this region|
 no such pass -- dce,licm :: \"m\"() : () -> () => 2  => error: no such passes: dce,licm: at byte 5: expected \
     `sccp`, `dce`, `simplify-cfg`, `cse` or `canonicalize`|
 too many rounds -- repeat:65:dce :: \"m\"() : () -> () => 2  => error: no such passes: repeat:65:dce: at byte 8: \

@@ -8,7 +8,7 @@ use Rattle.pliron_opts.specs.declared.driver.command.Command.TheVariants.{Optimi
 
 -- the word plans the passes of the pipeline by their names in order, on each operation directly inside or not, and run as
 -- often
-pub record IsPipelineOf {D E B K : Type 0} (word : List ℕ) (pipeline : PassPipelineOf D E B K) : Type 0 where
+pub record IsPlanned {D E B K : Type 0} (word : List ℕ) (pipeline : PassPipelineOf D E B K) : Type 0 where
   pub runs : Option ℕ
   pub nested : Bool
   pub names : List (List ℕ)
@@ -17,5 +17,5 @@ pub record IsPipelineOf {D E B K : Type 0} (word : List ℕ) (pipeline : PassPip
 
 -- the words ask for the command: they are the one word `graph`, or one that plans the pipeline
 abbrev pub AskFor : {D B : Type 0} → List (List ℕ) → Command D B → Type 0
-AskFor words (Optimise pipeline) = (word : List ℕ) × (words ≡ word ∷ []) × IsPipelineOf word pipeline
+AskFor words (Optimise pipeline) = (word : List ℕ) × (words ≡ word ∷ []) × IsPlanned word pipeline
 AskFor words Graph = words ≡ codes "graph" ∷ []

@@ -17,7 +17,7 @@ use Rattle.pliron_theory.proofs.SweptKeeps.{gives_now}
 use Rattle.pliron_equivalence.specs.OperationDominance.{DominatesOperation}
 use Rattle.pliron_equivalence.proofs.OperationDominance.{dominated_stands, stands_trans}
 use Rattle.pliron_equivalence.proofs.Current.{results_current}
-use Rattle.pliron_rules.specs.Equations.{IsInSlice, Makes, MakesOperand, IsInPattern, AreEqualBy, EquationLaw}
+use Rattle.pliron_rules.specs.Equations.{IsInSlice, Makes, MakesOperand, IsInPattern, AreEqual, EquationLaw}
 
 module _ (m : Meaning) (t : Tree) (w : IsTree t) (root : ℕ) (f : IsFit m t root) where
   -- what feeds a value that dominates a user is inside the root, and dominates the user
@@ -29,20 +29,23 @@ module _ (m : Meaning) (t : Tree) (w : IsTree t) (root : ℕ) (f : IsFit m t roo
       let z = f.defined.dominated j x used own in
       (subst (IsDefiningOperationInside t root) e own, stands_trans t w k j user (dominated_stands t k i j x e z) y.1)
 
-module _ (m : Meaning) (side_effects : Head → Option Bool) (counts : KeepsCounts m) (free : GivesAtOnce m side_effects) (t : Tree) (old new : ℕ) (ops : List ℕ) (w : IsTree t) (matched : (k : ℕ) → In k ops → IsInPattern side_effects t old new k) (equal : AreEqualBy m t ops old new) (root : ℕ) (f : IsFit m t root) (uses : (user : ℕ) → In old (operands_of t user) → MayUse t root user new) where
-  gives : (k : ℕ) → In k ops → IsInside t root k → GivesNow m t k
-  gives k i inside = gives_now m side_effects counts free t k (f.linked.admitted k (inr inside)) (λ o e. (matched k i).harmless o.head (op_shows t k o e).head)
+module _ (m : Meaning) (side_effects : Head → Option Bool) (counts : KeepsCounts m) (free : GivesAtOnce m side_effects) (t : Tree) (old new : ℕ) (w : IsTree t) (equal : AreEqual m side_effects t old new) (root : ℕ) (f : IsFit m t root) (uses : (user : ℕ) → In old (operands_of t user) → MayUse t root user new) where
+  gives : (k : ℕ) → IsInPattern m side_effects t old new k → IsInside t root k → GivesNow m t k
+  gives k p inside = ⊎_elim
+      (λ none. gives_now m side_effects counts free t k (f.linked.admitted k (inr inside)) (λ o e. none o.head (op_shows t k o e).head))
+      (λ g. g)
+      p.at_once
 
   same_datum : (s : State) (u : ℕ) (rest : List ℕ) → RunReaches m t root s → s.rest ≡ u ∷ rest → s.answer ≡ None → In old (operands_of t u) → s.environment old ≡ s.environment new
-  same_datum s u rest r e quiet used = equal s.environment (λ k i.
-      let x = before k i in
-      results_current m t root k w f x.0 (matched k i).no_successors (gives k i x.0) u rest s x.1 r e quiet)
+  same_datum s u rest r e quiet used = equal s.environment (λ k p.
+      let x = before k p in
+      (f.linked.admitted k (inr x.0), results_current m t root k w f x.0 p.no_successors (gives k p x.0) u rest s x.1 r e quiet))
     where
       inside : IsInside t root u
       inside = (ready_when_reached m t root w f s r u rest e quiet).inside
 
-      before : (k : ℕ) → In k ops → (i : IsInside t root k) × DominatesOperation t k u
-      before k i = ⊎_elim
+      before : (k : ℕ) → IsInPattern m side_effects t old new k → (i : IsInside t root k) × DominatesOperation t k u
+      before k p = ⊎_elim
           (λ a.
           let own = f.defined.own_values u old inside used in
           feeder_dominates m t w root f old k u a own (f.defined.dominated u old used own))
@@ -50,9 +53,9 @@ module _ (m : Meaning) (side_effects : Head → Option Bool) (counts : KeepsCoun
           let may = uses u used in
           let own = may.own inside in
           feeder_dominates m t w root f new k u b own (may.dominated own))
-          (matched k i).slice
+          p.slice
 
 pub equations_keep : (m : Meaning) (side_effects : Head → Option Bool) → KeepsCounts m → GivesAtOnce m side_effects → EquationLaw m side_effects
-equations_keep m side_effects counts free t old new ops w matched equal uses = replaced_keeps m t old new
+equations_keep m side_effects counts free t old new w equal uses = replaced_keeps m t old new
     (λ root f user used. uses root f user used)
-    (λ root f f' s s' u rest r r' same e e' none none' used. same_datum m side_effects counts free t old new ops w matched equal root f (uses root f) s u rest r e none used)
+    (λ root f f' s s' u rest r r' same e e' none none' used. same_datum m side_effects counts free t old new w equal root f (uses root f) s u rest r e none used)

@@ -1,2 +1,5 @@
 pub mod Equations
 pub mod Replacements
+pub mod PutBefore
+pub mod Inserted
+pub mod MadeOperations

@@ -1,13 +1,11 @@
--- The values that a rule may put in the place of a result: a leaf of its pattern, or a result of what stands just before.
-use Rattle.std.specs.Prelude.{◌≡◌, ◌≢◌, ℕ, Bool, List, [], Option, Some}
-use Rattle.pliron_core.specs.declared.context.Def.TheVariants.{Result}
-use Rattle.pliron_core.specs.Lists.{put_before}
-use Rattle.pliron_core.specs.Tree.{Tree, In, operands_of, successors_of, parent_of, body_of, definition_of}
+-- The values that a rule may put in the place of a result, and those that what it puts before may use.
+use Rattle.std.specs.Prelude.{◌≡◌, ℕ, Bool, List, [], ◌∷◌, ◌++◌, Option, Some, slice_get}
+use Rattle.pliron_core.specs.Tree.{Tree, In, operands_of, successors_of, results_of, parent_of, body_of}
 use Rattle.pliron_core.specs.Invariant.{IsTree}
 use Rattle.pliron_core.specs.Writes.{after_replacing}
 use Rattle.pliron_laws.specs.Datum.{Head, Meaning}
 use Rattle.pliron_theory.specs.Keeps.{KeepsAllRuns}
-use Rattle.pliron_rules.specs.Equations.{IsInSlice, IsInPattern, AreEqualBy}
+use Rattle.pliron_rules.specs.Equations.{IsInSlice, AreEqual}
 
 -- the new value is an operand of an operation in the slice of the old one
 pub record IsLeaf (t : Tree) (old new : ℕ) : Type 0 where
@@ -15,26 +13,26 @@ pub record IsLeaf (t : Tree) (old new : ℕ) : Type 0 where
   pub slice : IsInSlice t old reader
   pub reads : In new (operands_of t reader)
 
--- the new value is a result of an operation that was put just before the one that makes the old value
-pub record IsMadeJustBefore (t : Tree) (old new : ℕ) : Type 0 where
-  pub root : ℕ
-  pub index : ℕ
-  pub makes_old : definition_of t old ≡ Some (Result root index)
+-- the value is a result of an operation without successors that is before `at` in its block
+pub record IsMadeBefore (t : Tree) (at v : ℕ) : Type 0 where
   pub maker : ℕ
   pub place : ℕ
-  pub makes_new : definition_of t new ≡ Some (Result maker place)
-  pub apart : maker ≢ root
+  pub makes : slice_get (results_of t maker) place ≡ Some v
   pub successors : successors_of t maker ≡ []
   pub block : ℕ
-  pub rest : List ℕ
   pub in_block : parent_of t maker ≡ Some block
-  pub beside : parent_of t root ≡ Some block
-  pub body : body_of t block ≡ put_before root maker rest
+  pub beside : parent_of t at ≡ Some block
+  pub earlier : (done rest : List ℕ) → body_of t block ≡ done ++ at ∷ rest → In maker done
+
+-- what is put just before `at` may use the value: a leaf of the pattern of a result of `at`, or what is made before
+pub data IsAvailable (t : Tree) (at v : ℕ) : Type 0 where
+  AtLeaf : (old i : ℕ) → slice_get (results_of t at) i ≡ Some old → IsLeaf t old v → IsAvailable t at v
+  MadeBefore : IsMadeBefore t at v → IsAvailable t at v
 
 -- uses of a result may become uses of a leaf of its pattern that is equal
 abbrev pub LeafLaw : Meaning → (Head → Option Bool) → Type 0
-LeafLaw m side_effects = (t : Tree) (old new : ℕ) (ops : List ℕ) → IsTree t → IsLeaf t old new → ((k : ℕ) → In k ops → IsInPattern side_effects t old new k) → AreEqualBy m t ops old new → KeepsAllRuns m t (after_replacing t old new)
+LeafLaw m side_effects = (t : Tree) (old new : ℕ) → IsTree t → IsLeaf t old new → AreEqual m side_effects t old new → KeepsAllRuns m t (after_replacing t old new)
 
--- uses of a result may become uses of an equal result of what was put just before
-abbrev pub NewResultLaw : Meaning → (Head → Option Bool) → Type 0
-NewResultLaw m side_effects = (t : Tree) (old new : ℕ) (ops : List ℕ) → IsTree t → IsMadeJustBefore t old new → ((k : ℕ) → In k ops → IsInPattern side_effects t old new k) → AreEqualBy m t ops old new → KeepsAllRuns m t (after_replacing t old new)
+-- uses of a result may become uses of an equal result of what is before the operation in its block
+abbrev pub ResultBeforeLaw : Meaning → (Head → Option Bool) → Type 0
+ResultBeforeLaw m side_effects = (t : Tree) (at i old new : ℕ) → IsTree t → slice_get (results_of t at) i ≡ Some old → IsMadeBefore t at new → AreEqual m side_effects t old new → KeepsAllRuns m t (after_replacing t old new)

@@ -1,5 +1,5 @@
-//! Rewrite rules: what an equation on the data of pure operations says of values, and that the uses of one value may
-//! then become uses of the other.
+//! Rewrite rules: what an equation on the data of pure operations says of values, that the uses of one value may then
+//! become uses of the other, and that what a rule builds may be put just before the operation that it rewrites.
 //!
 //! As in the theory of runs, a call here does nothing when it runs: its contract is a law, for every dialect.
 //!
@@ -8,7 +8,10 @@
 #![tactic(auto)]
 
 ghost use Rattle.pliron_rules.specs.Equations.{EquationLaw};
-ghost use Rattle.pliron_rules.specs.Replacements.{LeafLaw, NewResultLaw};
+ghost use Rattle.pliron_rules.specs.Replacements.{LeafLaw, ResultBeforeLaw};
+ghost use Rattle.pliron_rules.specs.Insertions.{InsertedLaws};
+
+pub mod rewrites;
 
 use pliron_laws::Dialect;
 
@@ -23,7 +26,13 @@ pub fn leaves_replace_results<D: Dialect>()
     ensures { LeafLaw D.meaning D.side_effects }
 {}
 
-/// The same, where the new value is a result of what was put just before the operation that makes the old one.
+/// The same, where the new value is a result of what is before the operation that makes the old one, in its block.
 pub fn results_before_replace_results<D: Dialect>()
-    ensures { NewResultLaw D.meaning D.side_effects }
+    ensures { ResultBeforeLaw D.meaning D.side_effects }
+{}
+
+/// An operation that gives at once may be put just before another one, where its operands are leaves of the pattern of
+/// that one's result, or made before it in its block.
+pub fn operations_are_inserted<D: Dialect>()
+    ensures { InsertedLaws D.meaning }
 {}

@@ -13,10 +13,10 @@ pub trait Observer<N: Notation> {
     fn before(
         &mut self,
         _: Global,
-        _document: &Document<N::Sheet>,
-        _ctx: &Context,
+        document: &Document<N::Sheet>,
+        ctx: &Context,
     ) -> Result<(), OptError>
-        requires { IsLive _ctx.now.tree _document.now.root }
+        requires { IsLive ctx.now.tree document.now.root }
     {
         Ok(())
     }
@@ -26,11 +26,11 @@ pub trait Observer<N: Notation> {
     fn after(
         &mut self,
         _: Global,
-        _document: &Document<N::Sheet>,
-        _printed: &[u8],
-        _ctx: &Context,
+        document: &Document<N::Sheet>,
+        printed: &[u8],
+        ctx: &Context,
     ) -> Result<(), OptError>
-        requires { IsLive _ctx.now.tree _document.now.root }
+        requires { IsLive ctx.now.tree document.now.root }
     {
         Ok(())
     }

@@ -1,5 +1,5 @@
 use Rattle.std.proofs.Common.{codes}
-use Rattle.pliron_cli.specs.Reports.{error_line}
+use Rattle.pliron_show.specs.Faults.{error_line}
 use Rattle.pliron_cli.proofs.EndingLemmas.{begins_still}
 use Rattle.pliron_cli.proofs.graph_fault.graph_fault_message.Goals as goal
 

@@ -1,0 +1,69 @@
+//! The commands on texts of a dialect by roles. `|` stands for the end of a line.
+use crate::lines::in_one_line;
+use crate::optimised::plain;
+use pliron_arithmetic::ArithmeticKind;
+use pliron_cli::{ExplainOptions, FlowOptions, Outcome, Source, check, draw_flow, explain, opt};
+use pliron_instrument::Timeless;
+use pliron_opts::KindNotation;
+use std::alloc::{AllocError, Global};
+use std::process::Abort;
+
+type Arithmetic = KindNotation<ArithmeticKind>;
+
+/// Commands with their words, texts, and what is answered: the status, the output, and the report.
+static CASES: &str = "\
+check  => function { b0(): a = lit 2; return a } => 0 well linked and fit to run|
+check  => function { b0(): jump b1() } => 2 error: unreadable text| --> text|
+explain sccp => function { b0(): a = lit 2; b = lit 3; s = add a b; return s } => 0 1:40 s = add a b: folded to 5 by its operands (sccp)|1:53 return s: takes 5 for s (sccp)|
+explain dce => function { b0(x): a = lit 2; return x } => 0 1:19 a = lit 2: unused (dce)|
+opt sccp,dce => function { b0(): a = lit 2; b = lit 3; s = add a b; return s } => 0 function { b0(): v0 = lit 5; return v0 }|
+dot 0 => function { b0(c, x): branch c t(x) f(); t(p): return p; f(): return c } => 0 digraph flow {|  node [shape=\"box\", fontname=\"monospace\"];|  edge [fontname=\"monospace\"];|  0 [label=\"b0(c, x):\\lbranch c t(x) f()\\l\", peripheries=\"2\"];|  1 [label=\"t(p):\\lreturn p\\l\"];|  2 [label=\"f():\\lreturn c\\l\"];|  0 -> 1 [label=\" true: x \"];|  0 -> 2 [label=\" false \"];|}|
+dot 1 => function { b0(): a = lit 2; return a } => 2 error: no region `1`|help: `0.2.0` is region 0 of operation 2 of region 0 of the text's operation|";
+
+// What the command answers.
+fn outcome_of(alloc: Global, words: &str, source: &Source) -> Result<Outcome, AllocError> {
+    let (command, word) = words.split_once(' ').unwrap_or((words, ""));
+    match command {
+        "check" => check::<Arithmetic>(alloc, source),
+        "explain" => {
+            let options = ExplainOptions {
+                pipeline: word,
+                missed: false,
+            };
+            explain::<Arithmetic>(alloc, source, &options)
+        }
+        "opt" => opt::<Arithmetic, Timeless>(alloc, source, &plain(word), Timeless),
+        _ => {
+            let options = FlowOptions {
+                region: word,
+                dominators: false,
+                blocks_alone: false,
+                nested: false,
+                title: "",
+            };
+            draw_flow::<Arithmetic>(alloc, source, &options)
+        }
+    }
+}
+
+fn check_case(rt: &impl Abort, alloc: Global, case: &str) {
+    let (words, rest) = case.split_once(" => ").expect(rt, "a case");
+    let (text, wanted) = rest.split_once(" => ").expect(rt, "a case");
+    let source = Source {
+        name: "text",
+        text: text.as_bytes(),
+    };
+    let outcome = outcome_of(alloc, words, &source).expect(rt, "memory");
+    let output = in_one_line(alloc, &outcome.output).expect(rt, "memory");
+    let report = in_one_line(alloc, outcome.report.as_bytes()).expect(rt, "memory");
+    let status = outcome.status;
+    let got = format!(in alloc; "{status} {output}{report}").expect(rt, "memory");
+    assert_eq!(rt; got.as_str(), wanted, "{words}");
+}
+
+#[test]
+fn commands_on_a_dialect_by_roles(rt: HostRuntime) {
+    for case in CASES.lines() {
+        check_case(&rt, rt.alloc(), case);
+    }
+}

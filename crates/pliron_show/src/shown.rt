@@ -1,0 +1,68 @@
+//! What people ask of a notation.
+ghost use Rattle.std.specs.Prelude.{◌≡◌, map, IfOk, IfSome, string_bytes};
+ghost use Rattle.pliron_core.specs.Tree.{IsLive};
+ghost use Rattle.pliron_laws.specs.Datum.{Number as NumberOf};
+ghost use Rattle.pliron_laws.specs.Machine.{run, sight_after as seen_of};
+ghost use Rattle.pliron_evaluator.specs.Evaluator.{sight_of};
+ghost use Rattle.pliron_show.specs.Faults.{TextFaults};
+
+use pliron_core::{Context, Operation, Ptr};
+use pliron_diagnostics::{RunOptions, Source, TextParts};
+use pliron_evaluator::evaluator::Sight;
+use pliron_laws::OptError;
+use pliron_opts::Notation;
+use std::alloc::{AllocError, Global};
+
+/// A notation whose texts and trees are shown to people.
+pub trait Shown: Notation {
+    // the report says what is wrong with the text
+    ghost faults: { TextFaults };
+
+    /// The message for a text outside the notation; `None` for one inside it. Errors: allocation failure.
+    fn fault_message(alloc: Global, source: &Source) -> Result<Option<String>, OptError>
+        ensures { IfOk result (λ found. IfSome found (λ message. faults source.now.text.now (string_bytes message))) };
+
+    /// Where the operations, the heads of blocks and the names of values are in a text that the notation has. Errors:
+    /// allocation failure. Cost: linear in the text.
+    fn parts(alloc: Global, text: &[u8]) -> Result<TextParts, AllocError>;
+
+    /// The word of the operation, if it has one. Asks that it is live (`is_live` tests it). Cost: constant.
+    fn word(op: Ptr<Operation>, ctx: &Context) -> Option<&'static str>
+        requires { IsLive ctx.now.tree op };
+
+    /// Whether the names of values begin anew at the operation. Asks that it is live (`is_live` tests it). Cost: constant.
+    fn begins_names(op: Ptr<Operation>, ctx: &Context) -> bool
+        requires { IsLive ctx.now.tree op };
+
+    /// The constant that the operation makes, as people read it; `None` of an operation that makes none. Asks that it is
+    /// live (`is_live` tests it). Errors: allocation failure. Cost: linear in what is written.
+    fn constant(
+        alloc: Global,
+        op: Ptr<Operation>,
+        ctx: &Context,
+    ) -> Result<Option<String>, AllocError>
+        requires { IsLive ctx.now.tree op };
+
+    /// Which way the edge at this index is, of a branch; empty where it isn't one of several. Asks that the operation is
+    /// live (`is_live` tests it). Cost: constant.
+    fn edge_way(op: Ptr<Operation>, ctx: &Context, index: usize) -> &'static str
+        requires { IsLive ctx.now.tree op };
+
+    /// The names of the values that the edge at this index forwards, as the words of its operation have them. Cost: linear
+    /// in the words.
+    fn edge_names<'t>(words: &'t [u8], index: usize) -> &'t [u8];
+}
+
+/// A notation whose operations are run for people, on numbers.
+pub trait Runnable: Shown {
+    /// What is seen of a run of the operation. Errors: allocation failure. Cost: that of the run.
+    fn run_sight(
+        alloc: Global,
+        root: Ptr<Operation>,
+        ctx: &Context,
+        options: &RunOptions,
+    ) -> Result<Sight, AllocError>
+        ensures { IfOk result (λ sight. sight_of sight ≡ seen_of
+            (run Self.D.meaning ctx.now.tree root (map NumberOf options.now.inputs.now)
+            (map NumberOf options.now.world.now) options.now.steps)) };
+}
