@@ -125,6 +125,12 @@ module _ (u : Tree) (head : Head) (results regions block : ℕ) (is : IsTree u) 
   pub appended-row : row_of v op ≡ record { head = Some head; results = range_with_len (length u.definitions) results; regions = range_with_len (length u.slots) regions }
   appended-row = get_last_same u.operations _ no_entry
 
+  pub appended-results : (w : Tree) (k : ℕ) → w ≡ v → k ≡ op → length (results_of w k) ≡ results
+  appended-results w k same e = ap (λ z. length (results_of z k)) same ∙ ap (λ n. length (results_of v n)) e ∙ ap (λ z. length z.results) appended-row ∙ length-range_with_len (length u.definitions) results
+
+  pub appended-regions : (w : Tree) (k : ℕ) → w ≡ v → k ≡ op → length (regions_of w k) ≡ regions
+  appended-regions w k same e = ap (λ z. length (regions_of z k)) same ∙ ap (λ n. length (regions_of v n)) e ∙ ap (λ z. length z.regions) appended-row ∙ length-range_with_len (length u.slots) regions
+
   pub appended-live : IsLive v op
   appended-live = ap (λ z. is_some z.head) appended-row
 

@@ -67,7 +67,7 @@ module _ (s : Syntax) (t u : Tree) (root : ℕ) (wt : IsTree t) (wu : IsTree u) 
 
   root_admitted : (m : Meaning) → IsAdmittedSyntax m s → IsAdmitted m u root
   root_admitted m admitted h e = admits_same m h (head_of_text s.root) (length (operands_of u root)) (length (results_of u root)) (length (successors_of u root)) (length (regions_of u root)) (length s.root.operands.items) s.root.results (length s.root.successors.items) s.root.regions
-      (some_is (sym e ∙ l.whole.head)) l.root_operands l.whole.results (ap length l.root_successors ∙ sym (ap length sound.root.no_successors)) l.whole.regions admitted.root
+      (some_is (sym e ∙ l.whole.head)) l.root_operands l.whole.results (ap length l.root_successors ∙ sym sound.root.no_successors) l.whole.regions admitted.root
 
   text_admitted : (m : Meaning) → IsAdmittedSyntax m s → (n : ℕ) (o : OperationText) → slice_get s.operations.items n ≡ Some o → (k : ℕ) → k ≡ root + 1 + n → IsAdmitted m u k
   text_admitted m admitted n o at k e =

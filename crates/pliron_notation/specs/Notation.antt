@@ -83,7 +83,7 @@ AreSoundOperations s = (n : ℕ) (o : OperationText) → slice_get s.operations.
 -- the operation that is the whole uses values of the text, and no blocks
 pub record IsSoundRoot (s : Syntax) : Type 0 where
   pub operands : AllBelow s.values s.root.operands.items
-  pub no_successors : s.root.successors.items ≡ []
+  pub no_successors : length s.root.successors.items ≡ 0
 
 -- all can be made in this order, and each is sound
 pub record IsSoundSyntax (s : Syntax) : Type 0 where

@@ -1,4 +1,4 @@
-use Rattle.std.proofs.Common.{◌≡◌, ◌++◌, ◌∷◌, [], sym, ap, ◌∙◌, subst}
+use Rattle.std.proofs.Common.{◌≡◌, ◌+◌, length, ◌++◌, ◌∷◌, [], sym, ap, ◌∙◌, subst}
 use Rattle.pliron_core.specs.Tree.{results_of, regions_of}
 use Rattle.pliron_notation.specs.Building.{AddsOnly}
 use Rattle.std.proofs.lemmas.Result.{on_ok_weaker}
@@ -6,7 +6,7 @@ use Rattle.pliron_notation.specs.Notation.{head_of_text}
 use Rattle.pliron_notation.specs.Building.{after_appending}
 use Rattle.pliron_notation.specs.Laid.{IsLaid}
 use Rattle.pliron_notation.proofs.LaidLemmas.{laid-operation}
-use Rattle.pliron_notation.proofs.BuildLemmas.{in-read, goes-appended, all_in_place-appended}
+use Rattle.pliron_notation.proofs.BuildLemmas.{in-read, goes-appended, all_in_place-appended, appended-results, appended-regions}
 use Rattle.pliron_notation.proofs.build.add_operation.Goals as goal
 
 pub append_operation-requires : goal.append_operation-requires
@@ -51,3 +51,15 @@ returns-clause-laid c =
     (key ∙ ap (λ k. built.operations.items ++ k ∷ []) c.in_ok-op.ensures.key)
     c.remember_operation.ensures.blocks c.remember_operation.ensures.kept_regions))
     c.remember_operation.ensures.operation
+
+pub returns-clause-regions : goal.returns-clause-regions
+returns-clause-regions c =
+    let o = c.args.text.now in
+    let own = appended-regions c.args.ctx.now.tree c.in_ok-head.head o.results o.regions c.index-block.result.now c.well_formed-2.ensures.tree c.append_operation.new.ctx.tree c.in_ok-op.op c.in_ok-op.ensures.ok c.in_ok-op.ensures.key in
+    on_ok_weaker c.remember_operation.result (λ e. e ∙ ap (λ n. length c.args.built.now.regions.items + n) own) c.remember_operation.ensures.region_count
+
+pub returns-clause-values : goal.returns-clause-values
+returns-clause-values c =
+    let o = c.args.text.now in
+    let own = appended-results c.args.ctx.now.tree c.in_ok-head.head o.results o.regions c.index-block.result.now c.well_formed-2.ensures.tree c.append_operation.new.ctx.tree c.in_ok-op.op c.in_ok-op.ensures.ok c.in_ok-op.ensures.key in
+    on_ok_weaker c.remember_operation.result (λ e. e ∙ ap (λ n. length c.args.built.now.values.items + n) own) c.remember_operation.ensures.value_count

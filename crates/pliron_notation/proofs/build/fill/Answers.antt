@@ -38,7 +38,7 @@ make_all-requires-clause-all_in_place c =
     let u = c.args.ctx.now.tree in
     let root = c.args.root in
     let built : BuiltTree = record { operations = c.new.result; blocks = c.new-2.result; regions = c.remember_regions.new.regions; values = c.remember_results.new.values } in
-    all_in_place-start u built root c.well_formed.ensures.tree c.new.ensures.items c.new-2.ensures.items
+    all_in_place-start u built root c.well_formed-2.ensures.tree c.new.ensures.items c.new-2.ensures.items
     (subst (λ z. AddsOnly z c.remember_regions.new.regions.items (regions_of u root)) c.new-3.ensures.items c.in_ok-remember_regions.ensures.added)
     (subst (λ z. AddsOnly z c.remember_results.new.values.items (results_of u root)) c.new-4.ensures.items c.in_ok-remember_results.ensures.added)
 
@@ -48,7 +48,7 @@ returns-in_err-make_all-clause-grown c =
     let root = c.args.root in
     let built : BuiltTree = record { operations = c.new.result; blocks = c.new-2.result; regions = c.remember_regions.new.regions; values = c.remember_results.new.values } in
     let regs = subst (λ z. AddsOnly z c.remember_regions.new.regions.items (regions_of u root)) c.new-3.ensures.items c.in_ok-remember_regions.ensures.added in
-    λ t b. (c.in_err-make_all.ensures.continues t root (begun-built c.args.syntax.now t u root b c.well_formed.ensures.tree built c.new.ensures.items c.new-2.ensures.items regs)).grown
+    λ t b. (c.in_err-make_all.ensures.continues t root (begun-built c.args.syntax.now t u root b c.well_formed-2.ensures.tree built c.new.ensures.items c.new-2.ensures.items regs)).grown
 
 pub returns-in_err-connect_all-clause-grown : goal.returns-in_err-connect_all-clause-grown
 returns-in_err-connect_all-clause-grown c =
@@ -56,7 +56,7 @@ returns-in_err-connect_all-clause-grown c =
     let root = c.args.root in
     let built : BuiltTree = record { operations = c.new.result; blocks = c.new-2.result; regions = c.remember_regions.new.regions; values = c.remember_results.new.values } in
     let regs = subst (λ z. AddsOnly z c.remember_regions.new.regions.items (regions_of u root)) c.new-3.ensures.items c.in_ok-remember_regions.ensures.added in
-    λ t b. (c.in_err-connect_all.ensures.continues t root (c.in_ok-make_all.ensures.continues t root (begun-built c.args.syntax.now t u root b c.well_formed.ensures.tree built c.new.ensures.items c.new-2.ensures.items regs))).grown
+    λ t b. (c.in_err-connect_all.ensures.continues t root (c.in_ok-make_all.ensures.continues t root (begun-built c.args.syntax.now t u root b c.well_formed-2.ensures.tree built c.new.ensures.items c.new-2.ensures.items regs))).grown
 
 pub add_operands-requires-clause-live : goal.add_operands-requires-clause-live
 add_operands-requires-clause-live c =
@@ -65,7 +65,7 @@ add_operands-requires-clause-live c =
     let begun = c.requires.begun in
     let built : BuiltTree = record { operations = c.new.result; blocks = c.new-2.result; regions = c.remember_regions.new.regions; values = c.remember_results.new.values } in
     let regs = subst (λ z. AddsOnly z c.remember_regions.new.regions.items (regions_of u root)) c.new-3.ensures.items c.in_ok-remember_regions.ensures.added in
-    (c.in_ok-connect_all.ensures.continues begun.0 root (c.in_ok-make_all.ensures.continues begun.0 root (begun-built c.args.syntax.now begun.0 u root begun.1 c.well_formed.ensures.tree built c.new.ensures.items c.new-2.ensures.items regs))).grown.live
+    (c.in_ok-connect_all.ensures.continues begun.0 root (c.in_ok-make_all.ensures.continues begun.0 root (begun-built c.args.syntax.now begun.0 u root begun.1 c.well_formed-2.ensures.tree built c.new.ensures.items c.new-2.ensures.items regs))).grown.live
 
 pub add_operands-requires-clause-operands : goal.add_operands-requires-clause-operands
 add_operands-requires-clause-operands c = λ x i. subst (λ n. x < n) (sym c.in_ok-make_all.ensures.made.values) (c.requires.sound.root.operands x (subst (In x) c.as_slice.ensures i))
@@ -81,7 +81,7 @@ returns c =
     let built : BuiltTree = record { operations = c.new.result; blocks = c.new-2.result; regions = c.remember_regions.new.regions; values = c.remember_results.new.values } in
     let regs = subst (λ z. AddsOnly z c.remember_regions.new.regions.items (regions_of u root)) c.new-3.ensures.items c.in_ok-remember_regions.ensures.added in
     record {
-      grown = λ t b. (c.add_operands.ensures.continues t root (omega arith) (c.in_ok-connect_all.ensures.continues t root (c.in_ok-make_all.ensures.continues t root (begun-built s t u root b c.well_formed.ensures.tree built c.new.ensures.items c.new-2.ensures.items regs)))).grown;
+      grown = λ t b. (c.add_operands.ensures.continues t root (omega arith) (c.in_ok-connect_all.ensures.continues t root (c.in_ok-make_all.ensures.continues t root (begun-built s t u root b c.well_formed-2.ensures.tree built c.new.ensures.items c.new-2.ensures.items regs)))).grown;
       laid = on_ok_weaker c.add_operands.result
           (λ added t b.
           let laid = c.in_ok-make_all.ensures.laid root (length t.bodies) (begun-laid s t u root b built c.new.ensures.items c.new-2.ensures.items) in
