@@ -65,9 +65,27 @@ fn at<'a>(alloc: Global) -> Arg<'a> {
     )
 }
 
+/// The notations of texts.
+static DIALECTS: [&str; 2] = ["bench", "mlir"];
+
+fn dialect<'a>(alloc: Global) -> Arg<'a> {
+    Arg::new(alloc, "dialect")
+        .long("dialect")
+        .value_name("NAME")
+        .value_parser(DIALECTS.as_slice())
+        .hide_possible_values(true)
+        .help(
+            "What the text is written in: `bench`, or `mlir`, the generic form of MLIR, as it is for a FILE that ends \
+             with `.mlir`",
+        )
+}
+
 // The flags that each command with a text has.
 fn with_common<'a>(command: Command<'a>, alloc: Global) -> Result<Command<'a>, AllocError> {
-    command.arg(at(alloc))?.arg(format(alloc))
+    command
+        .arg(at(alloc))?
+        .arg(dialect(alloc))?
+        .arg(format(alloc))
 }
 
 /// The statuses of `run`.

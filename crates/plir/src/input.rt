@@ -45,6 +45,19 @@ pub fn read_graph_input(rt: &HostRuntime, name: &str) -> io::Result<Input> {
     })
 }
 
+/// The module in the file, as it is. Errors: those of the file; allocation failure. Cost: linear in it.
+pub fn read_module_input(rt: &HostRuntime, name: &str) -> io::Result<Input> {
+    let alloc = rt.alloc();
+    let bytes = bytes_of(rt, name)?;
+    let text = Vec::from_slice(alloc, without_mark(&bytes))?;
+    Ok(Input {
+        whole: Vec::new(alloc),
+        text,
+        part: None,
+        inner: None,
+    })
+}
+
 // The bytes without the carriage return that some editors put before each end of a line. Errors: allocation failure.
 // Cost: linear in them.
 fn without_returns(alloc: Global, bytes: &[u8]) -> Result<Vec<u8>, AllocError> {

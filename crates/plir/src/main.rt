@@ -4,6 +4,7 @@
 #![tactic(auto)]
 
 mod command;
+mod dialect;
 mod help;
 mod inner;
 mod input;
@@ -13,17 +14,19 @@ mod pipeline;
 
 use clap::{ArgMatches, Error};
 use command::parse_arguments;
+use dialect::{Dialect, dialect_of};
 use help::{lay_out, width_of};
 use inner::{inner_failure, lines_inside, operation_path};
-use input::{Input, input_name, read_graph_input, read_input};
+use input::{Input, input_name, read_graph_input, read_input, read_module_input};
 use optimise::opt_as_asked;
 use output::{write_answer, write_file, write_lines, write_report};
 use pipeline::{pipeline_and_file, without_blanks};
 use pliron_cli::{
     BenchNotation, CompareOptions, EffectSink, ExplainOptions, FlowOptions, MessageForm, Outcome,
-    RunOptions, Source, TextRange, check, compare, draw_flow, draw_graph, explain, in_form, run,
-    run_streamed, unfit_warning,
+    RunOptions, Shown, Source, TextRange, check, compare, draw_flow, draw_graph, explain, in_form,
+    run, run_streamed, unfit_warning,
 };
+use pliron_mlir_show::MlirNotation;
 use std::alloc::{AllocError, Global};
 use std::env;
 use std::io::{self, ErrorKind};
@@ -94,7 +97,7 @@ fn output_file<'a>(matches: &ArgMatches<'a>) -> Option<&'a str> {
 }
 
 // Draws the region that the words ask for, of the operation at this path of the text.
-fn draw_as_asked(
+fn draw_as_asked<N: Shown>(
     alloc: Global,
     source: &Source,
     matches: &ArgMatches,
@@ -112,11 +115,11 @@ fn draw_as_asked(
         nested: matches.get_flag("nested"),
         title: matches.get_str("title").unwrap_or(""),
     };
-    Ok(draw_flow::<BenchNotation>(alloc, source, &options)?)
+    Ok(draw_flow::<N>(alloc, source, &options)?)
 }
 
 // Explains what the passes did, and warns of a text that isn't fit to run.
-fn explain_as_asked(
+fn explain_as_asked<N: Shown>(
     alloc: Global,
     source: &Source,
     matches: &ArgMatches,
@@ -127,11 +130,11 @@ fn explain_as_asked(
         pipeline: pipeline.as_str(),
         missed: matches.get_flag("missed"),
     };
-    let explained = explain::<BenchNotation>(alloc, source, &options)?;
+    let explained = explain::<N>(alloc, source, &options)?;
     if explained.status != 0 {
         return Ok(explained);
     }
-    match unfit_warning::<BenchNotation>(alloc, source, false) {
+    match unfit_warning::<N>(alloc, source, false) {
         Ok(report) => Ok(Outcome {
             output: explained.output,
             report,
@@ -154,7 +157,7 @@ fn explain_inner(
         name: input_name(name),
         text: &function,
     };
-    let reported = explain_as_asked(alloc, &source, matches, pipeline)?;
+    let reported = explain_as_asked::<BenchNotation>(alloc, &source, matches, pipeline)?;
     if reported.status != 0 {
         return Ok(reported);
     }
@@ -180,7 +183,7 @@ fn outcome_of_inner(
         text: &input.text,
     };
     match command {
-        "dot" => draw_as_asked(alloc, &source, matches, Some(path)),
+        "dot" => draw_as_asked::<BenchNotation>(alloc, &source, matches, Some(path)),
         "explain" => explain_inner(alloc, matches, input, part),
         _ => Ok(inner_failure(alloc, &source, part, path)?),
     }
@@ -195,12 +198,13 @@ fn input_failure(alloc: Global, report: String) -> Outcome {
     }
 }
 
-// What the command makes of its input.
-fn outcome_of_text(
+// What a command of each notation makes of its input.
+fn outcome_in<N: Shown>(
     rt: &HostRuntime,
     command: &str,
     matches: &ArgMatches,
     input: &Input,
+    dialect: Dialect,
 ) -> io::Result<Outcome> {
     let alloc = rt.alloc();
     let (pipeline, name) = pipeline_and_file(alloc, matches)?;
@@ -209,19 +213,66 @@ fn outcome_of_text(
         text: &input.text,
     };
     match command {
-        "check" => Ok(check::<BenchNotation>(alloc, &source)?),
-        "opt" => opt_as_asked(rt, &source, matches, pipeline, input),
-        "dot" => draw_as_asked(alloc, &source, matches, None),
-        "graph" => Ok(draw_graph(alloc, &source)?),
-        "explain" => explain_as_asked(alloc, &source, matches, pipeline),
-        _ => run_as_asked(rt, &source, matches),
+        "check" => Ok(check::<N>(alloc, &source)?),
+        "opt" => opt_as_asked::<N>(rt, &source, matches, pipeline, input, dialect),
+        "dot" => draw_as_asked::<N>(alloc, &source, matches, None),
+        _ => explain_as_asked::<N>(alloc, &source, matches, pipeline),
     }
+}
+
+// What the command makes of its input.
+fn outcome_of_text(
+    rt: &HostRuntime,
+    command: &str,
+    matches: &ArgMatches,
+    input: &Input,
+) -> io::Result<Outcome> {
+    let alloc = rt.alloc();
+    let (_, name) = pipeline_and_file(alloc, matches)?;
+    let source = Source {
+        name: input_name(name),
+        text: &input.text,
+    };
+    match command {
+        "graph" => Ok(draw_graph(alloc, &source)?),
+        "run" => run_as_asked(rt, &source, matches),
+        _ => outcome_in::<BenchNotation>(rt, command, matches, input, Dialect::Bench),
+    }
+}
+
+// What the command makes of a module.
+fn outcome_of_module(
+    rt: &HostRuntime,
+    command: &str,
+    matches: &ArgMatches,
+    name: &str,
+) -> io::Result<Outcome> {
+    let alloc = rt.alloc();
+    if command == "run" || matches.get_str("at").is_some() {
+        let what = if command == "run" { "`run`" } else { "`--at`" };
+        let report = format!(in alloc; "error: {what} takes no module of MLIR\n")?;
+        return Ok(input_failure(alloc, report));
+    }
+    match read_module_input(rt, name) {
+        Ok(input) => outcome_in::<MlirNotation>(rt, command, matches, &input, Dialect::Mlir),
+        Err(error) => unread_outcome(alloc, name, &error),
+    }
+}
+
+// The outcome of a command whose input can't be read.
+fn unread_outcome(alloc: Global, name: &str, error: &io::Error) -> io::Result<Outcome> {
+    let name = input_name(name);
+    let report = format!(in alloc; "error: cannot read {name}: {error}\n")?;
+    Ok(input_failure(alloc, report))
 }
 
 // What the command makes of its input, or why that can't be read.
 fn outcome(rt: &HostRuntime, command: &str, matches: &ArgMatches) -> io::Result<Outcome> {
     let alloc = rt.alloc();
     let (_, name) = pipeline_and_file(alloc, matches)?;
+    if command != "graph" && dialect_of(matches, name) == Dialect::Mlir {
+        return outcome_of_module(rt, command, matches, name);
+    }
     let path = if command == "graph" {
         None
     } else {
@@ -242,11 +293,7 @@ fn outcome(rt: &HostRuntime, command: &str, matches: &ArgMatches) -> io::Result<
             let report = format!(in alloc; "error: no operation `{path}`\nhelp: {help}\n")?;
             Ok(input_failure(alloc, report))
         }
-        Err(error) => {
-            let name = input_name(name);
-            let report = format!(in alloc; "error: cannot read {name}: {error}\n")?;
-            Ok(input_failure(alloc, report))
-        }
+        Err(error) => unread_outcome(alloc, name, &error),
     }
 }
 

@@ -1,11 +1,14 @@
 //! The command `opt`.
+use crate::dialect::Dialect;
 use crate::input::Input;
 use crate::pipeline::{first_passes, without_blanks};
 use clap::ArgMatches;
-use pliron_changes::{StageOptions, StageReport, run_stages, write_named_answer};
+use pliron_changes::{
+    StageOptions, StageReport, run_stages, write_named_answer, write_renamed_answer,
+};
 use pliron_cli::{
-    BenchNotation, InstrumentationOptions, OptOptions, Outcome, PipelineText, PlanError, Progress,
-    Source, opt_with_check,
+    InstrumentationOptions, OptOptions, Outcome, PipelineText, PlanError, Progress, Shown, Source,
+    opt_with_check,
 };
 use std::alloc::{AllocError, Global};
 use std::cell::Cell;
@@ -101,7 +104,7 @@ fn words<'a>(alloc: Global, matches: &ArgMatches<'a>, id: &str) -> io::Result<Ve
 }
 
 // Runs these passes on the text.
-fn opt_instrumented<'w>(
+fn opt_instrumented<'w, N: Shown>(
     rt: &HostRuntime,
     source: &Source,
     matches: &ArgMatches,
@@ -123,12 +126,12 @@ fn opt_instrumented<'w>(
         reported: &reported,
     };
     let is_strict = matches.get_flag("strict");
-    Ok(opt_with_check::<BenchNotation, _>(rt.alloc(), source, &options, is_strict, terminal)?)
+    Ok(opt_with_check::<N, _>(rt.alloc(), source, &options, is_strict, terminal)?)
 }
 
 // Runs these passes one by one, and reports what the words ask for between them; `None` for words or a text that can't
 // be used.
-fn stages(
+fn stages<N: Shown>(
     rt: &HostRuntime,
     text: &[u8],
     matches: &ArgMatches,
@@ -152,18 +155,19 @@ fn stages(
         reports_changes: matches.get_flag("print-changed"),
         is_coloured: is_coloured(rt, matches),
     };
-    match run_stages::<BenchNotation>(alloc, text, &plan, &options) {
+    match run_stages::<N>(alloc, text, &plan, &options) {
         Ok(staged) => Ok(staged),
         Err(_) => Err(io::Error::from(AllocError)),
     }
 }
 
 // The outcome with the reports of single passes before the rest; where asked for, the answer keeps the text's names.
-fn join_stages(
+fn join_stages<N: Shown>(
     alloc: Global,
     whole: Outcome,
     staged: StageReport,
     answer: AnswerOptions,
+    dialect: Dialect,
 ) -> io::Result<Outcome> {
     let Outcome {
         output,
@@ -182,9 +186,15 @@ fn join_stages(
     let printed = std::str::from_utf8(&output).unwrap_or("").trim_end();
     let kept = named.as_deref();
     let kept = if answer.names_in_answer { kept } else { None };
-    match write_named_answer::<BenchNotation>(alloc, printed, kept, answer.is_pretty) {
+    let written = match dialect {
+        Dialect::Bench => write_named_answer::<N>(alloc, printed, kept, answer.is_pretty),
+        Dialect::Mlir => write_renamed_answer::<N>(alloc, printed, kept),
+    };
+    match written {
         Ok(mut output) => {
-            output.push(b'\n')?;
+            if output.last() != Some(&b'\n') {
+                output.push(b'\n')?;
+            }
             Ok(Outcome {
                 output,
                 report,
@@ -209,19 +219,20 @@ fn pipeline_of(alloc: Global, matches: &ArgMatches, word: &str) -> io::Result<St
 ///
 /// Errors: allocation failure. Cost: that of `opt_with_check`, and where names are kept or trees reported that of
 /// `run_stages`.
-pub fn opt_as_asked(
+pub fn opt_as_asked<N: Shown>(
     rt: &HostRuntime,
     source: &Source,
     matches: &ArgMatches,
     word: &str,
     input: &Input,
+    dialect: Dialect,
 ) -> io::Result<Outcome> {
     let alloc = rt.alloc();
     let pipeline = pipeline_of(alloc, matches, word)?;
     let answer = answer_options(rt, matches);
     let is_staged = answer.names_in_answer || answer.prints_trees;
     let staged = if is_staged {
-        stages(rt, source.text, matches, pipeline.as_str(), answer)?
+        stages::<N>(rt, source.text, matches, pipeline.as_str(), answer)?
     } else {
         None
     };
@@ -232,7 +243,7 @@ pub fn opt_as_asked(
         prints_all: false,
         prints: &[],
     };
-    let whole = opt_instrumented(
+    let whole = opt_instrumented::<N>(
         rt,
         source,
         matches,
@@ -241,7 +252,7 @@ pub fn opt_as_asked(
         is_pretty,
     )?;
     let outcome = match staged {
-        Some(staged) => join_stages(alloc, whole, staged, answer)?,
+        Some(staged) => join_stages::<N>(alloc, whole, staged, answer, dialect)?,
         None => whole,
     };
     if outcome.status != 0 {

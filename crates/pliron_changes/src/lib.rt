@@ -4,16 +4,14 @@
 //! It knows what people ask of notations, and passes; of words of a process, files and streams it knows nothing.
 #![tactic(auto)]
 
-mod definition_order;
 mod line_diff;
 mod named_answer;
 mod names;
-mod renaming;
 mod stages;
 mod subjects;
 mod written_changes;
 
 pub use line_diff::{LineChange, changed_lines};
-pub use named_answer::write_named_answer;
+pub use named_answer::{write_named_answer, write_renamed_answer};
 pub use stages::{StageOptions, StageReport, run_stages};
 pub use written_changes::write_changes;

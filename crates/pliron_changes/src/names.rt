@@ -1,9 +1,9 @@
 //! The names of values and blocks while passes work: those of the text that was read, and fresh ones for what passes
 //! make.
-use crate::definition_order::DefinitionOrder;
-use pliron_core::{BasicBlock, Context, Operation, Ptr, Value};
+use pliron_core::{Context, Operation, Ptr, Value};
 use pliron_diagnostics::TextParts;
 use pliron_laws::reads::all_operands;
+use pliron_show::{DefinitionOrder, NameSource, NewNames, name_of_head, number_in_pack};
 use pliron_walks::Contents;
 use std::alloc::{AllocError, Global};
 use std::collections::{HashMap, HashSet};
@@ -41,9 +41,11 @@ pub struct Names<'t> {
     alloc: Global,
     text: &'t [u8],
     parts: &'t TextParts,
-    /// What passes made, and what that is called.
-    values: HashMap<Value, String>,
-    blocks: HashMap<Ptr<BasicBlock>, String>,
+    /// What new names begin with.
+    new_names: NewNames,
+    /// What the text doesn't name by itself, by handles, and what that is called.
+    values: HashMap<u64, String>,
+    blocks: HashMap<u64, String>,
     /// All names so far.
     taken: HashSet<String>,
     /// For a name the greatest number behind it that was tried.
@@ -59,18 +61,29 @@ fn word_of(alloc: Global, bytes: &[u8]) -> Result<String, AllocError> {
     Ok(word)
 }
 
-// The name that the head of a block begins with.
-fn name_of_head(head: &[u8]) -> &[u8] {
-    let end = head
-        .iter()
-        .position(|byte| !byte.is_ascii_alphanumeric() && *byte != b'_')
-        .unwrap_or(head.len());
-    head.get(..end).unwrap_or(head)
+// What names are made from this one: one of digits behind a sign gets a letter.
+fn base_of(alloc: Global, name: &str) -> Result<String, AllocError> {
+    let mut base = String::new(alloc);
+    let mut is_behind_sign = false;
+    for letter in name.chars() {
+        if is_behind_sign && letter.is_ascii_digit() {
+            base.push('v')?;
+        }
+        base.push(letter)?;
+        is_behind_sign = letter == '%';
+    }
+    Ok(base)
 }
 
 impl<'t> Names<'t> {
-    /// The names of the text, of which these are the parts. Errors: allocation failure. Cost: linear in the text.
-    pub fn new(alloc: Global, text: &'t [u8], parts: &'t TextParts) -> Result<Self, AllocError> {
+    /// The names of the text, of which these are the parts, and new ones for what the text doesn't name by itself. Errors:
+    /// allocation failure. Cost: linear in the text.
+    pub fn new(
+        alloc: Global,
+        text: &'t [u8],
+        parts: &'t TextParts,
+        new_names: NewNames,
+    ) -> Result<Self, AllocError> {
         let mut taken = HashSet::new(alloc);
         for value in &parts.values {
             taken.insert(word_of(alloc, value.part.of(text))?)?;
@@ -78,24 +91,45 @@ impl<'t> Names<'t> {
         for block in &parts.blocks {
             taken.insert(word_of(alloc, name_of_head(block.of(text)))?)?;
         }
-        Ok(Names {
+        let mut names = Names {
             alloc,
             text,
             parts,
+            new_names,
             values: HashMap::new(alloc),
             blocks: HashMap::new(alloc),
             taken,
             last_numbers: HashMap::new(alloc),
-        })
+        };
+        match names.name_packs() {
+            Ok(()) => Ok(names),
+            Err(error) => Err(error),
+        }
+    }
+
+    // Names each of several values that share a name.
+    fn name_packs(&mut self) -> Result<(), AllocError> {
+        let parts = self.parts;
+        for at in 0..parts.values.len() {
+            if let Some(name) = parts.values.get(at)
+                && name.part.len > 0
+                && number_in_pack(parts, at).is_some()
+            {
+                let shared = word_of(self.alloc, name.part.of(self.text))?;
+                let own = self.fresh(shared.as_str())?;
+                self.values.insert(at as u64, own)?;
+            }
+        }
+        Ok(())
     }
 
     // A name that nothing has yet, made from this one: it and a number behind it.
     fn fresh(&mut self, base: &str) -> Result<String, AllocError> {
-        let key = String::from_str(self.alloc, base)?;
+        let key = base_of(self.alloc, base)?;
         let mut number = self.last_numbers.get(&key).copied().unwrap_or(0);
         for _ in 0..u64::MAX {
             number = number.saturating_add(1);
-            let name = format!(in self.alloc; "{base}_{number}")?;
+            let name = format!(in self.alloc; "{key}_{number}")?;
             if !self.taken.contains(&name) {
                 self.taken.insert(name.clone()?)?;
                 self.last_numbers.insert(key, number)?;
@@ -105,35 +139,19 @@ impl<'t> Names<'t> {
         Ok(key)
     }
 
-    /// Adds what the value is called. Errors: allocation failure. Cost: linear in its name.
-    pub fn push_value(&self, value: Value, reported: &mut String) -> Result<(), AllocError> {
-        if let Some(name) = self.parts.value(value.key()) {
-            return reported.push_str(word_of(self.alloc, name.part.of(self.text))?.as_str());
-        }
-        match self.values.get(&value) {
-            Some(name) => reported.push_str(name.as_str()),
-            None => reported.push_str("_"),
-        }
+    // Whether the text names the value.
+    fn is_named_value(&self, key: u64) -> bool {
+        self.parts.value(key).is_some_and(|name| name.part.len > 0)
     }
 
-    /// Adds what the block is called. Errors: allocation failure. Cost: linear in its name.
-    pub fn push_block(
-        &self,
-        block: Ptr<BasicBlock>,
-        reported: &mut String,
-    ) -> Result<(), AllocError> {
-        if let Some(head) = self.parts.block(self.text, block.key()) {
-            return reported.push_str(word_of(self.alloc, name_of_head(head))?.as_str());
-        }
-        match self.blocks.get(&block) {
-            Some(name) => reported.push_str(name.as_str()),
-            None => reported.push_str("_"),
-        }
+    // Whether the text names the block.
+    fn is_named_block(&self, key: u64) -> bool {
+        self.parts.block_part(key).is_some_and(|part| part.len > 0)
     }
 
     // Whether the value has a name.
     fn has_name(&self, value: Value) -> bool {
-        self.parts.value(value.key()).is_some() || self.values.contains_key(&value)
+        self.is_named_value(value.key()) || self.values.contains_key(&value.key())
     }
 
     // Names a value that is used where another one was.
@@ -142,9 +160,9 @@ impl<'t> Names<'t> {
             return Ok(());
         }
         let mut base = String::new(self.alloc);
-        self.push_value(old, &mut base)?;
+        self.push_value(old.key(), &mut base)?;
         let name = self.fresh(base.as_str())?;
-        self.values.insert(new, name)?;
+        self.values.insert(new.key(), name)?;
         Ok(())
     }
 
@@ -171,18 +189,16 @@ impl<'t> Names<'t> {
         for function in &order.functions {
             for value in function {
                 if !self.has_name(*value) {
-                    let name = self.fresh("v")?;
-                    self.values.insert(*value, name)?;
+                    let name = self.fresh(self.new_names.value)?;
+                    self.values.insert(value.key(), name)?;
                 }
             }
         }
         for region in &order.regions {
             for block in region {
-                if self.parts.block_part(block.key()).is_none()
-                    && !self.blocks.contains_key(block)
-                {
-                    let name = self.fresh("b")?;
-                    self.blocks.insert(*block, name)?;
+                if !self.is_named_block(block.key()) && !self.blocks.contains_key(&block.key()) {
+                    let name = self.fresh(self.new_names.block)?;
+                    self.blocks.insert(block.key(), name)?;
                 }
             }
         }
@@ -201,5 +217,27 @@ impl<'t> Names<'t> {
             self.name_operands(ctx, state)?;
         }
         self.name_others(order)
+    }
+}
+
+impl NameSource for Names<'_> {
+    fn push_value(&self, key: u64, line: &mut String) -> Result<(), AllocError> {
+        if let Some(name) = self.values.get(&key) {
+            return line.push_str(name.as_str());
+        }
+        match self.parts.value(key) {
+            Some(name) => line.push_str(word_of(self.alloc, name.part.of(self.text))?.as_str()),
+            None => line.push_str("_"),
+        }
+    }
+
+    fn push_block(&self, key: u64, line: &mut String) -> Result<(), AllocError> {
+        if let Some(name) = self.blocks.get(&key) {
+            return line.push_str(name.as_str());
+        }
+        match self.parts.block(self.text, key) {
+            Some(head) => line.push_str(word_of(self.alloc, name_of_head(head))?.as_str()),
+            None => line.push_str("_"),
+        }
     }
 }

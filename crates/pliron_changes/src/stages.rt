@@ -3,19 +3,17 @@ ghost use Rattle.std.specs.Prelude.{◌≡◌};
 ghost use Rattle.pliron_core.specs.Tree.{IsLive};
 ghost use Rattle.pliron_core.specs.Writes.{no_tree};
 
-use crate::definition_order::DefinitionOrder;
 use crate::line_diff::changed_lines;
 use crate::names::{Names, OperandsBefore, operands_before};
-use crate::renaming::rename_text;
 use crate::subjects::{Subject, subjects_of};
 use crate::written_changes::write_changes;
 use pliron_core::{Context, IRStatus, Operation, Ptr};
-use pliron_diagnostics::pretty;
 use pliron_instrument::PipelineText;
 use pliron_laws::{OptError, is_well_linked};
+use pliron_opts::Document;
 use pliron_pass::{AnalysisManager, BenchFacts};
 use pliron_pipeline::{PassStep, run_pipeline};
-use pliron_show::Shown;
+use pliron_show::{DefinitionOrder, Shown, read_shown};
 use std::alloc::{AllocError, Global};
 use std::marker::PhantomData;
 
@@ -46,10 +44,12 @@ pub struct StageReport {
 
 /// Passes that are run one by one on the operation of a text.
 #[derive(Drop)]
-struct Stages<'s, N> {
+struct Stages<'s, N: Shown> {
     alloc: Global,
     of: PhantomData<N>,
     options: &'s StageOptions<'s>,
+    /// The text's operation, or the one that is printed.
+    document: Document<N::Sheet>,
     names: Names<'s>,
     analyses: AnalysisManager<BenchFacts>,
     /// How many runs of passes began.
@@ -85,25 +85,25 @@ fn text_of(alloc: Global, printed: &[u8]) -> Result<String, AllocError> {
 
 impl<N: Shown> Stages<'_, N> {
     // The operation as it is written on one line. Asks that it is live.
-    fn print(&self, op: Ptr<Operation>, ctx: &Context) -> Result<String, OptError>
+    fn print(&mut self, op: Ptr<Operation>, ctx: &Context) -> Result<String, OptError>
         requires { IsLive ctx.now.tree op }
     {
-        let printed = text_of(self.alloc, &N::print(self.alloc, op, ctx)?)?;
-        if !self.options.keeps_names {
-            return Ok(printed);
-        }
-        let order = DefinitionOrder::of::<N>(self.alloc, op, ctx)?;
-        Ok(rename_text(self.alloc, printed.as_str(), &self.names, &order)?)
+        self.document.root = op;
+        let printed = if self.options.keeps_names {
+            N::print_named(self.alloc, &self.document, &self.names, ctx)?
+        } else {
+            N::print_document(self.alloc, &self.document, ctx)?
+        };
+        Ok(text_of(self.alloc, &printed)?)
     }
 
     // The same over several lines.
-    fn print_lines(&self, op: Ptr<Operation>, ctx: &Context) -> Result<String, OptError>
+    fn print_lines(&mut self, op: Ptr<Operation>, ctx: &Context) -> Result<String, OptError>
         requires { IsLive ctx.now.tree op }
     {
         let printed = self.print(op, ctx)?;
-        let laid = pretty(self.alloc, printed.as_bytes())?;
-        let text = std::str::from_utf8(&laid).unwrap_or("");
-        Ok(String::from_str(self.alloc, text)?)
+        let laid = N::on_lines(self.alloc, printed.as_bytes())?;
+        Ok(text_of(self.alloc, &laid)?)
     }
 
     // Adds the operation as the options ask for it, and an end of a line.
@@ -116,7 +116,10 @@ impl<N: Shown> Stages<'_, N> {
             self.print(op, ctx)?
         };
         self.report.push_str(text.as_str())?;
-        Ok(self.report.push_str("\n")?)
+        Ok(
+            self.report
+                .push_str(if text.ends_with('\n') { "" } else { "\n" })?,
+        )
     }
 
     // Writes the number of the run, the pass and the operation.
@@ -193,7 +196,7 @@ impl<N: Shown> Stages<'_, N> {
     }
 
     // What has to be known before a run: the operands, where names are kept, and the lines, where changes are reported.
-    fn state_before(&self, op: Ptr<Operation>, ctx: &Context) -> Result<StateBefore, OptError>
+    fn state_before(&mut self, op: Ptr<Operation>, ctx: &Context) -> Result<StateBefore, OptError>
         requires { IsLive ctx.now.tree op }
     {
         let operands = if self.options.keeps_names {
@@ -283,7 +286,11 @@ impl<N: Shown> Stages<'_, N> {
     }
 
     // The operation with the names of the text, where the options ask for them.
-    fn named_text(&self, root: Ptr<Operation>, ctx: &Context) -> Result<Option<String>, OptError> {
+    fn named_text(
+        &mut self,
+        root: Ptr<Operation>,
+        ctx: &Context,
+    ) -> Result<Option<String>, OptError> {
         if self.options.keeps_names && root.is_live(ctx) {
             Ok(Some(self.print(root, ctx)?))
         } else {
@@ -298,17 +305,19 @@ fn stage_operation<N: Shown>(
     text: &[u8],
     plan: &PipelineText,
     options: &StageOptions,
-    root: Ptr<Operation>,
+    document: Document<N::Sheet>,
     ctx: &mut Context,
 ) -> Result<StageReport, OptError>
-    requires { IsLive ctx.old.tree root }
+    requires { IsLive ctx.old.tree document.root }
 {
+    let root = document.root;
     let parts = N::parts(alloc, text)?;
     let mut stages = Stages::<N> {
         alloc,
         of: PhantomData,
         options,
-        names: Names::new(alloc, text, &parts)?,
+        document,
+        names: Names::new(alloc, text, &parts, N::new_names())?,
         analyses: AnalysisManager::new(alloc),
         number: 0,
         report: String::new(alloc),
@@ -334,8 +343,10 @@ fn run_stages_in<N: Shown>(
 ) -> Result<Option<StageReport>, OptError>
     requires { ctx.old.tree ≡ no_tree }
 {
-    match N::read(alloc, text, ctx)? {
-        Some(root) => Ok(Some(stage_operation::<N>(alloc, text, plan, options, root, ctx)?)),
+    match read_shown::<N>(alloc, text, ctx)? {
+        Some(document) => {
+            Ok(Some(stage_operation::<N>(alloc, text, plan, options, document, ctx)?))
+        }
         None => Ok(None),
     }
 }

@@ -12,7 +12,7 @@ use crate::outcome::{
 };
 use crate::refusal::refused_outcome;
 use crate::report::{ReportOptions, refused_note, report_of};
-use pliron_diagnostics::{Source, SourceMark, mark_source, pretty};
+use pliron_diagnostics::{Source, SourceMark, mark_source};
 use pliron_instrument::{
     InstrumentationOptions, Instrumented, InstrumentedPipeline, PipelineText, PlanError, Progress,
     WordFault, has_fault, instrumented_pipeline, is_short,
@@ -65,23 +65,33 @@ pub fn misspelling_outcome(
 }
 
 // The text with each operation on a line of its own, or as it is.
-fn break_lines(alloc: Global, printed: Vec<u8>, is_pretty: bool) -> Result<Vec<u8>, AllocError>
+fn break_lines<N: Shown>(
+    alloc: Global,
+    printed: Vec<u8>,
+    is_pretty: bool,
+) -> Result<Vec<u8>, AllocError>
     ensures { IfOk result (λ output. IsLaidOut printed.items output.items) }
 {
     if is_pretty {
-        pretty(alloc, &printed)
+        N::on_lines(alloc, &printed)
     } else {
         Ok(printed)
     }
 }
 
-// The same, with the end of a line behind it.
+// The same, with the end of a line behind it, unless it has one.
 #[tactic(auto, using(crate::proofs::CommandLemmas::ended))]
-fn lay_out(alloc: Global, printed: Vec<u8>, is_pretty: bool) -> Result<Vec<u8>, AllocError>
+fn lay_out<N: Shown>(
+    alloc: Global,
+    printed: Vec<u8>,
+    is_pretty: bool,
+) -> Result<Vec<u8>, AllocError>
     ensures { IfOk result (λ output. IsLaidOut printed.items output.items) }
 {
-    let mut output = break_lines(alloc, printed, is_pretty)?;
-    output.push(b'\n')?;
+    let mut output = break_lines::<N>(alloc, printed, is_pretty)?;
+    if output.last() != Some(&b'\n') {
+        output.push(b'\n')?;
+    }
     Ok(output)
 }
 
@@ -156,7 +166,7 @@ fn opt_with<N: Shown, C: Progress + Copy + Drop>(
             status: 3,
         }),
         Ok(made) => Ok(Outcome {
-            output: lay_out(alloc, made.printed, options.is_pretty)?,
+            output: lay_out::<N>(alloc, made.printed, options.is_pretty)?,
             report,
             status: 0,
         }),

@@ -9,7 +9,7 @@ use pliron_core::{BasicBlock, Context, Def, Operation, Ptr, Region, Value};
 use pliron_diagnostics::{Source, SourceMark, TextPart, TextParts, mark_source_as};
 use pliron_fit::Violation;
 use pliron_laws::{Dialect, OptError};
-use pliron_show::Shown;
+use pliron_show::{Shown, push_value_name};
 use std::alloc::{AllocError, Global};
 
 /// Another place in the text, and what is said of it.
@@ -244,15 +244,11 @@ struct ViolationText<'t> {
 impl ViolationText<'_> {
     // Adds the name of the value in the text.
     fn push_value(&self, label: &mut String, value: Value) -> Result<(), AllocError> {
-        match self.parts.value(value.key()) {
-            Some(name) => {
-                label.push_str("`")?;
-                for byte in name.part.of(self.source.text) {
-                    label.push(char::from(*byte))?;
-                }
-                label.push_str("`")
-            }
-            None => label.push_str("a value"),
+        let mut name = String::new(self.alloc);
+        if push_value_name(&mut name, self.source.text, self.parts, value.key())? {
+            write!(label, "`{name}`")
+        } else {
+            label.push_str("a value")
         }
     }
 

@@ -18,6 +18,8 @@ mod kinds;
 #[cfg(test)]
 mod lines;
 #[cfg(test)]
+mod modules;
+#[cfg(test)]
 mod optimised;
 #[cfg(test)]
 mod reasons;

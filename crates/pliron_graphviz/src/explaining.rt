@@ -17,7 +17,7 @@ use pliron_diagnostics::TextParts;
 use pliron_laws::{Dialect, OptError, is_well_linked};
 use pliron_pipeline::PassName;
 use pliron_sccp::sccp;
-use pliron_show::Shown;
+use pliron_show::{Shown, read_shown};
 use pliron_walks::Children;
 use std::alloc::{AllocError, Global};
 use std::marker::PhantomData;
@@ -70,11 +70,12 @@ fn make_rewrite<D: Dialect>(
 
 /// A text that is explained.
 #[derive(Drop)]
-struct Explaining<'e, N> {
+struct Explaining<'e, N: Shown> {
     alloc: Global,
     of: PhantomData<N>,
     text: &'e [u8],
     words: &'e TextParts,
+    sheet: &'e N::Sheet,
     /// Whether the list may be run more than once.
     counts_runs: bool,
     /// The run of the list, counted from 1.
@@ -127,7 +128,7 @@ impl<N: Shown> Explaining<'_, N> {
         before: &TreeState,
         ctx: &Context,
     ) -> Result<(), AllocError> {
-        let mut reasons = Reasons::<N>::new(self.alloc, self.text, self.words, rewrite);
+        let mut reasons = Reasons::<N>::new(self.alloc, self.text, self.words, self.sheet, rewrite);
         reasons.compare(ctx, before)?;
         self.push_reasons(pass, &reasons)
     }
@@ -217,16 +218,17 @@ fn explain_in<N: Shown>(
 ) -> Result<Option<String>, OptError>
     requires { ctx.old.tree ≡ no_tree }
 {
-    let Some(root) = N::read(alloc, text, ctx)? else {
+    let Some(document) = read_shown::<N>(alloc, text, ctx)? else {
         return Ok(None);
     };
     let words = N::parts(alloc, text)?;
-    let operations = subjects(alloc, list, root, ctx)?;
+    let operations = subjects(alloc, list, document.root, ctx)?;
     let mut explaining = Explaining::<N> {
         alloc,
         of: PhantomData,
         text,
         words: &words,
+        sheet: &document.sheet,
         counts_runs: list.runs > 1,
         run: 0,
         lines: String::new(alloc),
@@ -239,9 +241,10 @@ fn explain_in<N: Shown>(
             &MissedText {
                 text,
                 parts: &words,
+                sheet: &document.sheet,
                 list,
             },
-            root,
+            document.root,
             ctx,
             &mut lines,
         )?;

@@ -9,7 +9,7 @@ use pliron_core::{BasicBlock, Context, Operation, Ptr, Region};
 use pliron_diagnostics::{TextParts, push_on_one_line};
 use pliron_laws::OptError;
 use pliron_laws::reads::all_operations;
-use pliron_show::Shown;
+use pliron_show::{Shown, name_of_head};
 use std::alloc::{AllocError, Global};
 use std::marker::PhantomData;
 
@@ -188,9 +188,14 @@ impl<N: Shown> FlowPicture<'_, N> {
     ) -> Result<usize, AllocError>
         requires { IsBlock ctx.now.tree block }
     {
+        let head = self.words.block(self.text, block.key()).unwrap_or(b"_");
         push_on_one_line(
             label,
-            self.words.block(self.text, block.key()).unwrap_or(b"_"),
+            if head.is_empty() {
+                name_of_head(head)
+            } else {
+                head
+            },
         )?;
         let operations = all_operations(self.alloc, block, ctx)?;
         if self.options.blocks_alone {
@@ -227,11 +232,13 @@ impl<N: Shown> FlowPicture<'_, N> {
         };
         for i in 0..row.successors.len() {
             let mut label = String::new(self.alloc);
-            let way = match branch {
-                Some(op) if op.is_live(ctx) => N::edge_way(op, ctx, i),
-                _ => "",
-            };
-            push_passed(&mut label, way, N::edge_names(words, i))?;
+            match branch {
+                Some(op) if op.is_live(ctx) => {
+                    let way = N::edge_way(self.alloc, op, ctx, i)?;
+                    push_passed(&mut label, way.as_str(), N::edge_names(op, ctx, words, i))?;
+                }
+                _ => {}
+            }
             let looks = looks(self.alloc, label.as_str(), look)?;
             let to = row.successors[i].key();
             self.dot.edge(row.node.key(), to, &looks)?;

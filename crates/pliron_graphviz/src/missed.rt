@@ -6,16 +6,17 @@ use pliron_core::{Context, Def, Operation, Ptr, Value};
 use pliron_diagnostics::{TextParts, push_on_one_line};
 use pliron_laws::{ConstFoldInterface, SideEffects};
 use pliron_pipeline::PassName;
-use pliron_show::Shown;
+use pliron_show::{Shown, push_value_name};
 use pliron_walks::Contents;
 use std::alloc::{AllocError, Global};
 use std::marker::PhantomData;
 
 /// A text whose missed rewrites are reported, with its parts and the passes that ran.
 #[derive(Clone, Copy)]
-pub struct MissedText<'m> {
+pub struct MissedText<'m, S> {
     pub text: &'m [u8],
     pub parts: &'m TextParts,
+    pub sheet: &'m S,
     pub list: &'m PassList,
 }
 
@@ -30,19 +31,24 @@ struct MissedKind {
 
 /// What is reported of what stayed.
 #[derive(Drop)]
-struct MissedReport<'m, N> {
+struct MissedReport<'m, N: Shown> {
     alloc: Global,
     of: PhantomData<N>,
-    reported: &'m MissedText<'m>,
+    reported: &'m MissedText<'m, N::Sheet>,
 }
 
 // Whether an operation makes the value as a constant.
-fn is_constant<N: Shown>(alloc: Global, ctx: &Context, value: Value) -> Result<bool, AllocError> {
+fn is_constant<N: Shown>(
+    alloc: Global,
+    ctx: &Context,
+    value: Value,
+    sheet: &N::Sheet,
+) -> Result<bool, AllocError> {
     if !value.is_live(ctx) {
         return Ok(false);
     }
     match value.def(ctx) {
-        Def::Result(op, _) => Ok(N::constant(alloc, op, ctx)?.is_some()),
+        Def::Result(op, _) => Ok(N::constant(alloc, op, sheet, ctx)?.is_some()),
         Def::Argument(_, _) => Ok(false),
     }
 }
@@ -53,11 +59,12 @@ fn unknown_operand<N: Shown>(
     ctx: &Context,
     op: Ptr<Operation>,
     most: usize,
+    sheet: &N::Sheet,
 ) -> Result<Option<usize>, AllocError>
     requires { IsLive ctx.now.tree op }
 {
     for index in 0..op.num_operand(ctx).min(most) {
-        if !is_constant::<N>(alloc, ctx, op.get_operand(ctx, index))? {
+        if !is_constant::<N>(alloc, ctx, op.get_operand(ctx, index), sheet)? {
             return Ok(Some(index));
         }
     }
@@ -109,12 +116,12 @@ impl<N: Shown> MissedReport<'_, N> {
     {
         let number = index.saturating_add(1);
         write!(why, "its operand {number}")?;
-        if index < op.num_operand(ctx)
-            && let Some(name) = self.reported.parts.value(op.get_operand(ctx, index).key())
-        {
-            why.push_str(", ")?;
-            push_on_one_line(why, name.part.of(self.reported.text))?;
-            why.push_str(",")?;
+        if index < op.num_operand(ctx) {
+            let operand = op.get_operand(ctx, index).key();
+            let mut name = String::new(self.alloc);
+            if push_value_name(&mut name, self.reported.text, self.reported.parts, operand)? {
+                write!(why, ", {name},")?;
+            }
         }
         why.push_str(" isn't known")
     }
@@ -135,7 +142,8 @@ impl<N: Shown> MissedReport<'_, N> {
                 None
             });
         }
-        let computes = N::D::folds(op, ctx) && N::constant(self.alloc, op, ctx)?.is_none();
+        let computes = N::D::folds(op, ctx)
+            && N::constant(self.alloc, op, self.reported.sheet, ctx)?.is_none();
         if !computes || !self.has(PassName::Sccp) {
             return Ok(None);
         }
@@ -154,7 +162,7 @@ impl<N: Shown> MissedReport<'_, N> {
         let Some(kind) = self.subject(ctx, op)? else {
             return Ok(why);
         };
-        match unknown_operand::<N>(self.alloc, ctx, op, kind.most)? {
+        match unknown_operand::<N>(self.alloc, ctx, op, kind.most, self.reported.sheet)? {
             Some(index) => {
                 why.push_str(kind.what)?;
                 self.push_unknown(ctx, op, index, &mut why)?;
@@ -174,7 +182,7 @@ impl<N: Shown> MissedReport<'_, N> {
         let mut why = String::new(self.alloc);
         let is_unused = op.num_result(ctx) > 0 && !is_used(ctx, op);
         if self.has(PassName::Dce) && is_unused && has_effects::<N>(ctx, op) {
-            let word = N::word(op, ctx).unwrap_or("_");
+            let word = N::word(op, self.reported.sheet, ctx).unwrap_or("_");
             write!(
                 why,
                 "stays, though nothing uses it: a {word} has side effects"
@@ -223,7 +231,7 @@ impl<N: Shown> MissedReport<'_, N> {
 /// linear in what is live.
 pub fn push_missed<N: Shown>(
     alloc: Global,
-    reported: &MissedText,
+    reported: &MissedText<N::Sheet>,
     root: Ptr<Operation>,
     ctx: &Context,
     lines: &mut String,

@@ -4,7 +4,7 @@ ghost use Rattle.pliron_core.specs.Tree.{IsBlock, IsDefined, IsLive};
 use crate::tree_state::{BlockState, OperationState, TreeState};
 use pliron_core::{BasicBlock, Context, Def, Operation, Ptr, Value};
 use pliron_diagnostics::{TextPart, TextParts, push_on_one_line};
-use pliron_show::Shown;
+use pliron_show::{Shown, name_of_head, push_value_name};
 use std::alloc::{AllocError, Global};
 use std::collections::{HashMap, HashSet};
 use std::marker::PhantomData;
@@ -41,11 +41,12 @@ const SHOWN: usize = 60;
 
 /// What is reported of a rewrite, so far.
 #[derive(Drop)]
-pub struct Reasons<'t, N> {
+pub struct Reasons<'t, N: Shown> {
     alloc: Global,
     of: PhantomData<N>,
     text: &'t [u8],
     words: &'t TextParts,
+    sheet: &'t N::Sheet,
     rewrite: Rewrite,
     /// The constants that replaced values.
     constants: HashMap<Value, String>,
@@ -63,11 +64,12 @@ fn constant_made<N: Shown>(
     alloc: Global,
     ctx: &Context,
     value: Value,
+    sheet: &N::Sheet,
 ) -> Result<Option<String>, AllocError>
     requires { IsDefined ctx.now.tree value }
 {
     match value.def(ctx) {
-        Def::Result(op, _) => N::constant(alloc, op, ctx),
+        Def::Result(op, _) => N::constant(alloc, op, sheet, ctx),
         Def::Argument(_, _) => Ok(None),
     }
 }
@@ -84,28 +86,26 @@ fn jump_target(ctx: &Context, block: Ptr<BasicBlock>) -> Option<Ptr<BasicBlock>>
     }
 }
 
-// The name that a head of a block begins with.
-fn name_of_head(head: &[u8]) -> &[u8] {
-    let end = head
-        .iter()
-        .position(|byte| !byte.is_ascii_alphanumeric() && *byte != b'_')
-        .unwrap_or(head.len());
-    &head[..end]
-}
-
 // Separates a phrase from those before it.
 fn part_phrases(why: &mut String) -> Result<(), AllocError> {
     why.push_str(if why.is_empty() { "" } else { ", " })
 }
 
 impl<'t, N: Shown> Reasons<'t, N> {
-    /// No reasons so far, for a text with these words. Cost: constant.
-    pub fn new(alloc: Global, text: &'t [u8], words: &'t TextParts, rewrite: Rewrite) -> Self {
+    /// No reasons so far, for a text with these words and this sheet. Cost: constant.
+    pub fn new(
+        alloc: Global,
+        text: &'t [u8],
+        words: &'t TextParts,
+        sheet: &'t N::Sheet,
+        rewrite: Rewrite,
+    ) -> Self {
         Reasons {
             alloc,
             of: PhantomData,
             text,
             words,
+            sheet,
             rewrite,
             constants: HashMap::new(alloc),
             unused: HashSet::new(alloc),
@@ -128,11 +128,11 @@ impl<'t, N: Shown> Reasons<'t, N> {
         reported: &mut String,
         value: Value,
     ) -> Result<(), AllocError> {
-        if let Some(name) = self.words.value(value.key()) {
-            return push_on_one_line(reported, name.part.of(self.text));
+        if push_value_name(reported, self.text, self.words, value.key())? {
+            return Ok(());
         }
         let made = if value.is_live(ctx) {
-            constant_made::<N>(self.alloc, ctx, value)?
+            constant_made::<N>(self.alloc, ctx, value, self.sheet)?
         } else {
             None
         };
@@ -170,7 +170,7 @@ impl<'t, N: Shown> Reasons<'t, N> {
             return Ok(());
         };
         let mut reported = format!(in self.alloc; "argument ")?;
-        push_on_one_line(&mut reported, name.part.of(self.text))?;
+        push_value_name(&mut reported, self.text, self.words, argument.key())?;
         reported.push_str(" of ")?;
         self.push_block(&mut reported, block)?;
         reported.push_str(": ")?;
@@ -192,7 +192,7 @@ impl<N: Shown> Reasons<'_, N> {
         for i in 0..count {
             let (old, new) = (state.operands[i], state.op.get_operand(ctx, i));
             if old != new
-                && let Some(constant) = constant_made::<N>(self.alloc, ctx, new)?
+                && let Some(constant) = constant_made::<N>(self.alloc, ctx, new, self.sheet)?
             {
                 self.constants.insert(old, constant)?;
             }
@@ -231,7 +231,8 @@ impl<N: Shown> Reasons<'_, N> {
         if !is_new || self.constants.contains_key(result) {
             return Ok(());
         }
-        if let Some(constant) = constant_made::<N>(self.alloc, ctx, put.get_result(ctx, 0))? {
+        let result_made = put.get_result(ctx, 0);
+        if let Some(constant) = constant_made::<N>(self.alloc, ctx, result_made, self.sheet)? {
             self.constants.insert(*result, constant)?;
             self.unused.insert(*result)?;
         }

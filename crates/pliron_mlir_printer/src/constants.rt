@@ -3,8 +3,8 @@ ghost use Rattle.std.specs.Prelude.{◌≡◌};
 ghost use Rattle.pliron_mlir_printer.specs.Names.{jump_name, constant_name};
 
 use itoa::Buffer;
-use pliron_core::{Context, Head, Operation, Ptr};
-use pliron_mlir::{form_of, form_of_constant, integer_of};
+use pliron_core::{AttrObj, Context, Head, Operation, Ptr};
+use pliron_mlir::{Class, class_of_head, form_of, form_of_constant, integer_of};
 use pliron_mlir_syntax::{Form, MAX_DEPTH, Sheet};
 use std::alloc::AllocError;
 
@@ -53,6 +53,17 @@ pub fn form_of_datum(datum: i128, sheet: &Sheet) -> Option<Form> {
     form_by_number(form_of_constant(datum), sheet)
 }
 
+/// The datum of a constant with this head; none of any other operation. Cost: constant.
+pub fn datum_of(head: &Head) -> Option<i128> {
+    if class_of_head(head) != Some(Class::Constant) || head.attrs.is_empty() {
+        return None;
+    }
+    match head.attrs.get(0) {
+        AttrObj::Int(datum) => Some(*datum),
+        AttrObj::Text(_) => None,
+    }
+}
+
 // The name of the operation with quotes, empty where it has none.
 fn name_of<'s>(op: Ptr<Operation>, sheet: &'s Sheet, ctx: &Context) -> &'s [u8] {
     if !op.is_live(ctx) {
@@ -88,7 +99,8 @@ pub fn dialect_of(op: Ptr<Operation>, sheet: &Sheet, ctx: &Context) -> TargetDia
     TargetDialect::Standard
 }
 
-fn write_number(number: u64, out: &mut Vec<u8>) -> Result<(), AllocError> {
+// Writes a number in digits.
+pub fn write_number(number: u64, out: &mut Vec<u8>) -> Result<(), AllocError> {
     let mut buffer = Buffer::new();
     out.extend_from_slice(buffer.format(number).as_bytes())
 }
@@ -114,8 +126,8 @@ pub fn write_signed(width: u32, bits: u64, out: &mut Vec<u8>) -> Result<(), Allo
     write_number(signed.unsigned_abs(), out)
 }
 
-// Writes the type of numbers of this width.
-fn write_type(width: u32, out: &mut Vec<u8>) -> Result<(), AllocError> {
+/// Writes the type of numbers of this width. Errors: allocation failure. Cost: constant.
+pub fn write_type(width: u32, out: &mut Vec<u8>) -> Result<(), AllocError> {
     if width == 65 {
         return out.extend_from_slice(b"index");
     }

@@ -1,7 +1,9 @@
 //! Printing a module.
-use crate::constants::{dialect_of, form_of_datum, form_of_head, type_of_datum, write_constant};
-use itoa::Buffer;
-use pliron_core::{AttrObj, BasicBlock, Context, Def, Head, Operation, Ptr, Region, Value};
+use crate::constants::{
+    datum_of, dialect_of, form_of_datum, form_of_head, type_of_datum, write_constant, write_number,
+};
+use crate::naming::{ByHandle, Naming};
+use pliron_core::{BasicBlock, Context, Def, Head, Operation, Ptr, Region, Value};
 use pliron_mlir::{Class, class_of_head, count_of_edge};
 use pliron_mlir_syntax::{Form, Sheet};
 use std::alloc::{AllocError, Global};
@@ -21,8 +23,9 @@ enum Item {
 
 /// What is printed so far.
 #[derive(Drop)]
-struct Printer<'s> {
+struct Printer<'s, G> {
     sheet: &'s Sheet,
+    naming: &'s G,
     root: Ptr<Operation>,
     out: Vec<u8>,
     depth: usize,
@@ -39,8 +42,22 @@ pub fn print_module(
     sheet: &Sheet,
     ctx: &Context,
 ) -> Result<Vec<u8>, AllocError> {
+    print_module_named(alloc, root, sheet, &ByHandle, ctx)
+}
+
+/// Prints a module as `print_module` does, with these names of values and blocks.
+///
+/// Errors: allocation failure. Cost: linear in what is printed, and that of the names.
+pub fn print_module_named<G: Naming>(
+    alloc: Global,
+    root: Ptr<Operation>,
+    sheet: &Sheet,
+    naming: &G,
+    ctx: &Context,
+) -> Result<Vec<u8>, AllocError> {
     let mut printer = Printer {
         sheet,
+        naming,
         root,
         out: Vec::new(alloc),
         depth: 0,
@@ -49,6 +66,7 @@ pub fn print_module(
     let outcome = printer.all(ctx);
     let Printer {
         sheet: _,
+        naming: _,
         root: _,
         out,
         depth: _,
@@ -76,25 +94,13 @@ fn edge_count(head: &Head, edge: usize) -> u64 {
     u64::try_from(count_of_edge(head, edge)).unwrap_or(u64::MAX)
 }
 
-// The datum of a constant.
-fn datum_of(head: &Head) -> Option<i128> {
-    if class_of_head(head) != Some(Class::Constant) || head.attrs.is_empty() {
-        return None;
-    }
-    match head.attrs.get(0) {
-        AttrObj::Int(datum) => Some(*datum),
-        AttrObj::Text(_) => None,
-    }
-}
-
-impl Printer<'_> {
+impl<G: Naming> Printer<'_, G> {
     fn text(&mut self, text: &[u8]) -> Result<(), AllocError> {
         self.out.extend_from_slice(text)
     }
 
     fn number(&mut self, number: u64) -> Result<(), AllocError> {
-        let mut buffer = Buffer::new();
-        self.out.extend_from_slice(buffer.format(number).as_bytes())
+        write_number(number, &mut self.out)
     }
 
     fn indent(&mut self) -> Result<(), AllocError> {
@@ -162,8 +168,7 @@ impl Printer<'_> {
     }
 
     fn value(&mut self, value: Value) -> Result<(), AllocError> {
-        self.text(b"%")?;
-        self.number(value.key())
+        self.naming.value(value.key(), &mut self.out)
     }
 
     fn whole(&mut self, form: Form) -> Result<(), AllocError> {
@@ -212,8 +217,7 @@ impl Printer<'_> {
     }
 
     fn label(&mut self, block: Ptr<BasicBlock>) -> Result<(), AllocError> {
-        self.text(b"^bb")?;
-        self.number(block.key())
+        self.naming.block(block.key(), &mut self.out)
     }
 
     // The property list, with the counts of operands of edges where there are some.

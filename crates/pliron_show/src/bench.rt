@@ -1,17 +1,18 @@
 //! The notation of `Bench`.
 ghost use Rattle.pliron_show.specs.Faults.{faults_as_unreadable};
 
-use crate::shown::{Runnable, Shown};
+use crate::renaming::{LETTERS, print_renamed};
+use crate::shown::{NameSource, NewNames, Runnable, Shown};
 use pliron_bench::BenchKind;
 use pliron_bench::tables::kind_at;
 use pliron_core::{Context, Operation, Ptr};
 use pliron_diagnostics::{
-    RunOptions, Source, TextParts, forwarded_names, parts_of, run_sight, text_fault,
+    RunOptions, Source, TextParts, forwarded_names, parts_of, pretty, run_sight, text_fault,
 };
 use pliron_evaluator::evaluator::{Notes, Sight};
 use pliron_laws::OptError;
 use pliron_notation::number_of;
-use pliron_opts::BenchNotation;
+use pliron_opts::{BenchNotation, Document};
 use std::alloc::{AllocError, Global};
 
 impl Shown for BenchNotation {
@@ -21,11 +22,28 @@ impl Shown for BenchNotation {
         text_fault(alloc, source.name, source.text)
     }
 
+    fn on_lines(alloc: Global, printed: &[u8]) -> Result<Vec<u8>, AllocError> {
+        pretty(alloc, printed)
+    }
+
+    fn new_names() -> NewNames {
+        LETTERS
+    }
+
+    fn print_named<T: NameSource>(
+        alloc: Global,
+        document: &Document<()>,
+        names: &T,
+        ctx: &Context,
+    ) -> Result<Vec<u8>, OptError> {
+        print_renamed::<Self, T>(alloc, document, names, ctx)
+    }
+
     fn parts(alloc: Global, text: &[u8]) -> Result<TextParts, AllocError> {
         parts_of(alloc, text)
     }
 
-    fn word(op: Ptr<Operation>, ctx: &Context) -> Option<&'static str> {
+    fn word<'s>(op: Ptr<Operation>, _sheet: &'s (), ctx: &Context) -> Option<&'s str> {
         match kind_at(op, ctx) {
             Some(kind) => Some(kind.word()),
             None => None,
@@ -39,6 +57,7 @@ impl Shown for BenchNotation {
     fn constant(
         alloc: Global,
         op: Ptr<Operation>,
+        _sheet: &(),
         ctx: &Context,
     ) -> Result<Option<String>, AllocError> {
         if kind_at(op, ctx) != Some(BenchKind::Const) {
@@ -50,15 +69,25 @@ impl Shown for BenchNotation {
         }
     }
 
-    fn edge_way(op: Ptr<Operation>, ctx: &Context, index: usize) -> &'static str {
+    fn edge_way(
+        alloc: Global,
+        op: Ptr<Operation>,
+        ctx: &Context,
+        index: usize,
+    ) -> Result<String, AllocError> {
         match (kind_at(op, ctx), index) {
-            (Some(BenchKind::Cbr), 0) => "true",
-            (Some(BenchKind::Cbr), _) => "false",
-            _ => "",
+            (Some(BenchKind::Cbr), 0) => String::from_str(alloc, "true"),
+            (Some(BenchKind::Cbr), _) => String::from_str(alloc, "false"),
+            _ => Ok(String::new(alloc)),
         }
     }
 
-    fn edge_names<'t>(words: &'t [u8], index: usize) -> &'t [u8] {
+    fn edge_names<'t>(
+        _op: Ptr<Operation>,
+        _ctx: &Context,
+        words: &'t [u8],
+        index: usize,
+    ) -> &'t [u8] {
         forwarded_names(words, index).unwrap_or(b"")
     }
 }

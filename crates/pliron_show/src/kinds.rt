@@ -4,12 +4,13 @@ ghost use Rattle.pliron_core.specs.Tree.{IsLive};
 ghost use Rattle.pliron_core.specs.Writes.{no_tree};
 ghost use Rattle.pliron_show.specs.Faults.{faults_as_unreadable};
 
-use crate::shown::Shown;
+use crate::renaming::{LETTERS, print_renamed};
+use crate::shown::{NameSource, NewNames, Shown};
 use pliron_core::{Context, Operation, Ptr};
-use pliron_diagnostics::{Source, TextParts, forwarded_names, parts_of};
+use pliron_diagnostics::{Source, TextParts, forwarded_names, parts_of, pretty};
 use pliron_laws::OptError;
 use pliron_notation::{Grammar, number_of};
-use pliron_opts::{KindNotation, Notation};
+use pliron_opts::{Document, KindNotation, Notation};
 use pliron_roles::{Form, Roles};
 use std::alloc::{AllocError, Global};
 
@@ -58,11 +59,28 @@ impl<K: Grammar> Shown for KindNotation<K> {
         message_in::<Self>(alloc, source, &mut ctx)
     }
 
+    fn on_lines(alloc: Global, printed: &[u8]) -> Result<Vec<u8>, AllocError> {
+        pretty(alloc, printed)
+    }
+
+    fn new_names() -> NewNames {
+        LETTERS
+    }
+
+    fn print_named<T: NameSource>(
+        alloc: Global,
+        document: &Document<()>,
+        names: &T,
+        ctx: &Context,
+    ) -> Result<Vec<u8>, OptError> {
+        print_renamed::<Self, T>(alloc, document, names, ctx)
+    }
+
     fn parts(alloc: Global, text: &[u8]) -> Result<TextParts, AllocError> {
         parts_of(alloc, text)
     }
 
-    fn word(op: Ptr<Operation>, ctx: &Context) -> Option<&'static str> {
+    fn word<'s>(op: Ptr<Operation>, _sheet: &'s (), ctx: &Context) -> Option<&'s str> {
         match K::from_number(op.head(ctx).kind) {
             Some(kind) => Some(kind.word()),
             None => None,
@@ -76,6 +94,7 @@ impl<K: Grammar> Shown for KindNotation<K> {
     fn constant(
         alloc: Global,
         op: Ptr<Operation>,
+        _sheet: &(),
         ctx: &Context,
     ) -> Result<Option<String>, AllocError> {
         match (form_of::<K>(op, ctx), number_of(op, ctx)) {
@@ -84,15 +103,25 @@ impl<K: Grammar> Shown for KindNotation<K> {
         }
     }
 
-    fn edge_way(op: Ptr<Operation>, ctx: &Context, index: usize) -> &'static str {
+    fn edge_way(
+        alloc: Global,
+        op: Ptr<Operation>,
+        ctx: &Context,
+        index: usize,
+    ) -> Result<String, AllocError> {
         match (form_of::<K>(op, ctx), index) {
-            (Some(Form::Chooses(_)), 0) => "true",
-            (Some(Form::Chooses(_)), _) => "false",
-            _ => "",
+            (Some(Form::Chooses(_)), 0) => String::from_str(alloc, "true"),
+            (Some(Form::Chooses(_)), _) => String::from_str(alloc, "false"),
+            _ => Ok(String::new(alloc)),
         }
     }
 
-    fn edge_names<'t>(words: &'t [u8], index: usize) -> &'t [u8] {
+    fn edge_names<'t>(
+        _op: Ptr<Operation>,
+        _ctx: &Context,
+        words: &'t [u8],
+        index: usize,
+    ) -> &'t [u8] {
         forwarded_names(words, index).unwrap_or(b"")
     }
 }

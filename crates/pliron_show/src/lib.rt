@@ -5,7 +5,14 @@
 #![tactic(auto)]
 
 mod bench;
+mod definition_order;
 mod kinds;
+mod part_names;
+mod reading;
+mod renaming;
 mod shown;
 
-pub use shown::{Runnable, Shown};
+pub use definition_order::DefinitionOrder;
+pub use part_names::{name_of_head, number_in_pack, push_value_name};
+pub use reading::read_shown;
+pub use shown::{NameSource, NewNames, Runnable, Shown};

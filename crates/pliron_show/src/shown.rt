@@ -3,6 +3,7 @@ ghost use Rattle.std.specs.Prelude.{◌≡◌, map, IfOk, IfSome, string_bytes};
 ghost use Rattle.pliron_core.specs.Tree.{IsLive};
 ghost use Rattle.pliron_laws.specs.Datum.{Number as NumberOf};
 ghost use Rattle.pliron_laws.specs.Machine.{run, sight_after as seen_of};
+ghost use Rattle.pliron_diagnostics.specs.Layout.{words_of};
 ghost use Rattle.pliron_evaluator.specs.Evaluator.{sight_of};
 ghost use Rattle.pliron_show.specs.Faults.{TextFaults};
 
@@ -10,8 +11,24 @@ use pliron_core::{Context, Operation, Ptr};
 use pliron_diagnostics::{RunOptions, Source, TextParts};
 use pliron_evaluator::evaluator::Sight;
 use pliron_laws::OptError;
-use pliron_opts::Notation;
+use pliron_opts::{Document, Notation};
 use std::alloc::{AllocError, Global};
+
+/// What the names of new values and of new blocks begin with.
+#[derive(Clone, Copy, Debug)]
+pub struct NewNames {
+    pub value: &'static str,
+    pub block: &'static str,
+}
+
+/// What values and blocks are called.
+pub trait NameSource {
+    /// Adds the name of the value with this handle. Errors: allocation failure. Cost: linear in it.
+    fn push_value(&self, key: u64, line: &mut String) -> Result<(), AllocError>;
+
+    /// Adds the name of the block with this handle. Errors: allocation failure. Cost: linear in it.
+    fn push_block(&self, key: u64, line: &mut String) -> Result<(), AllocError>;
+}
 
 /// A notation whose texts and trees are shown to people.
 pub trait Shown: Notation {
@@ -22,12 +39,30 @@ pub trait Shown: Notation {
     fn fault_message(alloc: Global, source: &Source) -> Result<Option<String>, OptError>
         ensures { IfOk result (λ found. IfSome found (λ message. faults source.now.text.now (string_bytes message))) };
 
+    /// A printed text with each block and each operation on a line of its own: the same words in the same order. Errors:
+    /// allocation failure. Cost: linear in the text, and its depth for each line.
+    fn on_lines(alloc: Global, printed: &[u8]) -> Result<Vec<u8>, AllocError>
+        ensures { IfOk result (λ laid. words_of laid.items ≡ words_of printed.now) };
+
+    /// What the names of new values and of new blocks begin with. Cost: constant.
+    fn new_names() -> NewNames;
+
+    /// Prints the operation with its sheet, with these names of values and blocks. Asks that it is live (`is_live` tests
+    /// it). Errors: allocation failure. Cost: that of `print_document`, and of the names.
+    fn print_named<T: NameSource>(
+        alloc: Global,
+        document: &Document<Self::Sheet>,
+        names: &T,
+        ctx: &Context,
+    ) -> Result<Vec<u8>, OptError>
+        requires { IsLive ctx.now.tree document.now.root };
+
     /// Where the operations, the heads of blocks and the names of values are in a text that the notation has. Errors:
     /// allocation failure. Cost: linear in the text.
     fn parts(alloc: Global, text: &[u8]) -> Result<TextParts, AllocError>;
 
-    /// The word of the operation, if it has one. Asks that it is live (`is_live` tests it). Cost: constant.
-    fn word(op: Ptr<Operation>, ctx: &Context) -> Option<&'static str>
+    /// The word of the operation, if it has one. Asks that it is live (`is_live` tests it). Cost: linear in the word.
+    fn word<'s>(op: Ptr<Operation>, sheet: &'s Self::Sheet, ctx: &Context) -> Option<&'s str>
         requires { IsLive ctx.now.tree op };
 
     /// Whether the names of values begin anew at the operation. Asks that it is live (`is_live` tests it). Cost: constant.
@@ -39,18 +74,25 @@ pub trait Shown: Notation {
     fn constant(
         alloc: Global,
         op: Ptr<Operation>,
+        sheet: &Self::Sheet,
         ctx: &Context,
     ) -> Result<Option<String>, AllocError>
         requires { IsLive ctx.now.tree op };
 
     /// Which way the edge at this index is, of a branch; empty where it isn't one of several. Asks that the operation is
-    /// live (`is_live` tests it). Cost: constant.
-    fn edge_way(op: Ptr<Operation>, ctx: &Context, index: usize) -> &'static str
+    /// live (`is_live` tests it). Errors: allocation failure. Cost: constant.
+    fn edge_way(
+        alloc: Global,
+        op: Ptr<Operation>,
+        ctx: &Context,
+        index: usize,
+    ) -> Result<String, AllocError>
         requires { IsLive ctx.now.tree op };
 
-    /// The names of the values that the edge at this index forwards, as the words of its operation have them. Cost: linear
-    /// in the words.
-    fn edge_names<'t>(words: &'t [u8], index: usize) -> &'t [u8];
+    /// The names of the values that the edge at this index forwards, as these words of its operation have them. Asks that
+    /// the operation is live (`is_live` tests it). Cost: linear in the words, and in the edges before it.
+    fn edge_names<'t>(op: Ptr<Operation>, ctx: &Context, words: &'t [u8], index: usize) -> &'t [u8]
+        requires { IsLive ctx.now.tree op };
 }
 
 /// A notation whose operations are run for people, on numbers.

@@ -1,9 +1,9 @@
 //! Values and blocks in the order in which the text of an operation defines them.
 ghost use Rattle.pliron_core.specs.Tree.{IsLive};
 
+use crate::shown::Shown;
 use pliron_core::{BasicBlock, Context, Operation, Ptr, Value};
 use pliron_laws::reads::{all_arguments, all_operations, all_results, push_layouts};
-use pliron_show::Shown;
 use std::alloc::{AllocError, Global};
 
 /// Values and blocks in the order in which the text of an operation defines them.

@@ -1,15 +1,25 @@
 //! A printed operation with other names for its values and blocks.
 //!
-//! The notation prints values as `v0`, `v1`, .. in each `func` and blocks as `b0`, `b1`, .. in each region.
+//! The notations of `Bench` and of dialects by roles print values as `v0`, `v1`, .. in each `func` and blocks as `b0`, `b1`, .. in each region.
+ghost use Rattle.pliron_core.specs.Tree.{IsLive};
+
 use crate::definition_order::DefinitionOrder;
-use crate::names::Names;
-use pliron_core::{BasicBlock, Ptr, Value};
+use crate::shown::{NameSource, NewNames, Shown};
+use pliron_core::{BasicBlock, Context, Ptr, Value};
+use pliron_laws::OptError;
+use pliron_opts::Document;
 use std::alloc::{AllocError, Global};
+
+/// What new names begin with, as those that are printed do.
+pub static LETTERS: NewNames = NewNames {
+    value: "v",
+    block: "b",
+};
 
 /// A printed text that is written with other names so far.
 #[derive(Drop)]
-struct Renaming<'r> {
-    names: &'r Names<'r>,
+struct Renaming<'r, T> {
+    names: &'r T,
     order: &'r DefinitionOrder,
     /// The function whose values are named, as `DefinitionOrder` counts them.
     function: usize,
@@ -24,17 +34,17 @@ fn number_behind(word: &str, letter: char) -> Option<usize> {
     word.strip_prefix(letter)?.parse::<usize>().ok()
 }
 
-impl Renaming<'_> {
+impl<T: NameSource> Renaming<'_, T> {
     // Writes a word: the other name, where it is that of a value or a block.
     fn push_word(&mut self, word: &str) -> Result<(), AllocError> {
         if word == "func" {
             self.function = self.function.saturating_add(1);
         }
         if let Some(value) = self.value_of(word) {
-            return self.names.push_value(value, &mut self.written);
+            return self.names.push_value(value.key(), &mut self.written);
         }
         if let Some(block) = self.block_of(word) {
-            return self.names.push_block(block, &mut self.written);
+            return self.names.push_block(block.key(), &mut self.written);
         }
         self.written.push_str(word)
     }
@@ -91,12 +101,12 @@ impl Renaming<'_> {
     }
 }
 
-/// The printed text of the operation that is defined in this order, with these names. Errors: allocation failure. Cost:
+// The printed text of the operation that is defined in this order, with these names. Errors: allocation failure. Cost:
 /// linear in it.
-pub fn rename_text(
+fn rename_text<T: NameSource>(
     alloc: Global,
     printed: &str,
-    names: &Names,
+    names: &T,
     order: &DefinitionOrder,
 ) -> Result<String, AllocError> {
     let mut renaming = Renaming {
@@ -109,4 +119,20 @@ pub fn rename_text(
     };
     renaming.push_text(alloc, printed)?;
     Ok(renaming.written)
+}
+
+/// Prints the operation, and renames what it is printed with. Asks that it is live (`is_live` tests it). Errors:
+/// allocation failure. Cost: that of printing, and of the names.
+pub fn print_renamed<N: Shown, T: NameSource>(
+    alloc: Global,
+    document: &Document<N::Sheet>,
+    names: &T,
+    ctx: &Context,
+) -> Result<Vec<u8>, OptError>
+    requires { IsLive ctx.now.tree document.now.root }
+{
+    let printed = N::print_document(alloc, document, ctx)?;
+    let text = std::str::from_utf8(&printed).unwrap_or("");
+    let order = DefinitionOrder::of::<N>(alloc, document.root, ctx)?;
+    Ok(rename_text(alloc, text, names, &order)?.into_bytes())
 }

@@ -1,0 +1,16 @@
+//! Modules of MLIR as people see them: where their texts leave the generic form, where operations, blocks and values are
+//! in them, what an edge is called, and which constants operations make.
+//!
+//! It knows the generic form and what people ask of notations; of passes, arguments, files and streams it knows nothing.
+#![tactic(auto)]
+
+mod constants;
+mod edges;
+mod notation;
+mod parts;
+mod shown;
+
+pub use constants::constant_of;
+pub use edges::{edge_names, edge_way};
+pub use notation::MlirNotation;
+pub use parts::module_parts;
