@@ -19,6 +19,7 @@ use pliron_show::{NameSource, NewNames, Shown};
 use std::alloc::{AllocError, Global};
 
 /// Names that are given, as printing takes them.
+#[derive(Drop)]
 struct GivenNames<'n, T> {
     alloc: Global,
     names: &'n T,
