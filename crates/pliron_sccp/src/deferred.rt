@@ -15,7 +15,7 @@
 //! table as long as itself, while few operations have so many operands. So deferring may fail to allocate. No rewrite
 //! was begun by then, so the tree is as before.
 //!
-//! It serves growth alone: without it `sumbr` of `docs/benchmarks/shapes.py` is quadratic.
+//! It serves growth alone: without it `shiftcbr` of `docs/benchmarks/shapes.py` is quadratic.
 ghost use Rattle.std.specs.Prelude.{◌≡◌, ◌<◌, ◌≤◌, ◌+◌, ℕ, [], IfNone, IfOk, IfSome, OnOk, IsOkUnless, IsTrue, Some, ◌↔◌, length, slice_get};
 ghost use Rattle.pliron_sccp.specs.Deferring.{HasFirst, Defers, PopsDeferred, deferred_operations};
 
