@@ -1,6 +1,7 @@
 //! What the program reads.
 use crate::inner::{function_around, is_text};
 use pliron_cli::{TextRange, blank_comments, isolate, operation_range, without_mark};
+use pliron_mlir_show::module_range;
 use std::alloc::{AllocError, Global};
 use std::fs;
 use std::io::{self, Read};
@@ -45,17 +46,33 @@ pub fn read_graph_input(rt: &HostRuntime, name: &str) -> io::Result<Input> {
     })
 }
 
-/// The module in the file, as it is. Errors: those of the file; allocation failure. Cost: linear in it.
-pub fn read_module_input(rt: &HostRuntime, name: &str) -> io::Result<Input> {
+/// The module in the file, or the operation in it that the path leads to, where a path is given. `None` where the path
+/// leads nowhere. Errors: those of the file; allocation failure. Cost: linear in it, and that of `module_range`.
+pub fn read_module_input(
+    rt: &HostRuntime,
+    name: &str,
+    path: Option<&str>,
+) -> io::Result<Option<Input>> {
     let alloc = rt.alloc();
     let bytes = bytes_of(rt, name)?;
-    let text = Vec::from_slice(alloc, without_mark(&bytes))?;
-    Ok(Input {
-        whole: Vec::new(alloc),
+    let whole = Vec::from_slice(alloc, without_mark(&bytes))?;
+    let part = match path {
+        Some(path) => match module_range(alloc, &whole, path)? {
+            Some(part) => Some(part),
+            None => return Ok(None),
+        },
+        None => None,
+    };
+    let text = match part {
+        Some(part) => isolate(alloc, &whole, part)?,
+        None => Vec::from_slice(alloc, &whole)?,
+    };
+    Ok(Some(Input {
+        whole,
         text,
-        part: None,
+        part,
         inner: None,
-    })
+    }))
 }
 
 // The bytes without the carriage return that some editors put before each end of a line. Errors: allocation failure.

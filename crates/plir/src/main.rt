@@ -248,15 +248,23 @@ fn outcome_of_module(
     name: &str,
 ) -> io::Result<Outcome> {
     let alloc = rt.alloc();
-    if command == "run" || matches.get_str("at").is_some() {
-        let what = if command == "run" { "`run`" } else { "`--at`" };
-        let report = format!(in alloc; "error: {what} takes no module of MLIR\n")?;
+    if command == "run" {
+        let report = format!(in alloc; "error: `run` takes no module of MLIR\n")?;
         return Ok(input_failure(alloc, report));
     }
-    match read_module_input(rt, name) {
-        Ok(input) => outcome_in::<MlirNotation>(rt, command, matches, &input, Dialect::Mlir),
+    let path = matches.get_str("at");
+    match read_module_input(rt, name, path) {
+        Ok(Some(input)) => outcome_in::<MlirNotation>(rt, command, matches, &input, Dialect::Mlir),
+        Ok(None) => no_operation_outcome(alloc, path.unwrap_or("")),
         Err(error) => unread_outcome(alloc, name, &error),
     }
+}
+
+// The outcome of a command whose path leads to no operation.
+fn no_operation_outcome(alloc: Global, path: &str) -> io::Result<Outcome> {
+    let help = AT_HELP;
+    let report = format!(in alloc; "error: no operation `{path}`\nhelp: {help}\n")?;
+    Ok(input_failure(alloc, report))
 }
 
 // The outcome of a command whose input can't be read.
@@ -288,11 +296,7 @@ fn outcome(rt: &HostRuntime, command: &str, matches: &ArgMatches) -> io::Result<
             Some(part) => outcome_of_inner(alloc, command, matches, &input, part),
             None => outcome_of_text(rt, command, matches, &input),
         },
-        Ok(None) => {
-            let (path, help) = (path.unwrap_or(""), AT_HELP);
-            let report = format!(in alloc; "error: no operation `{path}`\nhelp: {help}\n")?;
-            Ok(input_failure(alloc, report))
-        }
+        Ok(None) => no_operation_outcome(alloc, path.unwrap_or("")),
         Err(error) => unread_outcome(alloc, name, &error),
     }
 }

@@ -7,7 +7,7 @@ use pliron_cli::{
     opt,
 };
 use pliron_instrument::{PipelineText, Timeless};
-use pliron_mlir_show::MlirNotation;
+use pliron_mlir_show::{MlirNotation, module_range};
 use std::alloc::{AllocError, Global};
 use std::process::Abort;
 
@@ -158,5 +158,36 @@ fn other_modules_are_no_names(rt: HostRuntime) {
         );
         let written = written.expect(&rt, "memory");
         assert!(rt; written.as_slice() == answer.as_bytes());
+    }
+}
+
+/// Paths, texts, and the operations that they lead to.
+static PATHS: &str = "\
+0 => ~builtin.module~() ({ ~func.func~() <{function_type = (i32) -> i32, sym_name = ~f~}> ({ ^bb0(%a: i32): ~func.return~(%a) : (i32) -> () }) : () -> () ~func.func~() <{function_type = () -> (), sym_name = ~g~}> ({ ~cf.br~()[^b] : () -> () ^b: ~test.if~() ({ ~test.a~() : () -> () }, { ~test.b~() {at = ~})~} : () -> () loc(~x~) }) {k = 1 : i32} : () -> () loc(unknown) ~func.return~() : () -> () }) : () -> () }) : () -> () => ~builtin.module~() ({ ~func.func~() <{function_type = (i32) -> i32, sym_name = ~f~}> ({ ^bb0(%a: i32): ~func.return~(%a) : (i32) -> () }) : () -> () ~func.func~() <{function_type = () -> (), sym_name = ~g~}> ({ ~cf.br~()[^b] : () -> () ^b: ~test.if~() ({ ~test.a~() : () -> () }, { ~test.b~() {at = ~})~} : () -> () loc(~x~) }) {k = 1 : i32} : () -> () loc(unknown) ~func.return~() : () -> () }) : () -> () }) : () -> ()
+0.0 => ~builtin.module~() ({ ~func.func~() <{function_type = (i32) -> i32, sym_name = ~f~}> ({ ^bb0(%a: i32): ~func.return~(%a) : (i32) -> () }) : () -> () ~func.func~() <{function_type = () -> (), sym_name = ~g~}> ({ ~cf.br~()[^b] : () -> () ^b: ~test.if~() ({ ~test.a~() : () -> () }, { ~test.b~() {at = ~})~} : () -> () loc(~x~) }) {k = 1 : i32} : () -> () loc(unknown) ~func.return~() : () -> () }) : () -> () }) : () -> () => ~func.func~() <{function_type = (i32) -> i32, sym_name = ~f~}> ({ ^bb0(%a: i32): ~func.return~(%a) : (i32) -> () }) : () -> ()
+0.1.0 => ~builtin.module~() ({ ~func.func~() <{function_type = (i32) -> i32, sym_name = ~f~}> ({ ^bb0(%a: i32): ~func.return~(%a) : (i32) -> () }) : () -> () ~func.func~() <{function_type = () -> (), sym_name = ~g~}> ({ ~cf.br~()[^b] : () -> () ^b: ~test.if~() ({ ~test.a~() : () -> () }, { ~test.b~() {at = ~})~} : () -> () loc(~x~) }) {k = 1 : i32} : () -> () loc(unknown) ~func.return~() : () -> () }) : () -> () }) : () -> () => ~func.func~() <{function_type = () -> (), sym_name = ~g~}> ({ ~cf.br~()[^b] : () -> () ^b: ~test.if~() ({ ~test.a~() : () -> () }, { ~test.b~() {at = ~})~} : () -> () loc(~x~) }) {k = 1 : i32} : () -> () loc(unknown) ~func.return~() : () -> () }) : () -> ()
+0.1.0.1 => ~builtin.module~() ({ ~func.func~() <{function_type = (i32) -> i32, sym_name = ~f~}> ({ ^bb0(%a: i32): ~func.return~(%a) : (i32) -> () }) : () -> () ~func.func~() <{function_type = () -> (), sym_name = ~g~}> ({ ~cf.br~()[^b] : () -> () ^b: ~test.if~() ({ ~test.a~() : () -> () }, { ~test.b~() {at = ~})~} : () -> () loc(~x~) }) {k = 1 : i32} : () -> () loc(unknown) ~func.return~() : () -> () }) : () -> () }) : () -> () => ~test.if~() ({ ~test.a~() : () -> () }, { ~test.b~() {at = ~})~} : () -> () loc(~x~) }) {k = 1 : i32} : () -> () loc(unknown)
+0.1.0.1.1.0 => ~builtin.module~() ({ ~func.func~() <{function_type = (i32) -> i32, sym_name = ~f~}> ({ ^bb0(%a: i32): ~func.return~(%a) : (i32) -> () }) : () -> () ~func.func~() <{function_type = () -> (), sym_name = ~g~}> ({ ~cf.br~()[^b] : () -> () ^b: ~test.if~() ({ ~test.a~() : () -> () }, { ~test.b~() {at = ~})~} : () -> () loc(~x~) }) {k = 1 : i32} : () -> () loc(unknown) ~func.return~() : () -> () }) : () -> () }) : () -> () => ~test.b~() {at = ~})~} : () -> () loc(~x~)
+0.1.0.2 => ~builtin.module~() ({ ~func.func~() <{function_type = (i32) -> i32, sym_name = ~f~}> ({ ^bb0(%a: i32): ~func.return~(%a) : (i32) -> () }) : () -> () ~func.func~() <{function_type = () -> (), sym_name = ~g~}> ({ ~cf.br~()[^b] : () -> () ^b: ~test.if~() ({ ~test.a~() : () -> () }, { ~test.b~() {at = ~})~} : () -> () loc(~x~) }) {k = 1 : i32} : () -> () loc(unknown) ~func.return~() : () -> () }) : () -> () }) : () -> () => ~func.return~() : () -> ()
+0.2 => ~builtin.module~() ({ ~func.func~() <{function_type = (i32) -> i32, sym_name = ~f~}> ({ ^bb0(%a: i32): ~func.return~(%a) : (i32) -> () }) : () -> () ~func.func~() <{function_type = () -> (), sym_name = ~g~}> ({ ~cf.br~()[^b] : () -> () ^b: ~test.if~() ({ ~test.a~() : () -> () }, { ~test.b~() {at = ~})~} : () -> () loc(~x~) }) {k = 1 : i32} : () -> () loc(unknown) ~func.return~() : () -> () }) : () -> () }) : () -> () => none
+1 => ~builtin.module~() ({ ~func.func~() <{function_type = (i32) -> i32, sym_name = ~f~}> ({ ^bb0(%a: i32): ~func.return~(%a) : (i32) -> () }) : () -> () ~func.func~() <{function_type = () -> (), sym_name = ~g~}> ({ ~cf.br~()[^b] : () -> () ^b: ~test.if~() ({ ~test.a~() : () -> () }, { ~test.b~() {at = ~})~} : () -> () loc(~x~) }) {k = 1 : i32} : () -> () loc(unknown) ~func.return~() : () -> () }) : () -> () }) : () -> () => none
+0.1.0.1.2.0 => ~builtin.module~() ({ ~func.func~() <{function_type = (i32) -> i32, sym_name = ~f~}> ({ ^bb0(%a: i32): ~func.return~(%a) : (i32) -> () }) : () -> () ~func.func~() <{function_type = () -> (), sym_name = ~g~}> ({ ~cf.br~()[^b] : () -> () ^b: ~test.if~() ({ ~test.a~() : () -> () }, { ~test.b~() {at = ~})~} : () -> () loc(~x~) }) {k = 1 : i32} : () -> () loc(unknown) ~func.return~() : () -> () }) : () -> () }) : () -> () => none
+0.x => ~builtin.module~() ({ ~func.func~() <{function_type = (i32) -> i32, sym_name = ~f~}> ({ ^bb0(%a: i32): ~func.return~(%a) : (i32) -> () }) : () -> () ~func.func~() <{function_type = () -> (), sym_name = ~g~}> ({ ~cf.br~()[^b] : () -> () ^b: ~test.if~() ({ ~test.a~() : () -> () }, { ~test.b~() {at = ~})~} : () -> () loc(~x~) }) {k = 1 : i32} : () -> () loc(unknown) ~func.return~() : () -> () }) : () -> () }) : () -> () => none
+0.1 => ~m~() ({ => ~m~() ({";
+
+#[test]
+fn paths_lead_to_operations(rt: HostRuntime) {
+    let alloc = rt.alloc();
+    for case in PATHS.lines() {
+        let (path, rest) = case.split_once(" => ").expect(&rt, "a path");
+        let (text, wanted) = rest.split_once(" => ").expect(&rt, "a case");
+        let text = with_quotes(alloc, text).expect(&rt, "memory");
+        let wanted = with_quotes(alloc, wanted).expect(&rt, "memory");
+        let found = module_range(alloc, text.as_bytes(), path).expect(&rt, "memory");
+        let part = match found {
+            Some(part) => &text.as_str()[part.start..part.start + part.len],
+            None => "none",
+        };
+        assert_eq!(rt; part, wanted.as_str(), "{path}");
     }
 }

@@ -99,7 +99,7 @@ pub fn dialect_of(op: Ptr<Operation>, sheet: &Sheet, ctx: &Context) -> TargetDia
     TargetDialect::Standard
 }
 
-// Writes a number in digits.
+/// Writes a number in digits. Errors: allocation failure. Cost: constant.
 pub fn write_number(number: u64, out: &mut Vec<u8>) -> Result<(), AllocError> {
     let mut buffer = Buffer::new();
     out.extend_from_slice(buffer.format(number).as_bytes())

@@ -13,4 +13,4 @@ mod shown;
 pub use constants::constant_of;
 pub use edges::{edge_names, edge_way};
 pub use notation::MlirNotation;
-pub use parts::module_parts;
+pub use parts::{module_parts, module_range};

@@ -1,5 +1,7 @@
 //! Where operations, heads of blocks and names of values are in a text in the generic form.
-use pliron_diagnostics::{TextPart, TextParts, ValueName};
+ghost use Rattle.std.specs.Prelude.{◌≤◌, ◌+◌, length, IfOk, IfSome};
+
+use pliron_diagnostics::{TextPart, TextParts, TextRange, ValueName};
 use pliron_mlir_reader::parse_text;
 use pliron_mlir_syntax::{Cursor, Expected, Fault, OperationText, Span, Syntax};
 use std::alloc::{AllocError, Global};
@@ -20,6 +22,9 @@ struct PartsWalk<'t> {
     cursor: Cursor<'t>,
     lines: LineCount,
     parts: TextParts,
+    /// By the numbers of operations: where they end; and those whose regions are open.
+    ends: Vec<usize>,
+    open: Vec<usize>,
 }
 
 // How many values share a name, as digits behind it say.
@@ -45,6 +50,8 @@ impl<'t> PartsWalk<'t> {
                 blocks: Vec::new(alloc),
                 values: Vec::new(alloc),
             },
+            ends: Vec::new(alloc),
+            open: Vec::new(alloc),
         }
     }
 
@@ -89,7 +96,8 @@ impl<'t> PartsWalk<'t> {
                 self.operation(&op)?;
             }
         }
-        self.blocks(syntax, syntax.operations.len())
+        self.blocks(syntax, syntax.operations.len())?;
+        self.close_regions()
     }
 
     // Takes in the blocks that the text has before the operation of this number.
@@ -182,11 +190,13 @@ impl<'t> PartsWalk<'t> {
             let end = self.brackets(b"([<")?;
             self.cursor.expect(b'(', Expected::OpenRound)?;
             self.cursor.expect(b'{', Expected::OpenBrace)?;
+            self.open.push(self.ends.len())?;
             end
         } else {
             self.brackets(b"([<{")?;
             self.types()?
         };
+        self.ends.push(end)?;
         self.parts.operations.push(TextPart {
             len: end.saturating_sub(start),
             ..part
@@ -258,6 +268,15 @@ impl<'t> PartsWalk<'t> {
         Ok(())
     }
 
+    // The operation whose region was opened last ends here.
+    fn end_last(&mut self, end: usize) {
+        if let Some(number) = self.open.pop()
+            && let Some(place) = self.ends.get_mut(number)
+        {
+            *place = end;
+        }
+    }
+
     // Goes to what is next: behind the ends of regions, the attributes and types there, and into a next region.
     fn close_regions(&mut self) -> Result<(), Fault> {
         for _ in 0..self.cursor.bytes_left() {
@@ -269,7 +288,8 @@ impl<'t> PartsWalk<'t> {
             } else {
                 self.cursor.expect(b')', Expected::RegionOrEnd)?;
                 self.brackets(b"{")?;
-                self.types()?;
+                let end = self.types()?;
+                self.end_last(end);
             }
         }
         self.cursor.skip();
@@ -284,12 +304,89 @@ impl<'t> PartsWalk<'t> {
 /// Errors: allocation failure. Cost: that of reading the text.
 pub fn module_parts(alloc: Global, text: &[u8]) -> Result<TextParts, AllocError> {
     let mut walk = PartsWalk::new(alloc, text);
+    match walk_through(alloc, text, &mut walk) {
+        Ok(_) => Ok(walk.parts),
+        Err(error) => Err(error),
+    }
+}
+
+// Takes in the text, and answers its syntax; `None` of a text that isn't in the generic form.
+fn walk_through(
+    alloc: Global,
+    text: &[u8],
+    walk: &mut PartsWalk,
+) -> Result<Option<Syntax>, AllocError> {
     match parse_text(alloc, text) {
         Ok(parsed) => match walk.all(&parsed.syntax) {
             Err(Fault::NoMemory) => Err(AllocError),
-            _ => Ok(walk.parts),
+            _ => Ok(Some(parsed.syntax)),
         },
         Err(Fault::NoMemory) => Err(AllocError),
-        Err(_) => Ok(walk.parts),
+        Err(_) => Ok(None),
+    }
+}
+
+// The number of the operation at this index in the region at that index of an operation, counted over its blocks.
+fn inner_number(syntax: &Syntax, holder: usize, region: usize, index: usize) -> Option<usize> {
+    let mut before = 0usize;
+    for number in holder..syntax.operations.len() {
+        let block = syntax.operations.get(number)?.block;
+        let is_inside = match block.and_then(|block| syntax.blocks.get(block)) {
+            Some(block) => block.parent == holder && block.region == region,
+            None => false,
+        };
+        if is_inside && before == index {
+            return Some(number);
+        }
+        before = before.saturating_add(is_inside as usize);
+    }
+    None
+}
+
+// The number of the operation at the end of the path.
+fn number_at(syntax: &Syntax, path: &str) -> Option<usize> {
+    let mut holder = 0usize;
+    let mut region = None;
+    for word in path.split('.') {
+        let number = word.parse::<usize>().ok()?;
+        region = match region {
+            None if number < syntax.operations.get(holder)?.regions => Some(number),
+            None => return None,
+            Some(region) => {
+                holder = inner_number(syntax, holder, region, number)?;
+                None
+            }
+        };
+    }
+    Some(holder)
+}
+
+/// The operation at the end of a path in a text in the generic form: numbers with dots between them, in turn that of a
+/// region of an operation and that of an operation directly in the region, counted over its blocks, each from 0. A path
+/// that ends with a region leads to the operation that holds it. `None` where the text has no such operation; all of a text that isn't in the generic
+/// form.
+///
+/// Errors: allocation failure. Cost: that of reading the text, and linear in it for each operation on the path.
+pub fn module_range(alloc: Global, text: &[u8], path: &str) -> Result<Option<TextRange>, AllocError>
+    ensures { IfOk result (λ found. IfSome found (λ part. part.start + part.len ≤ length text.now)) }
+{
+    let mut walk = PartsWalk::new(alloc, text);
+    let Some(syntax) = walk_through(alloc, text, &mut walk)? else {
+        return Ok(Some(TextRange {
+            start: 0,
+            len: text.len(),
+        }));
+    };
+    let Some(number) = number_at(&syntax, path) else {
+        return Ok(None);
+    };
+    match (walk.parts.operations.get(number), walk.ends.get(number)) {
+        (Some(part), Some(end)) if part.start <= *end && *end <= text.len() => Ok(Some(
+            TextRange {
+                start: part.start,
+                len: *end - part.start,
+            },
+        )),
+        _ => Ok(None),
     }
 }

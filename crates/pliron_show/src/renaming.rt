@@ -101,8 +101,7 @@ impl<T: NameSource> Renaming<'_, T> {
     }
 }
 
-// The printed text of the operation that is defined in this order, with these names. Errors: allocation failure. Cost:
-/// linear in it.
+// The printed text of the operation that is defined in this order, with these names. Errors: allocation failure.
 fn rename_text<T: NameSource>(
     alloc: Global,
     printed: &str,
