@@ -9,6 +9,7 @@ use pliron_roles::{Roles, admits_head};
 use std::alloc::{AllocError, Global};
 
 // The attribute that a text writes, if it writes one.
+#[inline(always)]
 fn attribute_of(text: AttributeText) -> Option<AttrObj>
     ensures some { IfSome result (λ attr. attributes_of_text text ≡ attr ∷ []) }
     ensures none { result ≡ None → attributes_of_text text ≡ [] }
@@ -21,6 +22,7 @@ fn attribute_of(text: AttributeText) -> Option<AttrObj>
 }
 
 /// The head of an operation of a text. Errors: allocation failure. Cost: constant.
+#[inline(always)]
 pub fn head_of(alloc: Global, text: &OperationText) -> Result<Head, AllocError>
     ensures { IfOk result (λ head. head ≡ head_of_text text.now) }
 {
@@ -36,6 +38,7 @@ pub fn head_of(alloc: Global, text: &OperationText) -> Result<Head, AllocError>
 }
 
 // Whether the dialect has operations with this head and the counts of the text.
+#[inline(always)]
 fn admits_counts<K: Roles>(head: &Head, text: &OperationText) -> bool
     ensures { result ≡ (meaning_by K.tables.value (role_at K.tables) (allows_at K.tables)).admits head.now
         (length text.now.operands.items) text.now.results (length text.now.successors.items) text.now.regions }
@@ -52,6 +55,7 @@ fn admits_counts<K: Roles>(head: &Head, text: &OperationText) -> bool
 // Whether the dialect has operations with the head and the counts of the text. The head is made in the memory of a head
 // with one attribute.
 #[tactic(auto, using(crate::proofs::CheckLemmas::set_one))]
+#[inline(always)]
 fn is_admitted<K: Roles>(alloc: Global, made: &mut Head, text: &OperationText) -> bool
     requires room { length made.old.attrs ≡ 1 }
     ensures room { length made.new.attrs ≡ 1 }

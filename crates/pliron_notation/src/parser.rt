@@ -193,7 +193,6 @@ impl<K: Grammar> Parser<'_, K> {
     }
 
     // Opens the region at this place of an operation, if it has one there.
-    #[inline(always)]
     fn next_region(&mut self, parent: Parent, place: usize) -> Result<LastRead, Stop> {
         let opens = match parent.regions {
             Count::Exactly(count) => place < count,
@@ -327,8 +326,16 @@ impl<K: Grammar> Parser<'_, K> {
         } else {
             Some(self.add_operation(text)?)
         };
+        let after = if is_branch {
+            LastRead::Branch
+        } else {
+            LastRead::Operation
+        };
+        if kind.regions() == Count::Exactly(0) {
+            return Ok(after);
+        }
         match self.next_region(Parent::of(number, kind), 0)? {
-            LastRead::Operation if is_branch => Ok(LastRead::Branch),
+            LastRead::Operation => Ok(after),
             last => Ok(last),
         }
     }
