@@ -22,7 +22,7 @@ pub enum Call {
 }
 
 impl Call {
-    /// The call of this name.
+    /// The call of this name. Cost: constant.
     pub fn from_name(name: &str) -> Option<Call> {
         let call = match name {
             "none" => Call::Nothing,
@@ -38,7 +38,8 @@ impl Call {
         Some(call)
     }
 
-    /// How many the call answers; 0 where memory is refused.
+    /// How many the call answers; 0 where memory is refused. Asks that the graph's successors and predecessors are those of one
+    /// another, as they are in each that `AdjacencyList::new` makes. Cost: the call's.
     pub fn count(self, alloc: Global, graph: &AdjacencyList) -> usize
         requires { AreInverse graph.now }
     {

@@ -18,7 +18,7 @@ pub enum Shape {
 }
 
 impl Shape {
-    /// The shape of this name.
+    /// The shape of this name. Cost: constant.
     pub fn from_name(name: &str) -> Option<Shape> {
         let shape = match name {
             "isolated" => Shape::Isolated,
@@ -60,14 +60,14 @@ impl Shape {
 }
 
 // The number of a node, in 32 bits.
-fn numbered(node: usize) -> u32 {
+fn number_of(node: usize) -> u32 {
     u32::try_from(node).unwrap_or(0)
 }
 
 // The next node of a chain.
 fn chain(node: usize, count: usize, row: &mut Vec<u32>) -> Result<(), AllocError> {
     if node.saturating_add(1) < count {
-        row.push(numbered(node).wrapping_add(1))?;
+        row.push(number_of(node).wrapping_add(1))?;
     }
     Ok(())
 }
@@ -89,14 +89,14 @@ fn random(count: usize, seed: &mut u64, row: &mut Vec<u32>) -> Result<(), AllocE
 fn nest(node: usize, count: usize, row: &mut Vec<u32>) -> Result<(), AllocError> {
     let half = count / 2;
     if node < half {
-        row.push(numbered(node).wrapping_add(1))?;
+        row.push(number_of(node).wrapping_add(1))?;
         return Ok(());
     }
     let back = count
         .saturating_sub(1)
         .saturating_sub(node)
         .min(half.saturating_sub(1));
-    row.push(numbered(back))?;
+    row.push(number_of(back))?;
     chain(node, count, row)
 }
 
@@ -104,7 +104,7 @@ fn nest(node: usize, count: usize, row: &mut Vec<u32>) -> Result<(), AllocError>
 fn loops(node: usize, count: usize, row: &mut Vec<u32>) -> Result<(), AllocError> {
     chain(node, count, row)?;
     if node % 4 == 3 {
-        row.push(numbered(node.saturating_sub(3)))?;
+        row.push(number_of(node.saturating_sub(3)))?;
     }
     Ok(())
 }
@@ -113,7 +113,7 @@ fn loops(node: usize, count: usize, row: &mut Vec<u32>) -> Result<(), AllocError
 fn dense(node: usize, count: usize, row: &mut Vec<u32>) -> Result<(), AllocError> {
     for other in 0..count {
         if other != node {
-            row.push(numbered(other))?;
+            row.push(number_of(other))?;
         }
     }
     Ok(())
@@ -132,7 +132,7 @@ fn star(node: usize, count: usize, row: &mut Vec<u32>) -> Result<(), AllocError>
 fn exits(node: usize, count: usize, row: &mut Vec<u32>) -> Result<(), AllocError> {
     chain(node, count, row)?;
     if node.saturating_add(2) < count {
-        row.push(numbered(count.saturating_sub(1)))?;
+        row.push(number_of(count.saturating_sub(1)))?;
     }
     Ok(())
 }
@@ -140,7 +140,7 @@ fn exits(node: usize, count: usize, row: &mut Vec<u32>) -> Result<(), AllocError
 // A chain each of whose nodes leads back to the one before.
 fn ladder(node: usize, count: usize, row: &mut Vec<u32>) -> Result<(), AllocError> {
     chain(node, count, row)?;
-    row.push(numbered(node.saturating_sub(1)))?;
+    row.push(number_of(node.saturating_sub(1)))?;
     Ok(())
 }
 
@@ -150,7 +150,7 @@ fn skips(node: usize, count: usize, row: &mut Vec<u32>) -> Result<(), AllocError
     chain(node.saturating_add(1), count, row)
 }
 
-/// The successors of so many nodes. Errors: allocation failure.
+/// The successors of so many nodes. Errors: allocation failure. Cost: linear in nodes and edges.
 pub fn rows_of(alloc: Global, shape: Shape, count: usize) -> Result<Vec<Vec<u32>>, AllocError> {
     let mut rows = Vec::new(alloc);
     let mut seed = 1u64;

@@ -8,7 +8,7 @@ use pliron_pipeline::{PassStep, run_pipeline};
 use std::alloc::Global;
 
 /// How many bytes the text has that the passes of these names leave; `None` where it is unreadable. Other names are passed
-/// over. Errors: allocation failure.
+/// over. Errors: allocation failure. Cost: that of reading, of the passes, and of printing.
 pub fn length_after(
     alloc: Global,
     names: &[String],
@@ -29,7 +29,7 @@ pub fn length_after(
     Ok(Some(print_text(alloc, root, &ctx)?.len()))
 }
 
-/// The text printed again; `None` where it is unreadable. Errors: allocation failure.
+/// The text printed again; `None` where it is unreadable. Errors: allocation failure. Cost: linear in the text.
 pub fn print_again(alloc: Global, text: &[u8]) -> Result<Option<String>, OptError> {
     let mut ctx = Context::new(alloc);
     let Some(root) = read_text(alloc, text, &mut ctx)? else {

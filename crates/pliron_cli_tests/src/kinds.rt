@@ -13,12 +13,47 @@ type Arithmetic = KindNotation<ArithmeticKind>;
 /// Commands with their words, texts, and what is answered: the status, the output, and the report.
 static CASES: &str = "\
 check  => function { b0(): a = lit 2; return a } => 0 well linked and fit to run|
-check  => function { b0(): jump b1() } => 2 error: unreadable text| --> text|
-explain sccp => function { b0(): a = lit 2; b = lit 3; s = add a b; return s } => 0 1:40 s = add a b: folded to 5 by its operands (sccp)|1:53 return s: takes 5 for s (sccp)|
+check  => function { b0(): jump b1() } => 2 error: unreadable text| --> text:1:23|  |\
+|1 | function { b0(): jump b1() }|  |                       ^^ expected the name of a block that its region defines|
+check  => function { b0(): retrun b1 } => 2 error: unreadable text| --> text:1:18|  |\
+|1 | function { b0(): retrun b1 }|  |                  ^^^^^^ expected a kind of operations; is `return` meant?|
+check  => function { b0(x): x = lit 1; return x } => 2 error: unreadable text| --> text:1:19|  |\
+|1 | function { b0(x): x = lit 1; return x }|  |                   ^ expected \
+a value's name that the text doesn't define before; it is defined at 1:15|
+check  => function { b0(x): return x ) } => 2 error: unreadable text| --> text:1:28|  |\
+|1 | function { b0(x): return x ) }|  |                            ^ expected the name of a value, `;` or `}`|
+check  => function { b0(x): s = add x; return x } => 2 error: unreadable text| --> text:1:28|  |\
+|1 | function { b0(x): s = add x; return x }|  |                            ^ expected the name of a value|
+check  => function { b0(c): s = if c { t(): return c => 2 error: unreadable text| --> text:1:43|  |\
+|1 | function { b0(c): s = if c { t(): return c|  |                                           ^ expected \
+the name of a value, `;` or `}`; the `{` at 1:28 isn't closed|
+check  => function { add(x): return x } => 2 error: unreadable text| --> text:1:12|  |\
+|1 | function { add(x): return x }|  |            ^^^ expected \
+the name of a block; `add` is reserved for a kind of operations|
+check  => function { b0(x): s = if x { t(): return x }; return x } => 2 error: unreadable text| --> text:1:23|  |\
+|1 | function { b0(x): s = if x { t(): return x }; return x }|  |                       ^^ expected \
+an operation that the dialect admits, with so many operands, results and regions|
+check  => function { b0(x): branch x b0(x } => 2 error: unreadable text| --> text:1:33|  |\
+|1 | function { b0(x): branch x b0(x }|  |                                 ^ expected `,` or `)`|
+check  => function { x = lit 1 } => 2 error: unreadable text| --> text:1:12|  |\
+|1 | function { x = lit 1 }|  |            ^ expected a block, or `}`: operations stand in blocks, as `b0(): ..`|
+check  => return => 0 well linked and fit to run|
+check  => funtion { } => 2 error: unreadable text| --> text:1:1|  |\
+|1 | funtion { }|  | ^^^^^^^ expected a kind of operations; is `function` meant?|
+explain sccp => function { b0(): a = lit 2; b = lit 3; s = add a b; return s } => 0 1:40 s = add a b: folded to 5 by its operands (sccp)|\
+1:53 return s: takes 5 for s (sccp)|
 explain dce => function { b0(x): a = lit 2; return x } => 0 1:19 a = lit 2: unused (dce)|
 opt sccp,dce => function { b0(): a = lit 2; b = lit 3; s = add a b; return s } => 0 function { b0(): v0 = lit 5; return v0 }|
-dot 0 => function { b0(c, x): branch c t(x) f(); t(p): return p; f(): return c } => 0 digraph flow {|  node [shape=\"box\", fontname=\"monospace\"];|  edge [fontname=\"monospace\"];|  0 [label=\"b0(c, x):\\lbranch c t(x) f()\\l\", peripheries=\"2\"];|  1 [label=\"t(p):\\lreturn p\\l\"];|  2 [label=\"f():\\lreturn c\\l\"];|  0 -> 1 [label=\" true: x \"];|  0 -> 2 [label=\" false \"];|}|
-dot 1 => function { b0(): a = lit 2; return a } => 2 error: no region `1`|help: `0.2.0` is region 0 of operation 2 of region 0 of the text's operation|";
+dot 0 => function { b0(c, x): branch c t(x) f(); t(p): return p; f(): return c } => 0 digraph flow {|  \
+node [shape=\"box\", fontname=\"monospace\"];|  \
+edge [fontname=\"monospace\"];|  \
+0 [label=\"b0(c, x):\\lbranch c t(x) f()\\l\", peripheries=\"2\"];|  \
+1 [label=\"t(p):\\lreturn p\\l\"];|  \
+2 [label=\"f():\\lreturn c\\l\"];|  \
+0 -> 1 [label=\" true: x \"];|  \
+0 -> 2 [label=\" false \"];|}|
+dot 1 => function { b0(): a = lit 2; return a } => 2 error: no region `1`|\
+help: `0.2.0` is region 0 of operation 2 of region 0 of the text's operation|";
 
 // What the command answers.
 fn outcome_of(alloc: Global, words: &str, source: &Source) -> Result<Outcome, AllocError> {

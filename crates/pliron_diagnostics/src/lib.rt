@@ -19,7 +19,7 @@ mod text_tokens;
 mod trap_reason;
 
 pub use comments::{blank_comments, without_mark};
-pub use fault::text_fault;
+pub use fault::{kind_fault, text_fault};
 pub use isolated::{TextRange, isolate, operation_range};
 pub use layout::pretty;
 pub use message_form::{MessageForm, in_form};

@@ -118,11 +118,13 @@ fn is_result(text: &[u8], word: Span) -> bool {
 struct DefinitionWalk<'t> {
     text: &'t [u8],
     name: &'t [u8],
+    /// The word at which names begin anew; empty where there is none.
+    begins_names: &'t [u8],
     /// The word before.
     before: Option<Span>,
     /// Whether the words are arguments in the head of a block.
     is_in_head: bool,
-    /// The definition in the `func` that begins last.
+    /// The definition since names began anew.
     found: Option<Span>,
 }
 
@@ -130,7 +132,7 @@ impl DefinitionWalk<'_> {
     // Goes over the next word.
     fn take(&mut self, token: Span) {
         match bytes_of(self.text, token) {
-            b"func" => self.found = None,
+            word if word == self.begins_names => self.found = None,
             b"(" => self.is_in_head = self.before.is_some_and(|word| is_head(self.text, word)),
             b")" => self.is_in_head = false,
             word if word == self.name && self.found.is_none() => {
@@ -144,12 +146,17 @@ impl DefinitionWalk<'_> {
     }
 }
 
-// Where the value that this word names is defined before it, in the same `func`, if it is. Cost: linear in the text
-// before it.
-pub(crate) fn definition_before(text: &[u8], word: Span) -> Option<Span> {
+// Where the value that this word names is defined before it, behind the last word at which names begin anew, if it is.
+// Cost: linear in the text before it.
+pub(crate) fn definition_before<'t>(
+    text: &'t [u8],
+    word: Span,
+    begins_names: &'t [u8],
+) -> Option<Span> {
     let mut walk = DefinitionWalk {
         text,
         name: bytes_of(text, word),
+        begins_names,
         before: None,
         is_in_head: false,
         found: None,

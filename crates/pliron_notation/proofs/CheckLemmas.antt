@@ -1,5 +1,5 @@
 -- Lists that are gone through item by item.
-use Rattle.std.proofs.Common.{◌≡◌, ℕ, zero, suc, ◌+◌, ◌<◌, ◌≤◌, List, [], ◌∷◌, ◌++◌, length, get_or, drop, Option, Some, None, refl, sym, ap, ◌∙◌, subst, inl, inr, arith, slice_get}
+use Rattle.std.proofs.Common.{◌≡◌, ℕ, zero, suc, ◌+◌, ◌<◌, ◌≤◌, List, [], ◌∷◌, ◌++◌, length, get_or, drop, Option, Some, None, refl, sym, ap, ◌∙◌, subst, inl, inr, arith, slice_get, slice_set}
 use Rattle.std.proofs.lemmas.List.{drop_more}
 use Rattle.std.proofs.lemmas.Option.{slice_get_within}
 use Rattle.pliron_core.specs.Tree.{Tree}
@@ -100,3 +100,9 @@ region-end s region xs i le back = back (subst (AreInRegion s region) (sym (drop
 
 pub region-below : (s : Syntax) (region : ℕ) (xs : List ℕ) → AreInRegion s region xs → AllBelow (length s.blocks.items) xs
 region-below s region xs h = λ x i. let b = h x i in slice_get_within s.blocks.items x b.0 b.1
+
+-- an item put in the place of the only one
+pub set_one : {A : Type 0} (xs : List A) (x : A) → length xs ≡ 1 → slice_set xs 0 x ≡ x ∷ []
+set_one [] x e = absurd (omega (arith, e))
+set_one (y ∷ []) x e = refl
+set_one (y ∷ z ∷ ys) x e = absurd (omega (arith, e))

@@ -1,21 +1,34 @@
 //! Whether a dialect admits what a text has.
-ghost use Rattle.std.specs.Prelude.{◌≡◌, IfOk, IsTrue, None};
+ghost use Rattle.std.specs.Prelude.{◌≡◌, [], ◌∷◌, length, IfOk, IfSome, IsTrue, None};
 ghost use Rattle.pliron_roles.specs.Roles.{meaning_by, role_at, allows_at};
-ghost use Rattle.pliron_notation.specs.Notation.{IsAdmittedSyntax, IsAdmittedText, head_of_text};
+ghost use Rattle.pliron_notation.specs.Notation.{IsAdmittedSyntax, IsAdmittedText, attributes_of_text, head_of_text};
 
 use crate::syntax::{AttributeText, OperationText, Syntax};
 use pliron_core::{AttrObj, Attrs, Head};
 use pliron_roles::{Roles, admits_head};
 use std::alloc::{AllocError, Global};
 
+// The attribute that a text writes, if it writes one.
+#[inline(always)]
+fn attribute_of(text: AttributeText) -> Option<AttrObj>
+    ensures some { IfSome result (λ attr. attributes_of_text text ≡ attr ∷ []) }
+    ensures none { result ≡ None → attributes_of_text text ≡ [] }
+{
+    match text {
+        AttributeText::Nothing => None,
+        AttributeText::Number(number) => Some(AttrObj::Int(number as i128)),
+        AttributeText::Count(count) => Some(AttrObj::Int(count as i128)),
+    }
+}
+
 /// The head of an operation of a text. Errors: allocation failure. Cost: constant.
+#[inline(always)]
 pub fn head_of(alloc: Global, text: &OperationText) -> Result<Head, AllocError>
     ensures { IfOk result (λ head. head ≡ head_of_text text.now) }
 {
-    let attrs = match text.attribute {
-        AttributeText::Nothing => Attrs::new(Vec::new(alloc)),
-        AttributeText::Number(number) => Attrs::one(alloc, AttrObj::Int(number as i128))?,
-        AttributeText::Count(count) => Attrs::one(alloc, AttrObj::Int(count as i128))?,
+    let attrs = match attribute_of(text.attribute) {
+        Some(attr) => Attrs::one(alloc, attr)?,
+        None => Attrs::new(Vec::new(alloc)),
     };
     Ok(Head {
         kind: text.kind,
@@ -24,19 +37,47 @@ pub fn head_of(alloc: Global, text: &OperationText) -> Result<Head, AllocError>
     })
 }
 
-// Whether the dialect has operations with the head and the counts of the text.
-fn is_admitted<K: Roles>(alloc: Global, text: &OperationText) -> Result<bool, AllocError>
-    ensures { IfOk result (λ admitted. IsTrue admitted → IsAdmittedText (meaning_by K.tables.value (role_at K.tables)
-        (allows_at K.tables)) text.now) }
+// Whether the dialect has operations with this head and the counts of the text.
+#[inline(always)]
+fn admits_counts<K: Roles>(head: &Head, text: &OperationText) -> bool
+    ensures { result ≡ (meaning_by K.tables.value (role_at K.tables) (allows_at K.tables)).admits head.now
+        (length text.now.operands.items) text.now.results (length text.now.successors.items) text.now.regions }
 {
-    let head = head_of(alloc, text)?;
-    Ok(admits_head::<K>(
-        &head,
+    admits_head::<K>(
+        head,
         text.operands.len(),
         text.results,
         text.successors.len(),
         text.regions,
-    ))
+    )
+}
+
+// Whether the dialect has operations with the head and the counts of the text. The head is made in the memory of a head
+// with one attribute.
+#[tactic(auto, using(crate::proofs::CheckLemmas::set_one))]
+#[inline(always)]
+fn is_admitted<K: Roles>(alloc: Global, made: &mut Head, text: &OperationText) -> bool
+    requires room { length made.old.attrs ≡ 1 }
+    ensures room { length made.new.attrs ≡ 1 }
+    ensures admitted { IsTrue result → IsAdmittedText (meaning_by K.tables.value (role_at K.tables)
+        (allows_at K.tables)) text.now }
+{
+    match attribute_of(text.attribute) {
+        Some(attr) => {
+            made.kind = text.kind;
+            made.ssa = text.ssa;
+            made.attrs.set(0, attr);
+            admits_counts::<K>(made, text)
+        }
+        None => {
+            let bare = Head {
+                kind: text.kind,
+                ssa: text.ssa,
+                attrs: Attrs::new(Vec::new(alloc)),
+            };
+            admits_counts::<K>(&bare, text)
+        }
+    }
 }
 
 /// The first operation of a text that the dialect of these kinds doesn't admit, in the order of the text: 0 is the
@@ -50,12 +91,17 @@ pub fn first_not_admitted<K: Roles>(
     ensures { IfOk result (λ found. found ≡ None → IsAdmittedSyntax (meaning_by K.tables.value (role_at K.tables)
         (allows_at K.tables)) syntax.now) }
 {
-    let admits_root = is_admitted::<K>(alloc, &syntax.root)?;
+    let mut made = Head {
+        kind: 0,
+        ssa: false,
+        attrs: Attrs::one(alloc, AttrObj::Int(0))?,
+    };
+    let admits_root = is_admitted::<K>(alloc, &mut made, &syntax.root);
     if !admits_root {
         return Ok(Some(0));
     }
     for number in 0..syntax.operations.len() {
-        let admits_operation = is_admitted::<K>(alloc, &syntax.operations[number])?;
+        let admits_operation = is_admitted::<K>(alloc, &mut made, &syntax.operations[number]);
         if !admits_operation {
             return Ok(Some(number + 1));
         }

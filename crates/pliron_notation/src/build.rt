@@ -210,6 +210,7 @@ fn add_operation(
 }
 
 // Remembers a new operation, its results and its regions.
+#[inline(always)]
 fn remember_operation(
     ctx: &Context,
     built: &mut BuiltTree,
@@ -233,6 +234,7 @@ fn remember_operation(
     remember_regions(ctx, &mut built.regions, op)
 }
 
+#[inline(always)]
 fn remember_results(
     ctx: &Context,
     values: &mut Vec<Value>,
@@ -249,6 +251,7 @@ fn remember_results(
     Ok(())
 }
 
+#[inline(always)]
 fn remember_regions(
     ctx: &Context,
     regions: &mut Vec<Ptr<Region>>,
@@ -323,6 +326,7 @@ fn connect(
     add_successors(ctx, built, op, &text.successors)
 }
 
+#[inline(always)]
 fn add_operands(
     ctx: &mut Context,
     built: &BuiltTree,

@@ -45,27 +45,27 @@ pub enum Body {
 /// The grammar of the texts of a dialect of these kinds. What is given here is the grammar of a small dialect, in which
 /// the form of a kind says what a text writes of it; nothing in it forks.
 pub trait Grammar: Roles + Word {
-    /// The body that a whole text is read as standing in. In a module it is an operation without results.
+    /// The body that a whole text is read as standing in. In a module it is an operation without results. Cost: constant.
     fn around() -> Body {
         Body::Blocks
     }
 
-    /// The most results that a text writes of an operation.
+    /// The most results that a text writes of an operation. Cost: constant.
     fn most_results() -> usize {
         usize::MAX
     }
 
-    /// Whether operations of the kind stand at the top, and so in modules alone.
+    /// Whether operations of the kind stand at the top, and so in modules alone. Cost: constant.
     fn is_top(self) -> bool {
         false
     }
 
-    /// What each region of an operation of the kind has.
+    /// What each region of an operation of the kind has. Cost: constant.
     fn body(self) -> Body {
         Body::Blocks
     }
 
-    /// How many results an operation of the kind has.
+    /// How many results an operation of the kind has. Cost: constant.
     fn results(self) -> Count {
         match self.form() {
             Form::Constant | Form::Folds(_, _) | Form::Picks => Count::Exactly(1),
@@ -74,7 +74,7 @@ pub trait Grammar: Roles + Word {
         }
     }
 
-    /// How many regions an operation of the kind has.
+    /// How many regions an operation of the kind has. Cost: constant.
     fn regions(self) -> Count {
         match self.form() {
             Form::Stops | Form::Acts(_, _) | Form::Names | Form::Forks(_) | Form::Holds(_) =>
@@ -83,7 +83,7 @@ pub trait Grammar: Roles + Word {
         }
     }
 
-    /// What is behind the word of the kind.
+    /// What is behind the word of the kind. Cost: constant.
     fn tail(self) -> Tail {
         match self.form() {
             Form::Constant => Tail::Number,

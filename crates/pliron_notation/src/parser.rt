@@ -139,7 +139,7 @@ impl<K: Grammar> Parser<'_, K> {
 
     // Reads the operation that the whole text is, with all that is inside it, up to the end of the text.
     fn whole(&mut self, count: usize) -> Result<(), Stop> {
-        let mut place = self.root()?;
+        let mut place = self.operation()?;
         // Each turn takes a token.
         for _ in 0..count {
             if self.outer.is_empty() {
@@ -152,20 +152,6 @@ impl<K: Grammar> Parser<'_, K> {
         } else {
             Err(self.cursor.stop(Expected::End))
         }
-    }
-
-    // Reads the operation that the whole text is up to its first region, which it opens.
-    fn root(&mut self) -> Result<LastRead, Stop> {
-        let (kind, results) = if self.region.is_module() {
-            (self.top_kind()?, 0)
-        } else {
-            self.kind()?
-        };
-        let mut text = OperationText::new(self.alloc, kind.number(), kind.is_ssa());
-        text.results = results;
-        self.tail(kind.tail(), &mut text)?;
-        self.syntax.root = text;
-        self.next_region(Parent::of(None, kind), 0)
     }
 
     // Reads the kind of a whole text that stands at the top.
@@ -207,7 +193,6 @@ impl<K: Grammar> Parser<'_, K> {
     }
 
     // Opens the region at this place of an operation, if it has one there.
-    #[inline(always)]
     fn next_region(&mut self, parent: Parent, place: usize) -> Result<LastRead, Stop> {
         let opens = match parent.regions {
             Count::Exactly(count) => place < count,
@@ -323,25 +308,49 @@ impl<K: Grammar> Parser<'_, K> {
         Ok(())
     }
 
-    // Reads an operation up to its first region, which it opens.
+    // Reads an operation up to its first region, which it opens: the whole text, or one in a block.
     fn operation(&mut self) -> Result<LastRead, Stop> {
-        let (kind, results) = self.kind()?;
-        let Some(block) = self.region.block else {
-            return Err(self.cursor.stop_before(Expected::BlockOfRegion));
+        let is_whole = self.outer.is_empty();
+        let (kind, results) = if is_whole && self.region.is_module() {
+            (self.top_kind()?, 0)
+        } else {
+            self.kind()?
         };
         let mut text = OperationText::new(self.alloc, kind.number(), kind.is_ssa());
         text.results = results;
-        text.block = block;
         self.tail(kind.tail(), &mut text)?;
         let is_branch = !text.successors.is_empty();
+        let number = if is_whole {
+            self.syntax.root = text;
+            None
+        } else {
+            Some(self.add_operation(text)?)
+        };
+        let after = if is_branch {
+            LastRead::Branch
+        } else {
+            LastRead::Operation
+        };
+        if kind.regions() == Count::Exactly(0) {
+            return Ok(after);
+        }
+        match self.next_region(Parent::of(number, kind), 0)? {
+            LastRead::Operation => Ok(after),
+            last => Ok(last),
+        }
+    }
+
+    // Adds an operation to the last block of the region, and answers its number.
+    fn add_operation(&mut self, mut text: OperationText) -> Result<usize, Stop> {
+        let Some(block) = self.region.block else {
+            return Err(self.cursor.stop_before(Expected::BlockOfRegion));
+        };
+        text.block = block;
         let number = self.syntax.add_operation(text)?;
         if let Some(block) = self.syntax.blocks.get_mut(block) {
             block.last = Some(number);
         }
-        match self.next_region(Parent::of(Some(number), kind), 0)? {
-            LastRead::Operation if is_branch => Ok(LastRead::Branch),
-            last => Ok(last),
-        }
+        Ok(number)
     }
 
     // Reads the results and the kind of an operation, which are to fit one another and the region, and answers the kind

@@ -289,48 +289,42 @@ impl Printer {
         requires { IsLive ctx.now.tree op }
     {
         self.results(ctx, op)?;
-        match K::from_number(op.head(ctx).kind) {
+        let tail = match K::from_number(op.head(ctx).kind) {
             Some(kind) => {
                 self.text.push_str(kind.word())?;
-                self.tail(ctx, op, kind.tail())
+                kind.tail()
             }
             None => {
                 self.text.push('_')?;
-                self.names(ctx, op)
+                Tail::AnyOperands
             }
-        }
+        };
+        self.tail(ctx, op, tail)
     }
 
-    // What is behind the word of an operation. One whose attribute is no number has names.
+    // What is behind the word of an operation. One whose attribute is no number has the names of its operands, and then
+    // those of its successors.
     #[inline(always)]
     fn tail(&mut self, ctx: &Context, op: Ptr<Operation>, tail: Tail) -> Result<(), AllocError>
         requires { IsLive ctx.now.tree op }
     {
-        match tail {
-            Tail::Number => match number_of(op, ctx) {
-                Some(number) => self.number_behind(number),
-                None => self.names(ctx, op),
-            },
-            Tail::Edge => self.edges(ctx, op, 0, op.num_operand(ctx)),
-            Tail::TwoEdges => match number_of(op, ctx) {
-                Some(number) => {
-                    let first = usize::try_from(number).unwrap_or(0);
-                    self.operands(ctx, op, 1)?;
-                    self.edges(ctx, op, 1, first.saturating_add(1))
-                }
-                None => self.names(ctx, op),
-            },
-            Tail::Operands(_) | Tail::AnyOperands | Tail::Fork => self.names(ctx, op),
+        let number = match tail {
+            Tail::Number | Tail::TwoEdges => number_of(op, ctx),
+            _ => None,
+        };
+        match (tail, number) {
+            (Tail::Number, Some(number)) => self.number_behind(number),
+            (Tail::Edge, _) => self.edges(ctx, op, 0, op.num_operand(ctx)),
+            (Tail::TwoEdges, Some(number)) => {
+                let first = usize::try_from(number).unwrap_or(0);
+                self.operands(ctx, op, 1)?;
+                self.edges(ctx, op, 1, first.saturating_add(1))
+            }
+            _ => {
+                self.operands(ctx, op, op.num_operand(ctx))?;
+                self.successors(ctx, op)
+            }
         }
-    }
-
-    // The operands, then the successors.
-    #[inline(always)]
-    fn names(&mut self, ctx: &Context, op: Ptr<Operation>) -> Result<(), AllocError>
-        requires { IsLive ctx.now.tree op }
-    {
-        self.operands(ctx, op, op.num_operand(ctx))?;
-        self.successors(ctx, op)
     }
 
     // A blank and the number.

@@ -1,45 +1,16 @@
 //! The notations of dialects by roles.
-ghost use Rattle.std.specs.Prelude.{◌≡◌, IfOk, IfSome, string_bytes};
 ghost use Rattle.pliron_core.specs.Tree.{IsLive};
-ghost use Rattle.pliron_core.specs.Writes.{no_tree};
 ghost use Rattle.pliron_show.specs.Faults.{faults_as_unreadable};
 
 use crate::renaming::{LETTERS, print_renamed};
 use crate::shown::{NameSource, NewNames, Shown};
 use pliron_core::{Context, Operation, Ptr};
-use pliron_diagnostics::{Source, TextParts, forwarded_names, parts_of, pretty};
+use pliron_diagnostics::{Source, TextParts, forwarded_names, kind_fault, parts_of, pretty};
 use pliron_laws::OptError;
 use pliron_notation::{Grammar, number_of};
-use pliron_opts::{Document, KindNotation, Notation};
+use pliron_opts::{Document, KindNotation};
 use pliron_roles::{Form, Roles};
 use std::alloc::{AllocError, Global};
-
-// The message for a text that isn't read, with the name of its source.
-#[tactic(auto, using(crate::proofs::FaultLemmas::first_line))]
-fn unreadable_message(alloc: Global, source: &Source) -> Result<String, AllocError>
-    ensures { IfOk result (λ message. faults_as_unreadable source.now.text.now (string_bytes message)) }
-{
-    let mut message = String::from_str(alloc, "error: unreadable text\n")?;
-    let place = format!(in alloc; " --> {}\n", source.name)?;
-    message.push_str(place.as_str())?;
-    Ok(message)
-}
-
-// The same of a text that is read in this empty context, where it is unreadable.
-fn message_in<N: Notation>(
-    alloc: Global,
-    source: &Source,
-    ctx: &mut Context,
-) -> Result<Option<String>, OptError>
-    requires { ctx.old.tree ≡ no_tree }
-    ensures { IfOk result (λ found. IfSome found (λ message. faults_as_unreadable source.now.text.now
-        (string_bytes message))) }
-{
-    match N::read(alloc, source.text, ctx)? {
-        Some(_) => Ok(None),
-        None => Ok(Some(unreadable_message(alloc, source)?)),
-    }
-}
 
 // The form of the operation's kind, if it has one.
 fn form_of<K: Roles>(op: Ptr<Operation>, ctx: &Context) -> Option<Form>
@@ -55,8 +26,7 @@ impl<K: Grammar> Shown for KindNotation<K> {
     ghost faults = { faults_as_unreadable };
 
     fn fault_message(alloc: Global, source: &Source) -> Result<Option<String>, OptError> {
-        let mut ctx = Context::new(alloc);
-        message_in::<Self>(alloc, source, &mut ctx)
+        kind_fault::<K>(alloc, source.name, source.text)
     }
 
     fn on_lines(alloc: Global, printed: &[u8]) -> Result<Vec<u8>, AllocError> {

@@ -1,8 +1,6 @@
 use Rattle.std.proofs.Common.{sym, ap, ◌∙◌, subst}
-use Rattle.pliron_core.specs.Tree.{Tree}
 use Rattle.pliron_core.specs.Changes.{IsSameTree}
 use Rattle.pliron_core.specs.Writes.{after_creating}
-use Rattle.pliron_notation.specs.Building.{IsGrown}
 use Rattle.pliron_notation.specs.Laid.{IsBegun}
 use Rattle.pliron_notation.proofs.LinkedText.{linked-text}
 use Rattle.pliron_notation.proofs.UndoneLemmas.{contained, undone}
