@@ -1,6 +1,6 @@
 //! Counted loops, effects and a memo in a dialect by roles, before and after constant propagation, and their runs,
 //! worked by hand.
-use crate::expect::{expect_sight, expect_text};
+use crate::expect::{expect_fault, expect_sight, expect_text};
 use crate::looped::Looped;
 use crate::looped_kind::LoopedKind;
 use pliron_core::{Context, Operation, Ptr};
@@ -134,5 +134,27 @@ fn check(rt: &impl Abort, alloc: Global, line: &str) {
 fn texts(rt: HostRuntime) {
     for line in CASES.lines() {
         check(&rt, rt.alloc(), line);
+    }
+}
+
+// Texts outside the notation, and for each after how many bytes and in how many it leaves that, and what was expected
+// there.
+static FAULTS: &str = "\
+function { b0(n): r = repeat n { t(s): return s }; return q } => 58 1 the name of a value that the text defines
+function { b0(n): twice n { t(n): return n }; return n } => 30 1 a value's name that the text doesn't define before
+function { b0(n): r = repeat n { return n }; return r } => 33 6 a block, or `}`
+function { b0(n): r = add n; return r } => 27 1 the name of a value
+function { b0(): r = lit 99999999999999999999; return r } => 25 20 a number from -2^63 to 2^63 - 1, without leading \
+    zeros
+function { b0(n): r = repeat n { t(s): return s } { }; return r } => 22 6 an operation that the dialect admits, \
+    with so many operands, results and regions
+function { b0(n): r = ask n { }; return r } => 22 3 an operation that the dialect admits, with so many operands, \
+    results and regions";
+
+#[test]
+fn places_of_faults(rt: HostRuntime) {
+    for row in FAULTS.lines() {
+        let (text, wanted) = row.split_once(" => ").expect(&rt, "a case");
+        expect_fault::<LoopedKind>(&rt, rt.alloc(), text, wanted);
     }
 }

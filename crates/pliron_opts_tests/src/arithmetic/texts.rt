@@ -1,5 +1,5 @@
 //! Texts that are read and printed, and texts outside the notation, by its rules in docs/DIALECTS.md.
-use crate::expect::expect_text;
+use crate::expect::{expect_fault, expect_text};
 use pliron_arithmetic::ArithmeticKind;
 use pliron_core::{Context, Operation, Ptr};
 use pliron_notation::{find_fault, print_operation, read_operation};
@@ -149,18 +149,6 @@ fn unreadable_texts(rt: HostRuntime) {
     }
 }
 
-fn expect_fault(rt: &impl Abort, alloc: Global, text: &str, wanted: &str) {
-    let fault = find_fault::<ArithmeticKind>(alloc, text.as_bytes())
-        .expect(rt, "memory")
-        .expect(rt, "a fault");
-    let found = format!(in alloc;
-        "{} {} {}",
-        fault.span.start, fault.span.len, fault.expected
-    );
-    let found = found.expect(rt, "memory");
-    expect_text(rt, found.as_str(), wanted, text);
-}
-
 // Texts outside the notation, and for each after how many bytes and in how many it leaves that, and what was expected
 // there.
 static FAULTS: &str = "\
@@ -185,7 +173,7 @@ function => 0 8 an operation that the dialect admits, with so many operands, res
 fn places_of_faults(rt: HostRuntime) {
     for row in FAULTS.lines() {
         let (text, wanted) = row.split_once(" => ").expect(&rt, "a case");
-        expect_fault(&rt, rt.alloc(), text, wanted);
+        expect_fault::<ArithmeticKind>(&rt, rt.alloc(), text, wanted);
     }
     let read = find_fault::<ArithmeticKind>(rt.alloc(), b"function { }").expect(&rt, "memory");
     assert!(&rt; read.is_none(), "a text that is read");
