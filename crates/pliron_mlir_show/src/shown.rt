@@ -15,7 +15,7 @@ use pliron_mlir_opt::{ModuleDocument, ModuleFault};
 use pliron_mlir_printer::{Naming, print_module_named};
 use pliron_mlir_syntax::Sheet;
 use pliron_opts::{Notation, TextFailure};
-use pliron_show::{NameSource, NewNames, Shown};
+use pliron_show::{NameScopes, NameSource, NewNames, Shown};
 use std::alloc::{AllocError, Global};
 
 /// Names that are given, as printing takes them.
@@ -67,6 +67,12 @@ fn message_in(alloc: Global, source: &Source, ctx: &mut Context) -> Result<Optio
     }
 }
 
+impl NameScopes for MlirNotation {
+    fn begins_names(op: Ptr<Operation>, ctx: &Context) -> bool {
+        class_of_head(op.head(ctx)) == Some(Class::Root)
+    }
+}
+
 impl Shown for MlirNotation {
     ghost faults = { faults_as_unreadable };
 
@@ -102,10 +108,6 @@ impl Shown for MlirNotation {
 
     fn word<'s>(op: Ptr<Operation>, sheet: &'s Sheet, ctx: &Context) -> Option<&'s str> {
         name_of_head(op.head(ctx), sheet)
-    }
-
-    fn begins_names(op: Ptr<Operation>, ctx: &Context) -> bool {
-        class_of_head(op.head(ctx)) == Some(Class::Root)
     }
 
     fn constant(

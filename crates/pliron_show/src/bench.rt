@@ -2,7 +2,7 @@
 ghost use Rattle.pliron_show.specs.Faults.{faults_as_unreadable};
 
 use crate::renaming::{LETTERS, print_renamed};
-use crate::shown::{NameSource, NewNames, Runnable, Shown};
+use crate::shown::{NameScopes, NameSource, NewNames, Runnable, Shown};
 use pliron_bench::BenchKind;
 use pliron_bench::tables::kind_at;
 use pliron_core::{Context, Operation, Ptr};
@@ -14,6 +14,12 @@ use pliron_laws::OptError;
 use pliron_notation::number_of;
 use pliron_opts::{BenchNotation, Document};
 use std::alloc::{AllocError, Global};
+
+impl NameScopes for BenchNotation {
+    fn begins_names(op: Ptr<Operation>, ctx: &Context) -> bool {
+        kind_at(op, ctx) == Some(BenchKind::Func)
+    }
+}
 
 impl Shown for BenchNotation {
     ghost faults = { faults_as_unreadable };
@@ -48,10 +54,6 @@ impl Shown for BenchNotation {
             Some(kind) => Some(kind.word()),
             None => None,
         }
-    }
-
-    fn begins_names(op: Ptr<Operation>, ctx: &Context) -> bool {
-        kind_at(op, ctx) == Some(BenchKind::Func)
     }
 
     fn constant(

@@ -1,7 +1,7 @@
 //! Values and blocks in the order in which the text of an operation defines them.
 ghost use Rattle.pliron_core.specs.Tree.{IsLive};
 
-use crate::shown::Shown;
+use crate::shown::NameScopes;
 use pliron_core::{BasicBlock, Context, Operation, Ptr, Value};
 use pliron_laws::reads::{all_arguments, all_operations, all_results, push_layouts};
 use std::alloc::{AllocError, Global};
@@ -58,7 +58,7 @@ impl DefinitionOrder {
     }
 
     // Adds an operation; its blocks come next.
-    fn add_operation<N: Shown>(
+    fn add_operation<N: NameScopes>(
         &mut self,
         alloc: Global,
         ctx: &Context,
@@ -101,7 +101,7 @@ impl DefinitionOrder {
     }
 
     // Adds what comes next.
-    fn add_item<N: Shown>(
+    fn add_item<N: NameScopes>(
         &mut self,
         alloc: Global,
         ctx: &Context,
@@ -116,7 +116,7 @@ impl DefinitionOrder {
 
     /// What the text of the operation defines, in order. Errors: allocation failure. Cost: linear in the operation,
     /// where none inside has more than one region.
-    pub fn of<N: Shown>(
+    pub fn of<N: NameScopes>(
         alloc: Global,
         root: Ptr<Operation>,
         ctx: &Context,

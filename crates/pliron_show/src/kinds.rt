@@ -3,7 +3,7 @@ ghost use Rattle.pliron_core.specs.Tree.{IsLive};
 ghost use Rattle.pliron_show.specs.Faults.{faults_as_unreadable};
 
 use crate::renaming::{LETTERS, print_renamed};
-use crate::shown::{NameSource, NewNames, Shown};
+use crate::shown::{NameScopes, NameSource, NewNames, Shown};
 use pliron_core::{Context, Operation, Ptr};
 use pliron_diagnostics::{Source, TextParts, forwarded_names, kind_fault, parts_of, pretty};
 use pliron_laws::OptError;
@@ -19,6 +19,12 @@ fn form_of<K: Roles>(op: Ptr<Operation>, ctx: &Context) -> Option<Form>
     match K::from_number(op.head(ctx).kind) {
         Some(kind) => Some(kind.form()),
         None => None,
+    }
+}
+
+impl<K: Grammar> NameScopes for KindNotation<K> {
+    fn begins_names(_op: Ptr<Operation>, _ctx: &Context) -> bool {
+        false
     }
 }
 
@@ -55,10 +61,6 @@ impl<K: Grammar> Shown for KindNotation<K> {
             Some(kind) => Some(kind.word()),
             None => None,
         }
-    }
-
-    fn begins_names(_op: Ptr<Operation>, _ctx: &Context) -> bool {
-        false
     }
 
     fn constant(

@@ -4,10 +4,10 @@
 ghost use Rattle.pliron_core.specs.Tree.{IsLive};
 
 use crate::definition_order::DefinitionOrder;
-use crate::shown::{NameSource, NewNames, Shown};
+use crate::shown::{NameScopes, NameSource, NewNames};
 use pliron_core::{BasicBlock, Context, Ptr, Value};
 use pliron_laws::OptError;
-use pliron_opts::Document;
+use pliron_opts::{Document, Notation};
 use std::alloc::{AllocError, Global};
 
 /// What new names begin with, as those that are printed do.
@@ -122,7 +122,7 @@ fn rename_text<T: NameSource>(
 
 /// Prints the operation, and renames what it is printed with. Asks that it is live (`is_live` tests it). Errors:
 /// allocation failure. Cost: that of printing, and of the names.
-pub fn print_renamed<N: Shown, T: NameSource>(
+pub fn print_renamed<N: Notation + NameScopes, T: NameSource>(
     alloc: Global,
     document: &Document<N::Sheet>,
     names: &T,

@@ -30,8 +30,15 @@ pub trait NameSource {
     fn push_block(&self, key: u64, line: &mut String) -> Result<(), AllocError>;
 }
 
+/// Where the names of values begin anew.
+pub trait NameScopes {
+    /// Whether the names of values begin anew at the operation. Asks that it is live (`is_live` tests it). Cost: constant.
+    fn begins_names(op: Ptr<Operation>, ctx: &Context) -> bool
+        requires { IsLive ctx.now.tree op };
+}
+
 /// A notation whose texts and trees are shown to people.
-pub trait Shown: Notation {
+pub trait Shown: Notation + NameScopes {
     // the report says what is wrong with the text
     ghost faults: { TextFaults };
 
@@ -63,10 +70,6 @@ pub trait Shown: Notation {
 
     /// The word of the operation, if it has one. Asks that it is live (`is_live` tests it). Cost: linear in the word.
     fn word<'s>(op: Ptr<Operation>, sheet: &'s Self::Sheet, ctx: &Context) -> Option<&'s str>
-        requires { IsLive ctx.now.tree op };
-
-    /// Whether the names of values begin anew at the operation. Asks that it is live (`is_live` tests it). Cost: constant.
-    fn begins_names(op: Ptr<Operation>, ctx: &Context) -> bool
         requires { IsLive ctx.now.tree op };
 
     /// The constant that the operation makes, as people read it; `None` of an operation that makes none. Asks that it is
