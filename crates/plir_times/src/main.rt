@@ -74,9 +74,12 @@ fn time_graph(rt: &HostRuntime, words: &[String]) -> Result<(), Failure> {
     let count = words[1].parse::<usize>().map_err(|_| Failure::Usage)?;
     let call = Call::from_name(&words[2]).ok_or(Failure::Usage)?;
     let rows = rows_of(rt.alloc(), shape, count)?;
-    let edges = rows.iter().map(|row| row.len()).sum::<usize>();
+    let mut size = count;
+    for row in &rows {
+        size = size.saturating_add(row.len());
+    }
     let graph = AdjacencyList::new(rt.alloc(), rows)?.ok_or(Failure::Usage)?;
-    time_call(rt, call, &graph, count.saturating_add(edges))?;
+    time_call(rt, call, &graph, size)?;
     Ok(())
 }
 
