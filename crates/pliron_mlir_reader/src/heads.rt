@@ -398,6 +398,18 @@ impl<'t> Reader<'t> {
         Ok(text)
     }
 
+    // The property list and the attribute dictionary without such entries.
+    fn lists_without_counts(&self) -> Result<(Vec<u8>, Vec<u8>), Fault>
+        ensures properties { IfOk result (λ texts.
+            texts.0.items ≡ without_counts_of self.now.cursor [] self.now.properties.items) }
+        ensures attributes { IfOk result (λ texts.
+            texts.1.items ≡ without_counts_of self.now.cursor [] self.now.attributes.items) }
+    {
+        let properties = self.without_counts(&self.properties)?;
+        let attributes = self.without_counts(&self.attributes)?;
+        Ok((properties, attributes))
+    }
+
     // The text of the span, if there is one.
     fn list(&self, span: Option<Span>) -> Option<&'t [u8]>
         ensures { option_now result ≡ option_map (bytes_in self.now.cursor) span }
@@ -434,8 +446,7 @@ impl<'t> Reader<'t> {
         ensures { IfOk result (λ form.
             IsFormOf self.new.sheet form (branch_form_written self.old pending.now tail.now)) }
     {
-        let properties = self.without_counts(&self.properties)?;
-        let attributes = self.without_counts(&self.attributes)?;
+        let (properties, attributes) = self.lists_without_counts()?;
         let texts = FormTexts {
             properties: in_place_of(pending.properties, &properties),
             attributes: in_place_of(tail.attributes, &attributes),
