@@ -1,9 +1,8 @@
 -- What an operation is taken for by what is known of its name.
-use Rattle.std.proofs.Common.{◌≡◌, ℕ, Result, Ok, Err, IfOk, refl, subst, inl, inr}
+use Rattle.std.proofs.Common.{◌≡◌, List, ℕ, Result, Ok, Err, IfOk, refl, subst, inl, inr}
 use Rattle.pliron_core.specs.declared.attrs.Head.{Head}
-use Rattle.pliron_mlir.specs.declared.kind.Class.TheVariants.{Constant, Branch, Switch, Effect}
+use Rattle.pliron_mlir.specs.declared.kind.Class.TheVariants.{Constant, Branch, Switch}
 use Rattle.pliron_mlir.specs.declared.kind.Class.{Class}
-use Rattle.pliron_mlir.specs.Heads.{plain_head}
 use Rattle.pliron_mlir_syntax.specs.declared.sheet.Sheet.{Sheet}
 use Rattle.pliron_mlir_syntax.specs.Numbers.{width_written}
 use Rattle.pliron_mlir_reader.specs.declared.known.KnownName.{KnownName}
@@ -13,7 +12,7 @@ use Rattle.pliron_mlir_reader.specs.Said.{Said}
 use Rattle.pliron_mlir_reader.specs.Taken.{class_taken}
 use Rattle.pliron_mlir_reader.specs.declared.owned.OwnedProperty.{OwnedProperty}
 use Rattle.pliron_mlir_syntax.specs.declared.fault.Fault.{Fault}
-use Rattle.pliron_mlir_reader.specs.TakenHeads.{Forms, IsOtherHead, IsHeadOf, IsKnownAs, IsTaken, IsTakenFor}
+use Rattle.pliron_mlir_reader.specs.TakenHeads.{Forms, IsOtherHead, IsHeadOf, IsKnownAs, IsKeptAs, IsTaken, IsTakenFor}
 
 taken_for : (sheet : Sheet) (known : KnownName) (s : Shape) (said : Said) (forms : Forms) (head : Head) → known ≡ known_in_quotes forms.form.name → IsKnownAs sheet known s said forms head
     → IsTakenFor sheet s said forms head
@@ -41,5 +40,5 @@ pub taken_by_text : (sheet : Sheet) (s : Shape) (said : Said) (forms : Forms) (h
     → IsTakenFor sheet s said forms head → ∥ IsTaken head ∥₁
 taken_by_text sheet s said forms head from to is = ∣ inl (sheet, s, said, forms, from, to, is) ∣₁
 
-pub taken_as_kept : (head : Head) (form : ℕ) → head ≡ plain_head Effect form → ∥ IsTaken head ∥₁
-taken_as_kept head form is = ∣ inr (form, is) ∣₁
+pub taken_as_kept : (sheet : Sheet) (text : List ℕ) (head : Head) → IsKeptAs sheet text head → ∥ IsTaken head ∥₁
+taken_as_kept sheet text head is = ∣ inr (sheet, text, is) ∣₁

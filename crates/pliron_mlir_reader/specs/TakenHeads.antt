@@ -6,8 +6,9 @@ use Rattle.pliron_mlir.specs.declared.kind.Class.TheVariants.{Constant, Opaque, 
 use Rattle.pliron_mlir.specs.Data.{number, other_constant}
 use Rattle.pliron_mlir.specs.Heads.{constant_head, plain_head, switch_head}
 use Rattle.pliron_mlir_syntax.specs.declared.sheet.Sheet.{Sheet}
+use Rattle.pliron_mlir_syntax.specs.declared.sheet.Form.{Form}
 use Rattle.pliron_mlir_syntax.specs.Numbers.{width_written}
-use Rattle.pliron_mlir_syntax.specs.Sheets.{WrittenForm, IsFormOf}
+use Rattle.pliron_mlir_syntax.specs.Sheets.{text_at, form_at, WrittenForm, IsFormOf}
 use Rattle.pliron_mlir_reader.specs.Known.{known_in_quotes}
 use Rattle.pliron_mlir_reader.specs.Said.{Said, flags_said, predicate_in, value_bits, counts_said, fitting, cases_said}
 use Rattle.pliron_mlir_reader.specs.Taken.{class_taken, bits_owned, head_taken, branch_taken}
@@ -72,9 +73,18 @@ IsKnownAs sheet known s said forms head = IsHeadOf sheet (class_taken known.clas
 abbrev pub IsTakenFor : Sheet → Shape → Said → Forms → Head → Type 0
 IsTakenFor sheet s said forms head = IsKnownAs sheet (known_in_quotes forms.form.name) s said forms head
 
--- some operation, with the widths of its types, is taken for one with this head; or it is kept as it is written, an
--- effect whose form is its text
+-- ---- kept as written
+
+-- the number is that of the form of an operation that is kept as this text
+abbrev pub IsFormOfKept : Sheet → (number : ℕ) → (text : List ℕ) → Type 0
+IsFormOfKept sheet number text = (form : Form) × (form_at sheet number ≡ Some form) × (text_at sheet form.name ≡ Some text) × (form.is_whole ≡ true)
+
+-- an effect whose form is this text
+abbrev pub IsKeptAs : Sheet → (text : List ℕ) → Head → Type 0
+IsKeptAs sheet text head = (form : ℕ) × IsFormOfKept sheet form text × (head ≡ plain_head Effect form)
+
+-- some operation, with the widths of its types, is taken for one with this head; or it is kept as it is written
 abbrev pub IsTaken : Head → Type 0
 IsTaken head =
     ((sheet : Sheet) × (s : Shape) × (said : Said) × (forms : Forms) × (s.from ≡ width_written said.operand) × (s.to ≡ width_written said.result) × IsTakenFor sheet s said forms head)
-    ⊎ ((form : ℕ) × (head ≡ plain_head Effect form))
+    ⊎ ((sheet : Sheet) × (text : List ℕ) × IsKeptAs sheet text head)

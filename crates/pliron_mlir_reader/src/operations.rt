@@ -1,12 +1,12 @@
 //! Reading an operation.
 ghost use Rattle.std.specs.Prelude.{◌≡◌, [], None, slice_get, if◌then◌else◌, IfOk, OnOk};
+ghost use Rattle.pliron_mlir_reader.specs.TakenHeads.{IsKeptAs};
 
 use crate::heads::Tail;
 use crate::reader::{Entry, Pending, Reader};
 use crate::taken_head::TakenHead;
 use pliron_mlir::{Class, plain_head};
 use pliron_mlir_syntax::{Expected, Fault, Form, MAX_DEPTH, OperationText, Span};
-use std::alloc::Global;
 
 /// How deeply brackets are nested where a function has too many regions in one another.
 const MAX_BRACKETS: usize = 2 * MAX_DEPTH - 8;
@@ -28,12 +28,6 @@ fn is_followed(text: &[u8], first: &[u8], second: &[u8]) -> bool {
 fn may_fork_into_regions(text: &[u8]) -> bool {
     is_followed(text, b"]", b"({")
         || (is_followed(text, b"]", b"<{") && is_followed(text, b"}>", b"({"))
-}
-
-// The head of an operation that is kept as it is written.
-fn kept_head(alloc: Global, form: usize) -> Result<TakenHead, Fault> {
-    let head = plain_head(alloc, Class::Effect, form)?;
-    Ok(TakenHead { head })
 }
 
 impl<'t> Reader<'t> {
@@ -302,12 +296,12 @@ impl<'t> Reader<'t> {
         Ok(most)
     }
 
-    // Keeps the operation as it is written.
-    fn keep(&mut self, number: usize, start: usize) -> Result<(), Fault> {
-        self.whole_operation()?;
-        let name = self
-            .sheet
-            .number(self.cursor.bytes(self.cursor.since(start)))?;
+    // The head of an operation that is kept as this text.
+    #[tactic(auto, using(crate::proofs::TakenLemmas::taken_as_kept))]
+    fn kept_head(&mut self, text: &[u8]) -> Result<TakenHead, Fault>
+        ensures { IfOk result (λ taken. IsKeptAs self.new.sheet text.now taken.head) }
+    {
+        let name = self.sheet.number(text)?;
         let form = self.sheet.form_number(Form {
             name,
             properties: None,
@@ -316,7 +310,15 @@ impl<'t> Reader<'t> {
             location: None,
             is_whole: true,
         })?;
-        let head = kept_head(self.alloc, form)?;
+        let head = plain_head(self.alloc, Class::Effect, form)?;
+        Ok(TakenHead { head })
+    }
+
+    // Keeps the operation as it is written.
+    fn keep(&mut self, number: usize, start: usize) -> Result<(), Fault> {
+        self.whole_operation()?;
+        let text = self.cursor.bytes(self.cursor.since(start));
+        let head = self.kept_head(text)?;
         self.set_head(number, head);
         Ok(())
     }
