@@ -1,4 +1,6 @@
 //! Reading an operation.
+ghost use Rattle.std.specs.Prelude.{◌≡◌, [], None, slice_get, if◌then◌else◌, IfOk, OnOk};
+
 use crate::heads::Tail;
 use crate::reader::{Entry, Pending, Reader};
 use crate::taken_head::TakenHead;
@@ -34,7 +36,7 @@ fn kept_head(alloc: Global, form: usize) -> Result<TakenHead, Fault> {
     Ok(TakenHead { head })
 }
 
-impl Reader<'_> {
+impl<'t> Reader<'t> {
     // The names of the results, up to `=`; how many results there are.
     fn results(&mut self) -> Result<usize, Fault> {
         let mut named = 0usize;
@@ -128,8 +130,10 @@ impl Reader<'_> {
         Ok(())
     }
 
-    // Scans entries up to the closing brace, and answers the text before that.
-    fn entries(&mut self, are_properties: bool) -> Result<Span, Fault> {
+    // Scans entries up to the closing brace, and answers the text before that. Asks that none are there from before.
+    fn entries(&mut self, are_properties: bool) -> Result<Span, Fault>
+        requires { (if are_properties then self.old.properties.items else self.old.attributes.items) ≡ [] }
+    {
         let start = self.cursor.place();
         if self.cursor.accept(b'}') {
             return Ok(Span { start, end: start });
@@ -174,7 +178,10 @@ impl Reader<'_> {
         Ok(())
     }
 
-    fn property_list(&mut self) -> Result<Option<Span>, Fault> {
+    // The text inside the property list of the next operation, if it has one; all entries are those of this list.
+    fn property_list(&mut self) -> Result<Option<Span>, Fault>
+        ensures { IfOk result (λ list. list ≡ None → self.new.properties.items ≡ []) }
+    {
         self.properties.clear();
         if !self.cursor.accept(b'<') {
             return Ok(None);
@@ -196,11 +203,12 @@ impl Reader<'_> {
         };
         self.cursor.skip();
         let start = self.cursor.place();
-        let name = self.cursor.string(Expected::Operation)?;
-        if self.cursor.bytes(name).contains(&b'\\') {
+        let span = self.cursor.string(Expected::Operation)?;
+        let name = self.cursor.bytes(span);
+        if name.contains(&b'\\') {
             return Err(Fault::Expected(start, Expected::Operation));
         }
-        let known = self.names.get(self.cursor.bytes(name))?;
+        let known = self.names.get(name)?;
         if known.is_tag && !self.keeps {
             return Err(Fault::KeptAsText);
         }
@@ -313,7 +321,10 @@ impl Reader<'_> {
         Ok(())
     }
 
-    fn attribute_list(&mut self) -> Result<Option<Span>, Fault> {
+    // The same of its attribute dictionary.
+    fn attribute_list(&mut self) -> Result<Option<Span>, Fault>
+        ensures { IfOk result (λ list. list ≡ None → self.new.attributes.items ≡ []) }
+    {
         self.attributes.clear();
         if self.cursor.accept(b'{') {
             Ok(Some(self.entries(false)?))
@@ -324,7 +335,7 @@ impl Reader<'_> {
 
     /// Reads what is behind the regions of an operation, after which all of the operation is known. Errors: as `read`.
     /// Cost: linear in its text.
-    pub fn tail(&mut self, pending: &Pending) -> Result<(), Fault> {
+    pub fn tail(&mut self, pending: &Pending<'t>) -> Result<(), Fault> {
         let attributes = self.attribute_list()?;
         self.cursor.expect(b':', Expected::Colon)?;
         self.operand_types(pending)?;
@@ -348,7 +359,10 @@ impl Reader<'_> {
         Ok(())
     }
 
-    fn operand_types(&mut self, pending: &Pending) -> Result<(), Fault> {
+    // The types of the operands.
+    fn operand_types(&mut self, pending: &Pending) -> Result<(), Fault>
+        ensures { OnOk result (self.new.operand ≡ slice_get self.new.types.items 0) }
+    {
         self.cursor.skip();
         let place = self.cursor.place();
         self.types.clear();
@@ -363,6 +377,7 @@ impl Reader<'_> {
                 *slot = number;
             }
         }
+        self.operand = self.types.first().copied();
         Ok(())
     }
 
