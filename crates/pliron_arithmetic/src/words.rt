@@ -1,6 +1,6 @@
-//! The words of the kinds, by which texts name them.
+//! The words of the kinds, by which texts name them, and how texts write them.
 use crate::kind::ArithmeticKind;
-use pliron_notation::Word;
+use pliron_notation::{Grammar, Word};
 
 impl Word for ArithmeticKind {
     fn from_word(word: &[u8]) -> Option<ArithmeticKind> {
@@ -36,3 +36,5 @@ impl Word for ArithmeticKind {
         }
     }
 }
+
+impl Grammar for ArithmeticKind {}

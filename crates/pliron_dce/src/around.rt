@@ -6,6 +6,8 @@
 //! A use keeps alive each operation around the used value that isn't around the user as well. One climb from the user to
 //! the outermost such operation answers for all of them; the value and that operation are remembered, for where the
 //! same use is found again.
+//!
+//! It serves growth alone: without it `manyaround` of `docs/benchmarks/shapes.py` is quadratic.
 ghost use Rattle.std.specs.Prelude.{◌≡◌, ◌++◌, ◌∷◌, [], true, false, IfOk, IfSome, OnOk, IsTrue};
 ghost use Rattle.pliron_core.specs.Tree.{In, IsLive, IsDefined, IsWithin, operands_of};
 ghost use Rattle.pliron_dce.specs.Readiness.{IsHeldUpTo};

@@ -8,6 +8,8 @@
 //!
 //! Beside the list is recorded how far apart the removed arguments of the block were; by that the lists that
 //! lose an entry with each of them are indexed.
+//!
+//! It serves growth alone: without it `shortedges` of `docs/benchmarks/shapes.py` is quadratic.
 ghost use Rattle.std.specs.Prelude.{◌≡◌, ℕ, None, Some, IfOk, OnOk, IsSome, IsOkUnless, IsPermutation};
 ghost use Rattle.pliron_core.specs.Tree.{IsBlock, HoldsBlock, uses_of};
 ghost use Rattle.pliron_laws.specs.Linked.{IsWellLinked};

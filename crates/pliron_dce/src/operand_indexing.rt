@@ -8,6 +8,8 @@
 //!
 //! Where a branch forwards much along two edges, its operand list loses operands at two places in turn, in
 //! whatever order the arguments are removed. Such a list is indexed at once.
+//!
+//! It serves growth alone: without it `farargs` of `docs/benchmarks/shapes.py` is quadratic.
 ghost use Rattle.std.specs.Prelude.{◌≡◌};
 ghost use Rattle.pliron_core.specs.Tree.{IsBlock, IsLive};
 ghost use Rattle.pliron_theory.specs.Dropping.{AreEdgesTo};

@@ -3,6 +3,8 @@
 //! What leads to a block ends its own block, so while the block is live none of it is erased, and what is a
 //! branch, or none, stays so. So a block to which many edges lead is asked once, at the start, and marked; the
 //! mark is right until the block is erased. Where few edges lead, they are sooner asked again than looked up.
+//!
+//! It serves growth alone: without it `shortedges` of `docs/benchmarks/shapes.py` is quadratic.
 ghost use Rattle.std.specs.Prelude.{◌≡◌, ◌↔◌, ℕ, None, IfOk, OnOk, IsTrue};
 ghost use Rattle.pliron_core.specs.Tree.{IsBlock, HoldsBlock};
 ghost use Rattle.pliron_dce.specs.Incoming.{BranchesLead};

@@ -14,6 +14,8 @@
 //!
 //! Places and positions are hints. A use that keeps the operation alive is tested where it is found; where none
 //! is found, the operation is tested as a whole.
+//!
+//! It serves growth alone: without it `boxuses` of `docs/benchmarks/shapes.py` is quadratic.
 ghost use Rattle.std.specs.Prelude.{◌≡◌, ◌↔◌, ◌≤◌, length, IfSome, IsTrue};
 ghost use Rattle.pliron_core.specs.Tree.{In, IsLive, IsDefined, operands_of, results_of, uses_of};
 ghost use Rattle.pliron_core.specs.Changes.{IsDefinedInside};

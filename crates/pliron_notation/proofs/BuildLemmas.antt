@@ -5,7 +5,6 @@ use Rattle.std.proofs.lemmas.List.{get_or_past, get_or-set_same, get_or-set_othe
 use Rattle.std.proofs.lemmas.List.FromFn.{length-range_with_len}
 use Rattle.std.proofs.lemmas.Option.{slice_get_read, slice_get-get_or}
 use Rattle.pliron_core.specs.declared.attrs.Head.{Head}
-use Rattle.pliron_core.specs.declared.context.RegionSlot.{RegionSlot}
 use Rattle.pliron_core.specs.Tree.{Tree, In, IsLive, IsBlock, IsRegion, IsDefined, IsMadeBy, IsInside, HoldsBlock, no_entry, row_of, results_of, regions_of, parent_of, arguments_of, block_parent_of, op_of_slot, up_from, region_parent_of, block_parent_operation_of, parent_operation_of}
 use Rattle.pliron_core.specs.Invariant.{IsTree}
 use Rattle.pliron_core.specs.Writes.{after_creating, block_created, operand_pushed, successor_pushed}
@@ -13,7 +12,7 @@ use Rattle.pliron_core.proofs.GrownLemmas.{get_grown, get_last, get_last_same, i
 use Rattle.pliron_core.proofs.CreatedLemmas.{holder_kept}
 use Rattle.pliron_core.proofs.HoldingLemmas.{some_is, in_slice, slice_in, past_live, region_by, block_held, held_block, holder_by, holder_live}
 use Rattle.pliron_notation.specs.declared.build.BuiltTree.{BuiltTree}
-use Rattle.pliron_notation.specs.Building.{All, AddsOnly, IsExtended, IsGrown, IsNewBlock, IsNewRegion, IsBuilt, BuildingContinues, AreLive, after_appending}
+use Rattle.pliron_notation.specs.Building.{All, AddsOnly, IsExtended, IsGrown, IsNewBlock, IsNewRegion, IsBuilt, BuildingContinues, BuildingContinuesAt, AreLive, after_appending}
 use Rattle.pliron_notation.proofs.GrowthLemmas.{keeps-length, more-live, more-block, more-region, more-defined, more-region_parent, more-block_parent_operation, more-holder, more-appended, more-created, more-block_created, more-operand, more-successor, kept-created, kept-appended, kept-block_created, kept-operand, kept-successor}
 
 -- what is added to a list that all has it
@@ -58,6 +57,12 @@ length-last xs ys x e = ap length e ∙ length-append xs (x ∷ [])
 
 pub goes-refl : (u : Tree) (built : BuiltTree) → BuildingContinues u built u built
 goes-refl u built t root b = b
+
+pub goes-refl-at : (op : ℕ) (u : Tree) (built : BuiltTree) → BuildingContinuesAt op u built u built
+goes-refl-at op u built t root le b = b
+
+pub goes-trans-at : (op : ℕ) (u v w : Tree) (a b c : BuiltTree) → BuildingContinuesAt op u a v b → BuildingContinuesAt op v b w c → BuildingContinuesAt op u a w c
+goes-trans-at op u v w a b c g h t root le is = h t root le (g t root le is)
 
 pub goes-trans : (u v w : Tree) (a b c : BuiltTree) → BuildingContinues u a v b → BuildingContinues v b w c → BuildingContinues u a w c
 goes-trans u v w a b c g h t root is = h t root (g t root is)
@@ -119,6 +124,12 @@ module _ (u : Tree) (head : Head) (results regions block : ℕ) (is : IsTree u) 
 
   pub appended-row : row_of v op ≡ record { head = Some head; results = range_with_len (length u.definitions) results; regions = range_with_len (length u.slots) regions }
   appended-row = get_last_same u.operations _ no_entry
+
+  pub appended-results : (w : Tree) (k : ℕ) → w ≡ v → k ≡ op → length (results_of w k) ≡ results
+  appended-results w k same e = ap (λ z. length (results_of z k)) same ∙ ap (λ n. length (results_of v n)) e ∙ ap (λ z. length z.results) appended-row ∙ length-range_with_len (length u.definitions) results
+
+  pub appended-regions : (w : Tree) (k : ℕ) → w ≡ v → k ≡ op → length (regions_of w k) ≡ regions
+  appended-regions w k same e = ap (λ z. length (regions_of z k)) same ∙ ap (λ n. length (regions_of v n)) e ∙ ap (λ z. length z.regions) appended-row ∙ length-range_with_len (length u.slots) regions
 
   pub appended-live : IsLive v op
   appended-live = ap (λ z. is_some z.head) appended-row
@@ -257,11 +268,11 @@ old-operands t is root op e le = let f = is.keys.operands in omega (arith, e, le
 old-successors : (t : Tree) → IsTree t → (root op : ℕ) → root ≡ length t.operations → root ≤ op → length t.successors ≤ op
 old-successors t is root op e le = let f = is.keys.successors in omega (arith, e, le, f)
 
-pub goes-operand : (u v : Tree) (built : BuiltTree) (op value : ℕ) → v ≡ operand_pushed u op value → In op built.operations.items → BuildingContinues u built v built
-goes-operand u v built op value same i t root b = subst (λ z. IsBuilt t z root built) (sym same) (record {
+pub goes-operand : (u v : Tree) (built : BuiltTree) (op value : ℕ) → v ≡ operand_pushed u op value → BuildingContinuesAt op u built v built
+goes-operand u v built op value same t root le b = subst (λ z. IsBuilt t z root built) (sym same) (record {
   grown = record {
     before = b.grown.before;
-    kept = kept-operand t u op value (old-operands t b.grown.before root op b.grown.fresh (b.operations op i)) b.grown.kept;
+    kept = kept-operand t u op value (old-operands t b.grown.before root op b.grown.fresh le) b.grown.kept;
     fresh = b.grown.fresh;
     live = b.grown.live;
     loose = b.grown.loose;
@@ -293,42 +304,58 @@ all_in_place-operand u v built op value same s = all_in_place-more u v built (su
 pub all_in_place-successor : (u v : Tree) (built : BuiltTree) (op block : ℕ) → v ≡ successor_pushed u op block → AreLive u built → AreLive v built
 all_in_place-successor u v built op block same s = all_in_place-more u v built (subst (IsExtended u) (sym same) (more-successor u op block)) s
 
+-- what is made of a text before anything is inside it is live
+pub all_in_place-start : (u : Tree) (built : BuiltTree) (root : ℕ) → IsTree u → built.operations.items ≡ [] → built.blocks.items ≡ [] → AddsOnly [] built.regions.items (regions_of u root) → AddsOnly [] built.values.items (results_of u root) → AreLive u built
+all_in_place-start u built root is ops blocks regs values = record {
+  operations = λ x i. absurd (subst (In x) ops i);
+  blocks = λ x i. absurd (subst (In x) blocks i);
+  regions = all-adds (IsRegion u) [] built.regions.items (regions_of u root) regs (λ x i. absurd i) (λ r i. listed_region u is root r i);
+  values = all-adds (IsDefined u) [] built.values.items (results_of u root) values (λ x i. absurd i) (λ x i. listed_result u is root x i);
+}
+
 -- the operation of a text before anything is defined in it
-module _ (t : Tree) (head : Head) (is : IsTree t) where
+module _ (t : Tree) (head : Head) (results regions : ℕ) (is : IsTree t) where
   abbrev s : Tree
-  s = after_creating t head 0 1
+  s = after_creating t head results regions
 
   abbrev first : ℕ
   first = length t.operations
 
-  pub start-row : row_of s first ≡ record { head = Some head; results = []; regions = length t.slots ∷ [] }
+  pub start-row : row_of s first ≡ record { head = Some head; results = range_with_len (length t.definitions) results; regions = range_with_len (length t.slots) regions }
   start-row = get_last_same t.operations _ no_entry
 
   start-grown : IsGrown t s first
   start-grown = record {
     before = is;
-    kept = kept-created t head 0 1;
+    kept = kept-created t head results regions;
     fresh = refl;
     live = ap (λ z. is_some z.head) start-row;
     loose = get_grown t.parents None first ∙ get_or_past t.parents first None (let e = is.keys.parents in omega (arith, e));
     held = λ k live lt. let old = past_live s k live in let n : length s.operations ≡ first + 1 = length-append t.operations _ in absurd (omega (arith, old, lt, n));
   }
 
+  start_region : IsTree s → (r : ℕ) → In r (regions_of s first) → IsNewRegion t s first r
+  start_region is_s r i =
+      let at = slice_in (regions_of s first) r i in
+      let from : length t.slots ≤ r = in_range (length t.slots) regions r (subst (λ z. In r z.regions) start-row i) in
+      let same : length t.slots ≡ length t.layouts = is.keys.slots in
+      (first, ap op_of_slot (is_s.joined.regions first at.0 r at.1), omega arith, omega (arith, from, same))
+
   pub grown-start : (u : Tree) (root : ℕ) → u ≡ s → root ≡ first → IsGrown t u root
   grown-start u root same e = subst (λ z. IsGrown t z root) (sym same) (subst (λ k. IsGrown t s k) (sym e) start-grown)
 
-  pub built-start : (u : Tree) (built : BuiltTree) (root region : ℕ) → u ≡ s → root ≡ first → slice_get (regions_of u root) 0 ≡ Some region → built.operations.items ≡ [] → built.blocks.items ≡ [] → AddsOnly [] built.regions.items (region ∷ []) → IsBuilt t u root built
-  built-start u built root region same e at ops blocks regs =
-      let listed : slice_get (regions_of s first) 0 ≡ Some region = ap (λ z. slice_get (regions_of z first) 0) (sym same) ∙ ap (λ k. slice_get (regions_of u k) 0) (sym e) ∙ at in
-      let is_first : length t.slots ≡ region = some_is (sym (ap (λ z. slice_get z.regions 0) start-row) ∙ listed) in
+  pub start-results : (u : Tree) (root : ℕ) → u ≡ s → root ≡ first → length (results_of u root) ≡ results
+  start-results u root same e = ap (λ z. length (results_of z root)) same ∙ ap (λ k. length (results_of s k)) e ∙ ap (λ z. length z.results) start-row ∙ length-range_with_len (length t.definitions) results
+
+  pub start-regions : (u : Tree) (root : ℕ) → u ≡ s → root ≡ first → length (regions_of u root) ≡ regions
+  start-regions u root same e = ap (λ z. length (regions_of z root)) same ∙ ap (λ k. length (regions_of s k)) e ∙ ap (λ z. length z.regions) start-row ∙ length-range_with_len (length t.slots) regions
+
+  pub built-start : (u : Tree) (built : BuiltTree) (root : ℕ) → u ≡ s → IsTree u → root ≡ first → built.operations.items ≡ [] → built.blocks.items ≡ [] → AddsOnly [] built.regions.items (regions_of u root) → IsBuilt t u root built
+  built-start u built root same is_u e ops blocks regs =
+      let own : AddsOnly [] built.regions.items (regions_of s first) = subst (λ z. AddsOnly [] built.regions.items (regions_of z first)) same (subst (λ k. AddsOnly [] built.regions.items (regions_of u k)) e regs) in
       subst (λ z. IsBuilt t z root built) (sym same) (subst (λ k. IsBuilt t s k built) (sym e) (record {
         grown = start-grown;
         operations = λ x i. absurd (subst (In x) ops i);
         blocks = λ x i. absurd (subst (In x) blocks i);
-        regions = all-adds (IsNewRegion t s first) [] built.regions.items (region ∷ []) regs (λ x i. absurd i)
-            (all-one (IsNewRegion t s first) region (subst (IsNewRegion t s first) is_first (first, ap op_of_slot (slot_at t.slots), omega arith, (let f = is.keys.slots in omega (arith, f)))));
+        regions = all-adds (IsNewRegion t s first) [] built.regions.items (regions_of s first) own (λ x i. absurd i) (start_region (subst IsTree same is_u));
       }))
-    where
-      slot_at : (xs : List RegionSlot) → slice_get (xs ++ record { op = first; index = 0 } ∷ []) (length xs) ≡ Some (record { op = first; index = 0 })
-      slot_at [] = refl
-      slot_at (x ∷ xs) = slot_at xs

@@ -13,7 +13,6 @@ use Rattle.pliron_notation.specs.declared.build.BuiltTree.{BuiltTree}
 use Rattle.pliron_notation.specs.Building.{HasMade}
 use Rattle.pliron_notation.specs.declared.steps.OutlineStep.{OutlineStep as Printed}
 use Rattle.pliron_notation.specs.Notation.{AllBelow, AreInRegion, IsNext, IsNextOperation, IsNextBlock, IsOrdered}
-use Rattle.pliron_bench.specs.Bench.{result_count, region_count}
 use Rattle.pliron_notation.specs.Printing.{AreStepsLive, IsStepLive}
 
 drop-past : {A : Type 0} (xs : List A) (i : ℕ) → length xs ≤ i → drop i xs ≡ []
@@ -46,7 +45,7 @@ ordered-next s m steps i d lt o = subst (IsOrdered s m) (drop_more steps i d lt)
 pub ordered-last : (s : Syntax) (m : PartCounts) (steps : List SyntaxStep) (i : ℕ) → length steps ≤ i → IsOrdered s m (drop i steps) → IsOrdered s m []
 ordered-last s m steps i le o = subst (IsOrdered s m) (drop-past steps i le) o
 
-pub next-operation : (m m' : PartCounts) (n : ℕ) (o : Option OperationText) → IsNextOperation m n o m' → (t : OperationText) × (o ≡ Some t) × (n ≡ m.operations) × (t.block < m.blocks) × (m' ≡ record { operations = m.operations + 1; blocks = m.blocks; regions = m.regions + region_count t.kind; values = m.values + result_count t.kind })
+pub next-operation : (m m' : PartCounts) (n : ℕ) (o : Option OperationText) → IsNextOperation m n o m' → (t : OperationText) × (o ≡ Some t) × (n ≡ m.operations) × (t.block < m.blocks) × (m' ≡ record { operations = m.operations + 1; blocks = m.blocks; regions = m.regions + t.regions; values = m.values + t.results })
 next-operation m m' n None h = absurd h
 next-operation m m' n (Some t) h = (t, refl, h.0, h.1, h.2)
 
@@ -65,12 +64,12 @@ stand-more t [] s a h = (h, tt)
 stand-more t (x ∷ steps) s a h = (a.0, stand-more t steps s a.1 h)
 
 -- what is made after one step more
-pub made-operation : (b c : BuiltTree) (m : PartCounts) (t : OperationText) → HasMade b m → length c.operations.items ≡ length b.operations.items + 1 → c.blocks.items ≡ b.blocks.items → length c.regions.items ≡ length b.regions.items + region_count t.kind → length c.values.items ≡ length b.values.items + result_count t.kind → HasMade c (record { operations = m.operations + 1; blocks = m.blocks; regions = m.regions + region_count t.kind; values = m.values + result_count t.kind })
+pub made-operation : (b c : BuiltTree) (m : PartCounts) (t : OperationText) → HasMade b m → length c.operations.items ≡ length b.operations.items + 1 → c.blocks.items ≡ b.blocks.items → length c.regions.items ≡ length b.regions.items + t.regions → length c.values.items ≡ length b.values.items + t.results → HasMade c (record { operations = m.operations + 1; blocks = m.blocks; regions = m.regions + t.regions; values = m.values + t.results })
 made-operation b c m t h ops blocks regions values = record {
   operations = ops ∙ ap (λ n. n + 1) h.operations;
   blocks = ap length blocks ∙ h.blocks;
-  regions = regions ∙ ap (λ n. n + region_count t.kind) h.regions;
-  values = values ∙ ap (λ n. n + result_count t.kind) h.values;
+  regions = regions ∙ ap (λ n. n + t.regions) h.regions;
+  values = values ∙ ap (λ n. n + t.results) h.values;
 }
 
 pub made-block : (b c : BuiltTree) (m : PartCounts) (t : BlockText) → HasMade b m → c.operations.items ≡ b.operations.items → length c.blocks.items ≡ length b.blocks.items + 1 → c.regions.items ≡ b.regions.items → length c.values.items ≡ length b.values.items + t.arguments → HasMade c (record { operations = m.operations; blocks = m.blocks + 1; regions = m.regions; values = m.values + t.arguments })
@@ -82,7 +81,7 @@ made-block b c m t h ops blocks regions values = record {
 }
 
 -- what the next step makes, read from the tables
-pub operation-at : (s : Syntax) (m m' : PartCounts) (step : SyntaxStep) (n : ℕ) → IsNext s m step m' → step ≡ Operation n → (t : OperationText) × (slice_get s.operations.items n ≡ Some t) × (n ≡ m.operations) × (t.block < m.blocks) × (m' ≡ record { operations = m.operations + 1; blocks = m.blocks; regions = m.regions + region_count t.kind; values = m.values + result_count t.kind })
+pub operation-at : (s : Syntax) (m m' : PartCounts) (step : SyntaxStep) (n : ℕ) → IsNext s m step m' → step ≡ Operation n → (t : OperationText) × (slice_get s.operations.items n ≡ Some t) × (n ≡ m.operations) × (t.block < m.blocks) × (m' ≡ record { operations = m.operations + 1; blocks = m.blocks; regions = m.regions + t.regions; values = m.values + t.results })
 operation-at s m m' step n next e = next-operation m m' n (slice_get s.operations.items n) (subst (λ z. IsNext s m z m') e next)
 
 pub block-at : (s : Syntax) (m m' : PartCounts) (step : SyntaxStep) (n : ℕ) → IsNext s m step m' → step ≡ Block n → (t : BlockText) × (slice_get s.blocks.items n ≡ Some t) × (n ≡ m.blocks) × (t.region < m.regions) × (m' ≡ record { operations = m.operations; blocks = m.blocks + 1; regions = m.regions; values = m.values + t.arguments })

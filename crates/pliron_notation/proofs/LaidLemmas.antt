@@ -1,27 +1,26 @@
 -- What a tree has of a text grows step by step.
-use Rattle.std.proofs.Common.{◌≡◌, ◌≢◌, ℕ, pos, ◌+◌, ◌<◌, ◌≤◌, List, [], ◌∷◌, ◌++◌, length, get_or, Option, Some, None, refl, sym, ap, ◌∙◌, subst, ⊎_elim, arith, slice_get, length-append}
+use Rattle.std.proofs.Common.{◌≡◌, ◌≢◌, ℕ, ◌+◌, ◌<◌, ◌≤◌, List, [], ◌∷◌, ◌++◌, length, get_or, Option, Some, None, refl, sym, ap, ◌∙◌, subst, ⊎_elim, arith, slice_get, length-append}
 use Rattle.std.specs.List.{range_with_len}
 use Rattle.std.proofs.lemmas.List.{get_or_past, get_or-set_same, get_or-set_other, length-set}
 use Rattle.std.proofs.lemmas.List.FromFn.{length-range_with_len}
 use Rattle.std.proofs.lemmas.Option.{slice_get_read}
 use Rattle.pliron_core.specs.declared.attrs.Head.{Head}
 use Rattle.pliron_core.specs.declared.context.OperationEntry.{OperationEntry}
-use Rattle.pliron_core.specs.Tree.{Tree, last_of, no_entry, row_of, operands_of, successors_of, parent_of, body_of, block_parent_of}
+use Rattle.pliron_core.specs.Tree.{Tree, last_of, no_entry, row_of, results_of, regions_of, operands_of, successors_of, parent_of, body_of, block_parent_of}
 use Rattle.pliron_core.specs.Invariant.{IsTree}
 use Rattle.pliron_core.specs.Writes.{after_creating, block_created}
 use Rattle.pliron_core.proofs.GrownLemmas.{get_grown, get_last, range_more, range_at}
 use Rattle.pliron_core.proofs.HoldingLemmas.{some_is}
 use Rattle.pliron_core.proofs.TreeLemmas.{cases_lt}
-use Rattle.pliron_bench.specs.declared.kind.BenchKind.{BenchKind}
 use Rattle.pliron_notation.specs.declared.build.BuiltTree.{BuiltTree}
 use Rattle.pliron_notation.specs.declared.syntax.OperationText.{OperationText}
 use Rattle.pliron_notation.specs.declared.syntax.BlockText.{BlockText}
 use Rattle.pliron_notation.specs.declared.syntax.Syntax.{Syntax}
-use Rattle.pliron_bench.specs.Bench.{head_with, plain_head, result_count, region_count}
+use Rattle.pliron_notation.specs.Notation.{first_made, head_of_text}
 use Rattle.pliron_notation.specs.declared.syntax.PartCounts.{PartCounts}
-use Rattle.pliron_notation.specs.Building.{HasMade, KeepsEntries, after_appending}
-use Rattle.pliron_notation.specs.Laid.{IsWhole, IsMadeAs, HasNoUses, IsLastOf, IsLaid, LaysOn, LaysOperation, LaysBlock}
-use Rattle.pliron_notation.proofs.BuildLemmas.{length-last, appended-row, appended-parent, appended-other, created-parent, start-row}
+use Rattle.pliron_notation.specs.Building.{AddsOnly, HasMade, IsBuilt, IsGrown, KeepsEntries, after_appending}
+use Rattle.pliron_notation.specs.Laid.{IsBegun, IsWhole, IsMadeAs, HasNoUses, IsLastOf, IsLaid, LaysOn, LaysOperation, LaysBlock}
+use Rattle.pliron_notation.proofs.BuildLemmas.{length-last, appended-row, appended-parent, appended-other, created-parent, start-row, grown-start, built-start, start-results, start-regions}
 use Rattle.pliron_notation.proofs.GrowthLemmas.{more-block_parent, more-block_created}
 
 pub last_of-last : (before : Option ℕ) (xs : List ℕ) (x : ℕ) → last_of before (xs ++ x ∷ []) ≡ Some x
@@ -48,19 +47,19 @@ made-same row more place there base o e f h = record {
   in_block = f ∙ h.in_block;
 }
 
-pub whole-same : (row more : OperationEntry) (kind : BenchKind) → more ≡ row → IsWhole row kind → IsWhole more kind
-whole-same row more kind e h = subst (λ z. IsWhole z kind) (sym e) h
+pub whole-same : (row more : OperationEntry) (o : OperationText) → more ≡ row → IsWhole row o → IsWhole more o
+whole-same row more o e h = subst (λ z. IsWhole z o) (sym e) h
 
 pub unused-same : (operands more successors others : List ℕ) → more ≡ operands → others ≡ successors → HasNoUses operands successors → HasNoUses more others
 unused-same operands more successors others e f h = record { no_operands = e ∙ h.no_operands; no_successors = f ∙ h.no_successors }
 
 -- one more operation
-module _ (s : Syntax) (root base : ℕ) (u : Tree) (built more : BuiltTree) (o : OperationText) (block : ℕ) (is : IsTree u) (l : IsLaid s root base 0 u built) (at : slice_get s.operations.items (length built.operations.items) ≡ Some o) (within : o.block < length built.blocks.items) (read : block ≡ get_or built.blocks.items o.block block) (key : more.operations.items ≡ built.operations.items ++ length u.operations ∷ []) (blocks : more.blocks.items ≡ built.blocks.items) (regions : KeepsEntries built.regions.items more.regions.items) where
+module _ (s : Syntax) (root base : ℕ) (u : Tree) (built more : BuiltTree) (o : OperationText) (block : ℕ) (is : IsTree u) (l : IsLaid s root base 0 0 u built) (at : slice_get s.operations.items (length built.operations.items) ≡ Some o) (within : o.block < length built.blocks.items) (read : block ≡ get_or built.blocks.items o.block block) (key : more.operations.items ≡ built.operations.items ++ length u.operations ∷ []) (blocks : more.blocks.items ≡ built.blocks.items) (regions : KeepsEntries built.regions.items more.regions.items) where
   abbrev head : Head
-  head = head_with o.kind o.number (pos o.first_edge)
+  head = head_of_text o
 
   abbrev v : Tree
-  v = after_appending u head (result_count o.kind) (region_count o.kind) block
+  v = after_appending u head o.results o.regions block
 
   abbrev count : ℕ
   count = length built.operations.items
@@ -78,7 +77,7 @@ module _ (s : Syntax) (root base : ℕ) (u : Tree) (built more : BuiltTree) (o :
   row_old k lt = ⊎_elim (λ e. e) (λ e. absurd (let f = e.2 in omega (arith, lt, f))) (get_last u.operations _ no_entry k)
 
   parent_old : (k : ℕ) → k < length u.operations → parent_of v k ≡ parent_of u k
-  parent_old k lt = appended-other u head (result_count o.kind) (region_count o.kind) block is k (λ e. omega (arith, lt, e))
+  parent_old k lt = appended-other u head o.results o.regions block is k (λ e. omega (arith, lt, e))
 
   old_below : (n : ℕ) → n < count → root + 1 + n < length u.operations
   old_below n lt = let e = op_key in omega (arith, lt, e)
@@ -90,9 +89,9 @@ module _ (s : Syntax) (root base : ℕ) (u : Tree) (built more : BuiltTree) (o :
   body_old b ne = get_or-set_other u.bodies block b (body_of u block ++ length u.operations ∷ []) [] ne
 
   new_made : IsMadeAs (row_of v (length u.operations)) (parent_of v (length u.operations)) base o
-  new_made = made-same (record { head = Some head; results = range_with_len (length u.definitions) (result_count o.kind); regions = range_with_len (length u.slots) (region_count o.kind) }) (row_of v (length u.operations)) (Some block) (parent_of v (length u.operations)) base o
-      (appended-row u head (result_count o.kind) (region_count o.kind) block is) (appended-parent u head (result_count o.kind) (region_count o.kind) block is)
-      (record { head = refl; results = length-range_with_len (length u.definitions) (result_count o.kind); regions = length-range_with_len (length u.slots) (region_count o.kind); in_block = ap Some block_key })
+  new_made = made-same (record { head = Some head; results = range_with_len (length u.definitions) o.results; regions = range_with_len (length u.slots) o.regions }) (row_of v (length u.operations)) (Some block) (parent_of v (length u.operations)) base o
+      (appended-row u head o.results o.regions block is) (appended-parent u head o.results o.regions block is)
+      (record { head = refl; results = length-range_with_len (length u.definitions) o.results; regions = length-range_with_len (length u.slots) o.regions; in_block = ap Some block_key })
 
   same_text : (n : ℕ) (p : OperationText) → n ≡ count → slice_get s.operations.items n ≡ Some p → o ≡ p
   same_text n p e f = some_is (sym at ∙ ap (slice_get s.operations.items) (sym e) ∙ f)
@@ -126,7 +125,7 @@ module _ (s : Syntax) (root base : ℕ) (u : Tree) (built more : BuiltTree) (o :
       let old = l.placed j b f (subst (λ z. j < length z) blocks lt) in
       (old.0, regions b.region old.0 old.1, old.2)
 
-  pub laid-operation : IsLaid s root base 0 v more
+  pub laid-operation : IsLaid s root base 0 0 v more
   laid-operation = record {
     whole = whole-same (row_of u root) (row_of v root) s.root (row_old root (let e = op_key in omega (arith, e))) l.whole;
     operations = range-last built.operations.items more.operations.items (root + 1) (length u.operations) l.operations op_key key;
@@ -137,12 +136,13 @@ module _ (s : Syntax) (root base : ℕ) (u : Tree) (built more : BuiltTree) (o :
     placed = all_placed;
     last = all_last;
     used = λ n p f lt. absurd (omega (arith, lt));
-    unused_whole = unused-same (operands_of u root) (operands_of v root) (successors_of u root) (successors_of v root) (get_grown u.operands [] root) (get_grown u.successors [] root) l.unused_whole;
+    root_operands = ap length (get_grown u.operands [] root) ∙ l.root_operands;
+    root_successors = get_grown u.successors [] root ∙ l.root_successors;
     unused = λ k le. unused-same (operands_of u k) (operands_of v k) (successors_of u k) (successors_of v k) (get_grown u.operands [] k) (get_grown u.successors [] k) (l.unused k le);
   }
 
 -- one more block
-module _ (s : Syntax) (root base : ℕ) (u : Tree) (built more : BuiltTree) (b : BlockText) (region : ℕ) (is : IsTree u) (l : IsLaid s root base 0 u built) (at : slice_get s.blocks.items (length built.blocks.items) ≡ Some b) (within : b.region < length built.regions.items) (read : region ≡ get_or built.regions.items b.region region) (operations : more.operations.items ≡ built.operations.items) (key : more.blocks.items ≡ built.blocks.items ++ length u.bodies ∷ []) (regions : more.regions.items ≡ built.regions.items) where
+module _ (s : Syntax) (root base : ℕ) (u : Tree) (built more : BuiltTree) (b : BlockText) (region : ℕ) (is : IsTree u) (l : IsLaid s root base 0 0 u built) (at : slice_get s.blocks.items (length built.blocks.items) ≡ Some b) (within : b.region < length built.regions.items) (read : region ≡ get_or built.regions.items b.region region) (operations : more.operations.items ≡ built.operations.items) (key : more.blocks.items ≡ built.blocks.items ++ length u.bodies ∷ []) (regions : more.regions.items ≡ built.regions.items) where
   abbrev w : Tree
   w = block_created u region b.arguments
 
@@ -170,7 +170,7 @@ module _ (s : Syntax) (root base : ℕ) (u : Tree) (built more : BuiltTree) (b :
   block_last : (n : ℕ) (p : OperationText) → slice_get s.operations.items n ≡ Some p → n < length more.operations.items → IsLastOf s (length more.operations.items) n p → last_of None (body_of w (base + p.block)) ≡ Some (root + 1 + n)
   block_last n p f lt alone = ap (last_of None) (get_grown u.bodies [] (base + p.block)) ∙ l.last n p f (below n lt) (λ m q after less g. alone m q after (subst (λ z. m < length z) (sym operations) less) g)
 
-  pub laid-block : IsLaid s root base 0 w more
+  pub laid-block : IsLaid s root base 0 0 w more
   laid-block = record {
     whole = l.whole;
     operations = range-same built.operations.items more.operations.items (root + 1) l.operations operations;
@@ -181,14 +181,15 @@ module _ (s : Syntax) (root base : ℕ) (u : Tree) (built more : BuiltTree) (b :
     placed = block_placed;
     last = block_last;
     used = λ n p f lt. absurd (omega (arith, lt));
-    unused_whole = l.unused_whole;
+    root_operands = l.root_operands;
+    root_successors = l.root_successors;
     unused = l.unused;
   }
 
 -- nothing but the text's operation
 module _ (s : Syntax) (t : Tree) (is : IsTree t) where
   abbrev start : Tree
-  start = after_creating t (plain_head s.root) 0 1
+  start = after_creating t (head_of_text s.root) s.root.results s.root.regions
 
   unused_new : (k : ℕ) → length t.operations ≤ k → HasNoUses (operands_of start k) (successors_of start k)
   unused_new k le = record {
@@ -199,9 +200,9 @@ module _ (s : Syntax) (t : Tree) (is : IsTree t) where
   nothing : (A : Type 0) (xs : List ℕ) (n : ℕ) → xs ≡ [] → n < length xs → A
   nothing A xs n e lt = let h : n < length {A = ℕ} [] = subst (λ z. n < length z) e lt in absurd (omega (arith, h))
 
-  start_laid : (built : BuiltTree) → built.operations.items ≡ [] → built.blocks.items ≡ [] → IsLaid s (length t.operations) (length t.bodies) 0 start built
+  start_laid : (built : BuiltTree) → built.operations.items ≡ [] → built.blocks.items ≡ [] → IsLaid s (length t.operations) (length t.bodies) 0 0 start built
   start_laid built ops blocks = record {
-    whole = subst (λ z. IsWhole z s.root) (sym (start-row t (plain_head s.root) is)) (record { head = refl; results = refl; regions = refl });
+    whole = subst (λ z. IsWhole z s.root) (sym (start-row t (head_of_text s.root) s.root.results s.root.regions is)) (record { head = refl; results = length-range_with_len (length t.definitions) s.root.results; regions = length-range_with_len (length t.slots) s.root.regions });
     operations = ops ∙ ap (λ z. range_with_len (length t.operations + 1) (length z)) (sym ops);
     operation_count = let e : length start.operations ≡ length t.operations + 1 = length-append t.operations _ in let z : length built.operations.items ≡ 0 = ap length ops in omega (arith, e, z);
     blocks = blocks ∙ ap (λ z. range_with_len (length t.bodies) (length z)) (sym blocks);
@@ -210,12 +211,39 @@ module _ (s : Syntax) (t : Tree) (is : IsTree t) where
     placed = λ j c f lt. nothing _ built.blocks.items j blocks lt;
     last = λ n p f lt alone. nothing _ built.operations.items n ops lt;
     used = λ n p f lt. absurd (omega (arith, lt));
-    unused_whole = unused_new (length t.operations) (omega arith);
+    root_operands = ap length (unused_new (length t.operations) (omega arith)).no_operands;
+    root_successors = (unused_new (length t.operations) (omega arith)).no_successors;
     unused = λ k le. unused_new k (omega (arith, le));
   }
 
-  pub laid-start : (u : Tree) (root : ℕ) (built : BuiltTree) → u ≡ start → root ≡ length t.operations → built.operations.items ≡ [] → built.blocks.items ≡ [] → IsLaid s root (length t.bodies) 0 u built
-  laid-start u root built same e ops blocks = subst (λ z. IsLaid s root (length t.bodies) 0 z built) (sym same) (subst (λ k. IsLaid s k (length t.bodies) 0 start built) (sym e) (start_laid built ops blocks))
+  pub laid-start : (u : Tree) (root : ℕ) (built : BuiltTree) → u ≡ start → root ≡ length t.operations → built.operations.items ≡ [] → built.blocks.items ≡ [] → IsLaid s root (length t.bodies) 0 0 u built
+  laid-start u root built same e ops blocks = subst (λ z. IsLaid s root (length t.bodies) 0 0 z built) (sym same) (subst (λ k. IsLaid s k (length t.bodies) 0 0 start built) (sym e) (start_laid built ops blocks))
+
+-- what is so before anything is inside the operation of a text
+module _ (s : Syntax) (t u : Tree) (root : ℕ) (b : IsBegun t s.root u root) where
+  pub begun-grown : IsGrown t u root
+  begun-grown = grown-start t (head_of_text s.root) s.root.results s.root.regions b.before u root b.made b.fresh
+
+  pub begun-results : length (results_of u root) ≡ s.root.results
+  begun-results = start-results t (head_of_text s.root) s.root.results s.root.regions b.before u root b.made b.fresh
+
+  pub begun-regions : length (regions_of u root) ≡ s.root.regions
+  begun-regions = start-regions t (head_of_text s.root) s.root.results s.root.regions b.before u root b.made b.fresh
+
+  pub begun-built : IsTree u → (built : BuiltTree) → built.operations.items ≡ [] → built.blocks.items ≡ [] → AddsOnly [] built.regions.items (regions_of u root) → IsBuilt t u root built
+  begun-built is built ops blocks regs = built-start t (head_of_text s.root) s.root.results s.root.regions b.before u built root b.made is b.fresh ops blocks regs
+
+  pub begun-laid : (built : BuiltTree) → built.operations.items ≡ [] → built.blocks.items ≡ [] → IsLaid s root (length t.bodies) 0 0 u built
+  begun-laid built ops blocks = laid-start s t b.before u root built b.made b.fresh ops blocks
+
+-- so much is made then
+pub begun-made : (s : Syntax) (built : BuiltTree) (results regions : ℕ) → built.operations.items ≡ [] → built.blocks.items ≡ [] → results ≡ s.root.results → regions ≡ s.root.regions → length built.values.items ≡ length {A = ℕ} [] + results → length built.regions.items ≡ length {A = ℕ} [] + regions → HasMade built (first_made s.root)
+begun-made s built results regions ops blocks e f values regs = record {
+  operations = ap length ops;
+  blocks = ap length blocks;
+  regions = omega (arith, f, regs);
+  values = omega (arith, e, values);
+}
 
 -- the laying goes on with the next operation or block of the text
 pub lays-operation : (s : Syntax) (u v w : Tree) (a b c : BuiltTree) (m : PartCounts) (n : ℕ) (o p : OperationText) → LaysOn s u a v b → HasMade b m → n ≡ m.operations → slice_get s.operations.items n ≡ Some o → p ≡ o → LaysOperation p v b w c → LaysOn s u a w c

@@ -6,17 +6,12 @@ use Rattle.pliron_core.specs.Tree.{Tree, In, IsLive, IsInside, IsWithin, head_of
 use Rattle.pliron_core.specs.Invariant.{IsTree}
 use Rattle.pliron_core.proofs.HoldingLemmas.{some_is, past_live, holder_live}
 use Rattle.pliron_core.proofs.TreeLemmas.{cases_lt}
-use Rattle.pliron_bench.specs.declared.kind.BenchKind.{BenchKind}
-use Rattle.pliron_bench.specs.declared.kind.BenchKind.TheVariants.{Mod, Func, Const, Add, Mul, Div, Read, Print, Pair, Sink, Scope, Box, Br, Cbr, Ret, Fork}
 use Rattle.pliron_notation.specs.declared.build.BuiltTree.{BuiltTree}
 use Rattle.pliron_notation.specs.declared.syntax.OperationText.{OperationText}
 use Rattle.pliron_notation.specs.declared.syntax.Syntax.{Syntax}
-use Rattle.pliron_bench.specs.Bench.{head_with, number_of, plain_head, result_count, region_count}
-use Rattle.pliron_bench.specs.BenchMoves.{bench}
-use Rattle.pliron_bench.specs.BenchTaken.{admitted}
-use Rattle.pliron_laws.specs.Linked.{EndsBlock, EdgesLast, IsWellLinked}
-use Rattle.pliron_bench.specs.Bench.{IsTopKind}
-use Rattle.pliron_notation.specs.Notation.{IsUpToLast, IsSoundSyntax}
+use Rattle.pliron_laws.specs.Datum.{Meaning}
+use Rattle.pliron_laws.specs.Linked.{IsAdmitted, EndsBlock, EdgesLast, IsWellLinked}
+use Rattle.pliron_notation.specs.Notation.{IsUpToLast, IsAdmittedSyntax, IsSoundSyntax, head_of_text}
 use Rattle.pliron_notation.specs.Building.{HasAllMade, IsGrown}
 use Rattle.pliron_notation.specs.Laid.{IsLastOf, IsLaid, IsAllLaid}
 use Rattle.pliron_notation.proofs.UndoneLemmas.{contained, old_not_within}
@@ -33,35 +28,10 @@ not_after : (last : Option ℕ) (n m : ℕ) (o q : OperationText) → IsUpToLast
 not_after None n m o q h g some lt = absurd h
 not_after (Some last) n m o q h g some lt = let e = h.1 some in let le = g.0 in omega (arith, e, le, lt)
 
-abbrev admits : Head → (operands results successors regions : ℕ) → Bool
-admits h a b c d = bench.admits h a b c d
+admits_same : (m : Meaning) (h g : Head) (a b c d a' b' c' d' : ℕ) → h ≡ g → a ≡ a' → b ≡ b' → c ≡ c' → d ≡ d' → IsTrue (m.admits g a' b' c' d') → IsTrue (m.admits h a b c d)
+admits_same m h g a b c d a' b' c' d' eh ea eb ec ed is = subst IsTrue (sym (ap (λ z. m.admits z a b c d) eh ∙ ap (λ z. m.admits g z b c d) ea ∙ ap (λ z. m.admits g a' z c d) eb ∙ ap (λ z. m.admits g a' b' z d) ec ∙ ap (λ z. m.admits g a' b' c' z) ed)) is
 
-number_kept : (kind : BenchKind) (n first_edge : ℤ) → (head_with kind n first_edge).kind ≡ number_of kind
-number_kept Mod n f = refl
-number_kept Func n f = refl
-number_kept Const n f = refl
-number_kept Add n f = refl
-number_kept Mul n f = refl
-number_kept Div n f = refl
-number_kept Read n f = refl
-number_kept Print n f = refl
-number_kept Pair n f = refl
-number_kept Sink n f = refl
-number_kept Scope n f = refl
-number_kept Box n f = refl
-number_kept Br n f = refl
-number_kept Cbr n f = refl
-number_kept Ret n f = refl
-number_kept Fork n f = refl
-
-admits_same : (h g : Head) (a b c d a' b' c' d' : ℕ) → h ≡ g → a ≡ a' → b ≡ b' → c ≡ c' → d ≡ d' → IsTrue (admits g a' b' c' d') → IsTrue (admits h a b c d)
-admits_same h g a b c d a' b' c' d' eh ea eb ec ed is = subst IsTrue (sym (ap (λ z. admits z a b c d) eh ∙ ap (λ z. admits g z b c d) ea ∙ ap (λ z. admits g a' z c d) eb ∙ ap (λ z. admits g a' b' z d) ec ∙ ap (λ z. admits g a' b' c' z) ed)) is
-
-whole_admitted : (kind : BenchKind) → IsTopKind kind → IsTrue (admits (plain_head kind) 0 0 0 1)
-whole_admitted kind (inl e) = subst (λ z. IsTrue (admits (plain_head z) 0 0 0 1)) (sym e) (admitted Mod (plain_head Mod) 0 0 0 1 refl refl)
-whole_admitted kind (inr e) = subst (λ z. IsTrue (admits (plain_head z) 0 0 0 1)) (sym e) (admitted Func (plain_head Func) 0 0 0 1 refl refl)
-
-module _ (s : Syntax) (t u : Tree) (root : ℕ) (wt : IsTree t) (wu : IsTree u) (g : IsGrown t u root) (sound : IsSoundSyntax s) (built : BuiltTree) (all : HasAllMade s built) (l : IsLaid s root (length t.bodies) (length s.operations.items) u built) where
+module _ (s : Syntax) (t u : Tree) (root : ℕ) (wt : IsTree t) (wu : IsTree u) (g : IsGrown t u root) (sound : IsSoundSyntax s) (built : BuiltTree) (all : HasAllMade s built) (l : IsLaid s root (length t.bodies) (length s.operations.items) (length s.root.operands.items) u built) where
   abbrev base : ℕ
   base = length t.bodies
 
@@ -95,24 +65,23 @@ module _ (s : Syntax) (t u : Tree) (root : ℕ) (wt : IsTree t) (wu : IsTree u) 
   below : (n : ℕ) (o : OperationText) → slice_get s.operations.items n ≡ Some o → n < length built.operations.items
   below n o at = let lt = slice_get_within s.operations.items n o at in let e = all.operations in omega (arith, lt, e)
 
-  root_admitted : (h : Head) → head_of u root ≡ Some h → IsTrue (admits h (length (operands_of u root)) (length (results_of u root)) (length (successors_of u root)) (length (regions_of u root)))
-  root_admitted h e = admits_same h (plain_head s.root) (length (operands_of u root)) (length (results_of u root)) (length (successors_of u root)) (length (regions_of u root)) 0 0 0 1
-      (some_is (sym e ∙ l.whole.head)) (ap length l.unused_whole.no_operands) l.whole.results (ap length l.unused_whole.no_successors) l.whole.regions (whole_admitted s.root sound.top)
+  root_admitted : (m : Meaning) → IsAdmittedSyntax m s → IsAdmitted m u root
+  root_admitted m admitted h e = admits_same m h (head_of_text s.root) (length (operands_of u root)) (length (results_of u root)) (length (successors_of u root)) (length (regions_of u root)) (length s.root.operands.items) s.root.results (length s.root.successors.items) s.root.regions
+      (some_is (sym e ∙ l.whole.head)) l.root_operands l.whole.results (ap length l.root_successors ∙ sym sound.root.no_successors) l.whole.regions admitted.root
 
-  text_admitted : (n : ℕ) (o : OperationText) → slice_get s.operations.items n ≡ Some o → (k : ℕ) → k ≡ root + 1 + n → (h : Head) → head_of u k ≡ Some h → IsTrue (admits h (length (operands_of u k)) (length (results_of u k)) (length (successors_of u k)) (length (regions_of u k)))
-  text_admitted n o at k e =
+  text_admitted : (m : Meaning) → IsAdmittedSyntax m s → (n : ℕ) (o : OperationText) → slice_get s.operations.items n ≡ Some o → (k : ℕ) → k ≡ root + 1 + n → IsAdmitted m u k
+  text_admitted m admitted n o at k e =
       let made = l.made n o at (below n o at) in
       let used = l.used n o at (slice_get_within s.operations.items n o at) in
       let j : ℕ = root + 1 + n in
-      subst (λ z. (h : Head) → head_of u z ≡ Some h → IsTrue (admits h (length (operands_of u z)) (length (results_of u z)) (length (successors_of u z)) (length (regions_of u z)))) (sym e)
-      (λ h f. admits_same h (head_with o.kind o.number (pos o.first_edge)) (length (operands_of u j)) (length (results_of u j)) (length (successors_of u j)) (length (regions_of u j)) (length o.operands.items) (result_count o.kind) (length o.successors.items) (region_count o.kind)
-      (some_is (sym f ∙ made.head)) used.operand_count made.results used.successor_count made.regions
-      (admitted o.kind (head_with o.kind o.number (pos o.first_edge)) (length o.operands.items) (result_count o.kind) (length o.successors.items) (region_count o.kind) (number_kept o.kind o.number (pos o.first_edge)) (sound.operations n o at).admitted))
+      subst (IsAdmitted m u) (sym e)
+      (λ h f. admits_same m h (head_of_text o) (length (operands_of u j)) (length (results_of u j)) (length (successors_of u j)) (length (regions_of u j)) (length o.operands.items) o.results (length o.successors.items) o.regions
+      (some_is (sym f ∙ made.head)) used.operand_count made.results used.successor_count made.regions (admitted.operations n o at))
 
-  all_admitted : (k : ℕ) → IsWithin u root k → (h : Head) → head_of u k ≡ Some h → IsTrue (admits h (length (operands_of u k)) (length (results_of u k)) (length (successors_of u k)) (length (regions_of u k)))
-  all_admitted k within h e = ⊎_elim
-      (λ same. subst (λ z. (f : Head) → head_of u z ≡ Some f → IsTrue (admits f (length (operands_of u z)) (length (results_of u z)) (length (successors_of u z)) (length (regions_of u z)))) (sym same) root_admitted h e)
-      (λ text. text_admitted text.0 text.1 text.2 k text.3 h e)
+  all_admitted : (m : Meaning) → IsAdmittedSyntax m s → (k : ℕ) → IsWithin u root k → IsAdmitted m u k
+  all_admitted m admitted k within = ⊎_elim
+      (λ same. subst (IsAdmitted m u) (sym same) (root_admitted m admitted))
+      (λ text. text_admitted m admitted text.0 text.1 text.2 k text.3)
       (place k within)
 
   alone : (n : ℕ) (o : OperationText) → slice_get s.operations.items n ≡ Some o → 0 < length o.successors.items → IsLastOf s (length built.operations.items) n o
@@ -145,7 +114,7 @@ module _ (s : Syntax) (t u : Tree) (root : ℕ) (wt : IsTree t) (wu : IsTree u) 
       })
 
   at_root : (x : ℕ) → In x (successors_of u root) → ⊥
-  at_root x i = subst (In x) l.unused_whole.no_successors i
+  at_root x i = subst (In x) l.root_successors i
 
   within_ends : (k x : ℕ) → In x (successors_of u k) → IsWithin u root k → EndsBlock u k
   within_ends k x i within = ⊎_elim
@@ -157,9 +126,9 @@ module _ (s : Syntax) (t u : Tree) (root : ℕ) (wt : IsTree t) (wu : IsTree u) 
   all_edges k x i (inl inside) = within_ends k x i (inr inside)
   all_edges k x i (inr held) = within_ends k x i ((contained t u root wt wu g).blocks k x i held)
 
-  linked : IsWellLinked bench u root
-  linked = record { edges = all_edges; admitted = all_admitted }
+  linked : (m : Meaning) → IsAdmittedSyntax m s → IsWellLinked m u root
+  linked m admitted = record { edges = all_edges; admitted = all_admitted m admitted }
 
--- a text that is sound and all laid is well linked
-pub linked-text : (s : Syntax) (t u : Tree) (root : ℕ) → IsTree t → IsTree u → IsGrown t u root → IsSoundSyntax s → IsAllLaid s t u root → IsWellLinked bench u root
-linked-text s t u root wt wu g sound h = linked s t u root wt wu g sound h.0 h.1 h.2
+-- a text that is sound and all laid is well linked under each meaning that admits what it has
+pub linked-text : (s : Syntax) (t u : Tree) (root : ℕ) → IsTree t → IsTree u → IsGrown t u root → IsSoundSyntax s → IsAllLaid s t u root → (m : Meaning) → IsAdmittedSyntax m s → IsWellLinked m u root
+linked-text s t u root wt wu g sound h m admitted = linked s t u root wt wu g sound h.0 h.1 h.2 m admitted

@@ -61,7 +61,7 @@ module _ (built : BuiltTree) (u v : Tree) (op block number i : ℕ) (numbers : L
   one-more-successor w e = subst (λ z. HasMoreSuccessors built u z op (i + 1) numbers) (sym e) y_more
 
 -- the operation of this number gets its operands and successors
-module _ (s : Syntax) (u v w : Tree) (built : BuiltTree) (number op : ℕ) (o : OperationText) (operands successors : List ℕ) (at : slice_get s.operations.items number ≡ Some o) (within : number < length built.operations.items) (read : op ≡ get_or built.operations.items number op) (os : operands ≡ o.operands.items) (ss : successors ≡ o.successors.items) (m : HasMoreOperands u v op (length operands)) (n : HasMoreSuccessors built v w op (length successors) successors) (root base : ℕ) (l : IsLaid s root base number u built) where
+module _ (s : Syntax) (u v w : Tree) (built : BuiltTree) (number op : ℕ) (o : OperationText) (operands successors : List ℕ) (at : slice_get s.operations.items number ≡ Some o) (within : number < length built.operations.items) (read : op ≡ get_or built.operations.items number op) (os : operands ≡ o.operands.items) (ss : successors ≡ o.successors.items) (m : HasMoreOperands u v op (length operands)) (n : HasMoreSuccessors built v w op (length successors) successors) (root base : ℕ) (l : IsLaid s root base number 0 u built) where
   op_key : op ≡ root + 1 + number
   op_key = range-read built.operations.items (root + 1) number op l.operations within read
 
@@ -127,7 +127,7 @@ module _ (s : Syntax) (u v w : Tree) (built : BuiltTree) (number op : ℕ) (o : 
   still_unused : (k : ℕ) → k ≢ op → HasNoUses (operands_of u k) (successors_of u k) → HasNoUses (operands_of w k) (successors_of w k)
   still_unused k ne h = unused-same (operands_of u k) (operands_of w k) (successors_of u k) (successors_of w k) (same_operands k ne) (same_successors k ne) h
 
-  pub wired-operation : IsLaid s root base (number + 1) w built
+  pub wired-operation : IsLaid s root base (number + 1) 0 w built
   wired-operation = record {
     whole = whole-same (row_of u root) (row_of w root) s.root (ap (λ z. get_or z root no_entry) same_rows) l.whole;
     operations = l.operations;
@@ -138,6 +138,34 @@ module _ (s : Syntax) (u v w : Tree) (built : BuiltTree) (number op : ℕ) (o : 
     placed = λ j b f lt. let old = l.placed j b f lt in (old.0, old.1, ap (λ z. get_or z (base + j) None) same_block_parents ∙ old.2);
     last = λ j p f lt alone. ap (λ z. last_of None (get_or z (base + p.block) [])) same_bodies ∙ l.last j p f lt alone;
     used = used_now;
-    unused_whole = still_unused root (λ e. let f = op_key in omega (arith, e, f)) l.unused_whole;
+    root_operands = ap length (same_operands root (λ e. let f = op_key in omega (arith, e, f))) ∙ l.root_operands;
+    root_successors = same_successors root (λ e. let f = op_key in omega (arith, e, f)) ∙ l.root_successors;
     unused = λ k le. still_unused k (λ e. let f = op_key in omega (arith, e, f, le)) (l.unused k (omega (arith, le)));
+  }
+
+-- the root gets its operands
+module _ (s : Syntax) (u v : Tree) (built : BuiltTree) (root base wired passed : ℕ) (m : HasMoreOperands u v root passed) (l : IsLaid s root base wired 0 u built) where
+  root_other : (n : ℕ) → root + 1 + n ≢ root
+  root_other n e = omega (arith, e)
+
+  kept_operands : (k : ℕ) → k ≢ root → operands_of v k ≡ operands_of u k
+  kept_operands k ne = m.others k ne
+
+  kept_successors : (k : ℕ) → successors_of v k ≡ successors_of u k
+  kept_successors k = ap (λ z. get_or z.successors k []) m.rest
+
+  pub wired-root : IsLaid s root base wired passed v built
+  wired-root = record {
+    whole = whole-same (row_of u root) (row_of v root) s.root (ap (λ z. get_or z.operations root no_entry) m.rest) l.whole;
+    operations = l.operations;
+    operation_count = ap (λ z. length z.operations) m.rest ∙ l.operation_count;
+    blocks = l.blocks;
+    block_count = ap (λ z. length z.bodies) m.rest ∙ l.block_count;
+    made = λ j p f lt. let k : ℕ = root + 1 + j in made-same (row_of u k) (row_of v k) (parent_of u k) (parent_of v k) base p (ap (λ z. get_or z.operations k no_entry) m.rest) (ap (λ z. get_or z.parents k None) m.rest) (l.made j p f lt);
+    placed = λ j b f lt. let old = l.placed j b f lt in (old.0, old.1, ap (λ z. get_or z.block_parents (base + j) None) m.rest ∙ old.2);
+    last = λ j p f lt alone. ap (λ z. last_of None (get_or z.bodies (base + p.block) [])) m.rest ∙ l.last j p f lt alone;
+    used = λ j p f lt. subst (λ z. HasUsesAs z (successors_of v (root + 1 + j)) base p) (sym (kept_operands (root + 1 + j) (root_other j))) (subst (λ z. HasUsesAs (operands_of u (root + 1 + j)) z base p) (sym (kept_successors (root + 1 + j))) (l.used j p f lt));
+    root_operands = let e = m.total in let f = l.root_operands in omega (arith, e, f);
+    root_successors = kept_successors root ∙ l.root_successors;
+    unused = λ k le. unused-same (operands_of u k) (operands_of v k) (successors_of u k) (successors_of v k) (kept_operands k (λ e. omega (arith, e, le))) (kept_successors k) (l.unused k le);
   }

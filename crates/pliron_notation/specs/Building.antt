@@ -60,6 +60,10 @@ pub record IsBuilt (t u : Tree) (root : ℕ) (built : BuiltTree) : Type 0 where
 abbrev pub BuildingContinues : (u : Tree) (built : BuiltTree) (v : Tree) (more : BuiltTree) → Type 0
 BuildingContinues u built v more = (t : Tree) (root : ℕ) → IsBuilt t u root built → IsBuilt t v root more
 
+-- so it does of each root that is no later than the operation
+abbrev pub BuildingContinuesAt : (op : ℕ) (u : Tree) (built : BuiltTree) (v : Tree) (more : BuiltTree) → Type 0
+BuildingContinuesAt op u built v more = (t : Tree) (root : ℕ) → root ≤ op → IsBuilt t u root built → IsBuilt t v root more
+
 -- what is built is live
 pub record AreLive (u : Tree) (built : BuiltTree) : Type 0 where
   pub operations : All (IsLive u) built.operations.items

@@ -1,28 +1,35 @@
 -- What a tree has of a text that is built in it.
-use Rattle.std.specs.Prelude.{◌≡◌, ◌≢◌, ◌⊎◌, ℕ, pos, ◌+◌, ◌<◌, ◌≤◌, List, [], length, Option, Some, None, slice_get}
+use Rattle.std.specs.Prelude.{◌≡◌, ◌≢◌, ◌⊎◌, ℕ, ◌+◌, ◌<◌, ◌≤◌, List, [], length, Option, Some, None, slice_get}
 use Rattle.std.specs.List.{range_with_len}
 use Rattle.pliron_core.specs.declared.context.OperationEntry.{OperationEntry}
 use Rattle.pliron_core.specs.Tree.{Tree, In, last_of, row_of, operands_of, successors_of, parent_of, body_of, block_parent_of}
-use Rattle.pliron_bench.specs.declared.kind.BenchKind.{BenchKind}
 use Rattle.pliron_notation.specs.declared.build.BuiltTree.{BuiltTree}
 use Rattle.pliron_notation.specs.declared.syntax.OperationText.{OperationText}
 use Rattle.pliron_notation.specs.declared.syntax.BlockText.{BlockText}
 use Rattle.pliron_notation.specs.declared.syntax.Syntax.{Syntax}
-use Rattle.pliron_bench.specs.Bench.{head_with, plain_head, result_count, region_count}
+use Rattle.pliron_core.specs.Invariant.{IsTree}
+use Rattle.pliron_core.specs.Writes.{after_creating}
+use Rattle.pliron_notation.specs.Notation.{head_of_text}
 use Rattle.pliron_notation.specs.Building.{HasAllMade}
 
--- the whole text's operation, of this kind
-pub record IsWhole (row : OperationEntry) (kind : BenchKind) : Type 0 where
-  pub head : row.head ≡ Some (plain_head kind)
-  pub results : length row.results ≡ 0
-  pub regions : length row.regions ≡ 1
+-- the whole text's operation has the head and the counts that the text asks for
+pub record IsWhole (row : OperationEntry) (o : OperationText) : Type 0 where
+  pub head : row.head ≡ Some (head_of_text o)
+  pub results : length row.results ≡ o.results
+  pub regions : length row.regions ≡ o.regions
+
+-- u is t and the new operation of a whole text, with nothing inside it
+pub record IsBegun (t : Tree) (o : OperationText) (u : Tree) (root : ℕ) : Type 0 where
+  pub before : IsTree t
+  pub fresh : root ≡ length t.operations
+  pub made : u ≡ after_creating t (head_of_text o) o.results o.regions
 
 -- an operation inside it has the head, the counts and the block that its text asks for, where the blocks of the text
 -- have the handles from `base` on
 pub record IsMadeAs (row : OperationEntry) (place : Option ℕ) (base : ℕ) (o : OperationText) : Type 0 where
-  pub head : row.head ≡ Some (head_with o.kind o.number (pos o.first_edge))
-  pub results : length row.results ≡ result_count o.kind
-  pub regions : length row.regions ≡ region_count o.kind
+  pub head : row.head ≡ Some (head_of_text o)
+  pub results : length row.results ≡ o.results
+  pub regions : length row.regions ≡ o.regions
   pub in_block : place ≡ Some (base + o.block)
 
 -- it has as many operands and successors as its text, and the successors are blocks that this names
@@ -40,8 +47,9 @@ abbrev pub IsLastOf : Syntax → (count n : ℕ) → OperationText → Type 0
 IsLastOf s count n o = (m : ℕ) (p : OperationText) → n < m → m < count → slice_get s.operations.items m ≡ Some p → p.block ≢ o.block
 
 -- what is built of the text is in the tree, the operations from the handle after the root's on and the blocks from
--- `base` on; the first operations, so many as `wired`, have their operands and successors
-pub record IsLaid (s : Syntax) (root base wired : ℕ) (u : Tree) (built : BuiltTree) : Type 0 where
+-- `base` on; the first operations, so many as `wired`, have their operands and successors, and the root has so many
+-- operands as `passed`
+pub record IsLaid (s : Syntax) (root base wired passed : ℕ) (u : Tree) (built : BuiltTree) : Type 0 where
   pub whole : IsWhole (row_of u root) s.root
   pub operations : built.operations.items ≡ range_with_len (root + 1) (length built.operations.items)
   pub operation_count : length u.operations ≡ root + 1 + length built.operations.items
@@ -51,12 +59,13 @@ pub record IsLaid (s : Syntax) (root base wired : ℕ) (u : Tree) (built : Built
   pub placed : (j : ℕ) (b : BlockText) → slice_get s.blocks.items j ≡ Some b → j < length built.blocks.items → (r : ℕ) × (slice_get built.regions.items b.region ≡ Some r) × (block_parent_of u (base + j) ≡ Some r)
   pub last : (n : ℕ) (o : OperationText) → slice_get s.operations.items n ≡ Some o → n < length built.operations.items → IsLastOf s (length built.operations.items) n o → last_of None (body_of u (base + o.block)) ≡ Some (root + 1 + n)
   pub used : (n : ℕ) (o : OperationText) → slice_get s.operations.items n ≡ Some o → n < wired → HasUsesAs (operands_of u (root + 1 + n)) (successors_of u (root + 1 + n)) base o
-  pub unused_whole : HasNoUses (operands_of u root) (successors_of u root)
+  pub root_operands : length (operands_of u root) ≡ passed
+  pub root_successors : successors_of u root ≡ []
   pub unused : (k : ℕ) → root + 1 + wired ≤ k → HasNoUses (operands_of u k) (successors_of u k)
 
 -- from u to v more is laid, and no operands and successors
 abbrev pub LaysOn : Syntax → (u : Tree) (built : BuiltTree) (v : Tree) (more : BuiltTree) → Type 0
-LaysOn s u built v more = (root base : ℕ) → IsLaid s root base 0 u built → IsLaid s root base 0 v more
+LaysOn s u built v more = (root base : ℕ) → IsLaid s root base 0 0 u built → IsLaid s root base 0 0 v more
 
 -- this is so wherever this is the text of the next operation, or of the next block
 abbrev pub LaysOperation : OperationText → (u : Tree) (built : BuiltTree) (v : Tree) (more : BuiltTree) → Type 0
@@ -68,7 +77,7 @@ LaysBlock b u built v more = (s : Syntax) → slice_get s.blocks.items (length b
 -- from u to v the operations of the text from this number up to that one get their operands and
 -- successors
 abbrev pub Wires : Syntax → (from to : ℕ) → (u v : Tree) (built : BuiltTree) → Type 0
-Wires s from to u v built = (root base : ℕ) → IsLaid s root base from u built → IsLaid s root base to v built
+Wires s from to u v built = (root base : ℕ) → IsLaid s root base from 0 u built → IsLaid s root base to 0 v built
 
 -- v is u, but the operation has so many more operands
 pub record HasMoreOperands (u v : Tree) (op count : ℕ) : Type 0 where
@@ -85,4 +94,4 @@ pub record HasMoreSuccessors (built : BuiltTree) (u v : Tree) (op count : ℕ) (
 
 -- all of the text is laid in the tree, behind what t has
 abbrev pub IsAllLaid : Syntax → (t u : Tree) → (root : ℕ) → Type 0
-IsAllLaid s t u root = (built : BuiltTree) × HasAllMade s built × IsLaid s root (length t.bodies) (length s.operations.items) u built
+IsAllLaid s t u root = (built : BuiltTree) × HasAllMade s built × IsLaid s root (length t.bodies) (length s.operations.items) (length s.root.operands.items) u built

@@ -1,8 +1,12 @@
--- Texts of the bench notation that can be made in the order of the text, and what is made of them.
+-- Texts that can be made in the order of the text, what is made of them, and what a dialect admits of them.
 use Rattle.std.specs.Prelude.{◌≡◌, pos, ℕ, ◌+◌, ◌<◌, ◌≤◌, List, [], ◌∷◌, Option, Some, None, length, slice_get, IsTrue}
+use Rattle.pliron_core.specs.declared.attrs.Head.{Head}
+use Rattle.pliron_core.specs.declared.attrs.AttrObj.{AttrObj}
+use Rattle.pliron_core.specs.declared.attrs.AttrObj.TheVariants.{Int}
 use Rattle.pliron_core.specs.Tree.{In}
-use Rattle.pliron_bench.specs.Bench.{takes, head_with, result_count, region_count, IsTopKind}
-use Rattle.pliron_bench.specs.declared.kind.BenchKind.{BenchKind}
+use Rattle.pliron_laws.specs.Datum.{Meaning}
+use Rattle.pliron_notation.specs.declared.syntax.AttributeText.{AttributeText}
+use Rattle.pliron_notation.specs.declared.syntax.AttributeText.TheVariants.{Nothing, Number, Count}
 use Rattle.pliron_notation.specs.declared.syntax.OperationText.{OperationText}
 use Rattle.pliron_notation.specs.declared.syntax.BlockText.{BlockText}
 use Rattle.pliron_notation.specs.declared.syntax.Syntax.{Syntax}
@@ -14,7 +18,7 @@ use Rattle.pliron_notation.specs.declared.syntax.SyntaxStep.TheVariants.{Operati
 -- after it
 abbrev pub IsNextOperation : PartCounts → ℕ → Option OperationText → PartCounts → Type 0
 IsNextOperation m n None m' = ⊥
-IsNextOperation m n (Some o) m' = (n ≡ m.operations) × (o.block < m.blocks) × (m' ≡ record { operations = m.operations + 1; blocks = m.blocks; regions = m.regions + region_count o.kind; values = m.values + result_count o.kind })
+IsNextOperation m n (Some o) m' = (n ≡ m.operations) × (o.block < m.blocks) × (m' ≡ record { operations = m.operations + 1; blocks = m.blocks; regions = m.regions + o.regions; values = m.values + o.results })
 
 -- the same of a block, whose region is made
 abbrev pub IsNextBlock : PartCounts → ℕ → Option BlockText → PartCounts → Type 0
@@ -30,16 +34,30 @@ abbrev pub IsOrdered : Syntax → PartCounts → List SyntaxStep → Type 0
 IsOrdered s m [] = (m.operations ≡ length s.operations.items) × (m.blocks ≡ length s.blocks.items) × (m.values ≡ s.values)
 IsOrdered s m (step ∷ steps) = (m' : PartCounts) × IsNext s m step m' × IsOrdered s m' steps
 
--- before the first step the region of the whole text is made
-abbrev pub first_made : PartCounts
-first_made = record { operations = 0; blocks = 0; regions = 1; values = 0 }
+-- before the first step the regions and the results of the whole text are made
+abbrev pub first_made : OperationText → PartCounts
+first_made root = record { operations = 0; blocks = 0; regions = root.regions; values = root.results }
 
 abbrev pub AllBelow : ℕ → List ℕ → Type 0
 AllBelow count xs = (x : ℕ) → In x xs → x < count
 
+-- the attributes and the head that a text writes of an operation
+abbrev pub attributes_of_text : AttributeText → List AttrObj
+attributes_of_text Nothing = []
+attributes_of_text (Number n) = Int n ∷ []
+attributes_of_text (Count n) = Int (pos n) ∷ []
+
+abbrev pub head_of_text : OperationText → Head
+head_of_text o = record { kind = o.kind; ssa = o.ssa; attrs = attributes_of_text o.attribute }
+
 -- the dialect has operations with the head and the counts of this text
-abbrev pub IsAdmittedText : OperationText → Type 0
-IsAdmittedText o = IsTrue (takes (head_with o.kind o.number (pos o.first_edge)) (length o.operands.items) (result_count o.kind) (length o.successors.items) (region_count o.kind) o.kind)
+abbrev pub IsAdmittedText : Meaning → OperationText → Type 0
+IsAdmittedText m o = IsTrue (m.admits (head_of_text o) (length o.operands.items) o.results (length o.successors.items) o.regions)
+
+-- the dialect has each operation of the text, and the one that is the whole
+pub record IsAdmittedSyntax (m : Meaning) (s : Syntax) : Type 0 where
+  pub root : IsAdmittedText m s.root
+  pub operations : (n : ℕ) (o : OperationText) → slice_get s.operations.items n ≡ Some o → IsAdmittedText m o
 
 -- it is not after the last of its block, and with successors it is that last
 abbrev pub IsUpToLast : Option ℕ → ℕ → OperationText → Type 0
@@ -50,10 +68,9 @@ IsUpToLast (Some last) n o = (n ≤ last) × (0 < length o.successors.items → 
 abbrev pub AreInRegion : Syntax → ℕ → List ℕ → Type 0
 AreInRegion s region xs = (x : ℕ) → In x xs → (b : BlockText) × (slice_get s.blocks.items x ≡ Some b) × (b.region ≡ region)
 
--- the operation with this number is one that the dialect has, uses values of the text, and is in a block of it; with
--- successors it is the last there, and they are blocks of the same region
+-- the operation with this number uses values of the text and is in a block of it; with successors it is the last there,
+-- and they are blocks of the same region
 pub record IsSoundOperation (s : Syntax) (n : ℕ) (o : OperationText) : Type 0 where
-  pub admitted : IsAdmittedText o
   pub operands : AllBelow s.values o.operands.items
   pub block : BlockText
   pub in_block : slice_get s.blocks.items o.block ≡ Some block
@@ -63,8 +80,13 @@ pub record IsSoundOperation (s : Syntax) (n : ℕ) (o : OperationText) : Type 0 
 abbrev pub AreSoundOperations : Syntax → Type 0
 AreSoundOperations s = (n : ℕ) (o : OperationText) → slice_get s.operations.items n ≡ Some o → IsSoundOperation s n o
 
+-- the operation that is the whole uses values of the text, and no blocks
+pub record IsSoundRoot (s : Syntax) : Type 0 where
+  pub operands : AllBelow s.values s.root.operands.items
+  pub no_successors : length s.root.successors.items ≡ 0
+
 -- all can be made in this order, and each is sound
 pub record IsSoundSyntax (s : Syntax) : Type 0 where
-  pub ordered : IsOrdered s first_made s.steps.items
-  pub top : IsTopKind s.root
+  pub ordered : IsOrdered s (first_made s.root) s.steps.items
+  pub root : IsSoundRoot s
   pub operations : AreSoundOperations s

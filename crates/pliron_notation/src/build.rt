@@ -2,29 +2,22 @@
 //!
 //! Room is reserved for twice the operations and values of a text, since constant propagation makes a constant
 //! for each value; untouched room costs addresses alone.
-ghost use Rattle.std.specs.Prelude.{pos, ℕ, ◌≡◌, Some, slice_get, ◌++◌, ◌∷◌, [], ◌+◌, ◌<◌, IfOk, OnOk, OnErr, length};
-ghost use Rattle.pliron_core.specs.declared.attrs.Head.{Head as TreeHead};
-ghost use Rattle.pliron_core.specs.declared.attrs.AttrObj.TheVariants.{Int};
+ghost use Rattle.std.specs.Prelude.{ℕ, ◌≡◌, Some, slice_get, ◌++◌, ◌∷◌, [], ◌+◌, ◌<◌, IfOk, OnOk, OnErr, length};
 ghost use Rattle.pliron_core.specs.Tree.{Tree, In, IsLive, IsBlock, results_of, regions_of, arguments_of};
-ghost use Rattle.pliron_core.specs.Invariant.{IsTree};
-ghost use Rattle.pliron_core.specs.Writes.{after_creating};
 ghost use Rattle.pliron_core.specs.Changes.{IsSameTree};
 ghost use Rattle.pliron_notation.specs.declared.syntax.Syntax.{Syntax};
-ghost use Rattle.pliron_bench.specs.Bench.{head_with, plain_head as head_without, attribute_head as head_with_attribute, result_count, region_count as kind_regions};
-ghost use Rattle.pliron_bench.specs.BenchMoves.{bench};
+ghost use Rattle.pliron_laws.specs.Datum.{Meaning};
 ghost use Rattle.pliron_laws.specs.Linked.{IsWellLinked};
-ghost use Rattle.pliron_notation.specs.Notation.{AllBelow, AreSoundOperations, IsSoundSyntax, first_made};
-ghost use Rattle.pliron_notation.specs.Building.{AddsOnly, AreLive, BuildingContinues, HasAllMade, HasMade, IsGrown, KeepsEntries, after_appending};
-ghost use Rattle.pliron_notation.specs.Laid.{HasMoreOperands, HasMoreSuccessors, IsAllLaid, LaysBlock, LaysOn, LaysOperation, Wires};
+ghost use Rattle.pliron_notation.specs.Notation.{AllBelow, AreSoundOperations, IsAdmittedSyntax, IsSoundSyntax, first_made};
+ghost use Rattle.pliron_notation.specs.Building.{AddsOnly, AreLive, BuildingContinues, BuildingContinuesAt, HasAllMade, HasMade, IsGrown, KeepsEntries, after_appending};
+ghost use Rattle.pliron_notation.specs.Laid.{HasMoreOperands, HasMoreSuccessors, IsAllLaid, IsBegun, LaysBlock, LaysOn, LaysOperation, Wires};
 
+use crate::admission::head_of;
 use crate::syntax::{BlockText, OperationText, Syntax, SyntaxStep};
-use pliron_bench::BenchKind;
-use pliron_bench::heads::{attribute_head, plain_head};
 use pliron_core::{
-    AttrObj, BasicBlock, Context, Head, IRRewriter, NoMemory, Operation, Ptr, Region, Rewriter,
-    Value,
+    BasicBlock, Context, Head, IRRewriter, NoMemory, Operation, Ptr, Region, Rewriter, Value,
 };
-use std::alloc::{AllocError, Global};
+use std::alloc::Global;
 
 /// What is built so far, by number.
 #[derive(Drop)]
@@ -35,30 +28,15 @@ struct BuiltTree {
     values: Vec<Value>,
 }
 
-fn number_head(alloc: Global, kind: BenchKind, number: i128) -> Result<Head, AllocError>
-    ensures { IfOk result (λ head. head ≡ head_with_attribute kind (Int number)) }
-{
-    Ok(attribute_head(alloc, kind, AttrObj::Int(number))?)
-}
-
-fn head_of(alloc: Global, text: &OperationText) -> Result<Head, AllocError>
-    ensures { IfOk result (λ head. head ≡ head_with text.now.kind text.now.number (pos text.now.first_edge)) }
-{
-    match text.kind {
-        BenchKind::Const => number_head(alloc, BenchKind::Const, text.number as i128),
-        BenchKind::Cbr => number_head(alloc, BenchKind::Cbr, text.first_edge as i128),
-        kind => Ok(plain_head(alloc, kind)),
-    }
-}
-
-/// Builds the operation of a text, in no block and well linked.
+/// Builds the operation of a text, in no block, and well linked under each meaning that admits what the text has.
 ///
-/// Asks that the syntax is sound, as `parse` makes it. Errors: allocation failure, after which nothing of the
+/// Asks that the syntax is sound (`is_sound` tests it). Errors: allocation failure, after which nothing of the
 /// text is live. Cost: linear in the text.
 pub fn build(alloc: Global, syntax: &Syntax, ctx: &mut Context) -> Result<Ptr<Operation>, NoMemory>
     requires { IsSoundSyntax syntax.now }
     ensures built { IfOk result (λ root. IsGrown ctx.old.tree ctx.new.tree root) }
-    ensures linked { IfOk result (λ root. IsWellLinked bench ctx.new.tree root) }
+    ensures linked { IfOk result (λ root. (m : Meaning) → IsAdmittedSyntax m syntax.now → IsWellLinked m
+        ctx.new.tree root) }
     ensures refused { OnErr result (IsSameTree ctx.old.tree ctx.new.tree) }
 {
     reserve_all(syntax, ctx)?;
@@ -87,12 +65,13 @@ fn build_reserved(
 ) -> Result<Ptr<Operation>, NoMemory>
     requires { IsSoundSyntax syntax.now }
     ensures built { IfOk result (λ root. IsGrown ctx.old.tree ctx.new.tree root) }
-    ensures linked { IfOk result (λ root. IsWellLinked bench ctx.new.tree root) }
+    ensures linked { IfOk result (λ root. (m : Meaning) → IsAdmittedSyntax m syntax.now → IsWellLinked m
+        ctx.new.tree root) }
     ensures refused { OnErr result (IsSameTree ctx.old.tree ctx.new.tree) }
 {
     ctx.well_formed();
-    let head = plain_head(alloc, syntax.root);
-    let root = Operation::create(ctx, head, 0, 1)?;
+    let head = head_of(alloc, &syntax.root)?;
+    let root = Operation::create(ctx, head, syntax.root.results, syntax.root.regions)?;
     ctx.well_formed();
     let filled = fill(alloc, syntax, ctx, root);
     ctx.well_formed();
@@ -113,12 +92,10 @@ fn fill(
     root: Ptr<Operation>,
 ) -> Result<(), NoMemory>
     requires sound { IsSoundSyntax syntax.now }
-    requires live { IsLive ctx.old.tree root }
-    requires region { length (regions_of ctx.old.tree root) ≡ 1 }
-    ensures grown { (t : Tree) (head : TreeHead) → IsTree t → root ≡ length t.operations → ctx.old.tree ≡ after_creating
-        t head 0 1 → IsGrown t ctx.new.tree root }
-    ensures laid { OnOk result ((t : Tree) → IsTree t → root ≡ length t.operations → ctx.old.tree ≡ after_creating t
-        (head_without syntax.now.root) 0 1 → IsAllLaid syntax.now t ctx.new.tree root) }
+    requires begun { (t : Tree) × IsBegun t syntax.now.root ctx.old.tree root }
+    ensures grown { (t : Tree) → IsBegun t syntax.now.root ctx.old.tree root → IsGrown t ctx.new.tree root }
+    ensures laid { OnOk result ((t : Tree) → IsBegun t syntax.now.root ctx.old.tree root → IsAllLaid syntax.now t
+        ctx.new.tree root) }
 {
     ctx.well_formed();
     let mut built = BuiltTree {
@@ -127,9 +104,11 @@ fn fill(
         regions: Vec::new(alloc),
         values: Vec::new(alloc),
     };
-    remember(&mut built.regions, root.get_region(ctx, 0))?;
+    remember_results(ctx, &mut built.values, root)?;
+    remember_regions(ctx, &mut built.regions, root)?;
     make_all(alloc, syntax, ctx, &mut built)?;
-    connect_all(syntax, ctx, &built)
+    connect_all(syntax, ctx, &built)?;
+    add_operands(ctx, &built, root, syntax.root.operands.as_slice())
 }
 
 // Makes all operations and blocks inside the operation of a text.
@@ -140,7 +119,7 @@ fn make_all(
     built: &mut BuiltTree,
 ) -> Result<(), NoMemory>
     requires sound { IsSoundSyntax syntax.now }
-    requires first { HasMade built.old first_made }
+    requires first { HasMade built.old (first_made syntax.now.root) }
     requires all_in_place { AreLive ctx.old.tree built.old }
     ensures continues { BuildingContinues ctx.old.tree built.old ctx.new.tree built.new }
     ensures all_in_place { AreLive ctx.new.tree built.new }
@@ -164,6 +143,7 @@ fn connect_all(syntax: &Syntax, ctx: &mut Context, built: &BuiltTree) -> Result<
     requires made { HasAllMade syntax.now built.now }
     requires all_in_place { AreLive ctx.old.tree built.now }
     ensures continues { BuildingContinues ctx.old.tree built.now ctx.new.tree built.now }
+    ensures all_in_place { AreLive ctx.new.tree built.now }
     ensures wired { OnOk result (Wires syntax.now 0 (length syntax.now.operations.items) ctx.old.tree ctx.new.tree
         built.now) }
 {
@@ -216,18 +196,15 @@ fn add_operation(
     ensures all_in_place { AreLive ctx.new.tree built.new }
     ensures operations { OnOk result (length built.new.operations.items ≡ length built.old.operations.items + 1) }
     ensures blocks { built.new.blocks.items ≡ built.old.blocks.items }
-    ensures regions { OnOk result (length built.new.regions.items ≡ length built.old.regions.items + kind_regions
-        text.now.kind) }
-    ensures values { OnOk result (length built.new.values.items ≡ length built.old.values.items + result_count
-        text.now.kind) }
+    ensures regions { OnOk result (length built.new.regions.items ≡ length built.old.regions.items
+        + text.now.regions) }
+    ensures values { OnOk result (length built.new.values.items ≡ length built.old.values.items + text.now.results) }
     ensures laid { OnOk result (LaysOperation text.now ctx.old.tree built.old ctx.new.tree built.new) }
 {
     ctx.well_formed();
     let head = head_of(alloc, text)?;
     let block = built.blocks[text.block];
-    let results = text.kind.result_count();
-    let regions = text.kind.region_count();
-    let op = append_operation(ctx, block, head, results, regions)?;
+    let op = append_operation(ctx, block, head, text.results, text.regions)?;
     ctx.well_formed();
     remember_operation(ctx, built, op)
 }
@@ -352,10 +329,10 @@ fn add_operands(
     op: Ptr<Operation>,
     operands: &[usize],
 ) -> Result<(), NoMemory>
-    requires op { In op built.now.operations.items }
+    requires live { IsLive ctx.old.tree op }
     requires operands { AllBelow (length built.now.values.items) operands.now }
     requires all_in_place { AreLive ctx.old.tree built.now }
-    ensures continues { BuildingContinues ctx.old.tree built.now ctx.new.tree built.now }
+    ensures continues { BuildingContinuesAt op ctx.old.tree built.now ctx.new.tree built.now }
     ensures all_in_place { AreLive ctx.new.tree built.now }
     ensures added { OnOk result (HasMoreOperands ctx.old.tree ctx.new.tree op (length operands.now)) }
 {

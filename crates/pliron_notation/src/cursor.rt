@@ -48,6 +48,14 @@ impl<'t, K: Word> Cursor<'t, K> {
         self.taken = self.taken.wrapping_add(1);
     }
 
+    /// Whether the next token is the given one. Cost: constant.
+    pub fn is_next(&self, token: Token<K>) -> bool {
+        match self.tokens.get(self.taken) {
+            Some(next) => *next == token,
+            None => false,
+        }
+    }
+
     /// Takes the next token if it is the given one. Cost: constant.
     pub fn accept(&mut self, token: Token<K>) -> bool {
         match self.tokens.get(self.taken) {

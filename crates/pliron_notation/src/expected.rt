@@ -24,6 +24,8 @@ pub enum Expected {
     KindWithOneResult,
     #[error("a kind of operations with two results")]
     KindWithTwoResults,
+    #[error("a kind of operations with more results than two")]
+    KindWithMoreResults,
     #[error("the name of a value")]
     Value,
     #[error("the name of a block")]
@@ -36,6 +38,10 @@ pub enum Expected {
     DefinedValue,
     #[error("the name of a block that its region defines")]
     DefinedBlock,
+    #[error("a value's name that the text doesn't define before")]
+    NewValueOfText,
+    #[error("the name of a value that the text defines")]
+    DefinedValueOfText,
     #[error("no arguments, as blocks of a `mod` have none")]
     NoArguments,
     #[error("`{{`")]
@@ -66,7 +72,9 @@ pub enum Expected {
     FewerRegions,
     #[error("the end of the text")]
     End,
-    #[error("operations that the dialect admits, with edges at the ends of blocks")]
+    #[error("an operation that the dialect admits, with so many operands, results and regions")]
+    AdmittedOperation,
+    #[error("operations with edges at the ends of blocks")]
     Tree,
 }
 

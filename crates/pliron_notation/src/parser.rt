@@ -1,44 +1,82 @@
 //! From tokens to syntax.
 use crate::cursor::Cursor;
 use crate::expected::Expected;
+use crate::grammar::{Body, Count, Grammar, Tail};
 use crate::labels::{Label, Labels};
 use crate::stop::Stop;
-use crate::syntax::{BlockText, OperationText, Syntax, SyntaxStep};
+use crate::syntax::{AttributeText, BlockText, OperationText, Syntax, SyntaxStep};
 use crate::tokens::{Name, Token, Tokens};
-use pliron_bench::BenchKind;
-use smallvec::SmallVec;
 use std::alloc::Global;
 
 /// How deeply regions may be nested.
 const MAX_DEPTH: usize = 64;
 
+/// The operation whose regions are read.
+#[derive(Clone, Copy, Drop)]
+struct Parent {
+    /// Its number, unless it is the whole text.
+    operation: Option<usize>,
+    body: Body,
+    regions: Count,
+}
+
+impl Parent {
+    #[inline(always)]
+    fn of<K: Grammar>(operation: Option<usize>, kind: K) -> Self {
+        Parent {
+            operation,
+            body: kind.body(),
+            regions: kind.regions(),
+        }
+    }
+}
+
 /// A region that is open.
 #[derive(Clone, Copy, Drop)]
 struct OpenRegion {
-    /// The kind of its parent operation.
-    kind: BenchKind,
-    /// The number of its `func`'s region.
-    func: usize,
+    parent: Parent,
+    /// Its place among the regions of its parent.
+    place: usize,
+    /// How many regions were opened before it.
     number: usize,
+    /// The number of the region in which names of its values began anew: its own, or one around it.
+    scope: usize,
     /// Its last block so far.
     block: Option<usize>,
 }
 
 impl OpenRegion {
-    // No open region, which nothing reads.
-    fn none(kind: BenchKind) -> Self {
+    // What is around the whole text.
+    fn around(body: Body) -> Self {
         OpenRegion {
-            kind,
-            func: 0,
+            parent: Parent {
+                operation: None,
+                body,
+                regions: Count::Any,
+            },
+            place: 0,
             number: 0,
+            scope: 0,
             block: None,
         }
     }
 
     // Whether the region has a block at least.
     fn needs_block(&self) -> bool {
-        self.kind == BenchKind::Func || self.kind == BenchKind::Scope
+        matches!(self.parent.body, Body::SomeBlocks | Body::Function)
     }
+
+    // Whether the region is a module's.
+    fn is_module(&self) -> bool {
+        self.parent.body == Body::Module
+    }
+}
+
+/// Where a region was opened: its place among those of an operation, or of the whole text.
+#[derive(Clone, Copy, Drop)]
+struct RegionPlace {
+    operation: Option<usize>,
+    place: usize,
 }
 
 /// What was read last in a region.
@@ -56,56 +94,52 @@ enum LastRead {
 
 /// A text that is read up to some token.
 #[derive(Drop)]
-struct Parser<'t> {
+struct Parser<'t, K> {
     alloc: Global,
-    cursor: Cursor<'t, BenchKind>,
+    cursor: Cursor<'t, K>,
     syntax: Syntax,
     values: Labels,
     blocks: Labels,
-    /// The innermost open region, or what nothing reads.
+    /// The innermost open region, or what is around the whole text.
     region: OpenRegion,
-    /// What nothing reads, and the open regions around that one.
+    /// What is around the whole text, and the open regions around the innermost one.
     outer: Vec<OpenRegion>,
-    regions: usize,
+    /// Of each region in the order in which they were opened.
+    places: Vec<RegionPlace>,
 }
 
 /// The syntax of a text, by its tokens. Errors: `Unreadable` where the text is outside the notation; allocation
 /// failure. Cost: linear in the tokens.
 #[inline(never)]
-pub fn parse(alloc: Global, text: &Tokens<BenchKind>) -> Result<Syntax, Stop> {
-    let mut cursor = Cursor::new(&text.tokens);
-    let root = cursor.kind(Expected::Root)?;
-    if !root.is_top() {
-        return Err(cursor.stop_before(Expected::Root));
-    }
+pub fn parse<K: Grammar>(alloc: Global, text: &Tokens<K>) -> Result<Syntax, Stop> {
     let mut parser = Parser {
         alloc,
-        cursor,
-        syntax: Syntax::new(alloc, root),
+        cursor: Cursor::new(&text.tokens),
+        syntax: Syntax::new(alloc),
         values: Labels::new(alloc, text.names)?,
         blocks: Labels::new(alloc, text.names)?,
-        region: OpenRegion::none(root),
+        region: OpenRegion::around(K::around()),
         outer: Vec::new(alloc),
-        regions: 0,
+        places: Vec::new(alloc),
     };
     parser.reserve(text)?;
-    parser.open_region(root)?;
-    parser.contents(text.tokens.len())?;
+    parser.whole(text.tokens.len())?;
     parser.resolve()?;
+    parser.number_regions()?;
     Ok(parser.syntax)
 }
 
-impl Parser<'_> {
+impl<K: Grammar> Parser<'_, K> {
     // Makes room for what most texts of these tokens have.
-    fn reserve(&mut self, text: &Tokens<BenchKind>) -> Result<(), Stop> {
+    fn reserve(&mut self, text: &Tokens<K>) -> Result<(), Stop> {
         self.values.reserve(text.names)?;
         self.syntax.reserve(text.tokens.len() / 4)?;
         Ok(())
     }
 
-    // Reads what is in the open region, with all that is inside that, up to the end of the text.
-    fn contents(&mut self, count: usize) -> Result<(), Stop> {
-        let mut place = LastRead::RegionStart;
+    // Reads the operation that the whole text is, with all that is inside it, up to the end of the text.
+    fn whole(&mut self, count: usize) -> Result<(), Stop> {
+        let mut place = self.root()?;
         // Each turn takes a token.
         for _ in 0..count {
             if self.outer.is_empty() {
@@ -117,6 +151,30 @@ impl Parser<'_> {
             Ok(())
         } else {
             Err(self.cursor.stop(Expected::End))
+        }
+    }
+
+    // Reads the operation that the whole text is up to its first region, which it opens.
+    fn root(&mut self) -> Result<LastRead, Stop> {
+        let (kind, results) = if self.region.is_module() {
+            (self.top_kind()?, 0)
+        } else {
+            self.kind()?
+        };
+        let mut text = OperationText::new(self.alloc, kind.number(), kind.is_ssa());
+        text.results = results;
+        self.tail(kind.tail(), &mut text)?;
+        self.syntax.root = text;
+        self.next_region(Parent::of(None, kind), 0)
+    }
+
+    // Reads the kind of a whole text that stands at the top.
+    fn top_kind(&mut self) -> Result<K, Stop> {
+        let kind = self.cursor.kind(Expected::Root)?;
+        if kind.is_top() {
+            Ok(kind)
+        } else {
+            Err(self.cursor.stop_before(Expected::Root))
         }
     }
 
@@ -148,38 +206,57 @@ impl Parser<'_> {
         }
     }
 
-    // Opens the region of an operation of this kind.
-    fn open_region(&mut self, kind: BenchKind) -> Result<(), Stop> {
+    // Opens the region at this place of an operation, if it has one there.
+    #[inline(always)]
+    fn next_region(&mut self, parent: Parent, place: usize) -> Result<LastRead, Stop> {
+        let opens = match parent.regions {
+            Count::Exactly(count) => place < count,
+            Count::Any => self.cursor.is_next(Token::OpenBrace),
+        };
+        if opens {
+            self.open_region(parent, place)?;
+            Ok(LastRead::RegionStart)
+        } else {
+            Ok(LastRead::Operation)
+        }
+    }
+
+    // Opens the region at this place of an operation.
+    fn open_region(&mut self, parent: Parent, place: usize) -> Result<(), Stop> {
         if self.outer.len() >= MAX_DEPTH {
             return Err(self.cursor.stop_before(Expected::FewerRegions));
         }
         self.cursor.expect(Token::OpenBrace, Expected::OpenBrace)?;
-        let number = self.regions;
-        self.regions = number.saturating_add(1);
-        let func = if kind == BenchKind::Func {
+        let number = self.places.len();
+        let operation = parent.operation;
+        self.places.push(RegionPlace { operation, place })?;
+        self.syntax.set_regions(operation, place.saturating_add(1));
+        let scope = if parent.body == Body::Function {
             number
         } else {
-            self.region.func
+            self.region.scope
         };
         self.outer.push(self.region)?;
         self.region = OpenRegion {
-            kind,
-            func,
+            parent,
+            place,
             number,
+            scope,
             block: None,
         };
         Ok(())
     }
 
-    // Ends the region. The brace is taken.
-    fn close_region(&mut self, place: LastRead) -> Result<LastRead, Stop> {
-        if self.region.needs_block() && place == LastRead::RegionStart {
+    // Ends the region, and opens the next one of the same operation, if there is one. The brace is taken.
+    fn close_region(&mut self, last: LastRead) -> Result<LastRead, Stop> {
+        if self.region.needs_block() && last == LastRead::RegionStart {
             return Err(self.cursor.stop_before(Expected::BlockOfRegion));
         }
+        let OpenRegion { parent, place, .. } = self.region;
         if let Some(region) = self.outer.pop() {
             self.region = region;
         }
-        Ok(LastRead::Operation)
+        self.next_region(parent, place.saturating_add(1))
     }
 
     // Reads the head of a block.
@@ -210,7 +287,7 @@ impl Parser<'_> {
         if self.cursor.accept(Token::CloseRound) {
             return Ok(0);
         }
-        if self.region.kind == BenchKind::Mod {
+        if self.region.is_module() {
             return Err(self.cursor.stop(Expected::NoArguments));
         }
         // Each turn takes a token.
@@ -237,106 +314,100 @@ impl Parser<'_> {
     // Takes in that the next value of the text has this name.
     fn define(&mut self, name: Name) -> Result<(), Stop> {
         let number = self.syntax.values;
-        let scope = self.region.func;
+        let scope = self.region.scope;
         let token = self.cursor.last();
         if !self.values.define(Label { scope, name }, number, token)? {
-            return Err(Stop::at(token, Expected::NewValue));
+            return Err(Stop::at(token, new_value::<K>()));
         }
         self.syntax.values = number.saturating_add(1);
         Ok(())
     }
 
-    // Reads an operation up to its region, which it opens.
+    // Reads an operation up to its first region, which it opens.
     fn operation(&mut self) -> Result<LastRead, Stop> {
-        let kind = self.kind()?;
+        let (kind, results) = self.kind()?;
         let Some(block) = self.region.block else {
             return Err(self.cursor.stop_before(Expected::BlockOfRegion));
         };
-        let mut text = OperationText {
-            kind,
-            number: 0,
-            first_edge: 0,
-            block,
-            operands: SmallVec::new(self.alloc),
-            successors: Vec::new(self.alloc),
-        };
-        self.tail(&mut text)?;
+        let mut text = OperationText::new(self.alloc, kind.number(), kind.is_ssa());
+        text.results = results;
+        text.block = block;
+        self.tail(kind.tail(), &mut text)?;
+        let is_branch = !text.successors.is_empty();
         let number = self.syntax.add_operation(text)?;
         if let Some(block) = self.syntax.blocks.get_mut(block) {
             block.last = Some(number);
         }
-        if kind.region_count() > 0 {
-            self.open_region(kind)?;
-            return Ok(LastRead::RegionStart);
+        match self.next_region(Parent::of(Some(number), kind), 0)? {
+            LastRead::Operation if is_branch => Ok(LastRead::Branch),
+            last => Ok(last),
         }
-        Ok(if kind.successor_count() > 0 {
-            LastRead::Branch
-        } else {
-            LastRead::Operation
-        })
     }
 
-    // Reads the results and the kind of an operation, which are to fit one another and the region.
-    fn kind(&mut self) -> Result<BenchKind, Stop> {
+    // Reads the results and the kind of an operation, which are to fit one another and the region, and answers the kind
+    // and how many results there are.
+    #[inline(always)]
+    fn kind(&mut self) -> Result<(K, usize), Stop> {
         let count = self.results()?;
         let kind = self.cursor.kind(Expected::Kind)?;
-        let in_mod = self.region.kind == BenchKind::Mod;
-        if kind.is_top() != in_mod {
-            let expected = if in_mod {
+        let in_module = self.region.is_module();
+        if kind.is_top() != in_module {
+            let expected = if in_module {
                 Expected::TopKind
             } else {
                 Expected::InnerKind
             };
             return Err(self.cursor.stop_before(expected));
         }
-        if count != kind.result_count() {
-            let expected = match count {
-                0 => Expected::KindWithoutResults,
-                1 => Expected::KindWithOneResult,
-                _ => Expected::KindWithTwoResults,
-            };
-            return Err(self.cursor.stop_before(expected));
+        match kind.results() {
+            Count::Exactly(results) if results != count => {
+                Err(self.cursor.stop_before(kind_with(count)))
+            }
+            _ => Ok((kind, count)),
         }
-        Ok(kind)
     }
 
-    // Reads the results before a kind, of which there are at most two, and answers how many.
+    // Reads the results before a kind, and answers how many there are.
     fn results(&mut self) -> Result<usize, Stop> {
         let Some(name) = self.cursor.accept_name() else {
             return Ok(0);
         };
         self.define(name)?;
-        if self.cursor.accept(Token::Equals) {
-            return Ok(1);
+        // Each turn takes a token.
+        for count in 1..K::most_results() {
+            if self.cursor.accept(Token::Equals) {
+                return Ok(count);
+            }
+            self.cursor.expect(Token::Comma, Expected::CommaOrEquals)?;
+            let name = self.cursor.name(Expected::Value)?;
+            self.define(name)?;
         }
-        self.cursor.expect(Token::Comma, Expected::CommaOrEquals)?;
-        let name = self.cursor.name(Expected::Value)?;
-        self.define(name)?;
         self.cursor.expect(Token::Equals, Expected::Equals)?;
-        Ok(2)
+        Ok(K::most_results())
     }
 
     // Reads what is behind a kind, up to a region.
-    fn tail(&mut self, text: &mut OperationText) -> Result<(), Stop> {
-        match text.kind {
-            BenchKind::Const => {
-                text.number = self.cursor.number()?;
+    #[inline(always)]
+    fn tail(&mut self, tail: Tail, text: &mut OperationText) -> Result<(), Stop> {
+        match tail {
+            Tail::Number => {
+                text.attribute = AttributeText::Number(self.cursor.number()?);
                 Ok(())
             }
-            BenchKind::Add | BenchKind::Mul | BenchKind::Div => {
-                self.operand(text)?;
-                self.operand(text)
+            Tail::Operands(count) => {
+                for _ in 0..count {
+                    self.operand(text)?;
+                }
+                Ok(())
             }
-            BenchKind::Print => self.operand(text),
-            BenchKind::Sink | BenchKind::Scope | BenchKind::Ret => self.operands(text),
-            BenchKind::Br => self.edge(text),
-            BenchKind::Cbr => self.edges(text),
-            BenchKind::Fork => {
+            Tail::AnyOperands => self.operands(text),
+            Tail::Fork => {
                 self.operand(text)?;
                 self.successor(text)?;
                 self.successor(text)
             }
-            _ => Ok(()),
+            Tail::Edge => self.edge(text),
+            Tail::TwoEdges => self.edges(text),
         }
     }
 
@@ -350,7 +421,7 @@ impl Parser<'_> {
     // Takes in that the name that was read last is an operand.
     #[inline(always)]
     fn add_operand(&mut self, name: Name, text: &mut OperationText) -> Result<(), Stop> {
-        let scope = self.region.func;
+        let scope = self.region.scope;
         let mention = self.cursor.last();
         let place = self.values.place(Label { scope, name }, mention)?;
         text.operands.push(place)?;
@@ -396,11 +467,11 @@ impl Parser<'_> {
         Err(self.cursor.stop(Expected::Value))
     }
 
-    // Reads the condition and the two edges of a `cbr`.
+    // Reads a condition and two edges.
     fn edges(&mut self, text: &mut OperationText) -> Result<(), Stop> {
         self.operand(text)?;
         self.edge(text)?;
-        text.first_edge = text.operands.len().saturating_sub(1);
+        text.attribute = AttributeText::Count(text.operands.len().saturating_sub(1));
         self.edge(text)
     }
 
@@ -412,13 +483,66 @@ impl Parser<'_> {
             (Some(value), Some(block)) if block < value => {
                 return Err(Stop::at(block, Expected::DefinedBlock));
             }
-            (Some(value), _) => return Err(Stop::at(value, Expected::DefinedValue)),
+            (Some(value), _) => return Err(Stop::at(value, defined_value::<K>())),
             (None, Some(block)) => return Err(Stop::at(block, Expected::DefinedBlock)),
         }
+        self.values
+            .resolve(self.syntax.root.operands.as_mut_slice());
+        self.blocks
+            .resolve(self.syntax.root.successors.as_mut_slice());
         for operation in self.syntax.operations.iter_mut() {
             self.values.resolve(operation.operands.as_mut_slice());
             self.blocks.resolve(operation.successors.as_mut_slice());
         }
         Ok(())
+    }
+
+    // Gives each block the number of its region. An operation is made with all its regions, and so these are numbered in
+    // another order than that in which they were opened, where there are more of an operation than one.
+    fn number_regions(&mut self) -> Result<(), Stop> {
+        if self.places.iter().all(|region| region.place == 0) {
+            return Ok(());
+        }
+        let mut firsts = Vec::with_capacity(self.alloc, self.syntax.operations.len())?;
+        let mut next = self.syntax.root.regions;
+        for operation in &self.syntax.operations {
+            firsts.push(next)?;
+            next = next.saturating_add(operation.regions);
+        }
+        for block in self.syntax.blocks.iter_mut() {
+            if let Some(region) = self.places.get(block.region) {
+                let first = region
+                    .operation
+                    .and_then(|number| firsts.get(number).copied());
+                block.region = first.unwrap_or(0).saturating_add(region.place);
+            }
+        }
+        Ok(())
+    }
+}
+
+// What was expected in place of a kind behind so many results, which it doesn't have.
+fn kind_with(results: usize) -> Expected {
+    match results {
+        0 => Expected::KindWithoutResults,
+        1 => Expected::KindWithOneResult,
+        2 => Expected::KindWithTwoResults,
+        _ => Expected::KindWithMoreResults,
+    }
+}
+
+// What was expected in place of a value's name that was defined before.
+fn new_value<K: Grammar>() -> Expected {
+    match K::around() {
+        Body::Module => Expected::NewValue,
+        _ => Expected::NewValueOfText,
+    }
+}
+
+// What was expected in place of a value's name that is never defined.
+fn defined_value<K: Grammar>() -> Expected {
+    match K::around() {
+        Body::Module => Expected::DefinedValue,
+        _ => Expected::DefinedValueOfText,
     }
 }

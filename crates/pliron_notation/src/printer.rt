@@ -9,10 +9,10 @@ ghost use Rattle.pliron_notation.specs.Printing.{AreStepsLive, IsStepLive};
 mod numbers;
 
 use self::numbers::Numbers;
-use crate::printed::{Printed, Tail};
+use crate::grammar::{Body, Grammar, Tail};
 use crate::steps::{Outline, OutlineStep};
 use itoa::Buffer;
-use pliron_core::{BasicBlock, Context, Operation, Ptr, Region, Value};
+use pliron_core::{AttrObj, BasicBlock, Context, Operation, Ptr, Region, Value};
 use pliron_laws::OptError;
 use std::alloc::{AllocError, Global};
 
@@ -33,11 +33,38 @@ struct Printer {
     blocks: Numbers,
 }
 
-/// The text of the operation in one line, where blocks are `b0`, `b1`, .. in each region and values are
-/// `v0`, `v1`, .. from each operation on at which names begin anew.
+/// The number that an operation has as its first attribute, if it has one. Asks that it is live (`is_live`
+/// tests it). Cost: constant.
+pub fn number_of(op: Ptr<Operation>, ctx: &Context) -> Option<i128>
+    requires { IsLive ctx.now.tree op }
+{
+    let head = op.head(ctx);
+    if head.attrs.is_empty() {
+        return None;
+    }
+    match head.attrs.get(0) {
+        AttrObj::Int(number) => Some(*number),
+        AttrObj::Text(_) => None,
+    }
+}
+
+// Whether the names of values begin anew at the operation.
+#[inline(always)]
+fn begins_names<K: Grammar>(op: Ptr<Operation>, ctx: &Context) -> bool
+    requires { IsLive ctx.now.tree op }
+{
+    match K::from_number(op.head(ctx).kind) {
+        Some(kind) => kind.body() == Body::Function,
+        None => false,
+    }
+}
+
+/// The text of the operation in one line. Blocks are `b0`, `b1`, .. in each region, and values are `v0`, `v1`, .. from
+/// each operation on at which names begin anew. An operation of no kind of the dialect has the word `_`, and so have
+/// values and blocks that are outside what is printed.
 ///
 /// Asks that the operation is live. Errors: allocation failure. Cost: linear in the tree.
-pub fn print_as<P: Printed>(
+pub fn print_operation<K: Grammar>(
     alloc: Global,
     root: Ptr<Operation>,
     ctx: &Context,
@@ -47,8 +74,8 @@ pub fn print_as<P: Printed>(
 {
     let outline = Outline::of(alloc, root, ctx)?;
     let mut printer = Printer::new(alloc, &outline)?;
-    printer.number::<P>(ctx, &outline.steps)?;
-    printer.print::<P>(ctx, &outline.steps)?;
+    printer.number::<K>(ctx, &outline.steps)?;
+    printer.print::<K>(ctx, &outline.steps)?;
     Ok(printer.text)
 }
 
@@ -68,12 +95,12 @@ impl Printer {
     }
 
     // Gives each value and each block its number.
-    fn number<P: Printed>(&mut self, ctx: &Context, steps: &[OutlineStep]) -> Result<(), AllocError>
+    fn number<K: Grammar>(&mut self, ctx: &Context, steps: &[OutlineStep]) -> Result<(), AllocError>
         requires { AreStepsLive ctx.now.tree steps.now }
     {
         let mut next: usize = 0;
         for step in steps {
-            next = self.number_step::<P>(ctx, step, next)?;
+            next = self.number_step::<K>(ctx, step, next)?;
         }
         Ok(())
     }
@@ -81,7 +108,7 @@ impl Printer {
     // Gives what the step makes its numbers, where `next` is the next number of a value, and answers
     // the number after them.
     #[inline(always)]
-    fn number_step<P: Printed>(
+    fn number_step<K: Grammar>(
         &mut self,
         ctx: &Context,
         step: &OutlineStep,
@@ -91,7 +118,7 @@ impl Printer {
     {
         match step {
             OutlineStep::Operation(op) => {
-                let first = if P::begins_names(*op, ctx) { 0 } else { next };
+                let first = if begins_names::<K>(*op, ctx) { 0 } else { next };
                 self.number_results(ctx, *op, first)
             }
             OutlineStep::Region(region) => {
@@ -151,19 +178,19 @@ impl Printer {
         Ok(())
     }
 
-    fn print<P: Printed>(&mut self, ctx: &Context, steps: &[OutlineStep]) -> Result<(), AllocError>
+    fn print<K: Grammar>(&mut self, ctx: &Context, steps: &[OutlineStep]) -> Result<(), AllocError>
         requires { AreStepsLive ctx.now.tree steps.now }
     {
         let mut last = Last::Nothing;
         for step in steps {
-            last = self.print_step::<P>(ctx, step, &last)?;
+            last = self.print_step::<K>(ctx, step, &last)?;
         }
         Ok(())
     }
 
     // Prints what the step names, and what parts it from what was printed last.
     #[inline(always)]
-    fn print_step<P: Printed>(
+    fn print_step<K: Grammar>(
         &mut self,
         ctx: &Context,
         step: &OutlineStep,
@@ -174,7 +201,7 @@ impl Printer {
         match step {
             OutlineStep::Operation(op) => {
                 self.print_separator(last)?;
-                self.operation::<P>(ctx, *op)?;
+                self.operation::<K>(ctx, *op)?;
                 Ok(Last::Operation)
             }
             OutlineStep::Region(_) => {
@@ -258,23 +285,52 @@ impl Printer {
 
     // An operation up to its regions.
     #[inline(always)]
-    fn operation<P: Printed>(&mut self, ctx: &Context, op: Ptr<Operation>) -> Result<(), AllocError>
+    fn operation<K: Grammar>(&mut self, ctx: &Context, op: Ptr<Operation>) -> Result<(), AllocError>
         requires { IsLive ctx.now.tree op }
     {
         self.results(ctx, op)?;
-        self.text.push_str(P::word(op, ctx).unwrap_or("_"))?;
-        match P::tail(op, ctx) {
-            Tail::Number(number) => self.number_behind(number),
-            Tail::Edge => self.edges(ctx, op, 0, op.num_operand(ctx)),
-            Tail::TwoEdges(first) => {
-                self.operands(ctx, op, 1)?;
-                self.edges(ctx, op, 1, first.saturating_add(1))
+        match K::from_number(op.head(ctx).kind) {
+            Some(kind) => {
+                self.text.push_str(kind.word())?;
+                self.tail(ctx, op, kind.tail())
             }
-            Tail::Names => {
-                self.operands(ctx, op, op.num_operand(ctx))?;
-                self.successors(ctx, op)
+            None => {
+                self.text.push('_')?;
+                self.names(ctx, op)
             }
         }
+    }
+
+    // What is behind the word of an operation. One whose attribute is no number has names.
+    #[inline(always)]
+    fn tail(&mut self, ctx: &Context, op: Ptr<Operation>, tail: Tail) -> Result<(), AllocError>
+        requires { IsLive ctx.now.tree op }
+    {
+        match tail {
+            Tail::Number => match number_of(op, ctx) {
+                Some(number) => self.number_behind(number),
+                None => self.names(ctx, op),
+            },
+            Tail::Edge => self.edges(ctx, op, 0, op.num_operand(ctx)),
+            Tail::TwoEdges => match number_of(op, ctx) {
+                Some(number) => {
+                    let first = usize::try_from(number).unwrap_or(0);
+                    self.operands(ctx, op, 1)?;
+                    self.edges(ctx, op, 1, first.saturating_add(1))
+                }
+                None => self.names(ctx, op),
+            },
+            Tail::Operands(_) | Tail::AnyOperands | Tail::Fork => self.names(ctx, op),
+        }
+    }
+
+    // The operands, then the successors.
+    #[inline(always)]
+    fn names(&mut self, ctx: &Context, op: Ptr<Operation>) -> Result<(), AllocError>
+        requires { IsLive ctx.now.tree op }
+    {
+        self.operands(ctx, op, op.num_operand(ctx))?;
+        self.successors(ctx, op)
     }
 
     // A blank and the number.

@@ -1,25 +1,53 @@
 //! Syntax in the order of the text.
-ghost use Rattle.std.specs.Prelude.{pos, ◌≡◌, ◌&&◌, IsTrue, ◌+◌, length};
-ghost use Rattle.pliron_bench.specs.Bench.{head_with, takes_attributes, takes_operands};
-ghost use Rattle.pliron_notation.specs.Notation.{AllBelow, AreInRegion, AreSoundOperations, IsAdmittedText, IsNext, IsOrdered, IsSoundSyntax, IsSoundOperation, IsUpToLast, first_made};
+ghost use Rattle.std.specs.Prelude.{◌≡◌, IsTrue, ◌+◌};
+ghost use Rattle.pliron_notation.specs.Notation.{AllBelow, AreInRegion, AreSoundOperations, IsNext, IsOrdered, IsSoundRoot, IsSoundSyntax, IsSoundOperation, IsUpToLast, first_made};
 
-use pliron_bench::BenchKind;
 use smallvec::SmallVec;
 use std::alloc::{AllocError, Global};
 
-/// What a text writes of an operation inside another one. Values, blocks and regions are named by numbers, in the order
-/// in which the text makes them.
+/// The attribute that a text writes of an operation.
+#[derive(Clone, Copy, Debug, PartialEq, Eq)]
+pub enum AttributeText {
+    /// It has none.
+    Nothing,
+    /// The number behind its word.
+    Number(i64),
+    /// How many operands its first block is passed.
+    Count(usize),
+}
+
+/// What a text writes of an operation. Values, blocks and regions are named by numbers, in the order in which they are
+/// made: an operation is made with its results and regions.
 #[derive(Drop)]
 pub struct OperationText {
-    pub kind: BenchKind,
-    /// The number of a `const`.
-    pub number: i64,
-    /// How many values the first edge of a `cbr` forwards.
-    pub first_edge: usize,
-    /// The block that it is in.
+    /// The number of its kind.
+    pub kind: u32,
+    /// The mark of heads of its kind.
+    pub ssa: bool,
+    pub attribute: AttributeText,
+    pub results: usize,
+    pub regions: usize,
+    /// The block that it is in; nothing reads that of the whole text.
     pub block: usize,
     pub operands: SmallVec<usize, 2>,
     pub successors: Vec<usize>,
+}
+
+impl OperationText {
+    /// An operation of the kind with this number and mark, in the first block, without anything else. Cost: constant.
+    #[inline(always)]
+    pub fn new(alloc: Global, kind: u32, ssa: bool) -> Self {
+        OperationText {
+            kind,
+            ssa,
+            attribute: AttributeText::Nothing,
+            results: 0,
+            regions: 0,
+            block: 0,
+            operands: SmallVec::new(alloc),
+            successors: Vec::new(alloc),
+        }
+    }
 }
 
 /// What a text writes of a block.
@@ -38,11 +66,11 @@ pub enum SyntaxStep {
     Block(usize),
 }
 
-/// A text: the kind of the operation that it is as a whole, and what is inside it, in the order of the text.
-/// The whole's region has the number 0.
+/// A text: the operation that it is as a whole, and what is inside that, in the order of the text. Values and regions
+/// are numbered from those of the whole on.
 #[derive(Drop)]
 pub struct Syntax {
-    pub root: BenchKind,
+    pub root: OperationText,
     pub steps: Vec<SyntaxStep>,
     pub operations: Vec<OperationText>,
     pub blocks: Vec<BlockText>,
@@ -50,10 +78,10 @@ pub struct Syntax {
 }
 
 impl Syntax {
-    /// The syntax of a root of this kind, without steps. Cost: constant.
-    pub fn new(alloc: Global, root: BenchKind) -> Self {
+    /// The syntax of a text of which nothing is read. Cost: constant.
+    pub fn new(alloc: Global) -> Self {
         Syntax {
-            root,
+            root: OperationText::new(alloc, 0, false),
             steps: Vec::new(alloc),
             operations: Vec::new(alloc),
             blocks: Vec::new(alloc),
@@ -69,6 +97,7 @@ impl Syntax {
 
     /// Adds the next operation of the text, as the next step, and answers its number. Errors: allocation failure.
     /// Cost: constant, amortised.
+    #[inline(always)]
     pub fn add_operation(&mut self, operation: OperationText) -> Result<usize, AllocError> {
         let number = self.operations.len();
         self.steps.push(SyntaxStep::Operation(number))?;
@@ -77,23 +106,34 @@ impl Syntax {
         Ok(number)
     }
 
+    /// Takes in that an operation, or the whole text, has so many regions. Cost: constant.
+    pub fn set_regions(&mut self, operation: Option<usize>, regions: usize) {
+        let Some(number) = operation else {
+            self.root.regions = regions;
+            return;
+        };
+        if let Some(text) = self.operations.get_mut(number) {
+            text.regions = regions;
+        }
+    }
+
     /// Whether all can be made in this order, and makes a tree with edges only at the ends of blocks.
     /// Cost: one step for each operation, block, operand and successor.
     pub fn is_sound(&self) -> bool
         ensures { IsTrue result → IsSoundSyntax self.now }
     {
-        if !self.is_ordered() {
+        if !self.is_ordered() || !self.is_root_sound() {
             return false;
         }
-        self.root.is_top() && self.are_operations_sound()
+        self.are_operations_sound()
     }
 
     // Whether the steps have each operation and each block once, in order and where its place is
     // made already, and make so many values.
     fn is_ordered(&self) -> bool
-        ensures { IsTrue result → IsOrdered self.now first_made self.now.steps.items }
+        ensures { IsTrue result → IsOrdered self.now (first_made self.now.root) self.now.steps.items }
     {
-        let mut made = PartCounts::new();
+        let mut made = PartCounts::of_root(&self.root);
         for step in &self.steps {
             if !made.take(self, *step) {
                 return false;
@@ -102,6 +142,16 @@ impl Syntax {
         made.operations == self.operations.len()
             && made.blocks == self.blocks.len()
             && made.values == self.values
+    }
+
+    // Whether the whole text has values of the text as operands, and no successors.
+    fn is_root_sound(&self) -> bool
+        ensures { IsTrue result → IsSoundRoot self.now }
+    {
+        if !self.root.successors.is_empty() {
+            return false;
+        }
+        are_below(self.root.operands.as_slice(), self.values)
     }
 
     fn are_operations_sound(&self) -> bool
@@ -115,15 +165,15 @@ impl Syntax {
         true
     }
 
-    // Whether the dialect has the operation, and it names values and blocks of the text and, if it has
-    // successors, is the last of its block and names blocks of its own region.
+    // Whether the operation names values and blocks of the text and, if it has successors, is the last of its block
+    // and names blocks of its own region.
     fn is_operation_sound(&self, number: usize, operation: &OperationText) -> bool
         ensures { IsTrue result → IsSoundOperation self.now number operation.now }
     {
         let Some(block) = self.blocks.get(operation.block) else {
             return false;
         };
-        if !operation.is_admitted() || !is_placed(block.last, number, operation) {
+        if !is_placed(block.last, number, operation) {
             return false;
         }
         if !are_below(operation.operands.as_slice(), self.values) {
@@ -142,33 +192,6 @@ impl Syntax {
             }
         }
         true
-    }
-}
-
-impl OperationText {
-    // Whether the dialect has operations with this head and these counts.
-    fn is_admitted(&self) -> bool
-        ensures { IsTrue result → IsAdmittedText self.now }
-    {
-        self.is_count_right() && self.successors.len() == self.kind.successor_count()
-    }
-
-    // Whether an operation with this head may have so many operands.
-    fn is_count_right(&self) -> bool
-        ensures { IsTrue result → IsTrue (takes_attributes self.now.kind (head_with self.now.kind self.now.number
-            (pos self.now.first_edge)).attrs (length self.now.operands.items) && takes_operands self.now.kind
-            (length self.now.operands.items)) }
-    {
-        // The contract needs that a constant has 64 bits.
-        let _number = self.number;
-        let count = self.operands.len();
-        match self.kind {
-            BenchKind::Add | BenchKind::Mul | BenchKind::Div => count == 2,
-            BenchKind::Print | BenchKind::Fork => count == 1,
-            BenchKind::Cbr => self.first_edge < count,
-            BenchKind::Sink | BenchKind::Scope | BenchKind::Br | BenchKind::Ret => true,
-            _ => count == 0,
-        }
     }
 }
 
@@ -204,14 +227,15 @@ struct PartCounts {
 }
 
 impl PartCounts {
-    fn new() -> Self
-        ensures { result ≡ first_made }
+    // What is made with the whole text's operation.
+    fn of_root(root: &OperationText) -> Self
+        ensures { result ≡ first_made root.now }
     {
         PartCounts {
             operations: 0,
             blocks: 0,
-            regions: 1,
-            values: 0,
+            regions: root.regions,
+            values: root.results,
         }
     }
 
@@ -223,7 +247,7 @@ impl PartCounts {
             SyntaxStep::Operation(number) => match syntax.operations.get(number) {
                 Some(operation) if number == self.operations && operation.block < self.blocks => {
                     self.operations += 1;
-                    self.add(operation.kind.region_count(), operation.kind.result_count())
+                    self.add(operation.regions, operation.results)
                 }
                 _ => false,
             },

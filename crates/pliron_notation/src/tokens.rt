@@ -156,6 +156,22 @@ pub struct Tokens<K> {
     pub misread: Option<SyntaxFault>,
 }
 
+impl<K: Word> Tokens<K> {
+    /// The number of the token that is the kind after so many others, or how many tokens there are. Cost: their number.
+    pub fn place_of_kind(&self, before: usize) -> usize {
+        let mut met: usize = 0;
+        for (place, token) in self.tokens.iter().enumerate() {
+            if let Token::Kind(_) = token {
+                if met == before {
+                    return place;
+                }
+                met = met.saturating_add(1);
+            }
+        }
+        self.tokens.len()
+    }
+}
+
 /// The tokens of a text, up to the first place that is no token. Errors: allocation failure. Cost: linear in the
 /// text, but for look-ups of words.
 #[inline(never)]

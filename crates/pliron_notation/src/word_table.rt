@@ -5,7 +5,6 @@
 ghost use Rattle.std.specs.Prelude.{◌<◌, ◌≤◌, length};
 
 use crate::tokens::{Name, Token};
-use pliron_bench::BenchKind;
 use std::alloc::{AllocError, Global};
 use std::collections::BTreeMap;
 
@@ -16,16 +15,6 @@ pub trait Word: Copy + Eq {
 
     /// The word that names the kind.
     fn word(self) -> &'static str;
-}
-
-impl Word for BenchKind {
-    fn from_word(word: &[u8]) -> Option<BenchKind> {
-        BenchKind::from_word(word)
-    }
-
-    fn word(self) -> &'static str {
-        BenchKind::word(self)
-    }
 }
 
 /// The most bytes of a name.

@@ -15,9 +15,9 @@ ReadsBench text tree root = IsGrown no_tree tree root × IsWellLinked bench tree
 abbrev pub PrintsBench : Tree → ℕ → List ℕ → Type 0
 PrintsBench tree root text = ⊤
 
--- the tree is well linked at the operation; which one the text says is open
+-- the same under the meaning of a dialect by roles
 abbrev pub ReadsKinds : Meaning → List ℕ → Tree → ℕ → Type 0
-ReadsKinds m text tree root = IsWellLinked m tree root
+ReadsKinds m text tree root = IsGrown no_tree tree root × IsWellLinked m tree root
 
 -- how it is printed is open
 abbrev pub PrintsKinds : Tree → ℕ → List ℕ → Type 0

@@ -6,7 +6,7 @@ ghost use Rattle.pliron_opts_tests.specs.Guessed.{guessed, guessed_takes, keeps_
 use crate::guessed_kind::GuessedKind;
 use pliron_core::{AttrObj, Head};
 use pliron_evaluator::evaluator::{Datum, Move};
-use pliron_notation::Word;
+use pliron_notation::{Grammar, Word};
 use pliron_role_runs::numbers::is_number;
 use pliron_role_runs::own_moves::{ask_world, visit_and_leave};
 use pliron_role_runs::plain::is_plain;
@@ -172,3 +172,5 @@ impl Word for GuessedKind {
         }
     }
 }
+
+impl Grammar for GuessedKind {}

@@ -2,8 +2,8 @@
 use crate::guessed_kind::GuessedKind;
 use pliron_core::{Context, Operation, Ptr};
 use pliron_evaluator::evaluator::{Datum, RunInputs, Sight};
+use pliron_notation::read_operation;
 use pliron_role_runs::{KnownRun, evaluate_known};
-use pliron_table_text::read_text;
 use std::alloc::Global;
 use std::process::Abort;
 
@@ -66,7 +66,7 @@ fn runs_as_far_as_known(rt: HostRuntime) {
     let alloc = rt.alloc();
     for (name, fuel, text, steps, ended) in RUNS.iter().copied() {
         let ctx = &mut Context::new(alloc);
-        let read = read_text::<GuessedKind>(alloc, text.as_bytes(), ctx).expect(&rt, "memory");
+        let read = read_operation::<GuessedKind>(alloc, text.as_bytes(), ctx).expect(&rt, "memory");
         let root = read.expect(&rt, "readable");
         let known = run(&rt, alloc, ctx, root, fuel);
         assert!(rt; known.steps == steps, "{name}");

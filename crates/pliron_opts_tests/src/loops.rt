@@ -6,9 +6,9 @@ use crate::looped_kind::LoopedKind;
 use pliron_core::{Context, Operation, Ptr};
 use pliron_evaluator::evaluator::{Datum, Sight, evaluate};
 use pliron_laws::is_well_linked;
+use pliron_notation::{print_operation, read_operation};
 use pliron_role_runs::RunByRoles;
 use pliron_sccp::sccp;
-use pliron_table_text::{print_text, read_text};
 use pliron_test_cases::cases;
 use std::alloc::Global;
 use std::process::Abort;
@@ -96,7 +96,9 @@ fn check_run(rt: &impl Abort, alloc: Global, ctx: &Context, root: Ptr<Operation>
 }
 
 fn check_in(rt: &impl Abort, alloc: Global, ctx: &mut Context, case: &Case) {
-    let read = read_text::<LoopedKind>(alloc, case.before.as_bytes(), ctx).expect(rt, "memory");
+    let read = read_operation::<LoopedKind>(alloc, case.before.as_bytes(), ctx).expect(
+        rt, "memory",
+    );
     let root = read.expect(rt, "readable");
     check_run(rt, alloc, ctx, root, case);
     assert!(rt; root.is_live(ctx));
@@ -104,7 +106,7 @@ fn check_in(rt: &impl Abort, alloc: Global, ctx: &mut Context, case: &Case) {
     let _ = sccp::<Looped>(alloc, root, ctx).expect(rt, "memory");
     check_run(rt, alloc, ctx, root, case);
     assert!(rt; root.is_live(ctx));
-    let printed = print_text::<LoopedKind>(alloc, root, ctx).expect(rt, "memory");
+    let printed = print_operation::<LoopedKind>(alloc, root, ctx).expect(rt, "memory");
     expect_text(rt, printed.as_str(), case.after, case.name);
 }
 

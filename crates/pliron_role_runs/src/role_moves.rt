@@ -7,7 +7,9 @@ ghost use Rattle.pliron_laws.specs.Answers.{ReadsShape};
 ghost use Rattle.pliron_roles.specs.declared.form.Otherwise.TheVariants.{Says};
 ghost use Rattle.pliron_roles.specs.Identities.{given_in};
 ghost use Rattle.pliron_roles.specs.Counted.{counts_by, counted_attributes};
-ghost use Rattle.pliron_roles.specs.Roles.{role_at, allows_at, meaning_by, first_attribute, fit_data, nth_datum as nth_in, numbers_of as numbers_in, first_number as first_in, complete, knows_in, identity_in, truth_in, choice_in, give_or_trap, folds_to, operands_picked, index_in as index_of, edge_or, act_of};
+ghost use Rattle.pliron_roles.specs.Roles.{role_at, allows_at, meaning_by, first_attribute, fit_data, nth_datum as nth_in, numbers_of as numbers_in};
+ghost use Rattle.pliron_roles.specs.Roles.{first_number as first_in, complete, knows_in, identity_in, truth_in, choice_in, give_or_trap, folds_to};
+ghost use Rattle.pliron_roles.specs.Roles.{operands_picked, index_in as index_of, edge_or, act_of};
 ghost use Rattle.pliron_evaluator.specs.Evaluator.{datum_of_value, move_of};
 ghost use Rattle.pliron_role_runs.specs.RoleRuns.{shape_by, branch_to};
 

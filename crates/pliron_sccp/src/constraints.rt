@@ -19,7 +19,8 @@ ghost use Rattle.pliron_sccp.specs.LatticeCells.{Means};
 ghost use Rattle.pliron_sccp.specs.Feasible.{AreFound};
 ghost use Rattle.pliron_sccp.specs.Lowering.{IsApplied};
 ghost use Rattle.pliron_sccp.specs.Constraints.{AddsUnder, AreEntriesExecutable, AreEntriesExecutableWhere, RecordsEntry};
-ghost use Rattle.pliron_sccp.specs.Constraints.{Adds, AlwaysAdds, CanSatisfy, Constrains, ConstrainsEntries, ConstrainsEdges, ConstrainsJumps, ConstrainsAnswers, ConstrainsResults, ConstrainsForwarded, ConstrainsBranches};
+ghost use Rattle.pliron_sccp.specs.Constraints.{Adds, AlwaysAdds, CanSatisfy, Constrains, ConstrainsEntries, ConstrainsEdges, ConstrainsJumps};
+ghost use Rattle.pliron_sccp.specs.Constraints.{ConstrainsAnswers, ConstrainsResults, ConstrainsForwarded, ConstrainsBranches};
 ghost use Rattle.pliron_sccp.specs.Constraints.{ConstrainsInvocations, FollowsEdge, GetsForwarded, GetsNamed, AreFeasible, IsEntryOf, MayLead, EntryIsExecutable, InvocationIsExecutable};
 
 use crate::lattice_tables::{LatticeCell, Tables};

@@ -14,6 +14,8 @@
 //! The sets are by handle, and grow: operations have no numbers here, and a number for each would cost each text a
 //! table as long as itself, while few operations have so many operands. So deferring may fail to allocate. No rewrite
 //! was begun by then, so the tree is as before.
+//!
+//! It serves growth alone: without it `sumbr` of `docs/benchmarks/shapes.py` is quadratic.
 ghost use Rattle.std.specs.Prelude.{◌≡◌, ◌<◌, ◌≤◌, ◌+◌, ℕ, [], IfNone, IfOk, IfSome, OnOk, IsOkUnless, IsTrue, Some, ◌↔◌, length, slice_get};
 ghost use Rattle.pliron_sccp.specs.Deferring.{HasFirst, Defers, PopsDeferred, deferred_operations};
 

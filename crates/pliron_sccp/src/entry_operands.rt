@@ -1,5 +1,7 @@
 //! Region entry operands: the arguments of entries by the operands that are named for them, listed for an
 //! operation with many operands.
+//!
+//! It serves growth alone: without it `scopeargs` of `docs/benchmarks/shapes.py` is quadratic.
 ghost use Rattle.std.specs.Prelude.{◌<◌, IfSome, IsOkUnless, length};
 ghost use Rattle.pliron_core.specs.Tree.{IsLive, regions_of};
 

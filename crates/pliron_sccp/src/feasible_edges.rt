@@ -7,6 +7,8 @@
 //!
 //! What is kept is derived from lattice values and is none; those are in `Tables`, by number. The tables here are by
 //! handle, and grow: a row for each operation, by number, would cost each text a table as long as itself.
+//!
+//! It serves growth alone: without it `shiftcbr` of `docs/benchmarks/shapes.py` is quadratic.
 ghost use Rattle.std.specs.Prelude.{◌≡◌, ◌↔◌, false, ℕ, Some, OnOk, IsOkUnless, IsTrue};
 ghost use Rattle.indexmap.specs.IndexMap.{index_map_len};
 ghost use Rattle.pliron_core.specs.Tree.{IsLive};

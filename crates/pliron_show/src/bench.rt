@@ -10,7 +10,7 @@ use pliron_diagnostics::{
 };
 use pliron_evaluator::evaluator::{Notes, Sight};
 use pliron_laws::OptError;
-use pliron_notation::printed::number_of;
+use pliron_notation::number_of;
 use pliron_opts::BenchNotation;
 use std::alloc::{AllocError, Global};
 

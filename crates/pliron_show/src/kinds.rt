@@ -8,8 +8,7 @@ use crate::shown::Shown;
 use pliron_core::{Context, Operation, Ptr};
 use pliron_diagnostics::{Source, TextParts, forwarded_names, parts_of};
 use pliron_laws::OptError;
-use pliron_notation::Word;
-use pliron_notation::printed::number_of;
+use pliron_notation::{Grammar, number_of};
 use pliron_opts::{KindNotation, Notation};
 use pliron_roles::{Form, Roles};
 use std::alloc::{AllocError, Global};
@@ -51,7 +50,7 @@ fn form_of<K: Roles>(op: Ptr<Operation>, ctx: &Context) -> Option<Form>
     }
 }
 
-impl<K: Roles + Word> Shown for KindNotation<K> {
+impl<K: Grammar> Shown for KindNotation<K> {
     ghost faults = { faults_as_unreadable };
 
     fn fault_message(alloc: Global, source: &Source) -> Result<Option<String>, OptError> {

@@ -10,9 +10,8 @@ ghost use Rattle.pliron_opts.specs.Read.{ReadsBench, ReadsKinds, PrintsBench, Pr
 use pliron_bench::Bench;
 use pliron_core::{Context, Operation, Ptr};
 use pliron_laws::{Dialect, OptError};
-use pliron_notation::{Word, print_text, read_text};
-use pliron_roles::{ByRoles, Roles};
-use pliron_table_text as texts;
+use pliron_notation::{Grammar, print_operation, print_text, read_operation, read_text};
+use pliron_roles::ByRoles;
 use std::alloc::Global;
 use std::marker::PhantomData;
 
@@ -158,10 +157,10 @@ impl Notation for BenchNotation {
     fn empty_sheet(_: Global) {}
 }
 
-/// The notation of the dialect of these kinds, by their words.
+/// The notation of the dialect of these kinds, by their grammar.
 pub struct KindNotation<K>(PhantomData<K>);
 
-impl<K: Roles + Word> Notation for KindNotation<K> {
+impl<K: Grammar> Notation for KindNotation<K> {
     type D = ByRoles<K>;
 
     type Sheet = ();
@@ -177,7 +176,7 @@ impl<K: Roles + Word> Notation for KindNotation<K> {
         text: &[u8],
         ctx: &mut Context,
     ) -> Result<Document<()>, TextFailure<()>> {
-        plain_document(texts::read_text::<K>(alloc, text, ctx))
+        plain_document(read_operation::<K>(alloc, text, ctx))
     }
 
     fn print_document(
@@ -185,7 +184,7 @@ impl<K: Roles + Word> Notation for KindNotation<K> {
         document: &Document<()>,
         ctx: &Context,
     ) -> Result<Vec<u8>, OptError> {
-        Ok(texts::print_text::<K>(alloc, document.root, ctx)?.into_bytes())
+        Ok(print_operation::<K>(alloc, document.root, ctx)?.into_bytes())
     }
 
     fn empty_sheet(_: Global) {}

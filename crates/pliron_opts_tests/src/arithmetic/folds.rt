@@ -7,7 +7,7 @@ use pliron_arithmetic::{Arithmetic, ArithmeticKind};
 use pliron_core::{AttrObj, Context, IRRewriter, Operation, Ptr, Rewriter};
 use pliron_laws::reads::all_operations;
 use pliron_laws::{BranchOpFoldInterface, ConstFoldInterface, is_well_linked};
-use pliron_table_text::print_text;
+use pliron_notation::print_operation;
 use pliron_test_cases::cases::{Row, all_known, number, row_of};
 use std::alloc::Global;
 use std::process::Abort;
@@ -97,7 +97,7 @@ fn folded_in(rt: &impl Abort, alloc: Global, ctx: &mut Context, case: &str) -> S
     fold(rt, alloc, ctx, op, &attrs);
     assert!(rt; root.is_live(ctx));
     assert!(rt; is_well_linked::<Arithmetic>(root, ctx));
-    print_text::<ArithmeticKind>(alloc, root, ctx).expect(rt, "memory")
+    print_operation::<ArithmeticKind>(alloc, root, ctx).expect(rt, "memory")
 }
 
 fn check(rt: &impl Abort, alloc: Global, line: &str) {

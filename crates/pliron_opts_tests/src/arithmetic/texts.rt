@@ -2,21 +2,21 @@
 use crate::expect::expect_text;
 use pliron_arithmetic::ArithmeticKind;
 use pliron_core::{Context, Operation, Ptr};
-use pliron_table_text::{print_text, read_text};
+use pliron_notation::{find_fault, print_operation, read_operation};
 use std::alloc::Global;
 use std::process::Abort;
 
 /// The operation of a text of the notation.
 pub fn read(rt: &impl Abort, alloc: Global, ctx: &mut Context, text: &str) -> Ptr<Operation> {
-    let read = read_text::<ArithmeticKind>(alloc, text.as_bytes(), ctx).expect(rt, "memory");
+    let read = read_operation::<ArithmeticKind>(alloc, text.as_bytes(), ctx).expect(rt, "memory");
     read.expect(rt, "readable")
 }
 
 // What is printed of a text; of one outside the notation it is `none`.
 fn printed_in(rt: &impl Abort, alloc: Global, ctx: &mut Context, text: &str) -> String {
-    let read = read_text::<ArithmeticKind>(alloc, text.as_bytes(), ctx).expect(rt, "memory");
+    let read = read_operation::<ArithmeticKind>(alloc, text.as_bytes(), ctx).expect(rt, "memory");
     match read {
-        Some(root) => print_text::<ArithmeticKind>(alloc, root, ctx).expect(rt, "memory"),
+        Some(root) => print_operation::<ArithmeticKind>(alloc, root, ctx).expect(rt, "memory"),
         None => String::from_str(alloc, "none").expect(rt, "memory"),
     }
 }
@@ -51,6 +51,9 @@ two empty regions -- function { b0(c): p, q = if c { } { }; return q p } => func
     { }; return v2 v1 }
 an if with arguments -- function { b0(c, x): r = if c x { t(y): return y } { f(z): n = neg z; return n }; return r \
     } => function { b0(v0, v1): v2 = if v0 v1 { b0(v3): return v3 } { b0(v4): v5 = neg v4; return v5 }; return v2 }
+regions in both regions of an if -- function { b0(c): r = if c { t(): while { w(): return }; return c } { f(): while \
+    { }; n = neg c; return n }; return r } => function { b0(v0): v1 = if v0 { b0(): while { b0(): return }; return v0 \
+    } { b0(): while { }; v2 = neg v0; return v2 }; return v1 }
 a while without values -- function { b(): while { b(): return }; return } => function { b0(): while { b0(): return \
     }; return }
 a function in a function -- function { b(): function { b(): x = lit 1; return x }; y = lit 2; return y } => \
@@ -58,6 +61,8 @@ a function in a function -- function { b(): function { b(): x = lit 1; return x 
 a number at the top -- x = lit 5 => v0 = lit 5
 a return at the top -- return => return
 a while at the top -- while { } => while { }
+an if of its own result at the top -- r = if r { } { b(x): return r } => v0 = if v0 { } { b0(v1): return v0 }
+an if at the top of what is inside it -- if x { b(x): return x } { } => if v0 { b0(v0): return v0 } { }
 a name of 64 letters -- function { b0(): a23456789012345678901234567890123456789012345678901234567890123x = lit 1; \
     return } => function { b0(): v0 = lit 1; return }";
 
@@ -142,6 +147,48 @@ fn unreadable_texts(rt: HostRuntime) {
         let (name, text) = line.split_once(" -- ").expect(&rt, "a name");
         check(&rt, rt.alloc(), name, text, "none");
     }
+}
+
+fn expect_fault(rt: &impl Abort, alloc: Global, text: &str, wanted: &str) {
+    let fault = find_fault::<ArithmeticKind>(alloc, text.as_bytes())
+        .expect(rt, "memory")
+        .expect(rt, "a fault");
+    let found = format!(in alloc;
+        "{} {} {}",
+        fault.span.start, fault.span.len, fault.expected
+    );
+    let found = found.expect(rt, "memory");
+    expect_text(rt, found.as_str(), wanted, text);
+}
+
+// Texts outside the notation, and for each after how many bytes and in how many it leaves that, and what was expected
+// there.
+static FAULTS: &str = "\
+{ } => 0 1 a kind of operations
+func { } => 5 1 `,` or `=`
+function { return } => 11 6 a block, or `}`
+function { b0(): return # } => 24 1 a word, a number or one of `{ } ( ) , : ; =`
+function { b0(): a = add b; return } => 26 1 the name of a value
+function { b0(): a, b = lit 1; return } => 24 3 a kind of operations with two results
+function { b0(): a, b, c = lit 1; return } => 27 3 a kind of operations with more results than two
+function { b0(): lit 1; return } => 17 3 a kind of operations with no results
+function { b0(): a = lit 1; a = lit 2; return } => 28 1 a value's name that the text doesn't define before
+function { b0(): return x } => 24 1 the name of a value that the text defines
+function { b0(): while { b1(): jump b0() }; return } => 36 2 the name of a block that its region defines
+function { b0(): jump b0(); return } => 28 6 a block, since no operation follows one with successors
+function { b0(): a = lit 1 { }; return } => 27 1 `;` or `}`
+function { b0(): a = lit 1; if a { }; return } => 28 2 an operation that the dialect admits, with so many operands, \
+    results and regions
+function => 0 8 an operation that the dialect admits, with so many operands, results and regions";
+
+#[test]
+fn places_of_faults(rt: HostRuntime) {
+    for row in FAULTS.lines() {
+        let (text, wanted) = row.split_once(" => ").expect(&rt, "a case");
+        expect_fault(&rt, rt.alloc(), text, wanted);
+    }
+    let read = find_fault::<ArithmeticKind>(rt.alloc(), b"function { }").expect(&rt, "memory");
+    assert!(&rt; read.is_none(), "a text that is read");
 }
 
 // So many regions in one another.

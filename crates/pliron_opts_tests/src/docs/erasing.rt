@@ -10,11 +10,11 @@ use crate::expect::expect_text;
 use pliron_arithmetic::{Arithmetic, ArithmeticKind};
 use pliron_core::{Context, IRRewriter, IRStatus, Operation, Ptr};
 use pliron_laws::Dialect;
+use pliron_notation::{print_operation, read_operation};
 use pliron_pass::{
     AnalysisManager, BenchFactKind, BenchFacts, OptError, Pass, PassResult, run_pipeline,
 };
 use pliron_pass_rewrites::erase_unused_inside;
-use pliron_table_text::{print_text, read_text};
 use pliron_walks::Contents;
 use std::alloc::Global;
 use std::process::Abort;
@@ -101,13 +101,13 @@ impl Pass for EraseUnused {
 }
 
 fn left_in(rt: &impl Abort, alloc: Global, ctx: &mut Context, text: &str, is: IRStatus) -> String {
-    let read = read_text::<ArithmeticKind>(alloc, text.as_bytes(), ctx).expect(rt, "memory");
+    let read = read_operation::<ArithmeticKind>(alloc, text.as_bytes(), ctx).expect(rt, "memory");
     let root = read.expect(rt, "readable");
     let mut analyses = AnalysisManager::<BenchFacts>::new(alloc);
     let status = run_pipeline(&mut EraseUnused {}, alloc, root, ctx, &mut analyses);
     assert!(rt; status.expect(rt, "memory") == is);
     assert!(rt; root.is_live(ctx));
-    print_text::<ArithmeticKind>(alloc, root, ctx).expect(rt, "memory")
+    print_operation::<ArithmeticKind>(alloc, root, ctx).expect(rt, "memory")
 }
 
 #[test]

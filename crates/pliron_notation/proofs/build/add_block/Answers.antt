@@ -69,7 +69,7 @@ returns-clause-laid c =
     let b = c.args.text.now in
     on_ok_weaker c.remember_arguments.result
     (λ count s at root base l.
-    subst (λ z. IsLaid s root base 0 z more) (sym c.in_ok-block.ensures.ok)
+    subst (λ z. IsLaid s root base 0 0 z more) (sym c.in_ok-block.ensures.ok)
     (laid-block s root base u built more b c.index-region.result.now c.well_formed-2.ensures.tree l at c.requires.region c.index-region.ensures refl
     (c.in_ok-remember.ensures.ok ∙ ap (λ k. built.blocks.items ++ k ∷ []) c.in_ok-block.ensures.key)
     refl))

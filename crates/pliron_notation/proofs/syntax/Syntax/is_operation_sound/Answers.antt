@@ -5,7 +5,6 @@ use Rattle.pliron_notation.proofs.syntax.Syntax.is_operation_sound.Goals as goal
 
 pub returns : goal.returns
 returns c = λ h. record {
-  admitted = c.is_admitted.ensures c.if-not-is_admitted.false;
   operands = subst (AllBelow c.args.self.now.values) c.as_slice.ensures (c.are_below.ensures c.if-not-are_below.false);
   block = c.in-Some.block.now;
   in_block = subst (λ z. slice_get z c.args.operation.now.block ≡ Some c.in-Some.block.now) c.deref.ensures.value (slice_get_read c.deref.result.now (length c.deref.result.now) c.args.operation.now.block c.in-Some.block.now refl c.in-Some.ensures.lookup.3.0 c.in-Some.ensures.lookup.1);

@@ -1,0 +1,133 @@
+//! `plir_times`: calls of the library, to be measured from outside or timed.
+//!
+//! ```text
+//! plir_times graph SHAPE COUNT CALL   a call on a graph of so many nodes
+//! plir_times passes NAME..            passes on the text on standard input, of any length
+//! plir_times text                     the text on standard input, read and printed
+//! ```
+//!
+//! What was counted goes to standard output, the nanoseconds of a call on a graph to the other one. Status 1: the text is
+//! unreadable, or memory was refused; 2: the words are others, or nothing can be read or written.
+#![tactic(auto)]
+
+ghost use Rattle.pliron_traversal.specs.Adjacency.{AreInverse};
+
+mod calls;
+mod shapes;
+mod texts;
+
+use crate::calls::Call;
+use crate::shapes::{Shape, rows_of};
+use crate::texts::{length_after, print_again};
+use pliron_graph::AdjacencyList;
+use pliron_pass::OptError;
+use std::alloc::{AllocError, Global};
+use std::env;
+use std::io::{self, Read, Write};
+use std::process::ExitCode;
+use std::time::Instant;
+
+/// Why it ends early.
+#[derive(Drop)]
+enum Failure {
+    Usage,
+    Refused,
+    Unreadable,
+    Stream,
+}
+
+impl From<io::Error> for Failure {
+    fn from(_: io::Error) -> Failure {
+        Failure::Stream
+    }
+}
+
+impl From<OptError> for Failure {
+    fn from(_: OptError) -> Failure {
+        Failure::Refused
+    }
+}
+
+impl From<AllocError> for Failure {
+    fn from(_: AllocError) -> Failure {
+        Failure::Refused
+    }
+}
+
+// Times the call on the graph.
+fn time_call(rt: &HostRuntime, call: Call, graph: &AdjacencyList, size: usize) -> io::Result<()>
+    requires { AreInverse graph.now }
+{
+    let start = Instant::now(rt)?;
+    let count = call.count(rt.alloc(), graph);
+    let nanoseconds = start.elapsed(rt)?.as_nanos();
+    println!(rt; "{size} nodes and edges: {count}")?;
+    eprintln!(rt; "{nanoseconds} ns")?;
+    Ok(())
+}
+
+fn time_graph(rt: &HostRuntime, words: &[String]) -> Result<(), Failure> {
+    if words.len() != 3 {
+        return Err(Failure::Usage);
+    }
+    let shape = Shape::from_name(&words[0]).ok_or(Failure::Usage)?;
+    let count = words[1].parse::<usize>().map_err(|_| Failure::Usage)?;
+    let call = Call::from_name(&words[2]).ok_or(Failure::Usage)?;
+    let rows = rows_of(rt.alloc(), shape, count)?;
+    let edges = rows.iter().map(|row| row.len()).sum::<usize>();
+    let graph = AdjacencyList::new(rt.alloc(), rows)?.ok_or(Failure::Usage)?;
+    time_call(rt, call, &graph, count.saturating_add(edges))?;
+    Ok(())
+}
+
+fn run(rt: &HostRuntime, words: &[String]) -> Result<(), Failure> {
+    let (word, rest) = words.split_first().ok_or(Failure::Usage)?;
+    if word.as_str() == "graph" {
+        return time_graph(rt, rest);
+    }
+    let mut text = Vec::new(rt.alloc());
+    match word.as_str() {
+        "passes" => {
+            rt.stdin().read_to_end(&mut text)?;
+            let length = length_after(rt.alloc(), rest, &text)?;
+            println!(rt; "{} bytes", length.ok_or(Failure::Unreadable)?)?;
+        }
+        "text" if rest.is_empty() => {
+            rt.stdin().read_to_end(&mut text)?;
+            let printed = print_again(rt.alloc(), &text)?;
+            rt.stdout()
+                .write_all(printed.ok_or(Failure::Unreadable)?.as_bytes())?;
+        }
+        _ => return Err(Failure::Usage),
+    }
+    Ok(())
+}
+
+fn words_of(rt: &HostRuntime) -> io::Result<Vec<String>> {
+    let mut words = Vec::new(rt.alloc());
+    let mut args = env::args(rt)?;
+    let _ = args.next();
+    for word in args {
+        words.push(word)?;
+    }
+    Ok(words)
+}
+
+fn main(rt: HostRuntime) -> ExitCode {
+    let ended = match words_of(&rt) {
+        Ok(words) => run(&rt, &words),
+        Err(_) => Err(Failure::Stream),
+    };
+    match ended {
+        Ok(()) => ExitCode::from(0),
+        Err(Failure::Unreadable) => ExitCode::from(1),
+        Err(Failure::Refused) => ExitCode::from(1),
+        Err(Failure::Stream) => ExitCode::from(2),
+        Err(Failure::Usage) => {
+            let _ = eprintln!(rt;
+                "usage: plir_times graph SHAPE COUNT CALL, or passes NAME.., or text"
+            );
+            ExitCode::from(2)
+        }
+    }
+}
