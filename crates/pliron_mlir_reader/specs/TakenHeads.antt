@@ -1,5 +1,5 @@
 -- The head that an operation of a text is taken for: by its name, its shape and what its text says.
-use Rattle.std.specs.Prelude.{◌≡◌, ◌⊎◌, ℕ, false, true, List, Option, None, Some, MatchOption}
+use Rattle.std.specs.Prelude.{◌≡◌, ◌⊎◌, ℕ, nat_lt, Bool, false, true, List, [], length, Option, None, Some, unwrap_or, MatchBool, MatchOption}
 use Rattle.pliron_core.specs.declared.attrs.Head.{Head}
 use Rattle.pliron_mlir.specs.declared.kind.Class.{Class}
 use Rattle.pliron_mlir.specs.declared.kind.Class.TheVariants.{Constant, Opaque, Branch, Switch, Effect, Fork}
@@ -32,10 +32,17 @@ SaysForm sheet written head_of head = (form : ℕ) × IsFormOf sheet form writte
 abbrev pub unplaced : WrittenForm → WrittenForm
 unplaced written = record written { location = None }
 
--- a constant that is no integer says its form without its location for a datum; a long one is opaque
+-- a constant that is no integer says its form without its location for a datum
+abbrev pub IsDatumHead : Sheet → WrittenForm → Head → Type 0
+IsDatumHead sheet written head = (datum : ℕ) × IsFormOf sheet datum (unplaced written) × SaysForm sheet written (constant_head (other_constant datum)) head
+
+-- it has more than 256 bytes inside its property list
+abbrev pub is_long : WrittenForm → Bool
+is_long written = nat_lt 256 (length (unwrap_or written.properties []))
+
+-- a long one is opaque
 abbrev pub IsOtherConstant : Sheet → WrittenForm → Head → Type 0
-IsOtherConstant sheet written head =
-    ((datum : ℕ) × IsFormOf sheet datum (unplaced written) × SaysForm sheet written (constant_head (other_constant datum)) head) ⊎ SaysForm sheet written (plain_head Opaque) head
+IsOtherConstant sheet written head = MatchBool (is_long written) (SaysForm sheet written (plain_head Opaque) head) (IsDatumHead sheet written head)
 
 -- an integer says the bits that it owns, and their width
 abbrev pub IsConstantHead : Sheet → OwnedProperty → (width : ℕ) → Said → WrittenForm → Head → Type 0

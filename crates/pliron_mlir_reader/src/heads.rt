@@ -5,13 +5,13 @@ ghost use Rattle.pliron_mlir.specs.Heads.{plain_head as plain_head_of};
 ghost use Rattle.pliron_mlir.specs.declared.kind.Class.TheVariants.{Constant, Branch, Switch, Fork};
 ghost use Rattle.pliron_mlir_syntax.specs.Numbers.{without_blanks, is_comma, typed_written, width_written};
 ghost use Rattle.pliron_mlir_reader.specs.Taken.{class_taken as class_taken_of, HasClass};
-ghost use Rattle.pliron_mlir_syntax.specs.Sheets.{IsFormOf, texts_written, option_now};
+ghost use Rattle.pliron_mlir_syntax.specs.Sheets.{IsFormOf, KeepsNumbers, texts_written, option_now};
 ghost use Rattle.pliron_mlir_syntax.specs.Spans.{bytes_in};
 ghost use Rattle.pliron_mlir_reader.specs.SaidOf.{said_of, value_text as value_text_of, entry_text, form_written, branch_form_written, forms_of, entry_behind, without_counts as without_counts_of};
 ghost use Rattle.pliron_mlir_reader.specs.Said.{counts_edges as counts_edges_of, value_in as value_named, value_of as value_of_said, lists_word as lists_word_in};
 ghost use Rattle.pliron_mlir_reader.specs.Said.{overflow_listed as overflow_listed_in, overflow_numbered as overflow_numbered_by, overflow_said as overflow_said_in, entries_in, flags_said, predicate_in, value_bits as value_bits_said};
 ghost use Rattle.pliron_mlir_reader.specs.Said.{counts_in, cases_spread, counts_said, fits as fits_in, fitting, cases_said};
-ghost use Rattle.pliron_mlir_reader.specs.TakenHeads.{SaysForm, IsConstantHead, IsOtherConstant, IsBranchHead, IsSwitchHead, IsOtherHead, IsTakenFor};
+ghost use Rattle.pliron_mlir_reader.specs.TakenHeads.{SaysForm, is_long as is_long_of, IsConstantHead, IsDatumHead, IsOtherConstant, IsBranchHead, IsSwitchHead, IsOtherHead, IsTakenFor};
 
 use crate::known::without_quotes;
 use crate::owned::OwnedProperty;
@@ -61,6 +61,16 @@ fn counts_edges(name: &[u8]) -> bool
     ensures { result ≡ counts_edges_of name.now }
 {
     name == SEGMENTS[0] || name == SEGMENTS[1]
+}
+
+// Whether the constant with these texts is longer than what passes carry.
+fn is_long(texts: &FormTexts) -> bool
+    ensures { result ≡ is_long_of (texts_written texts.now) }
+{
+    match texts.properties {
+        Some(text) => text.len() > MAX_CONSTANT,
+        None => false,
+    }
 }
 
 // The text, where there is a list in whose place it stands.
@@ -435,7 +445,8 @@ impl<'t> Reader<'t> {
 
     // The number of the form.
     fn form(&mut self, pending: &Pending<'t>, tail: &Tail) -> Result<usize, Fault>
-        ensures { IfOk result (λ form. IsFormOf self.new.sheet form (form_written self.old pending.now tail.now)) }
+        ensures numbered { IfOk result (λ form. IsFormOf self.new.sheet form (form_written self.old pending.now tail.now)) }
+        ensures kept { KeepsNumbers self.old.sheet self.new.sheet }
     {
         let texts = self.form_texts(pending, tail);
         Ok(self.sheet.number_of_texts(&texts)?)
@@ -443,16 +454,36 @@ impl<'t> Reader<'t> {
 
     // The number of the form without the entries that count operands of edges.
     fn branch_form(&mut self, pending: &Pending<'t>, tail: &Tail) -> Result<usize, Fault>
-        ensures { IfOk result (λ form.
+        ensures numbered { IfOk result (λ form.
             IsFormOf self.new.sheet form (branch_form_written self.old pending.now tail.now)) }
+        ensures kept { KeepsNumbers self.old.sheet self.new.sheet }
     {
         let (properties, attributes) = self.lists_without_counts()?;
+        let properties = in_place_of(pending.properties, &properties);
+        let attributes = in_place_of(tail.attributes, &attributes);
         let texts = FormTexts {
-            properties: in_place_of(pending.properties, &properties),
-            attributes: in_place_of(tail.attributes, &attributes),
-            ..self.form_texts(pending, tail)
+            name: pending.name,
+            properties,
+            attributes,
+            results: self.cursor.bytes(tail.results),
+            location: tail.location,
         };
         Ok(self.sheet.number_of_texts(&texts)?)
+    }
+
+    // The head of a constant that says its form.
+    #[tactic(auto, using(pliron_mlir_syntax::proofs::SheetLemmas::form_kept))]
+    fn datum_constant(&mut self, pending: &Pending<'t>, tail: &Tail) -> Result<Head, Fault>
+        ensures same { IfOk result (λ head.
+            IsDatumHead self.new.sheet (form_written self.old pending.now tail.now) head) }
+        ensures kind { IfOk result (λ head. HasClass Constant head) }
+        ensures kept { KeepsNumbers self.old.sheet self.new.sheet }
+    {
+        let mut texts = self.form_texts(pending, tail);
+        let form = self.sheet.number_of_texts(&texts)?;
+        texts.location = None;
+        let datum = other_constant(self.sheet.number_of_texts(&texts)?);
+        Ok(constant_head(self.alloc, datum, form)?)
     }
 
     // The head of a constant that is no integer of a width. That of a long one doesn't say that it is a constant.
@@ -460,19 +491,14 @@ impl<'t> Reader<'t> {
         ensures same { IfOk result (λ head.
             IsOtherConstant self.new.sheet (form_written self.old pending.now tail.now) head) }
         ensures kind { IfOk result (λ head. HasClass Constant head) }
+        ensures kept { KeepsNumbers self.old.sheet self.new.sheet }
     {
-        let length = match pending.properties {
-            Some(span) => span.end.saturating_sub(span.start),
-            None => 0,
-        };
-        let mut texts = self.form_texts(pending, tail);
-        let form = self.sheet.number_of_texts(&texts)?;
-        if length > MAX_CONSTANT {
-            return Ok(plain_head(self.alloc, Class::Opaque, form)?);
+        if is_long(&self.form_texts(pending, tail)) {
+            let form = self.form(pending, tail)?;
+            Ok(plain_head(self.alloc, Class::Opaque, form)?)
+        } else {
+            self.datum_constant(pending, tail)
         }
-        texts.location = None;
-        let datum = other_constant(self.sheet.number_of_texts(&texts)?);
-        Ok(constant_head(self.alloc, datum, form)?)
     }
 
     // The head of a constant.
@@ -481,6 +507,7 @@ impl<'t> Reader<'t> {
         ensures same { IfOk result (λ head. IsConstantHead self.new.sheet pending.now.known.owned tail.now.shape.to
             (said_of self.old) (form_written self.old pending.now tail.now) head) }
         ensures kind { IfOk result (λ head. HasClass Constant head) }
+        ensures kept { KeepsNumbers self.old.sheet self.new.sheet }
     {
         let width = tail.shape.to;
         match bits_owned(pending.known.owned, width, self.value_bits(width)) {
@@ -494,8 +521,9 @@ impl<'t> Reader<'t> {
 
     // The head of a terminator of which nothing is known.
     fn fork(&mut self, pending: &Pending<'t>, tail: &Tail) -> Result<Head, Fault>
-        ensures { IfOk result (λ head.
+        ensures same { IfOk result (λ head.
             SaysForm self.new.sheet (form_written self.old pending.now tail.now) (plain_head_of Fork) head) }
+        ensures kept { KeepsNumbers self.old.sheet self.new.sheet }
     {
         let form = self.form(pending, tail)?;
         Ok(plain_head(self.alloc, Class::Fork, form)?)
@@ -506,6 +534,7 @@ impl<'t> Reader<'t> {
         ensures same { IfOk result (λ head. IsBranchHead self.new.sheet tail.now.shape (said_of self.old)
             (forms_of self.old pending.now tail.now) head) }
         ensures kind { IfOk result (λ head. HasClass Branch head) }
+        ensures kept { KeepsNumbers self.old.sheet self.new.sheet }
     {
         match self.counts(false, &tail.shape)? {
             Some(counts) => {
@@ -521,6 +550,7 @@ impl<'t> Reader<'t> {
         ensures same { IfOk result (λ head. IsSwitchHead self.new.sheet tail.now.shape (said_of self.old)
             (forms_of self.old pending.now tail.now) head) }
         ensures kind { IfOk result (λ head. HasClass Switch head) }
+        ensures kept { KeepsNumbers self.old.sheet self.new.sheet }
     {
         match self.counts(true, &tail.shape)? {
             Some(counts) => {
@@ -537,6 +567,7 @@ impl<'t> Reader<'t> {
         ensures same { IfOk result (λ head. IsOtherHead self.new.sheet class pending.now.known.owned tail.now.shape
             (said_of self.old) (form_written self.old pending.now tail.now) head) }
         ensures kind { IfOk result (λ head. HasClass class head) }
+        ensures kept { KeepsNumbers self.old.sheet self.new.sheet }
     {
         let flags = self.flags(pending.known.owned);
         let predicate = self.predicate(pending.known.owned);
@@ -565,6 +596,7 @@ impl<'t> Reader<'t> {
         ensures same { IfOk result (λ head. IsTakenFor self.new.sheet tail.now.shape (said_of self.old)
             (forms_of self.old pending.now tail.now) head) }
         ensures kind { IfOk result (λ head. HasClass (class_taken_of pending.now.known.class tail.now.shape) head) }
+        ensures kept { KeepsNumbers self.old.sheet self.new.sheet }
     {
         let class = class_taken(pending.known.class, &tail.shape);
         self.serve(class, pending)?;
