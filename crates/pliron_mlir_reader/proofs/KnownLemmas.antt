@@ -1,5 +1,5 @@
 -- What is known of names, as their table grows.
-use Rattle.std.proofs.Common.{◌≡◌, ℕ, zero, suc, List, [], ◌∷◌, ◌++◌, length, Option, Some, None, refl, sym, ap, ◌∙◌, inl, inr, arith}
+use Rattle.std.proofs.Common.{◌≡◌, ℕ, zero, suc, List, [], ◌∷◌, ◌++◌, length, Option, Some, None, refl, sym, ap, subst, ◌∙◌, inl, inr, arith}
 use Rattle.std.specs.Prelude.{◌⊎◌, slice_get, option_map}
 use Rattle.std.proofs.lemmas.Grind.{common_steps}
 use Rattle.std.proofs.lemmas.Option.{same_Some}
@@ -19,7 +19,7 @@ known_behind (Some text) b known keeps is = ap (option_map known_in_quotes) (kee
 pub known_kept : (old new : Texts) (entries : List KnownName) → KeepsTexts old new → AreKnown old entries → AreKnown new entries
 known_kept old new entries keeps are = λ number known is. known_behind _ _ known (keeps number) (are number known is)
 
-pub known_at : (names : Texts) (entries : List KnownName) (number : ℕ) (known : KnownName) (name : List ℕ) → AreKnown names entries → text_in names number ≡ Some name
+known_at : (names : Texts) (entries : List KnownName) (number : ℕ) (known : KnownName) (name : List ℕ) → AreKnown names entries → text_in names number ≡ Some name
     → slice_get entries number ≡ Some known → known ≡ known_in_quotes name
 known_at names entries number known name are at is = same_Some _ _ (sym (are number known is) ∙ ap (option_map known_in_quotes) at)
 
@@ -41,6 +41,15 @@ known_by_place names entries added name number known are at is (inl there) = are
 known_by_place names entries added name number known are at is (inr last) =
     ap (λ n. option_map known_in_quotes (text_in names n)) last.0 ∙ ap (option_map known_in_quotes) at ∙ ap Some (sym is ∙ last.1)
 
-pub known_more : (names : Texts) (entries : List KnownName) (added : KnownName) (name : List ℕ) → AreKnown names entries → text_in names (length entries) ≡ Some name → added ≡ known_in_quotes name
+known_more : (names : Texts) (entries : List KnownName) (added : KnownName) (name : List ℕ) → AreKnown names entries → text_in names (length entries) ≡ Some name → added ≡ known_in_quotes name
     → AreKnown names (entries ++ added ∷ [])
 known_more names entries added name are at is = λ number known there. known_by_place names entries added name number known are at is (at_end entries added known number there)
+
+pub known_found : (old new : Texts) (entries : List KnownName) (number : ℕ) (known : KnownName) (name : List ℕ) → KeepsTexts old new → AreKnown old entries → text_in new number ≡ Some name
+    → slice_get entries number ≡ Some known → known ≡ known_in_quotes name
+known_found old new entries number known name keeps are at is = known_at new entries number known name (known_kept old new entries keeps are) at is
+
+pub known_pushed : (old new : Texts) (entries now : List KnownName) (added : KnownName) (name : List ℕ) (number : ℕ) → KeepsTexts old new → AreKnown old entries → text_in new number ≡ Some name
+    → number ≡ length entries → added ≡ known_in_quotes name → now ≡ entries ++ added ∷ [] → AreKnown new now
+known_pushed old new entries now added name number keeps are at last is made =
+    subst (AreKnown new) (sym made) (known_more new entries added name (known_kept old new entries keeps are) (ap (text_in new) (sym last) ∙ at) is)
