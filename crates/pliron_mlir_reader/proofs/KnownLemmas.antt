@@ -1,5 +1,5 @@
 -- What is known of names, as their table grows.
-use Rattle.std.proofs.Common.{◌≡◌, ℕ, zero, suc, List, [], ◌∷◌, ◌++◌, length, Option, Some, None, refl, sym, ap, subst, ◌∙◌, inl, inr, arith}
+use Rattle.std.proofs.Common.{◌≡◌, Bool, true, false, if◌then◌else◌, ℕ, zero, suc, List, [], ◌∷◌, ◌++◌, length, Option, Some, None, refl, sym, ap, subst, ◌∙◌, inl, inr, arith}
 use Rattle.std.specs.Prelude.{◌⊎◌, slice_get, option_map}
 use Rattle.std.proofs.lemmas.Grind.{common_steps}
 use Rattle.std.proofs.lemmas.Option.{same_Some}
@@ -49,7 +49,13 @@ pub known_found : (old new : Texts) (entries : List KnownName) (number : ℕ) (k
     → slice_get entries number ≡ Some known → known ≡ known_in_quotes name
 known_found old new entries number known name keeps are at is = known_at new entries number known name (known_kept old new entries keeps are) at is
 
-pub known_pushed : (old new : Texts) (entries now : List KnownName) (added : KnownName) (name : List ℕ) (number : ℕ) → KeepsTexts old new → AreKnown old entries → text_in new number ≡ Some name
-    → number ≡ length entries → added ≡ known_in_quotes name → now ≡ entries ++ added ∷ [] → AreKnown new now
-known_pushed old new entries now added name number keeps are at last is made =
-    subst (AreKnown new) (sym made) (known_more new entries added name (known_kept old new entries keeps are) (ap (text_in new) (sym last) ∙ at) is)
+known_if : (names : Texts) (entries more : List KnownName) (pushed : Bool) → AreKnown names entries → AreKnown names more → AreKnown names (if pushed then more else entries)
+known_if names entries more true are known = known
+known_if names entries more false are known = are
+
+pub known_pushed : (old new : Texts) (entries now : List KnownName) (added : KnownName) (name : List ℕ) (number : ℕ) (pushed : Bool) → KeepsTexts old new → AreKnown old entries
+    → text_in new number ≡ Some name → number ≡ length entries → added ≡ known_in_quotes name → now ≡ (if pushed then entries ++ added ∷ [] else entries) → AreKnown new now
+known_pushed old new entries now added name number pushed keeps are at last is made =
+    let still = known_kept old new entries keeps are in
+    let more = known_more new entries added name still (ap (text_in new) (sym last) ∙ at) is in
+    subst (AreKnown new) (sym made) (known_if new entries (entries ++ added ∷ []) pushed still more)

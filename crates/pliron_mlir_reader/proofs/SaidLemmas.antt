@@ -1,5 +1,5 @@
 -- The entries of a list one after the other, and sums that are too large.
-use Rattle.std.proofs.Common.{◌≡◌, ℕ, zero, suc, ◌+◌, ◌^◌, ◌<◌, ◌≤◌, Bool, true, false, ◌&&◌, nat_eq, List, [], ◌∷◌, length, map, get_or, take, drop, sum, Some, None, Result, Ok, Err, IfOk, refl, sym, ap, ◌∙◌, add-one, drop-cons, arith, codes, bytes_eq}
+use Rattle.std.proofs.Common.{◌≡◌, ℕ, zero, suc, ◌+◌, ◌^◌, ◌<◌, ◌≤◌, Bool, true, false, ◌&&◌, nat_eq, List, [], ◌∷◌, length, map, get_or, take, drop, sum, if◌then◌else◌, Some, None, Result, Ok, Err, IfOk, refl, sym, ap, ◌∙◌, add-one, drop-cons, arith, codes, bytes_eq}
 use Rattle.std.specs.List.{starts_with}
 use Rattle.std.proofs.lemmas.Bool.Decides.{nat_tests}
 use Rattle.std.proofs.lemmas.List.Sums.{sum_by_more, sum_by-take-le}
@@ -78,13 +78,21 @@ switch_forks sheet s said forms (Ok head) none is = rw none is
 switch_forks sheet s said forms (Err fault) none is = is
 
 -- the entries that are kept, one after the other
+first_left_out : (cursor : Cursor) (text : List ℕ) (entry : Entry) (entries : List Entry) → counts_edges (without_quotes (bytes_in cursor entry.name)) ≡ true
+    → without_counts cursor text (entry ∷ entries) ≡ without_counts cursor text entries
+first_left_out cursor text entry entries is = ap (λ b. without_counts cursor (if b then text else entry_behind cursor text entry) entries) is
+
+first_kept : (cursor : Cursor) (text : List ℕ) (entry : Entry) (entries : List Entry) → counts_edges (without_quotes (bytes_in cursor entry.name)) ≡ false
+    → without_counts cursor text (entry ∷ entries) ≡ without_counts cursor (entry_behind cursor text entry) entries
+first_kept cursor text entry entries is = ap (λ b. without_counts cursor (if b then text else entry_behind cursor text entry) entries) is
+
 pub entry_left_out : (cursor : Cursor) (text : List ℕ) (entries : List Entry) (i : ℕ) (d : Entry) → i < length entries → counts_edges (without_quotes (bytes_in cursor (get_or entries i d).name)) ≡ true
     → without_counts cursor text (drop i entries) ≡ without_counts cursor text (drop (i + 1) entries)
-entry_left_out cursor text entries i d h is = rw (add-one, drop-cons entries i d h, is)
+entry_left_out cursor text entries i d h is = rw (add-one, drop-cons entries i d h) (first_left_out cursor text (get_or entries i d) (drop (suc i) entries) is)
 
 pub entry_kept : (cursor : Cursor) (text : List ℕ) (entries : List Entry) (i : ℕ) (d : Entry) → i < length entries → counts_edges (without_quotes (bytes_in cursor (get_or entries i d).name)) ≡ false
     → without_counts cursor text (drop i entries) ≡ without_counts cursor (entry_behind cursor text (get_or entries i d)) (drop (i + 1) entries)
-entry_kept cursor text entries i d h is = rw (add-one, drop-cons entries i d h, is)
+entry_kept cursor text entries i d h is = rw (add-one, drop-cons entries i d h) (first_kept cursor text (get_or entries i d) (drop (suc i) entries) is)
 
 pub entries_done : (cursor : Cursor) (text : List ℕ) (entries : List Entry) (i : ℕ) → length entries ≤ i → without_counts cursor text (drop i entries) ≡ text
 entries_done cursor text entries i h = rw (drop_all entries i h)

@@ -65,12 +65,17 @@ without_counts cursor text [] = text
 without_counts cursor text (entry ∷ entries) =
     without_counts cursor (if counts_edges (without_quotes (bytes_in cursor entry.name)) then text else entry_behind cursor text entry) entries
 
+-- the form with these texts in its lists
+abbrev pub with_lists : WrittenForm → (properties attributes : List ℕ) → WrittenForm
+with_lists written properties attributes = record written {
+  properties = option_map (λ before. properties) written.properties;
+  attributes = option_map (λ before. attributes) written.attributes;
+}
+
 -- a branch counts the operands of its edges in its head
 abbrev pub branch_form_written : Reader → Pending → Tail → WrittenForm
-branch_form_written reader pending tail = record (form_written reader pending tail) {
-  properties = option_map (λ span. without_counts reader.cursor [] reader.properties.items) pending.properties;
-  attributes = option_map (λ span. without_counts reader.cursor [] reader.attributes.items) tail.attributes;
-}
+branch_form_written reader pending tail =
+    with_lists (form_written reader pending tail) (without_counts reader.cursor [] reader.properties.items) (without_counts reader.cursor [] reader.attributes.items)
 
 abbrev pub forms_of : Reader → Pending → Tail → Forms
 forms_of reader pending tail = record { form = form_written reader pending tail; branch_form = branch_form_written reader pending tail }

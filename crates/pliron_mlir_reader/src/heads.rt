@@ -7,7 +7,7 @@ ghost use Rattle.pliron_mlir_syntax.specs.Numbers.{without_blanks, is_comma, typ
 ghost use Rattle.pliron_mlir_reader.specs.Taken.{class_taken as class_taken_of, HasClass};
 ghost use Rattle.pliron_mlir_syntax.specs.Sheets.{IsFormOf, KeepsNumbers, texts_written, option_now};
 ghost use Rattle.pliron_mlir_syntax.specs.Spans.{bytes_in};
-ghost use Rattle.pliron_mlir_reader.specs.SaidOf.{said_of, value_text as value_text_of, entry_text, form_written, branch_form_written, forms_of, entry_behind, without_counts as without_counts_of};
+ghost use Rattle.pliron_mlir_reader.specs.SaidOf.{said_of, value_text as value_text_of, entry_text, form_written, with_lists as with_lists_of, branch_form_written, forms_of, entry_behind, without_counts as without_counts_of};
 ghost use Rattle.pliron_mlir_reader.specs.Said.{counts_edges as counts_edges_of, value_in as value_named, value_of as value_of_said, lists_word as lists_word_in};
 ghost use Rattle.pliron_mlir_reader.specs.Said.{overflow_listed as overflow_listed_in, overflow_numbered as overflow_numbered_by, overflow_said as overflow_said_in, entries_in, flags_said, predicate_in, value_bits as value_bits_said};
 ghost use Rattle.pliron_mlir_reader.specs.Said.{counts_in, cases_spread, counts_said, fits as fits_in, fitting, cases_said};
@@ -74,12 +74,31 @@ fn is_long(texts: &FormTexts) -> bool
 }
 
 // The text, where there is a list in whose place it stands.
-fn in_place_of(list: Option<Span>, text: &[u8]) -> Option<&[u8]>
-    ensures { option_now result ≡ option_map (λ span. text.now) list }
+fn in_place_of<'t>(list: Option<&[u8]>, text: &'t [u8]) -> Option<&'t [u8]>
+    ensures { option_now result ≡ option_map (λ before. text.now) (option_now list) }
 {
     match list {
         Some(_) => Some(text),
         None => None,
+    }
+}
+
+// The form with these texts in its lists.
+fn with_lists<'a, 't: 'a>(
+    texts: &FormTexts<'t>,
+    properties: &'a [u8],
+    attributes: &'a [u8],
+) -> FormTexts<'a>
+    ensures { texts_written result ≡ with_lists_of (texts_written texts.now) properties.now attributes.now }
+{
+    let properties = in_place_of(texts.properties, properties);
+    let attributes = in_place_of(texts.attributes, attributes);
+    FormTexts {
+        name: texts.name,
+        properties,
+        attributes,
+        results: texts.results,
+        location: texts.location,
     }
 }
 
@@ -458,16 +477,9 @@ impl<'t> Reader<'t> {
             IsFormOf self.new.sheet form (branch_form_written self.old pending.now tail.now)) }
         ensures kept { KeepsNumbers self.old.sheet self.new.sheet }
     {
+        let written = self.form_texts(pending, tail);
         let (properties, attributes) = self.lists_without_counts()?;
-        let properties = in_place_of(pending.properties, &properties);
-        let attributes = in_place_of(tail.attributes, &attributes);
-        let texts = FormTexts {
-            name: pending.name,
-            properties,
-            attributes,
-            results: self.cursor.bytes(tail.results),
-            location: tail.location,
-        };
+        let texts = with_lists(&written, &properties, &attributes);
         Ok(self.sheet.number_of_texts(&texts)?)
     }
 

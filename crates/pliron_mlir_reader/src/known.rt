@@ -59,7 +59,6 @@ impl KnownNames {
     }
 
     /// What is known of this name, which has its quotes. Errors: allocation failure. Cost: its length.
-    #[tactic(auto, using(crate::proofs::KnownLemmas::known_kept, crate::proofs::KnownLemmas::known_found, crate::proofs::KnownLemmas::known_pushed))]
     pub fn get(&mut self, name: &[u8]) -> Result<KnownName, Fault>
         ensures { IfOk result (λ known. known ≡ known_in_quotes name.now) }
     {
