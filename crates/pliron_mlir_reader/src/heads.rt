@@ -75,7 +75,7 @@ fn is_long(texts: &FormTexts) -> bool
 
 // The text, where there is a list in whose place it stands.
 fn in_place_of<'t>(list: Option<&[u8]>, text: &'t [u8]) -> Option<&'t [u8]>
-    ensures { option_now result ≡ option_map (λ before. text.now) (option_now list) }
+    ensures { option_now result ≡ option_map (λ before. text.now) (option_now list.entry) }
 {
     match list {
         Some(_) => Some(text),
@@ -484,7 +484,6 @@ impl<'t> Reader<'t> {
     }
 
     // The head of a constant that says its form.
-    #[tactic(auto, using(pliron_mlir_syntax::proofs::SheetLemmas::form_kept))]
     fn datum_constant(&mut self, pending: &Pending<'t>, tail: &Tail) -> Result<Head, Fault>
         ensures same { IfOk result (λ head.
             IsDatumHead self.new.sheet (form_written self.old pending.now tail.now) head) }
@@ -622,7 +621,6 @@ impl<'t> Reader<'t> {
 
     /// The same, with the proof that some operation of a text is taken for one with this head. Asks for the widths of
     /// its first operand's type and of its result's. Errors: as `finish`. Cost: linear in its text.
-    #[tactic(auto, using(crate::proofs::TakenLemmas::taken_by_text))]
     pub fn taken_head(&mut self, pending: &Pending<'t>, tail: &Tail) -> Result<TakenHead, Fault>
         requires from { tail.now.shape.from ≡ width_written (said_of self.old).operand }
         requires to { tail.now.shape.to ≡ width_written (said_of self.old).result }

@@ -297,7 +297,6 @@ impl<'t> Reader<'t> {
     }
 
     // The head of an operation that is kept as this text.
-    #[tactic(auto, using(crate::proofs::TakenLemmas::taken_as_kept))]
     fn kept_head(&mut self, text: &[u8]) -> Result<TakenHead, Fault>
         ensures { IfOk result (λ taken. IsKeptAs self.new.sheet text.now taken.head) }
     {

@@ -5,10 +5,10 @@ use Rattle.pliron_mlir_reader.proofs.KnownLemmas.{known_kept, known_found, known
 use Rattle.pliron_mlir_reader.proofs.known.KnownNames.get.Goals as goal
 
 pub invariant_of-self : goal.invariant_of-self
-invariant_of-self c = record { known_so = known_kept _ _ _ c.number.ensures.kept c.args.self.now.known_so }
+invariant_of-self c = record { known_so = known_kept c.args.self.now.names c.number.new.self c.args.self.now.known.items c.number.ensures.kept c.args.self.now.known_so }
 
 pub invariant_of-self-in-Some : goal.invariant_of-self-in-Some
-invariant_of-self-in-Some c = record { known_so = known_kept _ _ _ c.number.ensures.kept c.args.self.now.known_so }
+invariant_of-self-in-Some c = record { known_so = known_kept c.args.self.now.names c.number.new.self c.args.self.now.known.items c.number.ensures.kept c.args.self.now.known_so }
 
 pub returns-in-Some : goal.returns-in-Some
 returns-in-Some c =
@@ -25,4 +25,4 @@ invariant_of-self-then-number-len c =
     record { known_so = known_pushed s.names c.number.new.self s.known.items c.push.new.self.items c.look_up-found.result c.args.name.now c.in_ok-number.number _ c.number.ensures.kept s.known_so c.in_ok-number.ensures.numbered last added c.push.ensures.items }
 
 pub invariant_of-self-else-number-len : goal.invariant_of-self-else-number-len
-invariant_of-self-else-number-len c = record { known_so = known_kept _ _ _ c.number.ensures.kept c.args.self.now.known_so }
+invariant_of-self-else-number-len c = record { known_so = known_kept c.args.self.now.names c.number.new.self c.args.self.now.known.items c.number.ensures.kept c.args.self.now.known_so }
