@@ -17,13 +17,13 @@ use crate::known::without_quotes;
 use crate::owned::OwnedProperty;
 use crate::reader::{Entry, Pending, Reader};
 use crate::taken::{
-    Entries, Overflow, Shape, bits_owned, branch_taken, class_taken, flags_owned, head_taken,
-    number_head, predicate_said, spread,
+    Entries, Overflow, Shape, bits_owned, branch_taken, class_taken, datum_head, flags_owned,
+    head_taken, number_head, predicate_said, spread,
 };
 use crate::taken_head::TakenHead;
 use pliron_bits::{Flags, Predicate};
 use pliron_core::Head;
-use pliron_mlir::{Class, constant_head, other_constant, plain_head, switch_head};
+use pliron_mlir::{Class, plain_head, switch_head};
 use pliron_mlir_syntax::{
     Expected, Fault, FormTexts, SignedNumber, Span, array_of, bits_of, dense_of, trim_blanks,
     typed_number_of, width_of_type,
@@ -493,8 +493,8 @@ impl<'t> Reader<'t> {
         let mut texts = self.form_texts(pending, tail);
         let form = self.sheet.number_of_texts(&texts)?;
         texts.location = None;
-        let datum = other_constant(self.sheet.number_of_texts(&texts)?);
-        Ok(constant_head(self.alloc, datum, form)?)
+        let datum = self.sheet.number_of_texts(&texts)?;
+        Ok(datum_head(self.alloc, datum, form)?)
     }
 
     // The head of a constant that is no integer of a width. That of a long one doesn't say that it is a constant.
