@@ -1,2 +1,3 @@
 pub mod SaidLemmas
 pub mod TakenLemmas
+pub mod KnownLemmas

@@ -1,5 +1,5 @@
 -- The entries of a list one after the other, and sums that are too large.
-use Rattle.std.proofs.Common.{◌≡◌, ℕ, zero, suc, ◌+◌, ◌^◌, ◌<◌, ◌≤◌, Bool, true, false, ◌&&◌, nat_eq, List, [], ◌∷◌, length, map, get_or, take, drop, sum, Some, None, Result, Ok, Err, IfOk, refl, sym, ap, ◌∙◌, add-one, drop-cons, arith, codes, bytes_eq}
+use Rattle.std.proofs.Common.{◌≡◌, ℕ, zero, suc, ◌+◌, ◌^◌, ◌<◌, ◌≤◌, Bool, true, false, ◌&&◌, nat_eq, List, [], ◌∷◌, length, map, get_or, take, drop, sum, if◌then◌else◌, Some, None, Result, Ok, Err, IfOk, refl, sym, ap, ◌∙◌, add-one, drop-cons, arith, codes, bytes_eq}
 use Rattle.std.specs.List.{starts_with}
 use Rattle.std.proofs.lemmas.Bool.Decides.{nat_tests}
 use Rattle.std.proofs.lemmas.List.Sums.{sum_by_more, sum_by-take-le}
@@ -15,9 +15,10 @@ use Rattle.pliron_mlir.specs.Heads.{plain_head}
 use Rattle.pliron_mlir.specs.declared.kind.Class.TheVariants.{Fork}
 use Rattle.pliron_mlir_syntax.specs.declared.fault.Fault.{Fault}
 use Rattle.pliron_mlir_reader.specs.declared.taken.Shape.{Shape}
-use Rattle.pliron_mlir_reader.specs.Said.{Said, without_quotes, value_in, predicate_in, overflow_said, overflow_listed, counts_said, fits, fitting, cases_said}
-use Rattle.pliron_mlir_reader.specs.TakenHeads.{branch_said, switch_said, IsBranchHead, IsSwitchHead}
-use Rattle.pliron_mlir_reader.specs.SaidOf.{value_text, entry_text}
+use Rattle.pliron_mlir_reader.specs.Said.{Said, without_quotes, counts_edges, value_in, predicate_in, overflow_said, overflow_listed, counts_said, fits, fitting}
+use Rattle.pliron_mlir_syntax.specs.declared.sheet.Sheet.{Sheet}
+use Rattle.pliron_mlir_reader.specs.TakenHeads.{Forms, SaysForm, IsBranchHead, IsSwitchHead}
+use Rattle.pliron_mlir_reader.specs.SaidOf.{value_text, entry_text, entry_behind, without_counts}
 
 pub named_here : (name : List ℕ) (cursor : Cursor) (entries : List Entry) (i : ℕ) (d : Entry) → i < length entries
     → bytes_eq (without_quotes (bytes_in cursor (get_or entries i d).name)) name ≡ true → value_in name (map (entry_text cursor) (drop i entries)) ≡ Some (value_text cursor (get_or entries i d).value)
@@ -66,13 +67,35 @@ fits_never s counts few many =
     rw e (and_false _ _)
 
 -- where the edges take no counts that fit, a branch is a fork
-pub branch_forks : (s : Shape) (said : Said) (r : Result Head Fault) → fitting s (counts_said false said) ≡ None → IfOk r (λ head. (form : ℕ) × (head ≡ plain_head Fork form)) → IfOk r (λ head. IsBranchHead s said head)
-branch_forks s said (Ok head) none is = (is.0, is.1 ∙ ap (λ counts. branch_said counts is.0) (sym none))
-branch_forks s said (Err fault) none is = is
+pub branch_forks : (sheet : Sheet) (s : Shape) (said : Said) (forms : Forms) (r : Result Head Fault) → fitting s (counts_said false said) ≡ None → IfOk r (λ head. SaysForm sheet forms.form (plain_head Fork) head)
+    → IfOk r (λ head. IsBranchHead sheet s said forms head)
+branch_forks sheet s said forms (Ok head) none is = rw none is
+branch_forks sheet s said forms (Err fault) none is = is
 
-pub switch_forks : (s : Shape) (said : Said) (r : Result Head Fault) → fitting s (counts_said true said) ≡ None → IfOk r (λ head. (form : ℕ) × (head ≡ plain_head Fork form)) → IfOk r (λ head. IsSwitchHead s said head)
-switch_forks s said (Ok head) none is = (is.0, is.1 ∙ ap (λ counts. switch_said counts (cases_said s said) is.0) (sym none))
-switch_forks s said (Err fault) none is = is
+pub switch_forks : (sheet : Sheet) (s : Shape) (said : Said) (forms : Forms) (r : Result Head Fault) → fitting s (counts_said true said) ≡ None → IfOk r (λ head. SaysForm sheet forms.form (plain_head Fork) head)
+    → IfOk r (λ head. IsSwitchHead sheet s said forms head)
+switch_forks sheet s said forms (Ok head) none is = rw none is
+switch_forks sheet s said forms (Err fault) none is = is
+
+-- the entries that are kept, one after the other
+first_left_out : (cursor : Cursor) (text : List ℕ) (entry : Entry) (entries : List Entry) → counts_edges (without_quotes (bytes_in cursor entry.name)) ≡ true
+    → without_counts cursor text (entry ∷ entries) ≡ without_counts cursor text entries
+first_left_out cursor text entry entries is = ap (λ b. without_counts cursor (if b then text else entry_behind cursor text entry) entries) is
+
+first_kept : (cursor : Cursor) (text : List ℕ) (entry : Entry) (entries : List Entry) → counts_edges (without_quotes (bytes_in cursor entry.name)) ≡ false
+    → without_counts cursor text (entry ∷ entries) ≡ without_counts cursor (entry_behind cursor text entry) entries
+first_kept cursor text entry entries is = ap (λ b. without_counts cursor (if b then text else entry_behind cursor text entry) entries) is
+
+pub entry_left_out : (cursor : Cursor) (text : List ℕ) (entries : List Entry) (i : ℕ) (d : Entry) → i < length entries → counts_edges (without_quotes (bytes_in cursor (get_or entries i d).name)) ≡ true
+    → without_counts cursor text (drop i entries) ≡ without_counts cursor text (drop (i + 1) entries)
+entry_left_out cursor text entries i d h is = rw (add-one, drop-cons entries i d h) (first_left_out cursor text (get_or entries i d) (drop (suc i) entries) is)
+
+pub entry_kept : (cursor : Cursor) (text : List ℕ) (entries : List Entry) (i : ℕ) (d : Entry) → i < length entries → counts_edges (without_quotes (bytes_in cursor (get_or entries i d).name)) ≡ false
+    → without_counts cursor text (drop i entries) ≡ without_counts cursor (entry_behind cursor text (get_or entries i d)) (drop (i + 1) entries)
+entry_kept cursor text entries i d h is = rw (add-one, drop-cons entries i d h) (first_kept cursor text (get_or entries i d) (drop (suc i) entries) is)
+
+pub entries_done : (cursor : Cursor) (text : List ℕ) (entries : List Entry) (i : ℕ) → length entries ≤ i → without_counts cursor text (drop i entries) ≡ text
+entries_done cursor text entries i h = rw (drop_all entries i h)
 
 pub listed_llvm : (text : List ℕ) → starts_with nat_eq text (codes "#llvm.overflow<") ≡ true → overflow_said text ≡ overflow_listed (codes "#llvm.overflow<") text
 listed_llvm text begins = rw begins

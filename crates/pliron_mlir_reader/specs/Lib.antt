@@ -1,6 +1,7 @@
 pub mod Classes
 pub mod Taken
 pub mod Owners
+pub mod Known
 pub mod Said
 pub mod SaidOf
 pub mod TakenHeads

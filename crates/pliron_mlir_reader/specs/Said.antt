@@ -1,5 +1,5 @@
 -- What the text of an operation says of what its head depends on.
-use Rattle.std.specs.Prelude.{◌+◌, ◌-◌, ◌/◌, ◌%◌, ◌&&◌, ℕ, Bool, false, true, not, nat_eq, nat_lt, List, [], ◌∷◌, length, map, sum, Option, Some, None, option_map, option_and_then, unwrap_or, is_some, if◌then◌else◌, codes, bytes_eq}
+use Rattle.std.specs.Prelude.{◌+◌, ◌-◌, ◌/◌, ◌%◌, ◌&&◌, ◌||◌, ℕ, Bool, false, true, not, nat_eq, nat_lt, List, [], ◌∷◌, length, map, sum, Option, Some, None, option_map, option_and_then, unwrap_or, is_some, if◌then◌else◌, codes, bytes_eq}
 use Rattle.std.specs.List.{slice_split, list_any, starts_with}
 use Rattle.pliron_bits.specs.declared.flags.Flags.{Flags}
 use Rattle.pliron_bits.specs.declared.operators.Predicate.{Predicate}
@@ -12,11 +12,12 @@ use Rattle.pliron_mlir_reader.specs.declared.taken.Shape.{Shape}
 use Rattle.pliron_mlir_reader.specs.declared.taken.Overflow.{Overflow}
 use Rattle.pliron_mlir_reader.specs.declared.taken.Entries.{Entries}
 
--- the names and values of its property list and its attribute dictionary, a value empty where it has none, and the type
--- of its first result, empty where it has none
+-- the names and values of its property list and its attribute dictionary, a value empty where it has none, and the types
+-- of its first operand and of its first result, empty where it has none
 pub record Said : Type 0 where
   pub properties : List (List ℕ × List ℕ)
   pub attributes : List (List ℕ × List ℕ)
+  pub operand : List ℕ
   pub result : List ℕ
 
 -- ---- entries
@@ -92,6 +93,10 @@ abbrev pub value_bits : (width : ℕ) → Said → Option ℕ
 value_bits width said = option_and_then (bits_typed width said.result) (option_and_then typed_written (value_of (codes "value") said))
 
 -- ---- edges
+
+-- the name of an entry that says how many operands each edge has
+abbrev pub counts_edges : List ℕ → Bool
+counts_edges name = bytes_eq name (codes "operandSegmentSizes") || bytes_eq name (codes "case_operand_segments")
 
 abbrev pub counts_in : (name : List ℕ) → Said → Option (List ℕ)
 counts_in name said = counts_written (unwrap_or (value_of name said) [])

@@ -1,28 +1,31 @@
 //! The head of an operation: its class, what the class reads of it, and its form.
-ghost use Rattle.std.specs.Prelude.{◌≡◌, ◌≤◌, ◌<◌, ◌^◌, ℕ, List, [], true, false, None, Some, length, map, sum, set, codes, bytes_eq, unwrap_or, option_and_then, IfOk, MatchOption, SomeIff};
+ghost use Rattle.std.specs.Prelude.{◌≡◌, ◌≤◌, ◌<◌, ◌^◌, ℕ, List, [], true, false, None, Some, length, map, sum, set, codes, bytes_eq, unwrap_or, option_map, option_and_then, IfOk, OnOk, MatchOption, SomeIff};
 ghost use Rattle.std.specs.List.{slice_split, list_any};
 ghost use Rattle.pliron_mlir.specs.Heads.{plain_head as plain_head_of};
 ghost use Rattle.pliron_mlir.specs.declared.kind.Class.TheVariants.{Constant, Branch, Switch, Fork};
 ghost use Rattle.pliron_mlir_syntax.specs.Numbers.{without_blanks, is_comma, typed_written, width_written};
 ghost use Rattle.pliron_mlir_reader.specs.Taken.{class_taken as class_taken_of, HasClass};
-ghost use Rattle.pliron_mlir_reader.specs.SaidOf.{said_of, value_text as value_text_of, entry_text};
-ghost use Rattle.pliron_mlir_reader.specs.Said.{without_quotes as without_quotes_of, value_in as value_named, value_of as value_of_said, lists_word as lists_word_in};
+ghost use Rattle.pliron_mlir_syntax.specs.Sheets.{IsFormOf, KeepsNumbers, texts_written, option_now};
+ghost use Rattle.pliron_mlir_syntax.specs.Spans.{bytes_in};
+ghost use Rattle.pliron_mlir_reader.specs.SaidOf.{said_of, value_text as value_text_of, entry_text, form_written, with_lists as with_lists_of, branch_form_written, forms_of, entry_behind, without_counts as without_counts_of};
+ghost use Rattle.pliron_mlir_reader.specs.Said.{counts_edges as counts_edges_of, value_in as value_named, value_of as value_of_said, lists_word as lists_word_in};
 ghost use Rattle.pliron_mlir_reader.specs.Said.{overflow_listed as overflow_listed_in, overflow_numbered as overflow_numbered_by, overflow_said as overflow_said_in, entries_in, flags_said, predicate_in, value_bits as value_bits_said};
 ghost use Rattle.pliron_mlir_reader.specs.Said.{counts_in, cases_spread, counts_said, fits as fits_in, fitting, cases_said};
-ghost use Rattle.pliron_mlir_reader.specs.TakenHeads.{IsConstantHead, IsOtherConstant, IsBranchHead, IsSwitchHead, IsOtherHead, IsTakenFor};
+ghost use Rattle.pliron_mlir_reader.specs.TakenHeads.{SaysForm, is_long as is_long_of, IsConstantHead, IsDatumHead, IsOtherConstant, IsBranchHead, IsSwitchHead, IsOtherHead, IsTakenFor};
 
+use crate::known::without_quotes;
 use crate::owned::OwnedProperty;
 use crate::reader::{Entry, Pending, Reader};
 use crate::taken::{
-    Entries, Overflow, Shape, bits_owned, branch_taken, class_taken, flags_owned, head_taken,
-    number_head, predicate_said, spread,
+    Entries, Overflow, Shape, bits_owned, branch_taken, class_taken, datum_head, flags_owned,
+    head_taken, number_head, predicate_said, spread,
 };
 use crate::taken_head::TakenHead;
 use pliron_bits::{Flags, Predicate};
 use pliron_core::Head;
-use pliron_mlir::{Class, constant_head, other_constant, plain_head, switch_head};
+use pliron_mlir::{Class, plain_head, switch_head};
 use pliron_mlir_syntax::{
-    Expected, Fault, Form, SignedNumber, Span, array_of, bits_of, dense_of, trim_blanks,
+    Expected, Fault, FormTexts, SignedNumber, Span, array_of, bits_of, dense_of, trim_blanks,
     typed_number_of, width_of_type,
 };
 
@@ -53,13 +56,49 @@ pub struct Tail {
     pub shape: Shape,
 }
 
-// The part without quotes.
-fn without_quotes(name: &[u8]) -> &[u8]
-    ensures { result.now ≡ without_quotes_of name.now }
+// Whether the entry with this name, without quotes, counts operands of edges.
+fn counts_edges(name: &[u8]) -> bool
+    ensures { result ≡ counts_edges_of name.now }
 {
-    match name.strip_prefix(b"\"".as_slice()) {
-        Some(rest) => rest.strip_suffix(b"\"".as_slice()).unwrap_or(rest),
-        None => name,
+    name == SEGMENTS[0] || name == SEGMENTS[1]
+}
+
+// Whether the constant with these texts is longer than what passes carry.
+fn is_long(texts: &FormTexts) -> bool
+    ensures { result ≡ is_long_of (texts_written texts.now) }
+{
+    match texts.properties {
+        Some(text) => text.len() > MAX_CONSTANT,
+        None => false,
+    }
+}
+
+// The text, where there is a list in whose place it stands.
+fn in_place_of<'t>(list: Option<&[u8]>, text: &'t [u8]) -> Option<&'t [u8]>
+    ensures { option_now result ≡ option_map (λ before. text.now) (option_now list.entry) }
+{
+    match list {
+        Some(_) => Some(text),
+        None => None,
+    }
+}
+
+// The form with these texts in its lists.
+fn with_lists<'a, 't: 'a>(
+    texts: &FormTexts<'t>,
+    properties: &'a [u8],
+    attributes: &'a [u8],
+) -> FormTexts<'a>
+    ensures { texts_written result ≡ with_lists_of (texts_written texts.now) properties.now attributes.now }
+{
+    let properties = in_place_of(texts.properties, properties);
+    let attributes = in_place_of(texts.attributes, attributes);
+    FormTexts {
+        name: texts.name,
+        properties,
+        attributes,
+        results: texts.results,
+        location: texts.location,
     }
 }
 
@@ -141,7 +180,7 @@ fn fits(counts: &[usize], shape: &Shape) -> bool
     !is_wide && counts.len() == shape.successors && operands > 0 && total == operands - 1
 }
 
-impl Reader<'_> {
+impl<'t> Reader<'t> {
     // The value of the first entry with this name, empty for one without a value.
     #[tactic(auto, using(crate::proofs::SaidLemmas::named_here, crate::proofs::SaidLemmas::named_later, crate::proofs::SaidLemmas::named_never))]
     fn value_in(&self, entries: &[Entry], name: &[u8]) -> Option<&[u8]>
@@ -186,11 +225,12 @@ impl Reader<'_> {
         self.value_of(name).unwrap_or(&[])
     }
 
-    // The type of the operand with this index, empty where there is none.
-    fn operand_type(&self, pending: &Pending, i: usize) -> &[u8] {
-        let at = pending.operands.0.saturating_add(i);
-        match self.syntax.operand_types.get(at) {
-            Some(number) => self.sheet.text(*number),
+    // The type of the first operand, empty where there is none.
+    fn operand_type(&self) -> &[u8]
+        ensures { result.now ≡ (said_of self.now).operand }
+    {
+        match self.operand {
+            Some(span) => self.cursor.bytes(span),
             None => &[],
         }
     }
@@ -211,7 +251,7 @@ impl Reader<'_> {
         ensures results { result.results ≡ length self.now.types.items }
         ensures successors { result.successors ≡ pending.now.successors }
         ensures regions { result.regions ≡ pending.now.regions }
-        ensures from { (operand : List ℕ) × (result.from ≡ width_written operand) }
+        ensures from { result.from ≡ width_written (said_of self.now).operand }
         ensures to { result.to ≡ width_written (said_of self.now).result }
         ensures small { result.to ≤ 65 }
     {
@@ -220,7 +260,7 @@ impl Reader<'_> {
             results: self.types.len(),
             successors: pending.successors,
             regions: pending.regions,
-            from: width_of_type(self.operand_type(pending, 0)),
+            from: width_of_type(self.operand_type()),
             to: width_of_type(self.result_type()),
         }
     }
@@ -358,17 +398,10 @@ impl Reader<'_> {
         Ok((0, Vec::new(self.alloc)))
     }
 
-    // The entry of this index, of the property list or the attribute dictionary.
-    fn entry_at(&self, are_properties: bool, i: usize) -> Option<Entry> {
-        if are_properties {
-            self.properties.get(i).copied()
-        } else {
-            self.attributes.get(i).copied()
-        }
-    }
-
-    // Adds the entry to the others.
-    fn write_entry(&self, entry: Entry, text: &mut Vec<u8>) -> Result<(), Fault> {
+    // Adds the entry to the others. Where memory is refused, some of it.
+    fn write_entry(&self, entry: Entry, text: &mut Vec<u8>) -> Result<(), Fault>
+        ensures { OnOk result (text.new.items ≡ entry_behind self.now.cursor text.old.items entry) }
+    {
         if !text.is_empty() {
             text.extend_from_slice(b", ")?;
         }
@@ -381,111 +414,142 @@ impl Reader<'_> {
     }
 
     // The entries but for those that count operands of edges.
-    fn without_segments(&mut self, are_properties: bool) -> Result<usize, Fault> {
+    #[tactic(auto, using(crate::proofs::SaidLemmas::entry_left_out, crate::proofs::SaidLemmas::entry_kept, crate::proofs::SaidLemmas::entries_done))]
+    fn without_counts(&self, entries: &[Entry]) -> Result<Vec<u8>, Fault>
+        ensures { IfOk result (λ text. text.items ≡ without_counts_of self.now.cursor [] entries.now) }
+    {
         let mut text = Vec::new(self.alloc);
-        for i in 0..self.properties.len().max(self.attributes.len()) {
-            let Some(entry) = self.entry_at(are_properties, i) else {
-                break;
-            };
-            let name = without_quotes(self.cursor.bytes(entry.name));
-            if name != SEGMENTS[0] && name != SEGMENTS[1] {
-                self.write_entry(entry, &mut text)?;
+        for entry in entries {
+            if !counts_edges(without_quotes(self.cursor.bytes(entry.name))) {
+                self.write_entry(*entry, &mut text)?;
             }
         }
-        Ok(self.sheet.number(&text)?)
+        Ok(text)
     }
 
-    // The number of the text inside a property list or an attribute dictionary.
-    fn list(
-        &mut self,
-        span: Option<Span>,
-        is_branch: bool,
-        are_properties: bool,
-    ) -> Result<Option<usize>, Fault> {
+    // The property list and the attribute dictionary without such entries.
+    fn lists_without_counts(&self) -> Result<(Vec<u8>, Vec<u8>), Fault>
+        ensures properties { IfOk result (λ texts.
+            texts.0.items ≡ without_counts_of self.now.cursor [] self.now.properties.items) }
+        ensures attributes { IfOk result (λ texts.
+            texts.1.items ≡ without_counts_of self.now.cursor [] self.now.attributes.items) }
+    {
+        let properties = self.without_counts(&self.properties)?;
+        let attributes = self.without_counts(&self.attributes)?;
+        Ok((properties, attributes))
+    }
+
+    // The text of the span, if there is one.
+    fn list(&self, span: Option<Span>) -> Option<&'t [u8]>
+        ensures { option_now result ≡ option_map (bytes_in self.now.cursor) span }
+    {
         match span {
-            None => Ok(None),
-            Some(_) if is_branch => Ok(Some(self.without_segments(are_properties)?)),
-            Some(span) => Ok(Some(self.sheet.number(self.cursor.bytes(span))?)),
+            Some(span) => Some(self.cursor.bytes(span)),
+            None => None,
         }
     }
 
-    fn form(&mut self, is_branch: bool, pending: &Pending, tail: &Tail) -> Result<Form, Fault> {
-        Ok(Form {
-            name: self.sheet.number(self.cursor.bytes(pending.name))?,
-            properties: self.list(pending.properties, is_branch, true)?,
-            attributes: self.list(tail.attributes, is_branch, false)?,
-            results: self.sheet.number(self.cursor.bytes(tail.results))?,
+    // The form as it is written.
+    fn form_texts(&self, pending: &Pending<'t>, tail: &Tail) -> FormTexts<'t>
+        ensures { texts_written result ≡ form_written self.now pending.now tail.now }
+    {
+        FormTexts {
+            name: pending.name,
+            properties: self.list(pending.properties),
+            attributes: self.list(tail.attributes),
+            results: self.cursor.bytes(tail.results),
             location: tail.location,
-            is_whole: false,
-        })
+        }
     }
 
-    fn form_number(
-        &mut self,
-        is_branch: bool,
-        pending: &Pending,
-        tail: &Tail,
-    ) -> Result<usize, Fault> {
-        let form = self.form(is_branch, pending, tail)?;
-        Ok(self.sheet.form_number(form)?)
+    // The number of the form.
+    fn form(&mut self, pending: &Pending<'t>, tail: &Tail) -> Result<usize, Fault>
+        ensures numbered { IfOk result (λ form. IsFormOf self.new.sheet form (form_written self.old pending.now tail.now)) }
+        ensures kept { KeepsNumbers self.old.sheet self.new.sheet }
+    {
+        let texts = self.form_texts(pending, tail);
+        Ok(self.sheet.number_of_texts(&texts)?)
+    }
+
+    // The number of the form without the entries that count operands of edges.
+    fn branch_form(&mut self, pending: &Pending<'t>, tail: &Tail) -> Result<usize, Fault>
+        ensures numbered { IfOk result (λ form.
+            IsFormOf self.new.sheet form (branch_form_written self.old pending.now tail.now)) }
+        ensures kept { KeepsNumbers self.old.sheet self.new.sheet }
+    {
+        let written = self.form_texts(pending, tail);
+        let (properties, attributes) = self.lists_without_counts()?;
+        let texts = with_lists(&written, &properties, &attributes);
+        Ok(self.sheet.number_of_texts(&texts)?)
+    }
+
+    // The head of a constant that says its form.
+    fn datum_constant(&mut self, pending: &Pending<'t>, tail: &Tail) -> Result<Head, Fault>
+        ensures same { IfOk result (λ head.
+            IsDatumHead self.new.sheet (form_written self.old pending.now tail.now) head) }
+        ensures kind { IfOk result (λ head. HasClass Constant head) }
+        ensures kept { KeepsNumbers self.old.sheet self.new.sheet }
+    {
+        let mut texts = self.form_texts(pending, tail);
+        let form = self.sheet.number_of_texts(&texts)?;
+        texts.location = None;
+        let datum = self.sheet.number_of_texts(&texts)?;
+        Ok(datum_head(self.alloc, datum, form)?)
     }
 
     // The head of a constant that is no integer of a width. That of a long one doesn't say that it is a constant.
-    fn other_constant(
-        &mut self,
-        form: Form,
-        number_of_form: usize,
-        pending: &Pending,
-    ) -> Result<Head, Fault>
-        ensures same { IfOk result (λ head. IsOtherConstant head) }
+    fn other_constant(&mut self, pending: &Pending<'t>, tail: &Tail) -> Result<Head, Fault>
+        ensures same { IfOk result (λ head.
+            IsOtherConstant self.new.sheet (form_written self.old pending.now tail.now) head) }
         ensures kind { IfOk result (λ head. HasClass Constant head) }
+        ensures kept { KeepsNumbers self.old.sheet self.new.sheet }
     {
-        let length = match pending.properties {
-            Some(span) => span.end.saturating_sub(span.start),
-            None => 0,
-        };
-        if length > MAX_CONSTANT {
-            return Ok(plain_head(self.alloc, Class::Opaque, number_of_form)?);
+        if is_long(&self.form_texts(pending, tail)) {
+            let form = self.form(pending, tail)?;
+            Ok(plain_head(self.alloc, Class::Opaque, form)?)
+        } else {
+            self.datum_constant(pending, tail)
         }
-        let mut unplaced = form;
-        unplaced.location = None;
-        let datum = other_constant(self.sheet.form_number(unplaced)?);
-        Ok(constant_head(self.alloc, datum, number_of_form)?)
     }
 
     // The head of a constant.
-    fn constant(&mut self, pending: &Pending, tail: &Tail) -> Result<Head, Fault>
+    fn constant(&mut self, pending: &Pending<'t>, tail: &Tail) -> Result<Head, Fault>
         requires { tail.now.shape.to ≤ 65 }
-        ensures same { IfOk result (λ head.
-            IsConstantHead pending.now.known.owned tail.now.shape.to (said_of self.old) head) }
+        ensures same { IfOk result (λ head. IsConstantHead self.new.sheet pending.now.known.owned tail.now.shape.to
+            (said_of self.old) (form_written self.old pending.now tail.now) head) }
         ensures kind { IfOk result (λ head. HasClass Constant head) }
+        ensures kept { KeepsNumbers self.old.sheet self.new.sheet }
     {
         let width = tail.shape.to;
-        let bits = bits_owned(pending.known.owned, width, self.value_bits(width));
-        let form = self.form(false, pending, tail)?;
-        let number_of_form = self.sheet.form_number(form)?;
-        match bits {
-            Some(bits) => Ok(number_head(self.alloc, width, bits, number_of_form)?),
-            None => self.other_constant(form, number_of_form, pending),
+        match bits_owned(pending.known.owned, width, self.value_bits(width)) {
+            Some(bits) => {
+                let form = self.form(pending, tail)?;
+                Ok(number_head(self.alloc, width, bits, form)?)
+            }
+            None => self.other_constant(pending, tail),
         }
     }
 
     // The head of a terminator of which nothing is known.
-    fn fork(&mut self, pending: &Pending, tail: &Tail) -> Result<Head, Fault>
-        ensures { IfOk result (λ head. (form : ℕ) × (head ≡ plain_head_of Fork form)) }
+    fn fork(&mut self, pending: &Pending<'t>, tail: &Tail) -> Result<Head, Fault>
+        ensures same { IfOk result (λ head.
+            SaysForm self.new.sheet (form_written self.old pending.now tail.now) (plain_head_of Fork) head) }
+        ensures kept { KeepsNumbers self.old.sheet self.new.sheet }
     {
-        let form = self.form_number(false, pending, tail)?;
+        let form = self.form(pending, tail)?;
         Ok(plain_head(self.alloc, Class::Fork, form)?)
     }
 
     // The head of a branch.
-    fn branch(&mut self, pending: &Pending, tail: &Tail) -> Result<Head, Fault>
-        ensures same { IfOk result (λ head. IsBranchHead tail.now.shape (said_of self.old) head) }
+    fn branch(&mut self, pending: &Pending<'t>, tail: &Tail) -> Result<Head, Fault>
+        ensures same { IfOk result (λ head. IsBranchHead self.new.sheet tail.now.shape (said_of self.old)
+            (forms_of self.old pending.now tail.now) head) }
         ensures kind { IfOk result (λ head. HasClass Branch head) }
+        ensures kept { KeepsNumbers self.old.sheet self.new.sheet }
     {
         match self.counts(false, &tail.shape)? {
             Some(counts) => {
-                let form = self.form_number(true, pending, tail)?;
+                let form = self.branch_form(pending, tail)?;
                 Ok(branch_taken(self.alloc, &counts, form)?)
             }
             None => self.fork(pending, tail),
@@ -493,14 +557,16 @@ impl Reader<'_> {
     }
 
     // The head of a switch.
-    fn switch(&mut self, pending: &Pending, tail: &Tail) -> Result<Head, Fault>
-        ensures same { IfOk result (λ head. IsSwitchHead tail.now.shape (said_of self.old) head) }
+    fn switch(&mut self, pending: &Pending<'t>, tail: &Tail) -> Result<Head, Fault>
+        ensures same { IfOk result (λ head. IsSwitchHead self.new.sheet tail.now.shape (said_of self.old)
+            (forms_of self.old pending.now tail.now) head) }
         ensures kind { IfOk result (λ head. HasClass Switch head) }
+        ensures kept { KeepsNumbers self.old.sheet self.new.sheet }
     {
         match self.counts(true, &tail.shape)? {
             Some(counts) => {
                 let (width, cases) = self.cases(&tail.shape)?;
-                let form = self.form_number(true, pending, tail)?;
+                let form = self.branch_form(pending, tail)?;
                 Ok(switch_head(self.alloc, &counts, width, &cases, form)?)
             }
             None => self.fork(pending, tail),
@@ -508,20 +574,23 @@ impl Reader<'_> {
     }
 
     // The head of an operation of the class, which isn't a constant, a branch or a switch.
-    fn head(&mut self, class: Class, pending: &Pending, tail: &Tail) -> Result<Head, Fault>
-        ensures same { IfOk result (λ head.
-            IsOtherHead class pending.now.known.owned tail.now.shape (said_of self.old) head) }
+    fn head(&mut self, class: Class, pending: &Pending<'t>, tail: &Tail) -> Result<Head, Fault>
+        ensures same { IfOk result (λ head. IsOtherHead self.new.sheet class pending.now.known.owned tail.now.shape
+            (said_of self.old) (form_written self.old pending.now tail.now) head) }
         ensures kind { IfOk result (λ head. HasClass class head) }
+        ensures kept { KeepsNumbers self.old.sheet self.new.sheet }
     {
         let flags = self.flags(pending.known.owned);
         let predicate = self.predicate(pending.known.owned);
-        let form = self.form_number(false, pending, tail)?;
+        let form = self.form(pending, tail)?;
         Ok(head_taken(self.alloc, class, &tail.shape, flags, predicate, form)?)
     }
 
     // Refuses a terminator that isn't known and has regions: none of the classes visits these. The function around is
     // kept as it is written, if the text is read so.
-    fn serve(&self, class: Class, pending: &Pending) -> Result<(), Fault> {
+    fn serve(&self, class: Class, pending: &Pending) -> Result<(), Fault>
+        ensures { OnOk result (class ≡ Fork → pending.now.regions ≡ 0) }
+    {
         if !matches!(class, Class::Fork) || pending.regions == 0 {
             Ok(())
         } else if self.keeps {
@@ -533,11 +602,12 @@ impl Reader<'_> {
 
     /// The head of an operation that is known whole. Asks for a width of its result of at most that of `index`. Errors:
     /// it has successors and regions, and isn't known; allocation failure. Cost: linear in its text.
-    pub fn finish(&mut self, pending: &Pending, tail: &Tail) -> Result<Head, Fault>
+    pub fn finish(&mut self, pending: &Pending<'t>, tail: &Tail) -> Result<Head, Fault>
         requires { tail.now.shape.to ≤ 65 }
-        ensures same { IfOk result (λ head.
-            IsTakenFor pending.now.known.class pending.now.known.owned tail.now.shape (said_of self.old) head) }
+        ensures same { IfOk result (λ head. IsTakenFor self.new.sheet tail.now.shape (said_of self.old)
+            (forms_of self.old pending.now tail.now) head) }
         ensures kind { IfOk result (λ head. HasClass (class_taken_of pending.now.known.class tail.now.shape) head) }
+        ensures kept { KeepsNumbers self.old.sheet self.new.sheet }
     {
         let class = class_taken(pending.known.class, &tail.shape);
         self.serve(class, pending)?;
@@ -551,9 +621,8 @@ impl Reader<'_> {
 
     /// The same, with the proof that some operation of a text is taken for one with this head. Asks for the widths of
     /// its first operand's type and of its result's. Errors: as `finish`. Cost: linear in its text.
-    #[tactic(auto, using(crate::proofs::TakenLemmas::taken_by_name))]
-    pub fn taken_head(&mut self, pending: &Pending, tail: &Tail) -> Result<TakenHead, Fault>
-        requires from { (operand : List ℕ) × (tail.now.shape.from ≡ width_written operand) }
+    pub fn taken_head(&mut self, pending: &Pending<'t>, tail: &Tail) -> Result<TakenHead, Fault>
+        requires from { tail.now.shape.from ≡ width_written (said_of self.old).operand }
         requires to { tail.now.shape.to ≡ width_written (said_of self.old).result }
         requires small { tail.now.shape.to ≤ 65 }
     {

@@ -1,8 +1,7 @@
 //! What is known of operations by their names.
-ghost use Rattle.std.specs.Prelude.{◌≡◌};
-ghost use Rattle.pliron_mlir.specs.Names.{class_named as class_named_in};
-ghost use Rattle.pliron_mlir_reader.specs.Owners.{owned_named};
-ghost use Rattle.pliron_mlir_reader.specs.TakenHeads.{AreNamed};
+ghost use Rattle.std.specs.Prelude.{◌≡◌, IfOk};
+ghost use Rattle.pliron_mlir_reader.specs.Said.{without_quotes as without_quotes_of};
+ghost use Rattle.pliron_mlir_reader.specs.Known.{known_of, known_in_quotes, AreKnown};
 
 use crate::owned::{OwnedProperty, owned_by};
 use pliron_mlir::{Class, class_named};
@@ -17,8 +16,6 @@ pub struct KnownName {
     pub owned: OwnedProperty,
     /// Whether it is a tag of a block, by which other operations name the block.
     pub is_tag: bool,
-    /// The class and what is owned are those of one name.
-    pub ghost named: { ∥ AreNamed class owned ∥₁ },
 }
 
 /// What is known of the names that a text has.
@@ -27,21 +24,22 @@ pub struct KnownNames {
     names: Texts,
     /// By the numbers of names.
     known: Vec<KnownName>,
+    ghost known_so: { AreKnown names known.items },
 }
 
-// The name without its quotes.
-fn inner_name(name: &[u8]) -> &[u8] {
-    match name.split_first() {
-        Some((_, rest)) => rest.strip_suffix(b"\"".as_slice()).unwrap_or(rest),
+/// The part without quotes. Cost: constant.
+pub fn without_quotes(name: &[u8]) -> &[u8]
+    ensures { result.now ≡ without_quotes_of name.now }
+{
+    match name.strip_prefix(b"\"".as_slice()) {
+        Some(rest) => rest.strip_suffix(b"\"".as_slice()).unwrap_or(rest),
         None => name,
     }
 }
 
 // What is known of this name, without quotes.
-#[tactic(auto, using(crate::proofs::TakenLemmas::named_so))]
 fn look_up(name: &[u8]) -> KnownName
-    ensures class { result.class ≡ class_named_in name.now }
-    ensures owned { result.owned ≡ owned_named name.now }
+    ensures { result ≡ known_of name.now }
 {
     KnownName {
         class: class_named(name),
@@ -52,6 +50,7 @@ fn look_up(name: &[u8]) -> KnownName
 
 impl KnownNames {
     /// No names yet. Takes no memory. Cost: constant.
+    #[tactic(auto, using(crate::proofs::KnownLemmas::none_known))]
     pub fn new(alloc: Global) -> Self {
         KnownNames {
             names: Texts::new(alloc),
@@ -60,13 +59,17 @@ impl KnownNames {
     }
 
     /// What is known of this name, which has its quotes. Errors: allocation failure. Cost: its length.
-    pub fn get(&mut self, name: &[u8]) -> Result<KnownName, Fault> {
+    pub fn get(&mut self, name: &[u8]) -> Result<KnownName, Fault>
+        ensures { IfOk result (λ known. known ≡ known_in_quotes name.now) }
+    {
         let number = self.names.number(name)?;
         if let Some(found) = self.known.get(number) {
             return Ok(*found);
         }
-        let found = look_up(inner_name(name));
-        self.known.push(found)?;
+        let found = look_up(without_quotes(name));
+        if number == self.known.len() {
+            self.known.push(found)?;
+        }
         Ok(found)
     }
 }

@@ -1,10 +1,12 @@
 //! Reading an operation.
+ghost use Rattle.std.specs.Prelude.{◌≡◌, [], None, slice_get, if◌then◌else◌, IfOk, OnOk};
+ghost use Rattle.pliron_mlir_reader.specs.TakenHeads.{IsKeptAs};
+
 use crate::heads::Tail;
 use crate::reader::{Entry, Pending, Reader};
 use crate::taken_head::TakenHead;
 use pliron_mlir::{Class, plain_head};
 use pliron_mlir_syntax::{Expected, Fault, Form, MAX_DEPTH, OperationText, Span};
-use std::alloc::Global;
 
 /// How deeply brackets are nested where a function has too many regions in one another.
 const MAX_BRACKETS: usize = 2 * MAX_DEPTH - 8;
@@ -28,13 +30,7 @@ fn may_fork_into_regions(text: &[u8]) -> bool {
         || (is_followed(text, b"]", b"<{") && is_followed(text, b"}>", b"({"))
 }
 
-// The head of an operation that is kept as it is written.
-fn kept_head(alloc: Global, form: usize) -> Result<TakenHead, Fault> {
-    let head = plain_head(alloc, Class::Effect, form)?;
-    Ok(TakenHead { head })
-}
-
-impl Reader<'_> {
+impl<'t> Reader<'t> {
     // The names of the results, up to `=`; how many results there are.
     fn results(&mut self) -> Result<usize, Fault> {
         let mut named = 0usize;
@@ -128,8 +124,10 @@ impl Reader<'_> {
         Ok(())
     }
 
-    // Scans entries up to the closing brace, and answers the text before that.
-    fn entries(&mut self, are_properties: bool) -> Result<Span, Fault> {
+    // Scans entries up to the closing brace, and answers the text before that. Asks that none are there from before.
+    fn entries(&mut self, are_properties: bool) -> Result<Span, Fault>
+        requires { (if are_properties then self.old.properties.items else self.old.attributes.items) ≡ [] }
+    {
         let start = self.cursor.place();
         if self.cursor.accept(b'}') {
             return Ok(Span { start, end: start });
@@ -174,7 +172,10 @@ impl Reader<'_> {
         Ok(())
     }
 
-    fn property_list(&mut self) -> Result<Option<Span>, Fault> {
+    // The text inside the property list of the next operation, if it has one; all entries are those of this list.
+    fn property_list(&mut self) -> Result<Option<Span>, Fault>
+        ensures { IfOk result (λ list. list ≡ None → self.new.properties.items ≡ []) }
+    {
         self.properties.clear();
         if !self.cursor.accept(b'<') {
             return Ok(None);
@@ -196,11 +197,12 @@ impl Reader<'_> {
         };
         self.cursor.skip();
         let start = self.cursor.place();
-        let name = self.cursor.string(Expected::Operation)?;
-        if self.cursor.bytes(name).contains(&b'\\') {
+        let span = self.cursor.string(Expected::Operation)?;
+        let name = self.cursor.bytes(span);
+        if name.contains(&b'\\') {
             return Err(Fault::Expected(start, Expected::Operation));
         }
-        let known = self.names.get(self.cursor.bytes(name))?;
+        let known = self.names.get(name)?;
         if known.is_tag && !self.keeps {
             return Err(Fault::KeptAsText);
         }
@@ -294,12 +296,11 @@ impl Reader<'_> {
         Ok(most)
     }
 
-    // Keeps the operation as it is written.
-    fn keep(&mut self, number: usize, start: usize) -> Result<(), Fault> {
-        self.whole_operation()?;
-        let name = self
-            .sheet
-            .number(self.cursor.bytes(self.cursor.since(start)))?;
+    // The head of an operation that is kept as this text.
+    fn kept_head(&mut self, text: &[u8]) -> Result<TakenHead, Fault>
+        ensures { IfOk result (λ taken. IsKeptAs self.new.sheet text.now taken.head) }
+    {
+        let name = self.sheet.number(text)?;
         let form = self.sheet.form_number(Form {
             name,
             properties: None,
@@ -308,12 +309,23 @@ impl Reader<'_> {
             location: None,
             is_whole: true,
         })?;
-        let head = kept_head(self.alloc, form)?;
+        let head = plain_head(self.alloc, Class::Effect, form)?;
+        Ok(TakenHead { head })
+    }
+
+    // Keeps the operation as it is written.
+    fn keep(&mut self, number: usize, start: usize) -> Result<(), Fault> {
+        self.whole_operation()?;
+        let text = self.cursor.bytes(self.cursor.since(start));
+        let head = self.kept_head(text)?;
         self.set_head(number, head);
         Ok(())
     }
 
-    fn attribute_list(&mut self) -> Result<Option<Span>, Fault> {
+    // The same of its attribute dictionary.
+    fn attribute_list(&mut self) -> Result<Option<Span>, Fault>
+        ensures { IfOk result (λ list. list ≡ None → self.new.attributes.items ≡ []) }
+    {
         self.attributes.clear();
         if self.cursor.accept(b'{') {
             Ok(Some(self.entries(false)?))
@@ -324,7 +336,7 @@ impl Reader<'_> {
 
     /// Reads what is behind the regions of an operation, after which all of the operation is known. Errors: as `read`.
     /// Cost: linear in its text.
-    pub fn tail(&mut self, pending: &Pending) -> Result<(), Fault> {
+    pub fn tail(&mut self, pending: &Pending<'t>) -> Result<(), Fault> {
         let attributes = self.attribute_list()?;
         self.cursor.expect(b':', Expected::Colon)?;
         self.operand_types(pending)?;
@@ -348,7 +360,10 @@ impl Reader<'_> {
         Ok(())
     }
 
-    fn operand_types(&mut self, pending: &Pending) -> Result<(), Fault> {
+    // The types of the operands.
+    fn operand_types(&mut self, pending: &Pending) -> Result<(), Fault>
+        ensures { OnOk result (self.new.operand ≡ slice_get self.new.types.items 0) }
+    {
         self.cursor.skip();
         let place = self.cursor.place();
         self.types.clear();
@@ -363,6 +378,7 @@ impl Reader<'_> {
                 *slot = number;
             }
         }
+        self.operand = self.types.first().copied();
         Ok(())
     }
 

@@ -47,6 +47,7 @@ fn parse_so(alloc: Global, text: &[u8], keeps: bool) -> Result<ParsedModule, Fau
         block: _,
         properties: _,
         attributes: _,
+        operand: _,
         types: _,
     } = reader;
     match read {

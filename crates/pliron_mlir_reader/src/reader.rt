@@ -1,4 +1,7 @@
 //! Reading a text by its grammar.
+ghost use Rattle.std.specs.Prelude.{◌≡◌};
+ghost use Rattle.pliron_mlir_reader.specs.Known.{known_in_quotes};
+
 use crate::known::{KnownName, KnownNames};
 use crate::taken_head::TakenHead;
 use pliron_mlir_syntax::{
@@ -15,12 +18,12 @@ pub struct Entry {
 
 /// An operation that is being read.
 #[derive(Clone, Copy)]
-pub struct Pending {
+pub struct Pending<'t> {
     /// Its number.
     pub number: usize,
     pub place: usize,
     /// Its name with quotes.
-    pub name: Span,
+    pub name: &'t [u8],
     pub known: KnownName,
     /// The first of its operands, and how many.
     pub operands: (usize, usize),
@@ -34,6 +37,7 @@ pub struct Pending {
     pub properties: Option<Span>,
     /// The block around it.
     pub block: Option<usize>,
+    pub ghost by_name: { known ≡ known_in_quotes name.now },
 }
 
 /// A text that is read up to some byte.
@@ -53,12 +57,13 @@ pub struct Reader<'t> {
     /// How many values have numbers.
     pub num_value: usize,
     /// The operations whose regions are being read.
-    pub open: Vec<Pending>,
+    pub open: Vec<Pending<'t>>,
     /// The block that is being read.
     pub block: Option<usize>,
-    /// Of the operation that is being read: properties, attributes, types of operands.
+    /// Of the operation that is being read: properties, attributes, the type of the first operand, types of results.
     pub properties: Vec<Entry>,
     pub attributes: Vec<Entry>,
+    pub operand: Option<Span>,
     pub types: Vec<Span>,
 }
 
@@ -80,6 +85,7 @@ impl<'t> Reader<'t> {
             block: None,
             properties: Vec::new(alloc),
             attributes: Vec::new(alloc),
+            operand: None,
             types: Vec::new(alloc),
         }
     }
@@ -172,7 +178,7 @@ impl<'t> Reader<'t> {
 
     /// A region of the operation begins. Errors: none does; it is nested too deeply; allocation failure. Cost:
     /// constant.
-    pub fn region(&mut self, mut pending: Pending) -> Result<(), Fault> {
+    pub fn region(&mut self, mut pending: Pending<'t>) -> Result<(), Fault> {
         self.cursor.expect(b'{', Expected::OpenBrace)?;
         if self.open.len() >= MAX_DEPTH {
             return if self.keeps {

@@ -5,14 +5,15 @@ ghost use Rattle.pliron_mlir_reader.specs.Taken.{has_shape as has_shape_of, unkn
 ghost use Rattle.pliron_mlir_reader.specs.Taken.{flags_owned as flags_owned_by, promise as promise_of, wrapping as wrapping_of, overflow_in as overflow_in_lists, predicate_said as predicate_said_by, bits_owned as bits_owned_by};
 ghost use Rattle.pliron_mlir_reader.specs.Taken.{spread_of, head_taken as head_taken_of, branch_taken as branch_taken_of, HasClass};
 ghost use Rattle.pliron_mlir.specs.declared.kind.Class.TheVariants.{Branch};
-ghost use Rattle.pliron_mlir.specs.Data.{number as number_of};
+ghost use Rattle.pliron_mlir.specs.Data.{number as number_of, other_constant as other_constant_of};
 ghost use Rattle.pliron_mlir.specs.Heads.{constant_head as constant_head_of};
 
 use crate::owned::OwnedProperty;
 use pliron_bits::{Cast, Flags, Predicate};
 use pliron_core::{AttrObj, Head};
 use pliron_mlir::{
-    Class, binary_head, branch_head, cast_head, compare_head, constant_head, number, plain_head,
+    Class, binary_head, branch_head, cast_head, compare_head, constant_head, number,
+    other_constant, plain_head,
 };
 use pliron_mlir_syntax::{Fault, SignedNumber};
 use std::alloc::{AllocFailed, Global};
@@ -307,6 +308,14 @@ pub fn number_head(
     ensures { IfOk result (λ head. head ≡ constant_head_of (number_of width bits) form) }
 {
     constant_head(alloc, number(width, bits), form)
+}
+
+/// The head of a constant that is no integer, whose form without its location has the number of the datum. Errors:
+/// allocation failure. Cost: constant.
+pub fn datum_head(alloc: Global, datum: usize, form: usize) -> Result<Head, AllocFailed<AttrObj>>
+    ensures { IfOk result (λ head. head ≡ constant_head_of (other_constant_of datum) form) }
+{
+    constant_head(alloc, other_constant(datum), form)
 }
 
 /// The head of a branch whose edges take so many operands. Errors: allocation failure. Cost: constant.

@@ -1,3 +1,4 @@
 pub mod Position
 pub mod Numbers
 pub mod Spans
+pub mod Sheets

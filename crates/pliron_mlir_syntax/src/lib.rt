@@ -20,6 +20,6 @@ pub use numbers::{
     width_of_type,
 };
 pub use positions::{Position, position_of};
-pub use sheet::{Form, Sheet};
+pub use sheet::{Form, FormTexts, Sheet};
 pub use syntax::{BlockText, MAX_DEPTH, OperationText, Syntax};
 pub use texts::Texts;

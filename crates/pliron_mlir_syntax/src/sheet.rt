@@ -1,5 +1,5 @@
 //! What a text says beside the tree.
-ghost use Rattle.std.specs.Prelude.{◌≡◌, ◌++◌, ◌∷◌, [], length, OnOk};
+ghost use Rattle.std.specs.Prelude.{◌≡◌, ◌++◌, ◌∷◌, [], Some, length, unwrap_or, IfOk, OnOk};
 
 use crate::cursor::{is_blank, is_word};
 use crate::texts::Texts;
@@ -17,6 +17,20 @@ pub struct Form {
     pub location: Option<usize>,
     /// Whether the name is all of the operation's text.
     pub is_whole: bool,
+}
+
+/// The texts of a form.
+#[derive(Clone, Copy)]
+pub struct FormTexts<'t> {
+    /// With its quotes.
+    pub name: &'t [u8],
+    /// What is inside the property list.
+    pub properties: Option<&'t [u8]>,
+    /// What is inside the attribute dictionary.
+    pub attributes: Option<&'t [u8]>,
+    pub results: &'t [u8],
+    /// The number of the location's text.
+    pub location: Option<usize>,
 }
 
 // Whether the name that begins there has no dialect, as that of an alias has none.
@@ -90,6 +104,9 @@ pub struct Sheet {
 }
 
 impl Sheet {
+    ghost use Rattle.pliron_mlir_syntax.specs.Sheets.{text_at, form_at, KeepsNumbers};
+    ghost use Rattle.pliron_mlir_syntax.specs.Sheets.{HasList, HasTexts, IsFormOf, texts_written, option_now};
+
     /// An empty one. Takes no memory. Cost: constant.
     pub fn new(alloc: Global) -> Self {
         Sheet {
@@ -103,24 +120,74 @@ impl Sheet {
         }
     }
 
-    /// The number of a text. Errors: allocation failure. Cost: its length.
-    pub fn number(&mut self, text: &[u8]) -> Result<usize, AllocError> {
+    /// The number of a text. Others keep theirs. Errors: allocation failure. Cost: its length.
+    pub fn number(&mut self, text: &[u8]) -> Result<usize, AllocError>
+        ensures numbered { IfOk result (λ number. text_at self.new number ≡ Some text.now) }
+        ensures kept { KeepsNumbers self.old self.new }
+    {
         self.texts.number(text)
     }
 
     /// The text of this number. Cost: constant.
-    pub fn text(&self, number: usize) -> &[u8] {
+    pub fn text(&self, number: usize) -> &[u8]
+        ensures { result.now ≡ unwrap_or (text_at self.now number) [] }
+    {
         self.texts.get(number)
     }
 
-    /// The number of a form. Errors: allocation failure. Cost: constant.
-    pub fn form_number(&mut self, form: Form) -> Result<usize, AllocError> {
+    // The number of the text, if there is one.
+    fn number_of_list(&mut self, text: Option<&[u8]>) -> Result<Option<usize>, AllocError>
+        ensures numbered { IfOk result (λ number. HasList self.new number (option_now text.entry)) }
+        ensures kept { KeepsNumbers self.old self.new }
+    {
+        match text {
+            Some(text) => Ok(Some(self.number(text)?)),
+            None => Ok(None),
+        }
+    }
+
+    // The form with these texts.
+    fn form_of(&mut self, texts: &FormTexts) -> Result<Form, AllocError>
+        ensures texts { IfOk result (λ form. HasTexts self.new form (texts_written texts.now)) }
+        ensures kept { KeepsNumbers self.old self.new }
+    {
+        let name = self.number(texts.name)?;
+        let properties = self.number_of_list(texts.properties)?;
+        let attributes = self.number_of_list(texts.attributes)?;
+        let results = self.number(texts.results)?;
+        Ok(Form {
+            name,
+            properties,
+            attributes,
+            results,
+            location: texts.location,
+            is_whole: false,
+        })
+    }
+
+    /// The number of the form with these texts. Others keep theirs. Errors: allocation failure. Cost: the length of
+    /// the texts.
+    pub fn number_of_texts(&mut self, texts: &FormTexts) -> Result<usize, AllocError>
+        ensures numbered { IfOk result (λ number. IsFormOf self.new number (texts_written texts.now)) }
+        ensures kept { KeepsNumbers self.old self.new }
+    {
+        let form = self.form_of(texts)?;
+        self.form_number(form)
+    }
+
+    /// The number of a form. Others keep theirs. Errors: allocation failure. Cost: constant.
+    pub fn form_number(&mut self, form: Form) -> Result<usize, AllocError>
+        ensures numbered { IfOk result (λ number. form_at self.new number ≡ Some form) }
+        ensures kept { KeepsNumbers self.old self.new }
+    {
         let (number, _) = self.forms.insert_full(form)?;
         Ok(number)
     }
 
     /// The form of this number, if there is one. Cost: constant.
-    pub fn form(&self, number: usize) -> Option<Form> {
+    pub fn form(&self, number: usize) -> Option<Form>
+        ensures { result ≡ form_at self.now number }
+    {
         self.forms.get_index(number).copied()
     }
 

@@ -1,4 +1,6 @@
 //! Distinct texts, each with a number.
+ghost use Rattle.std.specs.Prelude.{◌≡◌, List, ℕ, [], Some, length, unwrap_or, IfOk};
+
 use indexmap::IndexSet;
 use std::alloc::{AllocError, Global};
 
@@ -11,6 +13,8 @@ pub struct Texts {
 }
 
 impl Texts {
+    ghost use Rattle.pliron_mlir_syntax.specs.Sheets.{text_in, KeepsTexts};
+
     /// None yet. Takes no memory. Cost: constant.
     pub fn new(alloc: Global) -> Self {
         Texts {
@@ -19,8 +23,13 @@ impl Texts {
         }
     }
 
-    /// The number of the text, which gets one where it is new. Errors: allocation failure. Cost: its length.
-    pub fn number(&mut self, text: &[u8]) -> Result<usize, AllocError> {
+    /// The number of the text, which gets one where it is new. Others keep theirs. Errors: allocation failure. Cost: its
+    /// length.
+    #[tactic(auto, using(crate::proofs::SheetLemmas::text_stored))]
+    pub fn number(&mut self, text: &[u8]) -> Result<usize, AllocError>
+        ensures numbered { IfOk result (λ number. text_in self.new number ≡ Some text.now) }
+        ensures kept { KeepsTexts self.old self.new }
+    {
         if let Some(number) = self.texts.get_index_of(text) {
             return Ok(number);
         }
@@ -30,7 +39,9 @@ impl Texts {
     }
 
     /// The text of this number, empty where none has it. Cost: constant.
-    pub fn get(&self, number: usize) -> &[u8] {
+    pub fn get(&self, number: usize) -> &[u8]
+        ensures { result.now ≡ unwrap_or (text_in self.now number) [] }
+    {
         match self.texts.get_index(number) {
             Some(text) => text.as_slice(),
             None => &[],
