@@ -72,6 +72,7 @@ pub fn write_named_answer<N: Shown>(
 }
 
 // How the operation that the text is read as is printed, in this empty context; `None` for an unreadable text.
+#[tactic(auto, using(crate::proofs::AnswerLemmas::printed_so))]
 fn printed_in<N: Notation>(
     alloc: Global,
     text: &str,
@@ -95,22 +96,27 @@ fn printed_again<N: Notation>(alloc: Global, text: &str) -> Result<Option<Vec<u8
 }
 
 // Whether both texts are read as operations that are printed alike.
+#[tactic(auto, using(crate::proofs::AnswerLemmas::read_alike))]
 fn reads_alike<N: Notation>(alloc: Global, answer: &str, text: &str) -> Result<bool, OptError>
     ensures { IfOk result (λ is. IsTrue is → ReadAlike N.reads N.prints answer.now text.now) }
 {
-    let (Some(first), Some(second)) = (
-        printed_again::<N>(alloc, answer)?,
-        printed_again::<N>(alloc, text)?,
-    ) else {
+    let Some(first) = printed_again::<N>(alloc, answer)? else {
         return Ok(false);
     };
-    Ok(first.as_slice() == second.as_slice())
+    let Some(second) = printed_again::<N>(alloc, text)? else {
+        return Ok(false);
+    };
+    if first.as_slice() != second.as_slice() {
+        return Ok(false);
+    }
+    Ok(true)
 }
 
 /// Writes an answer whose values are numbered by handles as the named text where that says the same: both are read, and
 /// have to be printed alike. Otherwise the answer is written as it is.
 ///
 /// Errors: allocation failure. Cost: reading and printing both.
+#[tactic(auto, using(crate::proofs::AnswerLemmas::unchanged, crate::proofs::AnswerLemmas::renamed))]
 pub fn write_renamed_answer<N: Shown>(
     alloc: Global,
     answer: &str,
@@ -118,10 +124,10 @@ pub fn write_renamed_answer<N: Shown>(
 ) -> Result<Vec<u8>, OptError>
     ensures { IfOk result (λ output. IsWrittenAlike N.reads N.prints answer.now output.items) }
 {
-    match named {
-        Some(text) if reads_alike::<N>(alloc, answer, text)? => {
-            Ok(Vec::from_slice(alloc, text.as_bytes())?)
-        }
-        _ => Ok(Vec::from_slice(alloc, answer.as_bytes())?),
+    if let Some(text) = named
+        && reads_alike::<N>(alloc, answer, text)?
+    {
+        return Ok(lay_out::<N>(alloc, text, false)?);
     }
+    Ok(lay_out::<N>(alloc, answer, false)?)
 }
