@@ -9,12 +9,12 @@ use crate::view::View;
 use pliron_laws::{Dialect, OptError};
 use std::alloc::Global;
 
-/// A set of rules for the operations of a dialect.
+/// A set of rules for the operations of the dialect `D`.
 ///
 /// The table `rules` has a clause for each rule, from a view to a term; it may read no more than what the view shows:
 /// heads, constants, and which values are one. The law `rules_hold` asks that a term is built of values of the view, of
 /// constants that the dialect makes and of pure operations that it has, and that it has the datum of the view.
-pub trait Rules: Dialect {
+pub trait Rules<D: Dialect> {
     // the term for a view
     ghost rules: { ViewOf → Option TermOf };
 
@@ -24,5 +24,5 @@ pub trait Rules: Dialect {
         ensures memory { IsOkUnless result OptError.Memory };
 
     // The term of each view has its datum.
-    ghost rules_hold: { RulesHold Self.meaning Self.side_effects Self.accepts rules };
+    ghost rules_hold: { RulesHold D.meaning D.side_effects D.accepts rules };
 }

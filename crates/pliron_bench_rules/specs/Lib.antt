@@ -1,0 +1,2 @@
+pub mod BenchRules
+pub mod RulesHold

@@ -1,0 +1,4 @@
+pub mod Staying
+pub mod Changing
+pub mod Doing
+pub mod Listing

@@ -1,0 +1,2 @@
+pub mod Rewrites
+pub mod Steps

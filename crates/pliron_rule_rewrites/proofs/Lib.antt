@@ -1,0 +1,4 @@
+pub mod Putting
+pub mod Erasing
+pub mod AppliedRules
+pub mod LocalChanges
