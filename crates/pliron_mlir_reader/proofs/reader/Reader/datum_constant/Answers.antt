@@ -18,7 +18,7 @@ returns-clause-same c =
     let t = c.number_of_texts-2.new.self in
     let form = c.in_ok-form.form in
     let datum = c.in_ok-datum.datum in
-    let has_form = form_kept s t form written c.number_of_texts-2.ensures.kept (subst (IsFormOf s form) c.form_texts-texts.ensures c.in_ok-form.ensures.form) in
+    let has_form = form_kept s t form written c.number_of_texts-2.ensures.kept (subst (IsFormOf s form) c.form_texts-texts.ensures c.in_ok-form.ensures.numbered) in
     let has_datum = subst (λ texts. IsFormOf t datum (without_location texts)) c.form_texts-texts.ensures c.in_ok-datum.ensures.numbered in
     (datum, has_datum, (form, has_form, c.in_ok-datum_head.ensures))
 
