@@ -7,9 +7,9 @@ ghost use Rattle.pliron_llvm_reader.specs.Blocks.{AreBlocks};
 ghost use Rattle.pliron_llvm_reader.specs.Bodies.{role_of_line, span_of_body_line, line_of, stop_at, IsStatementLine};
 
 use crate::blocks::{BlockFault, BlockLines, LineRole, split_blocks};
-use crate::statement::{Statement, read_statement};
+use crate::statement::{Statement, StatementRoom, read_statement};
 use crate::stop::{Reason, Stop};
-use pliron_llvm_syntax::{Fault, Hole, Line, Span, Token, split_lines};
+use pliron_llvm_syntax::{Fault, Hole, Line, Span, split_lines};
 use std::alloc::{AllocError, AllocFailed, Global};
 
 /// A statement of a body.
@@ -87,8 +87,8 @@ impl<T: Drop> From<AllocFailed<T>> for BodyStop {
 
 /// Room for one statement, which is used again for each.
 #[derive(Drop)]
-struct StatementRoom {
-    tokens: Vec<Token>,
+struct LineRoom {
+    statement: StatementRoom,
     holes: Vec<Hole>,
 }
 
@@ -137,7 +137,7 @@ fn text_before(text: &[u8], end: usize) -> &[u8]
 fn read_body_statement(
     text: &[u8],
     span: Span,
-    room: &mut StatementRoom,
+    room: &mut LineRoom,
     holes: &mut Vec<Hole>,
 ) -> Result<BodyStatement, BodyStop>
     requires ordered { span.start ≤ span.end }
@@ -147,7 +147,7 @@ fn read_body_statement(
         (line.first_hole ≡ length holes.old.items) × (line.end_hole ≡ length holes.new.items)) }
 {
     let before = text_before(text, span.end);
-    let statement = match read_statement(before, span.start, &mut room.tokens, &mut room.holes) {
+    let statement = match read_statement(before, span.start, &mut room.statement, &mut room.holes) {
         Ok(statement) => statement,
         Err(stop) => return Err(stop_at(span.start, stop)),
     };
@@ -165,7 +165,7 @@ fn read_body_statement(
 fn read_line(
     text: &[u8],
     line: Line,
-    room: &mut StatementRoom,
+    room: &mut LineRoom,
     holes: &mut Vec<Hole>,
 ) -> Result<BodyLine, BodyStop>
     requires ordered { (span_of_line line).start ≤ (span_of_line line).end }
@@ -186,7 +186,7 @@ fn read_line(
 fn read_lines(
     text: &[u8],
     lines: &[Line],
-    room: &mut StatementRoom,
+    room: &mut LineRoom,
     body: &mut Body,
 ) -> Result<(), BodyStop>
     requires { AreLines 0 (length text.now) lines.now }
@@ -244,8 +244,8 @@ pub fn read_body(alloc: Global, text: &[u8], inside: Span) -> Result<Body, BodyS
         holes: Vec::new(alloc),
         blocks: Vec::new(alloc),
     };
-    let mut room = StatementRoom {
-        tokens: Vec::new(alloc),
+    let mut room = LineRoom {
+        statement: StatementRoom::new(alloc),
         holes: Vec::new(alloc),
     };
     read_lines(before, &lines, &mut room, &mut body)?;
