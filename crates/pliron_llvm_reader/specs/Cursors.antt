@@ -72,7 +72,7 @@ is_mark (Some Mark) = true
 is_mark _ = false
 
 abbrev pub is_open : Option TokenKind → Bool
-is_open (Some (Open bracket)) = true
+is_open (Some (Open _)) = true
 is_open _ = false
 
 abbrev pub is_open_round : Option TokenKind → Bool
@@ -140,8 +140,8 @@ is_call_attribute_next text tokens =
 
 -- how many brackets are open behind a token, where so many are open before it
 abbrev pub depth_behind : Option TokenKind → ℕ → ℕ
-depth_behind (Some (Open bracket)) depth = suc depth
-depth_behind (Some (Close bracket)) depth = depth - 1
+depth_behind (Some (Open _)) depth = suc depth
+depth_behind (Some (Close _)) depth = depth - 1
 depth_behind _ depth = depth
 
 -- what is left behind the end of so many open brackets

@@ -1,5 +1,6 @@
 -- The grammar of statements: of each step, what is taken next, and what has to be behind that.
-use Rattle.std.specs.Prelude.{◌≡◌, ◌&&◌, ◌||◌, ℕ, Bool, not, List, [], ◌∷◌, ◌++◌, drop, Option, Some, None, ⊤, if◌then◌else◌, bytes_eq, codes}
+use Rattle.std.specs.Prelude.{◌&&◌, ◌||◌, ℕ, Bool, not, List, [], ◌∷◌, ◌++◌, drop, Option, Some, None, ⊤, if◌then◌else◌, bytes_eq, codes}
+use Rattle.std.specs.Option.{option_or}
 use Rattle.pliron_llvm_syntax.specs.declared.tokens.Token.{Token}
 use Rattle.pliron_llvm_reader.specs.declared.cursor.Cursor.{Cursor}
 use Rattle.pliron_llvm_reader.specs.declared.rules.Role.{Role}
@@ -18,7 +19,7 @@ use Rattle.pliron_llvm_reader.specs.declared.table.Piece.TheVariants.{PairValue,
 use Rattle.pliron_llvm_reader.specs.declared.table.ListStep.{ListStep}
 use Rattle.pliron_llvm_reader.specs.declared.table.ListStep.TheVariants.{LabelsInside, LabelsBehind, CasesInside, CaseValue, EntryEnd, MoreEntries, ArgumentsInside, ArgumentsBehind, BundlesInside, BundlesBehind}
 use Rattle.pliron_llvm_reader.specs.Words.{is_named, is_constant, is_expression, assembly_words, reference_words}
-use Rattle.pliron_llvm_reader.specs.Cursors.{text_of, tokens_of, place_of, first_kind, first_bytes, is_any, is_word, is_text, is_open, is_open_round, is_open_square, is_close_round, is_close_square, is_word_next, is_mark_next, is_name_next, is_type_next, is_suffix_next, is_flag_next, is_attribute_next, is_call_attribute_next, HasNext}
+use Rattle.pliron_llvm_reader.specs.Cursors.{text_of, place_of, first_kind, first_bytes, is_any, is_word, is_text, is_open, is_open_round, is_open_square, is_close_round, is_close_square, is_word_next, is_mark_next, is_name_next, is_type_next, is_suffix_next, is_flag_next, is_attribute_next, is_call_attribute_next, HasNext}
 use Rattle.pliron_llvm_reader.specs.Holes.{IsLocalAt}
 
 -- nothing is taken for a step; or so much, which is this for the statement, and these steps come in place of that one
@@ -48,10 +49,6 @@ or_nothing (Some move) = Some move
 -- the move, where its beginning is next, or nothing
 abbrev pub optional : Bool → Move → Option Move
 optional is_next move = or_nothing (wanted is_next move)
-
-abbrev pub first_move : Option Move → Option Move → Option Move
-first_move None other = other
-first_move (Some move) other = Some move
 
 abbrev pub with_last : List Step → Option Step → List Step
 with_last steps None = steps
@@ -109,8 +106,8 @@ metadata_move text last tokens =
 abbrev pub typed_value_move : List ℕ → Option Step → List Token → Option Move
 typed_value_move text last tokens =
     if is_word_next text tokens (codes "metadata") then Some (token (with_last (TypedValue ∷ []) last))
-    else first_move (metadata_move text last tokens)
-        (wanted (is_type_next text tokens) (tree (with_last (Part Suffixes ∷ Part Attributes ∷ Value ∷ []) last)))
+    else option_or (metadata_move text last tokens)
+    (wanted (is_type_next text tokens) (tree (with_last (Part Suffixes ∷ Part Attributes ∷ Value ∷ []) last)))
 
 abbrev pub arguments_move : List ℕ → List Token → Option Move
 arguments_move text tokens =
@@ -120,14 +117,14 @@ arguments_move text tokens =
 
 abbrev pub call_attributes_move : List ℕ → List Token → Option Move
 call_attributes_move text tokens =
-    first_move (wanted (is_call_attribute_next text tokens) (tree (Part PairValue ∷ CallAttributes ∷ [])))
-        (optional (is_open_square (first_kind tokens)) (token (InList BundlesInside ∷ [])))
+    option_or (wanted (is_call_attribute_next text tokens) (tree (Part PairValue ∷ CallAttributes ∷ [])))
+    (optional (is_open_square (first_kind tokens)) (token (InList BundlesInside ∷ [])))
 
 abbrev pub clauses_move : List ℕ → List Token → Option Move
 clauses_move text tokens =
     if is_word_next text tokens (codes "cleanup") then Some (token (Clauses ∷ []))
     else optional (is_word_next text tokens (codes "catch") || is_word_next text tokens (codes "filter"))
-        (token (TypedValue ∷ Clauses ∷ []))
+    (token (TypedValue ∷ Clauses ∷ []))
 
 -- all that is left, in which no value is named outside brackets
 abbrev pub rest_move : List ℕ → List Token → Option Move
@@ -144,25 +141,25 @@ piece_move text reads Tree tokens = wanted (is_any tokens) (tree [])
 piece_move text reads Suffixes tokens = optional (is_suffix_next text tokens) (tree (Part Suffixes ∷ []))
 piece_move text reads Attributes tokens = attribute_move text tokens
 piece_move text reads AlignNumber tokens =
-    first_move (wanted (is_open_round (first_kind tokens)) (tree [])) (optional (is_word (first_kind tokens)) (token []))
+    option_or (wanted (is_open_round (first_kind tokens)) (tree [])) (optional (is_word (first_kind tokens)) (token []))
 piece_move text reads Expression tokens = expression_move text reads tokens
 piece_move text reads Assembly tokens =
-    first_move (wanted (is_word (first_kind tokens)) (token (Part Assembly ∷ [])))
-        (wanted (is_text (first_kind tokens)) (token (Comma ∷ Part AssemblyText ∷ [])))
+    option_or (wanted (is_word (first_kind tokens)) (token (Part Assembly ∷ [])))
+    (wanted (is_text (first_kind tokens)) (token (Comma ∷ Part AssemblyText ∷ [])))
 piece_move text reads AssemblyText tokens = wanted (is_text (first_kind tokens)) (taking OneToken (role_of_more reads) [])
 piece_move text reads Reference tokens = wanted (is_name_next text tokens 64) (taking OneToken (role_of_more reads) [])
 
 -- what is inside the brackets of lists
 abbrev pub list_move : List ℕ → ListStep → List Token → Option Move
 list_move text LabelsInside tokens =
-    first_move (wanted (is_close_square (first_kind tokens)) (token []))
-        (wanted (is_word_next text tokens (codes "label")) (token (Block ∷ InList LabelsBehind ∷ [])))
+    option_or (wanted (is_close_square (first_kind tokens)) (token []))
+    (wanted (is_word_next text tokens (codes "label")) (token (Block ∷ InList LabelsBehind ∷ [])))
 list_move text LabelsBehind tokens =
-    first_move (wanted (is_close_square (first_kind tokens)) (token []))
-        (wanted (is_mark_next text tokens 44) (token (InList LabelsInside ∷ [])))
+    option_or (wanted (is_close_square (first_kind tokens)) (token []))
+    (wanted (is_mark_next text tokens 44) (token (InList LabelsInside ∷ [])))
 list_move text CasesInside tokens =
-    first_move (wanted (is_close_square (first_kind tokens)) (token []))
-        (wanted (is_type_next text tokens) (tree (Part Suffixes ∷ InList CaseValue ∷ Comma ∷ Label ∷ InList CasesInside ∷ [])))
+    option_or (wanted (is_close_square (first_kind tokens)) (token []))
+    (wanted (is_type_next text tokens) (tree (Part Suffixes ∷ InList CaseValue ∷ Comma ∷ Label ∷ InList CasesInside ∷ [])))
 list_move text CaseValue tokens =
     wanted (is_word (first_kind tokens) && is_constant (first_bytes text tokens)) (token [])
 list_move text EntryEnd tokens = wanted (is_close_square (first_kind tokens)) (token [])
@@ -170,14 +167,14 @@ list_move text MoreEntries tokens =
     optional (is_mark_next text tokens 44 && is_open_square (first_kind (drop 1 tokens))) (token (Entries ∷ []))
 list_move text ArgumentsInside tokens = arguments_move text tokens
 list_move text ArgumentsBehind tokens =
-    first_move (wanted (is_close_round (first_kind tokens)) (token []))
-        (wanted (is_mark_next text tokens 44) (token (InList ArgumentsInside ∷ [])))
+    option_or (wanted (is_close_round (first_kind tokens)) (token []))
+    (wanted (is_mark_next text tokens 44) (token (InList ArgumentsInside ∷ [])))
 list_move text BundlesInside tokens =
-    first_move (wanted (is_close_square (first_kind tokens)) (token []))
-        (wanted (is_text (first_kind tokens)) (token (Arguments ∷ InList BundlesBehind ∷ [])))
+    option_or (wanted (is_close_square (first_kind tokens)) (token []))
+    (wanted (is_text (first_kind tokens)) (token (Arguments ∷ InList BundlesBehind ∷ [])))
 list_move text BundlesBehind tokens =
-    first_move (wanted (is_close_square (first_kind tokens)) (token []))
-        (wanted (is_mark_next text tokens 44) (token (InList BundlesInside ∷ [])))
+    option_or (wanted (is_close_square (first_kind tokens)) (token []))
+    (wanted (is_mark_next text tokens 44) (token (InList BundlesInside ∷ [])))
 
 -- what is next of a statement
 abbrev pub move_of : List ℕ → Reads → Step → List Token → Option Move
@@ -200,12 +197,12 @@ move_of text reads Arguments tokens = wanted (is_open_round (first_kind tokens))
 move_of text reads CallAttributes tokens = call_attributes_move text tokens
 move_of text reads Clauses tokens = clauses_move text tokens
 move_of text reads Branch tokens =
-    first_move (wanted (is_word_next text tokens (codes "label")) (token (Block ∷ [])))
-        (typed_value_move text (Some BranchLabels) tokens)
+    option_or (wanted (is_word_next text tokens (codes "label")) (token (Block ∷ [])))
+    (typed_value_move text (Some BranchLabels) tokens)
 move_of text reads BranchLabels tokens =
     wanted (is_mark_next text tokens 44) (token (Label ∷ Comma ∷ Label ∷ []))
 move_of text reads ReturnValue tokens =
-    first_move (wanted (is_word_next text tokens (codes "void")) (token [])) (typed_value_move text None tokens)
+    option_or (wanted (is_word_next text tokens (codes "void")) (token [])) (typed_value_move text None tokens)
 move_of text reads Rest tokens = rest_move text tokens
 move_of text reads (Part piece) tokens = piece_move text reads piece tokens
 move_of text reads (InList step) tokens = list_move text step tokens

@@ -9,7 +9,7 @@ use Rattle.pliron_llvm_reader.specs.declared.rules.Amount.{Amount}
 use Rattle.pliron_llvm_reader.specs.declared.rules.Amount.TheVariants.{OneToken, OneTree}
 use Rattle.pliron_llvm_reader.specs.declared.table.Reads.{Reads}
 use Rattle.pliron_llvm_reader.specs.declared.table.Step.{Step}
-use Rattle.pliron_llvm_reader.specs.Cursors.{first_start, first_end, behind_tree, end_of_tree, span_between}
+use Rattle.pliron_llvm_reader.specs.Cursors.{first_start, first_end, behind_tree, end_of_tree}
 use Rattle.pliron_llvm_reader.specs.declared.rules.Taking.{Taking}
 use Rattle.pliron_llvm_reader.specs.Grammar.{move_of, with_last}
 use Rattle.pliron_llvm_reader.specs.Grammar.Move.{Skipped, Taken}
@@ -43,12 +43,12 @@ end_of_taken OneTree tokens = end_of_tree 0 tokens
 pub data Leads (text : List ℕ) (reads : Reads) (steps : List Step) (tokens : List Token) (holes : List Hole) : List Step → List Token → List Hole → Type 0 where
   Nowhere : Leads text reads steps tokens holes steps tokens holes
   Past : {more : List Step} {left : List Token} {found : List Hole} (step : Step)
-    → Leads text reads steps tokens holes (step ∷ more) left found → move_of text reads step left ≡ Some Skipped
-    → Leads text reads steps tokens holes more left found
+      → Leads text reads steps tokens holes (step ∷ more) left found → move_of text reads step left ≡ Some Skipped
+      → Leads text reads steps tokens holes more left found
   Onward : {more : List Step} {left : List Token} {found : List Hole} (step : Step) (amount : Amount) (role : Role) (behind : List Step)
-    → Leads text reads steps tokens holes (step ∷ more) left found → move_of text reads step left ≡ Some (Taken amount role behind)
-    → Leads text reads steps tokens holes (behind ++ more) (behind_taken amount left)
-        (holes_with role (first_start left (length text)) (end_of_taken amount left) found)
+      → Leads text reads steps tokens holes (step ∷ more) left found → move_of text reads step left ≡ Some (Taken amount role behind)
+      → Leads text reads steps tokens holes (behind ++ more) (behind_taken amount left)
+      (holes_with role (first_start left (length text)) (end_of_taken amount left) found)
 
 -- nothing of the first of these steps is there, up to the ones that are left
 abbrev pub Skips : List ℕ → Reads → List Step → List Token → List Step → Type 0

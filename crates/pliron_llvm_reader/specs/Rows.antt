@@ -12,7 +12,7 @@ use Rattle.pliron_llvm_reader.specs.declared.table.Step.TheVariants.{Flags}
 use Rattle.pliron_llvm_reader.specs.Cursors.{first_start, first_end, first_bytes, span_between, is_mark_next, is_name_next, is_word_next}
 use Rattle.pliron_llvm_reader.specs.Readings.{Leads}
 use Rattle.pliron_llvm_reader.specs.Table.{steps_of, row_named}
-use Rattle.pliron_llvm_reader.specs.TokenLists.{AreTokens}
+use Rattle.pliron_llvm_reader.specs.TokenLists.{AreLexed}
 
 -- where the first token is
 abbrev pub first_span : List ℕ → List Token → Span
@@ -38,16 +38,21 @@ pub record IsGiven (text : List ℕ) (reads : Reads) (tokens : List Token) (give
   pub left : List Token
   pub found : List Hole
   pub flags : Leads text reads (Flags ∷ []) tokens [] [] left found
-  pub gives : gives ≡ not (is_word_next text left (codes "void"))
+  pub is_given : gives ≡ not (is_word_next text left (codes "void"))
+
+abbrev pub MeetsGives : List ℕ → List Token → Reads → Gives → Bool → Type 0
+MeetsGives text tokens reads Always gives = gives ≡ true
+MeetsGives text tokens reads Never gives = gives ≡ false
+MeetsGives text tokens reads UnlessVoid gives = IsGiven text reads tokens gives
 
 -- whether what is behind the opcode gives a value
 abbrev pub GivesBy : List ℕ → List Token → Row → Bool → Type 0
 GivesBy text tokens row gives = of_row row.gives
   where
-  of_row : Gives → Type 0
-  of_row Always = gives ≡ true
-  of_row Never = gives ≡ false
-  of_row UnlessVoid = IsGiven text row.reads tokens gives
+    of_row : Gives → Type 0
+    of_row Always = gives ≡ true
+    of_row Never = gives ≡ false
+    of_row UnlessVoid = IsGiven text row.reads tokens gives
 
 -- what is behind the opcode is what the row says, and has these operands and successors
 abbrev pub HasHoles : List ℕ → Row → List Token → List Hole → Type 0
@@ -59,10 +64,10 @@ pub record IsReadAs (text : List ℕ) (tokens : List Token) (statement : Stateme
   pub opcode : statement.opcode ≡ first_span text (behind_name text tokens)
   pub row : row_named (first_bytes text (behind_name text tokens)) ≡ Some statement.row
   pub gives : GivesBy text (behind_opcode text tokens) statement.row statement.gives
-  pub holes : HasHoles text statement.row (behind_opcode text tokens) holes
+  pub listed : HasHoles text statement.row (behind_opcode text tokens) holes
 
 -- the text from this byte on is this statement, with these operands and successors
 pub record IsRowOf (text : List ℕ) (start : ℕ) (statement : Statement) (holes : List Hole) : Type 0 where
   pub tokens : List Token
-  pub lexed : AreTokens start (length text) tokens
+  pub lexed : AreLexed text start (length text) tokens
   pub read : IsReadAs text tokens statement holes

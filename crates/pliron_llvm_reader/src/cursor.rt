@@ -62,6 +62,7 @@ impl<'t> Cursor<'t> {
     pub fn at_any(&self) -> bool
         ensures exact { result ≡ is_any (tokens_of self.now) }
         ensures next { OnTrue result (HasNext self.now) }
+        ensures some { OnTrue result (0 < length (tokens_of self.now)) }
         ensures end { OnFalse result (tokens_of self.now ≡ []) }
     {
         !self.tokens.is_empty()
@@ -125,7 +126,7 @@ impl<'t> Cursor<'t> {
     }
 
     /// Takes the next one alone, if one is left. Cost: constant.
-    #[tactic(auto, using(crate::proofs::CursorLemmas::end_place, crate::proofs::CursorLemmas::first_place, crate::proofs::CursorLemmas::first_some, crate::proofs::CursorLemmas::first_within, crate::proofs::CursorLemmas::first_text))]
+    #[tactic(auto, using(crate::proofs::CursorLemmas::end_place, crate::proofs::CursorLemmas::first_place, crate::proofs::CursorLemmas::first_some, crate::proofs::CursorLemmas::first_within, crate::proofs::CursorLemmas::first_text, crate::proofs::CursorLemmas::first_ends))]
     pub fn skip_token(&mut self)
         ensures forward { IsForward self.old self.new }
         ensures taken { HasNext self.old → HasTaken self.old self.new }
@@ -141,9 +142,11 @@ impl<'t> Cursor<'t> {
     }
 
     // How many brackets are open behind the next one, where so many are open before it.
+    #[tactic(auto, using(crate::proofs::CursorLemmas::end_within, crate::proofs::CursorLemmas::end_place, crate::proofs::CursorLemmas::end_first, crate::proofs::CursorLemmas::next_ends))]
     fn depth_behind(&self, depth: usize) -> usize
         requires { depth ≤ self.now.end }
-        ensures { result ≡ depth_behind (first_kind (tokens_of self.now)) depth }
+        ensures exact { result ≡ depth_behind (first_kind (tokens_of self.now)) depth }
+        ensures few { result ≤ first_end (tokens_of self.now) self.now.end }
     {
         match self.kind() {
             Some(TokenKind::Open(_)) => depth + 1,
@@ -153,6 +156,7 @@ impl<'t> Cursor<'t> {
     }
 
     /// Takes the next one, and where it opens a bracket all up to the end of the bracket. Cost: linear in it.
+    #[tactic(auto, using(crate::proofs::CursorLemmas::end_within, crate::proofs::CursorLemmas::end_place, crate::proofs::CursorLemmas::next_some, crate::proofs::CursorLemmas::behind_closed, crate::proofs::CursorLemmas::end_of_closed, crate::proofs::CursorLemmas::behind_next, crate::proofs::CursorLemmas::end_of_next))]
     pub fn skip_tree(&mut self)
         ensures forward { IsForward self.old self.new }
         ensures taken { HasNext self.old → HasTaken self.old self.new }
@@ -311,11 +315,12 @@ impl<'t> Cursor<'t> {
     }
 
     /// What is left behind the next one. Cost: constant.
-    pub fn behind_next(mut self) -> Self
-        ensures text { text_of result ≡ text_of self }
-        ensures tokens { tokens_of result ≡ drop 1 (tokens_of self) }
+    pub fn behind_next(&self) -> Self
+        ensures text { text_of result ≡ text_of self.now }
+        ensures tokens { tokens_of result ≡ drop 1 (tokens_of self.now) }
     {
-        self.skip_token();
-        self
+        let mut behind = *self;
+        behind.skip_token();
+        behind
     }
 }

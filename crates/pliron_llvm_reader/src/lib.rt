@@ -5,8 +5,8 @@
 mod blocks;
 mod body;
 mod cursor;
-mod statement;
 mod rules;
+mod statement;
 mod steps;
 mod stop;
 mod table;

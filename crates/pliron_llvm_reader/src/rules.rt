@@ -1,12 +1,13 @@
 //! What each step of the table takes.
-#![tactic(auto, using(crate::proofs::CursorLemmas::next_some, crate::proofs::GrammarLemmas::local_next, crate::proofs::GrammarLemmas::fits_take))]
+#![tactic(auto, using(crate::proofs::CursorLemmas::next_some, crate::proofs::GrammarLemmas::local_next))]
 
 ghost use Rattle.std.specs.Prelude.{◌≡◌, ◌&&◌, [], drop, IfSome};
 ghost use Rattle.std.specs.Bool.{OnTrue};
+ghost use Rattle.std.specs.Option.{option_or};
 ghost use Rattle.pliron_llvm_reader.specs.Cursors.{text_of, tokens_of, first_kind, first_bytes, is_word, is_open_square};
 ghost use Rattle.pliron_llvm_reader.specs.Cursors.{is_close_square, is_mark_next, is_name_next, is_word_next, is_type_next, HasNext};
 ghost use Rattle.pliron_llvm_reader.specs.Words.{is_constant as is_constant_word};
-ghost use Rattle.pliron_llvm_reader.specs.Grammar.{taking, token, tree, wanted, or_nothing, first_move, role_of_constant, role_of_more};
+ghost use Rattle.pliron_llvm_reader.specs.Grammar.{taking, token, tree, wanted, or_nothing, role_of_constant, role_of_more};
 ghost use Rattle.pliron_llvm_reader.specs.Grammar.{word_value_move, value_move, expression_move, attribute_move, metadata_move, typed_value_move};
 ghost use Rattle.pliron_llvm_reader.specs.Grammar.{arguments_move, call_attributes_move, clauses_move, rest_move, piece_move, list_move, move_of, said_by, with_last, Fits, FitsRole};
 ghost use Rattle.pliron_llvm_reader.specs.declared.rules.Amount.TheVariants.{OneToken};
@@ -55,7 +56,11 @@ pub enum Rule {
     Take(Taking),
 }
 
-static FLAG: [Step; 3] = [Step::Part(Piece::PairValue), Step::Part(Piece::RoundBracket), Step::Flags];
+static FLAG: [Step; 3] = [
+    Step::Part(Piece::PairValue),
+    Step::Part(Piece::RoundBracket),
+    Step::Flags,
+];
 
 static CASE: [Step; 5] = [
     Step::Part(Piece::Suffixes),
@@ -144,7 +149,7 @@ impl Cursor<'_> {
     fn first(&self, rule: Option<Rule>, other: Option<Rule>) -> Option<Rule>
         requires rule { IfSome rule (λ rule. Fits self.now rule) }
         requires other { IfSome other (λ rule. Fits self.now rule) }
-        ensures says { said_by result ≡ first_move (said_by rule) (said_by other) }
+        ensures says { said_by result ≡ option_or (said_by rule) (said_by other) }
         ensures fits { IfSome result (λ rule. Fits self.now rule) }
     {
         match rule {
@@ -154,7 +159,13 @@ impl Cursor<'_> {
     }
 
     // So much is taken as this, where it is next; then come these steps.
-    fn role_if(&self, is_next: bool, amount: Amount, role: Role, behind: &'static [Step]) -> Option<Rule>
+    fn role_if(
+        &self,
+        is_next: bool,
+        amount: Amount,
+        role: Role,
+        behind: &'static [Step],
+    ) -> Option<Rule>
         requires next { OnTrue is_next (HasNext self.now) }
         requires role { OnTrue is_next (FitsRole self.now role) }
         ensures says { said_by result ≡ wanted is_next (taking amount role behind.now) }
@@ -173,7 +184,13 @@ impl Cursor<'_> {
     }
 
     // A constant is taken, where it is next; then come these steps.
-    fn constant_if(&self, is_next: bool, amount: Amount, reads: Reads, behind: &'static [Step]) -> Option<Rule>
+    fn constant_if(
+        &self,
+        is_next: bool,
+        amount: Amount,
+        reads: Reads,
+        behind: &'static [Step],
+    ) -> Option<Rule>
         requires { OnTrue is_next (HasNext self.now) }
         ensures says { said_by result ≡ wanted is_next (taking amount (role_of_constant reads) behind.now) }
         ensures fits { IfSome result (λ rule. Fits self.now rule) }
@@ -213,11 +230,26 @@ impl Cursor<'_> {
     {
         let word = self.bytes();
         if is_expression(word) {
-            self.constant_if(true, Amount::OneToken, reads, &[Step::Part(Piece::Expression)])
+            self.constant_if(
+                true,
+                Amount::OneToken,
+                reads,
+                &[Step::Part(Piece::Expression)],
+            )
         } else if is_assembly(word) {
-            self.constant_if(true, Amount::OneToken, reads, &[Step::Part(Piece::Assembly)])
+            self.constant_if(
+                true,
+                Amount::OneToken,
+                reads,
+                &[Step::Part(Piece::Assembly)],
+            )
         } else if is_reference(word) {
-            self.constant_if(true, Amount::OneToken, reads, &[Step::Part(Piece::Reference)])
+            self.constant_if(
+                true,
+                Amount::OneToken,
+                reads,
+                &[Step::Part(Piece::Reference)],
+            )
         } else {
             self.constant_if(is_constant(word), Amount::OneToken, reads, &[])
         }
@@ -247,7 +279,13 @@ impl Cursor<'_> {
         ensures fits { IfSome result (λ rule. Fits self.now rule) }
     {
         if self.at_word(b"inrange") {
-            self.token_if(true, &[Step::Part(Piece::RoundBracket), Step::Part(Piece::Expression)])
+            self.token_if(
+                true,
+                &[
+                    Step::Part(Piece::RoundBracket),
+                    Step::Part(Piece::Expression),
+                ],
+            )
         } else if self.at_any_word() {
             self.token_if(true, &[Step::Part(Piece::Expression)])
         } else {
@@ -261,11 +299,21 @@ impl Cursor<'_> {
         ensures fits { IfSome result (λ rule. Fits self.now rule) }
     {
         if self.at_word(b"align") {
-            self.token_if(true, &[Step::Part(Piece::AlignNumber), Step::Part(Piece::Attributes)])
+            self.token_if(
+                true,
+                &[
+                    Step::Part(Piece::AlignNumber),
+                    Step::Part(Piece::Attributes),
+                ],
+            )
         } else {
             self.or_nothing(self.token_if(
                 self.at_attribute(),
-                &[Step::Part(Piece::PairValue), Step::Part(Piece::RoundBracket), Step::Part(Piece::Attributes)],
+                &[
+                    Step::Part(Piece::PairValue),
+                    Step::Part(Piece::RoundBracket),
+                    Step::Part(Piece::Attributes),
+                ],
             ))
         }
     }
@@ -298,7 +346,11 @@ impl Cursor<'_> {
             self.metadata(last),
             self.tree_then(
                 self.at_type(),
-                &[Step::Part(Piece::Suffixes), Step::Part(Piece::Attributes), Step::Value],
+                &[
+                    Step::Part(Piece::Suffixes),
+                    Step::Part(Piece::Attributes),
+                    Step::Value,
+                ],
                 last,
             ),
         )
@@ -415,10 +467,16 @@ impl Cursor<'_> {
         ensures fits { IfSome result (λ rule. Fits self.now rule) }
     {
         match piece {
-            Piece::PairValue => self.or_nothing(self.token_if(self.at_mark(b'='), &[Step::Part(Piece::Tree)])),
+            Piece::PairValue => self.or_nothing(self.token_if(
+                self.at_mark(b'='),
+                &[Step::Part(Piece::Tree)],
+            )),
             Piece::RoundBracket => self.or_nothing(self.tree_if(self.at_open_round(), &[])),
             Piece::Tree => self.tree_if(self.at_any(), &[]),
-            Piece::Suffixes => self.or_nothing(self.tree_if(self.at_suffix(), &[Step::Part(Piece::Suffixes)])),
+            Piece::Suffixes => self.or_nothing(self.tree_if(
+                self.at_suffix(),
+                &[Step::Part(Piece::Suffixes)],
+            )),
             Piece::Attributes => self.attribute(),
             Piece::AlignNumber => self.first(
                 self.tree_if(self.at_open_round(), &[]),
@@ -427,7 +485,10 @@ impl Cursor<'_> {
             Piece::Expression => self.expression(reads),
             Piece::Assembly => self.first(
                 self.token_if(self.at_any_word(), &[Step::Part(Piece::Assembly)]),
-                self.token_if(self.at_text(), &[Step::Comma, Step::Part(Piece::AssemblyText)]),
+                self.token_if(
+                    self.at_text(),
+                    &[Step::Comma, Step::Part(Piece::AssemblyText)],
+                ),
             ),
             Piece::AssemblyText => self.more_if(self.at_text(), Amount::OneToken, reads),
             Piece::Reference => self.more_if(self.at_name(b'@'), Amount::OneToken, reads),
@@ -442,7 +503,10 @@ impl Cursor<'_> {
         match step {
             ListStep::LabelsInside => self.first(
                 self.square_end(),
-                self.word_then(b"label", &[Step::Block, Step::InList(ListStep::LabelsBehind)]),
+                self.word_then(
+                    b"label",
+                    &[Step::Block, Step::InList(ListStep::LabelsBehind)],
+                ),
             ),
             ListStep::LabelsBehind => self.first(
                 self.square_end(),
@@ -454,7 +518,10 @@ impl Cursor<'_> {
             ),
             ListStep::CaseValue => self.token_if(self.at_constant(), &[]),
             ListStep::EntryEnd => self.square_end(),
-            ListStep::MoreEntries => self.or_nothing(self.token_if(self.at_more_entries(), &[Step::Entries])),
+            ListStep::MoreEntries => self.or_nothing(self.token_if(
+                self.at_more_entries(),
+                &[Step::Entries],
+            )),
             ListStep::ArgumentsInside => self.argument(),
             ListStep::ArgumentsBehind => self.first(
                 self.token_if(self.at_close_round(), &[]),
@@ -462,7 +529,10 @@ impl Cursor<'_> {
             ),
             ListStep::BundlesInside => self.first(
                 self.square_end(),
-                self.token_if(self.at_text(), &[Step::Arguments, Step::InList(ListStep::BundlesBehind)]),
+                self.token_if(
+                    self.at_text(),
+                    &[Step::Arguments, Step::InList(ListStep::BundlesBehind)],
+                ),
             ),
             ListStep::BundlesBehind => self.first(
                 self.square_end(),
@@ -481,19 +551,34 @@ impl Cursor<'_> {
             Step::TypeName => self.tree_if(self.at_type(), &[Step::Part(Piece::Suffixes)]),
             Step::Value => self.value(reads),
             Step::TypedValue => self.typed_value(None),
-            Step::MoreTypedValues => self.or_nothing(self.token_if(self.at_more_values(), &[Step::TypedValue, Step::MoreTypedValues])),
+            Step::MoreTypedValues => self.or_nothing(self.token_if(
+                self.at_more_values(),
+                &[Step::TypedValue, Step::MoreTypedValues],
+            )),
             Step::Comma => self.comma_then(&[]),
             Step::To => self.word_then(b"to", &[]),
             Step::Unwind => self.word_then(b"unwind", &[]),
             Step::Label => self.word_then(b"label", &[Step::Block]),
             Step::Block => self.local_if(Role::Successor),
-            Step::Labels => self.token_if(self.at_open_square(), &[Step::InList(ListStep::LabelsInside)]),
-            Step::Cases => self.token_if(self.at_open_square(), &[Step::InList(ListStep::CasesInside)]),
+            Step::Labels => self.token_if(
+                self.at_open_square(),
+                &[Step::InList(ListStep::LabelsInside)],
+            ),
+            Step::Cases => self.token_if(
+                self.at_open_square(),
+                &[Step::InList(ListStep::CasesInside)],
+            ),
             Step::Entries => self.token_if(self.at_open_square(), &ENTRY),
-            Step::Arguments => self.token_if(self.at_open_round(), &[Step::InList(ListStep::ArgumentsInside)]),
+            Step::Arguments => self.token_if(
+                self.at_open_round(),
+                &[Step::InList(ListStep::ArgumentsInside)],
+            ),
             Step::CallAttributes => self.call_attribute(),
             Step::Clauses => self.clause(),
-            Step::Branch => self.first(self.word_then(b"label", &[Step::Block]), self.typed_value(Some(Step::BranchLabels))),
+            Step::Branch => self.first(
+                self.word_then(b"label", &[Step::Block]),
+                self.typed_value(Some(Step::BranchLabels)),
+            ),
             Step::BranchLabels => self.comma_then(&[Step::Label, Step::Comma, Step::Label]),
             Step::ReturnValue => self.first(self.word_then(b"void", &[]), self.typed_value(None)),
             Step::Rest => self.rest(),

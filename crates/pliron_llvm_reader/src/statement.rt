@@ -1,7 +1,7 @@
 //! A statement, read by the table.
 #![tactic(auto, using(crate::proofs::CursorLemmas::end_within, crate::proofs::CursorLemmas::end_place, crate::proofs::HoleLemmas::holes_moved))]
 
-ghost use Rattle.std.specs.Prelude.{◌≡◌, ◌≤◌, [], drop, reverse, length, Some, IfOk, IfErr, IfSome, OnOk};
+ghost use Rattle.std.specs.Prelude.{◌≡◌, ◌≤◌, [], drop, length, Some, IfOk, IfErr, IfSome, OnOk};
 ghost use Rattle.pliron_llvm_syntax.specs.Forms.{AreHoles};
 ghost use Rattle.pliron_llvm_reader.specs.TokenLists.{AreTokens};
 ghost use Rattle.pliron_llvm_reader.specs.Cursors.{text_of, tokens_of, place_of, first_bytes, IsForward};
@@ -12,6 +12,7 @@ ghost use Rattle.pliron_llvm_reader.specs.Table.{row_named as row_named_in};
 ghost use Rattle.pliron_llvm_reader.specs.Stops.{IsUnread, IsStopIn};
 
 use crate::cursor::Cursor;
+use crate::steps::push_steps;
 use crate::stop::{Reason, Stop, unless};
 use crate::table::{Gives, Reads, Row, Step, row_named};
 use crate::tokens::push_tokens;
@@ -70,16 +71,6 @@ pub struct StatementRoom {
     steps: Vec<Step>,
 }
 
-// These steps are next, and no others.
-fn begin(with: &[Step], steps: &mut Vec<Step>) -> Result<(), Stop>
-    ensures ok { OnOk result (reverse steps.new.items ≡ with.now) }
-    ensures stop { IfErr result (λ stop. IsUnread stop) }
-{
-    steps.clear();
-    steps.extend(with.iter().rev().copied())?;
-    Ok(())
-}
-
 impl Cursor<'_> {
     // Takes the name of the result and the `=`, if they are next.
     fn result_name(&mut self) -> Option<Span>
@@ -107,7 +98,7 @@ impl Cursor<'_> {
         ensures place { IfOk result (λ opcode. opcode.span ≡ first_span (text_of self.old) (tokens_of self.old)) }
         ensures end { IfOk result (λ opcode. opcode.span.end ≡ self.new.end) }
         ensures begins { IfOk result (λ opcode. opcode.span.start ≡ place_of self.old) }
-        ensures tokens { tokens_of self.new ≡ drop 1 (tokens_of self.old) }
+        ensures tokens { IfOk result (λ _. tokens_of self.new ≡ drop 1 (tokens_of self.old)) }
         ensures stop { IfErr result (λ stop. IsUnread stop) }
     {
         if !self.at_any() {
@@ -123,14 +114,21 @@ impl Cursor<'_> {
     }
 
     // Whether what is behind the opcode of a call has another type than `void`.
-    fn is_given(mut self, reads: Reads, steps: &mut Vec<Step>, holes: &mut Vec<Hole>) -> Result<bool, Stop>
-        ensures given { IfOk result (λ gives. IsGiven (text_of self) reads (tokens_of self) gives) }
+    fn is_given(
+        &self,
+        reads: Reads,
+        steps: &mut Vec<Step>,
+        holes: &mut Vec<Hole>,
+    ) -> Result<bool, Stop>
+        ensures given { IfOk result (λ gives. IsGiven (text_of self.now) reads (tokens_of self.now) gives) }
         ensures stop { IfErr result (λ stop. IsUnread stop) }
     {
-        begin(&[Step::Flags], steps)?;
+        steps.clear();
+        push_steps(&[Step::Flags], steps)?;
         holes.clear();
-        self.read_steps(reads, steps, holes)?;
-        Ok(!self.at_word(b"void"))
+        let mut ahead = *self;
+        ahead.read_steps(reads, steps, holes)?;
+        Ok(!ahead.at_word(b"void"))
     }
 
     // Whether what is behind an opcode gives a value.
@@ -147,13 +145,19 @@ impl Cursor<'_> {
     }
 
     // Takes what the row says, and leaves its holes; then nothing is left.
-    fn read_row(&mut self, row: Row, steps: &mut Vec<Step>, holes: &mut Vec<Hole>) -> Result<(), Stop>
+    fn read_row(
+        &mut self,
+        row: Row,
+        steps: &mut Vec<Step>,
+        holes: &mut Vec<Hole>,
+    ) -> Result<(), Stop>
         ensures forward { IsForward self.old self.new }
         ensures row { OnOk result (HasHoles (text_of self.old) row (tokens_of self.old) holes.new.items) }
         ensures holes { OnOk result (AreHolesBetween (text_of self.old) self.old.end (length (text_of self.old)) holes.new.items) }
         ensures stop { IfErr result (λ stop. IsUnread stop) }
     {
-        begin(row.layout.steps(), steps)?;
+        steps.clear();
+        push_steps(row.layout.steps(), steps)?;
         holes.clear();
         self.read_steps(row.reads, steps, holes)?;
         unless(!self.at_any(), Reason::Rest)

@@ -59,6 +59,7 @@ impl Step {
 }
 
 // The last hole ends at this byte.
+#[tactic(auto, using(crate::proofs::HoleLemmas::lengthened_last, crate::proofs::StopLemmas::unread_memory))]
 fn lengthen(end: usize, holes: &mut Vec<Hole>) -> Result<(), Stop>
     ensures ok { OnOk result (holes.new.items ≡ lengthened end holes.old.items) }
     ensures stop { IfErr result (λ stop. IsUnread stop) }
@@ -70,17 +71,33 @@ fn lengthen(end: usize, holes: &mut Vec<Hole>) -> Result<(), Stop>
     Ok(())
 }
 
-// These steps come next.
-fn push_steps(taking: &Taking, steps: &mut Vec<Step>) -> Result<(), Stop>
-    ensures ok { OnOk result (reverse steps.new.items
-        ≡ with_last taking.now.behind.now taking.now.last ++ reverse steps.old.items) }
+/// These steps come next, before those that came next. Errors: allocation failure. Cost: linear in them.
+#[tactic(auto, using(crate::proofs::ReadingLemmas::pushed_none, crate::proofs::ReadingLemmas::pushed_next, crate::proofs::StopLemmas::unread_memory))]
+pub fn push_steps(before: &[Step], steps: &mut Vec<Step>) -> Result<(), Stop>
+    ensures ok { OnOk result (reverse steps.new.items ≡ before.now ++ reverse steps.old.items) }
     ensures stop { IfErr result (λ stop. IsUnread stop) }
 {
-    if let Some(last) = taking.last {
-        steps.push(last)?;
+    let mut left = before.len();
+    while left > 0 {
+        left -= 1;
+        steps.push(before[left])?;
     }
-    steps.extend(taking.behind.iter().rev().copied())?;
     Ok(())
+}
+
+impl Taking {
+    // What comes in place of its step comes next.
+    #[tactic(auto, using(crate::proofs::ReadingLemmas::with_last_append, crate::proofs::ReadingLemmas::pushed_last, crate::proofs::StopLemmas::unread_memory))]
+    fn push_behind(&self, steps: &mut Vec<Step>) -> Result<(), Stop>
+        ensures ok { OnOk result (reverse steps.new.items
+            ≡ with_last self.now.behind.now self.now.last ++ reverse steps.old.items) }
+        ensures stop { IfErr result (λ stop. IsUnread stop) }
+    {
+        if let Some(last) = self.last {
+            steps.push(last)?;
+        }
+        push_steps(self.behind, steps)
+    }
 }
 
 impl Cursor<'_> {
@@ -138,7 +155,8 @@ impl Cursor<'_> {
         self.note(taking.role, start, holes)
     }
 
-    // What is taken next, and for which step; none, where no step is left. Steps of which nothing is there are left out.
+    // What is taken next; none, where no step is left. Steps of which nothing is there are left out.
+    #[tactic(auto, using(crate::proofs::ReadingLemmas::skips_none, crate::proofs::ReadingLemmas::skips_step, crate::proofs::ReadingLemmas::skips_to, crate::proofs::ReadingLemmas::popped))]
     fn next_taking(&self, reads: Reads, steps: &mut Vec<Step>) -> Result<Option<Taking>, Stop>
         ensures leads { IfOk result (λ found. IfSome found (λ taking.
             IsNextTaking (text_of self.now) reads (reverse steps.old.items) (tokens_of self.now) taking (reverse steps.new.items))) }
@@ -147,10 +165,12 @@ impl Cursor<'_> {
         ensures stop { IfErr result (λ stop. IsUnread stop) }
     {
         while let Some(step) = steps.pop() {
-            match self.rule(step, reads) {
-                Some(Rule::Take(taking)) => return Ok(Some(taking)),
-                Some(Rule::Skip) => {}
-                None => return Err(Stop::Kept(step.reason())),
+            let Some(rule) = self.rule(step, reads) else {
+                return Err(Stop::Kept(step.reason()));
+            };
+            match rule {
+                Rule::Take(taking) => return Ok(Some(taking)),
+                Rule::Skip => {}
             }
         }
         Ok(None)
@@ -158,7 +178,13 @@ impl Cursor<'_> {
 
     /// Takes what the steps say, the last one first, and adds the holes to none, until no step is left. Errors: something
     /// else is next; allocation failure. Cost: linear in what is taken.
-    pub fn read_steps(&mut self, reads: Reads, steps: &mut Vec<Step>, holes: &mut Vec<Hole>) -> Result<(), Stop>
+    #[tactic(auto, using(crate::proofs::CursorLemmas::end_within, crate::proofs::CursorLemmas::end_place, crate::proofs::ReadingLemmas::leads_none, crate::proofs::ReadingLemmas::leads_taken, crate::proofs::ReadingLemmas::leads_end, crate::proofs::HoleLemmas::holes_taken, crate::proofs::HoleLemmas::holes_none))]
+    pub fn read_steps(
+        &mut self,
+        reads: Reads,
+        steps: &mut Vec<Step>,
+        holes: &mut Vec<Hole>,
+    ) -> Result<(), Stop>
         requires { holes.old.items ≡ [] }
         ensures forward { IsForward self.old self.new }
         ensures leads { OnOk result (Leads (text_of self.old) reads (reverse steps.old.items) (tokens_of self.old) []
@@ -167,7 +193,7 @@ impl Cursor<'_> {
         ensures stop { IfErr result (λ stop. IsUnread stop) }
     {
         while let Some(taking) = self.next_taking(reads, steps)? {
-            push_steps(&taking, steps)?;
+            taking.push_behind(steps)?;
             self.apply(&taking, holes)?;
         }
         Ok(())

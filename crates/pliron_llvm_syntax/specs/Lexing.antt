@@ -1,5 +1,5 @@
 -- The token that a text begins with.
-use Rattle.std.specs.Prelude.{◌==◌, ◌&&◌, ◌||◌, ◌≡◌, ◌+◌, ◌-◌, ℕ, zero, suc, Bool, false, true, not, nat_lt, List, [], ◌∷◌, length, take, drop, take_while, slice_get, Option, Some, None, unwrap_or, if◌then◌else◌}
+use Rattle.std.specs.Prelude.{◌==◌, ◌&&◌, ◌||◌, ◌≡◌, ◌+◌, ◌-◌, ℕ, suc, Bool, false, not, nat_lt, List, [], ◌∷◌, length, take, drop, take_while, slice_get, Option, Some, None, unwrap_or, if◌then◌else◌}
 use Rattle.std.specs.Option.{option_map, option_or}
 use Rattle.std.specs.Char.{is_ascii_digit}
 use Rattle.pliron_llvm_syntax.specs.declared.tokens.Bracket.TheVariants.{Round, Square, Brace, Angle}
