@@ -103,3 +103,6 @@ pub end_of_next : (depth end : ℕ) (tokens : List Token) → 0 < depth → 0 < 
 end_of_next depth end [] is_open some = absurd (omega (arith, some))
 end_of_next zero end (token ∷ tokens) is_open some = absurd (omega (arith, is_open))
 end_of_next (suc depth) end (token ∷ tokens) is_open some = refl
+
+-- what skips a bracket
+pub ruleset bracket_steps = (end_within, end_place, next_some, behind_closed, end_of_closed, behind_next, end_of_next)

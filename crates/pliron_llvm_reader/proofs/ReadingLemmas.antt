@@ -83,3 +83,6 @@ leads_taken text reads steps tokens next left found taking more after rest all p
     subst (λ hs. Leads text reads steps tokens [] after rest hs) (sym holes_are)
     (subst (λ ts. Leads text reads steps tokens [] after ts (holes_with taking.role (first_start left (length text)) (end_of_taken taking.amount left) found)) (sym rest_is)
     (subst (λ ss. Leads text reads steps tokens [] ss (behind_taken taking.amount left) (holes_with taking.role (first_start left (length text)) (end_of_taken taking.amount left) found)) (sym steps_are) whole))
+
+-- what takes steps one after another
+pub ruleset reading_steps = (leads_none, leads_taken, leads_end)

@@ -38,3 +38,6 @@ lexed_next text start at tokens after token before e lexed some = subst (AreLexe
 
 pub lexed_end : (text : List ℕ) (start at end : ℕ) (tokens : List Token) → AreLexed text start at tokens → at ≤ end → end ≤ at → AreLexed text start end tokens
 lexed_end text start at end tokens before le ge = subst (λ n. AreLexed text start n tokens) (let e : at ≡ end = omega (arith, le, ge) in e) before
+
+-- what reads tokens one after another
+pub ruleset token_steps = (tokens_append, tokens_wider, tokens_none, lexed_none, lexed_blank, lexed_next, lexed_end)

@@ -39,8 +39,8 @@ abbrev pub tree : List Step → Move
 tree behind = taking OneTree Plain behind
 
 -- the move, where its beginning is next
-abbrev pub wanted : Bool → Move → Option Move
-wanted is_next move = if is_next then Some move else None
+abbrev pub if_next : Bool → Move → Option Move
+if_next is_next move = if is_next then Some move else None
 
 abbrev pub or_nothing : Option Move → Option Move
 or_nothing None = Some Skipped
@@ -48,7 +48,7 @@ or_nothing (Some move) = Some move
 
 -- the move, where its beginning is next, or nothing
 abbrev pub optional : Bool → Move → Option Move
-optional is_next move = or_nothing (wanted is_next move)
+optional is_next move = or_nothing (if_next is_next move)
 
 abbrev pub with_last : List Step → Option Step → List Step
 with_last steps None = steps
@@ -71,7 +71,7 @@ word_value_move word role =
     if is_expression word then Some (taking OneToken role (Part Expression ∷ []))
     else if is_named assembly_words word then Some (taking OneToken role (Part Assembly ∷ []))
     else if is_named reference_words word then Some (taking OneToken role (Part Reference ∷ []))
-    else wanted (is_constant word) (taking OneToken role [])
+    else if_next (is_constant word) (taking OneToken role [])
 
 abbrev pub value_move : List ℕ → Reads → List Token → Option Move
 value_move text reads tokens =
@@ -85,7 +85,7 @@ abbrev pub expression_move : List ℕ → Reads → List Token → Option Move
 expression_move text reads tokens =
     if is_word_next text tokens (codes "inrange") then Some (token (Part RoundBracket ∷ Part Expression ∷ []))
     else if is_word (first_kind tokens) then Some (token (Part Expression ∷ []))
-    else wanted (is_open_round (first_kind tokens)) (taking OneTree (role_of_more reads) [])
+    else if_next (is_open_round (first_kind tokens)) (taking OneTree (role_of_more reads) [])
 
 -- ---- values with their types
 
@@ -107,7 +107,7 @@ abbrev pub typed_value_move : List ℕ → Option Step → List Token → Option
 typed_value_move text last tokens =
     if is_word_next text tokens (codes "metadata") then Some (token (with_last (TypedValue ∷ []) last))
     else option_or (metadata_move text last tokens)
-    (wanted (is_type_next text tokens) (tree (with_last (Part Suffixes ∷ Part Attributes ∷ Value ∷ []) last)))
+    (if_next (is_type_next text tokens) (tree (with_last (Part Suffixes ∷ Part Attributes ∷ Value ∷ []) last)))
 
 abbrev pub arguments_move : List ℕ → List Token → Option Move
 arguments_move text tokens =
@@ -117,7 +117,7 @@ arguments_move text tokens =
 
 abbrev pub call_attributes_move : List ℕ → List Token → Option Move
 call_attributes_move text tokens =
-    option_or (wanted (is_call_attribute_next text tokens) (tree (Part PairValue ∷ CallAttributes ∷ [])))
+    option_or (if_next (is_call_attribute_next text tokens) (tree (Part PairValue ∷ CallAttributes ∷ [])))
     (optional (is_open_square (first_kind tokens)) (token (InList BundlesInside ∷ [])))
 
 abbrev pub clauses_move : List ℕ → List Token → Option Move
@@ -129,7 +129,7 @@ clauses_move text tokens =
 -- all that is left, in which no value is named outside brackets
 abbrev pub rest_move : List ℕ → List Token → Option Move
 rest_move text tokens =
-    if is_any tokens then wanted (not (is_name_next text tokens 37)) (tree (Rest ∷ [])) else Some Skipped
+    if is_any tokens then if_next (not (is_name_next text tokens 37)) (tree (Rest ∷ [])) else Some Skipped
 
 -- ---- the grammar
 
@@ -137,72 +137,72 @@ rest_move text tokens =
 abbrev pub piece_move : List ℕ → Reads → Piece → List Token → Option Move
 piece_move text reads PairValue tokens = optional (is_mark_next text tokens 61) (token (Part Tree ∷ []))
 piece_move text reads RoundBracket tokens = optional (is_open_round (first_kind tokens)) (tree [])
-piece_move text reads Tree tokens = wanted (is_any tokens) (tree [])
+piece_move text reads Tree tokens = if_next (is_any tokens) (tree [])
 piece_move text reads Suffixes tokens = optional (is_suffix_next text tokens) (tree (Part Suffixes ∷ []))
 piece_move text reads Attributes tokens = attribute_move text tokens
 piece_move text reads AlignNumber tokens =
-    option_or (wanted (is_open_round (first_kind tokens)) (tree [])) (optional (is_word (first_kind tokens)) (token []))
+    option_or (if_next (is_open_round (first_kind tokens)) (tree [])) (optional (is_word (first_kind tokens)) (token []))
 piece_move text reads Expression tokens = expression_move text reads tokens
 piece_move text reads Assembly tokens =
-    option_or (wanted (is_word (first_kind tokens)) (token (Part Assembly ∷ [])))
-    (wanted (is_text (first_kind tokens)) (token (Comma ∷ Part AssemblyText ∷ [])))
-piece_move text reads AssemblyText tokens = wanted (is_text (first_kind tokens)) (taking OneToken (role_of_more reads) [])
-piece_move text reads Reference tokens = wanted (is_name_next text tokens 64) (taking OneToken (role_of_more reads) [])
+    option_or (if_next (is_word (first_kind tokens)) (token (Part Assembly ∷ [])))
+    (if_next (is_text (first_kind tokens)) (token (Comma ∷ Part AssemblyText ∷ [])))
+piece_move text reads AssemblyText tokens = if_next (is_text (first_kind tokens)) (taking OneToken (role_of_more reads) [])
+piece_move text reads Reference tokens = if_next (is_name_next text tokens 64) (taking OneToken (role_of_more reads) [])
 
 -- what is inside the brackets of lists
 abbrev pub list_move : List ℕ → ListStep → List Token → Option Move
 list_move text LabelsInside tokens =
-    option_or (wanted (is_close_square (first_kind tokens)) (token []))
-    (wanted (is_word_next text tokens (codes "label")) (token (Block ∷ InList LabelsBehind ∷ [])))
+    option_or (if_next (is_close_square (first_kind tokens)) (token []))
+    (if_next (is_word_next text tokens (codes "label")) (token (Block ∷ InList LabelsBehind ∷ [])))
 list_move text LabelsBehind tokens =
-    option_or (wanted (is_close_square (first_kind tokens)) (token []))
-    (wanted (is_mark_next text tokens 44) (token (InList LabelsInside ∷ [])))
+    option_or (if_next (is_close_square (first_kind tokens)) (token []))
+    (if_next (is_mark_next text tokens 44) (token (InList LabelsInside ∷ [])))
 list_move text CasesInside tokens =
-    option_or (wanted (is_close_square (first_kind tokens)) (token []))
-    (wanted (is_type_next text tokens) (tree (Part Suffixes ∷ InList CaseValue ∷ Comma ∷ Label ∷ InList CasesInside ∷ [])))
+    option_or (if_next (is_close_square (first_kind tokens)) (token []))
+    (if_next (is_type_next text tokens) (tree (Part Suffixes ∷ InList CaseValue ∷ Comma ∷ Label ∷ InList CasesInside ∷ [])))
 list_move text CaseValue tokens =
-    wanted (is_word (first_kind tokens) && is_constant (first_bytes text tokens)) (token [])
-list_move text EntryEnd tokens = wanted (is_close_square (first_kind tokens)) (token [])
+    if_next (is_word (first_kind tokens) && is_constant (first_bytes text tokens)) (token [])
+list_move text EntryEnd tokens = if_next (is_close_square (first_kind tokens)) (token [])
 list_move text MoreEntries tokens =
     optional (is_mark_next text tokens 44 && is_open_square (first_kind (drop 1 tokens))) (token (Entries ∷ []))
 list_move text ArgumentsInside tokens = arguments_move text tokens
 list_move text ArgumentsBehind tokens =
-    option_or (wanted (is_close_round (first_kind tokens)) (token []))
-    (wanted (is_mark_next text tokens 44) (token (InList ArgumentsInside ∷ [])))
+    option_or (if_next (is_close_round (first_kind tokens)) (token []))
+    (if_next (is_mark_next text tokens 44) (token (InList ArgumentsInside ∷ [])))
 list_move text BundlesInside tokens =
-    option_or (wanted (is_close_square (first_kind tokens)) (token []))
-    (wanted (is_text (first_kind tokens)) (token (Arguments ∷ InList BundlesBehind ∷ [])))
+    option_or (if_next (is_close_square (first_kind tokens)) (token []))
+    (if_next (is_text (first_kind tokens)) (token (Arguments ∷ InList BundlesBehind ∷ [])))
 list_move text BundlesBehind tokens =
-    option_or (wanted (is_close_square (first_kind tokens)) (token []))
-    (wanted (is_mark_next text tokens 44) (token (InList BundlesInside ∷ [])))
+    option_or (if_next (is_close_square (first_kind tokens)) (token []))
+    (if_next (is_mark_next text tokens 44) (token (InList BundlesInside ∷ [])))
 
 -- what is next of a statement
 abbrev pub move_of : List ℕ → Reads → Step → List Token → Option Move
 move_of text reads Flags tokens = optional (is_flag_next text tokens) (token (Part PairValue ∷ Part RoundBracket ∷ Flags ∷ []))
-move_of text reads TypeName tokens = wanted (is_type_next text tokens) (tree (Part Suffixes ∷ []))
+move_of text reads TypeName tokens = if_next (is_type_next text tokens) (tree (Part Suffixes ∷ []))
 move_of text reads Value tokens = value_move text reads tokens
 move_of text reads TypedValue tokens = typed_value_move text None tokens
 move_of text reads MoreTypedValues tokens =
     optional (is_mark_next text tokens 44 && is_type_next text (drop 1 tokens)) (token (TypedValue ∷ MoreTypedValues ∷ []))
-move_of text reads Comma tokens = wanted (is_mark_next text tokens 44) (token [])
-move_of text reads To tokens = wanted (is_word_next text tokens (codes "to")) (token [])
-move_of text reads Unwind tokens = wanted (is_word_next text tokens (codes "unwind")) (token [])
-move_of text reads Label tokens = wanted (is_word_next text tokens (codes "label")) (token (Block ∷ []))
-move_of text reads Block tokens = wanted (is_name_next text tokens 37) (taking OneToken Successor [])
-move_of text reads Labels tokens = wanted (is_open_square (first_kind tokens)) (token (InList LabelsInside ∷ []))
-move_of text reads Cases tokens = wanted (is_open_square (first_kind tokens)) (token (InList CasesInside ∷ []))
+move_of text reads Comma tokens = if_next (is_mark_next text tokens 44) (token [])
+move_of text reads To tokens = if_next (is_word_next text tokens (codes "to")) (token [])
+move_of text reads Unwind tokens = if_next (is_word_next text tokens (codes "unwind")) (token [])
+move_of text reads Label tokens = if_next (is_word_next text tokens (codes "label")) (token (Block ∷ []))
+move_of text reads Block tokens = if_next (is_name_next text tokens 37) (taking OneToken Successor [])
+move_of text reads Labels tokens = if_next (is_open_square (first_kind tokens)) (token (InList LabelsInside ∷ []))
+move_of text reads Cases tokens = if_next (is_open_square (first_kind tokens)) (token (InList CasesInside ∷ []))
 move_of text reads Entries tokens =
-    wanted (is_open_square (first_kind tokens)) (token (Value ∷ Comma ∷ Block ∷ InList EntryEnd ∷ InList MoreEntries ∷ []))
-move_of text reads Arguments tokens = wanted (is_open_round (first_kind tokens)) (token (InList ArgumentsInside ∷ []))
+    if_next (is_open_square (first_kind tokens)) (token (Value ∷ Comma ∷ Block ∷ InList EntryEnd ∷ InList MoreEntries ∷ []))
+move_of text reads Arguments tokens = if_next (is_open_round (first_kind tokens)) (token (InList ArgumentsInside ∷ []))
 move_of text reads CallAttributes tokens = call_attributes_move text tokens
 move_of text reads Clauses tokens = clauses_move text tokens
 move_of text reads Branch tokens =
-    option_or (wanted (is_word_next text tokens (codes "label")) (token (Block ∷ [])))
+    option_or (if_next (is_word_next text tokens (codes "label")) (token (Block ∷ [])))
     (typed_value_move text (Some BranchLabels) tokens)
 move_of text reads BranchLabels tokens =
-    wanted (is_mark_next text tokens 44) (token (Label ∷ Comma ∷ Label ∷ []))
+    if_next (is_mark_next text tokens 44) (token (Label ∷ Comma ∷ Label ∷ []))
 move_of text reads ReturnValue tokens =
-    option_or (wanted (is_word_next text tokens (codes "void")) (token [])) (typed_value_move text None tokens)
+    option_or (if_next (is_word_next text tokens (codes "void")) (token [])) (typed_value_move text None tokens)
 move_of text reads Rest tokens = rest_move text tokens
 move_of text reads (Part piece) tokens = piece_move text reads piece tokens
 move_of text reads (InList step) tokens = list_move text step tokens

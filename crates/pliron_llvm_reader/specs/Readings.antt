@@ -21,17 +21,17 @@ behind_taken OneToken tokens = drop 1 tokens
 behind_taken OneTree tokens = behind_tree tokens
 
 -- the last hole ends at this byte
-abbrev pub lengthened : ℕ → List Hole → List Hole
-lengthened end [] = []
-lengthened end (hole ∷ []) = hole_between hole.kind hole.span.start end ∷ []
-lengthened end (hole ∷ next ∷ holes) = hole ∷ lengthened end (next ∷ holes)
+abbrev pub with_end : ℕ → List Hole → List Hole
+with_end end [] = []
+with_end end (hole ∷ []) = hole_between hole.kind hole.span.start end ∷ []
+with_end end (hole ∷ next ∷ holes) = hole ∷ with_end end (next ∷ holes)
 
 -- the holes with what stands between these bytes
 abbrev pub holes_with : Role → ℕ → ℕ → List Hole → List Hole
 holes_with Plain start end holes = holes
 holes_with Operand start end holes = holes ++ hole_between OperandHole start end ∷ []
 holes_with Successor start end holes = holes ++ hole_between SuccessorHole start end ∷ []
-holes_with More start end holes = lengthened end holes
+holes_with More start end holes = with_end end holes
 
 -- where what is taken ends
 abbrev pub end_of_taken : Amount → List Token → ℕ

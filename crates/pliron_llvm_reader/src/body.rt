@@ -170,7 +170,7 @@ fn read_line(
     requires ordered { (span_of_line line).start ≤ (span_of_line line).end }
     requires within { (span_of_line line).end ≤ length text.now }
     ensures line { IfOk result (λ read. line_of read ≡ line) }
-    ensures row { IfOk result (λ read. AddsLine text.now read holes.old.items holes.new.items) }
+    ensures adds { IfOk result (λ read. AddsLine text.now read holes.old.items holes.new.items) }
 {
     match line {
         Line::Label(span) => Ok(BodyLine::Label(span)),

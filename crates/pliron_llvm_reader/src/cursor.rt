@@ -62,8 +62,8 @@ impl<'t> Cursor<'t> {
     pub fn at_any(&self) -> bool
         ensures exact { result ≡ is_any (tokens_of self.now) }
         ensures next { OnTrue result (HasNext self.now) }
-        ensures some { OnTrue result (0 < length (tokens_of self.now)) }
-        ensures end { OnFalse result (tokens_of self.now ≡ []) }
+        ensures tokens { OnTrue result (0 < length (tokens_of self.now)) }
+        ensures no_tokens { OnFalse result (tokens_of self.now ≡ []) }
     {
         !self.tokens.is_empty()
     }
@@ -156,7 +156,7 @@ impl<'t> Cursor<'t> {
     }
 
     /// Takes the next one, and where it opens a bracket all up to the end of the bracket. Cost: linear in it.
-    #[tactic(auto, using(crate::proofs::CursorLemmas::end_within, crate::proofs::CursorLemmas::end_place, crate::proofs::CursorLemmas::next_some, crate::proofs::CursorLemmas::behind_closed, crate::proofs::CursorLemmas::end_of_closed, crate::proofs::CursorLemmas::behind_next, crate::proofs::CursorLemmas::end_of_next))]
+    #[tactic(auto, using(crate::proofs::CursorLemmas::bracket_steps))]
     pub fn skip_tree(&mut self)
         ensures forward { IsForward self.old self.new }
         ensures taken { HasNext self.old → HasTaken self.old self.new }

@@ -7,7 +7,7 @@ ghost use Rattle.std.specs.Option.{option_or};
 ghost use Rattle.pliron_llvm_reader.specs.Cursors.{text_of, tokens_of, first_kind, first_bytes, is_word, is_open_square};
 ghost use Rattle.pliron_llvm_reader.specs.Cursors.{is_close_square, is_mark_next, is_name_next, is_word_next, is_type_next, HasNext};
 ghost use Rattle.pliron_llvm_reader.specs.Words.{is_constant as is_constant_word};
-ghost use Rattle.pliron_llvm_reader.specs.Grammar.{taking, token, tree, wanted, or_nothing, role_of_constant, role_of_more};
+ghost use Rattle.pliron_llvm_reader.specs.Grammar.{taking, token, tree, if_next, or_nothing, role_of_constant, role_of_more};
 ghost use Rattle.pliron_llvm_reader.specs.Grammar.{word_value_move, value_move, expression_move, attribute_move, metadata_move, typed_value_move};
 ghost use Rattle.pliron_llvm_reader.specs.Grammar.{arguments_move, call_attributes_move, clauses_move, rest_move, piece_move, list_move, move_of, said_by, with_last, Fits, FitsRole};
 ghost use Rattle.pliron_llvm_reader.specs.declared.rules.Amount.TheVariants.{OneToken};
@@ -82,7 +82,7 @@ impl Cursor<'_> {
     // A token is taken, where it is next; then come these steps.
     fn token_if(&self, is_next: bool, behind: &'static [Step]) -> Option<Rule>
         requires { OnTrue is_next (HasNext self.now) }
-        ensures says { said_by result ≡ wanted is_next (token behind.now) }
+        ensures says { said_by result ≡ if_next is_next (token behind.now) }
         ensures fits { IfSome result (λ rule. Fits self.now rule) }
     {
         self.token_then(is_next, behind, None)
@@ -91,7 +91,7 @@ impl Cursor<'_> {
     // A token is taken, where it is next; then come these steps, and the last one, if there is one.
     fn token_then(&self, is_next: bool, behind: &'static [Step], last: Option<Step>) -> Option<Rule>
         requires { OnTrue is_next (HasNext self.now) }
-        ensures says { said_by result ≡ wanted is_next (token (with_last behind.now last)) }
+        ensures says { said_by result ≡ if_next is_next (token (with_last behind.now last)) }
         ensures fits { IfSome result (λ rule. Fits self.now rule) }
     {
         if is_next {
@@ -109,7 +109,7 @@ impl Cursor<'_> {
     // A token or a bracket is taken, where it is next; then come these steps, and the last one, if there is one.
     fn tree_then(&self, is_next: bool, behind: &'static [Step], last: Option<Step>) -> Option<Rule>
         requires { OnTrue is_next (HasNext self.now) }
-        ensures says { said_by result ≡ wanted is_next (tree (with_last behind.now last)) }
+        ensures says { said_by result ≡ if_next is_next (tree (with_last behind.now last)) }
         ensures fits { IfSome result (λ rule. Fits self.now rule) }
     {
         if is_next {
@@ -127,7 +127,7 @@ impl Cursor<'_> {
     // A token or a bracket is taken, where it is next; then come these steps.
     fn tree_if(&self, is_next: bool, behind: &'static [Step]) -> Option<Rule>
         requires { OnTrue is_next (HasNext self.now) }
-        ensures says { said_by result ≡ wanted is_next (tree behind.now) }
+        ensures says { said_by result ≡ if_next is_next (tree behind.now) }
         ensures fits { IfSome result (λ rule. Fits self.now rule) }
     {
         self.tree_then(is_next, behind, None)
@@ -168,7 +168,7 @@ impl Cursor<'_> {
     ) -> Option<Rule>
         requires next { OnTrue is_next (HasNext self.now) }
         requires role { OnTrue is_next (FitsRole self.now role) }
-        ensures says { said_by result ≡ wanted is_next (taking amount role behind.now) }
+        ensures says { said_by result ≡ if_next is_next (taking amount role behind.now) }
         ensures fits { IfSome result (λ rule. Fits self.now rule) }
     {
         if is_next {
@@ -192,7 +192,7 @@ impl Cursor<'_> {
         behind: &'static [Step],
     ) -> Option<Rule>
         requires { OnTrue is_next (HasNext self.now) }
-        ensures says { said_by result ≡ wanted is_next (taking amount (role_of_constant reads) behind.now) }
+        ensures says { said_by result ≡ if_next is_next (taking amount (role_of_constant reads) behind.now) }
         ensures fits { IfSome result (λ rule. Fits self.now rule) }
     {
         match reads {
@@ -204,7 +204,7 @@ impl Cursor<'_> {
     // The end of a constant is taken, where it is next.
     fn more_if(&self, is_next: bool, amount: Amount, reads: Reads) -> Option<Rule>
         requires { OnTrue is_next (HasNext self.now) }
-        ensures says { said_by result ≡ wanted is_next (taking amount (role_of_more reads) []) }
+        ensures says { said_by result ≡ if_next is_next (taking amount (role_of_more reads) []) }
         ensures fits { IfSome result (λ rule. Fits self.now rule) }
     {
         match reads {
@@ -215,7 +215,8 @@ impl Cursor<'_> {
 
     // A local name is taken as this, where it is next.
     fn local_if(&self, role: Role) -> Option<Rule>
-        ensures says { said_by result ≡ wanted (is_name_next (text_of self.now) (tokens_of self.now) 37) (taking OneToken role []) }
+        ensures name { said_by result
+            ≡ if_next (is_name_next (text_of self.now) (tokens_of self.now) 37) (taking OneToken role []) }
         ensures fits { IfSome result (λ rule. Fits self.now rule) }
     {
         self.role_if(self.at_name(b'%'), Amount::OneToken, role, &[])
@@ -439,7 +440,7 @@ impl Cursor<'_> {
 
     // The end of a list in square brackets is taken.
     fn square_end(&self) -> Option<Rule>
-        ensures says { said_by result ≡ wanted (is_close_square (first_kind (tokens_of self.now))) (token []) }
+        ensures says { said_by result ≡ if_next (is_close_square (first_kind (tokens_of self.now))) (token []) }
         ensures fits { IfSome result (λ rule. Fits self.now rule) }
     {
         self.token_if(self.at_close_square(), &[])
@@ -447,7 +448,8 @@ impl Cursor<'_> {
 
     // A comma is taken; then come these steps.
     fn comma_then(&self, behind: &'static [Step]) -> Option<Rule>
-        ensures says { said_by result ≡ wanted (is_mark_next (text_of self.now) (tokens_of self.now) 44) (token behind.now) }
+        ensures says { said_by result
+            ≡ if_next (is_mark_next (text_of self.now) (tokens_of self.now) 44) (token behind.now) }
         ensures fits { IfSome result (λ rule. Fits self.now rule) }
     {
         self.token_if(self.at_mark(b','), behind)
@@ -455,7 +457,8 @@ impl Cursor<'_> {
 
     // This word is taken; then come these steps.
     fn word_then(&self, word: &[u8], behind: &'static [Step]) -> Option<Rule>
-        ensures says { said_by result ≡ wanted (is_word_next (text_of self.now) (tokens_of self.now) word.now) (token behind.now) }
+        ensures says { said_by result
+            ≡ if_next (is_word_next (text_of self.now) (tokens_of self.now) word.now) (token behind.now) }
         ensures fits { IfSome result (λ rule. Fits self.now rule) }
     {
         self.token_if(self.at_word(word), behind)

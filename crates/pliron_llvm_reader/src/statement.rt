@@ -94,7 +94,8 @@ impl Cursor<'_> {
     fn opcode(&mut self) -> Result<Opcode, Stop>
         ensures forward { IsForward self.old self.new }
         ensures opcode { IfOk result (λ opcode. IsOpcodeOf (text_of self.old) opcode.span opcode.row) }
-        ensures row { IfOk result (λ opcode. row_named_in (first_bytes (text_of self.old) (tokens_of self.old)) ≡ Some opcode.row) }
+        ensures row { IfOk result (λ opcode.
+            row_named_in (first_bytes (text_of self.old) (tokens_of self.old)) ≡ Some opcode.row) }
         ensures place { IfOk result (λ opcode. opcode.span ≡ first_span (text_of self.old) (tokens_of self.old)) }
         ensures end { IfOk result (λ opcode. opcode.span.end ≡ self.new.end) }
         ensures begins { IfOk result (λ opcode. opcode.span.start ≡ place_of self.old) }
@@ -133,7 +134,7 @@ impl Cursor<'_> {
 
     // Whether what is behind an opcode gives a value.
     fn gives(&self, row: Row, steps: &mut Vec<Step>, holes: &mut Vec<Hole>) -> Result<bool, Stop>
-        ensures exact { IfOk result (λ gives. GivesBy (text_of self.now) (tokens_of self.now) row gives) }
+        ensures gives { IfOk result (λ gives. GivesBy (text_of self.now) (tokens_of self.now) row gives) }
         ensures may { IfOk result (λ gives. MayGive row.gives gives) }
         ensures stop { IfErr result (λ stop. IsUnread stop) }
     {
@@ -153,7 +154,8 @@ impl Cursor<'_> {
     ) -> Result<(), Stop>
         ensures forward { IsForward self.old self.new }
         ensures row { OnOk result (HasHoles (text_of self.old) row (tokens_of self.old) holes.new.items) }
-        ensures holes { OnOk result (AreHolesBetween (text_of self.old) self.old.end (length (text_of self.old)) holes.new.items) }
+        ensures holes { OnOk result
+            (AreHolesBetween (text_of self.old) self.old.end (length (text_of self.old)) holes.new.items) }
         ensures stop { IfErr result (λ stop. IsUnread stop) }
     {
         steps.clear();

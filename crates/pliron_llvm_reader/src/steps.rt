@@ -5,7 +5,7 @@ ghost use Rattle.std.specs.Prelude.{◌≡◌, ◌∷◌, ◌++◌, [], reverse,
 ghost use Rattle.pliron_llvm_reader.specs.Cursors.{text_of, tokens_of, place_of, HasNext, IsForward, HasTaken};
 ghost use Rattle.pliron_llvm_reader.specs.Grammar.{with_last, FitsTaking};
 ghost use Rattle.pliron_llvm_reader.specs.Holes.{AreHolesBetween, hole_between};
-ghost use Rattle.pliron_llvm_reader.specs.Readings.{behind_taken, end_of_taken, holes_with, lengthened, Skips, IsNextTaking, Leads};
+ghost use Rattle.pliron_llvm_reader.specs.Readings.{behind_taken, end_of_taken, holes_with, with_end, Skips, IsNextTaking, Leads};
 ghost use Rattle.pliron_llvm_reader.specs.Stops.{IsUnread};
 
 use crate::cursor::Cursor;
@@ -59,9 +59,9 @@ impl Step {
 }
 
 // The last hole ends at this byte.
-#[tactic(auto, using(crate::proofs::HoleLemmas::lengthened_last, crate::proofs::StopLemmas::unread_memory))]
+#[tactic(auto, using(crate::proofs::HoleLemmas::with_end_last, crate::proofs::StopLemmas::unread_memory))]
 fn lengthen(end: usize, holes: &mut Vec<Hole>) -> Result<(), Stop>
-    ensures ok { OnOk result (holes.new.items ≡ lengthened end holes.old.items) }
+    ensures ok { OnOk result (holes.new.items ≡ with_end end holes.old.items) }
     ensures stop { IfErr result (λ stop. IsUnread stop) }
 {
     if let Some(mut hole) = holes.pop() {
@@ -158,10 +158,11 @@ impl Cursor<'_> {
     // What is taken next; none, where no step is left. Steps of which nothing is there are left out.
     #[tactic(auto, using(crate::proofs::ReadingLemmas::skips_none, crate::proofs::ReadingLemmas::skips_step, crate::proofs::ReadingLemmas::skips_to, crate::proofs::ReadingLemmas::popped))]
     fn next_taking(&self, reads: Reads, steps: &mut Vec<Step>) -> Result<Option<Taking>, Stop>
-        ensures leads { IfOk result (λ found. IfSome found (λ taking.
-            IsNextTaking (text_of self.now) reads (reverse steps.old.items) (tokens_of self.now) taking (reverse steps.new.items))) }
+        ensures next { IfOk result (λ found. IfSome found (λ taking. IsNextTaking (text_of self.now) reads
+            (reverse steps.old.items) (tokens_of self.now) taking (reverse steps.new.items))) }
         ensures fits { IfOk result (λ found. IfSome found (λ taking. FitsTaking self.now taking)) }
-        ensures end { IfOk result (λ found. IfNone found (Skips (text_of self.now) reads (reverse steps.old.items) (tokens_of self.now) [])) }
+        ensures skips { IfOk result (λ found. IfNone found
+            (Skips (text_of self.now) reads (reverse steps.old.items) (tokens_of self.now) [])) }
         ensures stop { IfErr result (λ stop. IsUnread stop) }
     {
         while let Some(step) = steps.pop() {
@@ -176,9 +177,9 @@ impl Cursor<'_> {
         Ok(None)
     }
 
-    /// Takes what the steps say, the last one first, and adds the holes to none, until no step is left. Errors: something
-    /// else is next; allocation failure. Cost: linear in what is taken.
-    #[tactic(auto, using(crate::proofs::CursorLemmas::end_within, crate::proofs::CursorLemmas::end_place, crate::proofs::ReadingLemmas::leads_none, crate::proofs::ReadingLemmas::leads_taken, crate::proofs::ReadingLemmas::leads_end, crate::proofs::HoleLemmas::holes_taken, crate::proofs::HoleLemmas::holes_none))]
+    /// Takes what the steps say, the last one first, and adds the holes, until no step is left. Asks that there is no
+    /// hole yet. Errors: something else is next; allocation failure. Cost: linear in what is taken.
+    #[tactic(auto, using(crate::proofs::CursorLemmas::end_within, crate::proofs::CursorLemmas::end_place, crate::proofs::ReadingLemmas::reading_steps, crate::proofs::HoleLemmas::hole_steps))]
     pub fn read_steps(
         &mut self,
         reads: Reads,

@@ -15,7 +15,7 @@ fn is_trivia(kind: TokenKind) -> bool
 /// Adds the tokens of the text from this byte on to none, but for blanks and comments, in their order. Asks that the
 /// byte is in the text, or its end. Errors: a token is broken; allocation failure. Cost: linear in the text from there on.
 #[doc(hidden)]
-#[tactic(auto, using(crate::proofs::TokenLemmas::tokens_append, crate::proofs::TokenLemmas::tokens_wider, crate::proofs::TokenLemmas::tokens_none, crate::proofs::TokenLemmas::lexed_none, crate::proofs::TokenLemmas::lexed_blank, crate::proofs::TokenLemmas::lexed_next, crate::proofs::TokenLemmas::lexed_end, crate::proofs::StopLemmas::fault_memory))]
+#[tactic(auto, using(crate::proofs::TokenLemmas::token_steps, crate::proofs::StopLemmas::fault_memory))]
 pub fn push_tokens(text: &[u8], start: usize, tokens: &mut Vec<Token>) -> Result<(), Fault>
     requires start { start ≤ length text.now }
     requires empty { tokens.old.items ≡ [] }
