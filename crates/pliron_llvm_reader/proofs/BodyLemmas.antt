@@ -1,13 +1,15 @@
 -- Lines of a body.
 use Rattle.std.proofs.Common.{◌≡◌, ℕ, zero, suc, ◌+◌, ◌<◌, ◌≤◌, List, [], ◌∷◌, ◌++◌, length, get_or, take, map, sym, ap, ◌∙◌, subst, append_assoc, arith}
-use Rattle.std.proofs.lemmas.List.{take_more, length-take-le, length-map}
+use Rattle.std.proofs.lemmas.List.{take_more, length-map, length-take-le, map-append}
 use Rattle.pliron_llvm_syntax.specs.declared.lines.Line.{Line}
 use Rattle.pliron_llvm_syntax.specs.Lines.{span_of_line, AreLines}
 use Rattle.pliron_llvm_reader.specs.declared.blocks.LineRole.{LineRole}
 use Rattle.pliron_llvm_reader.specs.declared.blocks.BlockLines.{BlockLines}
 use Rattle.pliron_llvm_reader.specs.declared.body.BodyLine.{BodyLine}
 use Rattle.pliron_llvm_reader.specs.Blocks.{AreBlocks}
-use Rattle.pliron_llvm_reader.specs.Bodies.{role_of_line}
+use Rattle.pliron_llvm_reader.specs.Bodies.{role_of_line, line_of, AddsLine, AreRows}
+use Rattle.pliron_llvm_reader.specs.Bodies.AreRows.{Nothing, Behind}
+use Rattle.pliron_llvm_syntax.specs.declared.forms.Hole.{Hole}
 
 lines_le : (start end : ℕ) (lines : List Line) → AreLines start end lines → start ≤ end
 lines_le start end [] h = h
@@ -31,9 +33,11 @@ lines_lower low start end [] le h = omega (arith, h, le)
 lines_lower low start end (line ∷ lines) le h = ((let begins = h.0 in omega (arith, begins, le)), h.1, h.2)
 
 -- a line more was read
-pub lines_grown : (before now after lines : List Line) (i : ℕ) (d : Line) → i < length lines → now ≡ before ++ take i lines → after ≡ now ++ get_or lines i d ∷ [] → after ≡ before ++ take (i + 1) lines
-lines_grown before now after lines i d less e grown =
-    grown ∙ ap (λ xs. xs ++ get_or lines i d ∷ []) e ∙ append_assoc before (take i lines) (get_or lines i d ∷ []) ∙ ap (λ xs. before ++ xs) (sym (take_more lines i d less))
+pub lines_read : (before : List Line) (now after : List BodyLine) (read : BodyLine) (lines : List Line) (i : ℕ) (d : Line) → line_of read ≡ get_or lines i d → i < length lines → map line_of now ≡ before ++ take i lines → after ≡ now ++ read ∷ []
+    → map line_of after ≡ before ++ take (i + 1) lines
+lines_read before now after read lines i d same less e grown =
+    ap (map line_of) grown ∙ map-append line_of now (read ∷ []) ∙ ap (λ x. map line_of now ++ x ∷ []) same ∙ ap (λ xs. xs ++ get_or lines i d ∷ []) e
+    ∙ append_assoc before (take i lines) (get_or lines i d ∷ []) ∙ ap (λ xs. before ++ xs) (sym (take_more lines i d less))
 
 -- lines of the text up to this byte end there
 pub lines_within : (text before : List ℕ) (start end : ℕ) (lines read : List Line) → before ≡ take end text → end ≤ length text → AreLines start (length before) lines → read ≡ lines → AreLines start end read
@@ -46,3 +50,11 @@ pub blocks_read : (roles : List LineRole) (lines : List BodyLine) (blocks : List
 blocks_read roles lines blocks e h =
     let long : length roles ≡ length lines = ap length e ∙ length-map lines role_of_line in
     subst (λ rs. AreBlocks rs 0 (length lines) blocks) e (subst (λ n. AreBlocks roles 0 n blocks) long h)
+
+-- no line
+pub rows_none : (text : List ℕ) (lines : List BodyLine) (holes : List Hole) → lines ≡ [] → holes ≡ [] → AreRows text lines holes
+rows_none text lines holes e none = subst (λ xs. AreRows text xs holes) (sym e) (subst (AreRows text []) (sym none) Nothing)
+
+-- a line more
+pub rows_grown : (text : List ℕ) (lines after : List BodyLine) (holes grown : List Hole) (line : BodyLine) → AreRows text lines holes → AddsLine text line holes grown → after ≡ lines ++ line ∷ [] → AreRows text after grown
+rows_grown text lines after holes grown line rows adds e = subst (λ xs. AreRows text xs grown) (sym e) (Behind line grown rows adds)

@@ -1,10 +1,10 @@
 -- Cursors that move forward.
-use Rattle.std.proofs.Common.{◌≡◌, ℕ, ◌<◌, ◌≤◌, List, [], ◌∷◌, length, get_or, refl, arith}
+use Rattle.std.proofs.Common.{◌≡◌, ℕ, zero, suc, ◌<◌, ◌≤◌, List, [], ◌∷◌, length, get_or, drop, refl, arith}
 use Rattle.pliron_llvm_syntax.specs.declared.tokens.Token.{Token}
 use Rattle.pliron_llvm_syntax.specs.Tokens.{bytes_of_span}
 use Rattle.pliron_llvm_reader.specs.TokenLists.{AreTokens}
 use Rattle.pliron_llvm_reader.specs.declared.cursor.Cursor.{Cursor}
-use Rattle.pliron_llvm_reader.specs.Cursors.{text_of, first_start, place_of, first_bytes, bytes_of_next, HasNext}
+use Rattle.pliron_llvm_reader.specs.Cursors.{text_of, tokens_of, first_start, first_end, first_kind, place_of, first_bytes, depth_behind, behind_brackets, end_of_brackets, HasNext}
 use Rattle.pliron_llvm_reader.proofs.TokenLemmas.{tokens_le}
 
 pub first_start_ge : (start end : ℕ) (tokens : List Token) → AreTokens start end tokens → start ≤ first_start tokens end
@@ -49,5 +49,60 @@ first_text_of text [] d some = absurd (omega (arith, some))
 first_text_of text (token ∷ tokens) d some = refl
 
 -- its bytes
-pub first_text : (cursor : Cursor) (d : Token) → 0 < length cursor.tokens.now → bytes_of_next cursor ≡ bytes_of_span (text_of cursor) (get_or cursor.tokens.now 0 d).span
+pub first_text : (cursor : Cursor) (d : Token) → 0 < length cursor.tokens.now → first_bytes (text_of cursor) (tokens_of cursor) ≡ bytes_of_span (text_of cursor) (get_or cursor.tokens.now 0 d).span
 first_text cursor d some = first_text_of (text_of cursor) cursor.tokens.now d some
+
+first_end_of : (tokens : List Token) (d : Token) (end : ℕ) → 0 < length tokens → first_end tokens end ≡ (get_or tokens 0 d).span.end
+first_end_of [] d end some = absurd (omega (arith, some))
+first_end_of (token ∷ tokens) d end some = refl
+
+-- where it ends
+pub first_ends : (cursor : Cursor) (d : Token) (end : ℕ) → 0 < length cursor.tokens.now → first_end (tokens_of cursor) end ≡ (get_or cursor.tokens.now 0 d).span.end
+first_ends cursor d end some = first_end_of (tokens_of cursor) d end some
+
+first_end_more : (start end : ℕ) (tokens : List Token) → AreTokens start end tokens → start ≤ first_end tokens start
+first_end_more start end [] h = omega arith
+first_end_more start end (token ∷ tokens) h = let some = h.1.0 in let begins = h.0 in omega (arith, some, begins)
+
+-- it isn't before the end of the last one
+pub end_first : (cursor : Cursor) → cursor.end ≤ first_end (tokens_of cursor) cursor.end
+end_first cursor = first_end_more cursor.end (length (text_of cursor)) cursor.tokens.now cursor.order
+
+-- where a token is left, it ends behind the end of the last one
+pub next_ends : (cursor : Cursor) → HasNext cursor → cursor.end < first_end (tokens_of cursor) cursor.end
+next_ends cursor next = next_more cursor.end (length (text_of cursor)) cursor.tokens.now cursor.order next
+  where
+    next_more : (start end : ℕ) (tokens : List Token) → AreTokens start end tokens → first_start tokens end < end → start < first_end tokens start
+    next_more start end [] h less = absurd (omega (arith, less))
+    next_more start end (token ∷ tokens) h less = let some = h.1.0 in let begins = h.0 in omega (arith, some, begins)
+
+next_end_of : (tokens : List Token) (length end : ℕ) → first_start tokens length < length → first_end tokens end ≡ first_end tokens 0
+next_end_of [] length end next = absurd (omega (arith, next))
+next_end_of (token ∷ tokens) length end next = refl
+
+-- where a token is left, its end is in the text
+pub next_end : (cursor : Cursor) (end : ℕ) → HasNext cursor → first_end (tokens_of cursor) end ≡ first_end (tokens_of cursor) 0
+next_end cursor end next = next_end_of (tokens_of cursor) (length (text_of cursor)) end next
+
+-- ---- brackets
+
+pub behind_closed : (tokens : List Token) → behind_brackets 0 tokens ≡ tokens
+behind_closed [] = refl
+behind_closed (token ∷ tokens) = refl
+
+pub end_of_closed : (end : ℕ) (tokens : List Token) → end_of_brackets 0 end tokens ≡ end
+end_of_closed end [] = refl
+end_of_closed end (token ∷ tokens) = refl
+
+pub behind_next : (depth : ℕ) (tokens : List Token) → 0 < depth → 0 < length tokens → behind_brackets depth tokens ≡ behind_brackets (depth_behind (first_kind tokens) depth) (drop 1 tokens)
+behind_next depth [] is_open some = absurd (omega (arith, some))
+behind_next zero (token ∷ tokens) is_open some = absurd (omega (arith, is_open))
+behind_next (suc depth) (token ∷ tokens) is_open some = refl
+
+pub end_of_next : (depth end : ℕ) (tokens : List Token) → 0 < depth → 0 < length tokens → end_of_brackets depth end tokens ≡ end_of_brackets (depth_behind (first_kind tokens) depth) (first_end tokens end) (drop 1 tokens)
+end_of_next depth end [] is_open some = absurd (omega (arith, some))
+end_of_next zero end (token ∷ tokens) is_open some = absurd (omega (arith, is_open))
+end_of_next (suc depth) end (token ∷ tokens) is_open some = refl
+
+-- what skips a bracket
+pub ruleset bracket_steps = (end_within, end_place, next_some, behind_closed, end_of_closed, behind_next, end_of_next)

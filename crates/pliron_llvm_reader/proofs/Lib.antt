@@ -5,3 +5,5 @@ pub mod HoleLemmas
 pub mod BlockLemmas
 pub mod BodyLemmas
 pub mod StatementLemmas
+pub mod GrammarLemmas
+pub mod ReadingLemmas

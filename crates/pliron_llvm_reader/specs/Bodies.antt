@@ -1,5 +1,5 @@
 -- Lines of a body.
-use Rattle.std.specs.Prelude.{◌≡◌, ℕ, List, take, if◌then◌else◌}
+use Rattle.std.specs.Prelude.{◌≡◌, ℕ, List, [], ◌∷◌, ◌++◌, length, take, if◌then◌else◌}
 use Rattle.pliron_llvm_syntax.specs.declared.lines.Line.{Line}
 use Rattle.pliron_llvm_syntax.specs.declared.lines.Line.TheVariants.{Label as LabelText, Statement as StatementText}
 use Rattle.pliron_llvm_syntax.specs.declared.tokens.Span.{Span}
@@ -12,6 +12,8 @@ use Rattle.pliron_llvm_reader.specs.declared.body.BodyStop.{BodyStop}
 use Rattle.pliron_llvm_reader.specs.declared.body.BodyStop.TheVariants.{Kept as KeptAt, Broken as BrokenText}
 use Rattle.pliron_llvm_reader.specs.declared.stop.Stop.{Stop}
 use Rattle.pliron_llvm_reader.specs.declared.stop.Stop.TheVariants.{Kept, Broken}
+use Rattle.pliron_llvm_syntax.specs.declared.forms.Hole.{Hole}
+use Rattle.pliron_llvm_reader.specs.Rows.{IsRowOf}
 use Rattle.pliron_llvm_reader.specs.Statements.{IsStatementOf}
 
 -- where a line is
@@ -37,3 +39,22 @@ IsStatementLine text span line = (line.span ≡ span) × IsStatementOf (take spa
 abbrev pub stop_at : ℕ → Stop → BodyStop
 stop_at place (Kept reason) = KeptAt place reason
 stop_at place (Broken fault) = BrokenText fault
+
+-- the statement is the row of its text, and its operands and successors come behind those before
+pub record AddsRow (text : List ℕ) (line : BodyStatement) (before after : List Hole) : Type 0 where
+  pub own : List Hole
+  pub added : after ≡ before ++ own
+  pub first : line.first_hole ≡ length before
+  pub last : line.end_hole ≡ length after
+  pub row : IsRowOf (take line.span.end text) line.span.start line.statement own
+
+-- a label has no operands and successors
+abbrev pub AddsLine : List ℕ → BodyLine → List Hole → List Hole → Type 0
+AddsLine text (Label span) before after = after ≡ before
+AddsLine text (Statement line) before after = AddsRow text line before after
+
+-- each statement among the lines is the row of its text, and these are the operands and successors of all of them
+pub data AreRows (text : List ℕ) : List BodyLine → List Hole → Type 0 where
+  Nothing : AreRows text [] []
+  Behind : {lines : List BodyLine} {holes : List Hole} (line : BodyLine) (after : List Hole)
+      → AreRows text lines holes → AddsLine text line holes after → AreRows text (lines ++ line ∷ []) after

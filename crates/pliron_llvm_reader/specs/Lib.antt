@@ -1,9 +1,12 @@
 pub mod TokenLists
+pub mod Words
 pub mod Cursors
 pub mod Holes
 pub mod Stops
-pub mod Words
 pub mod Table
+pub mod Grammar
+pub mod Readings
+pub mod Rows
 pub mod Statements
 pub mod Blocks
 pub mod Bodies

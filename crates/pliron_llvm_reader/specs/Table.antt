@@ -4,10 +4,10 @@ use Rattle.pliron_llvm_reader.specs.declared.table.Row.{Row}
 use Rattle.pliron_llvm_reader.specs.declared.table.Layout.{Layout}
 use Rattle.pliron_llvm_reader.specs.declared.table.Layout.TheVariants.{Binary, Values, Cast, Access, Allocation, Fence, Variadic, Pad, Phi, Call, Invoke, CallBranch, Return, Resume, Nothing, Branch, Switch, Indirect, Record}
 use Rattle.pliron_llvm_reader.specs.declared.table.Step.{Step}
-use Rattle.pliron_llvm_reader.specs.declared.table.Step.TheVariants.{Flags, TypeName, Value, TypedValue, MoreTypedValues, Comma, To, Unwind, Label, Labels, Cases, Entries, Arguments, Attributes, Clauses, Branch as BranchStep, ReturnValue, Rest}
+use Rattle.pliron_llvm_reader.specs.declared.table.Step.TheVariants.{Flags, TypeName, Value, TypedValue, MoreTypedValues, Comma, To, Unwind, Label, Labels, Cases, Entries, Arguments, CallAttributes, Clauses, Branch as BranchStep, ReturnValue, Rest}
 use Rattle.pliron_llvm_reader.specs.declared.table.Gives.TheVariants.{Always, Never, UnlessVoid}
-use Rattle.pliron_llvm_reader.specs.declared.values.Reads.{Reads}
-use Rattle.pliron_llvm_reader.specs.declared.values.Reads.TheVariants.{Constants, Locals}
+use Rattle.pliron_llvm_reader.specs.declared.table.Reads.{Reads}
+use Rattle.pliron_llvm_reader.specs.declared.table.Reads.TheVariants.{Constants, Locals}
 use Rattle.pliron_llvm_reader.specs.Words.{is_named}
 
 -- ---- what stands behind an opcode
@@ -22,11 +22,11 @@ steps_of Fence = Flags ∷ Rest ∷ []
 steps_of Variadic = TypedValue ∷ Comma ∷ TypeName ∷ Rest ∷ []
 steps_of Pad = TypeName ∷ Clauses ∷ Rest ∷ []
 steps_of Phi = Flags ∷ TypeName ∷ Entries ∷ Rest ∷ []
-steps_of Call = Flags ∷ TypeName ∷ Value ∷ Arguments ∷ Attributes ∷ Rest ∷ []
+steps_of Call = Flags ∷ TypeName ∷ Value ∷ Arguments ∷ CallAttributes ∷ Rest ∷ []
 steps_of Invoke =
-    Flags ∷ TypeName ∷ Value ∷ Arguments ∷ Attributes ∷ To ∷ Label ∷ Unwind ∷ Label ∷ Rest ∷ []
+    Flags ∷ TypeName ∷ Value ∷ Arguments ∷ CallAttributes ∷ To ∷ Label ∷ Unwind ∷ Label ∷ Rest ∷ []
 steps_of CallBranch =
-    Flags ∷ TypeName ∷ Value ∷ Arguments ∷ Attributes ∷ To ∷ Label ∷ Labels ∷ Rest ∷ []
+    Flags ∷ TypeName ∷ Value ∷ Arguments ∷ CallAttributes ∷ To ∷ Label ∷ Labels ∷ Rest ∷ []
 steps_of Return = ReturnValue ∷ Rest ∷ []
 steps_of Resume = TypedValue ∷ Rest ∷ []
 steps_of Nothing = Rest ∷ []

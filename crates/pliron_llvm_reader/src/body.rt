@@ -4,12 +4,12 @@ ghost use Rattle.pliron_llvm_syntax.specs.Lines.{span_of_line, AreLines};
 ghost use Rattle.pliron_llvm_syntax.specs.declared.fault.Fault.TheVariants.{NoMemory};
 ghost use Rattle.pliron_llvm_reader.specs.declared.body.BodyStop.TheVariants.{Broken};
 ghost use Rattle.pliron_llvm_reader.specs.Blocks.{AreBlocks};
-ghost use Rattle.pliron_llvm_reader.specs.Bodies.{role_of_line, span_of_body_line, line_of, stop_at, IsStatementLine};
+ghost use Rattle.pliron_llvm_reader.specs.Bodies.{role_of_line, span_of_body_line, line_of, stop_at, IsStatementLine, AddsRow, AddsLine, AreRows};
 
 use crate::blocks::{BlockFault, BlockLines, LineRole, split_blocks};
-use crate::statement::{Statement, read_statement};
+use crate::statement::{Statement, StatementRoom, read_statement};
 use crate::stop::{Reason, Stop};
-use pliron_llvm_syntax::{Fault, Hole, Line, Span, Token, split_lines};
+use pliron_llvm_syntax::{Fault, Hole, Line, Span, split_lines};
 use std::alloc::{AllocError, AllocFailed, Global};
 
 /// A statement of a body.
@@ -87,8 +87,8 @@ impl<T: Drop> From<AllocFailed<T>> for BodyStop {
 
 /// Room for one statement, which is used again for each.
 #[derive(Drop)]
-struct StatementRoom {
-    tokens: Vec<Token>,
+struct LineRoom {
+    statement: StatementRoom,
     holes: Vec<Hole>,
 }
 
@@ -137,17 +137,16 @@ fn text_before(text: &[u8], end: usize) -> &[u8]
 fn read_body_statement(
     text: &[u8],
     span: Span,
-    room: &mut StatementRoom,
+    room: &mut LineRoom,
     holes: &mut Vec<Hole>,
 ) -> Result<BodyStatement, BodyStop>
     requires ordered { span.start ≤ span.end }
     requires within { span.end ≤ length text.now }
     ensures statement { IfOk result (λ line. IsStatementLine text.now span line) }
-    ensures holes { IfOk result (λ line.
-        (line.first_hole ≡ length holes.old.items) × (line.end_hole ≡ length holes.new.items)) }
+    ensures row { IfOk result (λ line. AddsRow text.now line holes.old.items holes.new.items) }
 {
     let before = text_before(text, span.end);
-    let statement = match read_statement(before, span.start, &mut room.tokens, &mut room.holes) {
+    let statement = match read_statement(before, span.start, &mut room.statement, &mut room.holes) {
         Ok(statement) => statement,
         Err(stop) => return Err(stop_at(span.start, stop)),
     };
@@ -165,12 +164,13 @@ fn read_body_statement(
 fn read_line(
     text: &[u8],
     line: Line,
-    room: &mut StatementRoom,
+    room: &mut LineRoom,
     holes: &mut Vec<Hole>,
 ) -> Result<BodyLine, BodyStop>
     requires ordered { (span_of_line line).start ≤ (span_of_line line).end }
     requires within { (span_of_line line).end ≤ length text.now }
-    ensures { IfOk result (λ read. line_of read ≡ line) }
+    ensures line { IfOk result (λ read. line_of read ≡ line) }
+    ensures adds { IfOk result (λ read. AddsLine text.now read holes.old.items holes.new.items) }
 {
     match line {
         Line::Label(span) => Ok(BodyLine::Label(span)),
@@ -182,14 +182,16 @@ fn read_line(
 }
 
 // Reads the lines, and adds them and the holes of their statements.
-#[tactic(auto, using(crate::proofs::BodyLemmas::line_ordered, crate::proofs::BodyLemmas::line_within, crate::proofs::BodyLemmas::lines_grown))]
+#[tactic(auto, using(crate::proofs::BodyLemmas::line_ordered, crate::proofs::BodyLemmas::line_within, crate::proofs::BodyLemmas::lines_read, crate::proofs::BodyLemmas::rows_grown))]
 fn read_lines(
     text: &[u8],
     lines: &[Line],
-    room: &mut StatementRoom,
+    room: &mut LineRoom,
     body: &mut Body,
 ) -> Result<(), BodyStop>
-    requires { AreLines 0 (length text.now) lines.now }
+    requires lines { AreLines 0 (length text.now) lines.now }
+    requires rows { AreRows text.now body.old.lines.items body.old.holes.items }
+    ensures rows { OnOk result (AreRows text.now body.new.lines.items body.new.holes.items) }
     ensures lines { OnOk result (map line_of body.new.lines.items ≡ map line_of body.old.lines.items ++ lines.now) }
     ensures blocks { body.new.blocks ≡ body.old.blocks }
 {
@@ -228,11 +230,12 @@ fn block_stop(lines: &[BodyLine], end: usize, fault: BlockFault) -> BodyStop {
 /// Asks that it is in the text. Errors: a statement that isn't in the table, and so keeps its function as it is written;
 /// a token or a bracket is broken; there is no block, or a block without an end; allocation failure. Cost: linear in it.
 #[doc(hidden)]
-#[tactic(auto, using(crate::proofs::BodyLemmas::lines_lower, crate::proofs::BodyLemmas::lines_within, crate::proofs::BodyLemmas::blocks_read))]
+#[tactic(auto, using(crate::proofs::BodyLemmas::lines_lower, crate::proofs::BodyLemmas::lines_within, crate::proofs::BodyLemmas::blocks_read, crate::proofs::BodyLemmas::rows_none))]
 pub fn read_body(alloc: Global, text: &[u8], inside: Span) -> Result<Body, BodyStop>
     requires ordered { inside.start ≤ inside.end }
     requires within { inside.end ≤ length text.now }
     ensures lines { IfOk result (λ body. AreLines inside.start inside.end (map line_of body.lines.items)) }
+    ensures rows { IfOk result (λ body. AreRows (take inside.end text.now) body.lines.items body.holes.items) }
     ensures blocks { IfOk result (λ body.
         AreBlocks (map role_of_line body.lines.items) 0 (length body.lines.items) body.blocks.items) }
 {
@@ -244,8 +247,8 @@ pub fn read_body(alloc: Global, text: &[u8], inside: Span) -> Result<Body, BodyS
         holes: Vec::new(alloc),
         blocks: Vec::new(alloc),
     };
-    let mut room = StatementRoom {
-        tokens: Vec::new(alloc),
+    let mut room = LineRoom {
+        statement: StatementRoom::new(alloc),
         holes: Vec::new(alloc),
     };
     read_lines(before, &lines, &mut room, &mut body)?;

@@ -5,18 +5,16 @@
 mod blocks;
 mod body;
 mod cursor;
+mod rules;
 mod statement;
 mod steps;
 mod stop;
 mod table;
 mod tokens;
-mod types;
-mod values;
 mod words;
 
 pub use blocks::{BlockFault, BlockLines, LineRole, split_blocks};
 pub use body::{Body, BodyLine, BodyStatement, BodyStop, read_body};
-pub use statement::{Statement, read_statement};
+pub use statement::{Statement, StatementRoom, read_statement};
 pub use stop::{Reason, Stop};
-pub use table::{Gives, Layout, Row};
-pub use values::Reads;
+pub use table::{Gives, Layout, ListStep, Piece, Reads, Row, Step};

@@ -1,322 +1,202 @@
-//! The steps of the table.
-#![tactic(auto, using(crate::proofs::CursorLemmas::end_within, crate::proofs::CursorLemmas::end_place, crate::proofs::CursorLemmas::next_some, crate::proofs::HoleLemmas::holes_moved, crate::proofs::HoleLemmas::hole_pushed, crate::proofs::StopLemmas::unread_memory))]
+//! The steps of a statement, taken one after another.
+#![tactic(auto, using(crate::proofs::CursorLemmas::end_within, crate::proofs::CursorLemmas::end_place, crate::proofs::CursorLemmas::next_some, crate::proofs::StopLemmas::unread_memory))]
 
-ghost use Rattle.std.specs.Prelude.{◌≡◌, ◌∷◌, ◌++◌, [], OnOk, IfErr};
-ghost use Rattle.std.specs.Bool.{OnTrue};
-ghost use Rattle.pliron_llvm_reader.specs.Cursors.{place_of, HasNext, IsForward, HasTaken};
-ghost use Rattle.pliron_llvm_reader.specs.Holes.{AreHolesOf, hole_between};
-ghost use Rattle.pliron_llvm_syntax.specs.declared.forms.HoleKind.TheVariants.{Successor};
+ghost use Rattle.std.specs.Prelude.{◌≡◌, ◌∷◌, ◌++◌, [], reverse, OnOk, IfOk, IfErr, IfSome, IfNone};
+ghost use Rattle.pliron_llvm_reader.specs.Cursors.{text_of, tokens_of, place_of, HasNext, IsForward, HasTaken};
+ghost use Rattle.pliron_llvm_reader.specs.Grammar.{with_last, FitsTaking};
+ghost use Rattle.pliron_llvm_reader.specs.Holes.{AreHolesBetween, hole_between};
+ghost use Rattle.pliron_llvm_reader.specs.Readings.{behind_taken, end_of_taken, holes_with, with_end, Skips, IsNextTaking, Leads};
 ghost use Rattle.pliron_llvm_reader.specs.Stops.{IsUnread};
 
 use crate::cursor::Cursor;
+use crate::rules::{Amount, Role, Rule, Taking};
 use crate::stop::{Reason, Stop};
-use crate::table::Step;
-use crate::values::{Reads, unless};
-use pliron_llvm_syntax::{Bracket, Hole, HoleKind, TokenKind};
+use crate::table::{ListStep, Piece, Reads, Step};
+use pliron_llvm_syntax::{Hole, HoleKind};
+
+impl Piece {
+    // Why a statement is kept that has something else here.
+    fn reason(self) -> Reason {
+        match self {
+            Piece::Attributes | Piece::Suffixes => Reason::Type,
+            _ => Reason::Value,
+        }
+    }
+}
+
+impl ListStep {
+    // Why a statement is kept that has something else here.
+    fn reason(self) -> Reason {
+        match self {
+            ListStep::LabelsInside | ListStep::LabelsBehind => Reason::Label,
+            ListStep::CasesInside => Reason::Type,
+            ListStep::CaseValue => Reason::Value,
+            ListStep::EntryEnd | ListStep::MoreEntries => Reason::Entry,
+            _ => Reason::Arguments,
+        }
+    }
+}
+
+impl Step {
+    // Why a statement is kept that has something else here.
+    fn reason(self) -> Reason {
+        match self {
+            Step::Flags | Step::TypeName | Step::TypedValue | Step::MoreTypedValues => Reason::Type,
+            Step::Value => Reason::Value,
+            Step::Comma | Step::BranchLabels => Reason::Comma,
+            Step::To => Reason::To,
+            Step::Unwind => Reason::Unwind,
+            Step::Label | Step::Block => Reason::Label,
+            Step::Labels | Step::Cases => Reason::Labels,
+            Step::Entries => Reason::Entry,
+            Step::Arguments | Step::CallAttributes => Reason::Arguments,
+            Step::Clauses | Step::Branch | Step::ReturnValue => Reason::Type,
+            Step::Rest => Reason::Local,
+            Step::Part(piece) => piece.reason(),
+            Step::InList(step) => step.reason(),
+        }
+    }
+}
+
+// The last hole ends at this byte.
+#[tactic(auto, using(crate::proofs::HoleLemmas::with_end_last, crate::proofs::StopLemmas::unread_memory))]
+fn lengthen(end: usize, holes: &mut Vec<Hole>) -> Result<(), Stop>
+    ensures ok { OnOk result (holes.new.items ≡ with_end end holes.old.items) }
+    ensures stop { IfErr result (λ stop. IsUnread stop) }
+{
+    if let Some(mut hole) = holes.pop() {
+        hole.span.end = end;
+        holes.push(hole)?;
+    }
+    Ok(())
+}
+
+/// These steps come next, before those that came next. Errors: allocation failure. Cost: linear in them.
+#[tactic(auto, using(crate::proofs::ReadingLemmas::pushed_none, crate::proofs::ReadingLemmas::pushed_next, crate::proofs::StopLemmas::unread_memory))]
+pub fn push_steps(before: &[Step], steps: &mut Vec<Step>) -> Result<(), Stop>
+    ensures ok { OnOk result (reverse steps.new.items ≡ before.now ++ reverse steps.old.items) }
+    ensures stop { IfErr result (λ stop. IsUnread stop) }
+{
+    let mut left = before.len();
+    while left > 0 {
+        left -= 1;
+        steps.push(before[left])?;
+    }
+    Ok(())
+}
+
+impl Taking {
+    // What comes in place of its step comes next.
+    #[tactic(auto, using(crate::proofs::ReadingLemmas::with_last_append, crate::proofs::ReadingLemmas::pushed_last, crate::proofs::StopLemmas::unread_memory))]
+    fn push_behind(&self, steps: &mut Vec<Step>) -> Result<(), Stop>
+        ensures ok { OnOk result (reverse steps.new.items
+            ≡ with_last self.now.behind.now self.now.last ++ reverse steps.old.items) }
+        ensures stop { IfErr result (λ stop. IsUnread stop) }
+    {
+        if let Some(last) = self.last {
+            steps.push(last)?;
+        }
+        push_steps(self.behind, steps)
+    }
+}
 
 impl Cursor<'_> {
-    // Takes the name of a block.
-    fn block(&mut self, holes: &mut Vec<Hole>) -> Result<(), Stop>
-        requires { AreHolesOf self.old holes.old.items }
+    // Adds what was taken since this place as a hole.
+    fn push_hole(&self, kind: HoleKind, start: usize, holes: &mut Vec<Hole>) -> Result<(), Stop>
+        ensures ok { OnOk result (holes.new.items ≡ holes.old.items ++ hole_between kind start self.now.end ∷ []) }
+        ensures stop { IfErr result (λ stop. IsUnread stop) }
+    {
+        holes.push(Hole {
+            kind,
+            span: self.since(start),
+        })?;
+        Ok(())
+    }
+
+    // Adds what was taken since this place as what it is for the statement.
+    fn note(&self, role: Role, start: usize, holes: &mut Vec<Hole>) -> Result<(), Stop>
+        ensures ok { OnOk result (holes.new.items ≡ holes_with role start self.now.end holes.old.items) }
+        ensures stop { IfErr result (λ stop. IsUnread stop) }
+    {
+        match role {
+            Role::Plain => Ok(()),
+            Role::Operand => self.push_hole(HoleKind::Operand, start, holes),
+            Role::Successor => self.push_hole(HoleKind::Successor, start, holes),
+            Role::More => lengthen(self.end(), holes),
+        }
+    }
+
+    // Takes so much.
+    fn take(&mut self, amount: Amount)
         ensures forward { IsForward self.old self.new }
-        ensures taken { OnOk result (HasTaken self.old self.new) }
-        ensures added { OnOk result (holes.new.items
-            ≡ holes.old.items ++ hole_between Successor (place_of self.old) self.new.end ∷ []) }
-        ensures holes { OnOk result (AreHolesOf self.new holes.new.items) }
+        ensures taken { HasNext self.old → HasTaken self.old self.new }
+        ensures tokens { tokens_of self.new ≡ behind_taken amount (tokens_of self.old) }
+        ensures end { HasNext self.old → self.new.end ≡ end_of_taken amount (tokens_of self.old) }
+    {
+        match amount {
+            Amount::OneToken => self.skip_token(),
+            Amount::OneTree => self.skip_tree(),
+        }
+    }
+
+    // Takes what the rule says, and adds it as what it is for the statement.
+    fn apply(&mut self, taking: &Taking, holes: &mut Vec<Hole>) -> Result<(), Stop>
+        requires { FitsTaking self.old taking.now }
+        ensures forward { IsForward self.old self.new }
+        ensures taken { HasTaken self.old self.new }
+        ensures tokens { tokens_of self.new ≡ behind_taken taking.now.amount (tokens_of self.old) }
+        ensures holes { OnOk result (holes.new.items
+            ≡ holes_with taking.now.role (place_of self.old) self.new.end holes.old.items) }
+        ensures end { self.new.end ≡ end_of_taken taking.now.amount (tokens_of self.old) }
         ensures stop { IfErr result (λ stop. IsUnread stop) }
     {
         let start = self.place();
-        unless(self.at_name(b'%'), Reason::Label)?;
-        self.skip_token();
-        self.push_hole(HoleKind::Successor, start, holes)
+        self.take(taking.amount);
+        self.note(taking.role, start, holes)
     }
 
-    // Takes `label` and the name of a block.
-    fn label(&mut self, holes: &mut Vec<Hole>) -> Result<(), Stop>
-        requires { AreHolesOf self.old holes.old.items }
-        ensures forward { IsForward self.old self.new }
-        ensures taken { OnOk result (HasTaken self.old self.new) }
-        ensures holes { OnOk result (AreHolesOf self.new holes.new.items) }
+    // What is taken next; none, where no step is left. Steps of which nothing is there are left out.
+    #[tactic(auto, using(crate::proofs::ReadingLemmas::skips_none, crate::proofs::ReadingLemmas::skips_step, crate::proofs::ReadingLemmas::skips_to, crate::proofs::ReadingLemmas::popped))]
+    fn next_taking(&self, reads: Reads, steps: &mut Vec<Step>) -> Result<Option<Taking>, Stop>
+        ensures next { IfOk result (λ found. IfSome found (λ taking. IsNextTaking (text_of self.now) reads
+            (reverse steps.old.items) (tokens_of self.now) taking (reverse steps.new.items))) }
+        ensures fits { IfOk result (λ found. IfSome found (λ taking. FitsTaking self.now taking)) }
+        ensures skips { IfOk result (λ found. IfNone found
+            (Skips (text_of self.now) reads (reverse steps.old.items) (tokens_of self.now) [])) }
         ensures stop { IfErr result (λ stop. IsUnread stop) }
     {
-        unless(self.accept_word(b"label"), Reason::Label)?;
-        self.block(holes)
-    }
-
-    // Takes labels in square brackets.
-    fn labels(&mut self, holes: &mut Vec<Hole>) -> Result<(), Stop>
-        requires { AreHolesOf self.old holes.old.items }
-        ensures forward { IsForward self.old self.new }
-        ensures holes { OnOk result (AreHolesOf self.new holes.new.items) }
-        ensures stop { IfErr result (λ stop. IsUnread stop) }
-    {
-        unless(self.accept_open(Bracket::Square), Reason::Labels)?;
-        while !self.at_close(Bracket::Square) {
-            self.label(holes)?;
-            self.accept_mark(b',');
-        }
-        self.skip_token();
-        Ok(())
-    }
-
-    // Takes a type, a constant that stays in the form, and a label.
-    fn case(&mut self, holes: &mut Vec<Hole>) -> Result<(), Stop>
-        requires { AreHolesOf self.old holes.old.items }
-        ensures forward { IsForward self.old self.new }
-        ensures taken { OnOk result (HasTaken self.old self.new) }
-        ensures holes { OnOk result (AreHolesOf self.new holes.new.items) }
-        ensures stop { IfErr result (λ stop. IsUnread stop) }
-    {
-        unless(self.accept_type(), Reason::Type)?;
-        self.value(Reads::Locals, holes)?;
-        unless(self.accept_mark(b','), Reason::Comma)?;
-        self.label(holes)
-    }
-
-    // Takes cases in square brackets.
-    fn cases(&mut self, holes: &mut Vec<Hole>) -> Result<(), Stop>
-        requires { AreHolesOf self.old holes.old.items }
-        ensures forward { IsForward self.old self.new }
-        ensures holes { OnOk result (AreHolesOf self.new holes.new.items) }
-        ensures stop { IfErr result (λ stop. IsUnread stop) }
-    {
-        unless(self.accept_open(Bracket::Square), Reason::Labels)?;
-        while !self.at_close(Bracket::Square) {
-            self.case(holes)?;
-        }
-        self.skip_token();
-        Ok(())
-    }
-
-    // Takes a value and a block in square brackets.
-    fn entry(&mut self, holes: &mut Vec<Hole>) -> Result<(), Stop>
-        requires { AreHolesOf self.old holes.old.items }
-        ensures forward { IsForward self.old self.new }
-        ensures taken { OnOk result (HasTaken self.old self.new) }
-        ensures holes { OnOk result (AreHolesOf self.new holes.new.items) }
-        ensures stop { IfErr result (λ stop. IsUnread stop) }
-    {
-        unless(self.accept_open(Bracket::Square), Reason::Entry)?;
-        self.value(Reads::Constants, holes)?;
-        unless(self.accept_mark(b','), Reason::Comma)?;
-        self.block(holes)?;
-        unless(self.accept_close(Bracket::Square), Reason::Entry)
-    }
-
-    // Whether a comma and another entry are next.
-    fn at_more_entries(&self) -> bool
-        ensures { OnTrue result (HasNext self.now) }
-    {
-        let mut behind = *self;
-        behind.accept_mark(b',') && behind.at_open(Bracket::Square)
-    }
-
-    // Takes the entries of a phi.
-    fn entries(&mut self, holes: &mut Vec<Hole>) -> Result<(), Stop>
-        requires { AreHolesOf self.old holes.old.items }
-        ensures forward { IsForward self.old self.new }
-        ensures holes { OnOk result (AreHolesOf self.new holes.new.items) }
-        ensures stop { IfErr result (λ stop. IsUnread stop) }
-    {
-        self.entry(holes)?;
-        while self.at_more_entries() {
-            self.skip_token();
-            self.entry(holes)?;
-        }
-        Ok(())
-    }
-
-    // Whether a comma and another typed value are next.
-    fn at_more_values(&self) -> bool
-        ensures { OnTrue result (HasNext self.now) }
-    {
-        let mut behind = *self;
-        if !behind.accept_mark(b',') {
-            return false;
-        }
-        behind.accept_word(b"inrange");
-        behind.at_type()
-    }
-
-    // Takes typed values with a comma before each, as many as there are.
-    fn more_values(&mut self, reads: Reads, holes: &mut Vec<Hole>) -> Result<(), Stop>
-        requires { AreHolesOf self.old holes.old.items }
-        ensures forward { IsForward self.old self.new }
-        ensures holes { OnOk result (AreHolesOf self.new holes.new.items) }
-        ensures stop { IfErr result (λ stop. IsUnread stop) }
-    {
-        while self.at_more_values() {
-            self.skip_token();
-            self.accept_word(b"inrange");
-            self.typed_value(reads, holes)?;
-        }
-        Ok(())
-    }
-
-    // Whether an attribute of a call is next.
-    fn at_call_attribute(&self) -> bool
-        ensures { OnTrue result (HasNext self.now) }
-    {
-        match self.kind() {
-            Some(TokenKind::Word) => !self.at_word(b"to"),
-            Some(TokenKind::Name) => self.at_name(b'#'),
-            Some(TokenKind::Text | TokenKind::Open(Bracket::Round)) => true,
-            _ => false,
-        }
-    }
-
-    // Takes an operand bundle: a string and arguments.
-    fn bundle(&mut self, holes: &mut Vec<Hole>) -> Result<(), Stop>
-        requires { AreHolesOf self.old holes.old.items }
-        ensures forward { IsForward self.old self.new }
-        ensures taken { OnOk result (HasTaken self.old self.new) }
-        ensures holes { OnOk result (AreHolesOf self.new holes.new.items) }
-        ensures stop { IfErr result (λ stop. IsUnread stop) }
-    {
-        unless(self.at_text(), Reason::Arguments)?;
-        self.skip_token();
-        self.arguments(Reads::Locals, holes)
-    }
-
-    // Takes operand bundles in square brackets.
-    fn bundles(&mut self, holes: &mut Vec<Hole>) -> Result<(), Stop>
-        requires { AreHolesOf self.old holes.old.items }
-        ensures forward { IsForward self.old self.new }
-        ensures holes { OnOk result (AreHolesOf self.new holes.new.items) }
-        ensures stop { IfErr result (λ stop. IsUnread stop) }
-    {
-        self.skip_token();
-        while !self.at_close(Bracket::Square) {
-            self.bundle(holes)?;
-            self.accept_mark(b',');
-        }
-        self.skip_token();
-        Ok(())
-    }
-
-    // Takes attributes of a call, their numbers, and operand bundles.
-    fn attributes(&mut self, holes: &mut Vec<Hole>) -> Result<(), Stop>
-        requires { AreHolesOf self.old holes.old.items }
-        ensures forward { IsForward self.old self.new }
-        ensures holes { OnOk result (AreHolesOf self.new holes.new.items) }
-        ensures stop { IfErr result (λ stop. IsUnread stop) }
-    {
-        while self.at_call_attribute() {
-            self.skip_pair();
-        }
-        if self.at_open(Bracket::Square) {
-            self.bundles(holes)
-        } else {
-            Ok(())
-        }
-    }
-
-    // Whether a clause of a landing pad is next.
-    fn at_clause(&self) -> bool
-        ensures { OnTrue result (HasNext self.now) }
-    {
-        self.at_word(b"catch") || self.at_word(b"filter")
-    }
-
-    // Takes the clauses of a landing pad.
-    fn clauses(&mut self, holes: &mut Vec<Hole>) -> Result<(), Stop>
-        requires { AreHolesOf self.old holes.old.items }
-        ensures forward { IsForward self.old self.new }
-        ensures holes { OnOk result (AreHolesOf self.new holes.new.items) }
-        ensures stop { IfErr result (λ stop. IsUnread stop) }
-    {
-        self.accept_word(b"cleanup");
-        while self.at_clause() {
-            self.skip_token();
-            self.typed_value(Reads::Locals, holes)?;
-        }
-        Ok(())
-    }
-
-    // Takes a label, or a typed value and two labels.
-    fn branch(&mut self, reads: Reads, holes: &mut Vec<Hole>) -> Result<(), Stop>
-        requires { AreHolesOf self.old holes.old.items }
-        ensures forward { IsForward self.old self.new }
-        ensures holes { OnOk result (AreHolesOf self.new holes.new.items) }
-        ensures stop { IfErr result (λ stop. IsUnread stop) }
-    {
-        if self.at_word(b"label") {
-            return self.label(holes);
-        }
-        self.typed_value(reads, holes)?;
-        unless(self.accept_mark(b','), Reason::Comma)?;
-        self.label(holes)?;
-        unless(self.accept_mark(b','), Reason::Comma)?;
-        self.label(holes)
-    }
-
-    // Takes `void`, or a typed value.
-    fn return_value(&mut self, reads: Reads, holes: &mut Vec<Hole>) -> Result<(), Stop>
-        requires { AreHolesOf self.old holes.old.items }
-        ensures forward { IsForward self.old self.new }
-        ensures holes { OnOk result (AreHolesOf self.new holes.new.items) }
-        ensures stop { IfErr result (λ stop. IsUnread stop) }
-    {
-        if self.accept_word(b"void") {
-            Ok(())
-        } else {
-            self.typed_value(reads, holes)
-        }
-    }
-
-    // Takes all that is left, in which no value is named outside brackets.
-    fn rest(&mut self) -> Result<(), Stop>
-        ensures forward { IsForward self.old self.new }
-        ensures stop { IfErr result (λ stop. IsUnread stop) }
-    {
-        while !self.is_at_end() {
-            unless(!self.at_name(b'%'), Reason::Local)?;
-            self.skip_tree();
-        }
-        Ok(())
-    }
-
-    // Takes what a step without holes says.
-    fn plain_step(&mut self, step: Step) -> Result<(), Stop>
-        ensures forward { IsForward self.old self.new }
-        ensures stop { IfErr result (λ stop. IsUnread stop) }
-    {
-        match step {
-            Step::TypeName => unless(self.accept_type(), Reason::Type),
-            Step::Comma => unless(self.accept_mark(b','), Reason::Comma),
-            Step::To => unless(self.accept_word(b"to"), Reason::To),
-            Step::Unwind => unless(self.accept_word(b"unwind"), Reason::Unwind),
-            Step::Rest => self.rest(),
-            _ => {
-                self.skip_flags();
-                Ok(())
+        while let Some(step) = steps.pop() {
+            let Some(rule) = self.rule(step, reads) else {
+                return Err(Stop::Kept(step.reason()));
+            };
+            match rule {
+                Rule::Take(taking) => return Ok(Some(taking)),
+                Rule::Skip => {}
             }
         }
+        Ok(None)
     }
 
-    /// Takes what the step says, and adds the holes that it has. Asks that the holes are of what was taken. Errors:
-    /// something else is next; allocation failure. Cost: linear in what is taken.
-    pub fn step(&mut self, step: Step, reads: Reads, holes: &mut Vec<Hole>) -> Result<(), Stop>
-        requires { AreHolesOf self.old holes.old.items }
+    /// Takes what the steps say, the last one first, and adds the holes, until no step is left. Asks that there is no
+    /// hole yet. Errors: something else is next; allocation failure. Cost: linear in what is taken.
+    #[tactic(auto, using(crate::proofs::CursorLemmas::end_within, crate::proofs::CursorLemmas::end_place, crate::proofs::ReadingLemmas::reading_steps, crate::proofs::HoleLemmas::hole_steps))]
+    pub fn read_steps(
+        &mut self,
+        reads: Reads,
+        steps: &mut Vec<Step>,
+        holes: &mut Vec<Hole>,
+    ) -> Result<(), Stop>
+        requires { holes.old.items ≡ [] }
         ensures forward { IsForward self.old self.new }
-        ensures holes { OnOk result (AreHolesOf self.new holes.new.items) }
+        ensures leads { OnOk result (Leads (text_of self.old) reads (reverse steps.old.items) (tokens_of self.old) []
+            [] (tokens_of self.new) holes.new.items) }
+        ensures holes { OnOk result (AreHolesBetween (text_of self.old) self.old.end self.new.end holes.new.items) }
         ensures stop { IfErr result (λ stop. IsUnread stop) }
     {
-        match step {
-            Step::Value => self.value(reads, holes),
-            Step::TypedValue => self.typed_value(reads, holes),
-            Step::MoreTypedValues => self.more_values(reads, holes),
-            Step::Label => self.label(holes),
-            Step::Labels => self.labels(holes),
-            Step::Cases => self.cases(holes),
-            Step::Entries => self.entries(holes),
-            Step::Arguments => self.arguments(Reads::Locals, holes),
-            Step::Attributes => self.attributes(holes),
-            Step::Clauses => self.clauses(holes),
-            Step::Branch => self.branch(reads, holes),
-            Step::ReturnValue => self.return_value(reads, holes),
-            Step::Flags | Step::TypeName | Step::Comma | Step::To | Step::Unwind | Step::Rest =>
-                self.plain_step(step),
+        while let Some(taking) = self.next_taking(reads, steps)? {
+            taking.push_behind(steps)?;
+            self.apply(&taking, holes)?;
         }
+        Ok(())
     }
 }

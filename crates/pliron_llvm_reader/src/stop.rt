@@ -1,7 +1,8 @@
 //! Why a statement isn't read.
-ghost use Rattle.std.specs.Prelude.{◌≡◌};
+ghost use Rattle.std.specs.Prelude.{◌≡◌, true, OnOk, IfErr};
 ghost use Rattle.pliron_llvm_syntax.specs.declared.fault.Fault.TheVariants.{NoMemory};
 ghost use Rattle.pliron_llvm_reader.specs.declared.stop.Stop.TheVariants.{Broken};
+ghost use Rattle.pliron_llvm_reader.specs.Stops.{IsUnread};
 
 use pliron_llvm_syntax::Fault;
 use std::alloc::{AllocError, AllocFailed};
@@ -73,5 +74,18 @@ impl<T: Drop> From<AllocFailed<T>> for Stop {
 
     fn from(_refused: AllocFailed<T>) -> Stop {
         Stop::Broken(Fault::NoMemory)
+    }
+}
+
+/// Goes on where it was taken. Errors: this reason, where it wasn't. Cost: constant.
+#[doc(hidden)]
+pub fn unless(is_taken: bool, reason: Reason) -> Result<(), Stop>
+    ensures taken { OnOk result (is_taken ≡ true) }
+    ensures stop { IfErr result (λ stop. IsUnread stop) }
+{
+    if is_taken {
+        Ok(())
+    } else {
+        Err(Stop::Kept(reason))
     }
 }

@@ -6,7 +6,58 @@ ghost use Rattle.pliron_llvm_reader.specs.Table.{element_opcodes, call_opcodes, 
 ghost use Rattle.pliron_llvm_reader.specs.Table.{terminator_row, call_row, row_by_constants, row_of_value, row_of_end};
 ghost use Rattle.pliron_llvm_reader.specs.Table.{row_of_effect, row_named, steps_of};
 
-use crate::values::Reads;
+/// What stands for a hole, besides local values.
+#[doc(hidden)]
+#[derive(Clone, Copy, Debug, Drop, PartialEq, Eq)]
+pub enum Reads {
+    /// Constants too, since what the statement gives is known by its operands.
+    Constants,
+    /// Local values alone: constants are part of the form.
+    Locals,
+}
+
+/// A part of a type or a value, or what may stand around one.
+#[doc(hidden)]
+#[derive(Clone, Copy, Debug, Drop, PartialEq, Eq)]
+pub enum Piece {
+    /// `=` and what a string is equal to, or nothing.
+    PairValue,
+    /// A round bracket, or nothing.
+    RoundBracket,
+    /// A token, or a bracket.
+    Tree,
+    /// What a type has behind its first token.
+    Suffixes,
+    /// Attributes between a type and its value.
+    Attributes,
+    /// The number of an `align`.
+    AlignNumber,
+    /// The words and the bracket of a constant expression.
+    Expression,
+    /// The words and the strings of an assembly.
+    Assembly,
+    /// The last string of an assembly.
+    AssemblyText,
+    /// The name that a value refers to.
+    Reference,
+}
+
+/// What is inside the brackets of a list: something of it or its end, or a comma behind something of it or its end.
+#[doc(hidden)]
+#[derive(Clone, Copy, Debug, Drop, PartialEq, Eq)]
+pub enum ListStep {
+    LabelsInside,
+    LabelsBehind,
+    CasesInside,
+    /// The constant of a case, which is part of the form.
+    CaseValue,
+    EntryEnd,
+    MoreEntries,
+    ArgumentsInside,
+    ArgumentsBehind,
+    BundlesInside,
+    BundlesBehind,
+}
 
 /// What is read next of a statement.
 #[doc(hidden)]
@@ -18,7 +69,7 @@ pub enum Step {
     TypeName,
     /// A value whose type was before it.
     Value,
-    /// A type, attributes and a value.
+    /// A type, attributes and a value; or metadata.
     TypedValue,
     /// Typed values, with a comma before each.
     MoreTypedValues,
@@ -29,6 +80,8 @@ pub enum Step {
     Unwind,
     /// `label` and the name of a block.
     Label,
+    /// The name of a block.
+    Block,
     /// Labels in square brackets.
     Labels,
     /// Cases of a switch in square brackets: a constant and a label each.
@@ -38,15 +91,19 @@ pub enum Step {
     /// The arguments of a call.
     Arguments,
     /// Attributes of a call, and its operand bundles.
-    Attributes,
+    CallAttributes,
     /// `cleanup`, and typed values behind `catch` and `filter`.
     Clauses,
     /// A label; or a typed value and two labels.
     Branch,
+    /// A comma, a label, a comma and a label.
+    BranchLabels,
     /// `void`, or a typed value.
     ReturnValue,
     /// Whatever else there is: alignments, orders, numbers, attachments.
     Rest,
+    Part(Piece),
+    InList(ListStep),
 }
 
 /// Whether a statement gives a value.
@@ -149,7 +206,7 @@ static CALL: [Step; 6] = [
     Step::TypeName,
     Step::Value,
     Step::Arguments,
-    Step::Attributes,
+    Step::CallAttributes,
     Step::Rest,
 ];
 
@@ -158,7 +215,7 @@ static INVOKE: [Step; 10] = [
     Step::TypeName,
     Step::Value,
     Step::Arguments,
-    Step::Attributes,
+    Step::CallAttributes,
     Step::To,
     Step::Label,
     Step::Unwind,
@@ -171,7 +228,7 @@ static CALL_BRANCH: [Step; 9] = [
     Step::TypeName,
     Step::Value,
     Step::Arguments,
-    Step::Attributes,
+    Step::CallAttributes,
     Step::To,
     Step::Label,
     Step::Labels,

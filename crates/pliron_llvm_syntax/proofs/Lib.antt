@@ -2,3 +2,4 @@ pub mod PartLemmas
 pub mod FormLemmas
 pub mod LineLemmas
 pub mod FaultLemmas
+pub mod LexLemmas

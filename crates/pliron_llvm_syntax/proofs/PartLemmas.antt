@@ -1,5 +1,5 @@
 -- Parts that follow each other.
-use Rattle.std.proofs.Common.{◌≡◌, ℕ, ◌<◌, ◌≤◌, ◌-◌, ◌+◌, List, [], ◌∷◌, ◌++◌, length, get_or, take, drop, slice_range, flat_map, refl, sym, ap, ◌∙◌, subst, arith}
+use Rattle.std.proofs.Common.{◌≡◌, ℕ, ◌<◌, ◌≤◌, ◌-◌, ◌+◌, List, [], ◌∷◌, ◌++◌, length, get_or, take, drop, slice_range, refl, sym, ap, ◌∙◌, subst, arith}
 use Rattle.std.proofs.Math.Seq.{drop-length, take-add, take-length}
 use Rattle.std.proofs.lemmas.List.{drop_more, drop_all, length-take-le}
 use Rattle.std.proofs.lemmas.List.Folds.{drop_split}

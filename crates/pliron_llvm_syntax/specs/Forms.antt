@@ -1,5 +1,5 @@
 -- Forms of statements: their texts with a mark where an operand or a successor stands.
-use Rattle.std.specs.Prelude.{◌<◌, ◌≤◌, ℕ, Bool, List, [], ◌∷◌, ◌++◌, length, drop, slice_range, slice_index_or, nat_lt, if◌then◌else◌}
+use Rattle.std.specs.Prelude.{◌≤◌, ℕ, Bool, List, [], ◌∷◌, ◌++◌, length, drop, slice_range, slice_index_or, nat_lt, if◌then◌else◌}
 use Rattle.pliron_llvm_syntax.specs.declared.forms.Hole.{Hole}
 use Rattle.pliron_llvm_syntax.specs.declared.forms.HoleKind.{HoleKind}
 use Rattle.pliron_llvm_syntax.specs.declared.forms.HoleKind.TheVariants.{Operand, Successor}

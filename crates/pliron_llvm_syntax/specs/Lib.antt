@@ -1,4 +1,5 @@
 pub mod Tokens
+pub mod Lexing
 pub mod Functions
 pub mod Parts
 pub mod Forms

@@ -1,6 +1,11 @@
 //! Tokens of LLVM's textual IR.
-ghost use Rattle.std.specs.Prelude.{◌≡◌, ◌<◌, ◌≤◌, ◌+◌, length, take_while, not, IfOk, IfErr, IfSome};
+ghost use Rattle.std.specs.Prelude.{◌≡◌, ◌<◌, ◌≤◌, ◌+◌, ◌∷◌, length, drop, Some, None, IfOk, IfErr, IfSome};
 ghost use Rattle.pliron_llvm_syntax.specs.Tokens.{bytes_of_span, is_word_byte, is_blank, is_line_end, IsFirst, IsTokenAt, IsFaultIn};
+ghost use Rattle.pliron_llvm_syntax.specs.Lexing.{word_len, blank_len, line_len, quoted_len, string_len, closing_len, comment_len};
+ghost use Rattle.pliron_llvm_syntax.specs.Lexing.{begins_with_digit, begins_number, is_exponent, is_before_sign, whole_word_len};
+ghost use Rattle.pliron_llvm_syntax.specs.Lexing.{is_byte_at, with_colon, first_bytes, first_plain_word, first_word, first_string};
+ghost use Rattle.pliron_llvm_syntax.specs.Lexing.{first_comment, metadata_name_len, name_len, first_name, first_number, kind_of_open};
+ghost use Rattle.pliron_llvm_syntax.specs.Lexing.{kind_of_close, is_mark, kind_of_byte, is_sign_of_name, longer_token, first_token, IsLexedAt};
 
 use crate::fault::{Expected, Fault};
 
@@ -82,7 +87,7 @@ fn is_line_end(byte: u8) -> bool
 
 // How many bytes of words the text begins with.
 fn word_len(text: &[u8]) -> usize
-    ensures exact { result ≡ length (take_while is_word_byte text.now) }
+    ensures exact { result ≡ word_len text.now }
     ensures within { result ≤ length text.now }
 {
     text.iter().take_while(|byte| is_word_byte(**byte)).count()
@@ -90,7 +95,7 @@ fn word_len(text: &[u8]) -> usize
 
 // How many blanks the text begins with.
 fn blank_len(text: &[u8]) -> usize
-    ensures exact { result ≡ length (take_while is_blank text.now) }
+    ensures exact { result ≡ blank_len text.now }
     ensures within { result ≤ length text.now }
 {
     text.iter().take_while(|byte| is_blank(**byte)).count()
@@ -98,62 +103,110 @@ fn blank_len(text: &[u8]) -> usize
 
 // How many bytes are before the end of the line.
 fn line_len(text: &[u8]) -> usize
-    ensures exact { result ≡ length (take_while (λ byte. not (is_line_end byte)) text.now) }
+    ensures exact { result ≡ line_len text.now }
     ensures within { result ≤ length text.now }
 {
     text.iter().take_while(|byte| !is_line_end(**byte)).count()
 }
 
+// How many bytes are before the next `"`.
+fn quoted_len(text: &[u8]) -> usize
+    ensures exact { result ≡ quoted_len text.now }
+    ensures within { result ≤ length text.now }
+{
+    text.iter().take_while(|byte| **byte != b'"').count()
+}
+
 // How many bytes the string in quotes has that the text begins with, if it ends. `\` protects nothing.
 fn string_len(text: &[u8]) -> Option<usize>
-    ensures { IfSome result (λ len. (1 < len) × (len ≤ length text.now)) }
+    ensures exact { result ≡ string_len text.now }
+    ensures within { IfSome result (λ len. (1 < len) × (len ≤ length text.now)) }
 {
-    match text {
-        [b'"', inside @ ..] => match inside.iter().position(|byte| *byte == b'"') {
-            Some(end) => Some(end + 2),
-            None => None,
-        },
-        _ => None,
+    let [b'"', inside @ ..] = text else {
+        return None;
+    };
+    let len = quoted_len(inside);
+    if len < inside.len() {
+        Some(len + 2)
+    } else {
+        None
     }
 }
 
 // How many bytes are before the end of the first `*/`, if there is one.
+#[tactic(auto, using(crate::proofs::LexLemmas::closing_more, crate::proofs::LexLemmas::closing_found, crate::proofs::LexLemmas::closing_none))]
 fn closing_len(text: &[u8]) -> Option<usize>
-    ensures { IfSome result (λ len. len ≤ length text.now) }
+    ensures exact { result ≡ closing_len 0 text.now }
+    ensures within { IfSome result (λ len. len ≤ length text.now) }
 {
     let mut before = 0;
-    for (i, byte) in text.iter().enumerate() {
-        if before == b'*' && *byte == b'/' {
-            return Some(i + 1);
+    let mut end = 0;
+    while end < text.len() {
+        let byte = text[end];
+        end += 1;
+        if before == b'*' && byte == b'/' {
+            return Some(end);
         }
-        before = *byte;
+        before = byte;
     }
     None
 }
 
 // How many bytes the comment has that the text begins with, between `/*` and `*/`, if it ends.
 fn comment_len(text: &[u8]) -> Option<usize>
-    ensures { IfSome result (λ len. (1 < len) × (len ≤ length text.now)) }
+    ensures exact { result ≡ comment_len text.now }
+    ensures within { IfSome result (λ len. (1 < len) × (len ≤ length text.now)) }
+{
+    let [b'/', b'*', inside @ ..] = text else {
+        return None;
+    };
+    match closing_len(inside) {
+        Some(len) => Some(len + 2),
+        None => None,
+    }
+}
+
+// Whether the text begins with a digit.
+fn begins_with_digit(text: &[u8]) -> bool
+    ensures { result ≡ begins_with_digit text.now }
 {
     match text {
-        [b'/', b'*', inside @ ..] => closing_len(inside)?.checked_add(2),
-        _ => None,
+        [first, ..] => first.is_ascii_digit(),
+        [] => false,
+    }
+}
+
+// Whether the word begins with a digit, or with `-` and a digit.
+fn begins_number(word: &[u8]) -> bool
+    ensures { result ≡ begins_number word.now }
+{
+    match word {
+        [first, rest @ ..] => first.is_ascii_digit() || (*first == b'-' && begins_with_digit(rest)),
+        [] => false,
+    }
+}
+
+// Whether an exponent begins with the byte, if there is one.
+fn is_exponent(byte: Option<u8>) -> bool
+    ensures { result ≡ is_exponent byte }
+{
+    match byte {
+        Some(byte) => byte == b'e' || byte == b'E',
+        None => false,
     }
 }
 
 // Whether the word is a number up to its exponent, whose sign is next.
-fn is_before_sign(word: &[u8]) -> bool {
-    match word {
-        [b'-', first, .., last] | [first, .., last] => {
-            first.is_ascii_digit() && matches!(*last, b'e' | b'E')
-        }
-        _ => false,
-    }
+fn is_before_sign(word: &[u8]) -> bool
+    ensures { result ≡ is_before_sign word.now }
+{
+    begins_number(word) && is_exponent(word.get(word.len().saturating_sub(1)).copied())
 }
 
 // How many bytes the word has that the text begins with, with the `+` of a number's exponent.
 fn whole_word_len(text: &[u8]) -> usize
-    ensures { result ≤ length text.now }
+    ensures exact { result ≡ whole_word_len text.now }
+    ensures within { result ≤ length text.now }
 {
     let len = word_len(text);
     let (word, behind) = text.split_at(len);
@@ -171,127 +224,239 @@ impl First {
     }
 }
 
+// Whether this byte is there.
+fn is_byte_at(found: Option<u8>, byte: u8) -> bool
+    ensures { result ≡ is_byte_at found byte }
+{
+    match found {
+        Some(found) => found == byte,
+        None => false,
+    }
+}
+
 // The token of this kind and length, or the label that it is with the `:` behind it.
 fn with_colon(text: &[u8], kind: TokenKind, len: usize) -> First
     requires some { 0 < len }
     requires within { len ≤ length text.now }
-    ensures { IsFirst text.now result }
+    ensures exact { result ≡ with_colon text.now kind len }
+    ensures first { IsFirst text.now result }
 {
-    if text.get(len) == Some(&b':') {
+    if is_byte_at(text.get(len).copied(), b':') {
         First::new(TokenKind::Label, len + 1)
     } else {
         First::new(kind, len)
     }
 }
 
-// The word, the string with `c` before it, or the label that the text begins with.
-fn first_word(text: &[u8]) -> Result<First, Expected>
-    requires { 0 < length text.now }
-    ensures { IfOk result (λ first. IsFirst text.now first) }
+// The string with `c` before it that the text begins with.
+fn first_bytes(text: &[u8]) -> Option<First>
+    ensures exact { result ≡ first_bytes text.now }
+    ensures first { IfSome result (λ first. IsFirst text.now first) }
 {
-    if let [b'c', behind @ ..] = text {
-        if let Some(len) = string_len(behind) {
-            return Ok(First::new(TokenKind::Text, len + 1));
-        }
+    let [b'c', behind @ ..] = text else {
+        return None;
+    };
+    match string_len(behind) {
+        Some(len) => Some(First::new(TokenKind::Text, len + 1)),
+        None => None,
     }
+}
+
+// The word or the label that the text begins with.
+fn first_plain_word(text: &[u8]) -> Option<First>
+    ensures exact { result ≡ first_plain_word text.now }
+    ensures first { IfSome result (λ first. IsFirst text.now first) }
+{
     let len = whole_word_len(text);
     if len == 0 {
-        return Err(Expected::Word);
+        None
+    } else {
+        Some(with_colon(text, TokenKind::Word, len))
     }
-    Ok(with_colon(text, TokenKind::Word, len))
+}
+
+// The word, the string with `c` before it, or the label that the text begins with.
+fn first_word(text: &[u8]) -> Option<First>
+    ensures exact { result ≡ first_word text.now }
+    ensures first { IfSome result (λ first. IsFirst text.now first) }
+{
+    match first_bytes(text) {
+        Some(first) => Some(first),
+        None => first_plain_word(text),
+    }
 }
 
 // The string or the label that the text begins with.
-fn first_string(text: &[u8]) -> Result<First, Expected>
-    ensures { IfOk result (λ first. IsFirst text.now first) }
+fn first_string(text: &[u8]) -> Option<First>
+    ensures exact { result ≡ first_string text.now }
+    ensures first { IfSome result (λ first. IsFirst text.now first) }
 {
     match string_len(text) {
-        Some(len) => Ok(with_colon(text, TokenKind::Text, len)),
-        None => Err(Expected::Text),
+        Some(len) => Some(with_colon(text, TokenKind::Text, len)),
+        None => None,
     }
 }
 
 // The comment that the text begins with.
-fn first_comment(text: &[u8]) -> Result<First, Expected>
-    ensures { IfOk result (λ first. IsFirst text.now first) }
+fn first_comment(text: &[u8]) -> Option<First>
+    ensures exact { result ≡ first_comment text.now }
+    ensures first { IfSome result (λ first. IsFirst text.now first) }
 {
     match comment_len(text) {
-        Some(len) => Ok(First::new(TokenKind::Trivia, len)),
-        None => Err(Expected::Word),
+        Some(len) => Some(First::new(TokenKind::Trivia, len)),
+        None => None,
     }
+}
+
+// How many bytes of metadata's names the text begins with.
+fn metadata_name_len(text: &[u8]) -> usize
+    ensures exact { result ≡ metadata_name_len text.now }
+    ensures within { result ≤ length text.now }
+{
+    text.iter()
+        .take_while(|byte| is_word_byte(**byte) || **byte == b'\\')
+        .count()
 }
 
 // How many bytes the name has behind its first one, none where there is no name.
 fn name_len(first: u8, behind: &[u8]) -> usize
-    ensures { result ≤ length behind.now }
+    ensures exact { result ≡ name_len first behind.now }
+    ensures within { result ≤ length behind.now }
 {
-    match string_len(behind) {
-        Some(len) if matches!(first, b'%' | b'@' | b'$') => len,
-        _ if first == b'!' => behind
-            .iter()
-            .take_while(|byte| is_word_byte(**byte) || **byte == b'\\')
-            .count(),
-        _ => word_len(behind),
+    if first == b'%' || first == b'@' || first == b'$' {
+        match string_len(behind) {
+            Some(len) => len,
+            None => word_len(behind),
+        }
+    } else if first == b'!' {
+        metadata_name_len(behind)
+    } else {
+        word_len(behind)
     }
 }
 
-// The name that the text begins with; `$` may begin a label, and `!` may stand alone.
-fn first_name(text: &[u8]) -> Result<First, Expected>
-    requires { 0 < length text.now }
-    ensures { IfOk result (λ first. IsFirst text.now first) }
+// The name that the text begins with, which has so many bytes behind its first one; `$` may begin a label, and `!` may
+// stand alone.
+fn first_name(text: &[u8], first: u8, len: usize) -> Option<First>
+    requires { len < length text.now }
+    ensures exact { result ≡ first_name text.now first len }
+    ensures first { IfSome result (λ first. IsFirst text.now first) }
 {
-    let first = text[0];
-    match name_len(first, &text[1..]) {
-        0 if first == b'!' => Ok(First::new(TokenKind::Mark, 1)),
-        0 => Err(Expected::Word),
-        len if first == b'$' => Ok(with_colon(text, TokenKind::Name, len + 1)),
-        len => Ok(First::new(TokenKind::Name, len + 1)),
+    if len == 0 {
+        if first == b'!' {
+            Some(First::new(TokenKind::Mark, 1))
+        } else {
+            None
+        }
+    } else if first == b'$' {
+        Some(with_colon(text, TokenKind::Name, len + 1))
+    } else {
+        Some(First::new(TokenKind::Name, len + 1))
     }
 }
 
-// The number with a `+` that the text begins with.
-fn first_number(text: &[u8]) -> Result<First, Expected>
-    requires { 0 < length text.now }
-    ensures { IfOk result (λ first. IsFirst text.now first) }
+// The number with a `+` that has this behind it.
+fn first_number(behind: &[u8]) -> Option<First>
+    ensures exact { result ≡ first_number behind.now }
+    ensures first { IfSome result (λ first. (0 < first.len) × (first.len ≤ length behind.now + 1)) }
 {
-    match whole_word_len(&text[1..]) {
-        0 => Err(Expected::Word),
-        len => Ok(First::new(TokenKind::Word, len + 1)),
+    let len = whole_word_len(behind);
+    if len == 0 {
+        None
+    } else {
+        Some(First::new(TokenKind::Word, len + 1))
     }
 }
 
-// What the byte is by itself.
-fn kind_of_byte(byte: u8) -> Option<TokenKind> {
+// The bracket that the byte opens.
+fn kind_of_open(byte: u8) -> Option<TokenKind>
+    ensures { result ≡ kind_of_open byte }
+{
     match byte {
         b'(' => Some(TokenKind::Open(Bracket::Round)),
         b'[' => Some(TokenKind::Open(Bracket::Square)),
         b'{' => Some(TokenKind::Open(Bracket::Brace)),
         b'<' => Some(TokenKind::Open(Bracket::Angle)),
-        b')' => Some(TokenKind::Close(Bracket::Round)),
-        b']' => Some(TokenKind::Close(Bracket::Square)),
-        b'}' => Some(TokenKind::Close(Bracket::Brace)),
-        b'>' => Some(TokenKind::Close(Bracket::Angle)),
-        b'=' | b',' | b'*' | b'|' | b':' => Some(TokenKind::Mark),
         _ => None,
     }
 }
 
-// The token that the text begins with.
-fn first_token(text: &[u8]) -> Result<First, Expected>
-    requires { 0 < length text.now }
-    ensures { IfOk result (λ first. IsFirst text.now first) }
+// The bracket that the byte closes.
+fn kind_of_close(byte: u8) -> Option<TokenKind>
+    ensures { result ≡ kind_of_close byte }
 {
-    if let Some(kind) = kind_of_byte(text[0]) {
-        return Ok(First::new(kind, 1));
+    match byte {
+        b')' => Some(TokenKind::Close(Bracket::Round)),
+        b']' => Some(TokenKind::Close(Bracket::Square)),
+        b'}' => Some(TokenKind::Close(Bracket::Brace)),
+        b'>' => Some(TokenKind::Close(Bracket::Angle)),
+        _ => None,
     }
-    match text[0] {
-        b' ' | b'\t' | b'\n' | b'\r' | 0 => Ok(First::new(TokenKind::Trivia, blank_len(text))),
-        b';' => Ok(First::new(TokenKind::Trivia, line_len(text))),
-        b'/' => first_comment(text),
-        b'"' => first_string(text),
-        b'%' | b'@' | b'$' | b'!' | b'#' | b'^' => first_name(text),
-        b'+' => first_number(text),
-        _ => first_word(text),
+}
+
+// Whether the byte is a mark.
+fn is_mark(byte: u8) -> bool
+    ensures { result ≡ is_mark byte }
+{
+    byte == b'=' || byte == b',' || byte == b'*' || byte == b'|' || byte == b':'
+}
+
+// What the byte is by itself.
+fn kind_of_byte(byte: u8) -> Option<TokenKind>
+    ensures { result ≡ kind_of_byte byte }
+{
+    if let Some(kind) = kind_of_open(byte) {
+        Some(kind)
+    } else if let Some(kind) = kind_of_close(byte) {
+        Some(kind)
+    } else if is_mark(byte) {
+        Some(TokenKind::Mark)
+    } else {
+        None
+    }
+}
+
+// Whether a name begins with the byte.
+fn is_sign_of_name(byte: u8) -> bool
+    ensures { result ≡ is_sign_of_name byte }
+{
+    byte == b'%' || byte == b'@' || byte == b'$' || byte == b'!' || byte == b'#' || byte == b'^'
+}
+
+// The token that the text begins with, by its first byte and what is behind that.
+fn longer_token(text: &[u8], first: u8, behind: &[u8]) -> Option<First>
+    requires { text.now ≡ first ∷ behind.now }
+    ensures exact { result ≡ longer_token first behind.now }
+    ensures first { IfSome result (λ first. IsFirst text.now first) }
+{
+    if is_blank(first) {
+        Some(First::new(TokenKind::Trivia, blank_len(text)))
+    } else if first == b';' {
+        Some(First::new(TokenKind::Trivia, line_len(text)))
+    } else if first == b'/' {
+        first_comment(text)
+    } else if first == b'"' {
+        first_string(text)
+    } else if is_sign_of_name(first) {
+        first_name(text, first, name_len(first, behind))
+    } else if first == b'+' {
+        first_number(behind)
+    } else {
+        first_word(text)
+    }
+}
+
+// The token that the text begins with.
+fn first_token(text: &[u8]) -> Option<First>
+    ensures exact { result ≡ first_token text.now }
+    ensures first { IfSome result (λ first. IsFirst text.now first) }
+{
+    let [first, behind @ ..] = text else {
+        return None;
+    };
+    match kind_of_byte(*first) {
+        Some(kind) => Some(First::new(kind, 1)),
+        None => longer_token(text, *first, behind),
     }
 }
 
@@ -305,22 +470,33 @@ pub fn bytes_of(text: &[u8], span: Span) -> &[u8]
     &text[span.start..span.end]
 }
 
+// What is expected where no token begins with this byte.
+fn expected_at(byte: u8) -> Expected {
+    if byte == b'"' {
+        Expected::Text
+    } else {
+        Expected::Word
+    }
+}
+
 /// The token at this byte: blanks and comments are tokens too. Asks that the byte is in the text. Errors: none begins there, or its string doesn't end.
 /// Cost: linear in it.
 #[doc(hidden)]
 pub fn token_at(text: &[u8], at: usize) -> Result<Token, Fault>
     requires { at < length text.now }
+    ensures lexed { IfOk result (λ token. IsLexedAt text.now at token) }
     ensures token { IfOk result (λ token. IsTokenAt text.now at token) }
+    ensures none { IfErr result (λ _. first_token (drop at text.now) ≡ None) }
     ensures fault { IfErr result (λ fault. IsFaultIn text.now fault) }
 {
     match first_token(&text[at..]) {
-        Ok(First { kind, len }) => Ok(Token {
+        Some(First { kind, len }) => Ok(Token {
             kind,
             span: Span {
                 start: at,
                 end: at + len,
             },
         }),
-        Err(expected) => Err(Fault::Expected(at, expected)),
+        None => Err(Fault::Expected(at, expected_at(text[at]))),
     }
 }

@@ -1,5 +1,5 @@
 //! Statements by themselves: what is read of each. `_` stands for an operand, `^` for a successor.
-use pliron_llvm_reader::{Statement, Stop, read_statement};
+use pliron_llvm_reader::{Statement, StatementRoom, Stop, read_statement};
 use pliron_llvm_syntax::{Hole, are_holes, cut};
 use std::alloc::Global;
 use std::process::Abort;
@@ -121,9 +121,9 @@ fn described(
 
 // What the statement is read as, or why it is kept.
 fn reading_of(rt: &impl Abort, alloc: Global, text: &[u8]) -> String {
-    let mut tokens = Vec::new(alloc);
+    let mut room = StatementRoom::new(alloc);
     let mut holes = Vec::new(alloc);
-    match read_statement(text, 0, &mut tokens, &mut holes) {
+    match read_statement(text, 0, &mut room, &mut holes) {
         Ok(statement) => described(rt, alloc, text, &statement, &holes),
         Err(Stop::Kept(reason)) => format!(in alloc; "{reason}").expect(rt, "memory"),
         Err(Stop::Broken(_)) => format!(in alloc; "broken").expect(rt, "memory"),
