@@ -6,7 +6,8 @@
 ghost use Rattle.std.specs.Prelude.{◌≡◌, ◌≢◌, ⊤, []};
 ghost use Rattle.pliron_bench.specs.BenchMoves.{bench};
 ghost use Rattle.pliron_opts.specs.Ran.{RunsAlone};
-ghost use Rattle.pliron_opts.specs.Read.{ReadsBench, PrintsBench, ReadsKinds, PrintsKinds};
+ghost use Rattle.pliron_opts.specs.Read.{ReadsBench, PrintsBench, PrintsKinds};
+ghost use Rattle.pliron_mlir_opt.specs.Modules.{ReadsModule};
 ghost use Rattle.pliron_opts.specs.Closed.{closed_reads, closed_prints};
 ghost use Rattle.pliron_buffers.specs.Faults.{nowhere, IsFaultPlace};
 ghost use Rattle.pliron_buffers.specs.Fills.{FillsBy};
@@ -116,7 +117,7 @@ pub extern "C" fn plir_optimise_mlir(
     changed: &mut u32,
 ) -> u32
     ensures { FillsBy (OptimisesModule ⟦<ModulePass<Form> as Pass>⟧.name
-        (closed_reads (ReadsKinds ⟦<Mlir<AnyMeaning> as HasMeaning>⟧.meaning)) (closed_prints PrintsKinds)
+        (closed_reads (ReadsModule ⟦<Mlir<AnyMeaning> as HasMeaning>⟧.meaning)) (closed_prints PrintsKinds)
         ⟦<Mlir<AnyMeaning> as HasMeaning>⟧.meaning
         (RunsAlone ⟦<BenchFactKind as PartialEq>⟧.eq ⟦<ModulePipeline<Form> as Pass>⟧.outcome)
         pipeline.now text.now changed.new) (λ failure. Explains (IsWord ⟦<ModulePass<Form> as Pass>⟧.name

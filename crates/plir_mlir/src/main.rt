@@ -5,7 +5,8 @@
 
 ghost use Rattle.std.specs.Prelude.{None, ◌≤◌, ◌⊎◌, ◌≡◌};
 ghost use Rattle.pliron_opts.specs.Ran.{RunsAlone};
-ghost use Rattle.pliron_opts.specs.Read.{ReadsKinds, PrintsKinds};
+ghost use Rattle.pliron_opts.specs.Read.{PrintsKinds};
+ghost use Rattle.pliron_mlir_opt.specs.Modules.{ReadsModule};
 ghost use Rattle.pliron_opts.specs.Closed.{closed_reads, closed_prints};
 ghost use Rattle.pliron_mlir_opt.specs.Outcomes.{EndsOptimised, EndsByWord};
 ghost use Rattle.pliron_mlir_opt.specs.Streams.{EndsOnStreams};
@@ -77,7 +78,7 @@ fn run_to<'r, R: Read>(
     file: Option<&str>,
 ) -> u8
     ensures { EndsOnStreams (λ text. EndsByWord ⟦<Instrumented<Form, Terminal<'r>> as Pass>⟧.name
-        (λ pipeline. EndsOptimised (closed_reads (ReadsKinds ⟦<Mlir<AnyMeaning> as HasMeaning>⟧.meaning))
+        (λ pipeline. EndsOptimised (closed_reads (ReadsModule ⟦<Mlir<AnyMeaning> as HasMeaning>⟧.meaning))
         (closed_prints PrintsKinds) ⟦<Mlir<AnyMeaning> as HasMeaning>⟧.meaning (RunsAlone
         ⟦<BenchFactKind as PartialEq>⟧.eq ⟦<InstrumentedPipeline<Form, Terminal<'r>> as Pass>⟧.outcome pipeline)
         text) request.now.pipeline.now) (R.remaining input.old) None None result }

@@ -1,5 +1,6 @@
 //! Modules of MLIR in notations whose texts proofs know by name alone.
-ghost use Rattle.pliron_opts.specs.Read.{ReadsKinds, PrintsKinds};
+ghost use Rattle.pliron_opts.specs.Read.{PrintsKinds};
+ghost use Rattle.pliron_mlir_opt.specs.Modules.{ReadsModule};
 ghost use Rattle.pliron_opts.specs.Closed.{closed_reads, closed_prints};
 
 use crate::failure::{ModuleFailure, ModuleFault};
@@ -26,7 +27,7 @@ impl Notation for ClosedForm {
 
     type Fault = ModuleFault;
 
-    ghost reads = { closed_reads (ReadsKinds ⟦<Mlir<AnyMeaning> as HasMeaning>⟧.meaning) };
+    ghost reads = { closed_reads (ReadsModule ⟦<Mlir<AnyMeaning> as HasMeaning>⟧.meaning) };
 
     ghost prints = { closed_prints PrintsKinds };
 

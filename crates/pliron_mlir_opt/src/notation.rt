@@ -1,5 +1,6 @@
 //! Texts in MLIR's generic form, as passes know texts.
-ghost use Rattle.pliron_opts.specs.Read.{ReadsKinds, PrintsKinds};
+ghost use Rattle.pliron_opts.specs.Read.{PrintsKinds};
+ghost use Rattle.pliron_mlir_opt.specs.Modules.{ReadsModule};
 
 use crate::failure::{ModuleFailure, ModuleFault, failure_of};
 use pliron_core::Context;
@@ -23,7 +24,7 @@ impl<D: Dialect> Notation for GenericForm<D> {
 
     type Fault = ModuleFault;
 
-    ghost reads = { ReadsKinds D.meaning };
+    ghost reads = { ReadsModule D.meaning };
 
     ghost prints = { PrintsKinds };
 
