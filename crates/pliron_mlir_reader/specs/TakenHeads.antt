@@ -1,5 +1,5 @@
 -- The head that an operation of a text is taken for: by its name, its shape and what its text says.
-use Rattle.std.specs.Prelude.{◌≡◌, ◌⊎◌, ℕ, nat_lt, Bool, false, true, List, [], length, Option, None, Some, unwrap_or, MatchBool, MatchOption}
+use Rattle.std.specs.Prelude.{◌≡◌, ◌⊎◌, ℕ, nat_lt, Bool, false, true, List, [], length, None, Some, unwrap_or, MatchBool, MatchOption}
 use Rattle.pliron_core.specs.declared.attrs.Head.{Head}
 use Rattle.pliron_mlir.specs.declared.kind.Class.{Class}
 use Rattle.pliron_mlir.specs.declared.kind.Class.TheVariants.{Constant, Opaque, Branch, Switch, Effect, Fork}
@@ -29,12 +29,12 @@ SaysForm sheet written head_of head = (form : ℕ) × IsFormOf sheet form writte
 
 -- ---- heads
 
-abbrev pub unplaced : WrittenForm → WrittenForm
-unplaced written = record written { location = None }
+abbrev pub without_location : WrittenForm → WrittenForm
+without_location written = record written { location = None }
 
 -- a constant that is no integer says its form without its location for a datum
 abbrev pub IsDatumHead : Sheet → WrittenForm → Head → Type 0
-IsDatumHead sheet written head = (datum : ℕ) × IsFormOf sheet datum (unplaced written) × SaysForm sheet written (constant_head (other_constant datum)) head
+IsDatumHead sheet written head = (datum : ℕ) × IsFormOf sheet datum (without_location written) × SaysForm sheet written (constant_head (other_constant datum)) head
 
 -- it has more than 256 bytes inside its property list
 abbrev pub is_long : WrittenForm → Bool

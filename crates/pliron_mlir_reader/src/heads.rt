@@ -464,7 +464,8 @@ impl<'t> Reader<'t> {
 
     // The number of the form.
     fn form(&mut self, pending: &Pending<'t>, tail: &Tail) -> Result<usize, Fault>
-        ensures numbered { IfOk result (λ form. IsFormOf self.new.sheet form (form_written self.old pending.now tail.now)) }
+        ensures form { IfOk result (λ form.
+            IsFormOf self.new.sheet form (form_written self.old pending.now tail.now)) }
         ensures kept { KeepsNumbers self.old.sheet self.new.sheet }
     {
         let texts = self.form_texts(pending, tail);
@@ -473,7 +474,7 @@ impl<'t> Reader<'t> {
 
     // The number of the form without the entries that count operands of edges.
     fn branch_form(&mut self, pending: &Pending<'t>, tail: &Tail) -> Result<usize, Fault>
-        ensures numbered { IfOk result (λ form.
+        ensures form { IfOk result (λ form.
             IsFormOf self.new.sheet form (branch_form_written self.old pending.now tail.now)) }
         ensures kept { KeepsNumbers self.old.sheet self.new.sheet }
     {
