@@ -1,0 +1,2 @@
+//! Parameters of a function.
+use crate::fault::FunctionFault;
