@@ -161,33 +161,46 @@ fn other_modules_are_no_names(rt: HostRuntime) {
     }
 }
 
-/// Paths, texts, and the operations that they lead to.
+/// A module, with blanks where lines end.
+static MODULE: &str = "~builtin.module~() ({ \
+~func.func~() <{function_type = (i32) -> i32, sym_name = ~f~}> ({ ^bb0(%a: i32): ~func.return~(%a) : (i32) -> () }) : () -> () \
+~func.func~() <{function_type = () -> (), sym_name = ~g~}> ({ ~cf.br~()[^b] : () -> () ^b: \
+~test.if~() ({ ~test.a~() : () -> () }, { ~test.b~() {at = ~})~} : () -> () loc(~x~) }) \
+{k = 1 : i32} : () -> () loc(unknown) ~func.return~() : () -> () }) : () -> () }) : () -> ()";
+
+/// Paths, and the operations of the module that they lead to.
 static PATHS: &str = "\
-0 => ~builtin.module~() ({ ~func.func~() <{function_type = (i32) -> i32, sym_name = ~f~}> ({ ^bb0(%a: i32): ~func.return~(%a) : (i32) -> () }) : () -> () ~func.func~() <{function_type = () -> (), sym_name = ~g~}> ({ ~cf.br~()[^b] : () -> () ^b: ~test.if~() ({ ~test.a~() : () -> () }, { ~test.b~() {at = ~})~} : () -> () loc(~x~) }) {k = 1 : i32} : () -> () loc(unknown) ~func.return~() : () -> () }) : () -> () }) : () -> () => ~builtin.module~() ({ ~func.func~() <{function_type = (i32) -> i32, sym_name = ~f~}> ({ ^bb0(%a: i32): ~func.return~(%a) : (i32) -> () }) : () -> () ~func.func~() <{function_type = () -> (), sym_name = ~g~}> ({ ~cf.br~()[^b] : () -> () ^b: ~test.if~() ({ ~test.a~() : () -> () }, { ~test.b~() {at = ~})~} : () -> () loc(~x~) }) {k = 1 : i32} : () -> () loc(unknown) ~func.return~() : () -> () }) : () -> () }) : () -> ()
-0.0 => ~builtin.module~() ({ ~func.func~() <{function_type = (i32) -> i32, sym_name = ~f~}> ({ ^bb0(%a: i32): ~func.return~(%a) : (i32) -> () }) : () -> () ~func.func~() <{function_type = () -> (), sym_name = ~g~}> ({ ~cf.br~()[^b] : () -> () ^b: ~test.if~() ({ ~test.a~() : () -> () }, { ~test.b~() {at = ~})~} : () -> () loc(~x~) }) {k = 1 : i32} : () -> () loc(unknown) ~func.return~() : () -> () }) : () -> () }) : () -> () => ~func.func~() <{function_type = (i32) -> i32, sym_name = ~f~}> ({ ^bb0(%a: i32): ~func.return~(%a) : (i32) -> () }) : () -> ()
-0.1.0 => ~builtin.module~() ({ ~func.func~() <{function_type = (i32) -> i32, sym_name = ~f~}> ({ ^bb0(%a: i32): ~func.return~(%a) : (i32) -> () }) : () -> () ~func.func~() <{function_type = () -> (), sym_name = ~g~}> ({ ~cf.br~()[^b] : () -> () ^b: ~test.if~() ({ ~test.a~() : () -> () }, { ~test.b~() {at = ~})~} : () -> () loc(~x~) }) {k = 1 : i32} : () -> () loc(unknown) ~func.return~() : () -> () }) : () -> () }) : () -> () => ~func.func~() <{function_type = () -> (), sym_name = ~g~}> ({ ~cf.br~()[^b] : () -> () ^b: ~test.if~() ({ ~test.a~() : () -> () }, { ~test.b~() {at = ~})~} : () -> () loc(~x~) }) {k = 1 : i32} : () -> () loc(unknown) ~func.return~() : () -> () }) : () -> ()
-0.1.0.1 => ~builtin.module~() ({ ~func.func~() <{function_type = (i32) -> i32, sym_name = ~f~}> ({ ^bb0(%a: i32): ~func.return~(%a) : (i32) -> () }) : () -> () ~func.func~() <{function_type = () -> (), sym_name = ~g~}> ({ ~cf.br~()[^b] : () -> () ^b: ~test.if~() ({ ~test.a~() : () -> () }, { ~test.b~() {at = ~})~} : () -> () loc(~x~) }) {k = 1 : i32} : () -> () loc(unknown) ~func.return~() : () -> () }) : () -> () }) : () -> () => ~test.if~() ({ ~test.a~() : () -> () }, { ~test.b~() {at = ~})~} : () -> () loc(~x~) }) {k = 1 : i32} : () -> () loc(unknown)
-0.1.0.1.1.0 => ~builtin.module~() ({ ~func.func~() <{function_type = (i32) -> i32, sym_name = ~f~}> ({ ^bb0(%a: i32): ~func.return~(%a) : (i32) -> () }) : () -> () ~func.func~() <{function_type = () -> (), sym_name = ~g~}> ({ ~cf.br~()[^b] : () -> () ^b: ~test.if~() ({ ~test.a~() : () -> () }, { ~test.b~() {at = ~})~} : () -> () loc(~x~) }) {k = 1 : i32} : () -> () loc(unknown) ~func.return~() : () -> () }) : () -> () }) : () -> () => ~test.b~() {at = ~})~} : () -> () loc(~x~)
-0.1.0.2 => ~builtin.module~() ({ ~func.func~() <{function_type = (i32) -> i32, sym_name = ~f~}> ({ ^bb0(%a: i32): ~func.return~(%a) : (i32) -> () }) : () -> () ~func.func~() <{function_type = () -> (), sym_name = ~g~}> ({ ~cf.br~()[^b] : () -> () ^b: ~test.if~() ({ ~test.a~() : () -> () }, { ~test.b~() {at = ~})~} : () -> () loc(~x~) }) {k = 1 : i32} : () -> () loc(unknown) ~func.return~() : () -> () }) : () -> () }) : () -> () => ~func.return~() : () -> ()
-0.2 => ~builtin.module~() ({ ~func.func~() <{function_type = (i32) -> i32, sym_name = ~f~}> ({ ^bb0(%a: i32): ~func.return~(%a) : (i32) -> () }) : () -> () ~func.func~() <{function_type = () -> (), sym_name = ~g~}> ({ ~cf.br~()[^b] : () -> () ^b: ~test.if~() ({ ~test.a~() : () -> () }, { ~test.b~() {at = ~})~} : () -> () loc(~x~) }) {k = 1 : i32} : () -> () loc(unknown) ~func.return~() : () -> () }) : () -> () }) : () -> () => none
-1 => ~builtin.module~() ({ ~func.func~() <{function_type = (i32) -> i32, sym_name = ~f~}> ({ ^bb0(%a: i32): ~func.return~(%a) : (i32) -> () }) : () -> () ~func.func~() <{function_type = () -> (), sym_name = ~g~}> ({ ~cf.br~()[^b] : () -> () ^b: ~test.if~() ({ ~test.a~() : () -> () }, { ~test.b~() {at = ~})~} : () -> () loc(~x~) }) {k = 1 : i32} : () -> () loc(unknown) ~func.return~() : () -> () }) : () -> () }) : () -> () => none
-0.1.0.1.2.0 => ~builtin.module~() ({ ~func.func~() <{function_type = (i32) -> i32, sym_name = ~f~}> ({ ^bb0(%a: i32): ~func.return~(%a) : (i32) -> () }) : () -> () ~func.func~() <{function_type = () -> (), sym_name = ~g~}> ({ ~cf.br~()[^b] : () -> () ^b: ~test.if~() ({ ~test.a~() : () -> () }, { ~test.b~() {at = ~})~} : () -> () loc(~x~) }) {k = 1 : i32} : () -> () loc(unknown) ~func.return~() : () -> () }) : () -> () }) : () -> () => none
-0.x => ~builtin.module~() ({ ~func.func~() <{function_type = (i32) -> i32, sym_name = ~f~}> ({ ^bb0(%a: i32): ~func.return~(%a) : (i32) -> () }) : () -> () ~func.func~() <{function_type = () -> (), sym_name = ~g~}> ({ ~cf.br~()[^b] : () -> () ^b: ~test.if~() ({ ~test.a~() : () -> () }, { ~test.b~() {at = ~})~} : () -> () loc(~x~) }) {k = 1 : i32} : () -> () loc(unknown) ~func.return~() : () -> () }) : () -> () }) : () -> () => none
-0.1 => ~m~() ({ => ~m~() ({";
+0 => all
+0.0 => ~func.func~() <{function_type = (i32) -> i32, sym_name = ~f~}> ({ ^bb0(%a: i32): ~func.return~(%a) : (i32) -> () }) : () -> ()
+0.1.0 => ~func.func~() <{function_type = () -> (), sym_name = ~g~}> ({ ~cf.br~()[^b] : () -> () ^b: ~test.if~() ({ ~test.a~() : () -> () }, { ~test.b~() {at = ~})~} : () -> () loc(~x~) }) {k = 1 : i32} : () -> () loc(unknown) ~func.return~() : () -> () }) : () -> ()
+0.1.0.1 => ~test.if~() ({ ~test.a~() : () -> () }, { ~test.b~() {at = ~})~} : () -> () loc(~x~) }) {k = 1 : i32} : () -> () loc(unknown)
+0.1.0.1.1.0 => ~test.b~() {at = ~})~} : () -> () loc(~x~)
+0.1.0.2 => ~func.return~() : () -> ()
+0.2 => none
+1 => none
+0.1.0.1.2.0 => none
+0.x => none";
 
 #[test]
 fn paths_lead_to_operations(rt: HostRuntime) {
     let alloc = rt.alloc();
+    let text = with_quotes(alloc, MODULE).expect(&rt, "memory");
+    let bytes = text.as_bytes();
     for case in PATHS.lines() {
-        let (path, rest) = case.split_once(" => ").expect(&rt, "a path");
-        let (text, wanted) = rest.split_once(" => ").expect(&rt, "a case");
-        let text = with_quotes(alloc, text).expect(&rt, "memory");
+        let (path, wanted) = case.split_once(" => ").expect(&rt, "a case");
         let wanted = with_quotes(alloc, wanted).expect(&rt, "memory");
-        let found = module_range(alloc, text.as_bytes(), path).expect(&rt, "memory");
+        let found = module_range(alloc, bytes, path).expect(&rt, "memory");
         let part = match found {
-            Some(part) => &text.as_str()[part.start..part.start + part.len],
-            None => "none",
+            Some(part) if part.len == bytes.len() => b"all".as_slice(),
+            Some(part) => &bytes[part.start..part.start + part.len],
+            None => b"none".as_slice(),
         };
-        assert_eq!(rt; part, wanted.as_str(), "{path}");
+        assert!(rt; part == wanted.as_bytes(), "{path}");
     }
+}
+
+#[test]
+fn an_unreadable_text_is_taken_whole(rt: HostRuntime) {
+    let found = module_range(rt.alloc(), b"\"m\"() ({", "0.1").expect(&rt, "memory");
+    assert!(rt; found.is_some_and(|part| part.start == 0 && part.len == 8));
 }
