@@ -25,7 +25,7 @@ use Rattle.pliron_cli.specs.declared.checking.CheckOutcome.TheVariants.{Fit, Fit
 use Rattle.pliron_cli.specs.CheckOutcome.{IsChecked, IsWholeText, IsTextOfParts, IsUnfitText, IsReportedFit, IsReportedFit.SaysWhole, IsReportedFit.SaysParts, fit_line, parts_line}
 use Rattle.pliron_cli.specs.Compared.{AreSeen, are_same, are_same_so_far, effects_of, is_start, is_cut_off, EndsWith, EndsCompared, so_far_line, different_line, other_line}
 use Rattle.pliron_cli.specs.Likeness.{IsLikeness, EndsLike, EndsLike.AreAlike, EndsLike.AreUnlike, last_line, status_for}
-use Rattle.pliron_cli.specs.Optimised.{IsLaidOut, IsMade, EndsOptimised}
+use Rattle.pliron_cli.specs.Optimised.{IsLaidOut, EndsOptimised}
 use Rattle.pliron_cli.specs.Outcomes.{Ends, Ends.Says, Ends.Denies, Ends.Fails, EndsBadly, EndsBadly.Refuses, IsRefused}
 use Rattle.pliron_cli.specs.Reports.{FaultsWord}
 use Rattle.pliron_show.specs.Faults.{Faults, TextFaults}

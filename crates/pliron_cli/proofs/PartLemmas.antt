@@ -1,6 +1,6 @@
 -- What is fit by its parts.
-use Rattle.std.proofs.Common.{◌≡◌, ◌++◌, append_assoc, ◌⊎◌, ◌≢◌, ◌<◌, ◌↔◌, ℕ, List, [], ◌∷◌, Option, Some, None, IfSome, Result, Ok, Err, IfOk, length, IsTrue, refl, sym, ap, ◌∙◌, subst, inl, inr, arith}
-use Rattle.pliron_core.specs.Tree.{Tree, In, IsInside, IsLive, regions_of, parent_operation_of}
+use Rattle.std.proofs.Common.{◌≡◌, ◌++◌, append_assoc, ◌⊎◌, ◌↔◌, ℕ, List, [], ◌∷◌, Option, Some, None, IfSome, Result, Ok, Err, IfOk, refl, sym, ◌∙◌, subst, inl, inr, arith}
+use Rattle.pliron_core.specs.Tree.{Tree, In, IsInside, IsLive}
 use Rattle.pliron_core.specs.Invariant.{IsTree}
 use Rattle.pliron_core.specs.Walks.{contents, HasExactContents}
 use Rattle.pliron_core.proofs.WalkLemmas.{inside_live}

@@ -1,5 +1,5 @@
 -- The entries of a list one after the other, and sums that are too large.
-use Rattle.std.proofs.Common.{◌≡◌, ℕ, zero, suc, ◌+◌, ◌^◌, ◌<◌, ◌≤◌, Bool, true, false, ◌&&◌, nat_eq, List, [], ◌∷◌, length, map, get_or, take, drop, sum, if◌then◌else◌, Some, None, Result, Ok, Err, IfOk, refl, sym, ap, ◌∙◌, add-one, drop-cons, arith, codes, bytes_eq}
+use Rattle.std.proofs.Common.{◌≡◌, ℕ, zero, suc, ◌+◌, ◌^◌, ◌<◌, ◌≤◌, Bool, true, false, ◌&&◌, nat_eq, List, [], ◌∷◌, length, map, get_or, take, drop, sum, if◌then◌else◌, Some, None, Result, Ok, Err, IfOk, refl, ap, add-one, drop-cons, arith, codes, bytes_eq}
 use Rattle.std.specs.List.{starts_with}
 use Rattle.std.proofs.lemmas.Bool.Decides.{nat_tests}
 use Rattle.std.proofs.lemmas.List.Sums.{sum_by_more, sum_by-take-le}

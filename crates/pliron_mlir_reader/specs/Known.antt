@@ -1,5 +1,5 @@
 -- What is known of operations by their names.
-use Rattle.std.specs.Prelude.{◌≡◌, ℕ, List, Option, Some, slice_get, option_map, codes, bytes_eq}
+use Rattle.std.specs.Prelude.{◌≡◌, ℕ, List, Some, slice_get, option_map, codes, bytes_eq}
 use Rattle.pliron_mlir.specs.Names.{class_named}
 use Rattle.pliron_mlir_syntax.specs.declared.texts.Texts.{Texts}
 use Rattle.pliron_mlir_syntax.specs.Sheets.{text_in}

@@ -1,5 +1,5 @@
 -- What the text of an operation says of what its head depends on.
-use Rattle.std.specs.Prelude.{◌+◌, ◌-◌, ◌/◌, ◌%◌, ◌&&◌, ◌||◌, ℕ, Bool, false, true, not, nat_eq, nat_lt, List, [], ◌∷◌, length, map, sum, Option, Some, None, option_map, option_and_then, unwrap_or, is_some, if◌then◌else◌, codes, bytes_eq}
+use Rattle.std.specs.Prelude.{◌+◌, ◌-◌, ◌/◌, ◌%◌, ◌&&◌, ◌||◌, ℕ, Bool, false, true, not, nat_eq, nat_lt, List, [], ◌∷◌, length, sum, Option, Some, None, option_map, option_and_then, unwrap_or, is_some, if◌then◌else◌, codes, bytes_eq}
 use Rattle.std.specs.List.{slice_split, list_any, starts_with}
 use Rattle.pliron_bits.specs.declared.flags.Flags.{Flags}
 use Rattle.pliron_bits.specs.declared.operators.Predicate.{Predicate}

@@ -1,5 +1,5 @@
 -- The head that an operation of a text is taken for: by its name, its shape and what its text says.
-use Rattle.std.specs.Prelude.{◌≡◌, ◌⊎◌, ℕ, nat_lt, Bool, false, true, List, [], length, Option, None, Some, unwrap_or, MatchBool, MatchOption}
+use Rattle.std.specs.Prelude.{◌≡◌, ◌⊎◌, ℕ, nat_lt, Bool, false, true, List, [], length, None, Some, unwrap_or, MatchBool, MatchOption}
 use Rattle.pliron_core.specs.declared.attrs.Head.{Head}
 use Rattle.pliron_mlir.specs.declared.kind.Class.{Class}
 use Rattle.pliron_mlir.specs.declared.kind.Class.TheVariants.{Constant, Opaque, Branch, Switch, Effect, Fork}
