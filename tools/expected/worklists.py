@@ -1,4 +1,4 @@
-"""How often propagation pops something off a worklist: a plain search by the order of work that the head of `pliron_sccp`'s `search` names,
+"""How often propagation pops something off a worklist: a plain search by the order of work that the head of `pliron_opt_sccp`'s `search` names,
 last in, first out. Facts stand in a dictionary; nothing is shared with the crate."""
 from notation import FOLDS, fold, inside, uses, within
 from models import UNKNOWN, VARYING

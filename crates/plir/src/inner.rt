@@ -1,6 +1,6 @@
 //! Operations inside a function, which no command reads alone: what they name is defined around them, and no run begins
 //! there.
-use pliron_cli::{
+use pliron_show_commands::{
     Outcome, Position, Source, SourceMark, TextRange, mark_source, operation_range, position_of,
 };
 use std::alloc::{AllocError, Global};

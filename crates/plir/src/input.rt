@@ -1,7 +1,7 @@
 //! What the program reads.
 use crate::inner::{function_around, is_text};
-use pliron_cli::{TextRange, blank_comments, isolate, operation_range, without_mark};
-use pliron_mlir_show::module_range;
+use pliron_show_commands::{TextRange, blank_comments, isolate, operation_range, without_mark};
+use pliron_show_mlir::module_range;
 use std::alloc::{AllocError, Global};
 use std::fs;
 use std::io::{self, Read};

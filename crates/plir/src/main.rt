@@ -1,6 +1,6 @@
 //! `plir`: texts of operations: runs, passes, marks under what is wrong, pictures, and why passes changed what.
 //!
-//! It knows words, files, streams and an exit status. What each command does is in `pliron_cli`.
+//! It knows words, files, streams and an exit status. What each command does is in `pliron_show_commands`.
 #![tactic(auto)]
 
 mod command;
@@ -21,12 +21,12 @@ use input::{Input, input_name, read_graph_input, read_input, read_module_input};
 use optimise::opt_as_asked;
 use output::{write_answer, write_file, write_lines, write_report};
 use pipeline::{pipeline_and_file, without_blanks};
-use pliron_cli::{
+use pliron_show_commands::{
     BenchNotation, CompareOptions, EffectSink, ExplainOptions, FlowOptions, MessageForm, Outcome,
     RunOptions, Shown, Source, TextRange, check, compare, draw_flow, draw_graph, explain, in_form,
     run, run_streamed, unfit_warning,
 };
-use pliron_mlir_show::MlirNotation;
+use pliron_show_mlir::MlirNotation;
 use std::alloc::{AllocError, Global};
 use std::env;
 use std::io::{self, ErrorKind};

@@ -3,10 +3,10 @@ use crate::dialect::Dialect;
 use crate::input::Input;
 use crate::pipeline::{first_passes, without_blanks};
 use clap::ArgMatches;
-use pliron_changes::{
+use pliron_show_changes::{
     StageOptions, StageReport, run_stages, write_named_answer, write_renamed_answer,
 };
-use pliron_cli::{
+use pliron_show_commands::{
     InstrumentationOptions, OptOptions, Outcome, PipelineText, PlanError, Progress, Shown, Source,
     opt_with_check,
 };

@@ -1,6 +1,6 @@
 //! The arguments that name passes and a text.
 use clap::ArgMatches;
-use pliron_cli::{PipelineText, PlanError};
+use pliron_show_commands::{PipelineText, PlanError};
 use std::alloc::{AllocError, Global};
 
 // Whether blanks beside the letter say nothing.

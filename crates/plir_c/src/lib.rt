@@ -1,28 +1,28 @@
 //! `plir_opt` and `plir_mlir` as functions for C, and for all that calls C.
 //!
-//! It knows the types that cross to C, and nothing else: what each function does is in `pliron_buffers`.
+//! It knows the types that cross to C, and nothing else: what each function does is in `pliron_driver_buffers`.
 #![tactic(auto)]
 
 ghost use Rattle.std.specs.Prelude.{◌≡◌, ◌≢◌, ⊤, []};
-ghost use Rattle.pliron_bench.specs.BenchMoves.{bench};
-ghost use Rattle.pliron_opts.specs.Ran.{RunsAlone};
-ghost use Rattle.pliron_opts.specs.Read.{ReadsBench, PrintsBench, PrintsKinds};
-ghost use Rattle.pliron_mlir_opt.specs.Modules.{ReadsModule};
-ghost use Rattle.pliron_opts.specs.Closed.{closed_reads, closed_prints};
-ghost use Rattle.pliron_buffers.specs.Faults.{nowhere, IsFaultPlace};
-ghost use Rattle.pliron_buffers.specs.Fills.{FillsBy};
-ghost use Rattle.pliron_buffers.specs.Optimises.{Optimises, IsListed, Explains};
-ghost use Rattle.pliron_buffers.specs.Modules.{IsWord, OptimisesModule};
+ghost use Rattle.pliron_dialect_bench.specs.BenchMoves.{bench};
+ghost use Rattle.pliron_driver.specs.Ran.{RunsAlone};
+ghost use Rattle.pliron_driver.specs.Read.{ReadsBench, PrintsBench, PrintsKinds};
+ghost use Rattle.pliron_driver_mlir.specs.Modules.{ReadsModule};
+ghost use Rattle.pliron_driver.specs.Closed.{closed_reads, closed_prints};
+ghost use Rattle.pliron_driver_buffers.specs.Faults.{nowhere, IsFaultPlace};
+ghost use Rattle.pliron_driver_buffers.specs.Fills.{FillsBy};
+ghost use Rattle.pliron_driver_buffers.specs.Optimises.{Optimises, IsListed, Explains};
+ghost use Rattle.pliron_driver_buffers.specs.Modules.{IsWord, OptimisesModule};
 
-use pliron_bench::Bench;
-use pliron_buffers::{
+use pliron_dialect_bench::Bench;
+use pliron_dialect_mlir::{AnyMeaning, Mlir};
+use pliron_driver::{Closed, PassPipeline};
+use pliron_driver_buffers::{
     BenchNotation, Failure, ModulePass, ModulePipeline, Place, describe_graph_into,
     find_fault_into, find_module_fault_into, optimise_into, optimise_module_into,
 };
+use pliron_driver_mlir::ClosedForm;
 use pliron_laws::HasMeaning;
-use pliron_mlir::{AnyMeaning, Mlir};
-use pliron_mlir_opt::ClosedForm;
-use pliron_opts::{Closed, PassPipeline};
 use pliron_pass::{BenchFactKind, BenchFacts, Pass};
 use std::alloc::Global;
 

@@ -5,9 +5,8 @@
 //! be written.
 #![tactic(auto)]
 
-use pliron_fuzz::{Tally, Verdict, judge};
+use pliron_fuzz::{Subject, Tally, Verdict, judge};
 use pliron_laws::OptError;
-use pliron_random_text::Subject;
 use std::alloc::Global;
 use std::env;
 use std::process::ExitCode;

@@ -1,25 +1,25 @@
 //! `plir_mlir`: optimises a module of MLIR in the generic form.
 //!
-//! It knows words, files, streams and an exit status. What the program does with texts is in `pliron_mlir_opt`.
+//! It knows words, files, streams and an exit status. What the program does with texts is in `pliron_driver_mlir`.
 #![tactic(auto)]
 
 ghost use Rattle.std.specs.Prelude.{None, ◌≤◌, ◌⊎◌, ◌≡◌};
-ghost use Rattle.pliron_opts.specs.Ran.{RunsAlone};
-ghost use Rattle.pliron_opts.specs.Read.{PrintsKinds};
-ghost use Rattle.pliron_mlir_opt.specs.Modules.{ReadsModule};
-ghost use Rattle.pliron_opts.specs.Closed.{closed_reads, closed_prints};
-ghost use Rattle.pliron_mlir_opt.specs.Outcomes.{EndsOptimised, EndsByWord};
-ghost use Rattle.pliron_mlir_opt.specs.Streams.{EndsOnStreams};
+ghost use Rattle.pliron_driver.specs.Ran.{RunsAlone};
+ghost use Rattle.pliron_driver.specs.Read.{PrintsKinds};
+ghost use Rattle.pliron_driver_mlir.specs.Modules.{ReadsModule};
+ghost use Rattle.pliron_driver.specs.Closed.{closed_reads, closed_prints};
+ghost use Rattle.pliron_driver_mlir.specs.Outcomes.{EndsOptimised, EndsByWord};
+ghost use Rattle.pliron_driver_mlir.specs.Streams.{EndsOnStreams};
 
 mod command;
 mod target;
 
 use clap::{ArgMatches, Error};
 use command::parse_arguments;
-use pliron_instrument::{Instrumented, InstrumentedPipeline, Progress};
+use pliron_dialect_mlir::{AnyMeaning, Mlir};
+use pliron_driver_instrument::{Instrumented, InstrumentedPipeline, Progress};
+use pliron_driver_mlir::{ClosedForm, MAX_TEXT, ModuleOptions, Request, run_on};
 use pliron_laws::HasMeaning;
-use pliron_mlir::{AnyMeaning, Mlir};
-use pliron_mlir_opt::{ClosedForm, MAX_TEXT, ModuleOptions, Request, run_on};
 use pliron_pass::{BenchFactKind, Pass};
 use std::env;
 use std::fs::File;

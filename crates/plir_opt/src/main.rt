@@ -1,9 +1,9 @@
 //! `plir_opt`: optimises a text on standard input.
 //!
-//! It knows arguments, streams and an exit status. What the program does stands in `pliron_opts`.
+//! It knows arguments, streams and an exit status. What the program does stands in `pliron_driver`.
 #![tactic(auto)]
 
-use pliron_opts::{host_words, plir_run};
+use pliron_driver::{host_words, plir_run};
 use std::process::ExitCode;
 
 fn main(rt: HostRuntime) -> ExitCode {

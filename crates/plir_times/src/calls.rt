@@ -1,11 +1,11 @@
 //! Calls on graphs, each with a number that tells that it was made.
-ghost use Rattle.pliron_traversal.specs.Adjacency.{AreInverse};
+ghost use Rattle.pliron_graph_traversal.specs.Adjacency.{AreInverse};
 
-use pliron_dominance::DominatorTree;
-use pliron_graph::{
+use pliron_graph_components::{
     AdjacencyList, ControlFlowGraph, DFSTraversal, ReverseGraph, post_order,
     sccs_in_topological_order,
 };
+use pliron_graph_dominance::DominatorTree;
 use std::alloc::Global;
 
 /// A call that is measured.

@@ -10,7 +10,7 @@
 //! unreadable, or memory was refused; 2: the words are others, or nothing can be read or written.
 #![tactic(auto)]
 
-ghost use Rattle.pliron_traversal.specs.Adjacency.{AreInverse};
+ghost use Rattle.pliron_graph_traversal.specs.Adjacency.{AreInverse};
 
 mod calls;
 mod shapes;
@@ -19,7 +19,7 @@ mod texts;
 use crate::calls::Call;
 use crate::shapes::{Shape, rows_of};
 use crate::texts::{length_after, print_again};
-use pliron_graph::AdjacencyList;
+use pliron_graph_components::AdjacencyList;
 use pliron_pass::OptError;
 use std::alloc::{AllocError, Global};
 use std::env;

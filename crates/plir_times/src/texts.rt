@@ -1,10 +1,10 @@
 //! Passes on texts of any length.
 
-use pliron_bench::Bench;
 use pliron_core::Context;
-use pliron_notation::{print_text, read_text};
+use pliron_dialect_bench::Bench;
 use pliron_pass::{AnalysisManager, BenchFacts, OptError, Passes};
-use pliron_pipeline::{PassStep, run_pipeline};
+use pliron_pass_pipeline::{PassStep, run_pipeline};
+use pliron_text::{print_text, read_text};
 use std::alloc::Global;
 
 /// How many bytes the text has that the passes of these names leave; `None` where it is unreadable. Other names are passed

@@ -8,9 +8,9 @@ use Rattle.pliron_laws.specs.Outcomes.{Materialises}
 use Rattle.pliron_laws.specs.InPlace.{materialising_outcome}
 use Rattle.pliron_laws.proofs.ShapeLemmas.{live_at}
 use Rattle.pliron_laws.proofs.FoldLemmas.{results_at}
-use Rattle.pliron_bench.specs.BenchMoves.{bench}
-use Rattle.pliron_bench.specs.BenchAnswers.{bench_accepts, bench_constant_head}
-use Rattle.pliron_bench.proofs.BenchSingle.{put_all, put_is}
+use Rattle.pliron_dialect_bench.specs.BenchMoves.{bench}
+use Rattle.pliron_dialect_bench.specs.BenchAnswers.{bench_accepts, bench_constant_head}
+use Rattle.pliron_dialect_bench.proofs.BenchSingle.{put_all, put_is}
 use Rattle.pliron_allocation_failures.specs.Pairs.{both_put}
 
 two_of : (xs : List ℕ) → length xs ≡ 2 → (first : ℕ) × (second : ℕ) × (xs ≡ first ∷ second ∷ [])

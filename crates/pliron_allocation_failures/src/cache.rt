@@ -2,12 +2,12 @@
 //! part.
 
 use crate::observation::Observation;
-use pliron_bench::Bench;
 use pliron_core::{Context, IRStatus, Operation, Ptr};
+use pliron_dialect_bench::Bench;
 use pliron_laws::OptError;
-use pliron_notation::read_text;
 use pliron_pass::{AnalysisManager, BenchFactKind, BenchFacts, Pass, PassResult, Passes};
-use pliron_pipeline::PassStep;
+use pliron_pass_pipeline::PassStep;
+use pliron_text::read_text;
 use std::alloc::Global;
 
 static TEXT: &str = "func { b0(): br b1(); b1(): ret }";

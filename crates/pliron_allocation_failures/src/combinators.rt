@@ -1,19 +1,19 @@
 //! Each combinator, refused in the middle: the tree is one after whole rewrites, and nothing is cached.
-ghost use Rattle.pliron_bench.specs.BenchMoves.{bench};
+ghost use Rattle.pliron_dialect_bench.specs.BenchMoves.{bench};
 ghost use Rattle.pliron_core.specs.Tree.{IsLive};
 ghost use Rattle.pliron_laws.specs.Linked.{IsWellLinked};
 
 use crate::observation::Observation;
 use crate::optimisations::seen_of;
-use pliron_bench::{Bench, BenchKind};
 use pliron_core::{Context, IRStatus, Operation, Ptr};
+use pliron_dialect_bench::{Bench, BenchKind};
 use pliron_laws::OptError;
-use pliron_notation::{print_text, read_text};
 use pliron_pass::{
     AnalysisManager, BenchFactKind, BenchFacts, GuardedPass, NestedOpsPass, OpGuard, PassManager,
     PassResult, Passes, Repeat,
 };
-use pliron_pipeline::PassStep;
+use pliron_pass_pipeline::PassStep;
+use pliron_text::{print_text, read_text};
 use std::alloc::Global;
 
 /// A combinator, the text on which `sccp` and `dce` run in it, and the trees after some whole rewrites, the

@@ -1,18 +1,18 @@
 //! The optimisations on texts, and the trees that whole rewrites make of each.
-ghost use Rattle.pliron_bench.specs.BenchMoves.{bench};
+ghost use Rattle.pliron_dialect_bench.specs.BenchMoves.{bench};
 ghost use Rattle.pliron_core.specs.Tree.{IsLive};
 ghost use Rattle.pliron_laws.specs.Linked.{IsWellLinked};
 
 use crate::observation::Observation;
-use pliron_bench::Bench;
-use pliron_canonicalize::canonicalize;
-use pliron_cfg::simplify_cfg;
 use pliron_core::{Context, IRStatus, Operation, Ptr};
-use pliron_cse::cse;
-use pliron_dce::dce;
+use pliron_dialect_bench::Bench;
 use pliron_laws::OptError;
-use pliron_notation::{print_text, read_text};
-use pliron_sccp::sccp;
+use pliron_opt_canonicalize::canonicalize;
+use pliron_opt_cfg::simplify_cfg;
+use pliron_opt_cse::cse;
+use pliron_opt_dce::dce;
+use pliron_opt_sccp::sccp;
+use pliron_text::{print_text, read_text};
 use std::alloc::Global;
 
 /// An optimisation, a text, and the trees after some whole rewrites of it, worked by hand. The last one is the

@@ -3,18 +3,18 @@ ghost use Rattle.std.specs.Prelude.{◌≡◌, ◌∷◌, [], ℕ, Some, Ok, OnO
 ghost use Rattle.pliron_core.specs.Tree.{IsLive, operands_of, results_of, parent_of};
 ghost use Rattle.pliron_core.specs.Changes.{IsSameTree};
 ghost use Rattle.pliron_core.specs.declared.attrs.AttrObj.TheVariants.{Int};
-ghost use Rattle.pliron_bench.specs.declared.kind.BenchKind.TheVariants.{Pair};
-ghost use Rattle.pliron_bench.specs.BenchMoves.{bench};
-ghost use Rattle.pliron_bench.specs.BenchAnswers.{bench_accepts, bench_constant_head, is_of_bench_kind};
+ghost use Rattle.pliron_dialect_bench.specs.declared.kind.BenchKind.TheVariants.{Pair};
+ghost use Rattle.pliron_dialect_bench.specs.BenchMoves.{bench};
+ghost use Rattle.pliron_dialect_bench.specs.BenchAnswers.{bench_accepts, bench_constant_head, is_of_bench_kind};
 ghost use Rattle.pliron_laws.specs.Answers.{HeadPasses};
 ghost use Rattle.pliron_laws.specs.InPlace.{materialising_outcome};
 ghost use Rattle.pliron_allocation_failures.specs.Pairs.{both_put};
 
 use crate::observation::Observation;
-use pliron_bench::{Bench, BenchKind};
 use pliron_core::{AttrObj, Context, IRRewriter, IRStatus, Operation, Ptr, Rewriter};
+use pliron_dialect_bench::{Bench, BenchKind};
 use pliron_laws::{ConstFoldInterface, Dialect, HasMeaning, OptError, Room};
-use pliron_notation::{print_text, read_text};
+use pliron_text::{print_text, read_text};
 use std::alloc::Global;
 
 /// The operations of `Bench`, of which a `pair` folds to what it gives: 1 and 2.

@@ -4,19 +4,19 @@ use Rattle.std.specs.Int.{w64, int_wrap}
 use Rattle.pliron_core.specs.declared.attrs.AttrObj.{AttrObj}
 use Rattle.pliron_core.specs.declared.attrs.AttrObj.TheVariants.{Int, Text}
 use Rattle.pliron_core.specs.declared.attrs.Head.{Head}
-use Rattle.pliron_bench.specs.declared.kind.BenchKind.{BenchKind}
-use Rattle.pliron_bench.specs.declared.kind.BenchKind.TheVariants.{Add, Mul}
-use Rattle.pliron_bench.specs.Bench.{number_of, plain_head}
-use Rattle.pliron_bench.specs.BenchNumbers.{sum}
-use Rattle.pliron_views.specs.declared.view.Leaf.{Leaf}
-use Rattle.pliron_views.specs.declared.view.Leaf.TheVariants.{Unknown, Known}
-use Rattle.pliron_views.specs.declared.view.Operand.{Operand}
-use Rattle.pliron_views.specs.declared.view.Operand.TheVariants.{Plain, Made}
-use Rattle.pliron_views.specs.declared.view.View.{View}
-use Rattle.pliron_views.specs.declared.term.Atom.TheVariants.{Named, Constant}
-use Rattle.pliron_views.specs.declared.term.Term.{Term}
-use Rattle.pliron_views.specs.declared.term.Term.TheVariants.{Make}
-use Rattle.pliron_views.specs.Views.{leaf_value, operand_value}
+use Rattle.pliron_dialect_bench.specs.declared.kind.BenchKind.{BenchKind}
+use Rattle.pliron_dialect_bench.specs.declared.kind.BenchKind.TheVariants.{Add, Mul}
+use Rattle.pliron_dialect_bench.specs.Bench.{number_of, plain_head}
+use Rattle.pliron_dialect_bench.specs.BenchNumbers.{sum}
+use Rattle.pliron_rewrite_rules.specs.declared.view.Leaf.{Leaf}
+use Rattle.pliron_rewrite_rules.specs.declared.view.Leaf.TheVariants.{Unknown, Known}
+use Rattle.pliron_rewrite_rules.specs.declared.view.Operand.{Operand}
+use Rattle.pliron_rewrite_rules.specs.declared.view.Operand.TheVariants.{Plain, Made}
+use Rattle.pliron_rewrite_rules.specs.declared.view.View.{View}
+use Rattle.pliron_rewrite_rules.specs.declared.term.Atom.TheVariants.{Named, Constant}
+use Rattle.pliron_rewrite_rules.specs.declared.term.Term.{Term}
+use Rattle.pliron_rewrite_rules.specs.declared.term.Term.TheVariants.{Make}
+use Rattle.pliron_rewrite_rules.specs.Views.{leaf_value, operand_value}
 use Rattle.pliron_bench_rules.specs.declared.Part.{Part}
 
 -- whether an operation with this head is of the kind

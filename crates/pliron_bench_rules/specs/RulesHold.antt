@@ -12,21 +12,21 @@ use Rattle.pliron_core.proofs.HoldingLemmas.{not_none, some_is}
 use Rattle.pliron_core.proofs.ListLemmas.{In-left}
 use Rattle.pliron_laws.specs.Datum.{Datum, Empty, Number, datum_of, Meaning}
 use Rattle.pliron_laws.specs.States.{Environment, prepend_optional}
-use Rattle.pliron_roles.specs.Roles.{number_of as number_of_datum, act_of, by_role, no_act, meaning_by, effects_by, role_at}
-use Rattle.pliron_rules.specs.Insertions.{pure_shape}
-use Rattle.pliron_bench.specs.declared.kind.BenchKind.{BenchKind}
-use Rattle.pliron_bench.specs.declared.kind.BenchKind.TheVariants.{Add, Mul}
-use Rattle.pliron_bench.specs.Bench.{kind_of, number_of, plain_head, is_number}
-use Rattle.pliron_bench.specs.BenchMoves.{bench, bench_role, bench_tables, bench_value}
-use Rattle.pliron_bench.specs.BenchNumbers.{fits, sum, product}
-use Rattle.pliron_views.specs.declared.view.Leaf.{Leaf}
-use Rattle.pliron_views.specs.declared.view.Leaf.TheVariants.{Unknown, Known}
-use Rattle.pliron_views.specs.declared.view.Operand.{Operand}
-use Rattle.pliron_views.specs.declared.view.Operand.TheVariants.{Plain, Made}
-use Rattle.pliron_views.specs.declared.view.View.{View}
-use Rattle.pliron_views.specs.declared.term.Term.{Term}
-use Rattle.pliron_views.specs.RuleLaws.{IsPureHead, IsRule, RulesHold}
-use Rattle.pliron_views.specs.Views.{Each, only_given, Agrees, OperandAgrees, LeafAgrees, leaf_value, leaf_datum, operand_value, operand_values, operand_datum, data_by, result_datum, view_datum, term_datum, shown_in}
+use Rattle.pliron_dialect.specs.Roles.{number_of as number_of_datum, act_of, by_role, no_act, meaning_by, effects_by, role_at}
+use Rattle.pliron_rewrite_rules.specs.Insertions.{pure_shape}
+use Rattle.pliron_dialect_bench.specs.declared.kind.BenchKind.{BenchKind}
+use Rattle.pliron_dialect_bench.specs.declared.kind.BenchKind.TheVariants.{Add, Mul}
+use Rattle.pliron_dialect_bench.specs.Bench.{kind_of, number_of, plain_head, is_number}
+use Rattle.pliron_dialect_bench.specs.BenchMoves.{bench, bench_role, bench_tables, bench_value}
+use Rattle.pliron_dialect_bench.specs.BenchNumbers.{fits, sum, product}
+use Rattle.pliron_rewrite_rules.specs.declared.view.Leaf.{Leaf}
+use Rattle.pliron_rewrite_rules.specs.declared.view.Leaf.TheVariants.{Unknown, Known}
+use Rattle.pliron_rewrite_rules.specs.declared.view.Operand.{Operand}
+use Rattle.pliron_rewrite_rules.specs.declared.view.Operand.TheVariants.{Plain, Made}
+use Rattle.pliron_rewrite_rules.specs.declared.view.View.{View}
+use Rattle.pliron_rewrite_rules.specs.declared.term.Term.{Term}
+use Rattle.pliron_rewrite_rules.specs.RuleLaws.{IsPureHead, IsRule, RulesHold}
+use Rattle.pliron_rewrite_rules.specs.Views.{Each, only_given, Agrees, OperandAgrees, LeafAgrees, leaf_value, leaf_datum, operand_value, operand_values, operand_datum, data_by, result_datum, view_datum, term_datum, shown_in}
 use Rattle.pliron_bench_rules.specs.declared.Part.{Part}
 use Rattle.pliron_bench_rules.specs.BenchRules.{is_kind, number_in, known_operand, part_of_leaves, part_of, with_number, join_with, join_of, double_of, first_of_two, rules_of_two, by_operands, bench_rules}
 

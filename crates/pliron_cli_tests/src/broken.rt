@@ -2,8 +2,8 @@
 //! end of a line.
 use crate::lines::with_lines;
 use crate::optimised::plain;
-use pliron_cli::{BenchNotation, Outcome, Source, check, opt};
-use pliron_instrument::Timeless;
+use pliron_driver_instrument::Timeless;
+use pliron_show_commands::{BenchNotation, Outcome, Source, check, opt};
 use std::alloc::Global;
 use std::process::Abort;
 

@@ -1,11 +1,11 @@
 //! What passes change, in the names of the text, worked by hand. `|` stands for the end of a line.
 use crate::lines::{in_one_line, with_lines};
 use crate::optimised::plain;
-use pliron_changes::{
+use pliron_driver_instrument::{PipelineText, Timeless};
+use pliron_show_changes::{
     StageOptions, StageReport, changed_lines, run_stages, write_changes, write_named_answer,
 };
-use pliron_cli::{BenchNotation, Source, opt};
-use pliron_instrument::{PipelineText, Timeless};
+use pliron_show_commands::{BenchNotation, Source, opt};
 use std::alloc::Global;
 use std::process::Abort;
 

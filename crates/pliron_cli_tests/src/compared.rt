@@ -1,6 +1,6 @@
 //! Runs before and after passes, worked by hand. `|` stands for the end of a line.
 use crate::lines::in_one_line;
-use pliron_cli::{BenchNotation, CompareOptions, RunOptions, Source, compare};
+use pliron_show_commands::{BenchNotation, CompareOptions, RunOptions, Source, compare};
 use std::alloc::Global;
 use std::process::Abort;
 

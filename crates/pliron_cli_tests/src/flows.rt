@@ -1,5 +1,5 @@
 //! The control flow of texts as pictures, worked by hand.
-use pliron_cli::{BenchNotation, FlowOptions, Outcome, Source, draw_flow};
+use pliron_show_commands::{BenchNotation, FlowOptions, Outcome, Source, draw_flow};
 use std::alloc::Global;
 use std::process::Abort;
 

@@ -1,5 +1,5 @@
 //! Graphs as pictures, worked by hand: the search takes successors by index, and components come in topological order.
-use pliron_cli::{Source, draw_graph};
+use pliron_show_commands::{Source, draw_graph};
 use std::alloc::Global;
 use std::process::Abort;
 

@@ -1,10 +1,12 @@
 //! The commands on texts of a dialect by roles. `|` stands for the end of a line.
 use crate::lines::in_one_line;
 use crate::optimised::plain;
-use pliron_arithmetic::ArithmeticKind;
-use pliron_cli::{ExplainOptions, FlowOptions, Outcome, Source, check, draw_flow, explain, opt};
-use pliron_instrument::Timeless;
-use pliron_opts::KindNotation;
+use pliron_dialect_arithmetic::ArithmeticKind;
+use pliron_driver::KindNotation;
+use pliron_driver_instrument::Timeless;
+use pliron_show_commands::{
+    ExplainOptions, FlowOptions, Outcome, Source, check, draw_flow, explain, opt,
+};
 use std::alloc::{AllocError, Global};
 use std::process::Abort;
 

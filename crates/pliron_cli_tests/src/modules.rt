@@ -1,13 +1,13 @@
 //! The commands on modules of MLIR, worked by hand. `|` stands for the end of a line, and `~` for a quote.
 use crate::lines::in_one_line;
 use crate::optimised::plain;
-use pliron_changes::{StageOptions, StageReport, run_stages, write_renamed_answer};
-use pliron_cli::{
+use pliron_driver_instrument::{PipelineText, Timeless};
+use pliron_show_changes::{StageOptions, StageReport, run_stages, write_renamed_answer};
+use pliron_show_commands::{
     ExplainOptions, FlowOptions, MessageForm, Outcome, Source, check, draw_flow, explain, in_form,
     opt,
 };
-use pliron_instrument::{PipelineText, Timeless};
-use pliron_mlir_show::{MlirNotation, module_range};
+use pliron_show_mlir::{MlirNotation, module_range};
 use std::alloc::{AllocError, Global};
 use std::process::Abort;
 

@@ -1,8 +1,8 @@
 //! What `plir opt` writes, beside what `plir_opt` does on the same words and texts.
 use crate::lines::{in_one_line, with_lines};
-use pliron_cli::{BenchNotation, InstrumentationOptions, OptOptions, Source, opt};
-use pliron_instrument::Timeless;
-use pliron_opts::plir_run;
+use pliron_driver::plir_run;
+use pliron_driver_instrument::Timeless;
+use pliron_show_commands::{BenchNotation, InstrumentationOptions, OptOptions, Source, opt};
 use std::alloc::Global;
 use std::process::Abort;
 

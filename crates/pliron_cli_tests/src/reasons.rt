@@ -1,5 +1,5 @@
 //! Why passes changed what, worked by hand.
-use pliron_cli::{BenchNotation, ExplainOptions, Outcome, Source, explain};
+use pliron_show_commands::{BenchNotation, ExplainOptions, Outcome, Source, explain};
 use std::alloc::Global;
 use std::process::Abort;
 

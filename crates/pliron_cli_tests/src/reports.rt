@@ -1,7 +1,7 @@
 //! What `plir opt` reports beside its answer, worked by hand. `|` stands for the end of a line.
 use crate::lines::in_one_line;
 use crate::optimised::{all_options, plain, with_instrumentation};
-use pliron_cli::{
+use pliron_show_commands::{
     BenchNotation, InstrumentationOptions, OptOptions, Outcome, Progress, Source, opt,
 };
 use std::alloc::Global;

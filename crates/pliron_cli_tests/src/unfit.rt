@@ -1,7 +1,7 @@
 //! Texts that are fit to run and texts that aren't: what `check` reports of each, and what `opt` warns of.
 use crate::optimised::plain;
-use pliron_cli::{BenchNotation, Source, check, opt_with_check};
-use pliron_instrument::Timeless;
+use pliron_driver_instrument::Timeless;
+use pliron_show_commands::{BenchNotation, Source, check, opt_with_check};
 use std::alloc::Global;
 use std::process::Abort;
 

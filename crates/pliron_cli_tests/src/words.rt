@@ -1,7 +1,7 @@
 //! Words that plan passes, and words that don't, with the column of what is wrong.
 use crate::optimised::plain;
-use pliron_cli::{BenchNotation, Source, opt};
-use pliron_instrument::{PipelineText, Timeless};
+use pliron_driver_instrument::{PipelineText, Timeless};
+use pliron_show_commands::{BenchNotation, Source, opt};
 use std::alloc::Global;
 use std::process::Abort;
 

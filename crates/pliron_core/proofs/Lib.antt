@@ -66,3 +66,4 @@ pub mod LastLemmas
 pub mod MeasureLemmas
 pub mod WithinLemmas
 pub mod ContainedLemmas
+pub mod LeftLemmas

@@ -5,16 +5,16 @@ use Rattle.std.specs.Prelude.{ℤ, slice_index_or, pos, replicate}
 use Rattle.std.specs.Result.{IfOk}
 use Rattle.std.proofs.lemmas.List.{drop-map, take-map, get_or-drop}
 use Rattle.pliron_core.specs.Tree.{Tree, head_of, operands_of, results_of, regions_of, successors_of}
-use Rattle.pliron_bench.specs.declared.kind.BenchKind.{BenchKind}
-use Rattle.pliron_bench.specs.declared.kind.BenchKind.TheVariants.{Fork}
+use Rattle.pliron_dialect_bench.specs.declared.kind.BenchKind.{BenchKind}
+use Rattle.pliron_dialect_bench.specs.declared.kind.BenchKind.TheVariants.{Fork}
 use Rattle.pliron_laws.specs.Datum.{Datum, Empty, Number, Head, Shape, Move, Visit, Goto, Trap}
 use Rattle.pliron_laws.specs.Tree.{Operation, op_at, shape_of, entry_block, block_at, count_arguments, unless}
 use Rattle.pliron_laws.specs.Answers.{ReadsHead, ReadsShape}
-use Rattle.pliron_roles.specs.Counted.{count_of, start_of, values_of_edge}
-use Rattle.pliron_roles.specs.Roles.{act_of, no_act, by_role, by_form, form_of, branches, numbers_of, number_of, fit_data as fit_or_empty, meaning_by}
-use Rattle.pliron_bench.specs.Bench.{kind_of}
-use Rattle.pliron_bench.specs.BenchNumbers.{known_at}
-use Rattle.pliron_bench.specs.BenchMoves.{bench, bench_role, bench_value, datum_at, memo_when_done, once, fit_data, edge_taken, argument_count}
+use Rattle.pliron_dialect.specs.Counted.{count_of, start_of, values_of_edge}
+use Rattle.pliron_dialect.specs.Roles.{act_of, no_act, by_role, by_form, form_of, branches, numbers_of, number_of, fit_data as fit_or_empty, meaning_by}
+use Rattle.pliron_dialect_bench.specs.Bench.{kind_of}
+use Rattle.pliron_dialect_bench.specs.BenchNumbers.{known_at}
+use Rattle.pliron_dialect_bench.specs.BenchMoves.{bench, bench_role, bench_value, datum_at, memo_when_done, once, fit_data, edge_taken, argument_count}
 use Rattle.pliron_evaluator.specs.Tiny.{fitted_or_empty}
 use Rattle.pliron_evaluator.specs.declared.evaluator.values.Datum.{Datum as DatumValue}
 use Rattle.pliron_evaluator.specs.declared.evaluator.values.Move.{Move as MoveValue}

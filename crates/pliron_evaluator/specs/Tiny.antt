@@ -1,6 +1,6 @@
 -- A small dialect: a constant, a question to the outside world, a scope whose region is visited once,
 -- a branch that forwards its operands, and two kinds that visit regions with operands that they name.
-pub use Rattle.pliron_roles.specs.Roles.{first_attribute}
+pub use Rattle.pliron_dialect.specs.Roles.{first_attribute}
 use Rattle.std.specs.Prelude.{◌≡◌, ℕ, zero, suc, nat_eq, nat_lt, slice_index_or, drop, if◌then◌else◌, Bool, true, false, not, ◌&&◌, List, [], ◌∷◌, Option, Some, None, pos}
 use Rattle.std.specs.List.{range_with_len}
 use Rattle.pliron_core.specs.declared.attrs.AttrObj.{AttrObj}

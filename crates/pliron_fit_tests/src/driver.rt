@@ -2,15 +2,15 @@
 ghost use Rattle.pliron_core.specs.Tree.{IsLive};
 
 use super::expect::expect_text;
-use pliron_bench::heads::{attribute_head, plain_head};
-use pliron_bench::{Bench, BenchKind};
 use pliron_core::{
     AttrObj, BasicBlock, Context, Head, IRRewriter, Operation, Ptr, Rewriter, Value,
 };
-use pliron_fit::{RunError, find_violation, run_checked};
-use pliron_notation::print_text;
+use pliron_dialect_bench::heads::{attribute_head, plain_head};
+use pliron_dialect_bench::{Bench, BenchKind};
 use pliron_pass::{AnalysisManager, BenchFacts, OptError, Passes};
-use pliron_pipeline::PassStep;
+use pliron_pass_fit::{RunError, find_violation, run_checked};
+use pliron_pass_pipeline::PassStep;
+use pliron_text::print_text;
 use std::alloc::Global;
 use std::process::Abort;
 

@@ -2,11 +2,11 @@
 //! and the functions of texts that are well defined by construction are.
 use super::by_definition::{Use, all_uses, is_fit_by_definition};
 use super::ill_defined::trees::{all_of, holders_of};
-use pliron_bench::Bench;
 use pliron_core::{Context, Operation, Ptr};
-use pliron_fit::is_fit;
+use pliron_dialect_bench::Bench;
+use pliron_fuzz::{Kind, Subject};
 use pliron_laws::is_well_linked;
-use pliron_random_text::{Kind, Subject};
+use pliron_pass_fit::is_fit;
 use pliron_test_cases::cases::read;
 use std::alloc::Global;
 use std::process::Abort;

@@ -1,13 +1,13 @@
 //! Checked passes: roots that were fit to run are fit afterwards, and what is not well linked is refused.
 use super::ill_defined::trees::holders_of;
-use pliron_bench::Bench;
 use pliron_core::{Context, IRStatus, Operation, Ptr};
-use pliron_fit::{RunError, fit_roots, is_fit, run_checked, run_checked_for};
+use pliron_dialect_bench::Bench;
+use pliron_fuzz::Subject;
 use pliron_laws::OptError;
-use pliron_meaning::Tiny;
 use pliron_pass::{AnalysisManager, BenchFacts, Passes};
-use pliron_pipeline::PassStep;
-use pliron_random_text::Subject;
+use pliron_pass_fit::{RunError, fit_roots, is_fit, run_checked, run_checked_for};
+use pliron_pass_pipeline::PassStep;
+use pliron_test_cases::Tiny;
 use pliron_test_cases::cases::read;
 use pliron_test_cases::trees::build;
 use std::alloc::Global;

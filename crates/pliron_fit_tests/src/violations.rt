@@ -2,11 +2,11 @@
 //! one beside it that has none.
 use super::expect::expect_text;
 use super::traps::Traps;
-use pliron_bench::Bench;
 use pliron_core::{Context, Operation, Ptr};
-use pliron_fit::{find_violation, is_fit};
+use pliron_dialect_bench::Bench;
 use pliron_laws::Dialect;
-use pliron_meaning::Tiny;
+use pliron_pass_fit::{find_violation, is_fit};
+use pliron_test_cases::Tiny;
 use pliron_test_cases::cases::{Row, fields, operation_at, read, row_of};
 use pliron_test_cases::trees::build;
 use std::alloc::Global;

@@ -1,5 +1,5 @@
 //! What the program answers to a text.
-use pliron_opts::plir_run;
+use pliron_driver::plir_run;
 use std::alloc::{AllocError, Global};
 
 /// What the program answers.

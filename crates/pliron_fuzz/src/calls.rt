@@ -3,16 +3,16 @@ ghost use Rattle.std.specs.Prelude.{◌≡◌, IsOkUnless};
 ghost use Rattle.pliron_core.specs.Tree.{IsLive};
 ghost use Rattle.pliron_core.specs.Writes.{no_tree};
 ghost use Rattle.pliron_laws.specs.Linked.{IsWellLinked};
-ghost use Rattle.pliron_bench.specs.BenchMoves.{bench};
+ghost use Rattle.pliron_dialect_bench.specs.BenchMoves.{bench};
 
 use crate::runs::runs_are_kept;
 use crate::texts::is_printed;
-use pliron_bench::Bench;
-use pliron_canonicalize::canonicalize;
 use pliron_core::{Context, IRStatus, Operation, Ptr};
-use pliron_cse::cse;
+use pliron_dialect_bench::Bench;
 use pliron_laws::OptError;
-use pliron_notation::{print_text, read_text};
+use pliron_opt_canonicalize::canonicalize;
+use pliron_opt_cse::cse;
+use pliron_text::{print_text, read_text};
 use std::alloc::Global;
 
 /// One of the calls.

@@ -2,12 +2,11 @@
 ghost use Rattle.std.specs.Prelude.{IsOkUnless};
 ghost use Rattle.pliron_core.specs.Tree.{IsLive};
 
-use pliron_bench::{Bench, BenchKind};
-use pliron_core::{Context, Operation, Ptr};
+use pliron_core::{Contents, Context, Operation, Ptr};
+use pliron_dialect_bench::{Bench, BenchKind};
 use pliron_evaluator::evaluator::{Datum, Sight, evaluate};
 use pliron_laws::{Dialect, OptError};
-use pliron_notation::read_text;
-use pliron_walks::Contents;
+use pliron_text::read_text;
 use std::alloc::{AllocError, Global};
 
 /// The most moves of a run before, and after, where constants that were made may add moves.

@@ -2,11 +2,11 @@
 ghost use Rattle.std.specs.Prelude.{IsOkUnless};
 
 use crate::answer::{Answer, answer_to};
-use pliron_bench::Bench;
 use pliron_core::{Context, IRRewriter, IRStatus};
+use pliron_dialect_bench::Bench;
+use pliron_driver::{merge_inside_op, remove_blocks_inside_op, simplify_cfg};
 use pliron_laws::OptError;
-use pliron_notation::read_text;
-use pliron_opts::{merge_inside_op, remove_blocks_inside_op, simplify_cfg};
+use pliron_text::read_text;
 use std::alloc::{AllocError, Global};
 
 /// Whether the passes of the first list leave a line that those of the second leave as it is, unchanged. True

@@ -1,6 +1,6 @@
 //! How many texts there were, and what came of them.
+use crate::Kind;
 use crate::verdict::Verdict;
-use pliron_random_text::Kind;
 use std::fmt::{self, Display, Formatter, Write};
 
 /// How many texts there were of each kind, and what came of them. It is printed as a line.

@@ -3,7 +3,7 @@ ghost use Rattle.std.specs.Prelude.{IsOkUnless};
 
 use pliron_core::Context;
 use pliron_laws::OptError;
-use pliron_notation::{print_text, read_text};
+use pliron_text::{print_text, read_text};
 use std::alloc::Global;
 
 // The text as it is printed; `None` for one outside the notation.

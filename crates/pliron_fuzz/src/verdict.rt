@@ -6,8 +6,8 @@ use crate::calls::{Call, is_right};
 use crate::runs::runs_are_kept;
 use crate::settled::{is_settled, is_simple_after};
 use crate::texts::is_printed;
+use crate::{Kind, Subject};
 use pliron_laws::OptError;
-use pliron_random_text::{Kind, Subject};
 use std::alloc::Global;
 use thiserror::Error;
 

@@ -3,7 +3,7 @@
 use crate::cases::{case_of, check_answer, graph_of, question_of, rows_of};
 use crate::dominance::{lists, worked};
 use crate::texts::answer;
-use pliron_graph::AdjacencyList;
+use pliron_graph_components::AdjacencyList;
 use std::alloc::Global;
 use std::process::Abort;
 

@@ -1,13 +1,13 @@
 //! The searches for the ancestors of an operation or a block.
-use pliron_bench::{Bench, BenchKind};
 use pliron_core::{BasicBlock, Context, Operation, Ptr, Region};
-use pliron_graph::{
+use pliron_dialect_bench::{Bench, BenchKind};
+use pliron_graph_components::{
     find_ancestor_block_of_block_in_region, find_ancestor_block_of_op_in_region,
     find_ancestor_of_op_interface, find_ancestor_of_op_type, find_ancestor_op_of_op_in_block,
     find_ancestor_op_of_op_in_region, strictly_precedes_in_block,
 };
 use pliron_laws::Interface;
-use pliron_notation::read_text;
+use pliron_text::read_text;
 use std::alloc::Global;
 use std::process::Abort;
 

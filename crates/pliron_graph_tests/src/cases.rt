@@ -1,7 +1,7 @@
 //! How cases are read: a line `NAME -- ASKED => ANSWER`. A graph is the successors of its nodes 0, 1, 2, .., each list closed by a semicolon.
-ghost use Rattle.pliron_traversal.specs.Adjacency.{AreInverse};
+ghost use Rattle.pliron_graph_traversal.specs.Adjacency.{AreInverse};
 
-use pliron_graph::AdjacencyList;
+use pliron_graph_components::AdjacencyList;
 use std::alloc::Global;
 use std::process::Abort;
 

@@ -1,8 +1,10 @@
 //! A chain of 65,536 nodes, each with the next as its successor.
-ghost use Rattle.pliron_traversal.specs.Adjacency.{AreInverse};
+ghost use Rattle.pliron_graph_traversal.specs.Adjacency.{AreInverse};
 
 use crate::cases::graph_of;
-use pliron_graph::{AdjacencyList, DFSTraversal, Scc, post_order, sccs_in_topological_order};
+use pliron_graph_components::{
+    AdjacencyList, DFSTraversal, Scc, post_order, sccs_in_topological_order,
+};
 use std::alloc::Global;
 use std::process::Abort;
 

@@ -1,4 +1,4 @@
-//! Tests of `pliron_dominance`: worked graphs, all small graphs against dominance by removal, shapes and
+//! Tests of `pliron_graph_dominance`: worked graphs, all small graphs against dominance by removal, shapes and
 //! reverse graphs. It has no function of its own.
 #[cfg(test)]
 pub mod lists;

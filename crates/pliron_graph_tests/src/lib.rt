@@ -1,4 +1,4 @@
-//! Tests of `pliron_graph` and `pliron_dominance`: worked graphs, all graphs of three nodes against tables,
+//! Tests of `pliron_graph_components` and `pliron_graph_dominance`: worked graphs, all graphs of three nodes against tables,
 //! regions, reverse graphs and searches for ancestors. It has no function of its own.
 //!
 //! A case is a line: what is asked of a graph, the graph, ` => ` and the answer as text.

@@ -1,8 +1,8 @@
-//! Each public name of `pliron_graph` at its place.
-ghost use Rattle.pliron_traversal.specs.Adjacency.{AreInverse};
+//! Each public name of `pliron_graph_components` at its place.
+ghost use Rattle.pliron_graph_traversal.specs.Adjacency.{AreInverse};
 
 use crate::cases::{graph_of, rows_of};
-use pliron_graph::{
+use pliron_graph_components::{
     AdjacencyList, ControlFlowGraph, DFSEdgeKind, DFSTraversal, HasLabel, OrderIter, ReverseGraph,
     ReverseNode, ReverseOrderIter, Scc, laws, post_order, post_order_by_component,
     sccs_in_topological_order, topological_order, topological_order_by_component,

@@ -1,6 +1,6 @@
 //! Regions of blocks as graphs, and their reverse.
 ghost use Rattle.pliron_core.specs.Tree.{IsRegion};
-ghost use Rattle.pliron_traversal.specs.Regions.{IsLawfulRegion};
+ghost use Rattle.pliron_graph_traversal.specs.Regions.{IsLawfulRegion};
 
 use crate::cases::{case_of, check_answer, question_of, rows_of};
 use crate::texts::answer;

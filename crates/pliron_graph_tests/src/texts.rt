@@ -1,11 +1,11 @@
-//! What the calls of `pliron_graph` and `pliron_dominance` answer on any graph, as text.
+//! What the calls of `pliron_graph_components` and `pliron_graph_dominance` answer on any graph, as text.
 ghost use Rattle.std.specs.Iterator.{IsFinite};
 ghost use Rattle.std.specs.Option.{option_to_list};
 ghost use Rattle.std.specs.Prelude.{Contains};
-ghost use Rattle.pliron_traversal.specs.Search.{IsListed, IsSearch};
+ghost use Rattle.pliron_graph_traversal.specs.Search.{IsListed, IsSearch};
 
 use crate::dominance::trees::push_dominators;
-use pliron_graph::{
+use pliron_graph_components::{
     ControlFlowGraph, DFSEdgeKind, DFSTraversal, HasLabel, ReverseGraph, Scc, post_order,
     post_order_by_component, sccs_in_topological_order, topological_order,
     topological_order_by_component,

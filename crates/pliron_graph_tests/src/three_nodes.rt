@@ -1,12 +1,12 @@
 //! All graphs of three nodes with rising successors: numberings against a recursive search, components against
 //! mutual reach and a search by lowest numbers, all in tables that `tools/expected` makes.
-ghost use Rattle.pliron_traversal.specs.Adjacency.{AreInverse};
+ghost use Rattle.pliron_graph_traversal.specs.Adjacency.{AreInverse};
 
 use crate::cases::{graph_of, rows_of};
 use crate::component_table::COMPONENTS;
 use crate::numbering_table::NUMBERINGS;
 use crate::texts::{push, push_labels};
-use pliron_graph::{
+use pliron_graph_components::{
     AdjacencyList, DFSTraversal, OrderIter, Scc, post_order_by_component, sccs_in_topological_order,
 };
 use std::alloc::Global;

@@ -1,5 +1,5 @@
 //! Blocks of bodies: `l` is a label, `-` a statement, `t` one that ends a block.
-use pliron_llvm_reader::{BlockFault, BlockLines, LineRole, split_blocks};
+use pliron_text_llvm_reader::{BlockFault, BlockLines, LineRole, split_blocks};
 use std::alloc::Global;
 use std::process::Abort;
 

@@ -1,6 +1,6 @@
 //! Bodies, and their labels and statements, each in brackets. `|` stands for the end of a line.
 use crate::lines::{in_one_line, with_lines};
-use pliron_llvm_syntax::{Line, split_lines};
+use pliron_text_llvm_syntax::{Line, split_lines};
 use std::alloc::Global;
 use std::process::Abort;
 

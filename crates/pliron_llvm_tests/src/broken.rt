@@ -1,7 +1,7 @@
 //! Broken modules, with line, column and what was expected there. `|` stands for the end of a line.
 use crate::lines::with_lines;
-use pliron_llvm_syntax::{Fault, split_text};
-use pliron_mlir_syntax::position_of;
+use pliron_text_llvm_syntax::{Fault, split_text};
+use pliron_text_mlir_syntax::position_of;
 use std::alloc::Global;
 use std::process::Abort;
 

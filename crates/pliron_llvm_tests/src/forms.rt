@@ -1,5 +1,5 @@
 //! Forms, cut and filled. `_` stands for an operand, `^` for a successor.
-use pliron_llvm_syntax::{Hole, HoleKind, Span, are_holes, cut, fill, is_mark, num_mark};
+use pliron_text_llvm_syntax::{Hole, HoleKind, Span, are_holes, cut, fill, is_mark, num_mark};
 use std::alloc::Global;
 use std::process::Abort;
 

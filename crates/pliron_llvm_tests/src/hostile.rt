@@ -1,5 +1,5 @@
 //! Large and awkward modules.
-use pliron_llvm_syntax::{Expected, Fault, Part, split_text};
+use pliron_text_llvm_syntax::{Expected, Fault, Part, split_text};
 use std::alloc::Global;
 use std::process::Abort;
 

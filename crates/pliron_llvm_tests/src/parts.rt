@@ -1,6 +1,6 @@
 //! Parts of modules. `|` stands for the end of a line.
 use crate::lines::{in_one_line, with_lines};
-use pliron_llvm_syntax::{Part, Span, join_parts, split_text};
+use pliron_text_llvm_syntax::{Part, Span, join_parts, split_text};
 use std::alloc::Global;
 use std::process::Abort;
 

@@ -1,6 +1,6 @@
 //! Bodies as they are read: lines, blocks, and where reading stops.
-use pliron_llvm_reader::{Body, BodyStop, read_body};
-use pliron_llvm_syntax::Span;
+use pliron_text_llvm_reader::{Body, BodyStop, read_body};
+use pliron_text_llvm_syntax::Span;
 use std::alloc::Global;
 use std::process::Abort;
 

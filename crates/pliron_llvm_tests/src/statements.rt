@@ -1,6 +1,6 @@
 //! Statements by themselves: what is read of each. `_` stands for an operand, `^` for a successor.
-use pliron_llvm_reader::{Statement, StatementRoom, Stop, read_statement};
-use pliron_llvm_syntax::{Hole, are_holes, cut};
+use pliron_text_llvm_reader::{Statement, StatementRoom, Stop, read_statement};
+use pliron_text_llvm_syntax::{Hole, are_holes, cut};
 use std::alloc::Global;
 use std::process::Abort;
 

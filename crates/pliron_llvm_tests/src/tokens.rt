@@ -1,5 +1,5 @@
 //! Tokens, by LLVM's lexer: a text a line, and what its tokens are.
-use pliron_llvm_syntax::{Token, TokenKind, bytes_of, token_at};
+use pliron_text_llvm_syntax::{Token, TokenKind, bytes_of, token_at};
 use std::alloc::Global;
 use std::process::Abort;
 

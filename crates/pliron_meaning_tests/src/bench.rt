@@ -2,14 +2,14 @@
 //! folding constants in place leaves: by values worked out by hand.
 use crate::questions::{Question, check_table, operation_in};
 use pliron_core::{AttrObj, Context, IRStatus, Operation, Ptr, Rewriter};
-use pliron_meaning::bench::{Bench, BenchKind};
-use pliron_meaning::{BlockArgRemoval, ConstFoldInterface, Dialect, SideEffects};
 use pliron_test_cases::answers::{effects, interfaces, removable};
+use pliron_test_cases::bench::{Bench, BenchKind};
 use pliron_test_cases::cases::{
     all_known, fields, known_operand, line, number, operation_at, read,
 };
 use pliron_test_cases::listener::Counting;
 use pliron_test_cases::trees::build;
+use pliron_test_cases::{BlockArgRemoval, ConstFoldInterface, Dialect, SideEffects};
 use std::alloc::Global;
 use std::process::Abort;
 

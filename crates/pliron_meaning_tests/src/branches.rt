@@ -2,11 +2,11 @@
 //! values worked out by hand.
 use crate::questions::{Question, check_table, operation_in};
 use pliron_core::{AttrObj, BasicBlock, Context, IRStatus, Operation, Ptr, Rewriter};
-use pliron_meaning::bench::Bench;
-use pliron_meaning::{BranchOpFoldInterface, Dialect};
+use pliron_test_cases::bench::Bench;
 use pliron_test_cases::cases::{all_known, fields, line, number, operation_at, read};
 use pliron_test_cases::listener::Counting;
 use pliron_test_cases::losses::{lose, lose_along};
+use pliron_test_cases::{BranchOpFoldInterface, Dialect};
 use std::alloc::Global;
 use std::process::Abort;
 

@@ -1,6 +1,6 @@
 //! The texts of the faults, and what becomes allocation failure.
 use pliron_core::NoMemory;
-use pliron_meaning::OptError;
+use pliron_test_cases::OptError;
 use std::alloc::{AllocError, Global};
 use std::process::Abort;
 

@@ -1,4 +1,4 @@
-//! Tests of `pliron_meaning` under the names that users take: what the bench dialect answers of small trees,
+//! Tests of `pliron_test_cases` under the names that users take: what the bench dialect answers of small trees,
 //! and which faults it finds. It has no function of its own.
 #![tactic(auto)]
 

@@ -1,11 +1,12 @@
-//! The public names of `pliron_meaning`, at their places. What is missing here is named so where it is
+//! The public names of `pliron_test_cases`, at their places. What is missing here is named so where it is
 //! used: texts in `pliron_test_cases::cases`, `lose_forwarded` in `pliron_test_cases::losses`, runs, the tiny dialect's
 //! answers and the calls of `rewrites` in the tests of the evaluator.
 use pliron_core::{Context, IRRewriter};
-use pliron_meaning::bench::laws::{folds_are_monotone, folds_have_one_outcome};
-use pliron_meaning::bench::{Bench, BenchKind};
-use pliron_meaning::evaluator::{Evaluate, Move};
-use pliron_meaning::theory::{
+use pliron_test_cases::bench::laws::{folds_are_monotone, folds_have_one_outcome};
+use pliron_test_cases::bench::{Bench, BenchKind};
+use pliron_test_cases::cases::read;
+use pliron_test_cases::evaluator::{Evaluate, Move};
+use pliron_test_cases::theory::{
     answers_are_read, arguments_go, blocks_are_joined, branch_folds_keep_links,
     branch_folds_keep_runs, branch_folds_replace, branches_are_refolded, branches_are_replaced,
     closed_facts_are_read, constant_folds_keep_runs, constants_are_made,
@@ -14,11 +15,10 @@ use pliron_meaning::theory::{
     operands_have_data, passes_compose, roots_may_be_chosen, runs_kept, sound_facts_are_read,
     unused_arguments_go,
 };
-use pliron_meaning::{
+use pliron_test_cases::{
     BlockArgRemoval, BranchOpFoldInterface, ConstFoldInterface, Dialect, HasMeaning, Interface,
     OptError, RegionBranchOpInterface, Room, SideEffects, Tiny, TinyKind, edges_last,
 };
-use pliron_test_cases::cases::read;
 use std::alloc::Global;
 use std::process::Abort;
 

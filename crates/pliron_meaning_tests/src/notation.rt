@@ -7,8 +7,8 @@ mod rules;
 mod tokens;
 
 use pliron_core::Context;
-use pliron_meaning::bench::{print_text, read_text};
-use pliron_meaning::edges_last;
+use pliron_test_cases::bench::{print_text, read_text};
+use pliron_test_cases::edges_last;
 use std::alloc::Global;
 use std::process::Abort;
 

@@ -9,14 +9,14 @@ ghost use Rattle.pliron_laws.specs.Datum.{Head};
 use crate::tiny::{number_asked, number_of};
 use pliron_core::{AttrObj, BasicBlock, Context, IRStatus, Operation, Ptr};
 use pliron_laws::is_well_linked;
-use pliron_meaning::evaluator::{Datum, Sight, evaluate};
-use pliron_meaning::rewrites::{
+use pliron_pass_rewrites::{is_defined_inside, replace_by_constant_inside};
+use pliron_test_cases::evaluator::{Datum, Sight, evaluate};
+use pliron_test_cases::listener::Counting;
+use pliron_test_cases::rewrites::{
     erase_unused, replace_argument_by_constant, replace_result_by_constant,
 };
-use pliron_meaning::{Dialect, Tiny, TinyKind};
-use pliron_pass_rewrites::{is_defined_inside, replace_by_constant_inside};
-use pliron_test_cases::listener::Counting;
 use pliron_test_cases::trees::{TestTree, make};
+use pliron_test_cases::{Dialect, Tiny, TinyKind};
 use std::alloc::Global;
 use std::process::Abort;
 

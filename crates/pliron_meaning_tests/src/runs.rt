@@ -4,11 +4,11 @@
 //! A case is a name, a program, its inputs and the world's answers, and after ` => ` how the run ends, with which
 //! values, and with which effects, the latest first. Data are numbers and texts; `a:b` joins two, and `-` is `Empty`.
 use pliron_core::{AttrObj, Attrs, Context, Head, IRRewriter, Operation, Ptr, Rewriter, Text};
-use pliron_meaning::bench::Bench;
-use pliron_meaning::evaluator::{Datum, Sight, evaluate};
-use pliron_meaning::{Tiny, TinyKind};
+use pliron_test_cases::bench::Bench;
 use pliron_test_cases::cases::{Row, number, read, row_of};
+use pliron_test_cases::evaluator::{Datum, Sight, evaluate};
 use pliron_test_cases::trees::build;
+use pliron_test_cases::{Tiny, TinyKind};
 use std::alloc::Global;
 use std::process::Abort;
 

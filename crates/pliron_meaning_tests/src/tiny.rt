@@ -2,14 +2,14 @@
 //! results.
 use crate::questions::{Question, check_table};
 use pliron_core::{AttrObj, Context, IRRewriter, IRStatus, Operation, Ptr, Rewriter, Value};
-use pliron_meaning::{
-    BranchOpFoldInterface, ConstFoldInterface, Dialect, Room, Tiny, TinyKind, edges_last,
-};
 use pliron_test_cases::answers::{effects, entry_operand_of, interfaces, removable};
 use pliron_test_cases::cases::number;
 use pliron_test_cases::listener::Counting;
 use pliron_test_cases::losses::lose;
 use pliron_test_cases::trees::{TestTree, build, make};
+use pliron_test_cases::{
+    BranchOpFoldInterface, ConstFoldInterface, Dialect, Room, Tiny, TinyKind, edges_last,
+};
 use std::alloc::Global;
 use std::process::Abort;
 

@@ -1,8 +1,10 @@
 //! Branches, by what LLVM leaves of them.
 use crate::integers::{kind, width};
 use crate::rows::{edges, sides};
-use pliron_mlir::{Class, branch_head, class_named, integer_of, number, plain_head, switch_head};
-use pliron_roles::Roles;
+use pliron_dialect::Roles;
+use pliron_dialect_mlir::{
+    Class, branch_head, class_named, integer_of, number, plain_head, switch_head,
+};
 use std::alloc::Global;
 
 // The edge that a switch takes. The form has the number of the value, and is no case.

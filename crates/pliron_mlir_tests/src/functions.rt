@@ -3,13 +3,13 @@ ghost use Rattle.pliron_core.specs.Tree.{IsBlock, IsLive};
 
 use pliron_bits::{BinaryOperator, Flags};
 use pliron_core::{BasicBlock, Context, Head, IRRewriter, Operation, Ptr, Rewriter, Value};
-use pliron_laws::is_well_linked;
-use pliron_mlir::{
+use pliron_dialect_mlir::{
     AnyMeaning, Class, Mlir, binary_head, class_of_head, constant_head, form_of, number,
     plain_head, switch_head,
 };
+use pliron_laws::is_well_linked;
 use pliron_pass::{AnalysisManager, BenchFacts, Passes};
-use pliron_pipeline::{DCEPass, PassStep, SCCPPass, SimplifyCFGPass, run_pipeline};
+use pliron_pass_pipeline::{DCEPass, PassStep, SCCPPass, SimplifyCFGPass, run_pipeline};
 use std::alloc::Global;
 use std::process::Abort;
 

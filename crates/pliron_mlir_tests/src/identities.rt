@@ -1,8 +1,8 @@
 //! Operations that leave one operand as it is or give one number, by what LLVM and MLIR make of them.
 use crate::integers::{datum, flags, kind, predicate, width};
 use crate::rows::{compare, division, identities, index, logic, sides, wrapping};
-use pliron_mlir::{Class, binary_head, cast_head, class_named, compare_head};
-use pliron_roles::{Identity, Roles};
+use pliron_dialect::{Identity, Roles};
+use pliron_dialect_mlir::{Class, binary_head, cast_head, class_named, compare_head};
 use std::alloc::Global;
 
 /// What is found for an operation of an x: the place of x, a number, or none.

@@ -2,11 +2,11 @@
 use crate::rows::{casts, compare, division, index, logic, shifts, sides, wrapping};
 use pliron_bits::{Flags, Predicate};
 use pliron_core::Head;
-use pliron_mlir::{
+use pliron_dialect::Roles;
+use pliron_dialect_mlir::{
     AnyMeaning, Class, MlirKind, binary_head, cast_head, class_named, compare_head, integer_of,
     number,
 };
-use pliron_roles::Roles;
 use std::alloc::Global;
 use std::marker::PhantomData;
 

@@ -1,6 +1,13 @@
-//! Tests of the operations of MLIR, and of the optimisations on them.
+//! Tests of the operations of MLIR, of the optimisations on them, of texts in MLIR's generic form, of passes on these, and
+//! of the calls for other languages. It has no function of its own.
 #![tactic(auto)]
 
+#[cfg(test)]
+mod broken;
+#[cfg(test)]
+mod buffers;
+#[cfg(test)]
+mod calls;
 #[cfg(test)]
 mod edges;
 #[cfg(test)]
@@ -10,6 +17,20 @@ mod identities;
 #[cfg(test)]
 mod integers;
 #[cfg(test)]
+mod lines;
+#[cfg(test)]
+mod modules;
+#[cfg(test)]
 mod names;
 #[cfg(test)]
+mod outcomes;
+#[cfg(test)]
+mod printed;
+#[cfg(test)]
+mod properties;
+#[cfg(test)]
 mod rows;
+#[cfg(test)]
+mod streams;
+#[cfg(test)]
+mod traces;

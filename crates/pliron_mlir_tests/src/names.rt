@@ -1,5 +1,5 @@
 //! Names of operations, by what LLVM's and MLIR's pages say of them.
-use pliron_mlir::class_named;
+use pliron_dialect_mlir::class_named;
 use std::alloc::Global;
 
 static ROWS: &str = "\

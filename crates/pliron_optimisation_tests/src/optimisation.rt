@@ -1,13 +1,13 @@
 //! The optimisations, called alike, and how their answers are written.
 use crate::control_flow::calls::{Call, call_through};
-use pliron_bench::Bench;
-use pliron_canonicalize::{canonicalize, canonicalize_through};
-use pliron_cfg::simplify_cfg;
 use pliron_core::{Context, IRStatus, Operation, Ptr};
-use pliron_cse::{cse, cse_through};
-use pliron_dce::dce;
+use pliron_dialect_bench::Bench;
 use pliron_laws::{OptError, is_well_linked};
-use pliron_sccp::{sccp, sccp_through};
+use pliron_opt_canonicalize::{canonicalize, canonicalize_through};
+use pliron_opt_cfg::simplify_cfg;
+use pliron_opt_cse::{cse, cse_through};
+use pliron_opt_dce::dce;
+use pliron_opt_sccp::{sccp, sccp_through};
 use pliron_test_cases::listener::Counting;
 use std::alloc::Global;
 use std::process::Abort;

@@ -4,7 +4,7 @@ use Rattle.std.specs.Prelude.{pos}
 use Rattle.pliron_opts_tests.specs.declared.guessed_kind.GuessedKind.{GuessedKind}
 use Rattle.pliron_opts_tests.specs.declared.guessed_kind.GuessedKind.TheVariants.{Function, Lit, Jump, Return, Ask, Guess}
 use Rattle.pliron_laws.specs.Datum.{Datum, Shape, Move, Leave}
-use Rattle.pliron_roles.specs.Roles.{Role, Tables, KeepsTables, RoleFits, Interpretation, Constant, Opaque, Jumps, Leaves, Acts}
+use Rattle.pliron_dialect.specs.Roles.{Role, Tables, KeepsTables, RoleFits, Interpretation, Constant, Opaque, Jumps, Leaves, Acts}
 use Rattle.pliron_role_runs.specs.Numbers.{is_whole_number}
 use Rattle.pliron_role_runs.specs.Plain.{any_counts, allows_plain, jump_fits}
 use Rattle.pliron_role_runs.specs.Visits.{once, visit_of, visit_fits, once_fits, ask_world, asks_fit}

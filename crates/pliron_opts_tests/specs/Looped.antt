@@ -5,7 +5,7 @@ use Rattle.pliron_opts_tests.specs.declared.looped_kind.LoopedKind.{LoopedKind}
 use Rattle.pliron_opts_tests.specs.declared.looped_kind.LoopedKind.TheVariants.{Function, Lit, Add, Jump, Return, Repeat, Ask, Twice}
 use Rattle.pliron_laws.specs.Datum.{Datum, Number, Shape, Move, Give, Leave}
 use Rattle.pliron_laws.specs.Laws.{CountsFit}
-use Rattle.pliron_roles.specs.Roles.{Role, Tables, KeepsTables, RoleFits, Constant, Jumps, Leaves, Acts, Names}
+use Rattle.pliron_dialect.specs.Roles.{Role, Tables, KeepsTables, RoleFits, Constant, Jumps, Leaves, Acts, Names}
 use Rattle.pliron_role_runs.specs.Numbers.{known_at, whole_number_of, is_whole_number, wrapped_sum}
 use Rattle.pliron_role_runs.specs.Plain.{computes, never_asked, any_counts, allows_plain, computes_fits, jump_fits}
 use Rattle.pliron_role_runs.specs.Visits.{once, fit_data, length-fitted, visit_of, visit_fits, visit_keeping, visit_keeping_fits, once_fits, ask_world, asks_fit, operands_from, counted_loop, counted_fits}

@@ -1,6 +1,6 @@
 //! Comparisons, proved once for all tests.
 use pliron_evaluator::evaluator::Sight;
-use pliron_notation::{Grammar, find_fault};
+use pliron_text::{Grammar, find_fault};
 use std::alloc::Global;
 use std::process::Abort;
 

@@ -1,6 +1,6 @@
 //! Texts of graphs.
 use crate::texts::{Case, expect_run, owned, with_lines};
-use pliron_opts::plir_run;
+use pliron_driver::plir_run;
 use std::alloc::Global;
 use std::process::Abort;
 

@@ -5,13 +5,13 @@ ghost use Rattle.pliron_opts_tests.specs.Guessed.{guessed, guessed_takes, keeps_
 
 use crate::guessed_kind::GuessedKind;
 use pliron_core::{AttrObj, Head};
+use pliron_dialect::{Form, Identity, Roles};
 use pliron_evaluator::evaluator::{Datum, Move};
-use pliron_notation::{Grammar, Word};
 use pliron_role_runs::numbers::is_number;
 use pliron_role_runs::own_moves::{ask_world, visit_and_leave};
 use pliron_role_runs::plain::is_plain;
 use pliron_role_runs::{Counts, Interprets};
-use pliron_roles::{Form, Identity, Roles};
+use pliron_text::{Grammar, Word};
 use std::alloc::{AllocError, Global};
 
 impl GuessedKind {

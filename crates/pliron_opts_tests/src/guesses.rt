@@ -2,8 +2,8 @@
 use crate::guessed_kind::GuessedKind;
 use pliron_core::{Context, Operation, Ptr};
 use pliron_evaluator::evaluator::{Datum, RunInputs, Sight};
-use pliron_notation::read_operation;
 use pliron_role_runs::{KnownRun, evaluate_known};
+use pliron_text::read_operation;
 use std::alloc::Global;
 use std::process::Abort;
 

@@ -7,14 +7,14 @@ ghost use Rattle.pliron_opts_tests.specs.Looped.{looped, looped_takes, keeps_loo
 
 use crate::looped_kind::LoopedKind;
 use pliron_core::{AttrObj, Head};
+use pliron_dialect::{ByRoles, Form, Identity, Otherwise, Roles};
 use pliron_evaluator::evaluator::{Datum, Move};
-use pliron_notation::{Grammar, Word};
 use pliron_role_runs::entries::operand_from;
 use pliron_role_runs::numbers::{is_number, known_at, number_of, sum, where_known};
 use pliron_role_runs::own_moves::{ask_world, counted_loop, give, visit_and_leave, visit_keeping};
 use pliron_role_runs::plain::is_plain;
 use pliron_role_runs::{Counts, Interprets};
-use pliron_roles::{ByRoles, Form, Identity, Otherwise, Roles};
+use pliron_text::{Grammar, Word};
 use std::alloc::{AllocError, Global};
 
 /// The dialect of these kinds.

@@ -6,10 +6,10 @@ use crate::looped_kind::LoopedKind;
 use pliron_core::{Context, Operation, Ptr};
 use pliron_evaluator::evaluator::{Datum, Sight, evaluate};
 use pliron_laws::is_well_linked;
-use pliron_notation::{print_operation, read_operation};
+use pliron_opt_sccp::sccp;
 use pliron_role_runs::RunByRoles;
-use pliron_sccp::sccp;
 use pliron_test_cases::cases;
+use pliron_text::{print_operation, read_operation};
 use std::alloc::Global;
 use std::process::Abort;
 

@@ -1,7 +1,7 @@
 //! The program on texts, arguments and failing streams.
 use crate::expect::{expect_bytes, expect_text};
 use crate::streams::{Input, Output};
-use pliron_opts::{OptError, plir_run};
+use pliron_driver::{OptError, plir_run};
 use std::alloc::Global;
 use std::process::Abort;
 

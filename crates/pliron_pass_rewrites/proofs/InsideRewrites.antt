@@ -29,7 +29,7 @@ use Rattle.pliron_theory.specs.Keeps.{KeepsRuns}
 use Rattle.pliron_theory.specs.Rewrites.{BecomesIfAccepted, ErasesUnused, IsPoint}
 use Rattle.pliron_theory.proofs.ChangeLemmas.{change_refl}
 use Rattle.pliron_theory.proofs.PutInside.{result_inside, argument_inside}
-use Rattle.pliron_block_laws.proofs.RewriteLinks.{erased_links}
+use Rattle.pliron_rewrite_blocks.proofs.RewriteLinks.{erased_links}
 use Rattle.pliron_pass_rewrites.specs.Definitions.{definition_point}
 
 pub err_weaker : {A E : Type 0} (r : Result A E) {P Q : Type 0} → (P → Q) → OnErr r P → OnErr r Q

@@ -5,12 +5,12 @@ use super::cache::{check_kinds, kinds};
 use super::expect::expect_text;
 use super::facts::Fact;
 use super::lines::{outcome, read};
-use pliron_bench::Bench;
 use pliron_core::{Context, Operation, Ptr};
-use pliron_dce::dce;
-use pliron_notation::print_text;
+use pliron_dialect_bench::Bench;
+use pliron_opt_dce::dce;
 use pliron_pass::{AnalysisManager, OptError, Pass, PassManager, PassResult, Passes};
 use pliron_test_cases::cases::{Row, row_of};
+use pliron_text::print_text;
 use std::alloc::Global;
 use std::process::Abort;
 

@@ -4,8 +4,8 @@ ghost use Rattle.std.specs.Prelude.{true};
 use super::facts::Fact;
 use super::lines::read;
 use super::passes::{FailAlways, Idle, Tally, Touch};
-use pliron_bench::Bench;
 use pliron_core::{Context, IRStatus, Operation, Ptr};
+use pliron_dialect_bench::Bench;
 use pliron_laws::Interface;
 use pliron_pass::{
     AnalysisManager, Guard, GuardedPass, OpInterfaceGuard, OpInterfacePass, OptError, PMConfig,

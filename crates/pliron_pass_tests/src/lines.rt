@@ -1,20 +1,20 @@
 //! Lines of passes over a small text: what they answer, what is cached then, and how many runs are counted.
 ghost use Rattle.pliron_core.specs.Tree.{IsLive};
 ghost use Rattle.pliron_laws.specs.Linked.{IsWellLinked};
-ghost use Rattle.pliron_bench.specs.BenchMoves.{bench};
+ghost use Rattle.pliron_dialect_bench.specs.BenchMoves.{bench};
 
 use super::cache::kinds;
 use super::expect::expect_text;
 use super::facts::Fact;
 use super::passes::{FailAlways, Idle, Step, Tally, Touch};
-use pliron_bench::{Bench, BenchKind};
 use pliron_core::{Context, IRStatus, Operation, Ptr};
-use pliron_notation::read_text;
+use pliron_dialect_bench::{Bench, BenchKind};
 use pliron_pass::{
     AnalysisManager, GuardedPass, NestedOpsPass, OpGuard, OptError, PMConfig, PassManager,
     PassResult, Passes, Repeat,
 };
 use pliron_test_cases::cases::{Row, row_of};
+use pliron_text::read_text;
 use std::alloc::Global;
 use std::process::Abort;
 

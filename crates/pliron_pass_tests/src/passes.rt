@@ -4,8 +4,8 @@ ghost use Rattle.pliron_laws.specs.declared.fault.OptError.TheVariants.{Pass as 
 ghost use Rattle.pliron_pass_tests.specs.declared.passes.Step.TheVariants.{Idle as AIdle, Touch as ATouch, Fail as AFail, Tally as ATally};
 
 use super::facts::Fact;
-use pliron_bench::Bench;
 use pliron_core::{Context, IRStatus, Operation, Ptr};
+use pliron_dialect_bench::Bench;
 use pliron_pass::{AnalysisManager, OptError, Pass, PassResult};
 use std::alloc::Global;
 

@@ -2,13 +2,13 @@
 ghost use Rattle.std.specs.Prelude.{◌≡◌, MatchResult, ⊤};
 ghost use Rattle.pliron_core.specs.Tree.{IsLive};
 ghost use Rattle.pliron_laws.specs.declared.fault.OptError.TheVariants.{Pass as Code};
-ghost use Rattle.pliron_bench.specs.BenchMoves.{bench, bench_shortened};
-ghost use Rattle.pliron_bench.specs.BenchAnswers.{bench_side_effects, bench_removable, bench_folds, bench_constants, bench_accepts, bench_constant_head, bench_outcome};
-ghost use Rattle.pliron_bench.specs.BenchAnswers.{bench_operand_folds, bench_folds_branch, bench_feasible, bench_branch_outcome, bench_entry_operands, is_of_bench_kind, has_bench_interface};
-ghost use Rattle.pliron_bench.specs.BenchLaws.{bench_counts, bench_effects, bench_forwards, bench_arguments, bench_answers, bench_operands, bench_jumps, bench_in_place, bench_makes, bench_names, bench_roots};
+ghost use Rattle.pliron_dialect_bench.specs.BenchMoves.{bench, bench_shortened};
+ghost use Rattle.pliron_dialect_bench.specs.BenchAnswers.{bench_side_effects, bench_removable, bench_folds, bench_constants, bench_accepts, bench_constant_head, bench_outcome};
+ghost use Rattle.pliron_dialect_bench.specs.BenchAnswers.{bench_operand_folds, bench_folds_branch, bench_feasible, bench_branch_outcome, bench_entry_operands, is_of_bench_kind, has_bench_interface};
+ghost use Rattle.pliron_dialect_bench.specs.BenchLaws.{bench_counts, bench_effects, bench_forwards, bench_arguments, bench_answers, bench_operands, bench_jumps, bench_in_place, bench_makes, bench_names, bench_roots};
 
-use pliron_bench::{Bench, BenchKind};
 use pliron_core::{AttrObj, BasicBlock, Context, IRStatus, Operation, Ptr, Rewriter, Value};
+use pliron_dialect_bench::{Bench, BenchKind};
 use pliron_laws::{
     BlockArgRemoval, BranchOpFoldInterface, ConstFoldInterface, Dialect, HasMeaning, Interface,
     OpFoldResult, OperandFoldInterface, OptError, RegionBranchOpInterface, Room, SideEffects,

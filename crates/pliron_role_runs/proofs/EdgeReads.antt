@@ -2,8 +2,8 @@
 use Rattle.std.proofs.Common.{◌≡◌, inl, inr, ℕ, zero, suc, ◌+◌, ◌-◌, ◌<◌, ◌≤◌, min, List, [], ◌∷◌, Some, length, slice_get, take, drop, map, refl, ap, ap₂, sym, ◌∙◌, arith, add-one}
 use Rattle.std.proofs.lemmas.List.{drop-map, take-map, take_all}
 use Rattle.pliron_core.specs.declared.attrs.AttrObj.{AttrObj}
-use Rattle.pliron_roles.specs.Counted.{start_of, count_of, counts_in, two_counts, start_next, count_at, count_past}
-use Rattle.pliron_branches.specs.Counts.{counted_by}
+use Rattle.pliron_dialect.specs.Counted.{start_of, count_of, counts_in, two_counts, start_next, count_at, count_past}
+use Rattle.pliron_dialect.specs.Counts.{counted_by}
 use Rattle.pliron_evaluator.specs.declared.evaluator.values.Datum.{Datum as DatumValue}
 use Rattle.pliron_evaluator.specs.Evaluator.{datum_of_value}
 

@@ -4,7 +4,7 @@ use Rattle.std.specs.Prelude.{slice_get}
 use Rattle.std.proofs.lemmas.List.{drop-map, take_more, map-append, take_all, length-drop}
 use Rattle.std.proofs.lemmas.Option.{slice_get_within, get_or_from_slice_get}
 use Rattle.pliron_laws.specs.Datum.{Datum, Empty}
-use Rattle.pliron_roles.specs.Roles.{nth_datum, fit_data as fit_with_nothing}
+use Rattle.pliron_dialect.specs.Roles.{nth_datum, fit_data as fit_with_nothing}
 use Rattle.pliron_evaluator.specs.declared.evaluator.values.Datum.{Datum as DatumValue}
 use Rattle.pliron_evaluator.specs.Evaluator.{datum_of_value}
 use Rattle.pliron_role_runs.specs.Visits.{fit_data, first_or_zero}

@@ -8,7 +8,7 @@ use Rattle.pliron_laws.specs.Datum.{Datum, Meaning, Move, Trap}
 use Rattle.pliron_laws.specs.Tree.{Operation, op_at, shape_of}
 use Rattle.pliron_laws.specs.Answers.{ReadsShape}
 use Rattle.pliron_laws.proofs.ShapeLemmas.{head_at}
-use Rattle.pliron_roles.specs.Roles.{Tables, by_role, no_act, act_of, role_at, allows_at, meaning_by}
+use Rattle.pliron_dialect.specs.Roles.{Tables, by_role, no_act, act_of, role_at, allows_at, meaning_by}
 use Rattle.pliron_evaluator.specs.declared.evaluator.values.Move.{Move as MoveValue}
 use Rattle.pliron_evaluator.specs.Evaluator.{move_of}
 use Rattle.pliron_role_runs.specs.declared.counts.Counts.{Counts}

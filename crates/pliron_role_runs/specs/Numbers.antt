@@ -4,7 +4,7 @@ use Rattle.std.specs.Int.{w64, int_wrap}
 use Rattle.pliron_core.specs.declared.attrs.AttrObj.{AttrObj}
 use Rattle.pliron_core.specs.declared.attrs.AttrObj.TheVariants.{Int, Text as Words}
 use Rattle.pliron_laws.specs.Datum.{Datum, Empty, Number, Text, Join}
-use Rattle.pliron_roles.specs.Roles.{is_zero}
+use Rattle.pliron_dialect.specs.Roles.{is_zero}
 
 -- a datum as a number: a number is brought into 64 signed bits, all else counts as 0
 abbrev pub whole_number_of : Datum → ℤ

@@ -7,13 +7,13 @@ use Rattle.pliron_core.specs.declared.attrs.Head.{Head}
 use Rattle.pliron_core.specs.declared.attrs.AttrObj.{AttrObj}
 use Rattle.pliron_core.specs.declared.attrs.AttrObj.TheVariants.{Int, Text as Words}
 use Rattle.pliron_laws.specs.Datum.{Shape}
-use Rattle.pliron_roles.specs.declared.form.Form.{Form}
-use Rattle.pliron_roles.specs.declared.form.Form.TheVariants.{Constant as ConstantForm, Chooses as ChoosesForm}
-use Rattle.pliron_roles.specs.declared.form.Counting.TheVariants.{OfFirst, OfEach}
-use Rattle.pliron_roles.specs.declared.form.Otherwise.TheVariants.{Never}
-use Rattle.pliron_roles.specs.Identities.{no_identity}
-use Rattle.pliron_roles.specs.Counted.{count_of, two_counts, first_edge_count, fewer_by}
-use Rattle.pliron_roles.specs.Roles.{Role, Folds, Jumps, Chooses, Allows, Interpretation, form_of, Stays, AllStay, ResultFits, RoleFits}
+use Rattle.pliron_dialect.specs.declared.form.Form.{Form}
+use Rattle.pliron_dialect.specs.declared.form.Form.TheVariants.{Constant as ConstantForm, Chooses as ChoosesForm}
+use Rattle.pliron_dialect.specs.declared.form.Counting.TheVariants.{OfFirst, OfEach}
+use Rattle.pliron_dialect.specs.declared.form.Otherwise.TheVariants.{Never}
+use Rattle.pliron_dialect.specs.Identities.{no_identity}
+use Rattle.pliron_dialect.specs.Counted.{count_of, two_counts, first_edge_count, fewer_by}
+use Rattle.pliron_dialect.specs.Roles.{Role, Folds, Jumps, Chooses, Allows, Interpretation, form_of, Stays, AllStay, ResultFits, RoleFits}
 use Rattle.pliron_role_runs.specs.Numbers.{is_whole_number, are_known, where_known, edge_by_condition}
 
 -- ---- roles

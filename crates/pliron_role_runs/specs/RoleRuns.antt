@@ -3,8 +3,8 @@ use Rattle.std.specs.Prelude.{ℕ, List}
 use Rattle.std.specs.Option.{option_map}
 use Rattle.pliron_core.specs.declared.attrs.Head.{Head}
 use Rattle.pliron_laws.specs.Datum.{Datum, Shape, Move, Goto, Trap}
-use Rattle.pliron_roles.specs.Roles.{Role, Acts, Names, Forks}
-use Rattle.pliron_roles.specs.Counted.{values_of_edge}
+use Rattle.pliron_dialect.specs.Roles.{Role, Acts, Names, Forks}
+use Rattle.pliron_dialect.specs.Counted.{values_of_edge}
 use Rattle.pliron_role_runs.specs.declared.counts.Counts.{Counts}
 
 -- the shape of an operation with this head and these counts

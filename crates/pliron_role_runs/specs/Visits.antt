@@ -6,7 +6,7 @@ use Rattle.pliron_laws.specs.Datum.{Datum, Empty, Number, Text, Join, Shape, Mov
 use Rattle.pliron_laws.specs.Laws.{CountsFit}
 use Rattle.pliron_laws.specs.Acting.{Comes}
 use Rattle.pliron_laws.specs.Acting.Comes.{Begins, Answered, AnsweredByWorld}
-use Rattle.pliron_roles.specs.Roles.{Role, Allows, NamesFit}
+use Rattle.pliron_dialect.specs.Roles.{Role, Allows, NamesFit}
 use Rattle.pliron_role_runs.specs.Numbers.{whole_number_of, wrapped_sum, condition_of}
 
 -- the memo after a first transition

@@ -4,12 +4,12 @@ ghost use Rattle.pliron_core.specs.Tree.{IsLive, IsRegion, regions_of, successor
 ghost use Rattle.pliron_laws.specs.Tree.{Operation as OperationRecord, op_at, shape_of, entry_block, block_at, count_arguments};
 ghost use Rattle.std.specs.Option.{option_map};
 ghost use Rattle.pliron_laws.specs.Answers.{ReadsShape};
-ghost use Rattle.pliron_roles.specs.Roles.{role_at, allows_at, meaning_by};
+ghost use Rattle.pliron_dialect.specs.Roles.{role_at, allows_at, meaning_by};
 ghost use Rattle.pliron_role_runs.specs.RoleRuns.{shape_by};
 
 use pliron_core::{Context, Operation, Ptr, Region};
+use pliron_dialect::{ByRoles, Roles};
 use pliron_laws::Dialect;
-use pliron_roles::{ByRoles, Roles};
 use std::alloc::{AllocError, Global};
 
 /// What a move may depend on beside head, memo and input.

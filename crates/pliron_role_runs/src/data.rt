@@ -1,7 +1,7 @@
 //! Data in lists.
 ghost use Rattle.std.specs.Prelude.{◌≡◌, [], ◌∷◌, Some, map, drop, IfOk};
 ghost use Rattle.pliron_evaluator.specs.Evaluator.{datum_of_value};
-ghost use Rattle.pliron_roles.specs.Roles.{number_of as number_in, first_number as first_in, numbers_of as numbers_in, nth_datum as nth_in, fit_data};
+ghost use Rattle.pliron_dialect.specs.Roles.{number_of as number_in, first_number as first_in, numbers_of as numbers_in, nth_datum as nth_in, fit_data};
 
 use pliron_evaluator::evaluator::Datum;
 use std::alloc::{AllocError, Global};

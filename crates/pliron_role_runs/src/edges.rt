@@ -1,14 +1,14 @@
 //! The values that an edge of a branch passes.
 ghost use Rattle.std.specs.Prelude.{◌≡◌, ◌+◌, ◌-◌, ◌≤◌, min, take, drop, length, map, IfOk};
 ghost use Rattle.pliron_evaluator.specs.Evaluator.{datum_of_value};
-ghost use Rattle.pliron_roles.specs.Counted.{counts_in, start_of, count_of, counts_by, two_counts, values_of_edge, first_edge_count, counted_attributes};
+ghost use Rattle.pliron_dialect.specs.Counted.{counts_in, start_of, count_of, counts_by, two_counts, values_of_edge, first_edge_count, counted_attributes};
 
 use crate::counts::Counts;
 use crate::own_moves::behind_first;
-use pliron_branches::counts::count_up_to;
 use pliron_core::{AttrObj, Attrs, Head};
+use pliron_dialect::Counting;
+use pliron_dialect::counts::count_up_to;
 use pliron_evaluator::evaluator::Datum;
-use pliron_roles::Counting;
 use std::alloc::{AllocError, Global};
 
 // The sum of the two, at most so many.

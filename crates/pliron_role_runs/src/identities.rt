@@ -1,14 +1,14 @@
 //! The operand that is left as it is, and the number that is given whatever the other data are.
 ghost use Rattle.std.specs.Prelude.{◌≡◌, map};
 ghost use Rattle.pliron_evaluator.specs.Evaluator.{datum_of_value};
-ghost use Rattle.pliron_roles.specs.Identities.{is_this as is_this_of, same_datum as same_datum_of, place_by as place_by_of};
-ghost use Rattle.pliron_roles.specs.Identities.{place_of_one as place_of_one_of, place_between as place_between_of, place_in};
-ghost use Rattle.pliron_roles.specs.Identities.{agrees_with as agrees_with_of, absorption_if as absorption_if_of, absorption_of, absorber_of};
-ghost use Rattle.pliron_roles.specs.Identities.{absorbed_of, equal_if as equal_if_of, given_by as given_by_of, given_between as given_between_of};
-ghost use Rattle.pliron_roles.specs.Identities.{given_in};
+ghost use Rattle.pliron_dialect.specs.Identities.{is_this as is_this_of, same_datum as same_datum_of, place_by as place_by_of};
+ghost use Rattle.pliron_dialect.specs.Identities.{place_of_one as place_of_one_of, place_between as place_between_of, place_in};
+ghost use Rattle.pliron_dialect.specs.Identities.{agrees_with as agrees_with_of, absorption_if as absorption_if_of, absorption_of, absorber_of};
+ghost use Rattle.pliron_dialect.specs.Identities.{absorbed_of, equal_if as equal_if_of, given_by as given_by_of, given_between as given_between_of};
+ghost use Rattle.pliron_dialect.specs.Identities.{given_in};
 
+use pliron_dialect::{Absorption, Identity};
 use pliron_evaluator::evaluator::Datum;
-use pliron_roles::{Absorption, Identity};
 
 // Whether the datum is this number.
 fn is_this(neutral: Option<i128>, datum: &Datum) -> bool

@@ -5,8 +5,8 @@ ghost use Rattle.pliron_role_runs.specs.RoleRuns.{shape_by, own_act};
 
 use crate::counts::Counts;
 use pliron_core::Head;
+use pliron_dialect::Roles;
 use pliron_evaluator::evaluator::{Datum, Move};
-use pliron_roles::Roles;
 use std::alloc::{AllocError, Global};
 
 /// Kinds whose operations can be run: `ByRoles` of them implements `Evaluate`.

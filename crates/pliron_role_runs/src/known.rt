@@ -2,7 +2,7 @@
 ghost use Rattle.std.specs.Prelude.{◌≡◌, ◌≤◌, map, IfOk};
 ghost use Rattle.pliron_laws.specs.Machine.{run, sight_after};
 ghost use Rattle.pliron_evaluator.specs.Evaluator.{datum_of_value, sight_of};
-ghost use Rattle.pliron_roles.specs.Roles.{role_at, allows_at, meaning_by};
+ghost use Rattle.pliron_dialect.specs.Roles.{role_at, allows_at, meaning_by};
 
 use crate::data::all_copies;
 use crate::interprets::Interprets;

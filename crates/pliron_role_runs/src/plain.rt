@@ -5,7 +5,7 @@ ghost use Rattle.pliron_role_runs.specs.Plain.{has_number as is_one_number, has_
 
 use crate::numbers::is_number;
 use pliron_core::{AttrObj, Attrs, Head};
-use pliron_roles::{Counting, Form};
+use pliron_dialect::{Counting, Form};
 
 // Whether there is no attribute.
 fn has_none(attrs: &Attrs) -> bool

@@ -1,9 +1,9 @@
 //! Texts, and what `combine` leaves of them by the rules of `Bench`.
-use pliron_bench::Bench;
 use pliron_bench_rules::BenchRules;
-use pliron_combine::{Combined, Ending, combine};
 use pliron_core::{Context, Operation, Ptr};
+use pliron_dialect_bench::Bench;
 use pliron_laws::{OptError, is_well_linked};
+use pliron_opt_combine::{Combined, Ending, combine};
 use pliron_test_cases::cases::{Case, case_of, line, read};
 use pliron_test_cases::runs::{are_kept, sights};
 use std::alloc::Global;

@@ -1,12 +1,12 @@
 //! What is seen of the operations of a text.
 ghost use Rattle.pliron_core.specs.Tree.{IsLive};
 
-use pliron_bench::Bench;
 use pliron_core::{Context, Operation, Ptr};
+use pliron_dialect_bench::Bench;
 use pliron_laws::OptError;
-use pliron_notation::read_text;
-use pliron_views::seeing::{is_pure, view_of};
-use pliron_views::{Leaf, Operand, terms_replace_results};
+use pliron_rewrite_rules::seeing::{is_pure, view_of};
+use pliron_rewrite_rules::{Leaf, Operand, terms_replace_results};
+use pliron_text::read_text;
 use std::alloc::Global;
 use std::process::Abort;
 

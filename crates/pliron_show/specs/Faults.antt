@@ -1,6 +1,6 @@
 -- What is reported of texts that are outside a notation.
 use Rattle.std.specs.Prelude.{ℕ, List, codes}
-use Rattle.pliron_diagnostics.specs.Messages.{BeginsWith, heading}
+use Rattle.pliron_show_places.specs.Messages.{BeginsWith, heading}
 
 -- which reports say what is wrong; and which do so of a text
 abbrev pub Faults : Type 1

@@ -3,16 +3,16 @@ ghost use Rattle.pliron_show.specs.Faults.{faults_as_unreadable};
 
 use crate::renaming::{LETTERS, print_renamed};
 use crate::shown::{NameScopes, NameSource, NewNames, Runnable, Shown};
-use pliron_bench::BenchKind;
-use pliron_bench::tables::kind_at;
 use pliron_core::{Context, Operation, Ptr};
-use pliron_diagnostics::{
-    RunOptions, Source, TextParts, forwarded_names, parts_of, pretty, run_sight, text_fault,
-};
+use pliron_dialect_bench::BenchKind;
+use pliron_dialect_bench::tables::kind_at;
+use pliron_driver::{BenchNotation, Document};
 use pliron_evaluator::evaluator::{Notes, Sight};
 use pliron_laws::OptError;
-use pliron_notation::number_of;
-use pliron_opts::{BenchNotation, Document};
+use pliron_show_places::{
+    RunOptions, Source, TextParts, forwarded_names, parts_of, pretty, run_sight, text_fault,
+};
+use pliron_text::number_of;
 use std::alloc::{AllocError, Global};
 
 impl NameScopes for BenchNotation {

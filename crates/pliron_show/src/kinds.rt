@@ -5,11 +5,11 @@ ghost use Rattle.pliron_show.specs.Faults.{faults_as_unreadable};
 use crate::renaming::{LETTERS, print_renamed};
 use crate::shown::{NameScopes, NameSource, NewNames, Shown};
 use pliron_core::{Context, Operation, Ptr};
-use pliron_diagnostics::{Source, TextParts, forwarded_names, kind_fault, parts_of, pretty};
+use pliron_dialect::{Form, Roles};
+use pliron_driver::{Document, KindNotation};
 use pliron_laws::OptError;
-use pliron_notation::{Grammar, number_of};
-use pliron_opts::{Document, KindNotation};
-use pliron_roles::{Form, Roles};
+use pliron_show_places::{Source, TextParts, forwarded_names, kind_fault, parts_of, pretty};
+use pliron_text::{Grammar, number_of};
 use std::alloc::{AllocError, Global};
 
 // The form of the operation's kind, if it has one.

@@ -1,5 +1,5 @@
 //! What a text calls values and blocks.
-use pliron_diagnostics::{TextParts, push_on_one_line};
+use pliron_show_places::{TextParts, push_on_one_line};
 use std::alloc::AllocError;
 
 /// The name that the head of a block begins with; a word where the text gives the block no head, as the first one of a

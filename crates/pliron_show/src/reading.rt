@@ -5,8 +5,8 @@ ghost use Rattle.pliron_core.specs.Writes.{no_tree};
 ghost use Rattle.pliron_laws.specs.Linked.{IsWellLinked};
 
 use pliron_core::Context;
+use pliron_driver::{Document, Notation, TextFailure};
 use pliron_laws::OptError;
-use pliron_opts::{Document, Notation, TextFailure};
 use std::alloc::Global;
 
 /// Reads a text with its sheet. Its operation is live and well linked. `None` is a text outside the notation. Asks that

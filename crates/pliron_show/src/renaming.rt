@@ -6,8 +6,8 @@ ghost use Rattle.pliron_core.specs.Tree.{IsLive};
 use crate::definition_order::DefinitionOrder;
 use crate::shown::{NameScopes, NameSource, NewNames};
 use pliron_core::{BasicBlock, Context, Ptr, Value};
+use pliron_driver::{Document, Notation};
 use pliron_laws::OptError;
-use pliron_opts::{Document, Notation};
 use std::alloc::{AllocError, Global};
 
 /// What new names begin with, as those that are printed do.

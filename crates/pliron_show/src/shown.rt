@@ -3,15 +3,15 @@ ghost use Rattle.std.specs.Prelude.{◌≡◌, map, IfOk, IfSome, string_bytes};
 ghost use Rattle.pliron_core.specs.Tree.{IsLive};
 ghost use Rattle.pliron_laws.specs.Datum.{Number as NumberOf};
 ghost use Rattle.pliron_laws.specs.Machine.{run, sight_after as seen_of};
-ghost use Rattle.pliron_diagnostics.specs.Layout.{words_of};
+ghost use Rattle.pliron_show_places.specs.Layout.{words_of};
 ghost use Rattle.pliron_evaluator.specs.Evaluator.{sight_of};
 ghost use Rattle.pliron_show.specs.Faults.{TextFaults};
 
 use pliron_core::{Context, Operation, Ptr};
-use pliron_diagnostics::{RunOptions, Source, TextParts};
+use pliron_driver::{Document, Notation};
 use pliron_evaluator::evaluator::Sight;
 use pliron_laws::OptError;
-use pliron_opts::{Document, Notation};
+use pliron_show_places::{RunOptions, Source, TextParts};
 use std::alloc::{AllocError, Global};
 
 /// What the names of new values and of new blocks begin with.

@@ -1,7 +1,7 @@
 //! What a dialect answers of an operation, as texts, asked through the traits.
 use crate::cases::block_of;
+use crate::{Dialect, Interface};
 use pliron_core::{Context, Operation, Ptr};
-use pliron_meaning::{Dialect, Interface};
 use std::alloc::Global;
 
 /// The answer on side effects; none where the dialect doesn't admit the operation. Cost: constant, and the

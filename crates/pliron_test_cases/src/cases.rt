@@ -3,10 +3,10 @@
 ghost use Rattle.std.specs.Prelude.{IfSome};
 ghost use Rattle.pliron_core.specs.Tree.{IsLive};
 ghost use Rattle.pliron_laws.specs.Linked.{IsWellLinked};
-ghost use Rattle.pliron_bench.specs.BenchMoves.{bench};
+ghost use Rattle.pliron_dialect_bench.specs.BenchMoves.{bench};
 
+use crate::bench::{print_text, read_text};
 use pliron_core::{AttrObj, BasicBlock, Context, IRStatus, Operation, Ptr, Text};
-use pliron_meaning::bench::{print_text, read_text};
 use std::alloc::{AllocError, Global};
 
 /// A row of a table: a line `NAME -- ASKED => WANT`.

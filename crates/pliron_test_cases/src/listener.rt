@@ -2,10 +2,10 @@
 ghost use Rattle.std.specs.Prelude.{◌≡◌};
 ghost use Rattle.pliron_core.specs.Insertion.{point_of};
 
+use crate::{OptError, Room};
 use pliron_core::{
     BasicBlock, Context, IRRewriter, NoMemory, OpInsertionPoint, Operation, Ptr, Rewriter, Value,
 };
-use pliron_meaning::{OptError, Room};
 use std::alloc::Global;
 
 /// Counts the changes of one whole rewrite.

@@ -1,6 +1,6 @@
 //! Branches that lose a value which they forward.
+use crate::{Dialect, OptError, lose_forwarded};
 use pliron_core::{BasicBlock, Context, Operation, Ptr, Value};
-use pliron_meaning::{Dialect, OptError, lose_forwarded};
 use std::alloc::Global;
 
 /// Removes the value at place j that the branch forwards along edge i, and answers it; none where it forwards

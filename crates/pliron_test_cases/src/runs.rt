@@ -1,7 +1,7 @@
 //! Runs of operations of the dialect `Bench` on numbers, and what is seen of them before and after a rewrite.
+use crate::bench::Bench;
+use crate::evaluator::{Datum, Sight, evaluate};
 use pliron_core::{Context, Operation, Ptr};
-use pliron_meaning::bench::Bench;
-use pliron_meaning::evaluator::{Datum, Sight, evaluate};
 use std::alloc::{AllocError, Global};
 
 // The numbers as data.

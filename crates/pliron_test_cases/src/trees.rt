@@ -9,11 +9,11 @@
 //! | `block 0 1` | makes a last block of operation 0, with one argument |
 //! | `block 0 1 1` | the same in its region 1, and not in region 0 |
 //! | `on 0 b0` | operation 0 gets what is behind it |
+use crate::TinyKind;
 use crate::cases::{fields, number};
 use pliron_core::{
     AttrObj, Attrs, BasicBlock, Context, Head, IRRewriter, Operation, Ptr, Rewriter, Value,
 };
-use pliron_meaning::TinyKind;
 use std::alloc::Global;
 
 /// What was made.

@@ -1,7 +1,7 @@
 //! Texts outside the notation, with the place where they leave it. `|` stands for the end of a line.
 use crate::diagnostics::lines::with_lines;
-use pliron_diagnostics::{position_of, text_fault};
-use pliron_notation::find_text_fault;
+use pliron_show_places::{position_of, text_fault};
+use pliron_text::find_text_fault;
 use std::alloc::Global;
 use std::process::Abort;
 

@@ -1,5 +1,5 @@
 //! Texts over several lines, in one: `|` stands for the end of a line.
-use pliron_diagnostics::pretty;
+use pliron_show_places::pretty;
 use std::alloc::{AllocError, Global};
 use std::process::Abort;
 

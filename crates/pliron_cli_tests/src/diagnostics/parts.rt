@@ -2,7 +2,7 @@
 //! line.
 use crate::diagnostics::lines::with_lines;
 use crate::lines::in_one_line;
-use pliron_diagnostics::{
+use pliron_show_places::{
     MessageForm, blank_comments, in_form, isolate, operation_range, without_mark,
 };
 use std::alloc::Global;

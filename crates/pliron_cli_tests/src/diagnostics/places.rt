@@ -1,6 +1,6 @@
 //! Where operations are in texts, in which `|` stands for the end of a line.
 use crate::diagnostics::lines::with_lines;
-use pliron_diagnostics::operation_places;
+use pliron_show_places::operation_places;
 use std::alloc::Global;
 use std::process::Abort;
 

@@ -1,7 +1,7 @@
 //! Runs of texts, worked by hand: inputs, the world's answers, the text, and what is seen, where `|` stands for
 //! the end of a line.
 use crate::diagnostics::lines::with_lines;
-use pliron_diagnostics::{EffectSink, End, RunOptions, Source, run_text, run_text_streamed};
+use pliron_show_places::{EffectSink, End, RunOptions, Source, run_text, run_text_streamed};
 use std::alloc::Global;
 use std::process::Abort;
 

@@ -5,21 +5,21 @@ ghost use Rattle.pliron_core.specs.Tree.{IsLive, successors_of};
 ghost use Rattle.pliron_laws.specs.Tree.{Operation as OperationRecord, op_at, shape_of, block_at, count_arguments};
 ghost use Rattle.pliron_laws.specs.Datum.{Number as NumberOf, Text as TextOf, Give, Visit, Goto, Leave, Emit, Join as JoinOf, datum_of as content_of};
 ghost use Rattle.pliron_laws.specs.Answers.{ReadsHead};
-ghost use Rattle.pliron_roles.specs.Counted.{first_edge_count as first_count_of, two_counts, values_of_edge};
-ghost use Rattle.pliron_roles.specs.Roles.{act_of, numbers_of, number_of as number_in, first_number as first_number_in, first_attribute, fit_data as fit_or_empty_of, give_or_trap};
-ghost use Rattle.pliron_bench.specs.Bench.{kind_of};
-ghost use Rattle.pliron_bench.specs.BenchNumbers.{known_at as known_of, known_sum as known_sum_of, known_product as known_product_of, known_quotient as known_quotient_of};
-ghost use Rattle.pliron_bench.specs.BenchMoves.{bench, bench_role, bench_value, datum_at, memo_when_done, once, fit_data, read_word, print_word, edge_taken as edge_taken_by};
+ghost use Rattle.pliron_dialect.specs.Counted.{first_edge_count as first_count_of, two_counts, values_of_edge};
+ghost use Rattle.pliron_dialect.specs.Roles.{act_of, numbers_of, number_of as number_in, first_number as first_number_in, first_attribute, fit_data as fit_or_empty_of, give_or_trap};
+ghost use Rattle.pliron_dialect_bench.specs.Bench.{kind_of};
+ghost use Rattle.pliron_dialect_bench.specs.BenchNumbers.{known_at as known_of, known_sum as known_sum_of, known_product as known_product_of, known_quotient as known_quotient_of};
+ghost use Rattle.pliron_dialect_bench.specs.BenchMoves.{bench, bench_role, bench_value, datum_at, memo_when_done, once, fit_data, read_word, print_word, edge_taken as edge_taken_by};
 ghost use Rattle.pliron_evaluator.specs.Evaluator.{datum_of_value, move_of};
 
 use crate::evaluator::shapes::{num_entry_argument, num_target_argument};
 use crate::evaluator::tiny_moves::fit_data as fit_or_empty;
 use crate::evaluator::values::{Datum, Evaluate, Move, all_copies, one};
-use pliron_bench::jumps::first_edge_count;
-use pliron_bench::numbers::{edge_of, known_product, known_quotient, known_sum, wrap};
-use pliron_bench::tables::kind_at;
-use pliron_bench::{Bench, BenchKind};
 use pliron_core::{Attrs, Context, Operation, Ptr, Text};
+use pliron_dialect_bench::jumps::first_edge_count;
+use pliron_dialect_bench::numbers::{edge_of, known_product, known_quotient, known_sum, wrap};
+use pliron_dialect_bench::tables::kind_at;
+use pliron_dialect_bench::{Bench, BenchKind};
 use std::alloc::{AllocError, Global};
 
 // The datum at this index, where a missing one counts as 0.

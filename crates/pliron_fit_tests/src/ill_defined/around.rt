@@ -1,9 +1,9 @@
 //! What is around each operation and each block, in each region.
 use super::texts::{TEXTS, name_and_text};
 use super::trees::{all_of, holders_of, push_blocks};
-use pliron_bench::{Bench, BenchKind};
 use pliron_core::{BasicBlock, Context, Operation, Ptr, Region};
-use pliron_graph::{
+use pliron_dialect_bench::{Bench, BenchKind};
+use pliron_graph_components::{
     find_ancestor_block_of_block_in_region, find_ancestor_block_of_op_in_region,
     find_ancestor_of_op_interface, find_ancestor_of_op_type, find_ancestor_op_of_op_in_block,
     find_ancestor_op_of_op_in_region, strictly_precedes_in_block,

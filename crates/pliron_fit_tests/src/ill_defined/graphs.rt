@@ -1,19 +1,19 @@
 //! The graph of each region, and its reverse: orders, components, searches and dominators.
 ghost use Rattle.std.specs.Prelude.{IsTrue};
 ghost use Rattle.pliron_core.specs.Tree.{IsRegion};
-ghost use Rattle.pliron_traversal.specs.Regions.{IsLawfulRegion};
+ghost use Rattle.pliron_graph_traversal.specs.Regions.{IsLawfulRegion};
 
 use super::texts::{TEXTS, name_and_text};
 use super::trees::{blocks_of, holders_of};
 use pliron_core::{Context, Operation, Ptr, Region};
-use pliron_dominance::DominatorTree;
-use pliron_graph::{ReverseGraph, sccs_in_topological_order};
-use pliron_laws::{OptError, edges_last};
-use pliron_test_cases::cases::read;
-use pliron_traversal::{
+use pliron_graph_components::{ReverseGraph, sccs_in_topological_order};
+use pliron_graph_dominance::DominatorTree;
+use pliron_graph_traversal::{
     ControlFlowGraph, DFSTraversal, post_order, post_order_by_component, topological_order,
     topological_order_by_component,
 };
+use pliron_laws::{OptError, edges_last};
+use pliron_test_cases::cases::read;
 use std::alloc::Global;
 use std::process::Abort;
 

@@ -1,7 +1,7 @@
 //! What is asked of a tree after a call, without knowing what it left.
 use crate::expect::expect_text;
-use pliron_bench::Bench;
 use pliron_core::{Context, IRStatus, Operation, Ptr};
+use pliron_dialect_bench::Bench;
 use pliron_laws::{OptError, is_well_linked};
 use pliron_test_cases::cases::{line, read};
 use std::alloc::Global;

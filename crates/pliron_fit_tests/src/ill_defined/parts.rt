@@ -1,18 +1,18 @@
 //! Calls that may change what is inside a region or a block, on each region and each block.
-ghost use Rattle.pliron_bench.specs.BenchMoves.{bench};
+ghost use Rattle.pliron_dialect_bench.specs.BenchMoves.{bench};
 ghost use Rattle.pliron_core.specs.Tree.{IsLive};
 ghost use Rattle.pliron_laws.specs.Linked.{IsWellLinked};
 
 use super::left::{answer_if_any, check_left, whole_line};
 use super::texts::{BLOCKS, HOLDERS, MOST, TEXTS, name_and_text};
 use super::trees::{blocks_of, holders_of};
-use pliron_bench::Bench;
-use pliron_cfg::{
+use pliron_core::{BasicBlock, Context, IRStatus, Operation, Ptr};
+use pliron_dialect_bench::Bench;
+use pliron_laws::{OptError, is_well_linked};
+use pliron_opt_cfg::{
     merge_inside_block, merge_inside_region, remove_blocks_inside_block,
     remove_blocks_inside_region,
 };
-use pliron_core::{BasicBlock, Context, IRStatus, Operation, Ptr};
-use pliron_laws::{OptError, is_well_linked};
 use pliron_test_cases::cases::read;
 use pliron_test_cases::listener::Counting;
 use std::alloc::Global;

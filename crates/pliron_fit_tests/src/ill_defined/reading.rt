@@ -1,14 +1,13 @@
 //! Calls that read a tree: whether it is fit to run, its contents, what is cached of it, its runs and its texts.
 use super::texts::{TEXTS, name_and_text};
 use super::trees::{all_of, blocks_of, holders_of};
-use pliron_bench::Bench;
-use pliron_core::{BasicBlock, Context, Operation, Ptr};
-use pliron_fit::{find_violation, fit_roots, is_fit};
+use pliron_core::{BasicBlock, Children, Contents, Context, Operation, Ptr};
+use pliron_dialect_bench::Bench;
 use pliron_laws::{Dialect, Interface, edges_last, is_admitted, is_well_linked};
 use pliron_pass::{AnalysisManager, BenchFactKind, BenchFacts, verify_operation};
+use pliron_pass_fit::{find_violation, fit_roots, is_fit};
 use pliron_test_cases::cases::read;
 use pliron_test_cases::runs::sights;
-use pliron_walks::{Children, Contents};
 use std::alloc::Global;
 use std::process::Abort;
 

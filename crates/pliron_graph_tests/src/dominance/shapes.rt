@@ -1,6 +1,6 @@
 //! Deep and wide graphs of 20,000 nodes.
 use crate::cases::{case_of, check_answer, graph_of};
-use pliron_dominance::DominatorTree;
+use pliron_graph_dominance::DominatorTree;
 use std::alloc::Global;
 use std::process::Abort;
 

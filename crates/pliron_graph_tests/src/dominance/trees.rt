@@ -1,7 +1,7 @@
 //! What a tree of dominators says of each node of a graph, as text.
 use crate::texts::{push, push_label};
-use pliron_dominance::DominatorTree;
-use pliron_traversal::{ControlFlowGraph, HasLabel};
+use pliron_graph_dominance::DominatorTree;
+use pliron_graph_traversal::{ControlFlowGraph, HasLabel};
 use std::alloc::Global;
 use std::hash::Hash;
 use std::process::Abort;

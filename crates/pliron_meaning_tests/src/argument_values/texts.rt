@@ -1,10 +1,10 @@
 //! Texts, and what is left where the uses of an argument were replaced by its one value.
 use super::cases::ROWS;
 use crate::questions::{Question, check_table};
-use pliron_argument_laws::finding::find_one_value;
-use pliron_argument_laws::rewrites::replace_argument_by_value;
-use pliron_bench::Bench;
 use pliron_core::{BasicBlock, Context, Ptr, Value};
+use pliron_dialect_bench::Bench;
+use pliron_rewrite_arguments::finding::find_one_value;
+use pliron_rewrite_arguments::rewrites::replace_argument_by_value;
 use pliron_test_cases::cases::{block_of, line, number, read};
 use pliron_test_cases::listener::Counting;
 use std::alloc::Global;

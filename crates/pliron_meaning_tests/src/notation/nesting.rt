@@ -1,7 +1,7 @@
 //! Regions in one another.
 use super::check_printed;
 use pliron_core::{Attrs, BasicBlock, Context, Head, IRRewriter, Operation, Ptr, Rewriter};
-use pliron_meaning::bench::BenchKind;
+use pliron_test_cases::bench::BenchKind;
 use pliron_test_cases::cases::{fields, line};
 use std::alloc::Global;
 use std::process::Abort;

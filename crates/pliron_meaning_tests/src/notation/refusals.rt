@@ -1,8 +1,8 @@
 //! Reading and printing on allocation failure. Run it by hand with each request for memory refused in turn:
 //! `rt try --test --fail-alloc N`.
 use pliron_core::{Context, Operation, Ptr};
-use pliron_meaning::OptError;
-use pliron_meaning::bench::{print_text, read_text};
+use pliron_test_cases::OptError;
+use pliron_test_cases::bench::{print_text, read_text};
 use std::alloc::Global;
 use std::process::Abort;
 

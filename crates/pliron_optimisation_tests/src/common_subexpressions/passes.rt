@@ -1,13 +1,13 @@
 //! The pass in a list of passes.
-ghost use Rattle.pliron_bench.specs.BenchMoves.{bench};
+ghost use Rattle.pliron_dialect_bench.specs.BenchMoves.{bench};
 ghost use Rattle.pliron_core.specs.Tree.{IsLive};
 ghost use Rattle.pliron_laws.specs.Linked.{IsWellLinked};
 
-use pliron_bench::Bench;
 use pliron_core::{Context, IRStatus, Operation, Ptr};
+use pliron_dialect_bench::Bench;
 use pliron_laws::OptError;
 use pliron_pass::{AnalysisManager, BenchFacts, Pass, Passes};
-use pliron_pipeline::{CSEPass, run_pipeline};
+use pliron_pass_pipeline::{CSEPass, run_pipeline};
 use pliron_test_cases::cases::{line, read};
 use std::alloc::Global;
 use std::process::Abort;

@@ -1,15 +1,15 @@
 //! The calls on control flow, by the names that the cases have for them.
-ghost use Rattle.pliron_bench.specs.BenchMoves.{bench};
+ghost use Rattle.pliron_dialect_bench.specs.BenchMoves.{bench};
 ghost use Rattle.pliron_core.specs.Tree.{IsLive};
 ghost use Rattle.pliron_laws.specs.Linked.{IsWellLinked};
 
-use pliron_bench::Bench;
-use pliron_cfg::{
+use pliron_core::{Context, IRStatus, Operation, Ptr};
+use pliron_dialect_bench::Bench;
+use pliron_laws::OptError;
+use pliron_opt_cfg::{
     fold_branches, merge_inside_block, merge_inside_op, merge_inside_region,
     remove_blocks_inside_block, remove_blocks_inside_op, remove_blocks_inside_region,
 };
-use pliron_core::{Context, IRStatus, Operation, Ptr};
-use pliron_laws::OptError;
 use pliron_test_cases::listener::Counting;
 use std::alloc::Global;
 use std::process::Abort;

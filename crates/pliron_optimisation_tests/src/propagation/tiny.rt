@@ -4,7 +4,7 @@ use pliron_core::{
 };
 use pliron_evaluator::{Tiny, TinyKind};
 use pliron_laws::{Dialect, is_well_linked};
-use pliron_sccp::sccp_counted;
+use pliron_opt_sccp::sccp_counted;
 use std::alloc::Global;
 use std::process::Abort;
 

@@ -3,12 +3,12 @@ ghost use Rattle.pliron_core.specs.Tree.{IsLive};
 
 use super::texts::read;
 use crate::expect::expect_text;
-use pliron_arithmetic::{Arithmetic, ArithmeticKind};
 use pliron_core::{AttrObj, Context, IRRewriter, Operation, Ptr, Rewriter};
+use pliron_dialect_arithmetic::{Arithmetic, ArithmeticKind};
 use pliron_laws::reads::all_operations;
 use pliron_laws::{BranchOpFoldInterface, ConstFoldInterface, is_well_linked};
-use pliron_notation::print_operation;
 use pliron_test_cases::cases::{Row, all_known, number, row_of};
+use pliron_text::print_operation;
 use std::alloc::Global;
 use std::process::Abort;
 

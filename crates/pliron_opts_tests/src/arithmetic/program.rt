@@ -1,8 +1,8 @@
 //! The program `arithmetic_opt` on texts, by the library call that its `main` is made of. Each answer is worked
 //! by hand.
 use crate::expect::{expect_bytes, expect_text};
-use pliron_arithmetic::ArithmeticKind;
-use pliron_opts::{KindNotation, run_optimiser};
+use pliron_dialect_arithmetic::ArithmeticKind;
+use pliron_driver::{KindNotation, run_optimiser};
 use std::alloc::Global;
 use std::process::Abort;
 

@@ -1,13 +1,13 @@
 //! Runs of functions, worked by hand, before and after constant propagation and dead code elimination.
 use super::texts::read;
 use crate::expect::expect_sight;
-use pliron_arithmetic::{Arithmetic, ArithmeticKind};
 use pliron_core::{AttrObj, Context, Operation, Ptr};
-use pliron_dce::dce;
+use pliron_dialect_arithmetic::{Arithmetic, ArithmeticKind};
 use pliron_evaluator::evaluator::{Datum, Sight, evaluate};
 use pliron_laws::is_well_linked;
+use pliron_opt_dce::dce;
+use pliron_opt_sccp::sccp;
 use pliron_role_runs::RunByRoles;
-use pliron_sccp::sccp;
 use pliron_test_cases::cases::{all_known, row_of};
 use std::alloc::Global;
 use std::process::Abort;

@@ -1,8 +1,8 @@
 //! Texts that are read and printed, and texts outside the notation, by its rules in docs/DIALECTS.md.
 use crate::expect::{expect_fault, expect_text};
-use pliron_arithmetic::ArithmeticKind;
 use pliron_core::{Context, Operation, Ptr};
-use pliron_notation::{find_fault, print_operation, read_operation};
+use pliron_dialect_arithmetic::ArithmeticKind;
+use pliron_text::{find_fault, print_operation, read_operation};
 use std::alloc::Global;
 use std::process::Abort;
 

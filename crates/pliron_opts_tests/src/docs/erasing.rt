@@ -7,15 +7,14 @@ ghost use Rattle.pliron_theory.specs.Change.{IsPassChange};
 ghost use Rattle.pliron_opts_tests.specs.declared.docs.erasing.TheConstants.{ERASE_UNUSED};
 
 use crate::expect::expect_text;
-use pliron_arithmetic::{Arithmetic, ArithmeticKind};
-use pliron_core::{Context, IRRewriter, IRStatus, Operation, Ptr};
+use pliron_core::{Contents, Context, IRRewriter, IRStatus, Operation, Ptr};
+use pliron_dialect_arithmetic::{Arithmetic, ArithmeticKind};
 use pliron_laws::Dialect;
-use pliron_notation::{print_operation, read_operation};
 use pliron_pass::{
     AnalysisManager, BenchFactKind, BenchFacts, OptError, Pass, PassResult, run_pipeline,
 };
 use pliron_pass_rewrites::erase_unused_inside;
-use pliron_walks::Contents;
+use pliron_text::{print_operation, read_operation};
 use std::alloc::Global;
 use std::process::Abort;
 

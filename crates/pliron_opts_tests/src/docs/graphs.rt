@@ -1,14 +1,14 @@
 //! docs/GRAPHS.md: orders, searches, components, the reverse and dominance of a graph, and a graph of one's own.
 ghost use Rattle.std.specs.Prelude.{IfOk, IfSome};
-ghost use Rattle.pliron_traversal.specs.Adjacency.{AreInverse, graph_of};
-ghost use Rattle.pliron_traversal.specs.AdjacencyLaws.{adjacency_lawful};
+ghost use Rattle.pliron_graph_traversal.specs.Adjacency.{AreInverse, graph_of};
+ghost use Rattle.pliron_graph_traversal.specs.AdjacencyLaws.{adjacency_lawful};
 
 use crate::expect::expect_text;
-use pliron_dominance::DominatorTree;
-use pliron_graph::{
+use pliron_graph_components::{
     AdjacencyList, ControlFlowGraph, DFSTraversal, ReverseGraph, ReverseNode, post_order,
     sccs_in_topological_order, topological_order,
 };
+use pliron_graph_dominance::DominatorTree;
 use pliron_laws::OptError;
 use std::alloc::Global;
 use std::process::Abort;

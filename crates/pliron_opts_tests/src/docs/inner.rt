@@ -1,12 +1,12 @@
 //! What a pass inside all combinators counted can be read after a run.
 use super::passes::Tally;
-use pliron_bench::{Bench, BenchKind};
 use pliron_core::{Context, IRStatus};
-use pliron_notation::read_text;
+use pliron_dialect_bench::{Bench, BenchKind};
 use pliron_pass::{
     AnalysisManager, BenchFacts, Either, GuardedPass, NestedOpsPass, OpGuard, OptError, Passes,
     Repeat, run_pipeline,
 };
+use pliron_text::read_text;
 use std::alloc::Global;
 use std::ops::Deref;
 use std::process::Abort;

@@ -3,13 +3,13 @@ ghost use Rattle.std.specs.Prelude.{◌≡◌, ◌+◌, ◌-◌, ◌^◌, false,
 ghost use Rattle.pliron_opts_tests.specs.declared.docs.passes.TheConstants.{TALLY};
 
 use super::walking::SweepLarge;
-use pliron_bench::Bench;
 use pliron_core::{Context, IRStatus, Operation, Ptr};
-use pliron_notation::read_text;
+use pliron_dialect_bench::Bench;
 use pliron_pass::{
     AnalysisManager, BenchFactKind, BenchFacts, Either, OptError, Pass, PassResult, Passes,
     run_pipeline,
 };
+use pliron_text::read_text;
 use std::alloc::Global;
 use std::process::Abort;
 

@@ -1,14 +1,14 @@
 //! docs/START.md: a tree by calls, a run, a list of passes and the text.
-use pliron_bench::heads::{attribute_head, plain_head};
-use pliron_bench::{Bench, BenchKind};
 use pliron_core::{
     AttrObj, BasicBlock, Context, Head, IRRewriter, Operation, Ptr, Rewriter, Value,
 };
+use pliron_dialect_bench::heads::{attribute_head, plain_head};
+use pliron_dialect_bench::{Bench, BenchKind};
 use pliron_evaluator::evaluator::evaluate;
 use pliron_laws::{OptError, is_well_linked};
-use pliron_notation::print_text;
 use pliron_pass::{AnalysisManager, BenchFacts, Passes};
-use pliron_pipeline::{DCEPass, PassStep, SCCPPass, run_pipeline};
+use pliron_pass_pipeline::{DCEPass, PassStep, SCCPPass, run_pipeline};
+use pliron_text::print_text;
 use std::alloc::{AllocError, Global};
 use std::process::Abort;
 

@@ -3,19 +3,18 @@ ghost use Rattle.std.specs.Prelude.{◌≡◌, ℕ, false, Some, IfOk};
 ghost use Rattle.pliron_core.specs.Tree.{IsLive, parent_operation_of};
 ghost use Rattle.pliron_core.specs.declared.attrs.IRStatus.TheVariants.{Unchanged};
 ghost use Rattle.pliron_laws.specs.Linked.{IsWellLinked};
-ghost use Rattle.pliron_bench.specs.BenchMoves.{bench};
+ghost use Rattle.pliron_dialect_bench.specs.BenchMoves.{bench};
 ghost use Rattle.pliron_theory.specs.Change.{IsPassChange};
 ghost use Rattle.pliron_opts_tests.specs.declared.docs.walking.TheConstants.{SWEEP_LARGE};
 
 use crate::expect::expect_text;
-use pliron_bench::Bench;
-use pliron_core::{Context, IRStatus, Operation, Ptr};
-use pliron_dce::dce;
-use pliron_notation::{print_text, read_text};
+use pliron_core::{Children, Contents, Context, IRStatus, Operation, Ptr};
+use pliron_dialect_bench::Bench;
+use pliron_opt_dce::dce;
 use pliron_pass::{
     AnalysisManager, BenchFactKind, BenchFacts, OptError, Pass, PassResult, run_pipeline,
 };
-use pliron_walks::{Children, Contents};
+use pliron_text::{print_text, read_text};
 use std::alloc::Global;
 use std::process::Abort;
 

@@ -1,10 +1,10 @@
 //! A driver, as docs/DRIVERS.md shows it.
 use crate::expect::expect_text;
-use pliron_bench::Bench;
 use pliron_core::Context;
-use pliron_notation::{print_text, read_text};
+use pliron_dialect_bench::Bench;
 use pliron_pass::{AnalysisManager, BenchFacts, OptError, Passes};
-use pliron_pipeline::{PassStep, run_pipeline};
+use pliron_pass_pipeline::{PassStep, run_pipeline};
+use pliron_text::{print_text, read_text};
 use std::alloc::Global;
 use std::process::Abort;
 

@@ -3,20 +3,20 @@
 //! is computed anew.
 ghost use Rattle.pliron_core.specs.Tree.{IsLive};
 ghost use Rattle.pliron_laws.specs.Linked.{IsWellLinked};
-ghost use Rattle.pliron_bench.specs.BenchMoves.{bench};
+ghost use Rattle.pliron_dialect_bench.specs.BenchMoves.{bench};
 
 use super::nest::{Deep, deep};
 use super::texts::{KINDS, write_fact};
 use crate::expect::expect_text;
-use pliron_bench::{Bench, BenchKind};
 use pliron_core::{Context, Operation, Ptr};
+use pliron_dialect_bench::{Bench, BenchKind};
 use pliron_evaluator::evaluator::Sight;
 use pliron_laws::Dialect;
 use pliron_pass::{
     AnalysisManager, BenchFactKind, BenchFacts, GuardedPass, NestedOpsPass, OpGuard, OpPass,
     Passes, Repeat,
 };
-use pliron_pipeline::run_pipeline;
+use pliron_pass_pipeline::run_pipeline;
 use pliron_test_cases::cases::read;
 use pliron_test_cases::runs::sight_of_run;
 use std::alloc::Global;

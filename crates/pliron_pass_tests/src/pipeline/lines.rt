@@ -2,16 +2,16 @@
 //! of the cache and of the text, and how many runs are counted.
 ghost use Rattle.pliron_core.specs.Tree.{IsLive};
 ghost use Rattle.pliron_laws.specs.Linked.{IsWellLinked};
-ghost use Rattle.pliron_bench.specs.BenchMoves.{bench};
+ghost use Rattle.pliron_dialect_bench.specs.BenchMoves.{bench};
 
 use super::nest::{Deep, deep};
 use super::texts::write_facts;
 use crate::expect::expect_text;
 use pliron_core::{Context, IRStatus, Operation, Ptr};
-use pliron_notation::print_text;
 use pliron_pass::{AnalysisManager, BenchFactKind, BenchFacts, OptError, PMConfig};
-use pliron_pipeline::run_pipeline;
+use pliron_pass_pipeline::run_pipeline;
 use pliron_test_cases::cases::{Row, read, row_of};
+use pliron_text::print_text;
 use std::alloc::Global;
 use std::process::Abort;
 

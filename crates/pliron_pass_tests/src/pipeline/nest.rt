@@ -5,14 +5,14 @@ ghost use Rattle.pliron_pass.specs.Repeating.{repeat_name};
 ghost use Rattle.pliron_pass_tests.specs.declared.pipeline.nest.Nest.TheVariants.{One as AOne, Line as ALine, Inside as AInside, Func as AFunc, Removing as ARemoving, Again as AAgain, Failing as AFailing};
 
 use super::failing::FailAfter;
-use pliron_bench::{Bench, BenchKind};
 use pliron_core::{Context, Operation, Ptr};
+use pliron_dialect_bench::{Bench, BenchKind};
 use pliron_laws::{Dialect, Interface};
 use pliron_pass::{
     Analyses, AnalysisKind, AnalysisManager, BenchFacts, GuardedPass, NestedOpsPass, OpGuard,
     OpInterfaceGuard, OpInterfacePass, OpPass, OptError, Pass, PassResult, Passes, Repeat,
 };
-use pliron_pipeline::PassStep;
+use pliron_pass_pipeline::PassStep;
 use pliron_test_cases::cases;
 use std::alloc::Global;
 use std::process::Abort;

@@ -1,14 +1,14 @@
 //! The promise at one root, from end to end: an operation of `Bench` that is fit to run, the three passes on
 //! it in any list, and what it does afterwards.
-ghost use Rattle.pliron_bench.specs.BenchMoves.{bench};
+ghost use Rattle.pliron_dialect_bench.specs.BenchMoves.{bench};
 ghost use Rattle.pliron_laws.specs.Agree.{Agree};
 ghost use Rattle.pliron_theory.specs.Keeps.{IsFit};
 
-use pliron_bench::Bench;
 use pliron_core::{Context, IRStatus, Operation, Ptr};
+use pliron_dialect_bench::Bench;
 use pliron_laws::OptError;
 use pliron_pass::{AnalysisManager, BenchFacts, Passes};
-use pliron_pipeline::{PassStep, run_pipeline};
+use pliron_pass_pipeline::{PassStep, run_pipeline};
 use std::alloc::Global;
 
 /// Runs a list of the three passes on an operation that is fit to run. Whatever this answers, the operation

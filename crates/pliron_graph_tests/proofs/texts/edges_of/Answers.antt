@@ -1,5 +1,5 @@
 use Rattle.std.specs.Option.{option_to_list}
-use Rattle.pliron_graph.proofs.CallerLemmas.{Contains-item, IsListed-successor, edge_not_later}
+use Rattle.pliron_graph_components.proofs.CallerLemmas.{Contains-item, IsListed-successor, edge_not_later}
 use Rattle.pliron_graph_tests.proofs.texts.edges_of.Goals as goal
 
 pub edge_kind-kind-requires-clause-to_reached : goal.edge_kind-kind-requires-clause-to_reached

@@ -3,11 +3,12 @@ ghost use Rattle.pliron_core.specs.Tree.{IsLive};
 
 use super::{append, constant, first_result, function, six_by_seven};
 use crate::expect::expect_text;
-use pliron_bench::BenchKind;
-use pliron_bench::heads::plain_head;
-use pliron_core::{AttrObj, Context, Def, Head, IRRewriter, Operation, Ptr, Rewriter, Value};
-use pliron_notation::print_text;
-use pliron_walks::Contents;
+use pliron_core::{
+    AttrObj, Contents, Context, Def, Head, IRRewriter, Operation, Ptr, Rewriter, Value,
+};
+use pliron_dialect_bench::BenchKind;
+use pliron_dialect_bench::heads::plain_head;
+use pliron_text::print_text;
 use std::alloc::Global;
 use std::process::Abort;
 

@@ -1,4 +1,4 @@
-use Rattle.pliron_roles.specs.Roles.{role_at, allows_at, meaning_by}
+use Rattle.pliron_dialect.specs.Roles.{role_at, allows_at, meaning_by}
 use Rattle.pliron_role_runs.specs.declared.counts.Counts.{Counts}
 use Rattle.pliron_role_runs.proofs.CountReads.{shape_read}
 use Rattle.pliron_role_runs.proofs.counts.counts_at.Goals as goal

@@ -1,7 +1,7 @@
 use Rattle.std.proofs.Common.{◌∙◌, ap, sym, map, Some}
 use Rattle.pliron_core.specs.Tree.{successors_of}
 use Rattle.pliron_laws.specs.Tree.{unless, block_at, count_arguments}
-use Rattle.pliron_roles.specs.Roles.{role_at, allows_at, meaning_by}
+use Rattle.pliron_dialect.specs.Roles.{role_at, allows_at, meaning_by}
 use Rattle.pliron_role_runs.proofs.CountReads.{targets_read}
 use Rattle.pliron_role_runs.proofs.counts.target_arguments_at.Goals as goal
 

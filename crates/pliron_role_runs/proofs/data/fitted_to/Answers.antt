@@ -1,5 +1,5 @@
 use Rattle.std.proofs.Common.{refl, sym, ◌∙◌}
-use Rattle.pliron_roles.specs.Roles.{fit_data}
+use Rattle.pliron_dialect.specs.Roles.{fit_data}
 use Rattle.pliron_evaluator.specs.Evaluator.{datum_of_value}
 use Rattle.pliron_evaluator.proofs.EvaluatorLemmas.{fitted_more, fitted_done}
 use Rattle.pliron_role_runs.proofs.ListReads.{first_datum, nothing_begins, read_at}

@@ -1,5 +1,5 @@
 use Rattle.std.proofs.Common.{◌≡◌, ◌++◌, ◌-◌, drop, map}
-use Rattle.pliron_roles.specs.Roles.{fit_data}
+use Rattle.pliron_dialect.specs.Roles.{fit_data}
 use Rattle.pliron_evaluator.specs.Evaluator.{datum_of_value}
 use Rattle.pliron_role_runs.proofs.data.fitted_to.Given as goal
 

@@ -1,5 +1,5 @@
 use Rattle.std.proofs.Common.{◌≡◌, map, take, Some}
-use Rattle.pliron_roles.specs.Roles.{number_of}
+use Rattle.pliron_dialect.specs.Roles.{number_of}
 use Rattle.pliron_evaluator.specs.Evaluator.{datum_of_value}
 use Rattle.pliron_role_runs.proofs.data.known_numbers.Given as goal
 

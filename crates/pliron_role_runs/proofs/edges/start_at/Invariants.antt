@@ -1,5 +1,5 @@
 use Rattle.std.proofs.Common.{◌≡◌, min}
-use Rattle.pliron_roles.specs.Counted.{start_of, counts_in}
+use Rattle.pliron_dialect.specs.Counted.{start_of, counts_in}
 use Rattle.pliron_role_runs.proofs.edges.start_at.Given as goal
 
 abbrev pub invariant-loop-j : goal.invariant-loop-j

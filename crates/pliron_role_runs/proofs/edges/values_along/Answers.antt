@@ -1,6 +1,6 @@
 use Rattle.std.proofs.Common.{◌-◌, map, take, drop, ap, sym, ◌∙◌}
 use Rattle.pliron_evaluator.specs.Evaluator.{datum_of_value}
-use Rattle.pliron_roles.specs.Counted.{counts_in, start_of, count_of, counts_by, two_counts, values_of_edge, first_edge_count}
+use Rattle.pliron_dialect.specs.Counted.{counts_in, start_of, count_of, counts_by, two_counts, values_of_edge, first_edge_count}
 use Rattle.pliron_role_runs.proofs.EdgeReads.{along_edge}
 use Rattle.pliron_role_runs.proofs.edges.values_along.Goals as goal
 

@@ -1,7 +1,7 @@
 use Rattle.std.proofs.Common.{◌≡◌, ◌≤◌, map}
 use Rattle.pliron_laws.specs.Machine.{run, sight_after}
 use Rattle.pliron_evaluator.specs.Evaluator.{datum_of_value, sight_of}
-use Rattle.pliron_roles.specs.Roles.{role_at, allows_at, meaning_by}
+use Rattle.pliron_dialect.specs.Roles.{role_at, allows_at, meaning_by}
 use Rattle.pliron_role_runs.proofs.known.longest_known.Given as goal
 
 abbrev pub invariant-loop : goal.invariant-loop

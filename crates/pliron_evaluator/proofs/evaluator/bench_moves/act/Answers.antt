@@ -1,11 +1,11 @@
 use Rattle.std.proofs.Common.{◌≡◌, ◌-◌, ◌∷◌, [], Some, map, refl, sym, subst}
 use Rattle.std.specs.Prelude.{pos}
-use Rattle.pliron_bench.specs.declared.kind.BenchKind.TheVariants.{Func, Const, Pair, Sink, Scope, Cbr}
+use Rattle.pliron_dialect_bench.specs.declared.kind.BenchKind.TheVariants.{Func, Const, Pair, Sink, Scope, Cbr}
 use Rattle.pliron_laws.specs.Datum.{Number, Give, Goto, Leave, datum_of as content_of}
 use Rattle.pliron_laws.specs.Tree.{Operation, op_at, shape_of}
-use Rattle.pliron_roles.specs.Counted.{first_edge_count, two_counts, values_of_edge}
-use Rattle.pliron_roles.specs.Roles.{act_of, first_attribute, fit_data as fit_or_empty}
-use Rattle.pliron_bench.specs.BenchMoves.{bench, bench_role, bench_value, edge_taken}
+use Rattle.pliron_dialect.specs.Counted.{first_edge_count, two_counts, values_of_edge}
+use Rattle.pliron_dialect.specs.Roles.{act_of, first_attribute, fit_data as fit_or_empty}
+use Rattle.pliron_dialect_bench.specs.BenchMoves.{bench, bench_role, bench_value, edge_taken}
 use Rattle.pliron_evaluator.specs.Evaluator.{datum_of_value}
 use Rattle.pliron_evaluator.proofs.BenchActs.{acts, by_head, by_operands, by_results, by_entry, by_target}
 use Rattle.pliron_evaluator.proofs.evaluator.bench_moves.act.Goals as goal

@@ -1,6 +1,6 @@
 use Rattle.std.proofs.Common.{◌-◌, map, ap, ◌∙◌}
 use Rattle.pliron_laws.specs.Datum.{Goto}
-use Rattle.pliron_roles.specs.Counted.{first_edge_count, two_counts, values_of_edge}
+use Rattle.pliron_dialect.specs.Counted.{first_edge_count, two_counts, values_of_edge}
 use Rattle.pliron_evaluator.specs.Evaluator.{datum_of_value}
 use Rattle.pliron_evaluator.proofs.BenchActs.{along_edge}
 use Rattle.pliron_evaluator.proofs.evaluator.bench_moves.cbr_move.Goals as goal

@@ -1,5 +1,5 @@
 use Rattle.std.proofs.Common.{refl, sym, ◌∙◌}
-use Rattle.pliron_bench.specs.BenchMoves.{datum_at, fit_data}
+use Rattle.pliron_dialect_bench.specs.BenchMoves.{datum_at, fit_data}
 use Rattle.pliron_evaluator.proofs.EvaluatorLemmas.{fitted_more, fitted_done}
 use Rattle.pliron_evaluator.proofs.BenchActs.{fitted_begins, datum_behind}
 use Rattle.pliron_evaluator.proofs.evaluator.bench_moves.fit_data.Goals as goal

@@ -1,5 +1,5 @@
 use Rattle.std.proofs.Common.{◌≡◌, ◌++◌, ◌-◌, drop, map}
-use Rattle.pliron_bench.specs.BenchMoves.{fit_data}
+use Rattle.pliron_dialect_bench.specs.BenchMoves.{fit_data}
 use Rattle.pliron_evaluator.specs.Evaluator.{datum_of_value}
 use Rattle.pliron_evaluator.proofs.evaluator.bench_moves.fit_data.Given as goal
 

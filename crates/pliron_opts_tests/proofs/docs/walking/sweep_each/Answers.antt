@@ -1,5 +1,5 @@
 use Rattle.std.proofs.Common.{sym, ◌∙◌}
-use Rattle.pliron_bench.specs.BenchMoves.{bench}
+use Rattle.pliron_dialect_bench.specs.BenchMoves.{bench}
 use Rattle.pliron_theory.proofs.ChangeLemmas.{change_trans}
 use Rattle.pliron_pass_rewrites.proofs.StatusLemmas.{unchanged_by_both}
 use Rattle.pliron_opts_tests.proofs.docs.walking.sweep_each.Goals as goal

@@ -1,5 +1,5 @@
 use Rattle.std.proofs.Common.{◌≡◌}
-use Rattle.pliron_bench.specs.BenchMoves.{bench}
+use Rattle.pliron_dialect_bench.specs.BenchMoves.{bench}
 use Rattle.pliron_core.specs.declared.attrs.IRStatus.TheVariants.{Unchanged}
 use Rattle.pliron_theory.specs.Change.{IsPassChange}
 use Rattle.pliron_opts_tests.proofs.docs.walking.sweep_each.Given as goal

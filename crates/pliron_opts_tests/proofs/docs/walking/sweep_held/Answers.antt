@@ -1,7 +1,7 @@
 use Rattle.pliron_core.specs.Tree.IsInside.{Directly}
 use Rattle.pliron_core.proofs.HoldingLemmas.{holder_live}
 use Rattle.pliron_theory.proofs.ChangeLemmas.{linked_inside, change_widen, whole_passes}
-use Rattle.pliron_bench.specs.BenchMoves.{bench}
+use Rattle.pliron_dialect_bench.specs.BenchMoves.{bench}
 use Rattle.pliron_opts_tests.proofs.docs.walking.sweep_held.Goals as goal
 
 pub dce-swept-requires-clause-live : goal.dce-swept-requires-clause-live

@@ -2,7 +2,7 @@ use Rattle.std.proofs.Common.{◌≡◌, refl, sym, subst, ℕ, nat_eq, List, []
 use Rattle.pliron_core.specs.Tree.{Tree}
 use Rattle.pliron_core.specs.declared.attrs.IRStatus.{IRStatus}
 use Rattle.pliron_core.specs.declared.attrs.IRStatus.TheVariants.{Changed, Unchanged}
-use Rattle.pliron_bench.specs.BenchMoves.{bench}
+use Rattle.pliron_dialect_bench.specs.BenchMoves.{bench}
 use Rattle.pliron_theory.proofs.ChangeLemmas.{whole_passes}
 use Rattle.pliron_pass.specs.Cache.{IsFresh, retained}
 use Rattle.pliron_pass.proofs.FreshLemmas.{fresh_emptied}

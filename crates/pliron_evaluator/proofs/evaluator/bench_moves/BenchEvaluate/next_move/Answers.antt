@@ -1,6 +1,6 @@
 use Rattle.std.proofs.Common.{map, subst}
 use Rattle.pliron_laws.specs.Answers.{ReadsHead}
-use Rattle.pliron_bench.specs.Bench.{kind_of}
+use Rattle.pliron_dialect_bench.specs.Bench.{kind_of}
 use Rattle.pliron_evaluator.specs.Evaluator.{datum_of_value}
 use Rattle.pliron_evaluator.proofs.BenchActs.{moves, others_trap}
 use Rattle.pliron_evaluator.proofs.evaluator.bench_moves.BenchEvaluate.next_move.Goals as goal

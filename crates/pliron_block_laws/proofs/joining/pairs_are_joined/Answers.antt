@@ -1,5 +1,0 @@
-use Rattle.pliron_block_laws.proofs.JoinedPairs.{joining}
-use Rattle.pliron_block_laws.proofs.joining.pairs_are_joined.Goals as goal
-
-pub returns : goal.returns
-returns g c = joining _ _ _ _ g.met.D.Dialect.forwards_operands

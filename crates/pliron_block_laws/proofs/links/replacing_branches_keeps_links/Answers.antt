@@ -1,5 +1,0 @@
-use Rattle.pliron_block_laws.proofs.RebranchedLinks.{rebranched_links}
-use Rattle.pliron_block_laws.proofs.links.replacing_branches_keeps_links.Goals as goal
-
-pub returns : goal.returns
-returns c = rebranched_links

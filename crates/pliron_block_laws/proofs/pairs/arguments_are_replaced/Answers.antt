@@ -1,5 +1,0 @@
-use Rattle.pliron_block_laws.proofs.PairEdges.{replacing}
-use Rattle.pliron_block_laws.proofs.pairs.arguments_are_replaced.Goals as goal
-
-pub returns : goal.returns
-returns g c = replacing _ _ _ _ g.met.D.Dialect.forwards_operands

@@ -1,2 +1,0 @@
-pub mod RangeReads
-pub mod JumpLemmas

@@ -1,6 +1,0 @@
-use Rattle.std.proofs.Common.{◌≡◌, [], take}
-use Rattle.pliron_laws.specs.Replacing.{with_edges}
-use Rattle.pliron_branches.proofs.replace.add_edge.Given as goal
-
-abbrev pub invariant-loop-j : goal.invariant-loop-j
-invariant-loop-j l = l.ctx.tree ≡ with_edges l.fn.ctx.tree l.jump (take l.j l.values) []

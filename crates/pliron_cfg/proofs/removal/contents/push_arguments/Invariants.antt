@@ -1,6 +1,0 @@
-use Rattle.std.proofs.Common.{◌≡◌, ◌++◌, take}
-use Rattle.pliron_core.specs.Tree.{arguments_of}
-use Rattle.pliron_cfg.proofs.removal.contents.push_arguments.Given as goal
-
-abbrev pub invariant-loop-i : goal.invariant-loop-i
-invariant-loop-i l = l.values.items ≡ l.fn.values.items ++ take l.i (arguments_of l.ctx.tree l.block)

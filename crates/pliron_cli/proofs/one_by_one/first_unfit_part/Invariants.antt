@@ -1,5 +1,0 @@
-use Rattle.pliron_cli.proofs.PartLemmas.{IsSearched}
-use Rattle.pliron_cli.proofs.one_by_one.first_unfit_part.Given as goal
-
-abbrev pub invariant-loop-op : goal.invariant-loop-op
-invariant-loop-op g l = IsSearched g.D.HasMeaning.meaning l.ctx.tree l.fn.root l.op-iterator

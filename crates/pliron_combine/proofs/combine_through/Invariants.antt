@@ -1,9 +1,0 @@
-use Rattle.pliron_views.proofs.ShownLemmas.{tables}
-use Rattle.pliron_combine.specs.Steps.{AreDone}
-use Rattle.pliron_combine.proofs.combine_through.Given as goal
-
-abbrev pub invariant-loop-left : goal.invariant-loop-left
-invariant-loop-left g l = AreDone (tables g.D.HasMeaning.meaning g.D.SideEffects.side_effects g.D.ConstFoldInterface.can_fold g.D.ConstFoldInterface.constants g.D.ConstFoldInterface.accepts g.D.ConstFoldInterface.constant_head) g.L.Rules.rules l.fn.ctx.tree l.ctx.tree l.op l.limit l.left (λ k. ⊥)
-
-abbrev pub decreases-loop-left : goal.decreases-loop-left
-decreases-loop-left g l = l.left

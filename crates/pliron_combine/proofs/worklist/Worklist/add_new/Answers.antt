@@ -1,6 +1,0 @@
-use Rattle.pliron_order.specs.Numbering.{key_eq}
-use Rattle.pliron_combine.proofs.Listing.{inserted_more}
-use Rattle.pliron_combine.proofs.worklist.Worklist.add_new.Goals as goal
-
-pub returns-clause-seen : goal.returns-clause-seen
-returns-clause-seen c = inserted_more key_eq c.args.self.now.seen.keys _ c.args.op c.in_ok-place.ensures.keys

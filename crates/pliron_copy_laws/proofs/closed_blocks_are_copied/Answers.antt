@@ -1,5 +1,0 @@
-use Rattle.pliron_copy_laws.proofs.BlockCopied.{block_copied_keeps}
-use Rattle.pliron_copy_laws.proofs.closed_blocks_are_copied.Goals as goal
-
-pub returns : goal.returns
-returns c = block_copied_keeps

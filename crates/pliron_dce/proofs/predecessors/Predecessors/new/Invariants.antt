@@ -1,5 +1,0 @@
-use Rattle.pliron_dce.specs.Predecessors.{mark_of, AreMarked}
-use Rattle.pliron_dce.proofs.predecessors.Predecessors.new.Given as goal
-
-abbrev pub invariant-loop-block : goal.invariant-loop-block
-invariant-loop-block g l = AreMarked g.D.HasMeaning.meaning l.ctx.tree l.root (λ b. mark_of l.known b)

@@ -1,6 +1,0 @@
-use Rattle.std.proofs.Common.{◌≡◌, ◌++◌, map, take}
-use Rattle.pliron_diagnostics.specs.Isolated.{blank_of}
-use Rattle.pliron_diagnostics.proofs.isolated.push_blanks.Given as goal
-
-abbrev pub invariant-loop-byte : goal.invariant-loop-byte
-invariant-loop-byte l = l.text.items ≡ l.fn.text.items ++ map blank_of (take l.byte-index l.bytes)

@@ -1,0 +1,7 @@
+mod NumberLemmas
+mod RoleReads
+mod EdgeLemmas
+mod BranchReads
+mod FitReads
+pub mod RangeReads
+pub mod JumpLemmas

@@ -1,0 +1,15 @@
+pub mod Counted
+pub mod Identities
+pub mod Roles
+pub mod Parts
+pub mod CountLaws
+pub mod FoldLaws
+pub mod BranchLaws
+pub mod Replacing
+pub mod Outcomes
+pub mod Monotone
+pub mod OperandFolds
+pub mod OperandFacts
+pub mod OperandLaws
+pub mod Counts
+pub mod Ranges

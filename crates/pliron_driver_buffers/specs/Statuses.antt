@@ -1,0 +1,30 @@
+-- What calls from other languages answer.
+use Rattle.std.specs.Prelude.{ℕ}
+use Rattle.pliron_laws.specs.declared.fault.OptError.{OptError}
+use Rattle.pliron_laws.specs.declared.fault.OptError.TheVariants.{Memory as WantOfMemory, LiveUse, VerifyBefore, VerifyAfter, Pass}
+use Rattle.pliron_driver_buffers.specs.declared.status.Failure.{Failure}
+use Rattle.pliron_driver_buffers.specs.declared.status.Failure.TheVariants.{Arguments as ByArguments, Text as ByText, Refused as ByPasses, Memory as ByMemory}
+use Rattle.pliron_driver_buffers.specs.declared.status.Status.{Status}
+use Rattle.pliron_driver_buffers.specs.declared.status.Status.TheVariants.{Answered, Refused, Text, Arguments, TooSmall, Memory}
+
+-- the numbers by which other languages know them
+abbrev pub number_of : Status → ℕ
+number_of Answered = 0
+number_of Refused = 1
+number_of Text = 2
+number_of Arguments = 3
+number_of TooSmall = 4
+number_of Memory = 5
+
+abbrev pub status_of : Failure → Status
+status_of ByArguments = Arguments
+status_of ByText = Text
+status_of ByPasses = Refused
+status_of ByMemory = Memory
+
+abbrev pub failure_of : OptError → Failure
+failure_of WantOfMemory = ByMemory
+failure_of LiveUse = ByPasses
+failure_of VerifyBefore = ByPasses
+failure_of VerifyAfter = ByPasses
+failure_of (Pass code) = ByPasses

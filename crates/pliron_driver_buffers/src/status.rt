@@ -1,0 +1,97 @@
+//! What calls answer, and why no answer is known.
+ghost use Rattle.std.specs.Prelude.{◌≡◌, ◌≢◌};
+ghost use Rattle.pliron_driver_buffers.specs.declared.status.Failure.TheVariants.{Memory as ByMemory};
+
+use pliron_laws::OptError;
+use std::alloc::AllocError;
+use thiserror::Error;
+
+/// Why no answer is known.
+#[derive(Clone, Copy, Debug, Drop, PartialEq, Eq, Error)]
+pub enum Failure {
+    /// The list isn't one of names of passes.
+    #[error("words that ask for nothing")]
+    Arguments,
+    /// The text is outside the notation, or longer than texts may be.
+    #[error("unreadable text")]
+    Text,
+    /// The passes gave up.
+    #[error("refused")]
+    Refused,
+    /// Memory that was asked for was refused.
+    #[error("want of memory")]
+    Memory,
+}
+
+impl From<AllocError> for Failure {
+    ghost from_gives = { λ _ failure. failure ≡ ByMemory };
+
+    fn from(_refused: AllocError) -> Failure {
+        Failure::Memory
+    }
+}
+
+/// What a call answers.
+#[derive(Clone, Copy, Debug, PartialEq, Eq)]
+pub enum Status {
+    /// The answer is in the buffer.
+    Answered,
+    /// The passes gave up.
+    Refused,
+    /// The text is outside the notation, or longer than texts may be.
+    Text,
+    /// The list isn't one of names of passes.
+    Arguments,
+    /// The answer is longer than the buffer.
+    TooSmall,
+    /// Memory that was asked for was refused.
+    Memory,
+}
+
+impl Failure {
+    ghost use Rattle.pliron_driver_buffers.specs.Statuses.{failure_of, status_of};
+
+    /// The failure of a call that gave up so. Cost: constant.
+    pub fn of(error: OptError) -> Self
+        ensures value { result ≡ failure_of error }
+        ensures later { result ≢ Failure.Arguments }
+    {
+        match error {
+            OptError::Memory => Failure::Memory,
+            OptError::LiveUse
+            | OptError::VerifyBefore
+            | OptError::VerifyAfter
+            | OptError::Pass(_) => Failure::Refused,
+        }
+    }
+
+    /// The status that reports it. Cost: constant.
+    pub fn status(self) -> Status
+        ensures { result ≡ status_of self }
+    {
+        match self {
+            Failure::Arguments => Status::Arguments,
+            Failure::Text => Status::Text,
+            Failure::Refused => Status::Refused,
+            Failure::Memory => Status::Memory,
+        }
+    }
+}
+
+impl Status {
+    ghost use Rattle.pliron_driver_buffers.specs.Statuses.{number_of};
+
+    /// The number by which other languages know it. Cost: constant.
+    pub fn number(self) -> u32
+        ensures { result ≡ number_of self }
+    {
+        match self {
+            Status::Answered => 0,
+            Status::Refused => 1,
+            Status::Text => 2,
+            Status::Arguments => 3,
+            Status::TooSmall => 4,
+            Status::Memory => 5,
+        }
+    }
+}

@@ -1,0 +1,53 @@
+//! Modules of MLIR in notations whose texts proofs know by name alone.
+ghost use Rattle.pliron_driver.specs.Read.{PrintsKinds};
+ghost use Rattle.pliron_driver_mlir.specs.Modules.{ReadsModule};
+ghost use Rattle.pliron_driver.specs.Closed.{closed_reads, closed_prints};
+
+use crate::failure::{ModuleFailure, ModuleFault};
+use crate::notation::{GenericForm, ModuleDocument};
+use pliron_core::Context;
+use pliron_dialect_mlir::{AnyMeaning, Mlir};
+use pliron_driver::{Closed, Notation};
+use pliron_laws::{HasMeaning, OptError};
+use pliron_text_mlir_reader::Sheet;
+use std::alloc::Global;
+use std::marker::PhantomData;
+
+/// The generic form of MLIR under [`AnyMeaning`].
+type MlirForm = GenericForm<Mlir<AnyMeaning>>;
+
+/// The generic form of MLIR under [`AnyMeaning`], closed to proofs: the notation of the programs. It has a name of its
+/// own, since a clause on [`Closed`] at that notation is more than a check has steps for.
+pub struct ClosedForm(PhantomData<Sheet>);
+
+impl Notation for ClosedForm {
+    type D = Mlir<AnyMeaning>;
+
+    type Sheet = Sheet;
+
+    type Fault = ModuleFault;
+
+    ghost reads = { closed_reads (ReadsModule ⟦<Mlir<AnyMeaning> as HasMeaning>⟧.meaning) };
+
+    ghost prints = { closed_prints PrintsKinds };
+
+    fn read_document(
+        alloc: Global,
+        text: &[u8],
+        ctx: &mut Context,
+    ) -> Result<ModuleDocument, ModuleFailure> {
+        Closed::<MlirForm>::read_document(alloc, text, ctx)
+    }
+
+    fn print_document(
+        alloc: Global,
+        document: &ModuleDocument,
+        ctx: &Context,
+    ) -> Result<Vec<u8>, OptError> {
+        Closed::<MlirForm>::print_document(alloc, document, ctx)
+    }
+
+    fn empty_sheet(alloc: Global) -> Sheet {
+        Closed::<MlirForm>::empty_sheet(alloc)
+    }
+}

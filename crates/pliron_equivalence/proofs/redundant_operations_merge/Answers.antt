@@ -1,5 +1,0 @@
-use Rattle.pliron_equivalence.proofs.Merging.{merging}
-use Rattle.pliron_equivalence.proofs.redundant_operations_merge.Goals as goal
-
-pub returns : goal.returns
-returns g c = merging _ _ g.met.D.Dialect.keeps_counts g.met.D.Dialect.gives_at_once

@@ -1,5 +1,0 @@
-use Rattle.pliron_equivalence.proofs.Given.{results_given}
-use Rattle.pliron_equivalence.proofs.results_are_as_given.Goals as goal
-
-pub returns : goal.returns
-returns c = results_given

@@ -1,5 +1,0 @@
-use Rattle.pliron_equivalence.proofs.Current.{results_current}
-use Rattle.pliron_equivalence.proofs.results_are_current.Goals as goal
-
-pub returns : goal.returns
-returns c = results_current

@@ -1,7 +1,0 @@
-use Rattle.std.proofs.Common.{◌≡◌, ◌<◌, ℕ, Some, slice_get}
-use Rattle.pliron_core.specs.Tree.{results_of}
-use Rattle.pliron_fit.specs.Checks.{IsUsedInside}
-use Rattle.pliron_fit.proofs.operations.check_results.Given as goal
-
-abbrev pub invariant-loop-i : goal.invariant-loop-i
-invariant-loop-i g l = (j v : ℕ) → j < l.i → slice_get (results_of l.ctx.tree l.op) j ≡ Some v → IsUsedInside l.ctx.tree l.root v

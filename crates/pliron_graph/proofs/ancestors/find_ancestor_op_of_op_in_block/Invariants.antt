@@ -1,9 +1,0 @@
-use Rattle.pliron_graph.specs.Ancestors.{IsAtOrAbove, IsDirectlyInBlock}
-use Rattle.pliron_graph.proofs.AncestorLemmas.{IsClimb, left_above}
-use Rattle.pliron_graph.proofs.ancestors.find_ancestor_op_of_op_in_block.Given as goal
-
-abbrev pub invariant-loop-at : goal.invariant-loop-at
-invariant-loop-at l = IsClimb l.ctx.tree (IsAtOrAbove l.ctx.tree l.fn.op) (IsDirectlyInBlock l.ctx.tree l.block) l.at
-
-abbrev pub decreases-loop-at : goal.decreases-loop-at
-decreases-loop-at l = left_above l.ctx.tree l.at

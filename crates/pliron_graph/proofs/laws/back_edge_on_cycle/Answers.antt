@@ -1,5 +1,0 @@
-use Rattle.pliron_graph.proofs.LawLemmas as laws
-use Rattle.pliron_graph.proofs.laws.back_edge_on_cycle.Goals as goal
-
-pub returns : goal.returns
-returns g c = λ graph roots o lawful search. laws.back_edge_on_cycle g.N.PartialEq.eq g.met.N.Eq.laws.refl graph roots o lawful search

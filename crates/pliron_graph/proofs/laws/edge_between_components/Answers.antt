@@ -1,5 +1,0 @@
-use Rattle.pliron_graph.proofs.ComponentLawLemmas as laws
-use Rattle.pliron_graph.proofs.laws.edge_between_components.Goals as goal
-
-pub returns : goal.returns
-returns g c = λ graph components lawful are i j a b at_a at_b u v hu hv e. laws.between_components g.N.PartialEq.eq graph components are i j a b at_a at_b u v hu hv e

@@ -1,5 +1,0 @@
-use Rattle.pliron_graph.proofs.PathLemmas.{path_reaches, reaches_path}
-use Rattle.pliron_graph.proofs.laws.paths_of_regions.Goals as goal
-
-pub returns : goal.returns
-returns c = λ t region lawful a b member. (λ p. path_reaches t region lawful a b p.0 p.1, λ q. reaches_path t region lawful a b member q)

@@ -1,0 +1,13 @@
+pub use Rattle.pliron_graph_traversal.specs.Digraph
+pub use Rattle.pliron_graph_traversal.specs.Search
+pub use Rattle.pliron_graph_traversal.specs.Walks
+pub use Rattle.pliron_graph_traversal.specs.EdgeKinds
+pub use Rattle.pliron_graph_traversal.specs.Adjacency
+pub use Rattle.pliron_graph_traversal.specs.Regions
+pub mod Components
+pub mod Laws
+pub mod NumberingLaws
+pub mod Reverse
+pub mod ReverseLaws
+pub mod Ancestors
+pub mod Internal

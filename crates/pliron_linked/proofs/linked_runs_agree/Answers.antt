@@ -1,5 +1,0 @@
-use Rattle.pliron_linked.proofs.LinkedAgree.{linked_agree}
-use Rattle.pliron_linked.proofs.linked_runs_agree.Goals as goal
-
-pub returns : goal.returns
-returns c = linked_agree

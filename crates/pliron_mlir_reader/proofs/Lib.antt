@@ -1,3 +1,0 @@
-pub mod SaidLemmas
-pub mod TakenLemmas
-pub mod KnownLemmas

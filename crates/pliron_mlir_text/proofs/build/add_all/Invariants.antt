@@ -1,5 +1,0 @@
-use Rattle.pliron_mlir_text.specs.Additions.{AddsTaken}
-use Rattle.pliron_mlir_text.proofs.build.add_all.Given as goal
-
-abbrev pub invariant-loop-number : goal.invariant-loop-number
-invariant-loop-number l = AddsTaken l.fn.ctx.tree l.ctx.tree

@@ -1,5 +1,0 @@
-use Rattle.std.proofs.Common.{◌≡◌}
-use Rattle.pliron_mlir_text.proofs.build.add_blocks.Given as goal
-
-abbrev pub invariant-loop-number : goal.invariant-loop-number
-invariant-loop-number l = l.ctx.tree.operations ≡ l.fn.ctx.tree.operations

@@ -1,5 +1,0 @@
-use Rattle.std.proofs.Common.{◌≡◌}
-use Rattle.pliron_mlir_text.proofs.build.connect_operands.Given as goal
-
-abbrev pub invariant-loop-at : goal.invariant-loop-at
-invariant-loop-at l = l.ctx.tree.operations ≡ l.fn.ctx.tree.operations

@@ -1,9 +1,0 @@
-use Rattle.std.proofs.Common.{drop}
-use Rattle.pliron_notation.specs.declared.syntax.PartCounts.{PartCounts}
-use Rattle.pliron_notation.specs.Notation.{IsOrdered}
-use Rattle.pliron_notation.specs.Building.{AreLive, BuildingContinues, HasMade}
-use Rattle.pliron_notation.specs.Laid.{LaysOn}
-use Rattle.pliron_notation.proofs.build.make_all.Given as goal
-
-abbrev pub invariant-loop-step : goal.invariant-loop-step
-invariant-loop-step l = BuildingContinues l.fn.ctx.tree l.fn.built l.ctx.tree l.built × AreLive l.ctx.tree l.built × ((m : PartCounts) × HasMade l.built m × IsOrdered l.syntax m (drop l.step-index l.syntax.steps.items)) × LaysOn l.syntax l.fn.ctx.tree l.fn.built l.ctx.tree l.built

@@ -1,7 +1,0 @@
-use Rattle.std.proofs.Common.{ℕ, ◌≡◌, ◌<◌, Some, slice_get}
-use Rattle.pliron_notation.specs.declared.syntax.OperationText.{OperationText}
-use Rattle.pliron_notation.specs.Notation.{IsSoundOperation}
-use Rattle.pliron_notation.proofs.syntax.Syntax.are_operations_sound.Given as goal
-
-abbrev pub invariant-loop-number : goal.invariant-loop-number
-invariant-loop-number l = (n : ℕ) (o : OperationText) → n < l.number → slice_get l.self.operations.items n ≡ Some o → IsSoundOperation l.self n o

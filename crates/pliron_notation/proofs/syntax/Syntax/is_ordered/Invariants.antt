@@ -1,6 +1,0 @@
-use Rattle.std.proofs.Common.{drop}
-use Rattle.pliron_notation.specs.Notation.{IsOrdered, first_made}
-use Rattle.pliron_notation.proofs.syntax.Syntax.is_ordered.Given as goal
-
-abbrev pub invariant-loop-step : goal.invariant-loop-step
-invariant-loop-step l = IsOrdered l.self l.made (drop l.step-index l.self.steps.items) → IsOrdered l.self (first_made l.self.root) l.self.steps.items

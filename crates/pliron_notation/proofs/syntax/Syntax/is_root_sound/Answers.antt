@@ -1,6 +1,0 @@
-use Rattle.std.proofs.Common.{rules, arith, subst}
-use Rattle.pliron_notation.specs.Notation.{AllBelow}
-use Rattle.pliron_notation.proofs.syntax.Syntax.is_root_sound.Goals as goal
-
-pub returns : goal.returns
-returns c = λ h. record { operands = subst (AllBelow c.args.self.now.values) c.as_slice.ensures (c.are_below.ensures h); no_successors = search (rules, arith) }

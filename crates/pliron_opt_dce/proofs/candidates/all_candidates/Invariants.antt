@@ -1,0 +1,17 @@
+use Rattle.std.proofs.Common.{length}
+use Rattle.std.specs.Option.{ForSome}
+use Rattle.pliron_core.specs.Tree.{IsWithin}
+use Rattle.pliron_core.specs.Walks.{preorder}
+use Rattle.pliron_core.specs.WalkSteps.{rest_from}
+use Rattle.pliron_laws.proofs.PassedLemmas.{ArePassed}
+use Rattle.pliron_opt_dce.specs.Worklist.{items_of, IsCovered}
+use Rattle.pliron_opt_dce.proofs.candidates.all_candidates.Given as goal
+
+abbrev pub invariant-loop-at : goal.invariant-loop-at
+invariant-loop-at l = record {
+  within : ForSome l.at (λ k. IsWithin l.ctx.tree l.root k);
+  passed : ArePassed (λ k. IsCovered l.ctx.tree l.root (items_of l.worklist.items) k) (preorder l.ctx.tree l.root) l.at;
+}
+
+abbrev pub decreases-loop-at : goal.decreases-loop-at
+decreases-loop-at l = length (rest_from l.at (preorder l.ctx.tree l.root))

@@ -1,0 +1,11 @@
+use Rattle.std.proofs.Common.{◌∷◌, [], length}
+use Rattle.pliron_core.specs.Tree.{layout_of}
+use Rattle.pliron_core.specs.WalkSteps.{rest_from}
+use Rattle.pliron_theory.proofs.Listing.{IsListing}
+use Rattle.pliron_opt_sccp.proofs.inside.list_region.Given as goal
+
+abbrev pub invariant-loop-at : goal.invariant-loop-at
+invariant-loop-at l = IsListing (λ b. b ∷ []) (layout_of l.ctx.tree l.fn.region) l.initial.blocks.items l.blocks.items l.at
+
+abbrev pub decreases-loop-at : goal.decreases-loop-at
+decreases-loop-at l = length (rest_from l.at (layout_of l.ctx.tree l.fn.region))

@@ -1,5 +1,0 @@
-use Rattle.pliron_opts.proofs.ClosedLemmas.{document_printed}
-use Rattle.pliron_opts.proofs.driver.closed.ClosedNotation.print_document.Goals as goal
-
-pub returns : goal.returns
-returns g c = document_printed _ _ _ (λ printed. printed.items) c.print_document.result c.print_document.ensures

@@ -1,0 +1,15 @@
+pub mod Equations
+pub mod Replacements
+pub mod PutBefore
+pub mod Inserted
+pub mod MadeOperations
+pub mod PureOperations
+pub mod Agreement
+pub mod Growing
+pub mod RuleKeeps
+pub mod ShownLemmas
+pub mod Applying
+pub mod Putting
+pub mod Erasing
+pub mod AppliedRules
+pub mod LocalChanges

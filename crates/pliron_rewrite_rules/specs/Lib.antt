@@ -1,0 +1,10 @@
+pub mod Equations
+pub mod Replacements
+pub mod Insertions
+pub mod Views
+pub mod RuleLaws
+pub mod Tables
+pub mod Seen
+pub mod Rewriting
+pub mod Putting
+pub mod Applying

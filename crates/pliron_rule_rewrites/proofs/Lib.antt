@@ -1,4 +1,0 @@
-pub mod Putting
-pub mod Erasing
-pub mod AppliedRules
-pub mod LocalChanges

@@ -1,5 +1,0 @@
-pub mod Equations
-pub mod Replacements
-pub mod PutBefore
-pub mod Inserted
-pub mod MadeOperations

@@ -1,5 +1,0 @@
-use Rattle.pliron_rules.proofs.Inserted.{inserted_laws}
-use Rattle.pliron_rules.proofs.operations_are_inserted.Goals as goal
-
-pub returns : goal.returns
-returns g c = inserted_laws _ g.met.D.Dialect.keeps_counts

@@ -1,3 +1,0 @@
-pub mod Equations
-pub mod Replacements
-pub mod Insertions

@@ -1,0 +1,22 @@
+//! The laws on linked runs and on rewrite rules.
+use pliron_dialect_bench::Bench;
+use pliron_pass_linked::{linked_runs_agree, linked_runs_agree_on_inputs, linked_runs_kept};
+use pliron_rewrite_rules::{
+    equal_values_replace_one_another, leaves_replace_results, operations_are_inserted,
+    results_before_replace_results,
+};
+
+#[test]
+fn laws_of_linked_runs(_rt: HostRuntime) {
+    linked_runs_agree();
+    linked_runs_agree_on_inputs();
+    linked_runs_kept();
+}
+
+#[test]
+fn laws_of_rules(_rt: HostRuntime) {
+    equal_values_replace_one_another::<Bench>();
+    leaves_replace_results::<Bench>();
+    results_before_replace_results::<Bench>();
+    operations_are_inserted::<Bench>();
+}

@@ -1,9 +1,0 @@
-use Rattle.std.proofs.Common.{◌≡◌, Some}
-use Rattle.pliron_core.specs.Tree.{arguments_of}
-use Rattle.pliron_laws.specs.Tree.{Operation, op_at}
-use Rattle.pliron_sccp.specs.LatticeTables.{known_constants, lattice_values_of}
-use Rattle.pliron_sccp.specs.Constraints.{Adds, EachBefore, GetsNamed}
-use Rattle.pliron_sccp.proofs.constraints.constrain_named_entry.Given as goal
-
-abbrev pub invariant-loop-j : goal.invariant-loop-j
-invariant-loop-j g l = (o : Operation) → op_at l.ctx.tree l.entry.op ≡ Some o → Adds (known_constants l.tables) l.initial.constraints.items l.constraints.items (λ now. EachBefore (arguments_of l.ctx.tree l.entry.block) l.j (GetsNamed (record { meaning = g.D.HasMeaning.meaning; can_fold = g.D.ConstFoldInterface.can_fold; can_fold_branch = g.D.BranchOpFoldInterface.can_fold_branch; constants = g.D.ConstFoldInterface.constants; feasible = g.D.BranchOpFoldInterface.feasible; entry_operands = g.D.RegionBranchOpInterface.entry_operands }) l.ctx.tree (lattice_values_of l.tables) o l.entry.region now))

@@ -1,5 +1,0 @@
-use Rattle.pliron_sccp.specs.RewriteSteps.{IsPuttingOn}
-use Rattle.pliron_sccp.proofs.rewrite.put_all.Given as goal
-
-abbrev pub invariant-loop-i : goal.invariant-loop-i
-invariant-loop-i g l = IsPuttingOn (record { meaning = g.D.HasMeaning.meaning; can_fold = g.D.ConstFoldInterface.can_fold; can_fold_branch = g.D.BranchOpFoldInterface.can_fold_branch; constants = g.D.ConstFoldInterface.constants; feasible = g.D.BranchOpFoldInterface.feasible; entry_operands = g.D.RegionBranchOpInterface.entry_operands }) g.D.ConstFoldInterface.accepts g.D.ConstFoldInterface.constant_head l.fn.ctx.tree l.arguments l.i l.status l.ctx.tree

@@ -1,0 +1,356 @@
+//! Runs, as users see them.
+ghost use Rattle.std.specs.Prelude.{◌≡◌, map, IfOk};
+ghost use Rattle.pliron_laws.specs.Datum.{Number as NumberOf};
+ghost use Rattle.pliron_laws.specs.Machine.{run, sight_after as sight_seen};
+ghost use Rattle.pliron_dialect_bench.specs.BenchMoves.{bench};
+ghost use Rattle.pliron_evaluator.specs.Evaluator.{datum_of_value, sight_of};
+
+use crate::operation_ranges::{operation_places, place_of};
+use crate::source_mark::{Source, SourceMark, mark_source_as, push_bytes};
+use crate::text_parts::TextPart;
+use crate::trap_reason::{TrapReason, reason_by_kind, reason_of};
+use pliron_core::{Context, Operation, Ptr};
+use pliron_dialect_bench::Bench;
+use pliron_evaluator::evaluator::{Datum, NotedMove, Notes, RunInputs, Sight, evaluate_noting};
+use pliron_laws::OptError;
+use pliron_text::read_text;
+use std::alloc::{AllocError, Global};
+
+/// What a run is given.
+#[derive(Clone, Copy)]
+pub struct RunOptions<'w> {
+    /// The values that the operation gets.
+    pub inputs: &'w [i64],
+    /// What the world answers to its effects, in order.
+    pub world: &'w [i64],
+    /// The most moves that it makes.
+    pub steps: usize,
+    /// Whether each move is reported.
+    pub trace: bool,
+}
+
+// The numbers as data.
+fn data(alloc: Global, numbers: &[i64]) -> Result<Vec<Datum>, AllocError>
+    ensures { IfOk result (λ made. map datum_of_value made.items ≡ map NumberOf numbers.now) }
+{
+    let mut data = Vec::new(alloc);
+    for number in numbers {
+        data.push(Datum::Number(i128::from(*number)))?;
+    }
+    Ok(data)
+}
+
+// Writes a datum: a number, a word, or data in brackets.
+fn write_datum(text: &mut String, datum: &Datum) -> Result<(), AllocError> {
+    match datum {
+        Datum::Empty => text.push_str("()"),
+        Datum::Number(number) => {
+            let number = *number;
+            write!(text, "{number}")
+        }
+        Datum::Text(word) => text.push_str(word.as_str()),
+        Datum::Join(first, others) => {
+            text.push_str("(")?;
+            write_datum(text, first)?;
+            text.push_str(" ")?;
+            write_datum(text, others)?;
+            text.push_str(")")
+        }
+    }
+}
+
+// Writes the data of a list, each after a blank.
+fn write_data(text: &mut String, data: &[Datum]) -> Result<(), AllocError> {
+    for datum in data {
+        text.push_str(" ")?;
+        write_datum(text, datum)?;
+    }
+    Ok(())
+}
+
+// Writes the effects, of which the latest is first, each on a line.
+fn write_effects(text: &mut String, effects: &[Datum]) -> Result<(), AllocError> {
+    for effect in effects.iter().rev() {
+        text.push_str("effect ")?;
+        write_datum(text, effect)?;
+        text.push_str("\n")?;
+    }
+    Ok(())
+}
+
+// The effects of a run, each on a line, as they came. Errors: allocation failure. Cost: linear in them.
+pub(crate) fn effects_text(alloc: Global, sight: &Sight) -> Result<String, AllocError> {
+    let mut text = String::new(alloc);
+    match sight {
+        Sight::Ended(_, effects) | Sight::Trapped(effects) | Sight::Reached(effects) => {
+            write_effects(&mut text, effects)?;
+        }
+    }
+    Ok(text)
+}
+
+/// What is seen of a run: a line for each effect, as they came, and one that says how it ended.
+///
+/// Errors: allocation failure. Cost: linear in what is seen.
+pub fn sight_text(alloc: Global, sight: &Sight) -> Result<String, AllocError> {
+    let mut text = String::new(alloc);
+    match sight {
+        Sight::Ended(values, effects) => {
+            write_effects(&mut text, effects)?;
+            text.push_str("ended with")?;
+            if values.is_empty() {
+                text.push_str(" nothing")?;
+            }
+            write_data(&mut text, values)?;
+        }
+        Sight::Trapped(effects) => {
+            write_effects(&mut text, effects)?;
+            text.push_str("trapped")?;
+        }
+        Sight::Reached(effects) => {
+            write_effects(&mut text, effects)?;
+            text.push_str("made no further move: steps or the world's answers were used up")?;
+        }
+    }
+    text.push_str("\n")?;
+    Ok(text)
+}
+
+/// How a run came to its end.
+#[derive(Clone, Copy, Debug, Drop, PartialEq, Eq)]
+pub enum End {
+    /// It ended with values.
+    Ended,
+    /// It trapped.
+    Trapped,
+    /// The steps or the world's answers were used up.
+    Stopped,
+}
+
+/// What is reported of a run.
+#[derive(Drop)]
+pub struct RunReport {
+    /// Its effects as they came, and how it ended.
+    pub seen: String,
+    /// Its moves, where the options ask for them, and a mark under the operation that made the last one where the run
+    /// didn't end with values: why it trapped, or what cut it off.
+    pub report: String,
+    pub end: End,
+}
+
+/// How the run of which this is seen came to its end. Cost: constant.
+pub fn end_of(sight: &Sight) -> End {
+    match sight {
+        Sight::Ended(_, _) => End::Ended,
+        Sight::Trapped(_) => End::Trapped,
+        Sight::Reached(_) => End::Stopped,
+    }
+}
+
+/// What is seen of the run of the operation, with notes of its moves. Errors: allocation failure. Cost: that of
+/// `evaluate_noting`.
+pub fn run_sight(
+    alloc: Global,
+    root: Ptr<Operation>,
+    ctx: &Context,
+    options: &RunOptions,
+    notes: &mut Notes,
+) -> Result<Sight, AllocError>
+    ensures { IfOk result (λ sight. sight_of sight ≡ sight_seen
+        (run bench ctx.now.tree root (map NumberOf options.now.inputs.now) (map NumberOf options.now.world.now)
+        options.now.steps)) }
+{
+    let inputs = data(alloc, options.inputs)?;
+    let world = data(alloc, options.world)?;
+    let given = RunInputs {
+        inputs,
+        world,
+        fuel: options.steps,
+    };
+    evaluate_noting::<Bench>(alloc, ctx, root, given, notes)
+}
+
+// Writes each move: where its operation is, how it is written, and the data that it takes.
+fn write_moves(
+    report: &mut String,
+    source: &Source,
+    root: Ptr<Operation>,
+    places: &[TextPart],
+    moves: &[NotedMove],
+) -> Result<(), AllocError> {
+    for noted in moves {
+        if let Some(place) = place_of(places, root, noted.op) {
+            write!(report, "{}:{} ", place.line, place.column)?;
+            push_bytes(report, source.text, place.start, place.len)?;
+        }
+        match &noted.input {
+            Some(input) if !input.is_empty() => {
+                report.push_str(" <-")?;
+                write_data(report, input)?;
+            }
+            _ => {}
+        }
+        report.push_str("\n")?;
+    }
+    Ok(())
+}
+
+/// The most moves that are noted to find why the last one trapped.
+const MOST_NOTED: usize = 300_000;
+
+/// A run: its operation, which was read from the source, and what was asked, noted and seen.
+#[derive(Clone, Copy)]
+pub(crate) struct FinishedRun<'r> {
+    pub(crate) source: &'r Source<'r>,
+    pub(crate) root: Ptr<Operation>,
+    pub(crate) options: &'r RunOptions<'r>,
+    pub(crate) notes: &'r Notes,
+    pub(crate) sight: &'r Sight,
+}
+
+/// What is reported of the last move of a run that didn't end with values.
+#[derive(Drop)]
+struct LastMove {
+    severity: &'static str,
+    message: &'static str,
+    label: String,
+}
+
+// Why the run trapped: its moves are noted, or else it is run again to note them.
+fn trap_reason(alloc: Global, ctx: &Context, run: &FinishedRun) -> Result<TrapReason, OptError> {
+    if run.options.trace {
+        return reason_of(alloc, ctx, &run.notes.moves);
+    }
+    let mut notes = Notes::of_all(alloc);
+    let options = RunOptions {
+        steps: run.options.steps.min(MOST_NOTED),
+        ..*run.options
+    };
+    match run_sight(alloc, run.root, ctx, &options, &mut notes)? {
+        Sight::Trapped(_) => reason_of(alloc, ctx, &notes.moves),
+        _ => Ok(match run.notes.last {
+            Some(op) => reason_by_kind(ctx, op),
+            None => TrapReason::Unknown,
+        }),
+    }
+}
+
+// What is reported of the run's last move, where the run didn't end with values.
+fn last_move(
+    alloc: Global,
+    ctx: &Context,
+    run: &FinishedRun,
+) -> Result<Option<LastMove>, OptError> {
+    Ok(match run.sight {
+        Sight::Ended(_, _) => None,
+        Sight::Trapped(_) => Some(LastMove {
+            severity: "error",
+            message: "the run trapped",
+            label: trap_reason(alloc, ctx, run)?.label(alloc)?,
+        }),
+        Sight::Reached(effects) if effects.len() > run.options.world.len() => Some(LastMove {
+            severity: "note",
+            message: "the run was cut off",
+            label: format!(in alloc; "the world has no answer to effect {}", effects.len())?,
+        }),
+        Sight::Reached(_) => Some(LastMove {
+            severity: "note",
+            message: "the run was cut off",
+            label: format!(in alloc;
+                "the {} moves that it may make were made",
+                run.options.steps
+            )?,
+        }),
+    })
+}
+
+// What is reported beside what is seen: the moves that are noted, and a mark under the operation that made the last one
+// where the run didn't end with values. Errors: allocation failure. Cost: linear in the text and the moves, and where
+// the run trapped that of running it again.
+pub(crate) fn report_of(
+    alloc: Global,
+    ctx: &Context,
+    run: &FinishedRun,
+) -> Result<String, OptError> {
+    let places = operation_places(alloc, run.source.text)?;
+    let mut report = String::new(alloc);
+    write_moves(&mut report, run.source, run.root, &places, &run.notes.moves)?;
+    let place = match run.notes.last {
+        Some(op) => place_of(&places, run.root, op),
+        None => None,
+    };
+    if let Some(last) = last_move(alloc, ctx, run)?
+        && let Some(place) = place
+    {
+        let mark = SourceMark {
+            message: last.message,
+            label: last.label.as_str(),
+            name: run.source.name,
+            start: place.start,
+            len: place.len,
+        };
+        let marked = mark_source_as(alloc, last.severity, run.source.text, &mark)?;
+        report.push_str(marked.as_str())?;
+    }
+    Ok(report)
+}
+
+/// What is reported of the run of a text's operation; `None` for an unreadable text.
+///
+/// Errors: allocation failure. Cost: reading, and that of `evaluate_noting`, twice where the run trapped.
+pub fn run_text(
+    alloc: Global,
+    source: &Source,
+    options: &RunOptions,
+) -> Result<Option<RunReport>, OptError> {
+    let mut ctx = Context::new(alloc);
+    run_text_in(alloc, source, options, &mut ctx)
+}
+
+// The same in this context.
+fn run_text_in(
+    alloc: Global,
+    source: &Source,
+    options: &RunOptions,
+    ctx: &mut Context,
+) -> Result<Option<RunReport>, OptError> {
+    let Some(root) = read_text(alloc, source.text, ctx)? else {
+        return Ok(None);
+    };
+    Ok(Some(report_of_run(alloc, source, options, root, ctx)?))
+}
+
+// The notes that the options ask for. Cost: constant.
+pub(crate) fn notes_for(alloc: Global, options: &RunOptions) -> Notes {
+    if options.trace {
+        Notes::of_all(alloc)
+    } else {
+        Notes::of_last(alloc)
+    }
+}
+
+// What is reported of the run of the operation, which was read from the text.
+fn report_of_run(
+    alloc: Global,
+    source: &Source,
+    options: &RunOptions,
+    root: Ptr<Operation>,
+    ctx: &Context,
+) -> Result<RunReport, OptError> {
+    let mut notes = notes_for(alloc, options);
+    let sight = run_sight(alloc, root, ctx, options, &mut notes)?;
+    let run = FinishedRun {
+        source,
+        root,
+        options,
+        notes: &notes,
+        sight: &sight,
+    };
+    let report = report_of(alloc, ctx, &run)?;
+    let seen = sight_text(alloc, &sight)?;
+    Ok(RunReport {
+        seen,
+        report,
+        end: end_of(&sight),
+    })
+}

@@ -1,0 +1,140 @@
+//! Runs whose effects are reported while they go on.
+use crate::run_report::{
+    FinishedRun, RunOptions, RunReport, effects_text, end_of, notes_for, report_of, run_sight,
+    sight_text,
+};
+use crate::source_mark::Source;
+use pliron_core::{Context, Operation, Ptr};
+use pliron_evaluator::evaluator::{Notes, Sight};
+use pliron_laws::OptError;
+use pliron_text::read_text;
+use std::alloc::{AllocError, Global};
+
+/// Receives the effects of a run as they come.
+pub trait EffectSink {
+    /// Takes more effects, each on a line; answers whether the next ones are wanted.
+    fn accept(&mut self, lines: &[u8]) -> bool;
+}
+
+/// How many moves the first part of a run makes.
+const FIRST_MOVES: usize = 4096;
+
+/// The part of a run that is made next: each begins anew, and is four times as long as the one before.
+#[derive(Clone, Copy)]
+struct RunPart {
+    /// The most moves of this part.
+    moves: usize,
+    /// How many bytes of the effects the sink was given.
+    reported: usize,
+}
+
+// Whether the run is cut off by the moves of its part alone.
+fn continues(sight: &Sight, options: &RunOptions, moves: usize) -> bool {
+    match sight {
+        Sight::Reached(effects) => moves < options.steps && effects.len() <= options.world.len(),
+        _ => false,
+    }
+}
+
+// The bytes behind so many.
+fn bytes_behind(text: &String, reported: usize) -> &[u8] {
+    text.as_bytes().get(reported..).unwrap_or(b"")
+}
+
+impl RunPart {
+    // Gives the sink the effects that it wasn't given yet, and answers whether more are wanted.
+    fn report_effects<S: EffectSink>(
+        &mut self,
+        alloc: Global,
+        sight: &Sight,
+        sink: &mut S,
+    ) -> Result<bool, AllocError> {
+        let text = effects_text(alloc, sight)?;
+        let lines = bytes_behind(&text, self.reported);
+        let is_heard = lines.is_empty() || sink.accept(lines);
+        self.reported = text.len();
+        Ok(is_heard)
+    }
+
+    // What is reported of the run that came to this end, but for the effects that the sink was given.
+    fn report(
+        self,
+        alloc: Global,
+        ctx: &Context,
+        run: &FinishedRun,
+    ) -> Result<RunReport, OptError> {
+        let seen = sight_text(alloc, run.sight)?;
+        let rest = std::str::from_utf8(bytes_behind(&seen, self.reported)).unwrap_or("");
+        Ok(RunReport {
+            seen: String::from_str(alloc, rest)?,
+            report: report_of(alloc, ctx, run)?,
+            end: end_of(run.sight),
+        })
+    }
+}
+
+// What is reported of the run of the operation, which was read from the text, once its effects were given to the sink.
+fn report_of_parts<S: EffectSink>(
+    alloc: Global,
+    source: &Source,
+    options: &RunOptions,
+    root: Ptr<Operation>,
+    ctx: &Context,
+    sink: &mut S,
+) -> Result<Option<RunReport>, OptError> {
+    let mut part = RunPart {
+        moves: FIRST_MOVES.min(options.steps),
+        reported: 0,
+    };
+    // Each turn makes more moves.
+    for _ in 0..64 {
+        let own = RunOptions {
+            steps: part.moves,
+            ..*options
+        };
+        let mut notes: Notes = notes_for(alloc, &own);
+        let sight = run_sight(alloc, root, ctx, &own, &mut notes)?;
+        let is_heard = part.report_effects(alloc, &sight, sink)?;
+        if is_heard && continues(&sight, options, part.moves) {
+            part.moves = part.moves.saturating_mul(4).min(options.steps);
+            continue;
+        }
+        let run = FinishedRun {
+            source,
+            root,
+            options: &own,
+            notes: &notes,
+            sight: &sight,
+        };
+        return Ok(Some(part.report(alloc, ctx, &run)?));
+    }
+    Ok(None)
+}
+
+/// What is reported of the run of a text's operation, but for its effects, which the sink is given as they come: at the
+/// latest once the run made four times as many moves as before the effect. `None` for an unreadable text.
+///
+/// Errors: allocation failure. Cost: reading, and that of `evaluate_noting` for a third more moves than the run makes.
+pub fn run_text_streamed<S: EffectSink>(
+    alloc: Global,
+    source: &Source,
+    options: &RunOptions,
+    sink: &mut S,
+) -> Result<Option<RunReport>, OptError> {
+    let mut ctx = Context::new(alloc);
+    run_streamed_in(alloc, source, options, &mut ctx, sink)
+}
+
+// The same in this context.
+fn run_streamed_in<S: EffectSink>(
+    alloc: Global,
+    source: &Source,
+    options: &RunOptions,
+    ctx: &mut Context,
+    sink: &mut S,
+) -> Result<Option<RunReport>, OptError> {
+    match read_text(alloc, source.text, ctx)? {
+        Some(root) => report_of_parts(alloc, source, options, root, ctx, sink),
+        None => Ok(None),
+    }
+}

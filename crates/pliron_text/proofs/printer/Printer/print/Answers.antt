@@ -1,0 +1,7 @@
+use Rattle.std.proofs.Common.{sym, subst}
+use Rattle.pliron_text.specs.Printing.{IsStepLive}
+use Rattle.pliron_text.proofs.CheckLemmas.{stand-at}
+use Rattle.pliron_text.proofs.printer.Printer.print.Goals as goal
+
+pub print_step-requires : goal.print_step-requires
+print_step-requires g c = subst (IsStepLive c.args.ctx.now.tree) (sym c.step-item.is) (stand-at c.args.ctx.now.tree c.args.steps.now c.loop-step.step-index c.step-item.result c.requires c.loop-step-test.true)

@@ -1,0 +1,43 @@
+-- Statements.
+use Rattle.std.specs.Prelude.{◌≡◌, ℕ, ◌<◌, ◌≤◌, Bool, false, true, List, [], ◌∷◌, length, Some, IfSome, ⊤, codes}
+use Rattle.pliron_text_llvm_syntax.specs.Tokens.{bytes_of_span}
+use Rattle.pliron_text_llvm_syntax.specs.declared.tokens.Span.{Span}
+use Rattle.pliron_text_llvm_reader.specs.declared.statement.Statement.{Statement}
+use Rattle.pliron_text_llvm_reader.specs.declared.table.Gives.{Gives}
+use Rattle.pliron_text_llvm_reader.specs.declared.table.Gives.TheVariants.{Always, Never, UnlessVoid}
+use Rattle.pliron_text_llvm_reader.specs.declared.table.Row.{Row}
+use Rattle.pliron_text_llvm_reader.specs.Holes.{IsLocalAt}
+use Rattle.pliron_text_llvm_reader.specs.Table.{row_named}
+use Rattle.pliron_text_llvm_reader.specs.Words.{is_named}
+
+abbrev pub funclet_opcodes : List (List ℕ)
+funclet_opcodes =
+    codes "cleanuppad" ∷ codes "catchpad" ∷ codes "catchswitch" ∷ codes "cleanupret" ∷ codes "catchret" ∷ []
+
+abbrev pub is_funclet : List ℕ → Bool
+is_funclet opcode = is_named funclet_opcodes opcode
+
+-- a local name between these bytes
+abbrev pub IsNameBetween : List ℕ → ℕ → ℕ → Span → Type 0
+IsNameBetween text start end name =
+    IsLocalAt text name.start × (start ≤ name.start) × (name.start < name.end) × (name.end ≤ end)
+
+-- what gives a value always gives one, and what never does gives none
+abbrev pub MayGive : Gives → Bool → Type 0
+MayGive Always gives = gives ≡ true
+MayGive Never gives = gives ≡ false
+MayGive UnlessVoid gives = ⊤
+
+-- a word of the text that has this row in the table
+abbrev pub IsOpcodeOf : List ℕ → Span → Row → Type 0
+IsOpcodeOf text opcode row =
+    (opcode.start < opcode.end) × (opcode.end ≤ length text) × (row_named (bytes_of_span text opcode) ≡ Some row)
+
+-- a statement of the text from this byte on: the table has its opcode, and says whether it gives a value; the name of
+-- its result is before the opcode
+abbrev pub IsStatementOf : List ℕ → ℕ → Statement → Type 0
+IsStatementOf text start statement =
+    (start ≤ statement.opcode.start)
+    × IsOpcodeOf text statement.opcode statement.row
+    × IfSome statement.name (IsNameBetween text start statement.opcode.start)
+    × MayGive statement.row.gives statement.gives

@@ -1,0 +1,202 @@
+//! The steps of a statement, taken one after another.
+#![tactic(auto, using(crate::proofs::CursorLemmas::end_within, crate::proofs::CursorLemmas::end_place, crate::proofs::CursorLemmas::next_some, crate::proofs::StopLemmas::unread_memory))]
+
+ghost use Rattle.std.specs.Prelude.{◌≡◌, ◌∷◌, ◌++◌, [], reverse, OnOk, IfOk, IfErr, IfSome, IfNone};
+ghost use Rattle.pliron_text_llvm_reader.specs.Cursors.{text_of, tokens_of, place_of, HasNext, IsForward, HasTaken};
+ghost use Rattle.pliron_text_llvm_reader.specs.Grammar.{with_last, FitsTaking};
+ghost use Rattle.pliron_text_llvm_reader.specs.Holes.{AreHolesBetween, hole_between};
+ghost use Rattle.pliron_text_llvm_reader.specs.Readings.{behind_taken, end_of_taken, holes_with, with_end, Skips, IsNextTaking, Leads};
+ghost use Rattle.pliron_text_llvm_reader.specs.Stops.{IsUnread};
+
+use crate::cursor::Cursor;
+use crate::rules::{Amount, Role, Rule, Taking};
+use crate::stop::{Reason, Stop};
+use crate::table::{ListStep, Piece, Reads, Step};
+use pliron_text_llvm_syntax::{Hole, HoleKind};
+
+impl Piece {
+    // Why a statement is kept that has something else here.
+    fn reason(self) -> Reason {
+        match self {
+            Piece::Attributes | Piece::Suffixes => Reason::Type,
+            _ => Reason::Value,
+        }
+    }
+}
+
+impl ListStep {
+    // Why a statement is kept that has something else here.
+    fn reason(self) -> Reason {
+        match self {
+            ListStep::LabelsInside | ListStep::LabelsBehind => Reason::Label,
+            ListStep::CasesInside => Reason::Type,
+            ListStep::CaseValue => Reason::Value,
+            ListStep::EntryEnd | ListStep::MoreEntries => Reason::Entry,
+            _ => Reason::Arguments,
+        }
+    }
+}
+
+impl Step {
+    // Why a statement is kept that has something else here.
+    fn reason(self) -> Reason {
+        match self {
+            Step::Flags | Step::TypeName | Step::TypedValue | Step::MoreTypedValues => Reason::Type,
+            Step::Value => Reason::Value,
+            Step::Comma | Step::BranchLabels => Reason::Comma,
+            Step::To => Reason::To,
+            Step::Unwind => Reason::Unwind,
+            Step::Label | Step::Block => Reason::Label,
+            Step::Labels | Step::Cases => Reason::Labels,
+            Step::Entries => Reason::Entry,
+            Step::Arguments | Step::CallAttributes => Reason::Arguments,
+            Step::Clauses | Step::Branch | Step::ReturnValue => Reason::Type,
+            Step::Rest => Reason::Local,
+            Step::Part(piece) => piece.reason(),
+            Step::InList(step) => step.reason(),
+        }
+    }
+}
+
+// The last hole ends at this byte.
+#[tactic(auto, using(crate::proofs::HoleLemmas::with_end_last, crate::proofs::StopLemmas::unread_memory))]
+fn lengthen(end: usize, holes: &mut Vec<Hole>) -> Result<(), Stop>
+    ensures ok { OnOk result (holes.new.items ≡ with_end end holes.old.items) }
+    ensures stop { IfErr result (λ stop. IsUnread stop) }
+{
+    if let Some(mut hole) = holes.pop() {
+        hole.span.end = end;
+        holes.push(hole)?;
+    }
+    Ok(())
+}
+
+/// These steps come next, before those that came next. Errors: allocation failure. Cost: linear in them.
+#[tactic(auto, using(crate::proofs::ReadingLemmas::pushed_none, crate::proofs::ReadingLemmas::pushed_next, crate::proofs::StopLemmas::unread_memory))]
+pub fn push_steps(before: &[Step], steps: &mut Vec<Step>) -> Result<(), Stop>
+    ensures ok { OnOk result (reverse steps.new.items ≡ before.now ++ reverse steps.old.items) }
+    ensures stop { IfErr result (λ stop. IsUnread stop) }
+{
+    let mut left = before.len();
+    while left > 0 {
+        left -= 1;
+        steps.push(before[left])?;
+    }
+    Ok(())
+}
+
+impl Taking {
+    // What comes in place of its step comes next.
+    #[tactic(auto, using(crate::proofs::ReadingLemmas::with_last_append, crate::proofs::ReadingLemmas::pushed_last, crate::proofs::StopLemmas::unread_memory))]
+    fn push_behind(&self, steps: &mut Vec<Step>) -> Result<(), Stop>
+        ensures ok { OnOk result (reverse steps.new.items
+            ≡ with_last self.now.behind.now self.now.last ++ reverse steps.old.items) }
+        ensures stop { IfErr result (λ stop. IsUnread stop) }
+    {
+        if let Some(last) = self.last {
+            steps.push(last)?;
+        }
+        push_steps(self.behind, steps)
+    }
+}
+
+impl Cursor<'_> {
+    // Adds what was taken since this place as a hole.
+    fn push_hole(&self, kind: HoleKind, start: usize, holes: &mut Vec<Hole>) -> Result<(), Stop>
+        ensures ok { OnOk result (holes.new.items ≡ holes.old.items ++ hole_between kind start self.now.end ∷ []) }
+        ensures stop { IfErr result (λ stop. IsUnread stop) }
+    {
+        holes.push(Hole {
+            kind,
+            span: self.since(start),
+        })?;
+        Ok(())
+    }
+
+    // Adds what was taken since this place as what it is for the statement.
+    fn note(&self, role: Role, start: usize, holes: &mut Vec<Hole>) -> Result<(), Stop>
+        ensures ok { OnOk result (holes.new.items ≡ holes_with role start self.now.end holes.old.items) }
+        ensures stop { IfErr result (λ stop. IsUnread stop) }
+    {
+        match role {
+            Role::Plain => Ok(()),
+            Role::Operand => self.push_hole(HoleKind::Operand, start, holes),
+            Role::Successor => self.push_hole(HoleKind::Successor, start, holes),
+            Role::More => lengthen(self.end(), holes),
+        }
+    }
+
+    // Takes so much.
+    fn take(&mut self, amount: Amount)
+        ensures forward { IsForward self.old self.new }
+        ensures taken { HasNext self.old → HasTaken self.old self.new }
+        ensures tokens { tokens_of self.new ≡ behind_taken amount (tokens_of self.old) }
+        ensures end { HasNext self.old → self.new.end ≡ end_of_taken amount (tokens_of self.old) }
+    {
+        match amount {
+            Amount::OneToken => self.skip_token(),
+            Amount::OneTree => self.skip_tree(),
+        }
+    }
+
+    // Takes what the rule says, and adds it as what it is for the statement.
+    fn apply(&mut self, taking: &Taking, holes: &mut Vec<Hole>) -> Result<(), Stop>
+        requires { FitsTaking self.old taking.now }
+        ensures forward { IsForward self.old self.new }
+        ensures taken { HasTaken self.old self.new }
+        ensures tokens { tokens_of self.new ≡ behind_taken taking.now.amount (tokens_of self.old) }
+        ensures holes { OnOk result (holes.new.items
+            ≡ holes_with taking.now.role (place_of self.old) self.new.end holes.old.items) }
+        ensures end { self.new.end ≡ end_of_taken taking.now.amount (tokens_of self.old) }
+        ensures stop { IfErr result (λ stop. IsUnread stop) }
+    {
+        let start = self.place();
+        self.take(taking.amount);
+        self.note(taking.role, start, holes)
+    }
+
+    // What is taken next; none, where no step is left. Steps of which nothing is there are left out.
+    #[tactic(auto, using(crate::proofs::ReadingLemmas::skips_none, crate::proofs::ReadingLemmas::skips_step, crate::proofs::ReadingLemmas::skips_to, crate::proofs::ReadingLemmas::popped))]
+    fn next_taking(&self, reads: Reads, steps: &mut Vec<Step>) -> Result<Option<Taking>, Stop>
+        ensures next { IfOk result (λ found. IfSome found (λ taking. IsNextTaking (text_of self.now) reads
+            (reverse steps.old.items) (tokens_of self.now) taking (reverse steps.new.items))) }
+        ensures fits { IfOk result (λ found. IfSome found (λ taking. FitsTaking self.now taking)) }
+        ensures skips { IfOk result (λ found. IfNone found
+            (Skips (text_of self.now) reads (reverse steps.old.items) (tokens_of self.now) [])) }
+        ensures stop { IfErr result (λ stop. IsUnread stop) }
+    {
+        while let Some(step) = steps.pop() {
+            let Some(rule) = self.rule(step, reads) else {
+                return Err(Stop::Kept(step.reason()));
+            };
+            match rule {
+                Rule::Take(taking) => return Ok(Some(taking)),
+                Rule::Skip => {}
+            }
+        }
+        Ok(None)
+    }
+
+    /// Takes what the steps say, the last one first, and adds the holes, until no step is left. Asks that there is no
+    /// hole yet. Errors: something else is next; allocation failure. Cost: linear in what is taken.
+    #[tactic(auto, using(crate::proofs::CursorLemmas::end_within, crate::proofs::CursorLemmas::end_place, crate::proofs::ReadingLemmas::reading_steps, crate::proofs::HoleLemmas::hole_steps))]
+    pub fn read_steps(
+        &mut self,
+        reads: Reads,
+        steps: &mut Vec<Step>,
+        holes: &mut Vec<Hole>,
+    ) -> Result<(), Stop>
+        requires { holes.old.items ≡ [] }
+        ensures forward { IsForward self.old self.new }
+        ensures leads { OnOk result (Leads (text_of self.old) reads (reverse steps.old.items) (tokens_of self.old) []
+            [] (tokens_of self.new) holes.new.items) }
+        ensures holes { OnOk result (AreHolesBetween (text_of self.old) self.old.end self.new.end holes.new.items) }
+        ensures stop { IfErr result (λ stop. IsUnread stop) }
+    {
+        while let Some(taking) = self.next_taking(reads, steps)? {
+            taking.push_behind(steps)?;
+            self.apply(&taking, holes)?;
+        }
+        Ok(())
+    }
+}

@@ -1,0 +1,141 @@
+//! Functions of a module.
+ghost use Rattle.std.specs.Prelude.{◌≡◌, ◌<◌, ◌≤◌, length, IfOk, IfErr};
+ghost use Rattle.pliron_text_llvm_syntax.specs.Tokens.{IsTokenAt, IsFaultIn};
+ghost use Rattle.pliron_text_llvm_syntax.specs.Functions.{IsFunctionAt};
+
+use crate::brackets::{next_tree, token_tree_at};
+use crate::fault::{Expected, Fault};
+use crate::tokens::{Bracket, Span, Token, TokenKind, bytes_of, token_at};
+
+/// A function with a body, and what its text has.
+#[doc(hidden)]
+#[derive(Clone, Copy, Debug, Drop, PartialEq, Eq)]
+pub struct FunctionText {
+    /// From `define` to the `}` of its body.
+    pub span: Span,
+    /// Its name, with the `@`.
+    pub name: Span,
+    /// The parameters, with their brackets.
+    pub parameters: Span,
+    /// The body, with its brackets.
+    pub body: Span,
+}
+
+/// What a header says next.
+#[derive(Clone, Copy, PartialEq, Eq)]
+enum Next {
+    /// Attributes, or the body.
+    Body,
+    /// The type behind `prefix`, `prologue` or `personality`.
+    Type,
+    /// The constant behind that type.
+    Constant,
+}
+
+impl Next {
+    // What is next behind the token.
+    fn behind(self, kind: TokenKind, bytes: &[u8]) -> Next {
+        match (self, kind) {
+            (Next::Body, TokenKind::Word) => match bytes {
+                b"prefix" | b"prologue" | b"personality" => Next::Type,
+                _ => Next::Body,
+            },
+            (Next::Type, _) => Next::Constant,
+            (Next::Constant, TokenKind::Mark | TokenKind::Open(Bracket::Round)) => Next::Constant,
+            (Next::Constant, TokenKind::Word) if bytes == b"addrspace".as_slice() => Next::Constant,
+            _ => Next::Body,
+        }
+    }
+}
+
+/// Whether the token is the word `define`. Asks that it is a token of the text. Cost: constant.
+#[doc(hidden)]
+pub fn is_define(text: &[u8], token: &Token) -> bool
+    requires { IsTokenAt text.now token.now.span.start token.now }
+{
+    token.kind == TokenKind::Word && bytes_of(text, token.span) == b"define".as_slice()
+}
+
+// The name of the function whose header goes on here.
+fn name_from(text: &[u8], at: usize, open: &mut Vec<Bracket>) -> Result<Span, Fault>
+    requires { at ≤ length text.now }
+    ensures name { IfOk result (λ name. (at ≤ name.start) × (name.start < name.end) × (name.end ≤ length text.now)) }
+    ensures fault { IfErr result (λ fault. IsFaultIn text.now fault) }
+{
+    let mut end = at;
+    while end < text.len() {
+        let token = token_tree_at(text, end, open)?;
+        if token.kind == TokenKind::Name && text[end] == b'@' {
+            return Ok(token.span);
+        }
+        if is_define(text, &token) {
+            break;
+        }
+        end = token.span.end;
+    }
+    Err(Fault::Expected(end, Expected::Body))
+}
+
+// The parameters of the function whose header goes on here.
+fn parameters_from(text: &[u8], at: usize, open: &mut Vec<Bracket>) -> Result<Span, Fault>
+    requires { at ≤ length text.now }
+    ensures parameters { IfOk result (λ parameters.
+        (at ≤ parameters.start) × (parameters.start < parameters.end) × (parameters.end ≤ length text.now)) }
+    ensures fault { IfErr result (λ fault. IsFaultIn text.now fault) }
+{
+    match next_tree(text, at, open)? {
+        Some(token) if token.kind == TokenKind::Open(Bracket::Round) => Ok(token.span),
+        Some(token) => Err(Fault::Expected(token.span.start, Expected::OpenRound)),
+        None => Err(Fault::Expected(text.len(), Expected::OpenRound)),
+    }
+}
+
+// The body of the function whose header goes on here.
+fn body_from(text: &[u8], at: usize, open: &mut Vec<Bracket>) -> Result<Span, Fault>
+    requires { at ≤ length text.now }
+    ensures body { IfOk result (λ body. (at ≤ body.start) × (body.start < body.end) × (body.end ≤ length text.now)) }
+    ensures fault { IfErr result (λ fault. IsFaultIn text.now fault) }
+{
+    let mut end = at;
+    let mut next = Next::Body;
+    while end < text.len() {
+        let token = token_tree_at(text, end, open)?;
+        if next == Next::Body && token.kind == TokenKind::Open(Bracket::Brace) {
+            return Ok(token.span);
+        }
+        if is_define(text, &token) {
+            break;
+        }
+        if token.kind != TokenKind::Trivia {
+            next = next.behind(token.kind, bytes_of(text, token.span));
+        }
+        end = token.span.end;
+    }
+    Err(Fault::Expected(end, Expected::Body))
+}
+
+/// The function whose `define` is at this byte. The name is the first one with `@` outside brackets; the body is the
+/// first `{` outside brackets that begins no type or constant behind `prefix`, `prologue` or `personality`.
+///
+/// Asks that the byte is in the text; `open` is room for the brackets in one another. Errors: no name, no parameters behind it, no body; a token or a
+/// bracket is broken; allocation failure. Cost: linear in the function.
+#[doc(hidden)]
+pub fn function_at(text: &[u8], at: usize, open: &mut Vec<Bracket>) -> Result<FunctionText, Fault>
+    requires { at < length text.now }
+    ensures function { IfOk result (λ function. IsFunctionAt text.now at function) }
+    ensures fault { IfErr result (λ fault. IsFaultIn text.now fault) }
+{
+    let define = token_at(text, at)?;
+    let name = name_from(text, define.span.end, open)?;
+    let parameters = parameters_from(text, name.end, open)?;
+    let body = body_from(text, parameters.end, open)?;
+    Ok(FunctionText {
+        span: Span {
+            start: at,
+            end: body.end,
+        },
+        name,
+        parameters,
+        body,
+    })
+}

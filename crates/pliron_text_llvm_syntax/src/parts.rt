@@ -1,0 +1,111 @@
+//! Parts of a module.
+ghost use Rattle.std.specs.Prelude.{◌≡◌, ◌<◌, ◌≤◌, [], length, IfOk, IfErr};
+ghost use Rattle.pliron_text_llvm_syntax.specs.Tokens.{IsFaultIn};
+ghost use Rattle.pliron_text_llvm_syntax.specs.Parts.{span_of_part, bytes_of_parts, AreConsecutive, IsPartAt};
+
+use crate::brackets::token_tree_at;
+use crate::fault::Fault;
+use crate::functions::{FunctionText, function_at, is_define};
+use crate::tokens::{Bracket, Span, bytes_of};
+use std::alloc::{AllocError, Global};
+
+/// A part of a module.
+#[derive(Clone, Copy, Debug, Drop, PartialEq, Eq)]
+pub enum Part {
+    /// Text before, between or behind functions.
+    Raw(Span),
+    Function(FunctionText),
+}
+
+impl Part {
+    /// Where it is in the text. Cost: constant.
+    pub fn span(&self) -> Span
+        ensures { result ≡ span_of_part self.now }
+    {
+        match self {
+            Part::Raw(span) => *span,
+            Part::Function(function) => function.span,
+        }
+    }
+}
+
+// Where the next function begins, or the end of the text.
+fn raw_end(text: &[u8], at: usize, open: &mut Vec<Bracket>) -> Result<usize, Fault>
+    requires { at ≤ length text.now }
+    ensures end { IfOk result (λ end. (at ≤ end) × (end ≤ length text.now)) }
+    ensures fault { IfErr result (λ fault. IsFaultIn text.now fault) }
+{
+    let mut end = at;
+    while end < text.len() {
+        let token = token_tree_at(text, end, open)?;
+        if is_define(text, &token) {
+            break;
+        }
+        end = token.span.end;
+    }
+    Ok(end)
+}
+
+// The part that begins at this byte.
+fn part_at(text: &[u8], at: usize, open: &mut Vec<Bracket>) -> Result<Part, Fault>
+    requires { at < length text.now }
+    ensures part { IfOk result (λ part. IsPartAt text.now at part) }
+    ensures fault { IfErr result (λ fault. IsFaultIn text.now fault) }
+{
+    let end = raw_end(text, at, open)?;
+    if at < end {
+        Ok(Part::Raw(Span { start: at, end }))
+    } else {
+        Ok(Part::Function(function_at(text, at, open)?))
+    }
+}
+
+// Adds the parts of the text to none.
+#[tactic(auto, using(crate::proofs::PartLemmas::consecutive_append, crate::proofs::PartLemmas::consecutive_none, crate::proofs::PartLemmas::consecutive_end, crate::proofs::FaultLemmas::fault_memory))]
+fn split_into(text: &[u8], open: &mut Vec<Bracket>, parts: &mut Vec<Part>) -> Result<(), Fault>
+    requires { parts.old.items ≡ [] }
+    ensures parts { IfOk result (λ _. AreConsecutive 0 (length text.now) parts.new.items) }
+    ensures fault { IfErr result (λ fault. IsFaultIn text.now fault) }
+{
+    let mut at = 0;
+    while at < text.len() {
+        let part = part_at(text, at, open)?;
+        parts.push(part)?;
+        at = part.span().end;
+    }
+    Ok(())
+}
+
+/// The parts of a module, which are the text: functions with bodies, and the raw text before, between and behind them.
+/// A function begins with the word `define` outside brackets, strings, comments and names.
+///
+/// Errors: something that isn't a token, a bracket or a string that doesn't end, a bracket that closes nothing, or a
+/// function without a name, parameters or a body; allocation failure. Cost: linear in the text, with a byte for each
+/// bracket in one another.
+#[tactic(auto, using(crate::proofs::PartLemmas::consecutive_bytes))]
+pub fn split_text(alloc: Global, text: &[u8]) -> Result<Vec<Part>, Fault>
+    ensures consecutive { IfOk result (λ parts. AreConsecutive 0 (length text.now) parts.items) }
+    ensures text { IfOk result (λ parts. bytes_of_parts text.now parts.items ≡ text.now) }
+    ensures fault { IfErr result (λ fault. IsFaultIn text.now fault) }
+{
+    let mut open = Vec::new(alloc);
+    let mut parts = Vec::new(alloc);
+    match split_into(text, &mut open, &mut parts) {
+        Ok(()) => Ok(parts),
+        Err(fault) => Err(fault),
+    }
+}
+
+/// The bytes of the parts in their order: the text. Asks that they are those of the text. Errors: allocation failure. Cost: linear in the text.
+#[tactic(auto, using(crate::proofs::PartLemmas::consecutive_bytes, crate::proofs::PartLemmas::consecutive_step, crate::proofs::PartLemmas::consecutive_le, crate::proofs::PartLemmas::joined_step, crate::proofs::PartLemmas::joined_all))]
+pub fn join_parts(alloc: Global, text: &[u8], parts: &[Part]) -> Result<Vec<u8>, AllocError>
+    requires { AreConsecutive 0 (length text.now) parts.now }
+    ensures parts { IfOk result (λ joined. joined.items ≡ bytes_of_parts text.now parts.now) }
+    ensures text { IfOk result (λ joined. joined.items ≡ text.now) }
+{
+    let mut joined = Vec::with_capacity(alloc, text.len())?;
+    for part in parts {
+        joined.extend_from_slice(bytes_of(text, part.span()))?;
+    }
+    Ok(joined)
+}

@@ -1,0 +1,4 @@
+pub mod SaidLemmas
+pub mod TakenLemmas
+pub mod KnownLemmas
+pub mod AdditionLemmas

@@ -1,0 +1,5 @@
+use Rattle.std.proofs.Common.{◌≡◌}
+use Rattle.pliron_text_mlir_reader.proofs.build.add_blocks.Given as goal
+
+abbrev pub invariant-loop-number : goal.invariant-loop-number
+invariant-loop-number l = l.ctx.tree.operations ≡ l.fn.ctx.tree.operations

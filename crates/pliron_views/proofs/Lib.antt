@@ -1,6 +1,0 @@
-pub mod PureOperations
-pub mod Agreement
-pub mod Growing
-pub mod RuleKeeps
-pub mod ShownLemmas
-pub mod Applying

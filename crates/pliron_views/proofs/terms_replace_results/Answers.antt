@@ -1,8 +1,0 @@
-use Rattle.pliron_views.proofs.Applying.{term_laws}
-use Rattle.pliron_views.proofs.ShownLemmas.{lawful}
-use Rattle.pliron_views.proofs.terms_replace_results.Goals as goal
-
-pub returns : goal.returns
-returns g c =
-    let d = g.met.D.Dialect in
-    term_laws _ (lawful _ _ _ d.keeps_counts d.gives_at_once d.answers_true d.makes_constants d.forwards_operands)
