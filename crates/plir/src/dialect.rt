@@ -3,7 +3,7 @@ use clap::ArgMatches;
 
 /// What a text is written in.
 #[derive(Clone, Copy, Debug, PartialEq, Eq)]
-pub enum Dialect {
+pub enum TextFormat {
     /// The notation of `Bench`.
     Bench,
     /// The generic form of MLIR.
@@ -11,11 +11,11 @@ pub enum Dialect {
 }
 
 /// What the text in the file of this name is written in: as the words say, or else as the name ends. Cost: constant.
-pub fn dialect_of(matches: &ArgMatches, name: &str) -> Dialect {
+pub fn dialect_of(matches: &ArgMatches, name: &str) -> TextFormat {
     match matches.get_str("dialect") {
-        Some("mlir") => Dialect::Mlir,
-        Some(_) => Dialect::Bench,
-        None if name.ends_with(".mlir") => Dialect::Mlir,
-        None => Dialect::Bench,
+        Some("mlir") => TextFormat::Mlir,
+        Some(_) => TextFormat::Bench,
+        None if name.ends_with(".mlir") => TextFormat::Mlir,
+        None => TextFormat::Bench,
     }
 }

@@ -8,7 +8,7 @@ use std::io::{self, Read};
 
 /// A text that was read, and what a command reads of it.
 #[derive(Drop)]
-pub struct Input {
+pub struct CommandInput {
     /// All that was read, without a byte order mark.
     whole: Vec<u8>,
     /// The text with blanks for comments, and for all but one `func` or `mod` where one is asked for.
@@ -35,10 +35,10 @@ pub fn input_name(name: &str) -> &str {
 }
 
 /// The graph in the file. Errors: those of the file; allocation failure. Cost: linear in it.
-pub fn read_graph_input(rt: &HostRuntime, name: &str) -> io::Result<Input> {
+pub fn read_graph_input(rt: &HostRuntime, name: &str) -> io::Result<CommandInput> {
     let bytes = bytes_of(rt, name)?;
     let whole = without_mark(&bytes);
-    Ok(Input {
+    Ok(CommandInput {
         whole: Vec::new(rt.alloc()),
         text: without_returns(rt.alloc(), whole)?,
         part: None,
@@ -52,7 +52,7 @@ pub fn read_module_input(
     rt: &HostRuntime,
     name: &str,
     path: Option<&str>,
-) -> io::Result<Option<Input>> {
+) -> io::Result<Option<CommandInput>> {
     let alloc = rt.alloc();
     let bytes = bytes_of(rt, name)?;
     let whole = Vec::from_slice(alloc, without_mark(&bytes))?;
@@ -67,7 +67,7 @@ pub fn read_module_input(
         Some(part) => isolate(alloc, &whole, part)?,
         None => Vec::from_slice(alloc, &whole)?,
     };
-    Ok(Some(Input {
+    Ok(Some(CommandInput {
         whole,
         text,
         part,
@@ -91,13 +91,17 @@ fn without_returns(alloc: Global, bytes: &[u8]) -> Result<Vec<u8>, AllocError> {
 /// The text in the file, or the `func` or `mod` in it that the path leads to, where a path is given; where that leads
 /// to an operation inside a function, the whole text, and where the operation is. `None` where the path leads nowhere.
 /// Errors: those of the file; allocation failure. Cost: linear in it.
-pub fn read_input(rt: &HostRuntime, name: &str, path: Option<&str>) -> io::Result<Option<Input>> {
+pub fn read_input(
+    rt: &HostRuntime,
+    name: &str,
+    path: Option<&str>,
+) -> io::Result<Option<CommandInput>> {
     let alloc = rt.alloc();
     let bytes = bytes_of(rt, name)?;
     let whole = Vec::from_slice(alloc, without_mark(&bytes))?;
     let text = blank_comments(alloc, &whole)?;
     let Some(path) = path else {
-        return Ok(Some(Input {
+        return Ok(Some(CommandInput {
             whole,
             text,
             part: None,
@@ -113,7 +117,7 @@ pub fn read_input(rt: &HostRuntime, name: &str, path: Option<&str>) -> io::Resul
     } else {
         text
     };
-    Ok(Some(Input {
+    Ok(Some(CommandInput {
         whole,
         text,
         part: if is_alone { Some(part) } else { None },
@@ -147,7 +151,7 @@ fn push_lines(text: &mut Vec<u8>, answer: &[u8], blanks: &[u8]) -> Result<(), Al
     Ok(())
 }
 
-impl Input {
+impl CommandInput {
     /// The text with blanks for all but the function around the operation that the path leads to. Errors: allocation
     /// failure. Cost: that of `function_around`.
     pub fn around_inner(&self, alloc: Global, path: &str) -> Result<Vec<u8>, AllocError> {

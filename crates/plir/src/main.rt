@@ -14,10 +14,10 @@ mod pipeline;
 
 use clap::{ArgMatches, Error};
 use command::parse_arguments;
-use dialect::{Dialect, dialect_of};
+use dialect::{TextFormat, dialect_of};
 use help::{lay_out, width_of};
 use inner::{inner_failure, lines_inside, operation_path};
-use input::{Input, input_name, read_graph_input, read_input, read_module_input};
+use input::{CommandInput, input_name, read_graph_input, read_input, read_module_input};
 use optimise::opt_as_asked;
 use output::{write_answer, write_file, write_lines, write_report};
 use pipeline::{pipeline_and_file, without_blanks};
@@ -148,7 +148,7 @@ fn explain_as_asked<N: Shown>(
 fn explain_inner(
     alloc: Global,
     matches: &ArgMatches,
-    input: &Input,
+    input: &CommandInput,
     part: TextRange,
 ) -> io::Result<Outcome> {
     let (pipeline, name) = pipeline_and_file(alloc, matches)?;
@@ -173,7 +173,7 @@ fn outcome_of_inner(
     alloc: Global,
     command: &str,
     matches: &ArgMatches,
-    input: &Input,
+    input: &CommandInput,
     part: TextRange,
 ) -> io::Result<Outcome> {
     let (_, name) = pipeline_and_file(alloc, matches)?;
@@ -203,8 +203,8 @@ fn outcome_in<N: Shown>(
     rt: &HostRuntime,
     command: &str,
     matches: &ArgMatches,
-    input: &Input,
-    dialect: Dialect,
+    input: &CommandInput,
+    dialect: TextFormat,
 ) -> io::Result<Outcome> {
     let alloc = rt.alloc();
     let (pipeline, name) = pipeline_and_file(alloc, matches)?;
@@ -225,7 +225,7 @@ fn outcome_of_text(
     rt: &HostRuntime,
     command: &str,
     matches: &ArgMatches,
-    input: &Input,
+    input: &CommandInput,
 ) -> io::Result<Outcome> {
     let alloc = rt.alloc();
     let (_, name) = pipeline_and_file(alloc, matches)?;
@@ -236,7 +236,7 @@ fn outcome_of_text(
     match command {
         "graph" => Ok(draw_graph(alloc, &source)?),
         "run" => run_as_asked(rt, &source, matches),
-        _ => outcome_in::<BenchNotation>(rt, command, matches, input, Dialect::Bench),
+        _ => outcome_in::<BenchNotation>(rt, command, matches, input, TextFormat::Bench),
     }
 }
 
@@ -254,7 +254,13 @@ fn outcome_of_module(
     }
     let path = matches.get_str("at");
     match read_module_input(rt, name, path) {
-        Ok(Some(input)) => outcome_in::<MlirNotation>(rt, command, matches, &input, Dialect::Mlir),
+        Ok(Some(input)) => outcome_in::<MlirNotation>(
+            rt,
+            command,
+            matches,
+            &input,
+            TextFormat::Mlir,
+        ),
         Ok(None) => no_operation_outcome(alloc, path.unwrap_or("")),
         Err(error) => unread_outcome(alloc, name, &error),
     }
@@ -278,7 +284,7 @@ fn unread_outcome(alloc: Global, name: &str, error: &io::Error) -> io::Result<Ou
 fn outcome(rt: &HostRuntime, command: &str, matches: &ArgMatches) -> io::Result<Outcome> {
     let alloc = rt.alloc();
     let (_, name) = pipeline_and_file(alloc, matches)?;
-    if command != "graph" && dialect_of(matches, name) == Dialect::Mlir {
+    if command != "graph" && dialect_of(matches, name) == TextFormat::Mlir {
         return outcome_of_module(rt, command, matches, name);
     }
     let path = if command == "graph" {

@@ -1,6 +1,6 @@
 //! The command `opt`.
-use crate::dialect::Dialect;
-use crate::input::Input;
+use crate::dialect::TextFormat;
+use crate::input::CommandInput;
 use crate::pipeline::{first_passes, without_blanks};
 use clap::ArgMatches;
 use pliron_show_changes::{
@@ -18,7 +18,7 @@ use std::time::{Clock, Duration};
 
 /// The clock of the process, which shows on standard error what ended, at most once a second.
 #[derive(Clone, Copy, Drop)]
-struct Terminal<'r> {
+struct ProgressOnTerminal<'r> {
     rt: &'r HostRuntime,
     /// When the command began.
     start: Duration,
@@ -26,7 +26,7 @@ struct Terminal<'r> {
     reported: &'r Cell<u64>,
 }
 
-impl Clock for Terminal<'_> {
+impl Clock for ProgressOnTerminal<'_> {
     fn monotonic(&self) -> io::Result<Duration> {
         self.rt.monotonic()
     }
@@ -36,7 +36,7 @@ impl Clock for Terminal<'_> {
     }
 }
 
-impl Progress for Terminal<'_> {
+impl Progress for ProgressOnTerminal<'_> {
     fn pass_ended(&self, number: usize, name: &str) {
         let Ok(now) = self.rt.monotonic() else {
             return;
@@ -120,7 +120,7 @@ fn opt_instrumented<'w, N: Shown>(
     };
     let start = rt.monotonic().unwrap_or(Duration::ZERO);
     let reported = Cell::new(0);
-    let terminal = Terminal {
+    let terminal = ProgressOnTerminal {
         rt,
         start,
         reported: &reported,
@@ -167,7 +167,7 @@ fn join_stages<N: Shown>(
     whole: Outcome,
     staged: StageReport,
     answer: AnswerOptions,
-    dialect: Dialect,
+    dialect: TextFormat,
 ) -> io::Result<Outcome> {
     let Outcome {
         output,
@@ -187,8 +187,8 @@ fn join_stages<N: Shown>(
     let kept = named.as_deref();
     let kept = if answer.names_in_answer { kept } else { None };
     let written = match dialect {
-        Dialect::Bench => write_named_answer::<N>(alloc, printed, kept, answer.is_pretty),
-        Dialect::Mlir => write_renamed_answer::<N>(alloc, printed, kept),
+        TextFormat::Bench => write_named_answer::<N>(alloc, printed, kept, answer.is_pretty),
+        TextFormat::Mlir => write_renamed_answer::<N>(alloc, printed, kept),
     };
     match written {
         Ok(mut output) => {
@@ -224,8 +224,8 @@ pub fn opt_as_asked<N: Shown>(
     source: &Source,
     matches: &ArgMatches,
     word: &str,
-    input: &Input,
-    dialect: Dialect,
+    input: &CommandInput,
+    dialect: TextFormat,
 ) -> io::Result<Outcome> {
     let alloc = rt.alloc();
     let pipeline = pipeline_of(alloc, matches, word)?;

@@ -18,7 +18,7 @@ use pliron_dialect_bench::Bench;
 use pliron_dialect_mlir::{AnyMeaning, Mlir};
 use pliron_driver::{Closed, PassPipeline};
 use pliron_driver_buffers::{
-    BenchNotation, Failure, ModulePass, ModulePipeline, Place, describe_graph_into,
+    BenchNotation, CallFailure, ModulePass, ModulePipeline, Place, describe_graph_into,
     find_fault_into, find_module_fault_into, optimise_into, optimise_module_into,
 };
 use pliron_driver_mlir::ClosedForm;
@@ -77,7 +77,8 @@ pub extern "C" fn plir_graph(
     output: &mut [u8],
     needed: &mut usize,
 ) -> u32
-    ensures { FillsBy (λ answer. ⊤) (λ failure. failure ≢ Failure.Arguments) output.old output.new needed.new result }
+    ensures { FillsBy (λ answer. ⊤) (λ failure. failure ≢ CallFailure.Arguments) output.old output.new needed.new
+        result }
 {
     describe_graph_into(alloc, text, output, needed).number()
 }
@@ -96,7 +97,7 @@ pub extern "C" fn plir_find_fault(
     place: &mut Place,
 ) -> u32
     ensures fills { FillsBy (λ expected. place.new ≡ nowhere → expected ≡ [])
-        (λ failure. (failure ≡ Failure.Memory) × (place.new ≡ nowhere)) output.old output.new needed.new result }
+        (λ failure. (failure ≡ CallFailure.Memory) × (place.new ≡ nowhere)) output.old output.new needed.new result }
     ensures place { IsFaultPlace text.now place.new }
 {
     find_fault_into(alloc, text, output, needed, place).number()
@@ -141,7 +142,7 @@ pub extern "C" fn plir_find_fault_mlir(
     place: &mut Place,
 ) -> u32
     ensures fills { FillsBy (λ expected. place.new ≡ nowhere → expected ≡ [])
-        (λ failure. (failure ≡ Failure.Memory) × (place.new ≡ nowhere)) output.old output.new needed.new result }
+        (λ failure. (failure ≡ CallFailure.Memory) × (place.new ≡ nowhere)) output.old output.new needed.new result }
     ensures place { IsFaultPlace text.now place.new }
 {
     find_module_fault_into::<Mlir<AnyMeaning>>(alloc, text, output, needed, place).number()

@@ -33,11 +33,11 @@ type Form = ClosedForm;
 
 /// The clock of the process.
 #[derive(Clone, Copy, Drop)]
-struct Terminal<'r> {
+struct ProcessClock<'r> {
     rt: &'r HostRuntime,
 }
 
-impl Clock for Terminal<'_> {
+impl Clock for ProcessClock<'_> {
     fn monotonic(&self) -> io::Result<Duration> {
         self.rt.monotonic()
     }
@@ -47,7 +47,7 @@ impl Clock for Terminal<'_> {
     }
 }
 
-impl Progress for Terminal<'_> {
+impl Progress for ProcessClock<'_> {
     fn pass_ended(&self, _: usize, _: &str) {}
 }
 
@@ -77,15 +77,15 @@ fn run_to<'r, R: Read>(
     input: &mut R,
     file: Option<&str>,
 ) -> u8
-    ensures { EndsOnStreams (λ text. EndsByWord ⟦<Instrumented<Form, Terminal<'r>> as Pass>⟧.name
+    ensures { EndsOnStreams (λ text. EndsByWord ⟦<Instrumented<Form, ProcessClock<'r>> as Pass>⟧.name
         (λ pipeline. EndsOptimised (closed_reads (ReadsModule ⟦<Mlir<AnyMeaning> as HasMeaning>⟧.meaning))
         (closed_prints PrintsKinds) ⟦<Mlir<AnyMeaning> as HasMeaning>⟧.meaning (RunsAlone
-        ⟦<BenchFactKind as PartialEq>⟧.eq ⟦<InstrumentedPipeline<Form, Terminal<'r>> as Pass>⟧.outcome pipeline)
+        ⟦<BenchFactKind as PartialEq>⟧.eq ⟦<InstrumentedPipeline<Form, ProcessClock<'r>> as Pass>⟧.outcome pipeline)
         text) request.now.pipeline.now) (R.remaining input.old) None None result }
 {
     let mut target = Target::new(rt, file);
-    let clock = Terminal { rt };
-    run_on::<Form, R, Target, _, Terminal>(
+    let clock = ProcessClock { rt };
+    run_on::<Form, R, Target, _, ProcessClock>(
         rt.alloc(),
         request,
         input,

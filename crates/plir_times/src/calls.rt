@@ -10,7 +10,7 @@ use std::alloc::Global;
 
 /// A call that is measured.
 #[derive(Clone, Copy)]
-pub enum Call {
+pub enum TimedCall {
     Nothing,
     Orders,
     Numbers,
@@ -21,18 +21,18 @@ pub enum Call {
     Parents,
 }
 
-impl Call {
+impl TimedCall {
     /// The call of this name. Cost: constant.
-    pub fn from_name(name: &str) -> Option<Call> {
+    pub fn from_name(name: &str) -> Option<TimedCall> {
         let call = match name {
-            "none" => Call::Nothing,
-            "orders" => Call::Orders,
-            "numbers" => Call::Numbers,
-            "components" => Call::Components,
-            "reverse" => Call::Reverse,
-            "dominators" => Call::Dominators,
-            "climbs" => Call::Climbs,
-            "parents" => Call::Parents,
+            "none" => TimedCall::Nothing,
+            "orders" => TimedCall::Orders,
+            "numbers" => TimedCall::Numbers,
+            "components" => TimedCall::Components,
+            "reverse" => TimedCall::Reverse,
+            "dominators" => TimedCall::Dominators,
+            "climbs" => TimedCall::Climbs,
+            "parents" => TimedCall::Parents,
             _ => return None,
         };
         Some(call)
@@ -44,14 +44,14 @@ impl Call {
         requires { AreInverse graph.now }
     {
         match self {
-            Call::Nothing => 0,
-            Call::Orders => orders(alloc, graph),
-            Call::Numbers => numbers(alloc, graph),
-            Call::Components => components(alloc, graph),
-            Call::Reverse => reverse(alloc, graph),
-            Call::Dominators => dominators(alloc, graph),
-            Call::Climbs => climbs(alloc, graph),
-            Call::Parents => parents(alloc, graph),
+            TimedCall::Nothing => 0,
+            TimedCall::Orders => orders(alloc, graph),
+            TimedCall::Numbers => numbers(alloc, graph),
+            TimedCall::Components => components(alloc, graph),
+            TimedCall::Reverse => reverse(alloc, graph),
+            TimedCall::Dominators => dominators(alloc, graph),
+            TimedCall::Climbs => climbs(alloc, graph),
+            TimedCall::Parents => parents(alloc, graph),
         }
     }
 }

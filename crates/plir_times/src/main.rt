@@ -16,8 +16,8 @@ mod calls;
 mod shapes;
 mod texts;
 
-use crate::calls::Call;
-use crate::shapes::{Shape, rows_of};
+use crate::calls::TimedCall;
+use crate::shapes::{TimedShape, rows_of};
 use crate::texts::{length_after, print_again};
 use pliron_graph_components::AdjacencyList;
 use pliron_pass::OptError;
@@ -55,7 +55,12 @@ impl From<AllocError> for Failure {
 }
 
 // Times the call on the graph.
-fn time_call(rt: &HostRuntime, call: Call, graph: &AdjacencyList, size: usize) -> io::Result<()>
+fn time_call(
+    rt: &HostRuntime,
+    call: TimedCall,
+    graph: &AdjacencyList,
+    size: usize,
+) -> io::Result<()>
     requires { AreInverse graph.now }
 {
     let start = Instant::now(rt)?;
@@ -70,9 +75,9 @@ fn time_graph(rt: &HostRuntime, words: &[String]) -> Result<(), Failure> {
     if words.len() != 3 {
         return Err(Failure::Usage);
     }
-    let shape = Shape::from_name(&words[0]).ok_or(Failure::Usage)?;
+    let shape = TimedShape::from_name(&words[0]).ok_or(Failure::Usage)?;
     let count = words[1].parse::<usize>().map_err(|_| Failure::Usage)?;
-    let call = Call::from_name(&words[2]).ok_or(Failure::Usage)?;
+    let call = TimedCall::from_name(&words[2]).ok_or(Failure::Usage)?;
     let rows = rows_of(rt.alloc(), shape, count)?;
     let mut size = count;
     for row in &rows {

@@ -4,7 +4,7 @@ use std::alloc::{AllocError, Global};
 
 /// A shape, of any number of nodes.
 #[derive(Clone, Copy)]
-pub enum Shape {
+pub enum TimedShape {
     Isolated,
     Chain,
     Random,
@@ -17,20 +17,20 @@ pub enum Shape {
     Skips,
 }
 
-impl Shape {
+impl TimedShape {
     /// The shape of this name. Cost: constant.
-    pub fn from_name(name: &str) -> Option<Shape> {
+    pub fn from_name(name: &str) -> Option<TimedShape> {
         let shape = match name {
-            "isolated" => Shape::Isolated,
-            "chain" => Shape::Chain,
-            "random" => Shape::Random,
-            "nest" => Shape::Nest,
-            "loops" => Shape::Loops,
-            "dense" => Shape::Dense,
-            "star" => Shape::Star,
-            "exits" => Shape::Exits,
-            "ladder" => Shape::Ladder,
-            "skips" => Shape::Skips,
+            "isolated" => TimedShape::Isolated,
+            "chain" => TimedShape::Chain,
+            "random" => TimedShape::Random,
+            "nest" => TimedShape::Nest,
+            "loops" => TimedShape::Loops,
+            "dense" => TimedShape::Dense,
+            "star" => TimedShape::Star,
+            "exits" => TimedShape::Exits,
+            "ladder" => TimedShape::Ladder,
+            "skips" => TimedShape::Skips,
             _ => return None,
         };
         Some(shape)
@@ -45,16 +45,16 @@ impl Shape {
         row: &mut Vec<u32>,
     ) -> Result<(), AllocError> {
         match self {
-            Shape::Isolated => Ok(()),
-            Shape::Chain => chain(node, count, row),
-            Shape::Random => random(count, seed, row),
-            Shape::Nest => nest(node, count, row),
-            Shape::Loops => loops(node, count, row),
-            Shape::Dense => dense(node, count, row),
-            Shape::Star => star(node, count, row),
-            Shape::Exits => exits(node, count, row),
-            Shape::Ladder => ladder(node, count, row),
-            Shape::Skips => skips(node, count, row),
+            TimedShape::Isolated => Ok(()),
+            TimedShape::Chain => chain(node, count, row),
+            TimedShape::Random => random(count, seed, row),
+            TimedShape::Nest => nest(node, count, row),
+            TimedShape::Loops => loops(node, count, row),
+            TimedShape::Dense => dense(node, count, row),
+            TimedShape::Star => star(node, count, row),
+            TimedShape::Exits => exits(node, count, row),
+            TimedShape::Ladder => ladder(node, count, row),
+            TimedShape::Skips => skips(node, count, row),
         }
     }
 }
@@ -151,7 +151,11 @@ fn skips(node: usize, count: usize, row: &mut Vec<u32>) -> Result<(), AllocError
 }
 
 /// The successors of so many nodes. Errors: allocation failure. Cost: linear in nodes and edges.
-pub fn rows_of(alloc: Global, shape: Shape, count: usize) -> Result<Vec<Vec<u32>>, AllocError> {
+pub fn rows_of(
+    alloc: Global,
+    shape: TimedShape,
+    count: usize,
+) -> Result<Vec<Vec<u32>>, AllocError> {
     let mut rows = Vec::new(alloc);
     let mut seed = 1u64;
     for node in 0..count {

@@ -17,7 +17,7 @@ use Rattle.pliron_rewrite_rules.specs.declared.term.Atom.TheVariants.{Named, Con
 use Rattle.pliron_rewrite_rules.specs.declared.term.Term.{Term}
 use Rattle.pliron_rewrite_rules.specs.declared.term.Term.TheVariants.{Make}
 use Rattle.pliron_rewrite_rules.specs.Views.{leaf_value, operand_value}
-use Rattle.pliron_bench_rules.specs.declared.Part.{Part}
+use Rattle.pliron_bench_rules.specs.declared.Addend.{Addend}
 
 -- whether an operation with this head is of the kind
 abbrev pub is_kind : BenchKind → Head → Bool
@@ -37,17 +37,17 @@ abbrev pub known_operand : Operand → Option ℤ
 known_operand (Plain leaf) = known_leaf leaf
 known_operand (Made v head leaves) = None
 
-abbrev pub part_with : ℕ → Option ℤ → Option Part
+abbrev pub part_with : ℕ → Option ℤ → Option Addend
 part_with v None = None
 part_with v (Some n) = Some (record { value = v; number = n })
 
 -- the value of the first of two leaves, and the number that the second one is known to be
-abbrev pub part_of_leaves : List Leaf → Option Part
+abbrev pub part_of_leaves : List Leaf → Option Addend
 part_of_leaves (x ∷ y ∷ []) = part_with (leaf_value x) (known_leaf y)
 part_of_leaves _ = None
 
 -- what the operand is the sum of, where the second is known
-abbrev pub part_of : Operand → Option Part
+abbrev pub part_of : Operand → Option Addend
 part_of (Plain leaf) = None
 part_of (Made v head leaves) = if is_kind Add head then part_of_leaves leaves else None
 
@@ -56,7 +56,7 @@ abbrev pub with_number : BenchKind → ℕ → ℤ → Term
 with_number kind v n = Make (plain_head kind) (Named v ∷ Constant (Int n) ∷ [])
 
 -- two numbers become one: `(x + c) + d` is `x + (c + d)`
-abbrev pub join_with : Option Part → Option ℤ → Option Term
+abbrev pub join_with : Option Addend → Option ℤ → Option Term
 join_with (Some part) (Some n) = Some (with_number Add part.value (sum part.number n))
 join_with _ _ = None
 

@@ -27,7 +27,7 @@ use Rattle.pliron_rewrite_rules.specs.declared.view.View.{View}
 use Rattle.pliron_rewrite_rules.specs.declared.term.Term.{Term}
 use Rattle.pliron_rewrite_rules.specs.RuleLaws.{IsPureHead, IsRule, RulesHold}
 use Rattle.pliron_rewrite_rules.specs.Views.{Each, only_given, Agrees, OperandAgrees, LeafAgrees, leaf_value, leaf_datum, operand_value, operand_values, operand_datum, data_by, result_datum, view_datum, term_datum, shown_in}
-use Rattle.pliron_bench_rules.specs.declared.Part.{Part}
+use Rattle.pliron_bench_rules.specs.declared.Addend.{Addend}
 use Rattle.pliron_bench_rules.specs.BenchRules.{is_kind, number_in, known_operand, part_of_leaves, part_of, with_number, join_with, join_of, double_of, first_of_two, rules_of_two, by_operands, bench_rules}
 
 -- ---- numbers
@@ -125,12 +125,12 @@ known_reads env (Plain (Known v c)) n e f is = ap as_number (sym (some_is is)) �
 known_reads env (Made v head leaves) n e f is = absurd (not_none e)
 
 -- what an operand is the sum of
-pub record IsSum (env : Environment) (a : Operand) (part : Part) (d : Datum) : Type 0 where
+pub record IsSum (env : Environment) (a : Operand) (part : Addend) (d : Datum) : Type 0 where
   pub datum : Datum
   pub has : env part.value ≡ Some datum
   pub is : d ≡ Number (sum (as_number datum) part.number)
 
-sum_of_leaves : (env : Environment) (v : ℕ) (head : Head) (leaves : List Leaf) (part : Part) (d : Datum) → head.kind ≡ 3 → Each (LeafAgrees env) leaves → part_of_leaves leaves ≡ Some part → result_datum bench head (data_by (leaf_datum env) leaves) ≡ Some d → IsSum env (Made v head leaves) part d
+sum_of_leaves : (env : Environment) (v : ℕ) (head : Head) (leaves : List Leaf) (part : Addend) (d : Datum) → head.kind ≡ 3 → Each (LeafAgrees env) leaves → part_of_leaves leaves ≡ Some part → result_datum bench head (data_by (leaf_datum env) leaves) ≡ Some d → IsSum env (Made v head leaves) part d
 sum_of_leaves env v head [] part d kind agrees e is = absurd (not_none e)
 sum_of_leaves env v head (p ∷ []) part d kind agrees e is = absurd (not_none e)
 sum_of_leaves env v head (p ∷ Unknown w ∷ []) part d kind agrees e is = absurd (not_none e)
@@ -143,7 +143,7 @@ sum_of_leaves env v head (p ∷ Known w c ∷ []) part d kind agrees e is =
     })
 sum_of_leaves env v head (p ∷ q ∷ r ∷ leaves) part d kind agrees e is = absurd (not_none e)
 
-sum_is : (env : Environment) (a : Operand) (part : Part) (d : Datum) → OperandAgrees bench env a → part_of a ≡ Some part → operand_datum bench env a ≡ Some d → IsSum env a part d
+sum_is : (env : Environment) (a : Operand) (part : Addend) (d : Datum) → OperandAgrees bench env a → part_of a ≡ Some part → operand_datum bench env a ≡ Some d → IsSum env a part d
 sum_is env (Plain leaf) part d agrees e is = absurd (not_none e)
 sum_is env (Made v head leaves) part d agrees e is = go (is_kind Add head) refl e
   where
@@ -151,14 +151,14 @@ sum_is env (Made v head leaves) part d agrees e is = go (is_kind Add head) refl 
     go true kind f = sum_of_leaves env v head leaves part d (kind_is Add head kind) agrees.1 f is
     go false kind f = absurd (not_none f)
 
-leaves_shown : (leaves : List Leaf) (part : Part) → part_of_leaves leaves ≡ Some part → In part.value (map leaf_value leaves)
+leaves_shown : (leaves : List Leaf) (part : Addend) → part_of_leaves leaves ≡ Some part → In part.value (map leaf_value leaves)
 leaves_shown [] part e = absurd (not_none e)
 leaves_shown (p ∷ []) part e = absurd (not_none e)
 leaves_shown (p ∷ Unknown w ∷ []) part e = absurd (not_none e)
 leaves_shown (p ∷ Known w c ∷ []) part e = inl (ap (λ z. z.value) (sym (some_is e)))
 leaves_shown (p ∷ q ∷ r ∷ leaves) part e = absurd (not_none e)
 
-part_shown : (a : Operand) (part : Part) → part_of a ≡ Some part → In part.value (operand_values a)
+part_shown : (a : Operand) (part : Addend) → part_of a ≡ Some part → In part.value (operand_values a)
 part_shown (Plain leaf) part e = absurd (not_none e)
 part_shown (Made v head leaves) part e = go (is_kind Add head) e
   where
@@ -178,7 +178,7 @@ module _ (head : Head) (kind : head.kind ≡ 3) (a b : Operand) where
   sum_datum : (env : Environment) (d e f : Datum) → view_datum bench env view ≡ Some d → operand_datum bench env a ≡ Some e → operand_datum bench env b ≡ Some f → d ≡ Number (sum (as_number e) (as_number f))
   sum_datum env d e f is p q = some_is (sym is ∙ ap₂ (λ o r. result_datum bench head (prepend_optional o (prepend_optional r (Some [])))) p q ∙ add_gives head e f kind)
 
-  join_holds : (part : Part) (n : ℤ) → part_of a ≡ Some part → known_operand b ≡ Some n → IsRuleOf view (with_number Add part.value (sum part.number n))
+  join_holds : (part : Addend) (n : ℤ) → part_of a ≡ Some part → known_operand b ≡ Some n → IsRuleOf view (with_number Add part.value (sum part.number n))
   join_holds part n of known = record {
     buildable = (pure_add, (tt, (fits_sum part.number n, tt)));
     shown = λ v i. shown v i;
@@ -236,7 +236,7 @@ module _ (head : Head) (kind : head.kind ≡ 3) (a b : Operand) where
   two_hold : (term : Term) → first_of_two (join_of a b) (double_of a b) ≡ Some term → IsRuleOf view term
   two_hold term e = go (part_of a) refl (known_operand b) refl e
     where
-      go : (part : Option Part) → part_of a ≡ part → (n : Option ℤ) → known_operand b ≡ n → first_of_two (join_with part n) (double_of a b) ≡ Some term → IsRuleOf view term
+      go : (part : Option Addend) → part_of a ≡ part → (n : Option ℤ) → known_operand b ≡ n → first_of_two (join_with part n) (double_of a b) ≡ Some term → IsRuleOf view term
       go None p n q f = doubles_hold term f
       go (Some part) p None q f = doubles_hold term f
       go (Some part) p (Some n) q f = subst (IsRuleOf view) (some_is f) (join_holds part n p q)

@@ -22,7 +22,7 @@ pub struct BenchRules;
 
 // A value, and a number.
 #[derive(Clone, Copy)]
-struct Part {
+struct Addend {
     value: Value,
     number: i64,
 }
@@ -85,21 +85,21 @@ fn known_operand(operand: &Operand) -> Option<i64>
 }
 
 // The value of the first of two leaves, and the number that the second one is known to be.
-fn part_of_leaves(leaves: &[Leaf]) -> Option<Part>
+fn part_of_leaves(leaves: &[Leaf]) -> Option<Addend>
     ensures { result ≡ part_of_leaves_by leaves.now }
 {
     if leaves.len() != 2 {
         return None;
     }
     let number = known_leaf(&leaves[1])?;
-    Some(Part {
+    Some(Addend {
         value: leaf_value(&leaves[0]),
         number,
     })
 }
 
 // What the operand is the sum of, where the second is known.
-fn part_of(operand: &Operand) -> Option<Part>
+fn part_of(operand: &Operand) -> Option<Addend>
     ensures { result ≡ part_of_by operand.now }
 {
     match operand {

@@ -8,14 +8,14 @@ use Rattle.pliron_pass.specs.declared.bench_facts.BenchFacts.{BenchFacts}
 use Rattle.pliron_pass_pipeline.specs.PassSteps.{PassPipelineOf}
 use Rattle.pliron_driver.specs.Answered.{Reads, Prints, IsOptimised}
 use Rattle.pliron_driver.specs.Asked.{IsPlanned}
-use Rattle.pliron_driver_buffers.specs.declared.status.Failure.{Failure}
-use Rattle.pliron_driver_buffers.specs.declared.status.Failure.TheVariants.{Arguments, Text, Refused, Memory}
+use Rattle.pliron_driver_buffers.specs.declared.status.CallFailure.{CallFailure}
+use Rattle.pliron_driver_buffers.specs.declared.status.CallFailure.TheVariants.{Arguments, Text, Refused, Memory}
 use Rattle.pliron_driver_buffers.specs.declared.status.Status.{Status}
 use Rattle.pliron_driver_buffers.specs.Fills.{Fills, Fills.Whole, Fills.Short, Fills.Fails}
 use Rattle.pliron_driver_buffers.specs.Optimises.{Optimises, IsListed, Explains}
 
 -- each answer and each failure is one of these too
-pub fills_by : {A B : List ℕ → Type 0} {F G : Failure → Type 0} (before after : List ℕ) (needed : ℕ) (status : Status) → Fills A F before after needed status → ((answer : List ℕ) → A answer → B answer) → ((failure : Failure) → F failure → G failure) → Fills B G before after needed status
+pub fills_by : {A B : List ℕ → Type 0} {F G : CallFailure → Type 0} (before after : List ℕ) (needed : ℕ) (status : Status) → Fills A F before after needed status → ((answer : List ℕ) → A answer → B answer) → ((failure : CallFailure) → F failure → G failure) → Fills B G before after needed status
 fills_by before after needed status (Whole answer a s n l e) h k = Whole answer (h answer a) s n l e
 fills_by before after needed status (Short answer a s n l e) h k = Short answer (h answer a) s n l e
 fills_by before after needed status (Fails failure f s n e) h k = Fails failure (k failure f) s n e
@@ -37,14 +37,14 @@ if_err (Ok x) p h = tt
 if_err (Err f) p h = h f p
 
 -- why there is no answer, of a list that isn't understood, and of one that is
-pub explains_list : (listed : Type 0) (failure : Failure) → (failure ≡ Arguments) ⊎ (failure ≡ Memory) → Explains listed failure
+pub explains_list : (listed : Type 0) (failure : CallFailure) → (failure ≡ Arguments) ⊎ (failure ≡ Memory) → Explains listed failure
 explains_list listed failure (inl e) = subst (λ f. Explains listed f) (sym e) tt
 explains_list listed failure (inr e) = subst (λ f. Explains listed f) (sym e) tt
 
 pub lists : {D B : Type 0} (ran : PassPipelineOf D BenchFacts B BenchFactKind → ℕ → Tree → Tree → IRStatus → Type 0) (list : List ℕ) (pipeline : PassPipelineOf D BenchFacts B BenchFactKind) → IsPlanned list pipeline → IsListed ran list
 lists ran list pipeline p = record { pipeline = pipeline; planned = p }
 
-pub explains_text : {listed : Type 0} (failure : Failure) → listed → failure ≢ Arguments → Explains listed failure
+pub explains_text : {listed : Type 0} (failure : CallFailure) → listed → failure ≢ Arguments → Explains listed failure
 explains_text Arguments is other = absurd (other refl)
 explains_text Text is other = is
 explains_text Refused is other = is

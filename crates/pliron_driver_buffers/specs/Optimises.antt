@@ -8,8 +8,8 @@ use Rattle.pliron_pass.specs.declared.bench_facts.BenchFacts.{BenchFacts}
 use Rattle.pliron_pass_pipeline.specs.PassSteps.{PassPipelineOf}
 use Rattle.pliron_driver.specs.Answered.{Reads, Prints, IsOptimised}
 use Rattle.pliron_driver.specs.Asked.{IsPlanned}
-use Rattle.pliron_driver_buffers.specs.declared.status.Failure.{Failure}
-use Rattle.pliron_driver_buffers.specs.declared.status.Failure.TheVariants.{Arguments, Text, Refused, Memory}
+use Rattle.pliron_driver_buffers.specs.declared.status.CallFailure.{CallFailure}
+use Rattle.pliron_driver_buffers.specs.declared.status.CallFailure.TheVariants.{Arguments, Text, Refused, Memory}
 
 -- the list plans a pipeline of passes, and the answer is what these make of the text, printed
 pub record Optimises {D B : Type 0} (reads : Reads) (prints : Prints) (m : Meaning) (ran : PassPipelineOf D BenchFacts B BenchFactKind → ℕ → Tree → Tree → IRStatus → Type 0) (list text answer : List ℕ) : Type 0 where
@@ -23,7 +23,7 @@ pub record IsListed {D B : Type 0} (ran : PassPipelineOf D BenchFacts B BenchFac
   pub planned : IsPlanned list pipeline
 
 -- why there is no answer: of the list nothing is said; or it is one, and the text is at fault, or the passes gave up
-abbrev pub Explains : (listed : Type 0) → Failure → Type 0
+abbrev pub Explains : (listed : Type 0) → CallFailure → Type 0
 Explains listed Arguments = ⊤
 Explains listed Text = listed
 Explains listed Refused = listed

@@ -2,8 +2,8 @@
 use Rattle.std.specs.Prelude.{ℕ}
 use Rattle.pliron_laws.specs.declared.fault.OptError.{OptError}
 use Rattle.pliron_laws.specs.declared.fault.OptError.TheVariants.{Memory as WantOfMemory, LiveUse, VerifyBefore, VerifyAfter, Pass}
-use Rattle.pliron_driver_buffers.specs.declared.status.Failure.{Failure}
-use Rattle.pliron_driver_buffers.specs.declared.status.Failure.TheVariants.{Arguments as ByArguments, Text as ByText, Refused as ByPasses, Memory as ByMemory}
+use Rattle.pliron_driver_buffers.specs.declared.status.CallFailure.{CallFailure}
+use Rattle.pliron_driver_buffers.specs.declared.status.CallFailure.TheVariants.{Arguments as ByArguments, Text as ByText, Refused as ByPasses, Memory as ByMemory}
 use Rattle.pliron_driver_buffers.specs.declared.status.Status.{Status}
 use Rattle.pliron_driver_buffers.specs.declared.status.Status.TheVariants.{Answered, Refused, Text, Arguments, TooSmall, Memory}
 
@@ -16,13 +16,13 @@ number_of Arguments = 3
 number_of TooSmall = 4
 number_of Memory = 5
 
-abbrev pub status_of : Failure → Status
+abbrev pub status_of : CallFailure → Status
 status_of ByArguments = Arguments
 status_of ByText = Text
 status_of ByPasses = Refused
 status_of ByMemory = Memory
 
-abbrev pub failure_of : OptError → Failure
+abbrev pub failure_of : OptError → CallFailure
 failure_of WantOfMemory = ByMemory
 failure_of LiveUse = ByPasses
 failure_of VerifyBefore = ByPasses

@@ -3,11 +3,11 @@ ghost use Rattle.std.specs.Prelude.{◌≡◌, IsOkAnd, IsErrOf};
 ghost use Rattle.pliron_driver_buffers.specs.Fills.{Fills};
 ghost use Rattle.pliron_driver_buffers.specs.Statuses.{status_of};
 
-use crate::status::{Failure, Status};
+use crate::status::{CallFailure, Status};
 
 /// Writes the answer to the start of the buffer, if it fits, and its length to `needed`; for a failure it writes 0 to
 /// `needed`, and nothing to the buffer. Cost: linear in the answer.
-pub fn fill(answer: Result<Vec<u8>, Failure>, output: &mut [u8], needed: &mut usize) -> Status
+pub fn fill(answer: Result<Vec<u8>, CallFailure>, output: &mut [u8], needed: &mut usize) -> Status
     ensures { Fills (λ bytes. IsOkAnd answer (λ text. bytes ≡ text.items)) (λ failure. IsErrOf answer failure)
         output.old output.new needed.new result }
 {
@@ -18,7 +18,7 @@ pub fn fill(answer: Result<Vec<u8>, Failure>, output: &mut [u8], needed: &mut us
 }
 
 /// Reports that there is no answer. Cost: constant.
-pub fn put_nothing(failure: Failure, needed: &mut usize) -> Status
+pub fn put_nothing(failure: CallFailure, needed: &mut usize) -> Status
     ensures length { needed.new ≡ 0 }
     ensures status { result ≡ status_of failure }
 {

@@ -5,14 +5,14 @@ ghost use Rattle.pliron_driver_buffers.specs.Faults.{nowhere, IsPartOf, IsFaultP
 
 use crate::buffer::{put, put_nothing};
 use crate::optimise_module::MAX_MODULE;
-use crate::status::{Failure, Status};
+use crate::status::{CallFailure, Status};
 use pliron_core::Context;
 use pliron_driver::{MAX_TEXT, TextFailure};
 use pliron_driver_mlir::failure_of;
 use pliron_laws::Dialect;
 use pliron_show_places::position_of;
 use pliron_text::find_text_fault;
-use pliron_text_mlir_reader::{Expected, read_module};
+use pliron_text_mlir_reader::{Expectation, read_module};
 use std::alloc::Global;
 
 /// A part of a text: after how many bytes it begins and how many it has, and the line and column of its first
@@ -43,9 +43,9 @@ struct Fault {
 }
 
 // The first place at which the text leaves the notation or is too long. Errors: allocation failure.
-fn fault_of(alloc: Global, text: &[u8]) -> Result<Option<Fault>, Failure>
+fn fault_of(alloc: Global, text: &[u8]) -> Result<Option<Fault>, CallFailure>
     ensures within { IfOk result (λ found. IfSome found (λ fault. fault.start + fault.len ≤ length text.now)) }
-    ensures memory { IfErr result (λ failure. failure ≡ Failure.Memory) }
+    ensures memory { IfErr result (λ failure. failure ≡ CallFailure.Memory) }
 {
     if text.len() > MAX_TEXT {
         return Ok(Some(Fault {
@@ -61,7 +61,7 @@ fn fault_of(alloc: Global, text: &[u8]) -> Result<Option<Fault>, Failure>
             expected: fault.expected.to_string(alloc)?,
         })),
         Ok(None) => Ok(None),
-        Err(error) => Err(Failure::of(error)),
+        Err(error) => Err(CallFailure::of(error)),
     }
 }
 
@@ -81,16 +81,16 @@ fn place_in(text: &[u8], start: usize, len: usize) -> Place
 
 // Reports the place of what was found in the text, and puts what was expected there into the buffer.
 fn report_fault(
-    found: Result<Option<Fault>, Failure>,
+    found: Result<Option<Fault>, CallFailure>,
     text: &[u8],
     output: &mut [u8],
     needed: &mut usize,
     place: &mut Place,
 ) -> Status
     requires within { IfOk found (λ found. IfSome found (λ fault. fault.start + fault.len ≤ length text.now)) }
-    requires memory { IfErr found (λ failure. failure ≡ Failure.Memory) }
+    requires memory { IfErr found (λ failure. failure ≡ CallFailure.Memory) }
     ensures fills { Fills (λ expected. place.new ≡ nowhere → expected ≡ [])
-        (λ failure. (failure ≡ Failure.Memory) × (place.new ≡ nowhere)) output.old output.new needed.new result }
+        (λ failure. (failure ≡ CallFailure.Memory) × (place.new ≡ nowhere)) output.old output.new needed.new result }
     ensures place { IsFaultPlace text.now place.new }
 {
     match found {
@@ -121,7 +121,7 @@ pub fn find_fault_into(
     place: &mut Place,
 ) -> Status
     ensures fills { Fills (λ expected. place.new ≡ nowhere → expected ≡ [])
-        (λ failure. (failure ≡ Failure.Memory) × (place.new ≡ nowhere)) output.old output.new needed.new result }
+        (λ failure. (failure ≡ CallFailure.Memory) × (place.new ≡ nowhere)) output.old output.new needed.new result }
     ensures place { IsFaultPlace text.now place.new }
 {
     report_fault(fault_of(alloc, text), text, output, needed, place)
@@ -129,15 +129,15 @@ pub fn find_fault_into(
 
 // The first place at which the text leaves MLIR's generic form, or asks for what a dialect doesn't admit, or is too
 // long. Errors: allocation failure.
-fn fault_of_module<D: Dialect>(alloc: Global, text: &[u8]) -> Result<Option<Fault>, Failure>
+fn fault_of_module<D: Dialect>(alloc: Global, text: &[u8]) -> Result<Option<Fault>, CallFailure>
     ensures within { IfOk result (λ found. IfSome found (λ fault. fault.start + fault.len ≤ length text.now)) }
-    ensures memory { IfErr result (λ failure. failure ≡ Failure.Memory) }
+    ensures memory { IfErr result (λ failure. failure ≡ CallFailure.Memory) }
 {
     if text.len() > MAX_MODULE {
         return Ok(Some(Fault {
             start: MAX_MODULE,
             len: text.len() - MAX_MODULE,
-            expected: Expected::ShorterText.to_string(alloc)?,
+            expected: Expectation::ShorterText.to_string(alloc)?,
         }));
     }
     let mut ctx = Context::new(alloc);
@@ -149,9 +149,9 @@ fn fault_of_module_in<D: Dialect>(
     alloc: Global,
     text: &[u8],
     ctx: &mut Context,
-) -> Result<Option<Fault>, Failure>
+) -> Result<Option<Fault>, CallFailure>
     ensures within { IfOk result (λ found. IfSome found (λ fault. fault.start + fault.len ≤ length text.now)) }
-    ensures memory { IfErr result (λ failure. failure ≡ Failure.Memory) }
+    ensures memory { IfErr result (λ failure. failure ≡ CallFailure.Memory) }
 {
     let Err(fault) = read_module::<D>(alloc, text, ctx) else {
         return Ok(None);
@@ -162,7 +162,7 @@ fn fault_of_module_in<D: Dialect>(
             len: 0,
             expected: fault.expected.to_string(alloc)?,
         })),
-        TextFailure::Refused(_) => Err(Failure::Memory),
+        TextFailure::Refused(_) => Err(CallFailure::Memory),
     }
 }
 
@@ -178,7 +178,7 @@ pub fn find_module_fault_into<D: Dialect>(
     place: &mut Place,
 ) -> Status
     ensures fills { Fills (λ expected. place.new ≡ nowhere → expected ≡ [])
-        (λ failure. (failure ≡ Failure.Memory) × (place.new ≡ nowhere)) output.old output.new needed.new result }
+        (λ failure. (failure ≡ CallFailure.Memory) × (place.new ≡ nowhere)) output.old output.new needed.new result }
     ensures place { IsFaultPlace text.now place.new }
 {
     report_fault(

@@ -3,21 +3,21 @@ ghost use Rattle.std.specs.Prelude.{◌≢◌, ⊤, IfErr};
 ghost use Rattle.pliron_driver_buffers.specs.Fills.{Fills};
 
 use crate::buffer::fill;
-use crate::status::{Failure, Status};
+use crate::status::{CallFailure, Status};
 use pliron_driver::{MAX_TEXT, describe_graph};
 use std::alloc::Global;
 
 // What the program describes of a graph. Errors: the text is no graph or too long; allocation failure.
-fn answer_of_graph(alloc: Global, text: &[u8]) -> Result<Vec<u8>, Failure>
-    ensures { IfErr result (λ failure. failure ≢ Failure.Arguments) }
+fn answer_of_graph(alloc: Global, text: &[u8]) -> Result<Vec<u8>, CallFailure>
+    ensures { IfErr result (λ failure. failure ≢ CallFailure.Arguments) }
 {
     if text.len() > MAX_TEXT {
-        return Err(Failure::Text);
+        return Err(CallFailure::Text);
     }
     match describe_graph(alloc, text) {
         Ok(Some(answer)) => Ok(answer),
-        Ok(None) => Err(Failure::Text),
-        Err(error) => Err(Failure::of(error)),
+        Ok(None) => Err(CallFailure::Text),
+        Err(error) => Err(CallFailure::of(error)),
     }
 }
 
@@ -32,7 +32,7 @@ pub fn describe_graph_into(
     output: &mut [u8],
     needed: &mut usize,
 ) -> Status
-    ensures { Fills (λ answer. ⊤) (λ failure. failure ≢ Failure.Arguments) output.old output.new needed.new result }
+    ensures { Fills (λ answer. ⊤) (λ failure. failure ≢ CallFailure.Arguments) output.old output.new needed.new result }
 {
     fill(answer_of_graph(alloc, text), output, needed)
 }

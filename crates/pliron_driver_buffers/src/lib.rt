@@ -16,4 +16,4 @@ pub use graph::describe_graph_into;
 pub use optimise::{optimise_by_list, optimise_into};
 pub use optimise_module::{MAX_MODULE, ModulePass, ModulePipeline, optimise_module_into};
 pub use pliron_driver::{BenchNotation, Notation};
-pub use status::{Failure, Status};
+pub use status::{CallFailure, Status};

@@ -7,7 +7,7 @@ ghost use Rattle.pliron_driver_buffers.specs.Fills.{Fills};
 ghost use Rattle.pliron_driver_buffers.specs.Optimises.{Optimises, IsListed, Explains};
 
 use crate::buffer::fill;
-use crate::status::{Failure, Status};
+use crate::status::{CallFailure, Status};
 use pliron_driver::{MAX_TEXT, Notation, PassPipeline, optimise_text, read_pipeline};
 use pliron_laws::Dialect;
 use pliron_pass::{BenchFactKind, BenchFacts, Pass};
@@ -17,16 +17,16 @@ use std::alloc::Global;
 fn pipeline_of<D: Dialect>(
     alloc: Global,
     list: &[u8],
-) -> Result<PassPipeline<D, BenchFacts>, Failure>
+) -> Result<PassPipeline<D, BenchFacts>, CallFailure>
     ensures planned { IfOk result (λ pipeline. IsPlanned list.now pipeline) }
-    ensures failure { IfErr result (λ failure. (failure ≡ Failure.Arguments) ⊎ (failure ≡ Failure.Memory)) }
+    ensures failure { IfErr result (λ failure. (failure ≡ CallFailure.Arguments) ⊎ (failure ≡ CallFailure.Memory)) }
 {
     let Ok(word) = str::from_utf8(list) else {
-        return Err(Failure::Arguments);
+        return Err(CallFailure::Arguments);
     };
     match read_pipeline(alloc, word)? {
         Some(pipeline) => Ok(pipeline),
-        None => Err(Failure::Arguments),
+        None => Err(CallFailure::Arguments),
     }
 }
 
@@ -37,19 +37,19 @@ fn answer_of<N: Notation>(
     alloc: Global,
     pipeline: PassPipeline<N::D, BenchFacts>,
     text: &[u8],
-) -> Result<Vec<u8>, Failure>
+) -> Result<Vec<u8>, CallFailure>
     ensures answer { IfOk result (λ answer. IsOptimised N.reads N.prints N.D.meaning
         (RunsAlone ⟦<BenchFactKind as PartialEq>⟧.eq ⟦<PassPipeline<N::D, BenchFacts> as Pass>⟧.outcome pipeline)
         text.now answer.items) }
-    ensures failure { IfErr result (λ failure. failure ≢ Failure.Arguments) }
+    ensures failure { IfErr result (λ failure. failure ≢ CallFailure.Arguments) }
 {
     if text.len() > MAX_TEXT {
-        return Err(Failure::Text);
+        return Err(CallFailure::Text);
     }
     match optimise_text::<N>(alloc, pipeline, text) {
         Ok(Some(answer)) => Ok(answer),
-        Ok(None) => Err(Failure::Text),
-        Err(error) => Err(Failure::of(error)),
+        Ok(None) => Err(CallFailure::Text),
+        Err(error) => Err(CallFailure::of(error)),
     }
 }
 
@@ -62,7 +62,7 @@ pub fn optimise_by_list<N: Notation>(
     alloc: Global,
     list: &[u8],
     text: &[u8],
-) -> Result<Vec<u8>, Failure>
+) -> Result<Vec<u8>, CallFailure>
     ensures answer { IfOk result (λ answer. Optimises N.reads N.prints N.D.meaning
         (RunsAlone ⟦<BenchFactKind as PartialEq>⟧.eq ⟦<PassPipeline<N::D, BenchFacts> as Pass>⟧.outcome)
         list.now text.now answer.items) }

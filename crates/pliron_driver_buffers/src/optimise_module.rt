@@ -8,7 +8,7 @@ ghost use Rattle.pliron_driver_buffers.specs.Modules.{IsWord, IsAsked, Optimises
 ghost use Rattle.pliron_driver_mlir.specs.Outcomes.{AsksFor};
 
 use crate::buffer::{put, put_nothing};
-use crate::status::{Failure, Status};
+use crate::status::{CallFailure, Status};
 use pliron_core::IRStatus;
 use pliron_driver::{OptimisedText, TextFailure, Unobserved, optimise, passes_of};
 use pliron_driver_instrument::{
@@ -30,31 +30,34 @@ pub type ModulePipeline<N> = InstrumentedPipeline<N, Timeless>;
 
 // The passes that the word asks for: of an empty one, none. Errors: it isn't a list of names of passes; allocation
 // failure.
-fn plan_of<'w>(alloc: Global, word: &'w [u8]) -> Result<PipelineText<'w>, Failure>
+fn plan_of<'w>(alloc: Global, word: &'w [u8]) -> Result<PipelineText<'w>, CallFailure>
     ensures asked { IfOk result (λ plan. AsksFor word.now plan.runs plan.nested
         (map (λ name. name.now) plan.names.items)) }
-    ensures failure { IfErr result (λ failure. (failure ≡ Failure.Arguments) ⊎ (failure ≡ Failure.Memory)) }
+    ensures failure { IfErr result (λ failure. (failure ≡ CallFailure.Arguments) ⊎ (failure ≡ CallFailure.Memory)) }
 {
     let Ok(word) = str::from_utf8(word) else {
-        return Err(Failure::Arguments);
+        return Err(CallFailure::Arguments);
     };
     match read_plan(alloc, word) {
         Ok(plan) => Ok(plan),
-        Err(PlanError::Word(_)) => Err(Failure::Arguments),
-        Err(PlanError::Memory) => Err(Failure::Memory),
+        Err(PlanError::Word(_)) => Err(CallFailure::Arguments),
+        Err(PlanError::Memory) => Err(CallFailure::Memory),
     }
 }
 
 // The pipeline that the word asks for. Errors: it isn't a list of names of passes; allocation failure.
-fn pipeline_of<N: ModuleNotation>(alloc: Global, word: &[u8]) -> Result<ModulePipeline<N>, Failure>
+fn pipeline_of<N: ModuleNotation>(
+    alloc: Global,
+    word: &[u8],
+) -> Result<ModulePipeline<N>, CallFailure>
     ensures asked { IfOk result (IsAsked ⟦<ModulePass<N> as Pass>⟧.name word.now) }
-    ensures failure { IfErr result (λ failure. (failure ≡ Failure.Arguments) ⊎ (failure ≡ Failure.Memory)) }
+    ensures failure { IfErr result (λ failure. (failure ≡ CallFailure.Arguments) ⊎ (failure ≡ CallFailure.Memory)) }
 {
     let plan = plan_of(alloc, word)?;
     let nothing = InstrumentationOptions::nothing();
     match instrumented_pipeline::<N, Timeless>(alloc, &plan, &nothing, Timeless)? {
         Some(pipeline) => Ok(pipeline),
-        None => Err(Failure::Arguments),
+        None => Err(CallFailure::Arguments),
     }
 }
 
@@ -65,22 +68,22 @@ fn answer_of<N: ModuleNotation>(
     alloc: Global,
     pipeline: &mut ModulePipeline<N>,
     text: &[u8],
-) -> Result<OptimisedText, Failure>
+) -> Result<OptimisedText, CallFailure>
     ensures answer { IfOk result (λ made. IsOptimised N.reads N.prints N.D.meaning
         (RunsAlone ⟦<BenchFactKind as PartialEq>⟧.eq ⟦<ModulePipeline<N> as Pass>⟧.outcome pipeline.old)
         text.now (made.printed.items ++ status_line made.status)) }
-    ensures failure { IfErr result (λ failure. failure ≢ Failure.Arguments) }
+    ensures failure { IfErr result (λ failure. failure ≢ CallFailure.Arguments) }
 {
     if text.len() > MAX_MODULE {
-        return Err(Failure::Text);
+        return Err(CallFailure::Text);
     }
     let mut nothing = Unobserved;
     match optimise::<N, ModulePass<N>, Unobserved>(alloc, pipeline, text, &mut nothing) {
         // Memory was refused for what is noted of a pass: with that `plir_mlir` gives no answer either.
-        Ok(_) if is_short(passes_of(pipeline)) => Err(Failure::Memory),
+        Ok(_) if is_short(passes_of(pipeline)) => Err(CallFailure::Memory),
         Ok(made) => Ok(made),
-        Err(TextFailure::Text(_)) => Err(Failure::Text),
-        Err(TextFailure::Refused(error)) => Err(Failure::of(error)),
+        Err(TextFailure::Text(_)) => Err(CallFailure::Text),
+        Err(TextFailure::Refused(error)) => Err(CallFailure::of(error)),
     }
 }
 
@@ -89,7 +92,7 @@ fn optimise_module<N: ModuleNotation>(
     alloc: Global,
     word: &[u8],
     text: &[u8],
-) -> Result<OptimisedText, Failure>
+) -> Result<OptimisedText, CallFailure>
     ensures answer { IfOk result (λ made. OptimisesModule ⟦<ModulePass<N> as Pass>⟧.name
         N.reads N.prints N.D.meaning
         (RunsAlone ⟦<BenchFactKind as PartialEq>⟧.eq ⟦<ModulePipeline<N> as Pass>⟧.outcome)

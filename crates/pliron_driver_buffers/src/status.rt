@@ -1,6 +1,6 @@
 //! What calls answer, and why no answer is known.
 ghost use Rattle.std.specs.Prelude.{◌≡◌, ◌≢◌};
-ghost use Rattle.pliron_driver_buffers.specs.declared.status.Failure.TheVariants.{Memory as ByMemory};
+ghost use Rattle.pliron_driver_buffers.specs.declared.status.CallFailure.TheVariants.{Memory as ByMemory};
 
 use pliron_laws::OptError;
 use std::alloc::AllocError;
@@ -8,7 +8,7 @@ use thiserror::Error;
 
 /// Why no answer is known.
 #[derive(Clone, Copy, Debug, Drop, PartialEq, Eq, Error)]
-pub enum Failure {
+pub enum CallFailure {
     /// The list isn't one of names of passes.
     #[error("words that ask for nothing")]
     Arguments,
@@ -23,11 +23,11 @@ pub enum Failure {
     Memory,
 }
 
-impl From<AllocError> for Failure {
+impl From<AllocError> for CallFailure {
     ghost from_gives = { λ _ failure. failure ≡ ByMemory };
 
-    fn from(_refused: AllocError) -> Failure {
-        Failure::Memory
+    fn from(_refused: AllocError) -> CallFailure {
+        CallFailure::Memory
     }
 }
 
@@ -48,20 +48,20 @@ pub enum Status {
     Memory,
 }
 
-impl Failure {
+impl CallFailure {
     ghost use Rattle.pliron_driver_buffers.specs.Statuses.{failure_of, status_of};
 
     /// The failure of a call that gave up so. Cost: constant.
     pub fn of(error: OptError) -> Self
         ensures value { result ≡ failure_of error }
-        ensures later { result ≢ Failure.Arguments }
+        ensures later { result ≢ CallFailure.Arguments }
     {
         match error {
-            OptError::Memory => Failure::Memory,
+            OptError::Memory => CallFailure::Memory,
             OptError::LiveUse
             | OptError::VerifyBefore
             | OptError::VerifyAfter
-            | OptError::Pass(_) => Failure::Refused,
+            | OptError::Pass(_) => CallFailure::Refused,
         }
     }
 
@@ -70,10 +70,10 @@ impl Failure {
         ensures { result ≡ status_of self }
     {
         match self {
-            Failure::Arguments => Status::Arguments,
-            Failure::Text => Status::Text,
-            Failure::Refused => Status::Refused,
-            Failure::Memory => Status::Memory,
+            CallFailure::Arguments => Status::Arguments,
+            CallFailure::Text => Status::Text,
+            CallFailure::Refused => Status::Refused,
+            CallFailure::Memory => Status::Memory,
         }
     }
 }

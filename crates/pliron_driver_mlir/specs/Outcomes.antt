@@ -6,14 +6,14 @@ use Rattle.pliron_laws.specs.Datum.{Meaning}
 use Rattle.pliron_driver.specs.Answered.{Reads, Prints, IsOptimised, status_line}
 use Rattle.pliron_driver.specs.PipelineTexts.{Plans}
 use Rattle.pliron_pass_pipeline.specs.Pipelines.{PipelineOf, IsPipelineOf}
-use Rattle.pliron_driver_mlir.specs.declared.outcome.Outcome.{Outcome}
+use Rattle.pliron_driver_mlir.specs.declared.outcome.ModuleOutcome.{ModuleOutcome}
 
 -- nothing is to be written, and the status is 1, 2 or 3
-abbrev pub EndsWithout : Outcome → Type 0
+abbrev pub EndsWithout : ModuleOutcome → Type 0
 EndsWithout o = (o.output.items ≡ []) × (1 ≤ o.status) × (o.status ≤ 3)
 
 -- this is written, with 0, or nothing
-abbrev pub Writes : (printed : List ℕ) → Outcome → Type 0
+abbrev pub Writes : (printed : List ℕ) → ModuleOutcome → Type 0
 Writes printed o = ((o.output.items ≡ printed) × (o.status ≡ 0)) ⊎ EndsWithout o
 
 module _ (reads : Reads) (prints : Prints) (m : Meaning) (ran : ℕ → Tree → Tree → IRStatus → Type 0) (text : List ℕ) where
@@ -23,12 +23,12 @@ module _ (reads : Reads) (prints : Prints) (m : Meaning) (ran : ℕ → Tree →
     pub made : IsOptimised reads prints m ran text (output ++ status_line status)
 
   -- with 0 that is written, else nothing
-  pub data EndsOptimised (o : Outcome) : Type 0 where
+  pub data EndsOptimised (o : ModuleOutcome) : Type 0 where
     WithModule : IsMade o.output.items → o.status ≡ 0 → EndsOptimised o
     WithoutModule : EndsWithout o → EndsOptimised o
 
 -- it ends so by passes that have these names and are run so, or nothing is to be written
-pub data EndsByPlan {P D E B K : Type 0} (name : P → List ℕ) (EndsSo : PipelineOf P D E B K → Outcome → Type 0) (runs : Option ℕ) (nested : Bool) (names : List (List ℕ)) (o : Outcome) : Type 0 where
+pub data EndsByPlan {P D E B K : Type 0} (name : P → List ℕ) (EndsSo : PipelineOf P D E B K → ModuleOutcome → Type 0) (runs : Option ℕ) (nested : Bool) (names : List (List ℕ)) (o : ModuleOutcome) : Type 0 where
   ByPasses : (pipeline : PipelineOf P D E B K) → IsPipelineOf name runs nested names pipeline → EndsSo pipeline o → EndsByPlan name EndsSo runs nested names o
   WithoutPasses : EndsWithout o → EndsByPlan name EndsSo runs nested names o
 
@@ -38,6 +38,6 @@ pub data AsksFor (word : List ℕ) : Option ℕ → Bool → List (List ℕ) →
   Passes : (runs : Option ℕ) (nested : Bool) (names : List (List ℕ)) → Plans true word runs nested names → AsksFor word runs nested names
 
 -- it ends so by passes that the word asks for, or nothing is to be written
-pub data EndsByWord {P D E B K : Type 0} (name : P → List ℕ) (EndsSo : PipelineOf P D E B K → Outcome → Type 0) (word : List ℕ) (o : Outcome) : Type 0 where
+pub data EndsByWord {P D E B K : Type 0} (name : P → List ℕ) (EndsSo : PipelineOf P D E B K → ModuleOutcome → Type 0) (word : List ℕ) (o : ModuleOutcome) : Type 0 where
   ByWord : (runs : Option ℕ) (nested : Bool) (names : List (List ℕ)) → AsksFor word runs nested names → EndsByPlan name EndsSo runs nested names o → EndsByWord name EndsSo word o
   WithoutWord : EndsWithout o → EndsByWord name EndsSo word o

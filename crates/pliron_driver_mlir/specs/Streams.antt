@@ -2,10 +2,10 @@
 use Rattle.std.specs.Prelude.{◌≡◌, ◌≢◌, ◌⊎◌, ℕ, List, Option}
 use Rattle.std.specs.Io.KnownBytes.{Appends, Keeps}
 use Rattle.pliron_driver.specs.Ending.{IsRestOfInput, WritesPart}
-use Rattle.pliron_driver_mlir.specs.declared.outcome.Outcome.{Outcome}
+use Rattle.pliron_driver_mlir.specs.declared.outcome.ModuleOutcome.{ModuleOutcome}
 
 -- an outcome on the output, of which it is known what it holds before and after, and the status
-pub data IsWritten (o : Outcome) (before after : Option (List ℕ)) (status : ℕ) : Type 0 where
+pub data IsWritten (o : ModuleOutcome) (before after : Option (List ℕ)) (status : ℕ) : Type 0 where
   -- the whole module, with 0
   Whole : o.status ≡ 0 → status ≡ 0 → Appends before after o.output.items → IsWritten o before after status
   -- with another status of the outcome nothing
@@ -14,10 +14,10 @@ pub data IsWritten (o : Outcome) (before after : Option (List ℕ)) (status : �
   Failed : o.status ≡ 0 → status ≡ 2 → WritesPart before after o.output.items → IsWritten o before after status
 
 -- the outcome is one of all that was left to be read, where that is known
-abbrev pub IsOfInput : (ends : List ℕ → Outcome → Type 0) (known : Option (List ℕ)) → Outcome → Type 0
+abbrev pub IsOfInput : (ends : List ℕ → ModuleOutcome → Type 0) (known : Option (List ℕ)) → ModuleOutcome → Type 0
 IsOfInput ends known o = (text : List ℕ) × IsRestOfInput known text × ends text o
 
 -- such an outcome is written; or memory was refused, and nothing is
-pub data EndsOnStreams (ends : List ℕ → Outcome → Type 0) (known before after : Option (List ℕ)) (status : ℕ) : Type 0 where
-  WithOutcome : (o : Outcome) → IsOfInput ends known o → IsWritten o before after status → EndsOnStreams ends known before after status
+pub data EndsOnStreams (ends : List ℕ → ModuleOutcome → Type 0) (known before after : Option (List ℕ)) (status : ℕ) : Type 0 where
+  WithOutcome : (o : ModuleOutcome) → IsOfInput ends known o → IsWritten o before after status → EndsOnStreams ends known before after status
   WithoutOutcome : status ≡ 1 → Keeps before after → EndsOnStreams ends known before after status

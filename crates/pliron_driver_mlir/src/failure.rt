@@ -3,7 +3,7 @@ ghost use Rattle.std.specs.Prelude.{◌≤◌};
 
 use pliron_driver::TextFailure;
 use pliron_laws::OptError;
-use pliron_text_mlir_reader::{Expected, Fault, position_of};
+use pliron_text_mlir_reader::{Expectation, Fault, position_of};
 use std::alloc::{AllocError, Global};
 
 /// Where a text leaves the generic form, and what was expected there.
@@ -11,7 +11,7 @@ use std::alloc::{AllocError, Global};
 pub struct ModuleFault {
     /// A byte of the text.
     pub place: usize,
-    pub expected: Expected,
+    pub expected: Expectation,
 }
 
 /// Why a module isn't answered.
@@ -23,7 +23,7 @@ pub fn failure_of(fault: Fault) -> ModuleFailure {
         Fault::Expected(place, expected) => TextFailure::Text(ModuleFault { place, expected }),
         Fault::KeptAsText => TextFailure::Text(ModuleFault {
             place: 0,
-            expected: Expected::FewerRegions,
+            expected: Expectation::FewerRegions,
         }),
         Fault::NoMemory => TextFailure::Refused(OptError::Memory),
     }

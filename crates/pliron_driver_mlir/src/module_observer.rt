@@ -4,7 +4,7 @@ ghost use Rattle.pliron_core.specs.Writes.{no_tree};
 
 use crate::fitness::{Fitness, fitness_of};
 use crate::notation::{ModuleDocument, ModuleNotation};
-use crate::tally::Tally;
+use crate::tally::ClassTally;
 use pliron_core::Context;
 use pliron_driver::{Observer, TextFailure};
 use pliron_laws::OptError;
@@ -13,9 +13,9 @@ use std::alloc::Global;
 
 /// Counts of live operations by class, before and after, and which functions are fit to run.
 #[derive(Drop)]
-pub struct Counts {
-    pub before: Tally,
-    pub after: Tally,
+pub struct ModuleCounts {
+    pub before: ClassTally,
+    pub after: ClassTally,
     pub fitness: Fitness,
 }
 
@@ -37,7 +37,7 @@ pub struct ModuleOptions {
 pub struct ModuleObserver {
     options: ModuleOptions,
     /// What was live before and after.
-    pub counts: Option<Counts>,
+    pub counts: Option<ModuleCounts>,
     /// Whether what was printed says the same tree when it is read again.
     pub agrees: Option<bool>,
 }
@@ -62,8 +62,8 @@ impl<N: ModuleNotation> Observer<N> for ModuleObserver {
     ) -> Result<(), OptError> {
         if self.options.counts {
             let fitness = fitness_of::<N::D>(alloc, document, ctx)?;
-            let before = Tally::of(document.root, ctx);
-            self.counts = Some(Counts {
+            let before = ClassTally::of(document.root, ctx);
+            self.counts = Some(ModuleCounts {
                 before,
                 after: before,
                 fitness,
@@ -83,7 +83,7 @@ impl<N: ModuleNotation> Observer<N> for ModuleObserver {
             self.agrees = Some(reads_as::<N>(alloc, printed, document, ctx)?);
         }
         if let Some(counts) = &mut self.counts {
-            counts.after = Tally::of(document.root, ctx);
+            counts.after = ClassTally::of(document.root, ctx);
         }
         Ok(())
     }

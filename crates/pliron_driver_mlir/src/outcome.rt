@@ -21,7 +21,7 @@ use std::alloc::{AllocError, Global};
 
 /// What a run of the program leaves to be written, and its status.
 #[derive(Drop)]
-pub struct Outcome {
+pub struct ModuleOutcome {
     /// What is written to standard output, or to the file that is named: a module, and nothing else.
     pub output: Vec<u8>,
     /// What is written to standard error.
@@ -31,16 +31,16 @@ pub struct Outcome {
 
 /// A text, and what users call it.
 #[derive(Clone, Copy)]
-pub struct Source<'s> {
+pub struct ModuleSource<'s> {
     pub name: &'s str,
     pub text: &'s [u8],
 }
 
 /// The outcome of words or an input that can't be used, with this report: nothing is to be written. Cost: constant.
-pub(crate) fn unusable_outcome(alloc: Global, report: String) -> Outcome
+pub(crate) fn unusable_outcome(alloc: Global, report: String) -> ModuleOutcome
     ensures { EndsWithout result }
 {
-    Outcome {
+    ModuleOutcome {
         output: Vec::new(alloc),
         report,
         status: 2,
@@ -50,15 +50,15 @@ pub(crate) fn unusable_outcome(alloc: Global, report: String) -> Outcome
 // The outcome where the module isn't answered.
 fn failure_outcome(
     alloc: Global,
-    source: &Source,
+    source: &ModuleSource,
     report: String,
     failure: ModuleFailure,
-) -> Result<Outcome, AllocError>
+) -> Result<ModuleOutcome, AllocError>
     ensures { IfOk result EndsWithout }
 {
     let mut report = report;
     report.push_str(failure_message(alloc, failure, source.name, source.text)?.as_str())?;
-    Ok(Outcome {
+    Ok(ModuleOutcome {
         output: Vec::new(alloc),
         report,
         status: failure_status(failure),
@@ -68,7 +68,7 @@ fn failure_outcome(
 // Writes the report on a module that passes made: counts, whether it changed, and whether what is printed says it.
 fn write_made(
     report: &mut String,
-    source: &Source,
+    source: &ModuleSource,
     status: IRStatus,
     observer: &ModuleObserver,
 ) -> Result<(), AllocError> {
@@ -90,24 +90,24 @@ fn write_made(
 // The outcome of passes that came to an end: the module printed, or nothing where a fault was found.
 fn success_outcome(
     alloc: Global,
-    source: &Source,
+    source: &ModuleSource,
     report: String,
     made: OptimisedText,
     observer: &ModuleObserver,
     has_fault: bool,
-) -> Result<Outcome, AllocError>
+) -> Result<ModuleOutcome, AllocError>
     ensures { IfOk result (Writes made.printed.items) }
 {
     let mut report = report;
     write_made(&mut report, source, made.status, observer)?;
     if has_fault || observer.agrees == Some(false) {
-        return Ok(Outcome {
+        return Ok(ModuleOutcome {
             output: Vec::new(alloc),
             report,
             status: 3,
         });
     }
-    Ok(Outcome {
+    Ok(ModuleOutcome {
         output: made.printed,
         report,
         status: 0,
@@ -118,10 +118,10 @@ fn success_outcome(
 #[tactic(auto, using(crate::proofs::OutcomeLemmas::ends_made, crate::proofs::OutcomeLemmas::ends_without))]
 fn run_pipeline<N: ModuleNotation, C: Progress + Copy + Drop>(
     alloc: Global,
-    source: &Source,
+    source: &ModuleSource,
     options: &ModuleOptions,
     pipeline: &mut InstrumentedPipeline<N, C>,
-) -> Result<Outcome, AllocError>
+) -> Result<ModuleOutcome, AllocError>
     ensures { IfOk result (EndsOptimised N.reads N.prints N.D.meaning
         (RunsAlone ⟦<BenchFactKind as PartialEq>⟧.eq ⟦<InstrumentedPipeline<N, C> as Pass>⟧.outcome
         pipeline.old) source.now.text.now) }
@@ -160,11 +160,11 @@ fn run_pipeline<N: ModuleNotation, C: Progress + Copy + Drop>(
 #[tactic(auto, using(crate::proofs::OutcomeLemmas::ends_planned, crate::proofs::OutcomeLemmas::ends_unplanned))]
 pub fn run_passes<N: ModuleNotation, C: Progress + Copy + Drop>(
     alloc: Global,
-    source: &Source,
+    source: &ModuleSource,
     options: &ModuleOptions,
     plan: &PipelineText,
     clock: C,
-) -> Result<Outcome, AllocError>
+) -> Result<ModuleOutcome, AllocError>
     ensures { IfOk result (EndsByPlan ⟦<Instrumented<N, C> as Pass>⟧.name
         (λ pipeline. EndsOptimised N.reads N.prints N.D.meaning
         (RunsAlone ⟦<BenchFactKind as PartialEq>⟧.eq ⟦<InstrumentedPipeline<N, C> as Pass>⟧.outcome
@@ -191,7 +191,7 @@ pub fn misspelling_outcome(
     alloc: Global,
     word: &str,
     fault: &WordFault,
-) -> Result<Outcome, AllocError>
+) -> Result<ModuleOutcome, AllocError>
     ensures { IfOk result EndsWithout }
 {
     let (column, expected) = (fault.start.saturating_add(1), fault.expected);

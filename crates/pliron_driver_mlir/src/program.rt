@@ -7,7 +7,9 @@ ghost use Rattle.pliron_driver_mlir.specs.Streams.{EndsOnStreams, IsOfInput, IsW
 use crate::each_pass::print_after_each;
 use crate::module_observer::ModuleOptions;
 use crate::notation::ModuleNotation;
-use crate::outcome::{Outcome, Source, misspelling_outcome, run_passes, unusable_outcome};
+use crate::outcome::{
+    ModuleOutcome, ModuleSource, misspelling_outcome, run_passes, unusable_outcome,
+};
 use crate::plans::read_plan;
 use pliron_driver::write_bytes;
 use pliron_driver_instrument::{
@@ -36,11 +38,11 @@ pub struct Request<'w> {
 fn run_plan<N: ModuleNotation, E: Write, C: Progress + Copy + Drop>(
     alloc: Global,
     request: &Request,
-    source: &Source,
+    source: &ModuleSource,
     plan: &PipelineText,
     errors: &mut E,
     clock: C,
-) -> Result<Outcome, AllocError>
+) -> Result<ModuleOutcome, AllocError>
     ensures { IfOk result (EndsByPlan ⟦<Instrumented<N, C> as Pass>⟧.name
         (λ pipeline. EndsOptimised N.reads N.prints N.D.meaning (RunsAlone ⟦<BenchFactKind as PartialEq>⟧.eq
         ⟦<InstrumentedPipeline<N, C> as Pass>⟧.outcome pipeline) source.now.text.now)
@@ -61,13 +63,13 @@ fn run_word<N: ModuleNotation, E: Write, C: Progress + Copy + Drop>(
     text: &[u8],
     errors: &mut E,
     clock: C,
-) -> Result<Outcome, AllocError>
+) -> Result<ModuleOutcome, AllocError>
     ensures { IfOk result (EndsByWord ⟦<Instrumented<N, C> as Pass>⟧.name
         (λ pipeline. EndsOptimised N.reads N.prints N.D.meaning (RunsAlone ⟦<BenchFactKind as PartialEq>⟧.eq
         ⟦<InstrumentedPipeline<N, C> as Pass>⟧.outcome pipeline) text.now)
         request.now.pipeline.now) }
 {
-    let source = Source {
+    let source = ModuleSource {
         name: request.name,
         text,
     };
@@ -79,7 +81,7 @@ fn run_word<N: ModuleNotation, E: Write, C: Progress + Copy + Drop>(
 }
 
 // The outcome of an input that can't be read. Errors: allocation failure, also where that is why.
-fn unread_outcome(alloc: Global, name: &str, error: &io::Error) -> Result<Outcome, AllocError>
+fn unread_outcome(alloc: Global, name: &str, error: &io::Error) -> Result<ModuleOutcome, AllocError>
     ensures { IfOk result EndsWithout }
 {
     if error.kind() == ErrorKind::OutOfMemory {
@@ -97,7 +99,7 @@ fn outcome_of_input<N: ModuleNotation, R: Read, E: Write, C: Progress + Copy + D
     input: &mut R,
     errors: &mut E,
     clock: C,
-) -> Result<Outcome, AllocError>
+) -> Result<ModuleOutcome, AllocError>
     ensures { IfOk result (IsOfInput (λ text. EndsByWord ⟦<Instrumented<N, C> as Pass>⟧.name
         (λ pipeline. EndsOptimised N.reads N.prints N.D.meaning (RunsAlone ⟦<BenchFactKind as PartialEq>⟧.eq
         ⟦<InstrumentedPipeline<N, C> as Pass>⟧.outcome pipeline) text) request.now.pipeline.now)
@@ -133,7 +135,7 @@ fn report_refused<E: Write>(errors: &mut E) -> u8
 
 // Writes the outcome: the report to `errors`, and to `output` the module, where there is one. Answers the status: that
 // of the outcome, but 2 where writing the module fails, also where nobody reads it any more.
-fn write_outcome<W: Write, E: Write>(outcome: &Outcome, output: &mut W, errors: &mut E) -> u8
+fn write_outcome<W: Write, E: Write>(outcome: &ModuleOutcome, output: &mut W, errors: &mut E) -> u8
     ensures { IsWritten outcome.now (W.contents output.old) (W.contents output.new) result }
 {
     let _ = write!(errors, "{}", outcome.report);

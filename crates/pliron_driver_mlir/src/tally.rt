@@ -7,7 +7,7 @@ use std::alloc::AllocError;
 
 /// How many operations of a module are of each class.
 #[derive(Clone, Copy, Debug, Default, Drop)]
-pub struct Tally {
+pub struct ClassTally {
     pub constants: usize,
     /// Those that fold to numbers or to one of their operands.
     pub folding: usize,
@@ -21,7 +21,7 @@ pub struct Tally {
     pub regions: usize,
 }
 
-impl Tally {
+impl ClassTally {
     // One more of the class.
     fn add(&mut self, class: Option<Class>) {
         let count = match class {
@@ -49,7 +49,7 @@ impl Tally {
     pub fn of(root: Ptr<Operation>, ctx: &Context) -> Self
         requires { IsLive ctx.now.tree root }
     {
-        let mut tally = Tally::default();
+        let mut tally = ClassTally::default();
         tally.add(class_of_head(root.head(ctx)));
         for op in Contents::new(root, ctx) {
             if op.is_live(ctx) {
@@ -71,7 +71,11 @@ fn write_line(
 }
 
 /// Writes how many operations of each class were live before and after. Errors: allocation failure. Cost: constant.
-pub fn write_tallies(report: &mut String, before: &Tally, after: &Tally) -> Result<(), AllocError> {
+pub fn write_tallies(
+    report: &mut String,
+    before: &ClassTally,
+    after: &ClassTally,
+) -> Result<(), AllocError> {
     report.push_str("class            before      after\n")?;
     write_line(report, "constants", before.constants, after.constants)?;
     write_line(report, "folding", before.folding, after.folding)?;

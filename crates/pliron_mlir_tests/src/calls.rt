@@ -1,7 +1,7 @@
 //! Calls with buffers of several lengths. Before each call the buffer holds dots; `|` stands for the end of a line.
 use crate::buffers::{dots, left_of, with_lines};
 use pliron_driver_buffers::{
-    BenchNotation, Failure, Place, describe_graph_into, find_fault_into, optimise_by_list,
+    BenchNotation, CallFailure, Place, describe_graph_into, find_fault_into, optimise_by_list,
     optimise_into,
 };
 use std::alloc::Global;
@@ -47,7 +47,7 @@ fn optimised(rt: HostRuntime) {
 #[test]
 fn lists_that_are_no_text(rt: HostRuntime) {
     let answer = optimise_by_list::<BenchNotation>(rt.alloc(), &[0xff, 0xfe], b"mod { }");
-    assert!(rt; matches!(answer, Err(Failure::Arguments)));
+    assert!(rt; matches!(answer, Err(CallFailure::Arguments)));
 }
 
 #[test]
@@ -63,7 +63,7 @@ fn texts_that_are_too_long(rt: HostRuntime) {
     let answer = optimise_by_list::<BenchNotation>(alloc, b"dce", longest).expect(&rt, "an answer");
     assert!(rt; answer.as_slice() == b"mod { }\nunchanged\n".as_slice());
     let answer = optimise_by_list::<BenchNotation>(alloc, b"dce", &text);
-    assert!(rt; matches!(answer, Err(Failure::Text)));
+    assert!(rt; matches!(answer, Err(CallFailure::Text)));
     let reported = fault_of(&rt, alloc, &text);
     assert_eq!(rt;
         reported.as_str(),

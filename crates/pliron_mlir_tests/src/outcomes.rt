@@ -3,7 +3,8 @@ use crate::lines::{in_one_line, with_lines};
 use pliron_dialect_mlir::{AnyMeaning, Mlir};
 use pliron_driver_instrument::{PlanError, Timeless};
 use pliron_driver_mlir::{
-    GenericForm, ModuleOptions, Outcome, Source, misspelling_outcome, read_plan, run_passes,
+    GenericForm, ModuleOptions, ModuleOutcome, ModuleSource, misspelling_outcome, read_plan,
+    run_passes,
 };
 use std::alloc::Global;
 use std::process::Abort;
@@ -17,8 +18,8 @@ fn outcome_of(
     word: &str,
     text: &[u8],
     options: &ModuleOptions,
-) -> Outcome {
-    let source = Source { name: "t", text };
+) -> ModuleOutcome {
+    let source = ModuleSource { name: "t", text };
     match read_plan(alloc, word) {
         Ok(plan) => {
             let outcome = run_passes::<Form, Timeless>(alloc, &source, options, &plan, Timeless);

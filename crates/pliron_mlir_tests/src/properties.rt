@@ -4,7 +4,7 @@
 use crate::lines::{in_one_line, with_lines};
 use pliron_dialect_mlir::{AnyMeaning, Mlir};
 use pliron_driver_instrument::{PlanError, Timeless};
-use pliron_driver_mlir::{GenericForm, ModuleOptions, Source, read_plan, run_passes};
+use pliron_driver_mlir::{GenericForm, ModuleOptions, ModuleSource, read_plan, run_passes};
 use std::alloc::Global;
 use std::process::Abort;
 
@@ -26,7 +26,7 @@ static BEHIND: &str = "|  }) : () -> ()|}) : () -> ()|";
 fn left_of(rt: &impl Abort, alloc: Global, operations: &str) -> String {
     let text = format!(in alloc; "{BEFORE}{operations}{BEHIND}").expect(rt, "memory");
     let lines = with_lines(alloc, text.as_str()).expect(rt, "memory");
-    let source = Source {
+    let source = ModuleSource {
         name: "t",
         text: lines.as_bytes(),
     };

@@ -18,7 +18,7 @@ use pliron_rewrite_operands::HasOperandFolding;
 use std::alloc::Global;
 
 // Values to be visited, each by the place of its site and its index there.
-type Round = IndexSet<(usize, usize)>;
+type ValuesToVisit = IndexSet<(usize, usize)>;
 
 // The sites, of which each has its place.
 fn places_of(alloc: Global, sites: &[Site]) -> Result<IndexSet<Site>, OptError>
@@ -36,7 +36,7 @@ fn add_value(
     site: &Site,
     index: usize,
     places: &IndexSet<Site>,
-    round: &mut Round,
+    round: &mut ValuesToVisit,
 ) -> Result<(), OptError>
     ensures memory { IsOkUnless result OptError.Memory }
 {
@@ -52,7 +52,7 @@ fn add_argument<D: Dialect>(
     operand: usize,
     ctx: &Context,
     places: &IndexSet<Site>,
-    round: &mut Round,
+    round: &mut ValuesToVisit,
 ) -> Result<(), OptError>
     requires { IsLive ctx.now.tree user }
     ensures memory { IsOkUnless result OptError.Memory }
@@ -77,7 +77,7 @@ fn add_user<D: Dialect>(
     operand: usize,
     ctx: &Context,
     places: &IndexSet<Site>,
-    round: &mut Round,
+    round: &mut ValuesToVisit,
 ) -> Result<(), OptError>
     requires { IsLive ctx.now.tree user }
     ensures memory { IsOkUnless result OptError.Memory }
@@ -93,7 +93,7 @@ fn next_round<D: Dialect>(
     moved: &mut MovedUses,
     places: &IndexSet<Site>,
     ctx: &Context,
-) -> Result<Round, OptError>
+) -> Result<ValuesToVisit, OptError>
     ensures memory { IsOkUnless result OptError.Memory }
 {
     let mut round = IndexSet::new(moved.alloc);

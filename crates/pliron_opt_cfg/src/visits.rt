@@ -38,7 +38,7 @@ struct PostponedBlock {
 
 // The regions that wait for their visit, the next one last, and all that ever waited.
 #[derive(Drop)]
-struct Worklist {
+struct RegionWorklist {
     seen: IndexSet<Ptr<Region>>,
     waiting: Vec<Ptr<Region>>,
 }
@@ -129,7 +129,7 @@ fn entered_blocks(
 }
 
 // The regions that were not seen are marked seen, and put on the worklist.
-fn push_new(regions: &[Ptr<Region>], worklist: &mut Worklist) -> Result<(), OptError>
+fn push_new(regions: &[Ptr<Region>], worklist: &mut RegionWorklist) -> Result<(), OptError>
     ensures grew { OnOk result (HasGrown regions.now worklist.old.seen.keys worklist.old.waiting.items
         worklist.new.seen.keys worklist.new.waiting.items) }
     ensures memory { IsOkUnless result OptError.Memory }
@@ -149,7 +149,7 @@ fn enter(
     ctx: &Context,
     entered: &[Ptr<BasicBlock>],
     listed: bool,
-    worklist: &mut Worklist,
+    worklist: &mut RegionWorklist,
     postponed: &mut Vec<PostponedBlock>,
 ) -> Result<(), OptError>
     requires { (b : ℕ) → In b entered.now → IsBlock ctx.now.tree b }
@@ -208,7 +208,7 @@ fn visit(alloc: Global, ctx: &Context, starts: &[Ptr<Region>]) -> Result<Visits,
     let mut blocks = Vec::new(alloc);
     let seen = IndexSet::new(alloc);
     let waiting = Vec::new(alloc);
-    let mut worklist = Worklist { seen, waiting };
+    let mut worklist = RegionWorklist { seen, waiting };
     let mut postponed = Vec::new(alloc);
     push_new(starts, &mut worklist)?;
     while let Some(region) = worklist.waiting.pop() {

@@ -5,7 +5,7 @@ ghost use Rattle.pliron_laws.specs.Linked.{IsWellLinked};
 ghost use Rattle.pliron_graph_order.specs.Seen.{IsSeen};
 ghost use Rattle.pliron_opt_combine.specs.Steps.{AreDone, AreDonePartly, AreSeen};
 
-use crate::worklist::{Worklist, add_viewers};
+use crate::worklist::{RewriteWorklist, add_viewers};
 use pliron_core::{Context, Operation, Ptr, Rewriter};
 use pliron_graph_order::dominance_order;
 use pliron_laws::{Dialect, OptError, Room};
@@ -13,7 +13,7 @@ use pliron_rewrite_rules::{HasRuleTables, Rules, apply_term, ask_rules};
 use std::alloc::Global;
 
 // The operation before this one, if it is in a block and has one before, is seen and asked next.
-fn add_before(work: &mut Worklist, op: Ptr<Operation>, ctx: &Context) -> Result<(), OptError>
+fn add_before(work: &mut RewriteWorklist, op: Ptr<Operation>, ctx: &Context) -> Result<(), OptError>
     requires live { IsLive ctx.now.tree op }
     ensures seen { (root : ℕ) → IsSeen ctx.now.tree root op → AreSeen ctx.now.tree root work.old.seen.keys → OnOk result
         (AreSeen ctx.now.tree root work.new.seen.keys) }
@@ -28,7 +28,7 @@ fn add_before(work: &mut Worklist, op: Ptr<Operation>, ctx: &Context) -> Result<
 
 // The operation is rewritten, if a rule applies and a rewrite is left. Answers how many are left then.
 fn rewrite_operation<D: Dialect, L: Rules<D>, R: Rewriter + Room>(
-    work: &mut Worklist,
+    work: &mut RewriteWorklist,
     root: Ptr<Operation>,
     op: Ptr<Operation>,
     left: usize,
@@ -63,7 +63,7 @@ fn rewrite_operation<D: Dialect, L: Rules<D>, R: Rewriter + Room>(
 
 // These operations are rewritten, one after the other.
 fn sweep<D: Dialect, L: Rules<D>, R: Rewriter + Room>(
-    work: &mut Worklist,
+    work: &mut RewriteWorklist,
     root: Ptr<Operation>,
     ops: &[Ptr<Operation>],
     left: usize,
@@ -91,7 +91,7 @@ fn sweep<D: Dialect, L: Rules<D>, R: Rewriter + Room>(
 
 // The operation at this place is rewritten, if there is one.
 fn rewrite_at<D: Dialect, L: Rules<D>, R: Rewriter + Room>(
-    work: &mut Worklist,
+    work: &mut RewriteWorklist,
     root: Ptr<Operation>,
     place: usize,
     left: usize,
@@ -116,7 +116,7 @@ fn rewrite_at<D: Dialect, L: Rules<D>, R: Rewriter + Room>(
 
 // The operations at these places are rewritten, one after the other.
 fn rewrite_round<D: Dialect, L: Rules<D>, R: Rewriter + Room>(
-    work: &mut Worklist,
+    work: &mut RewriteWorklist,
     root: Ptr<Operation>,
     places: &[usize],
     left: usize,
@@ -143,7 +143,7 @@ fn rewrite_round<D: Dialect, L: Rules<D>, R: Rewriter + Room>(
 
 // Round after round over what the rewrites of the one before may make apply, until none does.
 fn rewrite_rounds<D: Dialect, L: Rules<D>, R: Rewriter + Room>(
-    work: &mut Worklist,
+    work: &mut RewriteWorklist,
     root: Ptr<Operation>,
     left: usize,
     ctx: &mut Context,
@@ -192,7 +192,7 @@ pub fn sweep_in_rounds<D: Dialect, L: Rules<D>, R: Rewriter + Room>(
 {
     ctx.well_formed();
     let order = dominance_order(alloc, root, ctx)?;
-    let mut work = Worklist::new(alloc, &order.operations)?;
+    let mut work = RewriteWorklist::new(alloc, &order.operations)?;
     let rest = sweep::<D, L, R>(&mut work, root, &order.operations, left, ctx, rewriter)?;
     if rest == left {
         return Ok(rest);

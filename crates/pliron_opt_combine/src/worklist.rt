@@ -10,7 +10,7 @@ use std::mem;
 
 /// Operations that are seen, and those of them that are asked next.
 #[derive(Drop)]
-pub struct Worklist {
+pub struct RewriteWorklist {
     pub alloc: Global,
     /// Each has its place.
     pub seen: IndexSet<Ptr<Operation>>,
@@ -18,9 +18,9 @@ pub struct Worklist {
     pub next: IndexSet<usize>,
 }
 
-impl Worklist {
+impl RewriteWorklist {
     /// These operations are seen, and none is asked next. Errors: allocation failure. Cost: linear.
-    pub fn new(alloc: Global, ops: &[Ptr<Operation>]) -> Result<Worklist, OptError>
+    pub fn new(alloc: Global, ops: &[Ptr<Operation>]) -> Result<RewriteWorklist, OptError>
         ensures seen { IfOk result (λ work. (k : ℕ) → In k work.seen.keys → In k ops.now) }
         ensures memory { IsOkUnless result OptError.Memory }
     {
@@ -28,7 +28,7 @@ impl Worklist {
         for place in 0..ops.len() {
             seen.insert(ops[place])?;
         }
-        Ok(Worklist {
+        Ok(RewriteWorklist {
             alloc,
             seen,
             next: IndexSet::new(alloc),

@@ -40,7 +40,7 @@ pub enum LatticeCell {
 
 // The numbers that some handles most likely have, and room for each of them on a worklist, which is empty.
 #[derive(Drop)]
-struct Numbers {
+struct LikelyNumbers {
     index: DirectMappedIndex,
     worklist: Vec<usize>,
 }
@@ -64,22 +64,22 @@ struct Stamps {
 // exits drop much.
 #[derive(Drop)]
 struct EmptyTables {
-    block_numbers: Numbers,
+    block_numbers: LikelyNumbers,
     marks: Vec<BlockState>,
-    value_numbers: Numbers,
+    value_numbers: LikelyNumbers,
     lattice: EmptyLattice,
     stamps: Stamps,
 }
 
 // Errors: allocation failure. Cost: one step for each handle.
-fn number<T: HasKey>(alloc: Global, listed: &[T]) -> Result<Numbers, OptError>
+fn number<T: HasKey>(alloc: Global, listed: &[T]) -> Result<LikelyNumbers, OptError>
     ensures empty { IfOk result (λ numbers. numbers.worklist.items ≡ []) }
     ensures room { IfOk result (λ numbers. length listed.now ≤ vec_capacity numbers.worklist) }
     ensures memory { IsOkUnless result OptError.Memory }
 {
     let index = DirectMappedIndex::over(alloc, listed)?;
     let worklist = Vec::with_capacity(alloc, listed.len())?;
-    Ok(Numbers { index, worklist })
+    Ok(LikelyNumbers { index, worklist })
 }
 
 // Errors: allocation failure. Cost: one step for each value.

@@ -7,12 +7,12 @@ use Rattle.pliron_laws.specs.Datum.{Meaning}
 use Rattle.pliron_laws.specs.declared.fault.OptError.TheVariants.{Memory}
 use Rattle.pliron_laws.specs.Linked.{IsAdmitted}
 use Rattle.pliron_laws.specs.EdgeChecks.{HasOwnUsers, EndsBlockIf}
-use Rattle.pliron_pass_fit.specs.declared.violation.Stop.{Stop}
-use Rattle.pliron_pass_fit.specs.declared.violation.Stop.TheVariants.{Found, Fault}
+use Rattle.pliron_pass_fit.specs.declared.violation.CheckStop.{CheckStop}
+use Rattle.pliron_pass_fit.specs.declared.violation.CheckStop.TheVariants.{Found, Fault}
 use Rattle.pliron_pass_fit.specs.Violation.{IsViolation, ForwardsAt, EndsIfTerminator}
 
 -- a check ends early at what is wrong, or for allocation failure
-abbrev pub IsStop : Meaning → Tree → ℕ → Stop → Type 0
+abbrev pub IsStop : Meaning → Tree → ℕ → CheckStop → Type 0
 IsStop m t root (Found violation) = IsViolation m t root violation
 IsStop m t root (Fault e) = e ≡ Memory
 

@@ -7,7 +7,7 @@ ghost use Rattle.pliron_laws.specs.EdgeChecks.{HasOwnUsers};
 ghost use Rattle.pliron_pass_fit.specs.Checks.{IsStop, IsUsedInside, IsFitBlock, IsFitRegion, IsFitHolder};
 
 use crate::contents::is_inside;
-use crate::violation::{Stop, Violation};
+use crate::violation::{CheckStop, Violation};
 use indexmap::IndexSet;
 use pliron_core::{BasicBlock, Context, Operation, Ptr, Region, Value};
 use pliron_laws::edges::{is_directly_in, region_of};
@@ -19,7 +19,7 @@ pub(crate) fn check_uses<D: Dialect>(
     contents: &IndexSet<Ptr<Operation>>,
     value: Value,
     ctx: &Context,
-) -> Result<(), Stop>
+) -> Result<(), CheckStop>
     requires contents { contents.now.keys ≡ preorder ctx.now.tree root }
     requires value { IsDefined ctx.now.tree value }
     requires inside { IsDefinedInside ctx.now.tree root value }
@@ -30,7 +30,7 @@ pub(crate) fn check_uses<D: Dialect>(
     for i in 0..value.num_use(ctx) {
         let (user, place) = value.get_use(ctx, i);
         if !is_inside(root, contents, user, ctx) {
-            return Err(Stop::Found(Violation::UsedOutside(user, place)));
+            return Err(CheckStop::Found(Violation::UsedOutside(user, place)));
         }
     }
     Ok(())
@@ -41,7 +41,7 @@ fn check_edges_to<D: Dialect>(
     root: Ptr<Operation>,
     block: Ptr<BasicBlock>,
     ctx: &Context,
-) -> Result<(), Stop>
+) -> Result<(), CheckStop>
     requires block { IsBlock ctx.now.tree block }
     requires held { HoldsBlock ctx.now.tree root block }
     ensures ok { OnOk result (HasOwnUsers ctx.now.tree block) }
@@ -52,7 +52,7 @@ fn check_edges_to<D: Dialect>(
     for i in 0..block.num_use(ctx) {
         let (user, _) = block.get_use(ctx, i);
         if !is_directly_in(ctx, user, region) {
-            return Err(Stop::Found(Violation::EdgeNotLast(user)));
+            return Err(CheckStop::Found(Violation::EdgeNotLast(user)));
         }
     }
     Ok(())
@@ -64,7 +64,7 @@ fn check_block<D: Dialect>(
     contents: &IndexSet<Ptr<Operation>>,
     block: Ptr<BasicBlock>,
     ctx: &Context,
-) -> Result<(), Stop>
+) -> Result<(), CheckStop>
     requires contents { contents.now.keys ≡ preorder ctx.now.tree root }
     requires block { IsBlock ctx.now.tree block }
     requires held { HoldsBlock ctx.now.tree root block }
@@ -86,7 +86,7 @@ fn check_region<D: Dialect>(
     holder: Ptr<Operation>,
     region: Ptr<Region>,
     ctx: &Context,
-) -> Result<(), Stop>
+) -> Result<(), CheckStop>
     requires contents { contents.now.keys ≡ preorder ctx.now.tree root }
     requires region { IsRegion ctx.now.tree region }
     requires held { In region (regions_of ctx.now.tree holder) }
@@ -96,7 +96,7 @@ fn check_region<D: Dialect>(
 {
     ctx.well_formed();
     if !region.has_ssa_dominance(ctx) {
-        return Err(Stop::Found(Violation::NoDominance(region)));
+        return Err(CheckStop::Found(Violation::NoDominance(region)));
     }
     let mut at = region.get_head(ctx);
     while let Some(block) = at {
@@ -112,7 +112,7 @@ pub(crate) fn check_holder<D: Dialect>(
     contents: &IndexSet<Ptr<Operation>>,
     op: Ptr<Operation>,
     ctx: &Context,
-) -> Result<(), Stop>
+) -> Result<(), CheckStop>
     requires contents { contents.now.keys ≡ preorder ctx.now.tree root }
     requires live { IsLive ctx.now.tree op }
     requires within { IsWithin ctx.now.tree root op }
@@ -120,7 +120,7 @@ pub(crate) fn check_holder<D: Dialect>(
     ensures err { IfErr result (λ e. IsStop D.meaning ctx.now.tree root e) }
 {
     if !is_admitted::<D>(op, ctx) {
-        return Err(Stop::Found(Violation::NotAdmitted(op)));
+        return Err(CheckStop::Found(Violation::NotAdmitted(op)));
     }
     for i in 0..op.num_region(ctx) {
         check_region::<D>(root, contents, op, op.get_region(ctx, i), ctx)?;

@@ -14,7 +14,7 @@ ghost use Rattle.pliron_pass_fit.specs.Plain.{IsPlainlyFit};
 use crate::contents::contents_of;
 use crate::dominated::check_dominance;
 use crate::operations::check_operation;
-use crate::violation::{Stop, Violation};
+use crate::violation::{CheckStop, Violation};
 use indexmap::IndexSet;
 use pliron_core::{Context, Operation, Ptr};
 use pliron_laws::{Dialect, OptError};
@@ -27,7 +27,7 @@ fn check_operations<D: Dialect>(
     ops: &[Ptr<Operation>],
     contents: &IndexSet<Ptr<Operation>>,
     ctx: &Context,
-) -> Result<(), Stop>
+) -> Result<(), CheckStop>
     requires live { IsLive ctx.now.tree root }
     requires ops { ops.now ≡ preorder ctx.now.tree root }
     requires contents { contents.now.keys ≡ preorder ctx.now.tree root }
@@ -47,7 +47,7 @@ fn check_plainly<D: Dialect>(
     root: Ptr<Operation>,
     contents: &IndexSet<Ptr<Operation>>,
     ctx: &Context,
-) -> Result<(), Stop>
+) -> Result<(), CheckStop>
     requires live { IsLive ctx.now.tree root }
     requires contents { contents.now.keys ≡ preorder ctx.now.tree root }
     ensures ok { OnOk result (IsPlainlyFit D.meaning ctx.now.tree root) }
@@ -55,10 +55,10 @@ fn check_plainly<D: Dialect>(
 {
     ctx.well_formed();
     if !D::may_be_root(root, ctx) {
-        return Err(Stop::Found(Violation::NotRoot));
+        return Err(CheckStop::Found(Violation::NotRoot));
     }
     if root.num_successor(ctx) != 0 {
-        return Err(Stop::Found(Violation::HasSuccessors));
+        return Err(CheckStop::Found(Violation::HasSuccessors));
     }
     check_operations::<D>(alloc, root, contents.as_slice(), contents, ctx)?;
     Ok(())
@@ -70,7 +70,7 @@ fn check_fit<D: Dialect>(
     root: Ptr<Operation>,
     contents: &IndexSet<Ptr<Operation>>,
     ctx: &Context,
-) -> Result<(), Stop>
+) -> Result<(), CheckStop>
     requires live { IsLive ctx.now.tree root }
     requires contents { contents.now.keys ≡ preorder ctx.now.tree root }
     ensures ok { OnOk result (IsFit D.meaning ctx.now.tree root) }
@@ -107,8 +107,8 @@ pub fn find_violation<D: Dialect>(
     let contents = contents_of(alloc, root, ctx)?;
     match check_fit::<D>(alloc, root, &contents, ctx) {
         Ok(()) => Ok(None),
-        Err(Stop::Found(violation)) => Ok(Some(violation)),
-        Err(Stop::Fault(fault)) => Err(fault),
+        Err(CheckStop::Found(violation)) => Ok(Some(violation)),
+        Err(CheckStop::Fault(fault)) => Err(fault),
     }
 }
 

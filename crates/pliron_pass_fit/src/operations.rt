@@ -8,7 +8,7 @@ ghost use Rattle.pliron_pass_fit.specs.Checks.{IsStop, IsUsedInside, IsFitInside
 
 use crate::blocks::{check_holder, check_uses};
 use crate::contents::is_defined_inside;
-use crate::violation::{Stop, Violation};
+use crate::violation::{CheckStop, Violation};
 use indexmap::IndexSet;
 use pliron_core::{Context, Operation, Ptr};
 use pliron_laws::Dialect;
@@ -21,7 +21,7 @@ fn check_operands<D: Dialect>(
     contents: &IndexSet<Ptr<Operation>>,
     op: Ptr<Operation>,
     ctx: &Context,
-) -> Result<(), Stop>
+) -> Result<(), CheckStop>
     requires contents { contents.now.keys ≡ preorder ctx.now.tree root }
     requires live { IsLive ctx.now.tree op }
     requires inside { IsInside ctx.now.tree root op }
@@ -30,7 +30,7 @@ fn check_operands<D: Dialect>(
 {
     for i in 0..op.num_operand(ctx) {
         if !is_defined_inside(root, contents, op.get_operand(ctx, i), ctx) {
-            return Err(Stop::Found(Violation::ForeignValue(op, i)));
+            return Err(CheckStop::Found(Violation::ForeignValue(op, i)));
         }
     }
     Ok(())
@@ -42,7 +42,7 @@ fn check_forwarded<D: Dialect>(
     root: Ptr<Operation>,
     op: Ptr<Operation>,
     ctx: &Context,
-) -> Result<(), Stop>
+) -> Result<(), CheckStop>
     requires live { IsLive ctx.now.tree op }
     requires inside { IsInside ctx.now.tree root op }
     ensures ok { OnOk result ((i : ℕ) → ForwardsAt D.meaning ctx.now.tree op i) }
@@ -54,7 +54,7 @@ fn check_forwarded<D: Dialect>(
     for i in 0..op.num_successor(ctx) {
         let values = D::successor_operands(alloc, op, ctx, i)?;
         if values.len() != op.get_successor(ctx, i).num_argument(ctx) {
-            return Err(Stop::Found(Violation::UnequalEdge(op, i)));
+            return Err(CheckStop::Found(Violation::UnequalEdge(op, i)));
         }
     }
     Ok(())
@@ -79,7 +79,7 @@ fn check_unused<D: Dialect>(
     root: Ptr<Operation>,
     op: Ptr<Operation>,
     ctx: &Context,
-) -> Result<(), Stop>
+) -> Result<(), CheckStop>
     requires live { IsLive ctx.now.tree op }
     requires inside { IsInside ctx.now.tree root op }
     ensures ok { OnOk result ((v user : ℕ) → successors_of ctx.now.tree op ≢ [] → In v (results_of ctx.now.tree op)
@@ -92,7 +92,7 @@ fn check_unused<D: Dialect>(
     }
     for i in 0..op.num_result(ctx) {
         if op.get_result(ctx, i).num_use(ctx) != 0 {
-            return Err(Stop::Found(Violation::ResultUsed(op, i)));
+            return Err(CheckStop::Found(Violation::ResultUsed(op, i)));
         }
     }
     Ok(())
@@ -104,7 +104,7 @@ fn check_results<D: Dialect>(
     contents: &IndexSet<Ptr<Operation>>,
     op: Ptr<Operation>,
     ctx: &Context,
-) -> Result<(), Stop>
+) -> Result<(), CheckStop>
     requires contents { contents.now.keys ≡ preorder ctx.now.tree root }
     requires live { IsLive ctx.now.tree op }
     requires inside { IsInside ctx.now.tree root op }
@@ -125,7 +125,7 @@ fn check_inside<D: Dialect>(
     contents: &IndexSet<Ptr<Operation>>,
     op: Ptr<Operation>,
     ctx: &Context,
-) -> Result<(), Stop>
+) -> Result<(), CheckStop>
     requires contents { contents.now.keys ≡ preorder ctx.now.tree root }
     requires live { IsLive ctx.now.tree op }
     requires inside { IsInside ctx.now.tree root op }
@@ -133,10 +133,10 @@ fn check_inside<D: Dialect>(
     ensures err { IfErr result (λ e. IsStop D.meaning ctx.now.tree root e) }
 {
     if !ends_block(ctx, op) {
-        return Err(Stop::Found(Violation::EdgeNotLast(op)));
+        return Err(CheckStop::Found(Violation::EdgeNotLast(op)));
     }
     if !ends_if_terminator::<D>(op, ctx) {
-        return Err(Stop::Found(Violation::TerminatorNotLast(op)));
+        return Err(CheckStop::Found(Violation::TerminatorNotLast(op)));
     }
     check_operands::<D>(root, contents, op, ctx)?;
     check_forwarded::<D>(alloc, root, op, ctx)?;
@@ -152,7 +152,7 @@ pub(crate) fn check_operation<D: Dialect>(
     contents: &IndexSet<Ptr<Operation>>,
     op: Ptr<Operation>,
     ctx: &Context,
-) -> Result<(), Stop>
+) -> Result<(), CheckStop>
     requires contents { contents.now.keys ≡ preorder ctx.now.tree root }
     requires live { IsLive ctx.now.tree op }
     requires within { IsWithin ctx.now.tree root op }

@@ -1,6 +1,6 @@
 //! What keeps an operation from being fit to run.
 ghost use Rattle.std.specs.Prelude.{◌≡◌};
-ghost use Rattle.pliron_pass_fit.specs.declared.violation.Stop.TheVariants.{Fault};
+ghost use Rattle.pliron_pass_fit.specs.declared.violation.CheckStop.TheVariants.{Fault};
 
 use pliron_core::{Operation, Ptr, Region};
 use pliron_laws::OptError;
@@ -47,15 +47,15 @@ pub enum Violation {
 
 // Why a check ended early.
 #[derive(Drop)]
-pub(crate) enum Stop {
+pub(crate) enum CheckStop {
     Found(Violation),
     Fault(OptError),
 }
 
-impl From<OptError> for Stop {
+impl From<OptError> for CheckStop {
     ghost from_gives = { λ e s. s ≡ Fault e };
 
-    fn from(fault: OptError) -> Stop {
-        Stop::Fault(fault)
+    fn from(fault: OptError) -> CheckStop {
+        CheckStop::Fault(fault)
     }
 }

@@ -36,7 +36,7 @@ pub fn operands_before(
 
 /// The names of the values and blocks of a text while passes work on it.
 #[derive(Drop)]
-pub struct Names<'t> {
+pub struct TextNames<'t> {
     alloc: Global,
     text: &'t [u8],
     parts: &'t TextParts,
@@ -74,7 +74,7 @@ fn base_of(alloc: Global, name: &str) -> Result<String, AllocError> {
     Ok(base)
 }
 
-impl<'t> Names<'t> {
+impl<'t> TextNames<'t> {
     /// The names of the text, of which these are the parts, and new ones for what the text doesn't name by itself. Errors:
     /// allocation failure. Cost: linear in the text.
     pub fn new(
@@ -90,7 +90,7 @@ impl<'t> Names<'t> {
         for block in &parts.blocks {
             taken.insert(word_of(alloc, name_of_head(block.of(text)))?)?;
         }
-        let mut names = Names {
+        let mut names = TextNames {
             alloc,
             text,
             parts,
@@ -219,7 +219,7 @@ impl<'t> Names<'t> {
     }
 }
 
-impl NameSource for Names<'_> {
+impl NameSource for TextNames<'_> {
     fn push_value(&self, key: u64, line: &mut String) -> Result<(), AllocError> {
         if let Some(name) = self.values.get(&key) {
             return line.push_str(name.as_str());

@@ -4,7 +4,7 @@ ghost use Rattle.pliron_core.specs.Tree.{IsLive};
 ghost use Rattle.pliron_core.specs.Writes.{no_tree};
 
 use crate::line_diff::changed_lines;
-use crate::names::{Names, OperandsBefore, operands_before};
+use crate::names::{OperandsBefore, TextNames, operands_before};
 use crate::subjects::{Subject, subjects_of};
 use crate::written_changes::write_changes;
 use pliron_core::{Context, IRStatus, Operation, Ptr};
@@ -50,7 +50,7 @@ struct Stages<'s, N: Shown> {
     options: &'s StageOptions<'s>,
     /// The text's operation, or the one that is printed.
     document: Document<N::Sheet>,
-    names: Names<'s>,
+    names: TextNames<'s>,
     analyses: AnalysisManager<BenchFacts>,
     /// How many runs of passes began.
     number: usize,
@@ -317,7 +317,7 @@ fn stage_operation<N: Shown>(
         of: PhantomData,
         options,
         document,
-        names: Names::new(alloc, text, &parts, N::new_names())?,
+        names: TextNames::new(alloc, text, &parts, N::new_names())?,
         analyses: AnalysisManager::new(alloc),
         number: 0,
         report: String::new(alloc),

@@ -1,7 +1,7 @@
 //! Why operations and arguments changed or were erased, by what a rewrite does and what was live before it.
 ghost use Rattle.pliron_core.specs.Tree.{IsBlock, IsDefined, IsLive};
 
-use crate::tree_state::{BlockState, OperationState, TreeState};
+use crate::tree_state::{BlockSnapshot, OperationState, TreeState};
 use pliron_core::{BasicBlock, Context, Def, Operation, Ptr, Value};
 use pliron_show::{Shown, name_of_head, push_value_name};
 use pliron_show_places::{TextPart, TextParts, push_on_one_line};
@@ -440,7 +440,7 @@ impl<N: Shown> Reasons<'_, N> {
         &self,
         ctx: &Context,
         before: &TreeState,
-        state: &BlockState,
+        state: &BlockSnapshot,
         index: usize,
     ) -> Result<String, AllocError> {
         let mut why = format!(in self.alloc; "merged")?;
@@ -464,7 +464,7 @@ impl<N: Shown> Reasons<'_, N> {
         &self,
         ctx: &Context,
         before: &TreeState,
-        state: &BlockState,
+        state: &BlockSnapshot,
         index: usize,
         argument: Value,
     ) -> Result<String, AllocError> {
@@ -499,7 +499,7 @@ impl<N: Shown> Reasons<'_, N> {
         &mut self,
         ctx: &Context,
         before: &TreeState,
-        state: &BlockState,
+        state: &BlockSnapshot,
     ) -> Result<(), AllocError> {
         for index in 0..state.arguments.len() {
             let argument = state.arguments[index];

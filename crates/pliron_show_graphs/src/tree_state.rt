@@ -21,7 +21,7 @@ pub struct OperationState {
 
 /// A block, as it was.
 #[derive(Drop)]
-pub struct BlockState {
+pub struct BlockSnapshot {
     pub block: Ptr<BasicBlock>,
     /// The operation that held it.
     pub holder: Ptr<Operation>,
@@ -32,7 +32,7 @@ pub struct BlockState {
 #[derive(Drop)]
 pub struct TreeState {
     pub operations: Vec<OperationState>,
-    pub blocks: Vec<BlockState>,
+    pub blocks: Vec<BlockSnapshot>,
 }
 
 // The first successor of the operation.
@@ -76,7 +76,7 @@ impl TreeState {
         push_layouts(op, ctx, &mut blocks)?;
         for block in &blocks {
             if block.is_live(ctx) {
-                self.blocks.push(BlockState {
+                self.blocks.push(BlockSnapshot {
                     block: *block,
                     holder: op,
                     arguments: all_arguments(alloc, *block, ctx)?,

@@ -2,7 +2,7 @@
 use pliron_core::Head;
 use pliron_dialect_mlir::integer_of;
 use pliron_text_mlir_printer::{datum_of, form_of_datum, form_of_head, write_signed, write_type};
-use pliron_text_mlir_syntax::{Form, Sheet};
+use pliron_text_mlir_syntax::{OperationForm, Sheet};
 use std::alloc::{AllocError, Global};
 
 // The name in quotes that the text of an operation begins with, without them.
@@ -33,7 +33,7 @@ fn push_typed(out: &mut Vec<u8>, width: u32, bits: u64) -> Result<(), AllocError
 }
 
 // Adds a constant that is no integer, as its text has it: its value, or else its name with its properties.
-fn push_form(out: &mut Vec<u8>, form: Form, sheet: &Sheet) -> Result<(), AllocError> {
+fn push_form(out: &mut Vec<u8>, form: OperationForm, sheet: &Sheet) -> Result<(), AllocError> {
     let listed = match form.properties.or(form.attributes) {
         Some(number) => sheet.text(number),
         None => &[],

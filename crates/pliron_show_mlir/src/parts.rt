@@ -3,7 +3,9 @@ ghost use Rattle.std.specs.Prelude.{◌≤◌, ◌+◌, length, IfOk, IfSome};
 
 use pliron_show_places::{TextPart, TextParts, TextRange, ValueName};
 use pliron_text_mlir_reader::parse_text;
-use pliron_text_mlir_syntax::{Cursor, Expected, Fault, OperationText, Span, Syntax};
+use pliron_text_mlir_syntax::{
+    ByteRange, Expectation, Fault, ModuleSyntax, OperationSyntax, TextCursor,
+};
 use std::alloc::{AllocError, Global};
 
 /// How far the ends of lines are counted.
@@ -19,7 +21,7 @@ struct LineCount {
 #[derive(Drop)]
 struct PartsWalk<'t> {
     alloc: Global,
-    cursor: Cursor<'t>,
+    cursor: TextCursor<'t>,
     lines: LineCount,
     parts: TextParts,
     /// By the numbers of operations: where they end; and those whose regions are open.
@@ -39,7 +41,7 @@ impl<'t> PartsWalk<'t> {
     fn new(alloc: Global, text: &'t [u8]) -> Self {
         PartsWalk {
             alloc,
-            cursor: Cursor::new(text),
+            cursor: TextCursor::new(text),
             lines: LineCount {
                 bytes: 0,
                 line_start: 0,
@@ -57,7 +59,7 @@ impl<'t> PartsWalk<'t> {
 
     // The part of the text from this place up to that one. Places of parts rise.
     fn part(&mut self, start: usize, end: usize) -> TextPart {
-        let passed = self.cursor.bytes(Span {
+        let passed = self.cursor.bytes(ByteRange {
             start: self.lines.bytes,
             end: start,
         });
@@ -86,7 +88,7 @@ impl<'t> PartsWalk<'t> {
     }
 
     // Takes in all of the text.
-    fn all(&mut self, syntax: &Syntax) -> Result<(), Fault> {
+    fn all(&mut self, syntax: &ModuleSyntax) -> Result<(), Fault> {
         if let Some(root) = syntax.operations.first() {
             self.skip_to(root.place);
         }
@@ -101,7 +103,7 @@ impl<'t> PartsWalk<'t> {
     }
 
     // Takes in the blocks that the text has before the operation of this number.
-    fn blocks(&mut self, syntax: &Syntax, number: usize) -> Result<(), Fault> {
+    fn blocks(&mut self, syntax: &ModuleSyntax, number: usize) -> Result<(), Fault> {
         for at in self.parts.blocks.len()..syntax.blocks.len() {
             match syntax.blocks.get(at) {
                 Some(block) if block.before <= number => self.block()?,
@@ -121,7 +123,7 @@ impl<'t> PartsWalk<'t> {
             return Ok(());
         }
         self.cursor.step();
-        let name = self.cursor.word(Expected::Name)?;
+        let name = self.cursor.word(Expectation::Name)?;
         let number = self.parts.blocks.len();
         let part = self.part(start, name.end);
         self.parts.blocks.push(part)?;
@@ -135,7 +137,7 @@ impl<'t> PartsWalk<'t> {
         if let Some(part) = self.parts.blocks.last_mut() {
             part.len = end.saturating_sub(start);
         }
-        self.cursor.expect(b':', Expected::Colon)
+        self.cursor.expect(b':', Expectation::Colon)
     }
 
     // Takes in the arguments of the block with this number, and the bracket behind them.
@@ -143,21 +145,21 @@ impl<'t> PartsWalk<'t> {
         for _ in 0..self.cursor.bytes_left() {
             let part = self.value_name()?;
             self.add_values(part, Some(number), 1)?;
-            self.cursor.expect(b':', Expected::Colon)?;
+            self.cursor.expect(b':', Expectation::Colon)?;
             self.cursor.any_type(self.alloc)?;
             self.skip_location()?;
             if self.cursor.accept(b')') {
                 return Ok(());
             }
-            self.cursor.expect(b',', Expected::CloseRound)?;
+            self.cursor.expect(b',', Expectation::CloseRound)?;
         }
-        Err(self.cursor.fault(Expected::CloseRound))
+        Err(self.cursor.fault(Expectation::CloseRound))
     }
 
     // The name of a value, with its sign.
     fn value_name(&mut self) -> Result<TextPart, Fault> {
-        self.cursor.expect(b'%', Expected::Value)?;
-        let name = self.cursor.word(Expected::Name)?;
+        self.cursor.expect(b'%', Expectation::Value)?;
+        let name = self.cursor.word(Expectation::Name)?;
         Ok(self.part(name.start.saturating_sub(1), name.end))
     }
 
@@ -175,7 +177,7 @@ impl<'t> PartsWalk<'t> {
     }
 
     // Takes in an operation: up to its regions, into the first of which this goes, or with all that is behind it.
-    fn operation(&mut self, op: &OperationText) -> Result<(), Fault> {
+    fn operation(&mut self, op: &OperationSyntax) -> Result<(), Fault> {
         self.close_regions()?;
         let start = self.cursor.place();
         let part = self.part(start, start);
@@ -185,11 +187,11 @@ impl<'t> PartsWalk<'t> {
             let (_, count) = op.results;
             self.add_values(part, None, count)?;
         }
-        self.cursor.string(Expected::Operation)?;
+        self.cursor.string(Expectation::Operation)?;
         let end = if op.regions > 0 {
             let end = self.brackets(b"([<")?;
-            self.cursor.expect(b'(', Expected::OpenRound)?;
-            self.cursor.expect(b'{', Expected::OpenBrace)?;
+            self.cursor.expect(b'(', Expectation::OpenRound)?;
+            self.cursor.expect(b'{', Expectation::OpenBrace)?;
             self.open.push(self.ends.len())?;
             end
         } else {
@@ -210,7 +212,7 @@ impl<'t> PartsWalk<'t> {
             let part = self.value_name()?;
             let count = if self.cursor.accept(b':') {
                 self.cursor.skip();
-                let digits = self.cursor.word(Expected::Number)?;
+                let digits = self.cursor.word(Expectation::Number)?;
                 count_of(self.cursor.bytes(digits))
             } else {
                 1
@@ -220,9 +222,9 @@ impl<'t> PartsWalk<'t> {
                 self.cursor.skip();
                 return Ok(());
             }
-            self.cursor.expect(b',', Expected::CommaOrEquals)?;
+            self.cursor.expect(b',', Expectation::CommaOrEquals)?;
         }
-        Err(self.cursor.fault(Expected::Equals))
+        Err(self.cursor.fault(Expectation::Equals))
     }
 
     // Skips brackets of these kinds, each behind blanks, and answers where the last one ends; of round ones only the first
@@ -248,7 +250,7 @@ impl<'t> PartsWalk<'t> {
 
     // Skips the types of an operation and its location, and answers where they end.
     fn types(&mut self) -> Result<usize, Fault> {
-        self.cursor.expect(b':', Expected::Colon)?;
+        self.cursor.expect(b':', Expectation::Colon)?;
         self.cursor.any_type(self.alloc)?;
         self.skip_location()?;
         Ok(self.cursor.place())
@@ -262,7 +264,7 @@ impl<'t> PartsWalk<'t> {
             self.cursor = before;
             return Ok(());
         }
-        self.cursor.word(Expected::Name)?;
+        self.cursor.word(Expectation::Name)?;
         self.cursor.skip();
         self.cursor.bracket(self.alloc)?;
         Ok(())
@@ -284,9 +286,9 @@ impl<'t> PartsWalk<'t> {
                 break;
             }
             if self.cursor.accept(b',') {
-                self.cursor.expect(b'{', Expected::OpenBrace)?;
+                self.cursor.expect(b'{', Expectation::OpenBrace)?;
             } else {
-                self.cursor.expect(b')', Expected::RegionOrEnd)?;
+                self.cursor.expect(b')', Expectation::RegionOrEnd)?;
                 self.brackets(b"{")?;
                 let end = self.types()?;
                 self.end_last(end);
@@ -315,7 +317,7 @@ fn walk_through(
     alloc: Global,
     text: &[u8],
     walk: &mut PartsWalk,
-) -> Result<Option<Syntax>, AllocError> {
+) -> Result<Option<ModuleSyntax>, AllocError> {
     match parse_text(alloc, text) {
         Ok(parsed) => match walk.all(&parsed.syntax) {
             Err(Fault::NoMemory) => Err(AllocError),
@@ -327,7 +329,12 @@ fn walk_through(
 }
 
 // The number of the operation at this index in the region at that index of an operation, counted over its blocks.
-fn inner_number(syntax: &Syntax, holder: usize, region: usize, index: usize) -> Option<usize> {
+fn inner_number(
+    syntax: &ModuleSyntax,
+    holder: usize,
+    region: usize,
+    index: usize,
+) -> Option<usize> {
     let mut before = 0usize;
     for number in holder..syntax.operations.len() {
         let block = syntax.operations.get(number)?.block;
@@ -344,7 +351,7 @@ fn inner_number(syntax: &Syntax, holder: usize, region: usize, index: usize) -> 
 }
 
 // The number of the operation at the end of the path.
-fn number_at(syntax: &Syntax, path: &str) -> Option<usize> {
+fn number_at(syntax: &ModuleSyntax, path: &str) -> Option<usize> {
     let mut holder = 0usize;
     let mut region = None;
     for word in path.split('.') {

@@ -6,7 +6,7 @@ use Rattle.pliron_core.specs.Tree.{Tree}
 use Rattle.pliron_text.specs.declared.syntax.OperationText.{OperationText}
 use Rattle.pliron_text.specs.declared.syntax.BlockText.{BlockText}
 use Rattle.pliron_text.specs.declared.syntax.Syntax.{Syntax}
-use Rattle.pliron_text.specs.declared.syntax.PartCounts.{PartCounts}
+use Rattle.pliron_text.specs.declared.syntax.MadeCounts.{MadeCounts}
 use Rattle.pliron_text.specs.declared.syntax.SyntaxStep.{SyntaxStep}
 use Rattle.pliron_text.specs.declared.syntax.SyntaxStep.TheVariants.{Operation, Block}
 use Rattle.pliron_text.specs.declared.build.BuiltTree.{BuiltTree}
@@ -33,23 +33,23 @@ pub below-end : (count : ℕ) (xs : List ℕ) (i : ℕ) → length xs ≤ i → 
 below-end count xs i le back = back (subst (AllBelow count) (sym (drop-past xs i le)) (λ x j. absurd j))
 
 -- steps in order
-pub ordered-step : (s : Syntax) (m m' first : PartCounts) (steps : List SyntaxStep) (i : ℕ) (d : SyntaxStep) → i < length steps → IsNext s m (get_or steps i d) m' → (IsOrdered s m (drop i steps) → IsOrdered s first steps) → IsOrdered s m' (drop (i + 1) steps) → IsOrdered s first steps
+pub ordered-step : (s : Syntax) (m m' first : MadeCounts) (steps : List SyntaxStep) (i : ℕ) (d : SyntaxStep) → i < length steps → IsNext s m (get_or steps i d) m' → (IsOrdered s m (drop i steps) → IsOrdered s first steps) → IsOrdered s m' (drop (i + 1) steps) → IsOrdered s first steps
 ordered-step s m m' first steps i d lt next back rest = back (subst (IsOrdered s m) (sym (drop_more steps i d lt)) (m', next, rest))
 
-pub ordered-end : (s : Syntax) (m first : PartCounts) (steps : List SyntaxStep) (i : ℕ) → length steps ≤ i → (IsOrdered s m (drop i steps) → IsOrdered s first steps) → IsOrdered s m [] → IsOrdered s first steps
+pub ordered-end : (s : Syntax) (m first : MadeCounts) (steps : List SyntaxStep) (i : ℕ) → length steps ≤ i → (IsOrdered s m (drop i steps) → IsOrdered s first steps) → IsOrdered s m [] → IsOrdered s first steps
 ordered-end s m first steps i le back last = back (subst (IsOrdered s m) (sym (drop-past steps i le)) last)
 
-pub ordered-next : (s : Syntax) (m : PartCounts) (steps : List SyntaxStep) (i : ℕ) (d : SyntaxStep) → i < length steps → IsOrdered s m (drop i steps) → (m' : PartCounts) × IsNext s m (get_or steps i d) m' × IsOrdered s m' (drop (i + 1) steps)
+pub ordered-next : (s : Syntax) (m : MadeCounts) (steps : List SyntaxStep) (i : ℕ) (d : SyntaxStep) → i < length steps → IsOrdered s m (drop i steps) → (m' : MadeCounts) × IsNext s m (get_or steps i d) m' × IsOrdered s m' (drop (i + 1) steps)
 ordered-next s m steps i d lt o = subst (IsOrdered s m) (drop_more steps i d lt) o
 
-pub ordered-last : (s : Syntax) (m : PartCounts) (steps : List SyntaxStep) (i : ℕ) → length steps ≤ i → IsOrdered s m (drop i steps) → IsOrdered s m []
+pub ordered-last : (s : Syntax) (m : MadeCounts) (steps : List SyntaxStep) (i : ℕ) → length steps ≤ i → IsOrdered s m (drop i steps) → IsOrdered s m []
 ordered-last s m steps i le o = subst (IsOrdered s m) (drop-past steps i le) o
 
-pub next-operation : (m m' : PartCounts) (n : ℕ) (o : Option OperationText) → IsNextOperation m n o m' → (t : OperationText) × (o ≡ Some t) × (n ≡ m.operations) × (t.block < m.blocks) × (m' ≡ record { operations = m.operations + 1; blocks = m.blocks; regions = m.regions + t.regions; values = m.values + t.results })
+pub next-operation : (m m' : MadeCounts) (n : ℕ) (o : Option OperationText) → IsNextOperation m n o m' → (t : OperationText) × (o ≡ Some t) × (n ≡ m.operations) × (t.block < m.blocks) × (m' ≡ record { operations = m.operations + 1; blocks = m.blocks; regions = m.regions + t.regions; values = m.values + t.results })
 next-operation m m' n None h = absurd h
 next-operation m m' n (Some t) h = (t, refl, h.0, h.1, h.2)
 
-pub next-block : (m m' : PartCounts) (n : ℕ) (o : Option BlockText) → IsNextBlock m n o m' → (t : BlockText) × (o ≡ Some t) × (n ≡ m.blocks) × (t.region < m.regions) × (m' ≡ record { operations = m.operations; blocks = m.blocks + 1; regions = m.regions; values = m.values + t.arguments })
+pub next-block : (m m' : MadeCounts) (n : ℕ) (o : Option BlockText) → IsNextBlock m n o m' → (t : BlockText) × (o ≡ Some t) × (n ≡ m.blocks) × (t.region < m.regions) × (m' ≡ record { operations = m.operations; blocks = m.blocks + 1; regions = m.regions; values = m.values + t.arguments })
 next-block m m' n None h = absurd h
 next-block m m' n (Some t) h = (t, refl, h.0, h.1, h.2)
 
@@ -64,7 +64,7 @@ stand-more t [] s a h = (h, tt)
 stand-more t (x ∷ steps) s a h = (a.0, stand-more t steps s a.1 h)
 
 -- what is made after one step more
-pub made-operation : (b c : BuiltTree) (m : PartCounts) (t : OperationText) → HasMade b m → length c.operations.items ≡ length b.operations.items + 1 → c.blocks.items ≡ b.blocks.items → length c.regions.items ≡ length b.regions.items + t.regions → length c.values.items ≡ length b.values.items + t.results → HasMade c (record { operations = m.operations + 1; blocks = m.blocks; regions = m.regions + t.regions; values = m.values + t.results })
+pub made-operation : (b c : BuiltTree) (m : MadeCounts) (t : OperationText) → HasMade b m → length c.operations.items ≡ length b.operations.items + 1 → c.blocks.items ≡ b.blocks.items → length c.regions.items ≡ length b.regions.items + t.regions → length c.values.items ≡ length b.values.items + t.results → HasMade c (record { operations = m.operations + 1; blocks = m.blocks; regions = m.regions + t.regions; values = m.values + t.results })
 made-operation b c m t h ops blocks regions values = record {
   operations = ops ∙ ap (λ n. n + 1) h.operations;
   blocks = ap length blocks ∙ h.blocks;
@@ -72,7 +72,7 @@ made-operation b c m t h ops blocks regions values = record {
   values = values ∙ ap (λ n. n + t.results) h.values;
 }
 
-pub made-block : (b c : BuiltTree) (m : PartCounts) (t : BlockText) → HasMade b m → c.operations.items ≡ b.operations.items → length c.blocks.items ≡ length b.blocks.items + 1 → c.regions.items ≡ b.regions.items → length c.values.items ≡ length b.values.items + t.arguments → HasMade c (record { operations = m.operations; blocks = m.blocks + 1; regions = m.regions; values = m.values + t.arguments })
+pub made-block : (b c : BuiltTree) (m : MadeCounts) (t : BlockText) → HasMade b m → c.operations.items ≡ b.operations.items → length c.blocks.items ≡ length b.blocks.items + 1 → c.regions.items ≡ b.regions.items → length c.values.items ≡ length b.values.items + t.arguments → HasMade c (record { operations = m.operations; blocks = m.blocks + 1; regions = m.regions; values = m.values + t.arguments })
 made-block b c m t h ops blocks regions values = record {
   operations = ap length ops ∙ h.operations;
   blocks = blocks ∙ ap (λ n. n + 1) h.blocks;
@@ -81,10 +81,10 @@ made-block b c m t h ops blocks regions values = record {
 }
 
 -- what the next step makes, read from the tables
-pub operation-at : (s : Syntax) (m m' : PartCounts) (step : SyntaxStep) (n : ℕ) → IsNext s m step m' → step ≡ Operation n → (t : OperationText) × (slice_get s.operations.items n ≡ Some t) × (n ≡ m.operations) × (t.block < m.blocks) × (m' ≡ record { operations = m.operations + 1; blocks = m.blocks; regions = m.regions + t.regions; values = m.values + t.results })
+pub operation-at : (s : Syntax) (m m' : MadeCounts) (step : SyntaxStep) (n : ℕ) → IsNext s m step m' → step ≡ Operation n → (t : OperationText) × (slice_get s.operations.items n ≡ Some t) × (n ≡ m.operations) × (t.block < m.blocks) × (m' ≡ record { operations = m.operations + 1; blocks = m.blocks; regions = m.regions + t.regions; values = m.values + t.results })
 operation-at s m m' step n next e = next-operation m m' n (slice_get s.operations.items n) (subst (λ z. IsNext s m z m') e next)
 
-pub block-at : (s : Syntax) (m m' : PartCounts) (step : SyntaxStep) (n : ℕ) → IsNext s m step m' → step ≡ Block n → (t : BlockText) × (slice_get s.blocks.items n ≡ Some t) × (n ≡ m.blocks) × (t.region < m.regions) × (m' ≡ record { operations = m.operations; blocks = m.blocks + 1; regions = m.regions; values = m.values + t.arguments })
+pub block-at : (s : Syntax) (m m' : MadeCounts) (step : SyntaxStep) (n : ℕ) → IsNext s m step m' → step ≡ Block n → (t : BlockText) × (slice_get s.blocks.items n ≡ Some t) × (n ≡ m.blocks) × (t.region < m.regions) × (m' ≡ record { operations = m.operations; blocks = m.blocks + 1; regions = m.regions; values = m.values + t.arguments })
 block-at s m m' step n next e = next-block m m' n (slice_get s.blocks.items n) (subst (λ z. IsNext s m z m') e next)
 
 -- blocks of a region

@@ -17,7 +17,7 @@ use Rattle.pliron_text.specs.declared.syntax.OperationText.{OperationText}
 use Rattle.pliron_text.specs.declared.syntax.BlockText.{BlockText}
 use Rattle.pliron_text.specs.declared.syntax.Syntax.{Syntax}
 use Rattle.pliron_text.specs.Notation.{first_made, head_of_text}
-use Rattle.pliron_text.specs.declared.syntax.PartCounts.{PartCounts}
+use Rattle.pliron_text.specs.declared.syntax.MadeCounts.{MadeCounts}
 use Rattle.pliron_text.specs.Building.{AddsOnly, HasMade, IsBuilt, IsGrown, KeepsEntries, after_appending}
 use Rattle.pliron_text.specs.Laid.{IsBegun, IsWhole, IsMadeAs, HasNoUses, IsLastOf, IsLaid, LaysOn, LaysOperation, LaysBlock}
 use Rattle.pliron_text.proofs.BuildLemmas.{length-last, appended-row, appended-parent, appended-other, created-parent, start-row, grown-start, built-start, start-results, start-regions}
@@ -246,10 +246,10 @@ begun-made s built results regions ops blocks e f values regs = record {
 }
 
 -- the laying goes on with the next operation or block of the text
-pub lays-operation : (s : Syntax) (u v w : Tree) (a b c : BuiltTree) (m : PartCounts) (n : ℕ) (o p : OperationText) → LaysOn s u a v b → HasMade b m → n ≡ m.operations → slice_get s.operations.items n ≡ Some o → p ≡ o → LaysOperation p v b w c → LaysOn s u a w c
+pub lays-operation : (s : Syntax) (u v w : Tree) (a b c : BuiltTree) (m : MadeCounts) (n : ℕ) (o p : OperationText) → LaysOn s u a v b → HasMade b m → n ≡ m.operations → slice_get s.operations.items n ≡ Some o → p ≡ o → LaysOperation p v b w c → LaysOn s u a w c
 lays-operation s u v w a b c m n o p before made e at same lays root base l =
     lays s (ap (slice_get s.operations.items) (made.operations ∙ sym e) ∙ at ∙ ap Some (sym same)) root base (before root base l)
 
-pub lays-block : (s : Syntax) (u v w : Tree) (a b c : BuiltTree) (m : PartCounts) (n : ℕ) (o p : BlockText) → LaysOn s u a v b → HasMade b m → n ≡ m.blocks → slice_get s.blocks.items n ≡ Some o → p ≡ o → LaysBlock p v b w c → LaysOn s u a w c
+pub lays-block : (s : Syntax) (u v w : Tree) (a b c : BuiltTree) (m : MadeCounts) (n : ℕ) (o p : BlockText) → LaysOn s u a v b → HasMade b m → n ≡ m.blocks → slice_get s.blocks.items n ≡ Some o → p ≡ o → LaysBlock p v b w c → LaysOn s u a w c
 lays-block s u v w a b c m n o p before made e at same lays root base l =
     lays s (ap (slice_get s.blocks.items) (made.blocks ∙ sym e) ∙ at ∙ ap Some (sym same)) root base (before root base l)

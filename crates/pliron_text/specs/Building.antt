@@ -5,7 +5,7 @@ use Rattle.pliron_core.specs.Tree.{Tree, In, IsLive, IsBlock, IsRegion, IsDefine
 use Rattle.pliron_core.specs.Invariant.{IsTree}
 use Rattle.pliron_core.specs.Writes.{after_creating, put_last}
 use Rattle.pliron_text.specs.declared.build.BuiltTree.{BuiltTree}
-use Rattle.pliron_text.specs.declared.syntax.PartCounts.{PartCounts}
+use Rattle.pliron_text.specs.declared.syntax.MadeCounts.{MadeCounts}
 use Rattle.pliron_text.specs.declared.syntax.Syntax.{Syntax}
 
 -- the table still has each entry
@@ -72,7 +72,7 @@ pub record AreLive (u : Tree) (built : BuiltTree) : Type 0 where
   pub values : All (IsDefined u) built.values.items
 
 -- so much is built
-pub record HasMade (built : BuiltTree) (m : PartCounts) : Type 0 where
+pub record HasMade (built : BuiltTree) (m : MadeCounts) : Type 0 where
   pub operations : length built.operations.items ≡ m.operations
   pub blocks : length built.blocks.items ≡ m.blocks
   pub regions : length built.regions.items ≡ m.regions

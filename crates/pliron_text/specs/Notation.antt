@@ -10,32 +10,32 @@ use Rattle.pliron_text.specs.declared.syntax.AttributeText.TheVariants.{Nothing,
 use Rattle.pliron_text.specs.declared.syntax.OperationText.{OperationText}
 use Rattle.pliron_text.specs.declared.syntax.BlockText.{BlockText}
 use Rattle.pliron_text.specs.declared.syntax.Syntax.{Syntax}
-use Rattle.pliron_text.specs.declared.syntax.PartCounts.{PartCounts}
+use Rattle.pliron_text.specs.declared.syntax.MadeCounts.{MadeCounts}
 use Rattle.pliron_text.specs.declared.syntax.SyntaxStep.{SyntaxStep}
 use Rattle.pliron_text.specs.declared.syntax.SyntaxStep.TheVariants.{Operation, Block}
 
 -- the operation of this number is the next after what is made, its block is made, and so much is made
 -- after it
-abbrev pub IsNextOperation : PartCounts → ℕ → Option OperationText → PartCounts → Type 0
+abbrev pub IsNextOperation : MadeCounts → ℕ → Option OperationText → MadeCounts → Type 0
 IsNextOperation m n None m' = ⊥
 IsNextOperation m n (Some o) m' = (n ≡ m.operations) × (o.block < m.blocks) × (m' ≡ record { operations = m.operations + 1; blocks = m.blocks; regions = m.regions + o.regions; values = m.values + o.results })
 
 -- the same of a block, whose region is made
-abbrev pub IsNextBlock : PartCounts → ℕ → Option BlockText → PartCounts → Type 0
+abbrev pub IsNextBlock : MadeCounts → ℕ → Option BlockText → MadeCounts → Type 0
 IsNextBlock m n None m' = ⊥
 IsNextBlock m n (Some b) m' = (n ≡ m.blocks) × (b.region < m.regions) × (m' ≡ record { operations = m.operations; blocks = m.blocks + 1; regions = m.regions; values = m.values + b.arguments })
 
-abbrev pub IsNext : Syntax → PartCounts → SyntaxStep → PartCounts → Type 0
+abbrev pub IsNext : Syntax → MadeCounts → SyntaxStep → MadeCounts → Type 0
 IsNext s m (Operation n) m' = IsNextOperation m n (slice_get s.operations.items n) m'
 IsNext s m (Block n) m' = IsNextBlock m n (slice_get s.blocks.items n) m'
 
 -- each step makes what is next, and in the end all of the text is made
-abbrev pub IsOrdered : Syntax → PartCounts → List SyntaxStep → Type 0
+abbrev pub IsOrdered : Syntax → MadeCounts → List SyntaxStep → Type 0
 IsOrdered s m [] = (m.operations ≡ length s.operations.items) × (m.blocks ≡ length s.blocks.items) × (m.values ≡ s.values)
-IsOrdered s m (step ∷ steps) = (m' : PartCounts) × IsNext s m step m' × IsOrdered s m' steps
+IsOrdered s m (step ∷ steps) = (m' : MadeCounts) × IsNext s m step m' × IsOrdered s m' steps
 
 -- before the first step the regions and the results of the whole text are made
-abbrev pub first_made : OperationText → PartCounts
+abbrev pub first_made : OperationText → MadeCounts
 first_made root = record { operations = 0; blocks = 0; regions = root.regions; values = root.results }
 
 abbrev pub AllBelow : ℕ → List ℕ → Type 0

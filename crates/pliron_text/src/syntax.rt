@@ -133,7 +133,7 @@ impl Syntax {
     fn is_ordered(&self) -> bool
         ensures { IsTrue result → IsOrdered self.now (first_made self.now.root) self.now.steps.items }
     {
-        let mut made = PartCounts::of_root(&self.root);
+        let mut made = MadeCounts::of_root(&self.root);
         for step in &self.steps {
             if !made.take(self, *step) {
                 return false;
@@ -219,19 +219,19 @@ fn are_below(numbers: &[usize], count: usize) -> bool
 
 /// How much is made so far.
 #[derive(Clone, Copy)]
-struct PartCounts {
+struct MadeCounts {
     operations: usize,
     blocks: usize,
     regions: usize,
     values: usize,
 }
 
-impl PartCounts {
+impl MadeCounts {
     // What is made with the whole text's operation.
     fn of_root(root: &OperationText) -> Self
         ensures { result ≡ first_made root.now }
     {
-        PartCounts {
+        MadeCounts {
             operations: 0,
             blocks: 0,
             regions: root.regions,

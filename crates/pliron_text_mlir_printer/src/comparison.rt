@@ -5,7 +5,7 @@ ghost use Rattle.pliron_core.specs.Tree.{IsLive};
 use crate::constants::{form_of_datum, form_of_head};
 use pliron_core::{AttrObj, BasicBlock, Contents, Context, Head, Operation, Ptr, Region, Value};
 use pliron_dialect_mlir::{class_of_head, form_of};
-use pliron_text_mlir_syntax::{Form, Sheet};
+use pliron_text_mlir_syntax::{OperationForm, Sheet};
 use std::alloc::{AllocError, Global};
 use std::collections::HashMap;
 
@@ -26,7 +26,7 @@ struct Counterparts {
 
 /// Two modules that are compared.
 #[derive(Clone, Copy)]
-struct Pair<'m> {
+struct ModulePair<'m> {
     first_root: Ptr<Operation>,
     first_sheet: &'m Sheet,
     first_ctx: &'m Context,
@@ -52,7 +52,7 @@ pub fn is_same_module<'m>(
         values: HashMap::new(alloc),
         blocks: HashMap::new(alloc),
     };
-    let pair = Pair {
+    let pair = ModulePair {
         first_root: first.root,
         first_sheet: first.sheet,
         first_ctx: first.ctx,
@@ -93,7 +93,7 @@ impl Counterparts {
     }
 }
 
-impl Pair<'_> {
+impl ModulePair<'_> {
     fn is_same(&self, counterparts: &mut Counterparts) -> Result<bool, AllocError>
         ensures { IfOk result (λ same. same ≡ true → (IsLive self.now.first_ctx.now.tree self.now.first_root) ×
             (IsLive self.now.second_ctx.now.tree self.now.second_root)) }
@@ -321,7 +321,7 @@ impl Pair<'_> {
         }
     }
 
-    fn forms_agree(&self, one: Form, other: Form) -> bool {
+    fn forms_agree(&self, one: OperationForm, other: OperationForm) -> bool {
         one.is_whole == other.is_whole
             && self.texts_agree(Some(one.name), Some(other.name))
             && self.texts_agree(one.properties, other.properties)

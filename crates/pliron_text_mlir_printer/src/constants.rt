@@ -5,7 +5,7 @@ ghost use Rattle.pliron_text_mlir_printer.specs.Names.{jump_name, constant_name}
 use itoa::Buffer;
 use pliron_core::{AttrObj, Context, Head, Operation, Ptr};
 use pliron_dialect_mlir::{Class, class_of_head, form_of, form_of_constant, integer_of};
-use pliron_text_mlir_syntax::{Form, MAX_DEPTH, Sheet};
+use pliron_text_mlir_syntax::{MAX_DEPTH, OperationForm, Sheet};
 use std::alloc::AllocError;
 
 /// The dialect that an operation made by folding is written in.
@@ -39,17 +39,17 @@ impl TargetDialect {
 }
 
 // The form of this number, if there is one.
-fn form_by_number(number: Option<u128>, sheet: &Sheet) -> Option<Form> {
+fn form_by_number(number: Option<u128>, sheet: &Sheet) -> Option<OperationForm> {
     sheet.form(usize::try_from(number?).ok()?)
 }
 
 /// The form of an operation with this head, if it has one. Cost: constant.
-pub fn form_of_head(head: &Head, sheet: &Sheet) -> Option<Form> {
+pub fn form_of_head(head: &Head, sheet: &Sheet) -> Option<OperationForm> {
     form_by_number(form_of(head), sheet)
 }
 
 /// The form of the constants with this datum, if it is one. Cost: constant.
-pub fn form_of_datum(datum: i128, sheet: &Sheet) -> Option<Form> {
+pub fn form_of_datum(datum: i128, sheet: &Sheet) -> Option<OperationForm> {
     form_by_number(form_of_constant(datum), sheet)
 }
 

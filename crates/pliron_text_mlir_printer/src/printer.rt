@@ -5,7 +5,7 @@ use crate::constants::{
 use crate::naming::{ByHandle, Naming};
 use pliron_core::{BasicBlock, Context, Def, Head, Operation, Ptr, Region, Value};
 use pliron_dialect_mlir::{Class, class_of_head, count_of_edge};
-use pliron_text_mlir_syntax::{Form, Sheet};
+use pliron_text_mlir_syntax::{OperationForm, Sheet};
 use std::alloc::{AllocError, Global};
 
 /// What is to be printed.
@@ -23,7 +23,7 @@ enum Item {
 
 /// What is printed so far.
 #[derive(Drop)]
-struct Printer<'s, G> {
+struct ModulePrinter<'s, G> {
     sheet: &'s Sheet,
     naming: &'s G,
     root: Ptr<Operation>,
@@ -55,7 +55,7 @@ pub fn print_module_named<G: Naming>(
     naming: &G,
     ctx: &Context,
 ) -> Result<Vec<u8>, AllocError> {
-    let mut printer = Printer {
+    let mut printer = ModulePrinter {
         sheet,
         naming,
         root,
@@ -64,7 +64,7 @@ pub fn print_module_named<G: Naming>(
         items: Vec::new(alloc),
     };
     let outcome = printer.all(ctx);
-    let Printer {
+    let ModulePrinter {
         sheet: _,
         naming: _,
         root: _,
@@ -94,7 +94,7 @@ fn edge_count(head: &Head, edge: usize) -> u64 {
     u64::try_from(count_of_edge(head, edge)).unwrap_or(u64::MAX)
 }
 
-impl<G: Naming> Printer<'_, G> {
+impl<G: Naming> ModulePrinter<'_, G> {
     fn text(&mut self, text: &[u8]) -> Result<(), AllocError> {
         self.out.extend_from_slice(text)
     }
@@ -171,12 +171,17 @@ impl<G: Naming> Printer<'_, G> {
         self.naming.value(value.key(), &mut self.out)
     }
 
-    fn whole(&mut self, form: Form) -> Result<(), AllocError> {
+    fn whole(&mut self, form: OperationForm) -> Result<(), AllocError> {
         self.text(self.sheet.text(form.name))?;
         self.text(b"\n")
     }
 
-    fn by_form(&mut self, op: Ptr<Operation>, form: Form, ctx: &Context) -> Result<(), AllocError> {
+    fn by_form(
+        &mut self,
+        op: Ptr<Operation>,
+        form: OperationForm,
+        ctx: &Context,
+    ) -> Result<(), AllocError> {
         self.text(self.sheet.text(form.name))?;
         self.edges(op, ctx)?;
         self.properties(op, form, ctx)?;
@@ -224,7 +229,7 @@ impl<G: Naming> Printer<'_, G> {
     fn properties(
         &mut self,
         op: Ptr<Operation>,
-        form: Form,
+        form: OperationForm,
         ctx: &Context,
     ) -> Result<(), AllocError> {
         let counts = self.has_counts(op, ctx) && !self.has_counts_behind(form);
@@ -267,7 +272,7 @@ impl<G: Naming> Printer<'_, G> {
     }
 
     // Whether the counts of operands are in the attribute dictionary.
-    fn has_counts_behind(&self, form: Form) -> bool {
+    fn has_counts_behind(&self, form: OperationForm) -> bool {
         form.properties.is_none() && form.attributes.is_some()
     }
 
@@ -301,7 +306,12 @@ impl<G: Naming> Printer<'_, G> {
     }
 
     // What is printed behind the regions.
-    fn tail(&mut self, op: Ptr<Operation>, form: Form, ctx: &Context) -> Result<(), AllocError> {
+    fn tail(
+        &mut self,
+        op: Ptr<Operation>,
+        form: OperationForm,
+        ctx: &Context,
+    ) -> Result<(), AllocError> {
         if form.attributes.is_some() {
             let counts = self.has_counts(op, ctx) && self.has_counts_behind(form);
             self.text(b" {")?;

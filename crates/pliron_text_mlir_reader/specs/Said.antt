@@ -8,7 +8,7 @@ use Rattle.pliron_text_mlir_syntax.specs.Numbers.{without_blanks, behind, before
 use Rattle.pliron_text_mlir_reader.specs.Taken.{flags_owned, predicate_said, spread_of}
 use Rattle.pliron_text_mlir_reader.specs.declared.owned.OwnedProperty.{OwnedProperty}
 use Rattle.pliron_text_mlir_reader.specs.declared.owned.OwnedProperty.TheVariants.{Predicate as OwnsPredicate}
-use Rattle.pliron_text_mlir_reader.specs.declared.taken.Shape.{Shape}
+use Rattle.pliron_text_mlir_reader.specs.declared.taken.OperationShape.{OperationShape}
 use Rattle.pliron_text_mlir_reader.specs.declared.taken.Overflow.{Overflow}
 use Rattle.pliron_text_mlir_reader.specs.declared.taken.Entries.{Entries}
 
@@ -115,10 +115,10 @@ counts_said is_switch said =
 
 -- so many operands of each edge: there are as many edges, and these are all operands but the first; more than 1,024
 -- edges have none
-abbrev pub fits : Shape → (counts : List ℕ) → Bool
+abbrev pub fits : OperationShape → (counts : List ℕ) → Bool
 fits s counts = not (nat_lt 1024 (length counts) && nat_lt 0 (sum counts)) && (nat_eq (length counts) s.successors && nat_eq (1 + sum counts) s.operands)
 
-abbrev pub fitting : Shape → Option (List ℕ) → Option (List ℕ)
+abbrev pub fitting : OperationShape → Option (List ℕ) → Option (List ℕ)
 fitting s counts = option_and_then (λ counts. if fits s counts then Some counts else None) counts
 
 -- the width and the cases of a switch, neither where they aren't understood
@@ -126,6 +126,6 @@ abbrev pub cases_of : (width : ℕ) → Option (List ℕ) → ℕ × List ℕ
 cases_of width None = (0, [])
 cases_of width (Some cases) = (width, cases)
 
-abbrev pub cases_said : Shape → Said → ℕ × List ℕ
+abbrev pub cases_said : OperationShape → Said → ℕ × List ℕ
 cases_said s said =
     if nat_lt 0 s.from then cases_of s.from (dense_written s.from (s.successors - 1) (unwrap_or (value_of (codes "case_values") said) [])) else (0, [])

@@ -14,26 +14,26 @@ use Rattle.pliron_dialect_mlir.specs.Heads.{plain_head, binary_head, compare_hea
 use Rattle.pliron_text_mlir_syntax.specs.declared.numbers.SignedNumber.{SignedNumber}
 use Rattle.pliron_text_mlir_reader.specs.declared.owned.OwnedProperty.{OwnedProperty}
 use Rattle.pliron_text_mlir_reader.specs.declared.owned.OwnedProperty.TheVariants.{Value, Zero, LlvmOverflow, ArithOverflow, Exact, Disjoint, NonNegative}
-use Rattle.pliron_text_mlir_reader.specs.declared.taken.Shape.{Shape}
+use Rattle.pliron_text_mlir_reader.specs.declared.taken.OperationShape.{OperationShape}
 use Rattle.pliron_text_mlir_reader.specs.declared.taken.Overflow.{Overflow}
 use Rattle.pliron_text_mlir_reader.specs.declared.taken.Entries.{Entries}
 
 -- ---- the class
 
 -- so many operands and results, no successors and no regions
-abbrev pub computes : (operands results : ℕ) → Shape → Bool
+abbrev pub computes : (operands results : ℕ) → OperationShape → Bool
 computes operands results s = nat_eq s.operands operands && (nat_eq s.results results && (nat_eq s.successors 0 && nat_eq s.regions 0))
 
 -- no results and no regions
-abbrev pub only_ends : Shape → Bool
+abbrev pub only_ends : OperationShape → Bool
 only_ends s = nat_eq s.results 0 && nat_eq s.regions 0
 
 -- one region and nothing else
-abbrev pub only_holds : Shape → Bool
+abbrev pub only_holds : OperationShape → Bool
 only_holds s = nat_eq s.operands 0 && (nat_eq s.results 0 && (nat_eq s.successors 0 && nat_eq s.regions 1))
 
 -- an operation of the class has such a shape
-abbrev pub has_shape : Class → Shape → Bool
+abbrev pub has_shape : Class → OperationShape → Bool
 has_shape Constant s = computes 0 1 s
 has_shape (Binary operator) s = computes 2 1 s
 has_shape Compare s = computes 2 1 s
@@ -52,7 +52,7 @@ has_shape Regions s = nat_eq s.successors 0
 has_shape Fork s = nat_lt 0 s.successors
 
 -- what isn't known acts on the world: as a fork where it has successors, with its regions where it has any
-abbrev pub unknown_class : Shape → Class
+abbrev pub unknown_class : OperationShape → Class
 unknown_class s = if nat_lt 0 s.successors then Fork else (if nat_lt 0 s.regions then Regions else Effect)
 
 -- a cast of integers, to a narrower type by truncation; of other types it is opaque
@@ -60,7 +60,7 @@ abbrev pub cast_taken : Cast → (from to : ℕ) → Class
 cast_taken cast from to = if nat_eq from 0 || nat_eq to 0 then Opaque else (if nat_lt (min to 64) (min from 64) then CastClass Truncate else CastClass cast)
 
 -- a class that computes integers is opaque at other types, and a branch by no truth is a fork
-abbrev pub class_at : Class → Shape → Class
+abbrev pub class_at : Class → OperationShape → Class
 class_at (Binary operator) s = if nat_eq s.from 0 then Opaque else Binary operator
 class_at Compare s = if nat_eq s.from 0 then Opaque else Compare
 class_at (CastClass cast) s = cast_taken cast s.from s.to
@@ -69,7 +69,7 @@ class_at Branch s = if nat_eq s.from 1 then Branch else Fork
 class_at class s = class
 
 -- the class of an operation: that of its name where the shape is one of the class
-abbrev pub class_taken : Option Class → Shape → Class
+abbrev pub class_taken : Option Class → OperationShape → Class
 class_taken None s = unknown_class s
 class_taken (Some class) s = if has_shape class s then class_at class s else unknown_class s
 
@@ -122,7 +122,7 @@ comparison_taken (Some predicate) width form = compare_head width predicate form
 comparison_taken None width form = plain_head Opaque form
 
 -- the head of an operation of the class, but for constants, branches and switches
-abbrev pub head_taken : Class → Shape → Flags → Option Predicate → (form : ℕ) → Head
+abbrev pub head_taken : Class → OperationShape → Flags → Option Predicate → (form : ℕ) → Head
 head_taken (Binary operator) s flags predicate form = binary_head operator s.from flags form
 head_taken (CastClass cast) s flags predicate form = cast_head cast s.from s.to flags form
 head_taken Compare s flags predicate form = comparison_taken predicate s.from form

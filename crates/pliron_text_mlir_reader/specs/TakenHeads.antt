@@ -6,7 +6,7 @@ use Rattle.pliron_dialect_mlir.specs.declared.kind.Class.TheVariants.{Constant, 
 use Rattle.pliron_dialect_mlir.specs.Data.{number, other_constant}
 use Rattle.pliron_dialect_mlir.specs.Heads.{constant_head, plain_head, switch_head}
 use Rattle.pliron_text_mlir_syntax.specs.declared.sheet.Sheet.{Sheet}
-use Rattle.pliron_text_mlir_syntax.specs.declared.sheet.Form.{Form}
+use Rattle.pliron_text_mlir_syntax.specs.declared.sheet.OperationForm.{OperationForm}
 use Rattle.pliron_text_mlir_syntax.specs.Numbers.{width_written}
 use Rattle.pliron_text_mlir_syntax.specs.Sheets.{text_at, form_at, WrittenForm, IsFormOf}
 use Rattle.pliron_text_mlir_reader.specs.Known.{known_in_quotes}
@@ -14,7 +14,7 @@ use Rattle.pliron_text_mlir_reader.specs.Said.{Said, flags_said, predicate_in, v
 use Rattle.pliron_text_mlir_reader.specs.Taken.{class_taken, bits_owned, head_taken, branch_taken}
 use Rattle.pliron_text_mlir_reader.specs.declared.known.KnownName.{KnownName}
 use Rattle.pliron_text_mlir_reader.specs.declared.owned.OwnedProperty.{OwnedProperty}
-use Rattle.pliron_text_mlir_reader.specs.declared.taken.Shape.{Shape}
+use Rattle.pliron_text_mlir_reader.specs.declared.taken.OperationShape.{OperationShape}
 
 -- ---- forms
 
@@ -50,21 +50,21 @@ IsConstantHead sheet owned width said written head =
     MatchOption (bits_owned owned width (value_bits width said)) (IsOtherConstant sheet written head) (λ bits. SaysForm sheet written (constant_head (number width bits)) head)
 
 -- a branch says how many operands each edge takes; where its text doesn't, it is a fork
-abbrev pub IsBranchHead : Sheet → Shape → Said → Forms → Head → Type 0
+abbrev pub IsBranchHead : Sheet → OperationShape → Said → Forms → Head → Type 0
 IsBranchHead sheet s said forms head =
     MatchOption (fitting s (counts_said false said)) (SaysForm sheet forms.form (plain_head Fork) head) (λ counts. SaysForm sheet forms.branch_form (branch_taken counts) head)
 
 -- a switch says its cases too
-abbrev pub IsSwitchHead : Sheet → Shape → Said → Forms → Head → Type 0
+abbrev pub IsSwitchHead : Sheet → OperationShape → Said → Forms → Head → Type 0
 IsSwitchHead sheet s said forms head =
     MatchOption (fitting s (counts_said true said)) (SaysForm sheet forms.form (plain_head Fork) head)
     (λ counts. SaysForm sheet forms.branch_form (switch_head counts (cases_said s said).0 (cases_said s said).1) head)
 
 -- any other operation has the flags and the predicate that it owns
-abbrev pub IsOtherHead : Sheet → Class → OwnedProperty → Shape → Said → WrittenForm → Head → Type 0
+abbrev pub IsOtherHead : Sheet → Class → OwnedProperty → OperationShape → Said → WrittenForm → Head → Type 0
 IsOtherHead sheet class owned s said written head = SaysForm sheet written (head_taken class s (flags_said owned said) (predicate_in owned said)) head
 
-abbrev pub IsHeadOf : Sheet → Class → OwnedProperty → Shape → Said → Forms → Head → Type 0
+abbrev pub IsHeadOf : Sheet → Class → OwnedProperty → OperationShape → Said → Forms → Head → Type 0
 IsHeadOf sheet Constant owned s said forms head = IsConstantHead sheet owned s.to said forms.form head
 IsHeadOf sheet Branch owned s said forms head = IsBranchHead sheet s said forms head
 IsHeadOf sheet Switch owned s said forms head = IsSwitchHead sheet s said forms head
@@ -73,18 +73,18 @@ IsHeadOf sheet class owned s said forms head = IsOtherHead sheet class owned s s
 -- ---- by names
 
 -- an operation of a known name, of this shape, with this text, is taken for one with this head
-abbrev pub IsKnownAs : Sheet → KnownName → Shape → Said → Forms → Head → Type 0
+abbrev pub IsKnownAs : Sheet → KnownName → OperationShape → Said → Forms → Head → Type 0
 IsKnownAs sheet known s said forms head = IsHeadOf sheet (class_taken known.class s) known.owned s said forms head
 
 -- by the name that its form has
-abbrev pub IsTakenFor : Sheet → Shape → Said → Forms → Head → Type 0
+abbrev pub IsTakenFor : Sheet → OperationShape → Said → Forms → Head → Type 0
 IsTakenFor sheet s said forms head = IsKnownAs sheet (known_in_quotes forms.form.name) s said forms head
 
 -- ---- kept as written
 
 -- the number is that of the form of an operation that is kept as this text
 abbrev pub IsFormOfKept : Sheet → (number : ℕ) → (text : List ℕ) → Type 0
-IsFormOfKept sheet number text = (form : Form) × (form_at sheet number ≡ Some form) × (text_at sheet form.name ≡ Some text) × (form.is_whole ≡ true)
+IsFormOfKept sheet number text = (form : OperationForm) × (form_at sheet number ≡ Some form) × (text_at sheet form.name ≡ Some text) × (form.is_whole ≡ true)
 
 -- an effect whose form is this text
 abbrev pub IsKeptAs : Sheet → (text : List ℕ) → Head → Type 0
@@ -93,5 +93,5 @@ IsKeptAs sheet text head = (form : ℕ) × IsFormOfKept sheet form text × (head
 -- some operation, with the widths of its types, is taken for one with this head; or it is kept as it is written
 abbrev pub IsTaken : Head → Type 0
 IsTaken head =
-    ((sheet : Sheet) × (s : Shape) × (said : Said) × (forms : Forms) × (s.from ≡ width_written said.operand) × (s.to ≡ width_written said.result) × IsTakenFor sheet s said forms head)
+    ((sheet : Sheet) × (s : OperationShape) × (said : Said) × (forms : Forms) × (s.from ≡ width_written said.operand) × (s.to ≡ width_written said.result) × IsTakenFor sheet s said forms head)
     ⊎ ((sheet : Sheet) × (text : List ℕ) × IsKeptAs sheet text head)

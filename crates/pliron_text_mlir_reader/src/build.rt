@@ -6,12 +6,14 @@ ghost use Rattle.pliron_text_mlir_reader.specs.Additions.{AddsTaken};
 
 use crate::TakenHead;
 use pliron_core::{BasicBlock, Context, IRRewriter, Operation, Ptr, Rewriter, Value};
-use pliron_text_mlir_syntax::{BlockText, Expected, Fault, OperationText, Sheet, Syntax};
+use pliron_text_mlir_syntax::{
+    BlockSyntax, Expectation, Fault, ModuleSyntax, OperationSyntax, Sheet,
+};
 use std::alloc::Global;
 
 /// What is built so far, by number.
 #[derive(Drop)]
-struct BuiltTree {
+struct BuiltModule {
     operations: Vec<Ptr<Operation>>,
     blocks: Vec<Ptr<BasicBlock>>,
     values: Vec<Value>,
@@ -19,7 +21,7 @@ struct BuiltTree {
 
 // The fault of syntax that builds no tree; syntax that was read from a text builds one.
 fn no_tree(place: usize) -> Fault {
-    Fault::Expected(place, Expected::Admitted)
+    Fault::Expected(place, Expectation::Admitted)
 }
 
 /// Builds the operation of a text, in no block, and notes the types of its values in the sheet.
@@ -28,7 +30,7 @@ fn no_tree(place: usize) -> Fault {
 /// Cost: linear in the text, with a step for each region around an operation.
 pub fn build(
     alloc: Global,
-    syntax: &Syntax,
+    syntax: &ModuleSyntax,
     heads: &mut [Option<TakenHead>],
     sheet: &mut Sheet,
     ctx: &mut Context,
@@ -36,7 +38,7 @@ pub fn build(
     ensures liveness { IfOk result (λ root. IsLive ctx.new.tree root) }
     ensures heads { AddsTaken ctx.old.tree ctx.new.tree }
 {
-    let mut built = BuiltTree {
+    let mut built = BuiltModule {
         operations: Vec::new(alloc),
         blocks: Vec::new(alloc),
         values: Vec::new(alloc),
@@ -50,11 +52,11 @@ pub fn build(
 
 #[tactic(auto, using(crate::proofs::AdditionLemmas::adds_before_none))]
 fn build_in(
-    syntax: &Syntax,
+    syntax: &ModuleSyntax,
     heads: &mut [Option<TakenHead>],
     sheet: &mut Sheet,
     ctx: &mut Context,
-    built: &mut BuiltTree,
+    built: &mut BuiltModule,
 ) -> Result<(), Fault>
     ensures { AddsTaken ctx.old.tree ctx.new.tree }
 {
@@ -64,10 +66,10 @@ fn build_in(
 
 // Gives all operations their operands and successors.
 fn connect_all(
-    syntax: &Syntax,
+    syntax: &ModuleSyntax,
     sheet: &Sheet,
     ctx: &mut Context,
-    built: &BuiltTree,
+    built: &BuiltModule,
 ) -> Result<(), Fault>
     ensures { ctx.new.tree.operations ≡ ctx.old.tree.operations }
 {
@@ -83,11 +85,11 @@ fn connect_all(
 // Makes all operations and blocks, in the order of the text.
 #[tactic(auto, using(crate::proofs::AdditionLemmas::adds_none, crate::proofs::AdditionLemmas::adds_more, crate::proofs::AdditionLemmas::adds_before_none))]
 fn add_all(
-    syntax: &Syntax,
+    syntax: &ModuleSyntax,
     heads: &mut [Option<TakenHead>],
     sheet: &mut Sheet,
     ctx: &mut Context,
-    built: &mut BuiltTree,
+    built: &mut BuiltModule,
 ) -> Result<(), Fault>
     ensures { AddsTaken ctx.old.tree ctx.new.tree }
 {
@@ -100,11 +102,11 @@ fn add_all(
 // The blocks before the operation of this number, and that.
 #[tactic(auto, using(crate::proofs::AdditionLemmas::adds_none, crate::proofs::AdditionLemmas::adds_behind_none))]
 fn add_next(
-    syntax: &Syntax,
+    syntax: &ModuleSyntax,
     heads: &mut [Option<TakenHead>],
     sheet: &mut Sheet,
     ctx: &mut Context,
-    built: &mut BuiltTree,
+    built: &mut BuiltModule,
     number: usize,
 ) -> Result<(), Fault>
     ensures { AddsTaken ctx.old.tree ctx.new.tree }
@@ -125,10 +127,10 @@ fn add_next(
 
 // The blocks that the text has before the operation of this number.
 fn add_blocks(
-    syntax: &Syntax,
+    syntax: &ModuleSyntax,
     sheet: &mut Sheet,
     ctx: &mut Context,
-    built: &mut BuiltTree,
+    built: &mut BuiltModule,
     before: usize,
 ) -> Result<(), Fault>
     ensures { ctx.new.tree.operations ≡ ctx.old.tree.operations }
@@ -143,7 +145,12 @@ fn add_blocks(
 }
 
 // Notes the types of new values: those from the first one on, so many.
-fn add_types(syntax: &Syntax, sheet: &mut Sheet, first: usize, count: usize) -> Result<(), Fault> {
+fn add_types(
+    syntax: &ModuleSyntax,
+    sheet: &mut Sheet,
+    first: usize,
+    count: usize,
+) -> Result<(), Fault> {
     let end = first.saturating_add(count);
     for at in first..end {
         sheet.push_type(syntax.types.get(at).copied().unwrap_or(0))?;
@@ -153,11 +160,11 @@ fn add_types(syntax: &Syntax, sheet: &mut Sheet, first: usize, count: usize) -> 
 
 #[tactic(auto, using(crate::proofs::AdditionLemmas::adds_none, crate::proofs::AdditionLemmas::adds_one, crate::proofs::AdditionLemmas::adds_before_none))]
 fn add_operation(
-    syntax: &Syntax,
+    syntax: &ModuleSyntax,
     sheet: &mut Sheet,
     ctx: &mut Context,
-    built: &mut BuiltTree,
-    text: &OperationText,
+    built: &mut BuiltModule,
+    text: &OperationSyntax,
     taken: TakenHead,
 ) -> Result<(), Fault>
     ensures { AddsTaken ctx.old.tree ctx.new.tree }
@@ -203,11 +210,11 @@ fn append(
 }
 
 fn add_block(
-    syntax: &Syntax,
+    syntax: &ModuleSyntax,
     sheet: &mut Sheet,
     ctx: &mut Context,
-    built: &mut BuiltTree,
-    text: &BlockText,
+    built: &mut BuiltModule,
+    text: &BlockSyntax,
 ) -> Result<(), Fault>
     ensures { ctx.new.tree.operations ≡ ctx.old.tree.operations }
 {
@@ -235,7 +242,7 @@ fn add_block(
 
 // Notes the types of new arguments, and the locations of those that have any.
 fn add_locations(
-    syntax: &Syntax,
+    syntax: &ModuleSyntax,
     sheet: &mut Sheet,
     first: usize,
     count: usize,
@@ -257,12 +264,12 @@ fn add_locations(
 
 // Gives the operation of this number its operands and successors.
 fn connect(
-    syntax: &Syntax,
+    syntax: &ModuleSyntax,
     sheet: &Sheet,
     ctx: &mut Context,
-    built: &BuiltTree,
+    built: &BuiltModule,
     number: usize,
-    text: &OperationText,
+    text: &OperationSyntax,
 ) -> Result<(), Fault>
     ensures { ctx.new.tree.operations ≡ ctx.old.tree.operations }
 {
@@ -276,12 +283,12 @@ fn connect(
 }
 
 fn connect_operands(
-    syntax: &Syntax,
+    syntax: &ModuleSyntax,
     sheet: &Sheet,
     ctx: &mut Context,
-    built: &BuiltTree,
+    built: &BuiltModule,
     op: Ptr<Operation>,
-    text: &OperationText,
+    text: &OperationSyntax,
 ) -> Result<(), Fault>
     ensures { ctx.new.tree.operations ≡ ctx.old.tree.operations }
 {
@@ -291,7 +298,7 @@ fn connect_operands(
         let value = built.values.get(value).copied().ok_or(no_tree(text.place))?;
         let said = syntax.operand_types.get(at).copied().unwrap_or(usize::MAX);
         if !sheet.has_type(value.key(), said) {
-            return Err(Fault::Expected(text.place, Expected::SameTypes));
+            return Err(Fault::Expected(text.place, Expectation::SameTypes));
         }
         add_operand(ctx, op, value, text.place)?;
     }
@@ -299,11 +306,11 @@ fn connect_operands(
 }
 
 fn connect_successors(
-    syntax: &Syntax,
+    syntax: &ModuleSyntax,
     ctx: &mut Context,
-    built: &BuiltTree,
+    built: &BuiltModule,
     op: Ptr<Operation>,
-    text: &OperationText,
+    text: &OperationSyntax,
 ) -> Result<(), Fault>
     ensures { ctx.new.tree.operations ≡ ctx.old.tree.operations }
 {

@@ -17,16 +17,16 @@ use crate::known::without_quotes;
 use crate::owned::OwnedProperty;
 use crate::reader::{Entry, Pending, Reader};
 use crate::taken::{
-    Entries, Overflow, Shape, bits_owned, branch_taken, class_taken, datum_head, flags_owned,
-    head_taken, number_head, predicate_said, spread,
+    Entries, OperationShape, Overflow, bits_owned, branch_taken, class_taken, datum_head,
+    flags_owned, head_taken, number_head, predicate_said, spread,
 };
 use crate::taken_head::TakenHead;
 use pliron_bits::{Flags, Predicate};
 use pliron_core::Head;
 use pliron_dialect_mlir::{Class, plain_head, switch_head};
 use pliron_text_mlir_syntax::{
-    Expected, Fault, FormTexts, SignedNumber, Span, array_of, bits_of, dense_of, trim_blanks,
-    typed_number_of, width_of_type,
+    ByteRange, Expectation, Fault, FormTexts, SignedNumber, array_of, bits_of, dense_of,
+    trim_blanks, typed_number_of, width_of_type,
 };
 
 /// The most bytes of a constant that passes carry.
@@ -49,11 +49,11 @@ static ARITH_OVERFLOW: &[u8] = b"#arith.overflow<";
 
 /// What the text says of an operation behind its regions.
 #[derive(Clone, Copy)]
-pub struct Tail {
-    pub attributes: Option<Span>,
-    pub results: Span,
+pub struct OperationTail {
+    pub attributes: Option<ByteRange>,
+    pub results: ByteRange,
     pub location: Option<usize>,
-    pub shape: Shape,
+    pub shape: OperationShape,
 }
 
 // Whether the entry with this name, without quotes, counts operands of edges.
@@ -169,7 +169,7 @@ fn total(counts: &[usize]) -> Option<usize>
 
 // Whether the operation has as many edges, and as many operands behind the first; wide ones only without operands.
 #[tactic(auto, using(crate::proofs::SaidLemmas::fits_never))]
-fn fits(counts: &[usize], shape: &Shape) -> bool
+fn fits(counts: &[usize], shape: &OperationShape) -> bool
     ensures { result ≡ fits_in shape.now counts.now }
 {
     let operands = shape.operands;
@@ -196,7 +196,7 @@ impl<'t> Reader<'t> {
         None
     }
 
-    fn value_text(&self, value: Option<Span>) -> &[u8]
+    fn value_text(&self, value: Option<ByteRange>) -> &[u8]
         ensures { result.now ≡ value_text_of self.now.cursor value }
     {
         match value {
@@ -246,7 +246,7 @@ impl<'t> Reader<'t> {
     }
 
     /// What its class depends on beside its name. Cost: constant.
-    pub fn shape(&self, pending: &Pending) -> Shape
+    pub fn shape(&self, pending: &Pending) -> OperationShape
         ensures operands { result.operands ≡ pending.now.operands.1 }
         ensures results { result.results ≡ length self.now.types.items }
         ensures successors { result.successors ≡ pending.now.successors }
@@ -255,7 +255,7 @@ impl<'t> Reader<'t> {
         ensures to { result.to ≡ width_written (said_of self.now).result }
         ensures small { result.to ≤ 65 }
     {
-        Shape {
+        OperationShape {
             operands: pending.operands.1,
             results: self.types.len(),
             successors: pending.successors,
@@ -337,7 +337,7 @@ impl<'t> Reader<'t> {
     }
 
     // The operands of each edge of a branch or switch, where the text says them so that they are all but the first.
-    fn counts(&self, is_switch: bool, shape: &Shape) -> Result<Option<Vec<usize>>, Fault>
+    fn counts(&self, is_switch: bool, shape: &OperationShape) -> Result<Option<Vec<usize>>, Fault>
         ensures { IfOk result (λ found. MatchOption found
             (fitting shape.now (counts_said is_switch (said_of self.now)) ≡ None)
             (λ counts. fitting shape.now (counts_said is_switch (said_of self.now)) ≡ Some counts.items)) }
@@ -385,7 +385,7 @@ impl<'t> Reader<'t> {
     }
 
     // The width and the cases of a switch; neither where they aren't understood.
-    fn cases(&self, shape: &Shape) -> Result<(u32, Vec<u64>), Fault>
+    fn cases(&self, shape: &OperationShape) -> Result<(u32, Vec<u64>), Fault>
         ensures { IfOk result (λ found. cases_said shape.now (said_of self.now) ≡ (found.0, found.1.items)) }
     {
         if shape.from > 0 {
@@ -440,7 +440,7 @@ impl<'t> Reader<'t> {
     }
 
     // The text of the span, if there is one.
-    fn list(&self, span: Option<Span>) -> Option<&'t [u8]>
+    fn list(&self, span: Option<ByteRange>) -> Option<&'t [u8]>
         ensures { option_now result ≡ option_map (bytes_in self.now.cursor) span }
     {
         match span {
@@ -450,7 +450,7 @@ impl<'t> Reader<'t> {
     }
 
     // The form as it is written.
-    fn form_texts(&self, pending: &Pending<'t>, tail: &Tail) -> FormTexts<'t>
+    fn form_texts(&self, pending: &Pending<'t>, tail: &OperationTail) -> FormTexts<'t>
         ensures { texts_written result ≡ form_written self.now pending.now tail.now }
     {
         FormTexts {
@@ -463,7 +463,7 @@ impl<'t> Reader<'t> {
     }
 
     // The number of the form.
-    fn form(&mut self, pending: &Pending<'t>, tail: &Tail) -> Result<usize, Fault>
+    fn form(&mut self, pending: &Pending<'t>, tail: &OperationTail) -> Result<usize, Fault>
         ensures form { IfOk result (λ form.
             IsFormOf self.new.sheet form (form_written self.old pending.now tail.now)) }
         ensures kept { KeepsNumbers self.old.sheet self.new.sheet }
@@ -473,7 +473,7 @@ impl<'t> Reader<'t> {
     }
 
     // The number of the form without the entries that count operands of edges.
-    fn branch_form(&mut self, pending: &Pending<'t>, tail: &Tail) -> Result<usize, Fault>
+    fn branch_form(&mut self, pending: &Pending<'t>, tail: &OperationTail) -> Result<usize, Fault>
         ensures form { IfOk result (λ form.
             IsFormOf self.new.sheet form (branch_form_written self.old pending.now tail.now)) }
         ensures kept { KeepsNumbers self.old.sheet self.new.sheet }
@@ -485,7 +485,7 @@ impl<'t> Reader<'t> {
     }
 
     // The head of a constant that says its form.
-    fn datum_constant(&mut self, pending: &Pending<'t>, tail: &Tail) -> Result<Head, Fault>
+    fn datum_constant(&mut self, pending: &Pending<'t>, tail: &OperationTail) -> Result<Head, Fault>
         ensures same { IfOk result (λ head.
             IsDatumHead self.new.sheet (form_written self.old pending.now tail.now) head) }
         ensures kind { IfOk result (λ head. HasClass Constant head) }
@@ -499,7 +499,7 @@ impl<'t> Reader<'t> {
     }
 
     // The head of a constant that is no integer of a width. That of a long one doesn't say that it is a constant.
-    fn other_constant(&mut self, pending: &Pending<'t>, tail: &Tail) -> Result<Head, Fault>
+    fn other_constant(&mut self, pending: &Pending<'t>, tail: &OperationTail) -> Result<Head, Fault>
         ensures same { IfOk result (λ head.
             IsOtherConstant self.new.sheet (form_written self.old pending.now tail.now) head) }
         ensures kind { IfOk result (λ head. HasClass Constant head) }
@@ -514,7 +514,7 @@ impl<'t> Reader<'t> {
     }
 
     // The head of a constant.
-    fn constant(&mut self, pending: &Pending<'t>, tail: &Tail) -> Result<Head, Fault>
+    fn constant(&mut self, pending: &Pending<'t>, tail: &OperationTail) -> Result<Head, Fault>
         requires { tail.now.shape.to ≤ 65 }
         ensures same { IfOk result (λ head. IsConstantHead self.new.sheet pending.now.known.owned tail.now.shape.to
             (said_of self.old) (form_written self.old pending.now tail.now) head) }
@@ -532,7 +532,7 @@ impl<'t> Reader<'t> {
     }
 
     // The head of a terminator of which nothing is known.
-    fn fork(&mut self, pending: &Pending<'t>, tail: &Tail) -> Result<Head, Fault>
+    fn fork(&mut self, pending: &Pending<'t>, tail: &OperationTail) -> Result<Head, Fault>
         ensures same { IfOk result (λ head.
             SaysForm self.new.sheet (form_written self.old pending.now tail.now) (plain_head_of Fork) head) }
         ensures kept { KeepsNumbers self.old.sheet self.new.sheet }
@@ -542,7 +542,7 @@ impl<'t> Reader<'t> {
     }
 
     // The head of a branch.
-    fn branch(&mut self, pending: &Pending<'t>, tail: &Tail) -> Result<Head, Fault>
+    fn branch(&mut self, pending: &Pending<'t>, tail: &OperationTail) -> Result<Head, Fault>
         ensures same { IfOk result (λ head. IsBranchHead self.new.sheet tail.now.shape (said_of self.old)
             (forms_of self.old pending.now tail.now) head) }
         ensures kind { IfOk result (λ head. HasClass Branch head) }
@@ -558,7 +558,7 @@ impl<'t> Reader<'t> {
     }
 
     // The head of a switch.
-    fn switch(&mut self, pending: &Pending<'t>, tail: &Tail) -> Result<Head, Fault>
+    fn switch(&mut self, pending: &Pending<'t>, tail: &OperationTail) -> Result<Head, Fault>
         ensures same { IfOk result (λ head. IsSwitchHead self.new.sheet tail.now.shape (said_of self.old)
             (forms_of self.old pending.now tail.now) head) }
         ensures kind { IfOk result (λ head. HasClass Switch head) }
@@ -575,7 +575,12 @@ impl<'t> Reader<'t> {
     }
 
     // The head of an operation of the class, which isn't a constant, a branch or a switch.
-    fn head(&mut self, class: Class, pending: &Pending<'t>, tail: &Tail) -> Result<Head, Fault>
+    fn head(
+        &mut self,
+        class: Class,
+        pending: &Pending<'t>,
+        tail: &OperationTail,
+    ) -> Result<Head, Fault>
         ensures same { IfOk result (λ head. IsOtherHead self.new.sheet class pending.now.known.owned tail.now.shape
             (said_of self.old) (form_written self.old pending.now tail.now) head) }
         ensures kind { IfOk result (λ head. HasClass class head) }
@@ -595,7 +600,7 @@ impl<'t> Reader<'t> {
         if !matches!(class, Class::Fork) || pending.regions == 0 {
             Ok(())
         } else if self.keeps {
-            Err(Fault::Expected(pending.place, Expected::Admitted))
+            Err(Fault::Expected(pending.place, Expectation::Admitted))
         } else {
             Err(Fault::KeptAsText)
         }
@@ -603,7 +608,7 @@ impl<'t> Reader<'t> {
 
     /// The head of an operation that is known whole. Asks for a width of its result of at most that of `index`. Errors:
     /// it has successors and regions, and isn't known; allocation failure. Cost: linear in its text.
-    pub fn finish(&mut self, pending: &Pending<'t>, tail: &Tail) -> Result<Head, Fault>
+    pub fn finish(&mut self, pending: &Pending<'t>, tail: &OperationTail) -> Result<Head, Fault>
         requires { tail.now.shape.to ≤ 65 }
         ensures same { IfOk result (λ head. IsTakenFor self.new.sheet tail.now.shape (said_of self.old)
             (forms_of self.old pending.now tail.now) head) }
@@ -622,7 +627,11 @@ impl<'t> Reader<'t> {
 
     /// The same, with the proof that some operation of a text is taken for one with this head. Asks for the widths of
     /// its first operand's type and of its result's. Errors: as `finish`. Cost: linear in its text.
-    pub fn taken_head(&mut self, pending: &Pending<'t>, tail: &Tail) -> Result<TakenHead, Fault>
+    pub fn taken_head(
+        &mut self,
+        pending: &Pending<'t>,
+        tail: &OperationTail,
+    ) -> Result<TakenHead, Fault>
         requires from { tail.now.shape.from ≡ width_written (said_of self.old).operand }
         requires to { tail.now.shape.to ≡ width_written (said_of self.old).result }
         requires small { tail.now.shape.to ≤ 65 }

@@ -14,6 +14,8 @@ mod taken;
 mod taken_head;
 
 pub use parse::{ParsedModule, parse_text};
-pub use pliron_text_mlir_syntax::{Expected, Fault, Form, Position, Sheet, position_of};
+pub use pliron_text_mlir_syntax::{
+    Expectation, Fault, LineAndColumn, OperationForm, Sheet, position_of,
+};
 pub use read::{Module, read_module};
 pub use taken_head::TakenHead;

@@ -2,11 +2,13 @@
 ghost use Rattle.std.specs.Prelude.{◌≡◌, [], None, slice_get, if◌then◌else◌, IfOk, OnOk};
 ghost use Rattle.pliron_text_mlir_reader.specs.TakenHeads.{IsKeptAs};
 
-use crate::heads::Tail;
+use crate::heads::OperationTail;
 use crate::reader::{Entry, Pending, Reader};
 use crate::taken_head::TakenHead;
 use pliron_dialect_mlir::{Class, plain_head};
-use pliron_text_mlir_syntax::{Expected, Fault, Form, MAX_DEPTH, OperationText, Span};
+use pliron_text_mlir_syntax::{
+    ByteRange, Expectation, Fault, MAX_DEPTH, OperationForm, OperationSyntax,
+};
 
 /// How deeply brackets are nested where a function has too many regions in one another.
 const MAX_BRACKETS: usize = 2 * MAX_DEPTH - 8;
@@ -46,20 +48,20 @@ impl<'t> Reader<'t> {
             if self.cursor.accept(b'=') {
                 return Ok(named);
             }
-            self.cursor.expect(b',', Expected::CommaOrEquals)?;
+            self.cursor.expect(b',', Expectation::CommaOrEquals)?;
         }
-        Err(self.cursor.fault(Expected::Equals))
+        Err(self.cursor.fault(Expectation::Equals))
     }
 
     // A number below 2^32.
     fn count(&mut self) -> Result<usize, Fault> {
         self.cursor.skip();
         let place = self.cursor.place();
-        let span = self.cursor.word(Expected::Number)?;
+        let span = self.cursor.word(Expectation::Number)?;
         let mut number = 0usize;
         for byte in self.cursor.bytes(span) {
             if !byte.is_ascii_digit() || number > 4_294_967_295 {
-                return Err(Fault::Expected(place, Expected::Number));
+                return Err(Fault::Expected(place, Expectation::Number));
             }
             number = number
                 .saturating_mul(10)
@@ -69,7 +71,7 @@ impl<'t> Reader<'t> {
     }
 
     fn operands(&mut self) -> Result<(), Fault> {
-        self.cursor.expect(b'(', Expected::OpenRound)?;
+        self.cursor.expect(b'(', Expectation::OpenRound)?;
         if self.cursor.accept(b')') {
             return Ok(());
         }
@@ -78,9 +80,9 @@ impl<'t> Reader<'t> {
             if self.cursor.accept(b')') {
                 return Ok(());
             }
-            self.cursor.expect(b',', Expected::CloseRound)?;
+            self.cursor.expect(b',', Expectation::CloseRound)?;
         }
-        Err(self.cursor.fault(Expected::CloseRound))
+        Err(self.cursor.fault(Expectation::CloseRound))
     }
 
     fn operand(&mut self) -> Result<(), Fault> {
@@ -109,14 +111,14 @@ impl<'t> Reader<'t> {
             if self.cursor.accept(b']') {
                 return Ok(());
             }
-            self.cursor.expect(b',', Expected::CloseSquare)?;
+            self.cursor.expect(b',', Expectation::CloseSquare)?;
         }
-        Err(self.cursor.fault(Expected::CloseSquare))
+        Err(self.cursor.fault(Expectation::CloseSquare))
     }
 
     fn successor(&mut self) -> Result<(), Fault> {
-        self.cursor.expect(b'^', Expected::Block)?;
-        let name = self.cursor.word(Expected::Name)?;
+        self.cursor.expect(b'^', Expectation::Block)?;
+        let name = self.cursor.word(Expectation::Name)?;
         let slot = self.syntax.successors.len();
         let place = name.start.saturating_sub(1);
         let block = self.blocks.find(self.cursor.bytes(name), 0, slot, place)?;
@@ -125,39 +127,39 @@ impl<'t> Reader<'t> {
     }
 
     // Scans entries up to the closing brace, and answers the text before that. Asks that none are there from before.
-    fn entries(&mut self, are_properties: bool) -> Result<Span, Fault>
+    fn entries(&mut self, are_properties: bool) -> Result<ByteRange, Fault>
         requires { (if are_properties then self.old.properties.items else self.old.attributes.items) ≡ [] }
     {
         let start = self.cursor.place();
         if self.cursor.accept(b'}') {
-            return Ok(Span { start, end: start });
+            return Ok(ByteRange { start, end: start });
         }
         for _ in 0..self.cursor.bytes_left() {
             self.entry(are_properties)?;
             let end = self.cursor.place();
             if self.cursor.accept(b'}') {
-                return Ok(Span { start, end });
+                return Ok(ByteRange { start, end });
             }
-            self.cursor.expect(b',', Expected::CloseBrace)?;
+            self.cursor.expect(b',', Expectation::CloseBrace)?;
         }
-        Err(self.cursor.fault(Expected::CloseBrace))
+        Err(self.cursor.fault(Expectation::CloseBrace))
     }
 
     fn entry(&mut self, is_property: bool) -> Result<(), Fault> {
         self.cursor.skip();
         let place = self.cursor.place();
         let name = if self.cursor.peek() == Some(b'"') {
-            self.cursor.string(Expected::Name)?
+            self.cursor.string(Expectation::Name)?
         } else {
-            self.cursor.word(Expected::Name)?
+            self.cursor.word(Expectation::Name)?
         };
         if self.cursor.bytes(name).contains(&b'\\') {
-            return Err(Fault::Expected(place, Expected::Name));
+            return Err(Fault::Expected(place, Expectation::Name));
         }
         let value = if self.cursor.accept(b'=') {
             let value = self.cursor.raw(self.alloc)?;
             if value.start >= value.end {
-                return Err(self.cursor.fault(Expected::Attribute));
+                return Err(self.cursor.fault(Expectation::Attribute));
             }
             Some(value)
         } else {
@@ -173,16 +175,16 @@ impl<'t> Reader<'t> {
     }
 
     // The text inside the property list of the next operation, if it has one; all entries are those of this list.
-    fn property_list(&mut self) -> Result<Option<Span>, Fault>
+    fn property_list(&mut self) -> Result<Option<ByteRange>, Fault>
         ensures { IfOk result (λ list. list ≡ None → self.new.properties.items ≡ []) }
     {
         self.properties.clear();
         if !self.cursor.accept(b'<') {
             return Ok(None);
         }
-        self.cursor.expect(b'{', Expected::OpenBrace)?;
+        self.cursor.expect(b'{', Expectation::OpenBrace)?;
         let span = self.entries(true)?;
-        self.cursor.expect(b'>', Expected::CloseAngle)?;
+        self.cursor.expect(b'>', Expectation::CloseAngle)?;
         Ok(Some(span))
     }
 
@@ -197,10 +199,10 @@ impl<'t> Reader<'t> {
         };
         self.cursor.skip();
         let start = self.cursor.place();
-        let span = self.cursor.string(Expected::Operation)?;
+        let span = self.cursor.string(Expectation::Operation)?;
         let name = self.cursor.bytes(span);
         if name.contains(&b'\\') {
-            return Err(Fault::Expected(start, Expected::Operation));
+            return Err(Fault::Expected(start, Expectation::Operation));
         }
         let known = self.names.get(name)?;
         if known.is_tag && !self.keeps {
@@ -241,7 +243,7 @@ impl<'t> Reader<'t> {
 
     // The next operation, of which little is known.
     fn add_operation(&mut self, place: usize, named: usize) -> Result<(), Fault> {
-        self.syntax.operations.push(OperationText {
+        self.syntax.operations.push(OperationSyntax {
             place,
             block: self.block,
             operands: (0, 0),
@@ -287,7 +289,7 @@ impl<'t> Reader<'t> {
                 _ => break,
             }
         }
-        self.cursor.expect(b':', Expected::Colon)?;
+        self.cursor.expect(b':', Expectation::Colon)?;
         self.cursor.any_type(self.alloc)?;
         let end = self.cursor;
         if self.location()?.is_none() {
@@ -301,7 +303,7 @@ impl<'t> Reader<'t> {
         ensures { IfOk result (λ taken. IsKeptAs self.new.sheet text.now taken.head) }
     {
         let name = self.sheet.number(text)?;
-        let form = self.sheet.form_number(Form {
+        let form = self.sheet.form_number(OperationForm {
             name,
             properties: None,
             attributes: None,
@@ -323,7 +325,7 @@ impl<'t> Reader<'t> {
     }
 
     // The same of its attribute dictionary.
-    fn attribute_list(&mut self) -> Result<Option<Span>, Fault>
+    fn attribute_list(&mut self) -> Result<Option<ByteRange>, Fault>
         ensures { IfOk result (λ list. list ≡ None → self.new.attributes.items ≡ []) }
     {
         self.attributes.clear();
@@ -338,18 +340,18 @@ impl<'t> Reader<'t> {
     /// Cost: linear in its text.
     pub fn tail(&mut self, pending: &Pending<'t>) -> Result<(), Fault> {
         let attributes = self.attribute_list()?;
-        self.cursor.expect(b':', Expected::Colon)?;
+        self.cursor.expect(b':', Expectation::Colon)?;
         self.operand_types(pending)?;
         self.cursor.skip();
         if self.cursor.peek() != Some(b'-') || self.cursor.peek_second() != Some(b'>') {
-            return Err(self.cursor.fault(Expected::Arrow));
+            return Err(self.cursor.fault(Expectation::Arrow));
         }
         self.cursor.step();
         self.cursor.step();
         let results = self.result_types(pending)?;
         let location = self.location()?;
         let shape = self.shape(pending);
-        let tail = Tail {
+        let tail = OperationTail {
             attributes,
             results,
             location,
@@ -370,7 +372,7 @@ impl<'t> Reader<'t> {
         self.cursor.types(self.alloc, &mut self.types)?;
         let (first, count) = pending.operands;
         if self.types.len() != count {
-            return Err(Fault::Expected(place, Expected::OperandTypes));
+            return Err(Fault::Expected(place, Expectation::OperandTypes));
         }
         for (i, span) in self.types.iter().enumerate() {
             let number = self.sheet.number(self.cursor.bytes(*span))?;
@@ -383,7 +385,7 @@ impl<'t> Reader<'t> {
     }
 
     // The types of the results, and the place of them all.
-    fn result_types(&mut self, pending: &Pending) -> Result<Span, Fault> {
+    fn result_types(&mut self, pending: &Pending) -> Result<ByteRange, Fault> {
         self.cursor.skip();
         let start = self.cursor.place();
         self.types.clear();
@@ -395,7 +397,7 @@ impl<'t> Reader<'t> {
         }
         let count = self.types.len();
         if pending.named != 0 && pending.named != count {
-            return Err(Fault::Expected(start, Expected::ResultTypes));
+            return Err(Fault::Expected(start, Expectation::ResultTypes));
         }
         let first = self.syntax.types.len();
         for span in &self.types {

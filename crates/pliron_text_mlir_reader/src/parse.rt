@@ -1,14 +1,14 @@
 //! From a text to its syntax and its sheet.
 use crate::reader::Reader;
 use crate::taken_head::TakenHead;
-use pliron_text_mlir_syntax::{Fault, Sheet, Syntax};
+use pliron_text_mlir_syntax::{Fault, ModuleSyntax, Sheet};
 use std::alloc::Global;
 
 /// What a text says of a tree, by numbers, and beside it.
 #[doc(hidden)]
 #[derive(Drop)]
 pub struct ParsedModule {
-    pub syntax: Syntax,
+    pub syntax: ModuleSyntax,
     /// By the numbers of operations.
     pub heads: Vec<Option<TakenHead>>,
     pub sheet: Sheet,

@@ -8,7 +8,7 @@ use crate::build::build;
 use crate::{ParsedModule, parse_text};
 use pliron_core::{Contents, Context, Operation, Ptr};
 use pliron_laws::{Dialect, is_admitted, is_well_linked};
-use pliron_text_mlir_syntax::{Expected, Fault, Sheet};
+use pliron_text_mlir_syntax::{Expectation, Fault, Sheet};
 use std::alloc::Global;
 
 /// A module: its operation, and what the text says beside the tree.
@@ -82,14 +82,14 @@ fn build_linked<D: Dialect>(
 }
 
 // What the operation breaks of what is asked of well-linked trees, if anything.
-fn violation_of<D: Dialect>(op: Ptr<Operation>, ctx: &Context) -> Option<Expected> {
+fn violation_of<D: Dialect>(op: Ptr<Operation>, ctx: &Context) -> Option<Expectation> {
     if !op.is_live(ctx) {
         return None;
     }
     if !is_admitted::<D>(op, ctx) {
-        Some(Expected::Admitted)
+        Some(Expectation::Admitted)
     } else if op.num_successor(ctx) > 0 && op.get_next(ctx).is_some() {
-        Some(Expected::LastOfBlock)
+        Some(Expectation::LastOfBlock)
     } else {
         None
     }
@@ -107,5 +107,5 @@ fn fault_of_tree<D: Dialect>(root: Ptr<Operation>, sheet: &Sheet, ctx: &Context)
             return Fault::Expected(sheet.place_of(op.key()).unwrap_or(0), expected);
         }
     }
-    Fault::Expected(0, Expected::LastOfBlock)
+    Fault::Expected(0, Expectation::LastOfBlock)
 }

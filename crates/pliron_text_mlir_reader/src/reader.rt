@@ -5,15 +5,16 @@ ghost use Rattle.pliron_text_mlir_reader.specs.Known.{known_in_quotes};
 use crate::known::{KnownName, KnownNames};
 use crate::taken_head::TakenHead;
 use pliron_text_mlir_syntax::{
-    BlockText, Cursor, Expected, Fault, MAX_DEPTH, Names, Sheet, Span, Syntax,
+    BlockSyntax, ByteRange, Expectation, Fault, MAX_DEPTH, ModuleSyntax, NameTable, Sheet,
+    TextCursor,
 };
 use std::alloc::Global;
 
 /// A name with its value, if it has one, in a property list or an attribute dictionary.
 #[derive(Clone, Copy, Debug)]
 pub struct Entry {
-    pub name: Span,
-    pub value: Option<Span>,
+    pub name: ByteRange,
+    pub value: Option<ByteRange>,
 }
 
 /// An operation that is being read.
@@ -34,7 +35,7 @@ pub struct Pending<'t> {
     /// How many regions have begun.
     pub regions: usize,
     /// The text inside its property list.
-    pub properties: Option<Span>,
+    pub properties: Option<ByteRange>,
     /// The block around it.
     pub block: Option<usize>,
     pub ghost by_name: { known ≡ known_in_quotes name.now },
@@ -44,16 +45,16 @@ pub struct Pending<'t> {
 #[derive(Drop)]
 pub struct Reader<'t> {
     pub alloc: Global,
-    pub cursor: Cursor<'t>,
+    pub cursor: TextCursor<'t>,
     /// Whether functions that can't be served are looked for, and kept as they are.
     pub keeps: bool,
-    pub syntax: Syntax,
+    pub syntax: ModuleSyntax,
     /// By the numbers of operations, none for those that are open.
     pub heads: Vec<Option<TakenHead>>,
     pub sheet: Sheet,
     pub names: KnownNames,
-    pub values: Names,
-    pub blocks: Names,
+    pub values: NameTable,
+    pub blocks: NameTable,
     /// How many values have numbers.
     pub num_value: usize,
     /// The operations whose regions are being read.
@@ -63,8 +64,8 @@ pub struct Reader<'t> {
     /// Of the operation that is being read: properties, attributes, the type of the first operand, types of results.
     pub properties: Vec<Entry>,
     pub attributes: Vec<Entry>,
-    pub operand: Option<Span>,
-    pub types: Vec<Span>,
+    pub operand: Option<ByteRange>,
+    pub types: Vec<ByteRange>,
 }
 
 impl<'t> Reader<'t> {
@@ -72,14 +73,14 @@ impl<'t> Reader<'t> {
     pub fn new(alloc: Global, text: &'t [u8], keeps: bool) -> Self {
         Reader {
             alloc,
-            cursor: Cursor::new(text),
+            cursor: TextCursor::new(text),
             keeps,
-            syntax: Syntax::new(alloc),
+            syntax: ModuleSyntax::new(alloc),
             heads: Vec::new(alloc),
             sheet: Sheet::new(alloc),
             names: KnownNames::new(alloc),
-            values: Names::new(alloc),
-            blocks: Names::new(alloc),
+            values: NameTable::new(alloc),
+            blocks: NameTable::new(alloc),
             num_value: 0,
             open: Vec::new(alloc),
             block: None,
@@ -105,13 +106,13 @@ impl<'t> Reader<'t> {
             self.item()?;
         }
         if !self.open.is_empty() {
-            return Err(self.cursor.fault(Expected::OperationOrEnd));
+            return Err(self.cursor.fault(Expectation::OperationOrEnd));
         }
         if let Some(place) = self.blocks.close(&mut self.syntax.successors) {
-            return Err(Fault::Expected(place, Expected::DefinedBlock));
+            return Err(Fault::Expected(place, Expectation::DefinedBlock));
         }
         if let Some(place) = self.values.close(&mut self.syntax.operands) {
-            return Err(Fault::Expected(place, Expected::DefinedValue));
+            return Err(Fault::Expected(place, Expectation::DefinedValue));
         }
         self.behind()
     }
@@ -135,8 +136,8 @@ impl<'t> Reader<'t> {
     // A name, `=`, and raw text up to the end of a line.
     fn alias(&mut self) -> Result<(), Fault> {
         self.cursor.step();
-        self.cursor.word(Expected::Name)?;
-        self.cursor.expect(b'=', Expected::Equals)?;
+        self.cursor.word(Expectation::Name)?;
+        self.cursor.expect(b'=', Expectation::Equals)?;
         self.cursor.line(self.alloc)
     }
 
@@ -150,7 +151,7 @@ impl<'t> Reader<'t> {
                 Some(b'{') => {
                     self.cursor.bracket(self.alloc)?;
                 }
-                Some(_) => return Err(self.cursor.fault(Expected::End)),
+                Some(_) => return Err(self.cursor.fault(Expectation::End)),
                 None => break,
             }
             self.cursor.skip();
@@ -172,17 +173,17 @@ impl<'t> Reader<'t> {
                 }
                 self.operation()
             }
-            None => Err(self.cursor.fault(Expected::OperationOrEnd)),
+            None => Err(self.cursor.fault(Expectation::OperationOrEnd)),
         }
     }
 
     /// A region of the operation begins. Errors: none does; it is nested too deeply; allocation failure. Cost:
     /// constant.
     pub fn region(&mut self, mut pending: Pending<'t>) -> Result<(), Fault> {
-        self.cursor.expect(b'{', Expected::OpenBrace)?;
+        self.cursor.expect(b'{', Expectation::OpenBrace)?;
         if self.open.len() >= MAX_DEPTH {
             return if self.keeps {
-                Err(self.cursor.fault(Expected::FewerRegions))
+                Err(self.cursor.fault(Expectation::FewerRegions))
             } else {
                 Err(Fault::KeptAsText)
             };
@@ -198,16 +199,16 @@ impl<'t> Reader<'t> {
     fn region_end(&mut self) -> Result<(), Fault> {
         self.cursor.step();
         if let Some(place) = self.blocks.close(&mut self.syntax.successors) {
-            return Err(Fault::Expected(place, Expected::DefinedBlock));
+            return Err(Fault::Expected(place, Expectation::DefinedBlock));
         }
         let _ = self.values.close(&mut self.syntax.operands);
         let Some(pending) = self.open.pop() else {
-            return Err(self.cursor.fault(Expected::End));
+            return Err(self.cursor.fault(Expectation::End));
         };
         if self.cursor.accept(b',') {
             return self.region(pending);
         }
-        self.cursor.expect(b')', Expected::RegionOrEnd)?;
+        self.cursor.expect(b')', Expectation::RegionOrEnd)?;
         self.block = pending.block;
         self.tail(&pending)
     }
@@ -216,9 +217,9 @@ impl<'t> Reader<'t> {
     fn add_block(&mut self, first: usize, count: usize) -> Result<usize, Fault> {
         let number = self.syntax.blocks.len();
         let Some(parent) = self.open.last() else {
-            return Err(self.cursor.fault(Expected::Operation));
+            return Err(self.cursor.fault(Expectation::Operation));
         };
-        self.syntax.blocks.push(BlockText {
+        self.syntax.blocks.push(BlockSyntax {
             parent: parent.number,
             region: parent.regions.saturating_sub(1),
             arguments: (first, count),
@@ -231,10 +232,10 @@ impl<'t> Reader<'t> {
     fn block(&mut self) -> Result<(), Fault> {
         let place = self.cursor.place();
         self.cursor.step();
-        let name = self.cursor.word(Expected::Name)?;
+        let name = self.cursor.word(Expectation::Name)?;
         let number = self.syntax.blocks.len();
         if !self.blocks.define(self.cursor.bytes(name), number, 1)? {
-            return Err(Fault::Expected(place, Expected::NewBlock));
+            return Err(Fault::Expected(place, Expectation::NewBlock));
         }
         let first = self.syntax.types.len();
         if self.cursor.accept(b'(') && !self.cursor.accept(b')') {
@@ -242,7 +243,7 @@ impl<'t> Reader<'t> {
         }
         let count = self.syntax.types.len().saturating_sub(first);
         self.add_block(first, count)?;
-        self.cursor.expect(b':', Expected::Colon)
+        self.cursor.expect(b':', Expectation::Colon)
     }
 
     fn arguments(&mut self) -> Result<(), Fault> {
@@ -251,15 +252,15 @@ impl<'t> Reader<'t> {
             if self.cursor.accept(b')') {
                 return Ok(());
             }
-            self.cursor.expect(b',', Expected::CloseRound)?;
+            self.cursor.expect(b',', Expectation::CloseRound)?;
         }
-        Err(self.cursor.fault(Expected::CloseRound))
+        Err(self.cursor.fault(Expectation::CloseRound))
     }
 
     fn argument(&mut self) -> Result<(), Fault> {
         let name = self.value_name()?;
         self.define(name, 1)?;
-        self.cursor.expect(b':', Expected::Colon)?;
+        self.cursor.expect(b':', Expectation::Colon)?;
         let span = self.cursor.any_type(self.alloc)?;
         let number = self.sheet.number(self.cursor.bytes(span))?;
         if let Some(location) = self.location()? {
@@ -272,21 +273,21 @@ impl<'t> Reader<'t> {
 
     /// From here on the name stands for the next values, so many. Errors: the region has already defined it; allocation
     /// failure. Cost: the length of the name.
-    pub fn define(&mut self, name: Span, count: usize) -> Result<(), Fault> {
+    pub fn define(&mut self, name: ByteRange, count: usize) -> Result<(), Fault> {
         if !self
             .values
             .define(self.cursor.bytes(name), self.num_value, count)?
         {
-            return Err(Fault::Expected(name.start.saturating_sub(1), Expected::NewValue));
+            return Err(Fault::Expected(name.start.saturating_sub(1), Expectation::NewValue));
         }
         self.num_value = self.num_value.saturating_add(count);
         Ok(())
     }
 
     /// Scans the name of a value, and answers it without `%`. Errors: none is there. Cost: its length.
-    pub fn value_name(&mut self) -> Result<Span, Fault> {
-        self.cursor.expect(b'%', Expected::Value)?;
-        self.cursor.word(Expected::Name)
+    pub fn value_name(&mut self) -> Result<ByteRange, Fault> {
+        self.cursor.expect(b'%', Expectation::Value)?;
+        self.cursor.word(Expectation::Name)
     }
 
     /// Scans a location, if one is there, and answers the number of its text. Errors: as `raw`; allocation failure.
@@ -297,7 +298,7 @@ impl<'t> Reader<'t> {
             return Ok(None);
         }
         let start = self.cursor.place();
-        self.cursor.word(Expected::Name)?;
+        self.cursor.word(Expectation::Name)?;
         self.cursor.skip();
         self.cursor.bracket(self.alloc)?;
         let span = self.cursor.since(start);

@@ -21,7 +21,7 @@ use std::alloc::{AllocFailed, Global};
 /// What the class of an operation depends on beside its name: how many it has of each, and the widths of its first
 /// operand and its only result, 65 for `index` and 0 for what is no integer of at most 64 bits.
 #[derive(Clone, Copy, Debug)]
-pub struct Shape {
+pub struct OperationShape {
     pub operands: usize,
     pub results: usize,
     pub successors: usize,
@@ -57,7 +57,7 @@ impl Entries {
 }
 
 // Whether an operation of the class has such a shape.
-fn has_shape(class: Class, shape: &Shape) -> bool
+fn has_shape(class: Class, shape: &OperationShape) -> bool
     ensures { result ≡ has_shape_of class shape.now }
 {
     let is_plain = shape.successors == 0 && shape.regions == 0;
@@ -79,14 +79,14 @@ fn has_shape(class: Class, shape: &Shape) -> bool
 }
 
 // Whether it has one region, and nothing else.
-fn only_holds(shape: &Shape) -> bool
+fn only_holds(shape: &OperationShape) -> bool
     ensures { result ≡ only_holds_of shape.now }
 {
     shape.operands == 0 && shape.results == 0 && shape.successors == 0 && shape.regions == 1
 }
 
 // The class of what isn't known.
-fn unknown_class(shape: &Shape) -> Class
+fn unknown_class(shape: &OperationShape) -> Class
     ensures same { result ≡ unknown_class_of shape.now }
     ensures acts { ActsOnWorld result }
 {
@@ -113,7 +113,7 @@ fn cast_taken(cast: Cast, from: u32, to: u32) -> Class
 }
 
 // The class at the widths of the shape.
-fn class_at(class: Class, shape: &Shape) -> Class
+fn class_at(class: Class, shape: &OperationShape) -> Class
     ensures { result ≡ class_at_of class shape.now }
 {
     match class {
@@ -144,7 +144,7 @@ fn class_at(class: Class, shape: &Shape) -> Class
 }
 
 /// The class of an operation whose name has this class, if any. Cost: constant.
-pub fn class_taken(known: Option<Class>, shape: &Shape) -> Class
+pub fn class_taken(known: Option<Class>, shape: &OperationShape) -> Class
     ensures same { result ≡ class_taken_of known shape.now }
     ensures acts { known ≡ None → ActsOnWorld result }
 {
@@ -277,7 +277,7 @@ pub fn spread(
 pub fn head_taken(
     alloc: Global,
     class: Class,
-    shape: &Shape,
+    shape: &OperationShape,
     flags: Flags,
     predicate: Option<Predicate>,
     form: usize,

@@ -7,7 +7,7 @@ use Rattle.std.proofs.lemmas.Grind.{common_steps}
 use Rattle.std.proofs.lemmas.Option.{slice_get-get_or, same_Some}
 use Rattle.std.proofs.lemmas.List.Quantifiers.{position-Some}
 use Rattle.pliron_core.proofs.GrownLemmas.{slice_get_kept}
-use Rattle.pliron_text_mlir_syntax.specs.declared.sheet.Form.{Form}
+use Rattle.pliron_text_mlir_syntax.specs.declared.sheet.OperationForm.{OperationForm}
 use Rattle.pliron_text_mlir_syntax.specs.declared.sheet.Sheet.{Sheet}
 use Rattle.pliron_text_mlir_syntax.specs.Sheets.{KeepsNumbers, WrittenForm, HasList, HasTexts, IsFormOf}
 
@@ -52,7 +52,7 @@ list_kept s t None (Some text) keeps is = is
 list_kept s t (Some number) None keeps is = grind (arith, common_steps)
 list_kept s t (Some number) (Some text) keeps is = ap Some (keeps.0 number text (same_Some _ _ is))
 
-pub texts_kept : (s t : Sheet) (form : Form) (written : WrittenForm) → KeepsNumbers s t → HasTexts s form written → HasTexts t form written
+pub texts_kept : (s t : Sheet) (form : OperationForm) (written : WrittenForm) → KeepsNumbers s t → HasTexts s form written → HasTexts t form written
 texts_kept s t form written keeps is = (
   keeps.0 form.name written.name is.0,
   list_kept s t form.properties written.properties keeps is.1,

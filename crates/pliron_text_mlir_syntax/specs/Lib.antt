@@ -1,4 +1,4 @@
-pub mod Position
+pub mod LineAndColumn
 pub mod Numbers
 pub mod Spans
 pub mod Sheets

@@ -2,7 +2,7 @@
 use Rattle.std.specs.Prelude.{◌≡◌, ℕ, false, List, Option, Some, slice_get, option_map}
 use Rattle.std.specs.Borrow.{Bor}
 use Rattle.pliron_text_mlir_syntax.specs.declared.texts.Texts.{Texts}
-use Rattle.pliron_text_mlir_syntax.specs.declared.sheet.Form.{Form}
+use Rattle.pliron_text_mlir_syntax.specs.declared.sheet.OperationForm.{OperationForm}
 use Rattle.pliron_text_mlir_syntax.specs.declared.sheet.FormTexts.{FormTexts}
 use Rattle.pliron_text_mlir_syntax.specs.declared.sheet.Sheet.{Sheet}
 
@@ -17,12 +17,12 @@ KeepsTexts old new = (number : ℕ) (text : List ℕ) → text_in old number ≡
 abbrev pub text_at : Sheet → ℕ → Option (List ℕ)
 text_at sheet number = text_in sheet.texts number
 
-abbrev pub form_at : Sheet → ℕ → Option Form
+abbrev pub form_at : Sheet → ℕ → Option OperationForm
 form_at sheet number = slice_get sheet.forms.keys number
 
 -- a number that has a text or a form keeps it
 abbrev pub KeepsNumbers : Sheet → Sheet → Type 0
-KeepsNumbers old new = KeepsTexts old.texts new.texts × ((number : ℕ) (form : Form) → form_at old number ≡ Some form → form_at new number ≡ Some form)
+KeepsNumbers old new = KeepsTexts old.texts new.texts × ((number : ℕ) (form : OperationForm) → form_at old number ≡ Some form → form_at new number ≡ Some form)
 
 -- ---- forms
 
@@ -50,11 +50,11 @@ texts_written texts = record {
 abbrev pub HasList : Sheet → (number : Option ℕ) → (text : Option (List ℕ)) → Type 0
 HasList sheet number text = option_map (text_at sheet) number ≡ option_map Some text
 
-abbrev pub HasTexts : Sheet → Form → WrittenForm → Type 0
+abbrev pub HasTexts : Sheet → OperationForm → WrittenForm → Type 0
 HasTexts sheet form written =
     (text_at sheet form.name ≡ Some written.name) × HasList sheet form.properties written.properties × HasList sheet form.attributes written.attributes
     × (text_at sheet form.results ≡ Some written.results) × (form.location ≡ written.location) × (form.is_whole ≡ false)
 
 -- the number is that of a form with these texts
 abbrev pub IsFormOf : Sheet → (number : ℕ) → WrittenForm → Type 0
-IsFormOf sheet number written = (form : Form) × (form_at sheet number ≡ Some form) × HasTexts sheet form written
+IsFormOf sheet number written = (form : OperationForm) × (form_at sheet number ≡ Some form) × HasTexts sheet form written

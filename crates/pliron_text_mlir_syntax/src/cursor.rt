@@ -1,14 +1,14 @@
 //! A place in a text.
 ghost use Rattle.std.specs.Prelude.{◌≡◌, ◌+◌, ◌-◌, ◌≤◌, length, slice_get, IfOk};
 ghost use Rattle.pliron_text_mlir_syntax.specs.Spans.{bytes_in};
-ghost use Rattle.pliron_text_mlir_syntax.specs.declared.fault.Fault.TheVariants.{Expected as ExpectedAt};
+ghost use Rattle.pliron_text_mlir_syntax.specs.declared.fault.Fault.TheVariants.{Expectation as ExpectedAt};
 
-use crate::fault::{Expected, Fault};
+use crate::fault::{Expectation, Fault};
 
 /// Some of the text: from the first byte on, up to the end, which is not in it.
 #[doc(hidden)]
 #[derive(Clone, Copy, Debug, PartialEq, Eq)]
-pub struct Span {
+pub struct ByteRange {
     pub start: usize,
     pub end: usize,
 }
@@ -16,7 +16,7 @@ pub struct Span {
 /// A text that is read up to some byte.
 #[doc(hidden)]
 #[derive(Clone, Copy)]
-pub struct Cursor<'t> {
+pub struct TextCursor<'t> {
     text: &'t [u8],
     at: usize,
 }
@@ -33,13 +33,13 @@ pub fn is_word(byte: u8) -> bool {
     byte.is_ascii_alphanumeric() || matches!(byte, b'_' | b'$' | b'.' | b'-')
 }
 
-impl<'t> Cursor<'t> {
+impl<'t> TextCursor<'t> {
     /// At the first byte. Cost: constant.
     pub fn new(text: &'t [u8]) -> Self
         ensures text { result.text.now ≡ text.now }
         ensures place { result.at ≡ 0 }
     {
-        Cursor { text, at: 0 }
+        TextCursor { text, at: 0 }
     }
 
     /// The place. Cost: constant.
@@ -69,7 +69,7 @@ impl<'t> Cursor<'t> {
     }
 
     /// The text of the span, empty where the text has none. Cost: constant.
-    pub fn bytes(&self, span: Span) -> &'t [u8]
+    pub fn bytes(&self, span: ByteRange) -> &'t [u8]
         ensures { result.now ≡ bytes_in self.now span }
     {
         if span.start <= span.end && span.end <= self.text.len() {
@@ -85,7 +85,7 @@ impl<'t> Cursor<'t> {
     }
 
     /// This was expected here. Cost: constant.
-    pub fn fault(&self, expected: Expected) -> Fault
+    pub fn fault(&self, expected: Expectation) -> Fault
         ensures { result ≡ ExpectedAt self.now.at expected }
     {
         Fault::Expected(self.at, expected)
@@ -124,7 +124,7 @@ impl<'t> Cursor<'t> {
     }
 
     /// Skips this byte, after blanks. Errors: another one is there. Cost: that of the blanks.
-    pub fn expect(&mut self, byte: u8, expected: Expected) -> Result<(), Fault> {
+    pub fn expect(&mut self, byte: u8, expected: Expectation) -> Result<(), Fault> {
         if self.accept(byte) {
             Ok(())
         } else {
@@ -133,18 +133,18 @@ impl<'t> Cursor<'t> {
     }
 
     /// What was read since this place. Cost: constant.
-    pub fn since(&self, start: usize) -> Span
+    pub fn since(&self, start: usize) -> ByteRange
         ensures start { result.start ≡ start }
         ensures end { result.end ≡ self.now.at }
     {
-        Span {
+        ByteRange {
             start,
             end: self.at,
         }
     }
 
     /// Scans a name: letters, digits, `_`, `$`, `.`, `-`. Errors: none is there. Cost: its length.
-    pub fn word(&mut self, expected: Expected) -> Result<Span, Fault> {
+    pub fn word(&mut self, expected: Expectation) -> Result<ByteRange, Fault> {
         let start = self.at;
         for _ in 0..self.bytes_left() {
             match self.peek() {
@@ -162,7 +162,7 @@ impl<'t> Cursor<'t> {
 
     /// Scans a string in quotes, in which `\` is before a byte that means itself. Errors: none is there, or it has no
     /// end on its line. Cost: its length.
-    pub fn string(&mut self, expected: Expected) -> Result<Span, Fault> {
+    pub fn string(&mut self, expected: Expectation) -> Result<ByteRange, Fault> {
         self.expect(b'"', expected)?;
         let start = self.at.saturating_sub(1);
         for _ in 0..self.bytes_left() {
@@ -179,6 +179,6 @@ impl<'t> Cursor<'t> {
                 Some(_) => self.step(),
             }
         }
-        Err(Fault::Expected(start, Expected::Text))
+        Err(Fault::Expected(start, Expectation::Text))
     }
 }

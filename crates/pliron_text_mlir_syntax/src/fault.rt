@@ -5,7 +5,7 @@ use thiserror::Error;
 
 /// What was expected where a text leaves the grammar.
 #[derive(Clone, Copy, Debug, Drop, PartialEq, Eq, Error)]
-pub enum Expected {
+pub enum Expectation {
     #[error("`(`")]
     OpenRound,
     #[error("`)` or `,`")]
@@ -78,7 +78,7 @@ pub enum Expected {
 #[derive(Clone, Copy, Debug, Drop, PartialEq, Eq)]
 pub enum Fault {
     /// At this byte this was expected.
-    Expected(usize, Expected),
+    Expected(usize, Expectation),
     /// A function that isn't kept as a tree: it is to be kept as it is written.
     KeptAsText,
     NoMemory,

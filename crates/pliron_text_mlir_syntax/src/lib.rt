@@ -12,14 +12,14 @@ mod sheet;
 mod syntax;
 mod texts;
 
-pub use cursor::{Cursor, Span, is_blank, is_word};
-pub use fault::{Expected, Fault};
-pub use names::Names;
+pub use cursor::{ByteRange, TextCursor, is_blank, is_word};
+pub use fault::{Expectation, Fault};
+pub use names::NameTable;
 pub use numbers::{
     SignedNumber, array_of, bits_of, dense_of, number_of, trim_blanks, typed_number_of,
     width_of_type,
 };
-pub use positions::{Position, position_of};
-pub use sheet::{Form, FormTexts, Sheet};
-pub use syntax::{BlockText, MAX_DEPTH, OperationText, Syntax};
+pub use positions::{LineAndColumn, position_of};
+pub use sheet::{FormTexts, OperationForm, Sheet};
+pub use syntax::{BlockSyntax, MAX_DEPTH, ModuleSyntax, OperationSyntax};
 pub use texts::Texts;

@@ -14,7 +14,7 @@ struct Definition {
 
 /// A use of a name that no region has resolved.
 #[derive(Clone, Copy, Debug)]
-struct Use {
+struct UnresolvedUse {
     name: usize,
     /// Which of the things of that name.
     part: usize,
@@ -25,7 +25,7 @@ struct Use {
 
 /// How many definitions were shadowed, and how many uses unresolved, when a region began.
 #[derive(Clone, Copy, Debug)]
-struct Scope {
+struct OpenRegion {
     shadowed: usize,
     pending: usize,
 }
@@ -33,14 +33,14 @@ struct Scope {
 /// Names, each with what it stands for in the regions that are open.
 #[doc(hidden)]
 #[derive(Drop)]
-pub struct Names {
+pub struct NameTable {
     names: Texts,
     /// By the name's number.
     definitions: Vec<Definition>,
     /// What names stood for before a region defined them anew.
     shadowed: Vec<(usize, Definition)>,
-    pending: Vec<Use>,
-    scopes: Vec<Scope>,
+    pending: Vec<UnresolvedUse>,
+    scopes: Vec<OpenRegion>,
 }
 
 const UNDEFINED: Definition = Definition {
@@ -49,10 +49,10 @@ const UNDEFINED: Definition = Definition {
     count: 0,
 };
 
-impl Names {
+impl NameTable {
     /// No names, and no region. Takes no memory. Cost: constant.
     pub fn new(alloc: Global) -> Self {
-        Names {
+        NameTable {
             names: Texts::new(alloc),
             definitions: Vec::new(alloc),
             shadowed: Vec::new(alloc),
@@ -63,7 +63,7 @@ impl Names {
 
     /// A region begins. Errors: allocation failure. Cost: constant.
     pub fn open(&mut self) -> Result<(), Fault> {
-        self.scopes.push(Scope {
+        self.scopes.push(OpenRegion {
             shadowed: self.shadowed.len(),
             pending: self.pending.len(),
         })?;
@@ -133,7 +133,7 @@ impl Names {
         if let Some(found) = self.thing_of(name, part) {
             return Ok(found);
         }
-        self.pending.push(Use {
+        self.pending.push(UnresolvedUse {
             name,
             part,
             slot,

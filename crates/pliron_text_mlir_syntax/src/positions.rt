@@ -1,10 +1,10 @@
 //! Lines and columns.
 ghost use Rattle.std.specs.Prelude.{◌≡◌, length, take, take_while, reverse, not};
-ghost use Rattle.pliron_text_mlir_syntax.specs.Position.{is_line_end, line_behind, column_behind};
+ghost use Rattle.pliron_text_mlir_syntax.specs.LineAndColumn.{is_line_end, line_behind, column_behind};
 
 /// The line and column of a byte, counted from 1, columns by bytes.
 #[derive(Clone, Copy, Debug, PartialEq, Eq)]
-pub struct Position {
+pub struct LineAndColumn {
     pub line: usize,
     pub column: usize,
 }
@@ -21,13 +21,13 @@ fn last_line_len(text: &[u8]) -> usize
 }
 
 /// The line and the column of the byte behind so many. Cost: linear in these.
-pub fn position_of(text: &[u8], start: usize) -> Position
+pub fn position_of(text: &[u8], start: usize) -> LineAndColumn
     ensures line { result.line ≡ line_behind (take start text.now) }
     ensures column { result.column ≡ column_behind (take start text.now) }
 {
     let before = &text[..start.min(text.len())];
     let line_ends = before.iter().filter(|byte| **byte == b'\n').count();
-    Position {
+    LineAndColumn {
         line: 1 + line_ends,
         column: 1 + last_line_len(before),
     }

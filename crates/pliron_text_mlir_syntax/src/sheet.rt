@@ -8,7 +8,7 @@ use std::alloc::{AllocError, Global};
 
 /// What the text of an operation has but for its operands, successors and regions. Numbers are those of texts.
 #[derive(Clone, Copy, Debug, PartialEq, Eq, Hash)]
-pub struct Form {
+pub struct OperationForm {
     pub name: usize,
     pub properties: Option<usize>,
     pub attributes: Option<usize>,
@@ -92,7 +92,7 @@ fn may_be_same(first: &[u8], second: &[u8]) -> bool {
 #[derive(Drop)]
 pub struct Sheet {
     texts: Texts,
-    forms: IndexSet<Form>,
+    forms: IndexSet<OperationForm>,
     /// By the handles of values: the numbers of their types.
     types: Vec<usize>,
     /// By the handles of operations: their places.
@@ -147,7 +147,7 @@ impl Sheet {
     }
 
     // The form with these texts.
-    fn form_of(&mut self, texts: &FormTexts) -> Result<Form, AllocError>
+    fn form_of(&mut self, texts: &FormTexts) -> Result<OperationForm, AllocError>
         ensures texts { IfOk result (λ form. HasTexts self.new form (texts_written texts.now)) }
         ensures kept { KeepsNumbers self.old self.new }
     {
@@ -155,7 +155,7 @@ impl Sheet {
         let properties = self.number_of_list(texts.properties)?;
         let attributes = self.number_of_list(texts.attributes)?;
         let results = self.number(texts.results)?;
-        Ok(Form {
+        Ok(OperationForm {
             name,
             properties,
             attributes,
@@ -176,7 +176,7 @@ impl Sheet {
     }
 
     /// The number of a form. Others keep theirs. Errors: allocation failure. Cost: constant.
-    pub fn form_number(&mut self, form: Form) -> Result<usize, AllocError>
+    pub fn form_number(&mut self, form: OperationForm) -> Result<usize, AllocError>
         ensures numbered { IfOk result (λ number. form_at self.new number ≡ Some form) }
         ensures kept { KeepsNumbers self.old self.new }
     {
@@ -185,7 +185,7 @@ impl Sheet {
     }
 
     /// The form of this number, if there is one. Cost: constant.
-    pub fn form(&self, number: usize) -> Option<Form>
+    pub fn form(&self, number: usize) -> Option<OperationForm>
         ensures { result ≡ form_at self.now number }
     {
         self.forms.get_index(number).copied()

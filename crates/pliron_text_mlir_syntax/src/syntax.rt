@@ -9,7 +9,7 @@ pub const MAX_DEPTH: usize = 64;
 /// An operation. Operations and blocks have numbers in the order of the text.
 #[doc(hidden)]
 #[derive(Clone, Copy, Debug)]
-pub struct OperationText {
+pub struct OperationSyntax {
     pub place: usize,
     /// The number of its block, where it is in one.
     pub block: Option<usize>,
@@ -27,7 +27,7 @@ pub struct OperationText {
 /// A block.
 #[doc(hidden)]
 #[derive(Clone, Copy, Debug)]
-pub struct BlockText {
+pub struct BlockSyntax {
     /// The number of its operation, and of the region there.
     pub parent: usize,
     pub region: usize,
@@ -40,11 +40,11 @@ pub struct BlockText {
 /// What a text says of a tree.
 #[doc(hidden)]
 #[derive(Drop)]
-pub struct Syntax {
-    pub operations: Vec<OperationText>,
+pub struct ModuleSyntax {
+    pub operations: Vec<OperationSyntax>,
     /// By the numbers of operations.
     pub heads: Vec<Option<Head>>,
-    pub blocks: Vec<BlockText>,
+    pub blocks: Vec<BlockSyntax>,
     /// Numbers of named results and arguments, in the order of the text.
     pub operands: Vec<usize>,
     /// The types that the text says of operands.
@@ -57,10 +57,10 @@ pub struct Syntax {
     pub locations: Vec<(usize, usize)>,
 }
 
-impl Syntax {
+impl ModuleSyntax {
     /// Nothing yet. Takes no memory. Cost: constant.
     pub fn new(alloc: Global) -> Self {
-        Syntax {
+        ModuleSyntax {
             operations: Vec::new(alloc),
             heads: Vec::new(alloc),
             blocks: Vec::new(alloc),

@@ -1,5 +1,5 @@
 use Rattle.std.proofs.Common.{◌≡◌, refl, ap, arith}
-use Rattle.pliron_driver_buffers.specs.declared.status.Failure.TheVariants.{Memory}
+use Rattle.pliron_driver_buffers.specs.declared.status.CallFailure.TheVariants.{Memory}
 use Rattle.pliron_driver_buffers.specs.Fills.{Fills.Fails}
 use Rattle.pliron_driver_buffers.proofs.FillLemmas.{fills_by, of_err}
 use Rattle.pliron_driver_buffers.proofs.fault.report_fault.Goals as goal

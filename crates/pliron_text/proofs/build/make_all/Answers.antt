@@ -2,7 +2,7 @@ use Rattle.std.proofs.Common.{rules, ◌≡◌, ◌+◌, ◌<◌, length, get_or
 use Rattle.pliron_text.specs.Building.{AreLive, BuildingContinues, HasMade}
 use Rattle.std.proofs.lemmas.Option.{slice_get_within, get_or_from_slice_get}
 use Rattle.pliron_text.specs.declared.syntax.SyntaxStep.TheVariants.{Operation}
-use Rattle.pliron_text.specs.declared.syntax.PartCounts.{PartCounts}
+use Rattle.pliron_text.specs.declared.syntax.MadeCounts.{MadeCounts}
 use Rattle.pliron_text.specs.Notation.{IsOrdered}
 use Rattle.pliron_text.proofs.CheckLemmas.{ordered-next, operation-at, block-at, made-operation, made-block}
 use Rattle.pliron_text.specs.Laid.{LaysOn}
@@ -80,8 +80,8 @@ loop-step-preserved c =
           let at = operation-at s inv.0 next.0 (get_or steps i (Operation 0)) w.in-Operation.number next.1 (sym (ap (λ z. get_or z i (Operation 0)) c.deref-step-items.ensures.value) ∙ w.in-Operation.is) in
           let same : w.index.result.now ≡ at.0 = w.index.ensures ∙ get_or_from_slice_get s.operations.items w.in-Operation.number at.0 w.index.result.now at.1 in
           let made = made-operation old more inv.0 at.0 inv.1 e.operations e.blocks (e.regions ∙ ap (λ t. length old.regions.items + t.regions) same) (e.values ∙ ap (λ t. length old.values.items + t.results) same) in
-          subst (λ z. BuildingContinues c.args.ctx.now.tree c.args.built.now z.tree c.match-step.built × AreLive z.tree c.match-step.built × ((m : PartCounts) × HasMade c.match-step.built m × IsOrdered s m rest) × LaysOn s c.args.ctx.now.tree c.args.built.now z.tree c.match-step.built) (sym w.ctx-is)
-          (subst (λ z. BuildingContinues c.args.ctx.now.tree c.args.built.now w.add_operation.new.ctx.tree z × AreLive w.add_operation.new.ctx.tree z × ((m : PartCounts) × HasMade z m × IsOrdered s m rest) × LaysOn s c.args.ctx.now.tree c.args.built.now w.add_operation.new.ctx.tree z) (sym w.built-is) (
+          subst (λ z. BuildingContinues c.args.ctx.now.tree c.args.built.now z.tree c.match-step.built × AreLive z.tree c.match-step.built × ((m : MadeCounts) × HasMade c.match-step.built m × IsOrdered s m rest) × LaysOn s c.args.ctx.now.tree c.args.built.now z.tree c.match-step.built) (sym w.ctx-is)
+          (subst (λ z. BuildingContinues c.args.ctx.now.tree c.args.built.now w.add_operation.new.ctx.tree z × AreLive w.add_operation.new.ctx.tree z × ((m : MadeCounts) × HasMade z m × IsOrdered s m rest) × LaysOn s c.args.ctx.now.tree c.args.built.now w.add_operation.new.ctx.tree z) (sym w.built-is) (
             goes-trans c.args.ctx.now.tree c.loop-step.ctx.tree w.add_operation.new.ctx.tree c.args.built.now old more c.loop-step.invariant.0 e.continues,
             e.all_in_place,
             (next.0, subst (HasMade more) (sym at.4) made, next.2),
@@ -93,8 +93,8 @@ loop-step-preserved c =
           let at = block-at s inv.0 next.0 (get_or steps i (Operation 0)) w.in-Block.number next.1 (sym (ap (λ z. get_or z i (Operation 0)) c.deref-step-items.ensures.value) ∙ w.in-Block.is) in
           let same : w.index-in-Block.result.now ≡ at.0 = w.index-in-Block.ensures ∙ get_or_from_slice_get s.blocks.items w.in-Block.number at.0 w.index-in-Block.result.now at.1 in
           let made = made-block old more inv.0 at.0 inv.1 e.operations e.blocks e.regions (e.values ∙ ap (λ t. length old.values.items + t.arguments) same) in
-          subst (λ z. BuildingContinues c.args.ctx.now.tree c.args.built.now z.tree c.match-step.built × AreLive z.tree c.match-step.built × ((m : PartCounts) × HasMade c.match-step.built m × IsOrdered s m rest) × LaysOn s c.args.ctx.now.tree c.args.built.now z.tree c.match-step.built) (sym w.ctx-is)
-          (subst (λ z. BuildingContinues c.args.ctx.now.tree c.args.built.now w.add_block.new.ctx.tree z × AreLive w.add_block.new.ctx.tree z × ((m : PartCounts) × HasMade z m × IsOrdered s m rest) × LaysOn s c.args.ctx.now.tree c.args.built.now w.add_block.new.ctx.tree z) (sym w.built-is) (
+          subst (λ z. BuildingContinues c.args.ctx.now.tree c.args.built.now z.tree c.match-step.built × AreLive z.tree c.match-step.built × ((m : MadeCounts) × HasMade c.match-step.built m × IsOrdered s m rest) × LaysOn s c.args.ctx.now.tree c.args.built.now z.tree c.match-step.built) (sym w.ctx-is)
+          (subst (λ z. BuildingContinues c.args.ctx.now.tree c.args.built.now w.add_block.new.ctx.tree z × AreLive w.add_block.new.ctx.tree z × ((m : MadeCounts) × HasMade z m × IsOrdered s m rest) × LaysOn s c.args.ctx.now.tree c.args.built.now w.add_block.new.ctx.tree z) (sym w.built-is) (
             goes-trans c.args.ctx.now.tree c.loop-step.ctx.tree w.add_block.new.ctx.tree c.args.built.now old more c.loop-step.invariant.0 e.continues,
             e.all_in_place,
             (next.0, subst (HasMade more) (sym at.4) made, next.2),

@@ -1,5 +1,5 @@
 use Rattle.std.proofs.Common.{◌≡◌, ◌≤◌, length, take, take_while, reverse, not}
-use Rattle.pliron_text_mlir_syntax.specs.Position.{is_line_end}
+use Rattle.pliron_text_mlir_syntax.specs.LineAndColumn.{is_line_end}
 use Rattle.pliron_text_mlir_syntax.proofs.positions.last_line_len.Given as goal
 
 abbrev pub invariant-loop-byte : goal.invariant-loop-byte

@@ -2,7 +2,7 @@ use Rattle.std.proofs.Common.{⊎_elim, sym, subst, arith}
 use Rattle.pliron_core.specs.Tree.{In}
 use Rattle.pliron_graph_order.specs.Numbering.{key_eq}
 use Rattle.pliron_opt_combine.proofs.Listing.{inserted_more, read_in}
-use Rattle.pliron_opt_combine.proofs.worklist.Worklist.new.Goals as goal
+use Rattle.pliron_opt_combine.proofs.worklist.RewriteWorklist.new.Goals as goal
 
 pub loop-place-preserved : goal.loop-place-preserved
 loop-place-preserved c =
