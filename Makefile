@@ -34,8 +34,8 @@ install-programs:
 		sed -e "s/@BUILT@/$${told%% *}/" -e "s/@NAME@/$$name/g" tools/people/installed.sh > "$(AT)/bin/$$name"; \
 		chmod 755 "$(AT)/bin/$$name"; \
 	done
-	install -m 644 tools/people/check_lines.py tools/people/first_run.py tools/people/notation.py tools/people/program.py \
-		tools/people/reduce.py tools/people/report.py "$(LIBEXEC)/people"
+	install -m 644 tools/people/check_lines.py tools/people/first_run.py tools/people/generic.py tools/people/notation.py \
+		tools/people/program.py tools/people/reduce.py tools/people/report.py "$(LIBEXEC)/people"
 	install -m 755 tools/run_program "$(LIBEXEC)/run_program"
 	install -m 755 tools/rachonpas-cc "$(AT)/bin/rachonpas-cc" && ln -sf rachonpas-cc "$(AT)/bin/rachonpas-c++"
 	made=$$(mktemp -d) && PLIR_PROGRAM="$(LIBEXEC)/plir" PLIR_MLIR_PROGRAM="$(LIBEXEC)/plir_mlir" python3 tools/people/completions.py "$$made" && \

@@ -78,7 +78,7 @@ class Linker:
 
     def operation(self, tree):
         op = Op()
-        op.kind, op.attr = tree.kind, tree.number if tree.kind == "const" else None
+        op.kind, op.attr = tree.kind, tree.number
         op.results = [self.value(name, op) for name in tree.results]
         op.operands = [self.value(name) for name in tree.operands]
         for target, passed in tree.edges:
@@ -88,8 +88,7 @@ class Linker:
         outer = self.values
         if op.kind == "func":
             self.values = {}
-        if tree.blocks is not None:
-            op.regions.append(self.region(op, tree.blocks))
+        op.regions = [self.region(op, blocks) for blocks in tree.regions]
         self.values = outer
         return op
 

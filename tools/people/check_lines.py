@@ -2,8 +2,9 @@
 """plir test FILE..: runs the commands of texts' RUN lines, and looks for their CHECK lines in what is written.
 
 A line `// RUN: opt --pretty sccp,dce %s` in a text runs `plir` on it, where `%s` is the file, with blanks for its comments, which begin
-with `//`; `// RUN: not check %s` wants a status other than 0, and what comes behind `|` is passed over. What is written, standard output and then standard error, is to have
-the lines that follow, in order:
+with `//`, and `< %s` gives it on standard input; `// RUN: not check %s` wants a status other than 0, and what comes behind `|` is passed
+over. For another program the line begins with its name. What is written, standard output and then standard error, is to have the lines
+that follow, in order:
 
   CHECK: TEXT         somewhere behind what the line before found
   CHECK-NEXT: TEXT    on the next line
@@ -23,7 +24,6 @@ import tempfile
 from pathlib import Path
 
 sys.path.insert(0, str(Path(__file__).resolve().parent))
-import notation
 import program
 
 PART = re.compile(r"\{\{(.*?)\}\}|\[\[([A-Za-z_]\w*):(.*?)\]\]|\[\[([A-Za-z_]\w*)\]\]")
@@ -139,13 +139,15 @@ def blocks(checks, output):
         yield group, output[found_at[number] : end]
 
 
-def words_of(run, name):
-    """The words of `plir`, and whether it is to fail."""
+def words_of(run, name, plir):
+    """The words of the program, the file on its standard input, if there is one, and whether it is to fail."""
     words = shlex.split(run.split("|")[0])
     fails = words[:1] == ["not"]
     words = words[1:] if fails else words
-    words = words[1:] if words[:1] in (["plir"], ["./plir"]) else words
-    return [name if word == "%s" else word for word in words], fails
+    words = words[1:] if not plir.has_commands or words[:1] in (["plir"], ["./plir"], [plir.name]) else words
+    words = [name if word == "%s" else word for word in words]
+    at = words.index("<") if "<" in words[:-1] else len(words)
+    return words[:at] + words[at + 2 :], (words[at + 1 : at + 2] or [None])[0], fails
 
 
 def shown(name, text, check, why, output, at):
@@ -166,21 +168,21 @@ def test(plir, name, prefix):
     runs, checks = lines_of(text, prefix)
     if not runs:
         return f"error: {name} has no line `// RUN: ..`\n"
-    if not checks and not any(words_of(run, name)[1] for run, _ in runs):
+    if not checks and not any(words_of(run, name, plir)[2] for run, _ in runs):
         return f"error: {name} has no line `// {prefix}: ..`, so it tests nothing but statuses\n"
     with tempfile.TemporaryDirectory(prefix="plir-") as folder:
         file = f"{folder}/{Path(name).name}"
-        Path(file).write_text(notation.without_comments(text))
+        Path(file).write_text(plir.texts.without_comments(text))
         return tested(plir, name, file, text, runs, checks)
 
 
 def tested(plir, name, file, text, runs, checks):
     """What is wrong with the lines of the text that stands in the file without its comments."""
     for run, line in runs:
-        words, fails = words_of(run, file)
-        status, output, told = plir.run(*words)
+        words, given, fails = words_of(run, file, plir)
+        status, output, told = plir.run(*words, text=Path(given).read_text() if given else None)
         if (status != 0) != fails:
-            return f"error: `plir {' '.join(words)}` ended with {status}\n --> {name}:{line}:1\n{told}"
+            return f"error: `{plir.name} {' '.join(words)}` ended with {status}\n --> {name}:{line}:1\n{told}"
         written = output + told
         try:
             for group, part in blocks(checks, written):
@@ -198,6 +200,7 @@ def words():
     )
     about.add_argument("files", metavar="FILE", nargs="+", help="a text with RUN and CHECK lines")
     about.add_argument("--check-prefix", metavar="WORD", default="CHECK", help="what stands for CHECK")
+    program.add_words(about)
     return about
 
 
@@ -211,10 +214,11 @@ def tried(plir, name, prefix):
 
 def main():
     asked = words().parse_args()
-    plir, failed = program.Plir(), 0
-    for name in asked.files:
-        wrong = tried(plir, name, asked.check_prefix)
-        print(f"{'FAIL' if wrong else 'PASS'}: {name}")
+    failed, progress = 0, program.Progress()
+    for number, name in enumerate(asked.files, 1):
+        progress.tell(f"file {number} of {len(asked.files)}, {name}")
+        wrong = tried(program.asked_for(asked, name), name, asked.check_prefix)
+        print(f"{'FAIL' if wrong else 'PASS'}: {name}", flush=True)
         sys.stderr.write(wrong)
         failed += bool(wrong)
     print(f"{len(asked.files) - failed} passed, {failed} failed")

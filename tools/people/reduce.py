@@ -2,17 +2,16 @@
 """plir reduce FILE -- COMMAND: the smallest text that keeps what a text does.
 
 A text is made smaller as long as it keeps what was asked for: operations, blocks, arguments, operands and regions go, branches
-become jumps and ends, and numbers go towards 0. Each text that is tried reads.
+become jumps and ends, and numbers go towards 0; in a module of MLIR functions become declarations, results zeros, and attributes go that
+operations do without. Each text that is tried reads, and is fit to run where the first one is.
 """
 import argparse
-import copy
 import sys
-import time
 from pathlib import Path
 
 sys.path.insert(0, str(Path(__file__).resolve().parent))
-import notation
 import program
+from notation import blocks_of, copied, regions, walk
 
 KINDS = {
     "dominance": "isn't defined on each way",
@@ -24,41 +23,37 @@ KINDS = {
 
 
 class Reduction:
-    def __init__(self, op, keeps):
-        self.best, self.keeps = op, keeps
-        self.text = notation.written(op)
-        self.tries, self.seen, self.told = 0, {self.text}, time.monotonic()
+    """The best text up to now, as its operation and written."""
 
-    def tell(self):
-        """Says at most once a second how far it is."""
-        if time.monotonic() - self.told > 1:
-            self.told = time.monotonic()
-            left = sum(1 for _ in notation.walk(self.best))
-            print(f"{self.tries} tries, {left} operations are left", file=sys.stderr)
+    def __init__(self, op, texts, keeps):
+        self.best, self.texts, self.keeps = op, texts, keeps
+        self.text = texts.written(op)
+        self.tries, self.seen, self.progress = 0, {self.text}, program.Progress()
 
     def attempt(self, op):
-        """Whether the text of the operation keeps what was asked for; then it is the best so far."""
-        if op is None or not is_readable(op):
+        """Whether the text of the operation keeps what was asked for; then it is the best. The operation may be changed."""
+        op = op and self.texts.mend(op)
+        if op is None or not self.texts.is_readable(op):
             return False
-        text = notation.written(op)
+        text = self.texts.written(op)
         if text in self.seen:
             return False
         self.seen.add(text)
         self.tries += 1
-        self.tell()
+        self.progress.tell(f"{self.tries} tries, {count(self.best)} operations are left")
         if not self.keeps(text):
             return False
         self.best, self.text = op, text
         return True
 
-    def take_out(self, count, without):
-        """Leaves out parts of the best text, numbered from 0, in long rows first and then one by one."""
-        changed, size = False, max(1, count(self.best) // 2)
+    def take_out(self, places, without):
+        """Leaves out places of the best text, in long rows first and then one by one."""
+        changed, size = False, max(1, len(places(self.best)) // 2)
         while True:
             at = 0
-            while at < count(self.best):
-                numbers = set(range(at, min(at + size, count(self.best))))
-                if self.attempt(without(copy.deepcopy(self.best), numbers)):
+            while at < len(places(self.best)):
+                op = copied(self.best)
+                if self.attempt(without(op, places(op)[at : at + size], self.texts)):
                     changed = True
                 else:
                     at += size
@@ -67,177 +62,128 @@ class Reduction:
             size = max(1, size // 2)
 
 
-def is_readable(op):
-    """Whether each name is defined once and used where it may be."""
-    if op.kind not in ("mod", "func"):
-        return False
-    tops = notation.functions(op) or [op]
-    for function in tops:
-        inner = list(notation.walk(function))
-        made = [name for it in inner for name in it.results]
-        made += [name for it in inner for block in it.blocks or [] for name in block.arguments]
-        if len(set(made)) < len(made):
-            return False
-        if any(values[at] not in made for it in inner for values, at in notation.values_of(it)):
-            return False
-    for it in notation.walk(op):
-        if it.blocks is None:
-            continue
-        if it.kind in ("func", "scope") and not it.blocks:
-            return False
-        names = {block.name for block in it.blocks}
-        lasts = [inner for block in it.blocks for inner in block.operations if inner.edges]
-        if any(edge[0] not in names for inner in lasts for edge in inner.edges):
-            return False
-    return True
+def count(op):
+    return sum(1 for _ in walk(op))
 
 
-def mend(op):
-    """Puts a value that is left for each that went, where a function has one, and takes others from what needs none."""
-    for function in notation.functions(op):
-        inner = list(notation.walk(function))
-        made = [name for it in inner for block in it.blocks or [] for name in block.arguments]
-        made += [name for it in inner for name in it.results]
-        known = set(made)
-        for it in inner:
-            if it.kind in ("ret", "sink", "scope") and not made:
-                it.operands = []
-            for values, at in notation.values_of(it):
-                if values[at] not in known and made:
-                    own = [name for name in made if name not in it.results]
-                    values[at] = (own or made)[0]
+def outer_operations(op):
+    """What is directly in the text's operation."""
+    return [(block, it) for blocks in op.regions for block in blocks for it in block.operations]
+
+
+def operations(op):
+    """What can go: all but the text's own."""
+    return [(block, it) for block in blocks_of(op) for it in block.operations]
+
+
+def without_operations(op, places, _):
+    gone = {id(it) for _, it in places}
+    for block in blocks_of(op):
+        block.operations = [it for it in block.operations if id(it) not in gone]
     return op
 
 
-def removable(op):
-    """Where operations stand that can go: all but the text's own."""
-    return [(block, at) for blocks in notation.regions(op) for block in blocks for at in range(len(block.operations))]
+def blocks(op):
+    return [(each, block) for each in regions(op) for block in each]
 
 
-def without_operations(op, numbers):
-    places = removable(op)
-    gone = {id(places[number][0].operations[places[number][1]]) for number in numbers}
-    for blocks in notation.regions(op):
-        for block in blocks:
-            block.operations = [it for it in block.operations if id(it) not in gone]
-    return mend(op)
+def without_blocks(op, places, texts):
+    gone = {id(block) for _, block in places}
+    for each in regions(op):
+        names = {block.name for block in each if id(block) in gone}
+        each[:] = [block for block in each if id(block) not in gone]
+        for block in each:
+            block.operations = [without_edges(it, names, each, op, texts) for it in block.operations]
+    return op
 
 
-def lose_edges(op, names):
-    """The operation without its edges to these blocks."""
-    left = [edge for edge in op.edges if edge[0] not in names]
-    if len(left) == len(op.edges):
-        return op
-    if len(left) == 1 and op.kind == "cbr":
-        return notation.Operation("br", edges=left)
-    return notation.Operation("ret")
-
-
-def without_blocks(op, numbers):
-    places = [(blocks, block) for blocks in notation.regions(op) for block in blocks]
-    gone = {id(places[number][1]) for number in numbers}
-    for blocks in notation.regions(op):
-        names = {block.name for block in blocks if id(block) in gone}
-        blocks[:] = [block for block in blocks if id(block) not in gone]
-        for block in blocks:
-            block.operations = [lose_edges(it, names) for it in block.operations]
-    return mend(op)
+def without_edges(it, names, each, op, texts):
+    """What stands for the operation without its edges to these blocks, in a region of those."""
+    left = [edge for edge in it.edges if edge[0] not in names]
+    if len(left) == len(it.edges):
+        return it
+    return left and texts.jump(it, left[0], op) or texts.ending(each)
 
 
 def arguments(op):
-    return [(blocks, block, at) for blocks in notation.regions(op) for block in blocks for at in range(len(block.arguments))]
+    return [(each, block, at) for each in regions(op) for block in each for at in range(len(block.arguments))]
 
 
-def without_arguments(op, numbers):
-    places = arguments(op)
-    for number in sorted(numbers, reverse=True):
-        blocks, block, at = places[number]
+def without_arguments(op, places, texts):
+    for each, block, at in reversed(places):
+        if texts.is_fixed(block, each):
+            continue
         del block.arguments[at]
-        for it in (it for other in blocks for it in other.operations):
-            for edge in it.edges:
-                if edge[0] == block.name and at < len(edge[1]) and it.kind != "fork":
-                    del edge[1][at]
-    return mend(op)
+        for edge in (edge for other in each for it in other.operations for edge in it.edges):
+            if edge[0] == block.name:
+                del edge[1][at : at + 1]
+    return op
 
 
-def operands(op):
-    """Operands that can go: of what takes any number of them."""
-    return [(it, at) for it in notation.walk(op) if it.kind in ("ret", "sink", "scope") for at in range(len(it.operands))]
-
-
-def without_operands(op, numbers):
-    places = operands(op)
-    for number in sorted(numbers, reverse=True):
-        it, at = places[number]
+def without_operands(op, places, _):
+    for it, at in reversed(places):
         del it.operands[at]
-    return mend(op)
+    return op
 
 
-def simpler(op):
-    """Each way in which one operation becomes a simpler one, as functions that change a copy."""
-
-    def put(block_number, at, new):
-        def change(other):
-            blocks = [block for region in notation.regions(other) for block in region]
-            blocks[block_number].operations[at] = new
-            return mend(other)
-
-        return change
-
-    blocks = [block for region in notation.regions(op) for block in region]
-    for number, block in enumerate(blocks):
-        for at, it in enumerate(block.operations):
-            if it.kind in ("cbr", "br", "fork"):
-                yield put(number, at, notation.Operation("ret"))
-            if it.kind == "cbr":
-                for edge in it.edges:
-                    yield put(number, at, notation.Operation("br", edges=[copy.deepcopy(edge)]))
-            if it.kind == "const":
-                for value in smaller(it.number):
-                    yield put(number, at, notation.Operation("const", list(it.results), number=value))
+def without_entries(op, places, _):
+    for it, name, entry in places:
+        setattr(it, name, [other for other in getattr(it, name) if other != entry])
+    return op
 
 
-def smaller(number):
-    """Numbers nearer to 0, the nearest first."""
-    sign, size = (-1, -number) if number < 0 else (1, number)
-    found = [0, 1, sign]
-    found += [sign * (size // part) for part in (16, 4, 2)] + [number - sign]
-    kept = []
-    for it in found:
-        if abs(it) < size and it not in kept:
-            kept.append(it)
-    return kept
+def simpler(op, texts):
+    """Each way in which one operation becomes a simpler one: its block's number, its place in it, and what stands there then."""
+    number = 0
+    for each in regions(op):
+        for block in each:
+            for at, it in enumerate(block.operations):
+                if it.edges:
+                    yield number, at, texts.ending(each)
+                if len(it.edges) > 1:
+                    yield from ((number, at, texts.jump(it, edge, op)) for edge in it.edges)
+                yield from ((number, at, new) for new in texts.simpler_forms(it))
+            number += 1
+
+
+def with_simpler(op, number, at, new):
+    """The operation with this in that place of the block of that number."""
+    if new is None:
+        return None
+    op = copied(op)
+    blocks_of(op)[number].operations[at] = copied(new)
+    return op
 
 
 def simplify(reduction):
     """Makes single operations simpler, each as far as it goes."""
     changed, at = False, 0
-    while True:
-        ways = list(simpler(reduction.best))
-        if at >= len(ways):
-            return changed
-        if reduction.attempt(ways[at](copy.deepcopy(reduction.best))):
-            changed = True
+    ways = list(simpler(reduction.best, reduction.texts))
+    while at < len(ways):
+        if reduction.attempt(with_simpler(reduction.best, *ways[at])):
+            changed, ways = True, list(simpler(reduction.best, reduction.texts))
         else:
             at += 1
+    return changed
 
 
 def unwrapped(reduction):
     """Takes one operation of a `mod` for the whole text."""
     if reduction.best.kind != "mod":
         return False
-    inner = [it for block in reduction.best.blocks for it in block.operations]
-    return any(reduction.attempt(copy.deepcopy(it)) for it in inner)
+    return any(reduction.attempt(copied(it)) for _, it in outer_operations(reduction.best))
 
 
-def reduce(op, keeps):
-    reduction = Reduction(op, keeps)
+def reduce(op, texts, keeps):
+    reduction = Reduction(op, texts, keeps)
     steps = [
         unwrapped,
-        lambda it: it.take_out(lambda op: sum(map(len, notation.regions(op))), without_blocks),
-        lambda it: it.take_out(lambda op: len(removable(op)), without_operations),
-        lambda it: it.take_out(lambda op: len(arguments(op)), without_arguments),
-        lambda it: it.take_out(lambda op: len(operands(op)), without_operands),
+        lambda it: it.take_out(outer_operations, without_operations),
+        lambda it: it.take_out(blocks, without_blocks),
+        lambda it: it.take_out(operations, without_operations),
+        lambda it: it.take_out(arguments, without_arguments),
+        lambda it: it.take_out(texts.loose_operands, without_operands),
+        lambda it: it.take_out(texts.loose_entries, without_entries),
         simplify,
     ]
     while any([step(reduction) for step in steps]):
@@ -245,8 +191,9 @@ def reduce(op, keeps):
     return reduction
 
 
-def condition(asked, plir):
-    """What a text is to keep, as a function from texts to truth."""
+def condition(asked, plir, text, fitness):
+    """What a text is to keep, as a function from texts to truth: what is asked for, as far as this text does it, which is so fit to run."""
+    wanted = program.status_of(asked.command, text, asked.file) if asked.command else None
     run = []
     for name in ("input", "world"):
         for value in getattr(asked, name):
@@ -256,15 +203,10 @@ def condition(asked, plir):
         return lambda text: plir.run("run", *run, text=text)[1].splitlines()[-1:] == ["trapped"]
     if asked.unfit:
         words = KINDS.get(asked.unfit, asked.unfit)
-        return lambda text: words in plir.run("check", text=text)[2]
+        return lambda text: words in plir.ask("check", text=text)[2]
     if asked.differs:
         return lambda text: plir.run("run", *run, "--compare", asked.differs, text=text)[1].endswith("not the same\n")
-    wanted = program.status_of(asked.command, program.read(asked.file), asked.file)
-
-    def same(text):
-        return plir.run("check", text=text)[0] in (0, 3) and program.status_of(asked.command, text, asked.file) == wanted
-
-    return same
+    return lambda text: plir.check(text)[0] in (0, fitness) and program.status_of(asked.command, text, asked.file) == wanted
 
 
 def words():
@@ -277,6 +219,7 @@ def words():
     about.add_argument("--input", metavar="N", type=int, action="append", default=[], help="as for `plir run`")
     about.add_argument("--world", metavar="N", type=int, action="append", default=[], help="as for `plir run`")
     about.add_argument("--steps", metavar="N", type=int, default=100000, help="as for `plir run`")
+    program.add_words(about)
     about.add_argument(
         "command",
         metavar="-- COMMAND",
@@ -294,21 +237,25 @@ def main():
     asked.command = command
     if sum(map(bool, (asked.trap, asked.unfit, asked.differs, command))) != 1:
         about.error("say one of --trap, --unfit KIND, --differs PIPELINE and -- COMMAND")
-    plir = program.Plir()
+    plir = program.asked_for(asked, asked.file)
+    if (asked.trap or asked.differs) and not plir.can_run:
+        about.error("texts of this dialect don't run: say --unfit KIND or -- COMMAND")
+    if asked.unfit and not plir.has_commands:
+        about.error(f"{asked.program} has no command `check`: say -- COMMAND")
     text = program.read(asked.file)
-    status, _, told = plir.run("check", text=text)
-    if status not in (0, 3):
+    fitness, told = plir.check(text)
+    if fitness not in (0, 3):
         sys.stderr.write(told.replace("standard input", asked.file))
         return 2
-    keeps = condition(asked, plir)
-    op = notation.read(text)
-    if not keeps(notation.written(op)):
+    keeps = condition(asked, plir, text, fitness)
+    op = plir.read(text)
+    if not keeps(plir.texts.written(op)):
         print("error: the text doesn't do what is to be kept", file=sys.stderr)
         return 3
-    reduction = reduce(op, keeps)
+    was = count(op)
+    reduction = reduce(op, plir.texts, keeps)
     program.write(asked.output, reduction.text)
-    was, left = (sum(1 for _ in notation.walk(it)) for it in (op, reduction.best))
-    print(f"{was} operations, of which {left} are left, in {reduction.tries} tries", file=sys.stderr)
+    print(f"{was} operations, of which {count(reduction.best)} are left, in {reduction.tries} tries", file=sys.stderr)
     return 0
 
 

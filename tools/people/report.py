@@ -14,8 +14,8 @@ import sys
 from pathlib import Path
 
 sys.path.insert(0, str(Path(__file__).resolve().parent))
-import notation
 import program
+from first_run import Prefixes
 
 STYLE = """
 body { font: 15px/1.45 system-ui, sans-serif; margin: 1.5em auto; max-width: 76em; padding: 0 1em; color: #1b1f24; }
@@ -40,6 +40,8 @@ NO_PICTURES = "The command `dot` of Graphviz isn't on the path, so its input sta
 
 # The width of a picture, in points, from which on it takes a row of its own and keeps its size.
 WIDE = 640
+# The most regions that are drawn, and the lines from which on lines that stand often are no places to compare at.
+REGIONS, MANY = 40, 2000
 
 
 def cell(kind, line):
@@ -50,7 +52,7 @@ def sides(before, after):
     """Both texts side by side, equal lines beside one another."""
     columns = '<col class="number"><col>'
     rows = ["<tr><th></th><th>before</th><th></th><th>after</th></tr>"]
-    matcher = difflib.SequenceMatcher(a=before, b=after, autojunk=False)
+    matcher = difflib.SequenceMatcher(a=before, b=after, autojunk=len(before) > MANY)
     for tag, a, b, c, d in matcher.get_opcodes():
         for at in range(max(b - a, d - c)):
             old = before[a + at] if a + at < b else None
@@ -64,9 +66,10 @@ def sides(before, after):
 
 
 def picture(plir, text, title, region):
-    """The control flow as SVG where Graphviz is there, and else in its language."""
-    status, dot, _ = plir.run("dot", "--region", region, text=text)
-    if status:
+    """The control flow as SVG where Graphviz is there, and else in its language; nothing of a region without blocks."""
+    short = [] if plir.can_run else ["--blocks"]
+    status, dot, _ = plir.ask("dot", *short, "--region", region, text=text)
+    if status or " [label=" not in dot:
         return ""
     caption = f"<figcaption>{html.escape(title)}</figcaption>"
     if shutil.which("dot"):
@@ -79,16 +82,14 @@ def picture(plir, text, title, region):
     return f"<figure>{caption}<pre>{html.escape(dot)}</pre></figure>"
 
 
-def pictures(plir, before, after):
-    """The pictures of all regions, and a word where they are none."""
-    regions = re.findall(r"\{ ((?:\d+\.)+\d+) \}", plir.run("dot", text=before)[1])
-    shown = "".join(picture(plir, text, title, "0") for text, title in ((before, "before"), (after, "after")))
+def pictures(plir, before, after, progress):
+    """The pictures of regions, and a word where they are none. The outermost one of a module of MLIR has no control flow."""
+    regions = re.findall(r"\{ ((?:\d+\.)+\d+) \}", plir.ask("dot", text=before)[1])
     parts = [] if shutil.which("dot") else [f"<p>{html.escape(NO_PICTURES)}</p>"]
-    parts.append(f'<div class="pictures">{shown}</div>')
-    for region in regions[:40]:
-        shown = "".join(
-            picture(plir, text, f"{title}, region {region}", region) for text, title in ((before, "before"), (after, "after"))
-        )
+    for region in (["0"] if plir.can_run else []) + regions[:REGIONS]:
+        progress.tell(f"the control flow of region {region}")
+        behind = "" if region == "0" else f", region {region}"
+        shown = "".join(picture(plir, text, f"{title}{behind}", region) for text, title in ((before, "before"), (after, "after")))
         parts.append(f'<div class="pictures">{shown}</div>')
     return "".join(parts)
 
@@ -113,33 +114,55 @@ def changes(told):
     return f"<pre>{chr(10).join(lines) or 'nothing'}</pre>"
 
 
+def changes_of(asked, plir, text):
+    """What each run of a pass changed, as `opt --print-changed` tells it."""
+    if plir.has_commands:
+        return plir.ask("opt", "--print-changed", asked.pipeline, text=text)[2]
+    lines, before, runs = [], text, Prefixes(asked, plir, text)
+    for at, name in enumerate(runs.names):
+        after = plir.laid_out(runs[at])
+        told = list(difflib.unified_diff(before.splitlines(), after.splitlines(), n=1, lineterm=""))[2:]
+        lines += [f"--- run {at + 1}, changed by {name}", *told] if told else []
+        before = after
+    return "\n".join(lines)
+
+
+def verdict(asked, plir, text):
+    """Whether the text is fit to run, or what is wrong."""
+    unfit, said, wrong = plir.ask("check", text=text)
+    wrong = wrong.replace("standard input", Path(asked.file).name)
+    return f"<p>{html.escape(said.strip())}</p>" if not unfit else f"<pre>{html.escape(wrong)}</pre>"
+
+
+def sections(asked, plir, before, after):
+    """The headings of the page behind both texts, and what stands under them, as far as the program has commands for that."""
+    progress = program.Progress()
+    if plir.has_commands:
+        yield "Control flow", pictures(plir, before, after, progress)
+    progress.tell("what each run changed")
+    yield "What each run changed", changes(changes_of(asked, plir, before))
+    if plir.has_commands:
+        progress.tell("the reasons")
+        yield "Reasons", reasons(plir.ask("explain", "--missed", asked.pipeline, text=before)[1].splitlines())
+        progress.tell("the counts")
+        yield "Counts", f"<pre>{html.escape(plir.ask('opt', '--stats', asked.pipeline, text=before)[2])}</pre>"
+
+
 def page(asked, plir, text):
-    status, after, told = plir.run("opt", "--pretty", "--keep-names", asked.pipeline, text=text)
+    status, after, told = plir.optimised(asked.pipeline, text)
     if status:
         sys.stderr.write(told.replace("standard input", asked.file))
         return status, ""
     # All that cites lines is asked of the text as it is laid out here, so that places are those of the left column.
-    before = notation.written(notation.read(text))
-    stats = plir.run("opt", "--stats", asked.pipeline, text=before)[2]
-    changed = plir.run("opt", "--print-changed", asked.pipeline, text=before)[2]
-    why = plir.run("explain", "--missed", asked.pipeline, text=before)[1]
-    unfit, said, wrong = plir.run("check", text=before)
-    wrong = wrong.replace("standard input", Path(asked.file).name)
+    before, after = (plir.laid_out(it) for it in (text, after))
     title = f"{Path(asked.file).name}: {asked.pipeline}"
     parts = [
         f"<h1>{html.escape(title)}</h1>",
-        f"<p>{html.escape(said.strip())}</p>" if not unfit else f"<pre>{html.escape(wrong)}</pre>",
+        verdict(asked, plir, before) if plir.has_commands else "",
         "<h2>Before and after</h2>",
         "<p>Lines on this page are those of the left column, where the text is laid out anew.</p>" if before != text else "",
         sides(before.rstrip("\n").split("\n"), after.rstrip("\n").split("\n")),
-        "<h2>Control flow</h2>",
-        pictures(plir, before, after),
-        "<h2>What each run changed</h2>",
-        changes(changed),
-        "<h2>Reasons</h2>",
-        reasons(why.splitlines()),
-        "<h2>Counts</h2>",
-        f"<pre>{html.escape(stats)}</pre>",
+        *(f"<h2>{heading}</h2>{part}" for heading, part in sections(asked, plir, before, after)),
     ]
     head = f'<!doctype html><html lang="en"><head><meta charset="utf-8"><title>{html.escape(title)}</title><style>{STYLE}</style></head>'
     return 0, f"{head}<body>{''.join(parts)}</body></html>\n"
@@ -150,16 +173,17 @@ def words():
     about.add_argument("file", metavar="FILE", help="the text")
     about.add_argument("pipeline", metavar="PIPELINE", help="the passes, as for `plir opt`")
     about.add_argument("-o", "--output", metavar="FILE", help="where to write; standard output, if left out")
+    program.add_words(about)
     return about
 
 
 def main():
     asked = words().parse_args()
-    plir = program.Plir()
+    plir = program.asked_for(asked, asked.file)
     status, text = page(asked, plir, program.read(asked.file))
     if not status:
         program.write(asked.output, text)
-        if not shutil.which("dot"):
+        if plir.has_commands and not shutil.which("dot"):
             print(f"note: {NO_PICTURES}", file=sys.stderr)
     return status
 
