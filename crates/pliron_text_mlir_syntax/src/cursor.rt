@@ -1,7 +1,7 @@
 //! A place in a text.
 ghost use Rattle.std.specs.Prelude.{◌≡◌, ◌+◌, ◌-◌, ◌≤◌, length, slice_get, IfOk};
 ghost use Rattle.pliron_text_mlir_syntax.specs.Spans.{bytes_in};
-ghost use Rattle.pliron_text_mlir_syntax.specs.declared.fault.Fault.TheVariants.{Expectation as ExpectedAt};
+ghost use Rattle.pliron_text_mlir_syntax.specs.declared.fault.Fault.TheVariants.{Expected as ExpectedAt};
 
 use crate::fault::{Expectation, Fault};
 
