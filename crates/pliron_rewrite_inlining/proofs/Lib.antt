@@ -1,0 +1,15 @@
+pub mod Seen
+pub mod Effects
+pub mod Carried
+pub mod CopiedShapes
+pub mod CopiedSteps
+pub mod CallerSteps
+pub mod Running
+pub mod Entering
+pub mod Returning
+pub mod Catching
+pub mod Modules
+pub mod LinkedFrames
+pub mod LinkedStacks
+pub mod Inlining
+pub mod KeepsLinkedBy

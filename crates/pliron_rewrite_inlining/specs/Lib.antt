@@ -1,0 +1,2 @@
+pub mod Inlined
+pub mod InliningLaws

@@ -1,0 +1,26 @@
+//! The theory of inlined calls.
+//!
+//! As in the theory of runs, a call here does nothing when it runs: its contract is a law, for every meaning and every
+//! calling convention.
+//!
+//! It knows linked runs and the laws of dialects, and no graph, no dialect and no optimisation.
+#![tactic(auto)]
+
+ghost use Rattle.pliron_rewrite_inlining.specs.InliningLaws.{InliningKeepsLaw, InliningLaw, LinkedByLaws};
+
+/// A call may become a jump to a copy of its callee's blocks, in which returns jump to what stands behind the call:
+/// linked runs show the same, with recursion, and with callbacks by the world.
+pub fn calls_are_inlined()
+    ensures { InliningLaw }
+{}
+
+/// "Linked runs are kept where these names stand for these functions" follows where they are kept at all, as after
+/// passes. It is transitive, and more names may be asked for.
+pub fn linked_runs_kept_by_name()
+    ensures { LinkedByLaws }
+{}
+
+/// Where a call is inlined and roots stay fit, linked runs are kept where its name stands for the callee.
+pub fn inlined_calls_keep_linked_runs()
+    ensures { InliningKeepsLaw }
+{}
