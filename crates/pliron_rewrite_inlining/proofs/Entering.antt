@@ -1,20 +1,19 @@
 -- A call begins a frame of the callee, where the new jump comes to the copy of the callee's entry.
-use Rattle.std.proofs.Common.{◌≡◌, ◌⊎◌, inl, inr, ⊎_elim, ℕ, List, [], ◌∷◌, map, length, Option, Some, None, slice_get, refl, sym, ap, ◌∙◌, subst}
+use Rattle.std.proofs.Common.{◌≡◌, inl, inr, ℕ, List, [], ◌∷◌, map, length, Option, Some, None, slice_get, refl, sym, ap, ◌∙◌, subst}
 use Rattle.std.proofs.lemmas.List.{length-map}
-use Rattle.pliron_core.specs.Tree.{Tree, In, IsLive, first_of, head_of, operands_of, results_of, successors_of, regions_of, arguments_of, body_of, block_parent_of, layout_of, region_parent_of, op_of_slot}
+use Rattle.pliron_core.specs.Tree.{Tree, operands_of, arguments_of, body_of, block_parent_of, region_parent_of, op_of_slot}
 use Rattle.pliron_core.specs.Invariant.{IsTree}
 use Rattle.pliron_core.proofs.HoldingLemmas.{not_none, some_of}
-use Rattle.pliron_laws.specs.Datum.{Datum, Empty, Meaning, Move, Goto, Visit, Emit}
+use Rattle.pliron_laws.specs.Datum.{Datum, Empty, Meaning, Goto, Emit}
 use Rattle.pliron_laws.specs.Tree.{Operation, Block, op_at, block_at, and_block, entry_block, shape_of}
-use Rattle.pliron_laws.specs.Machine.{Environment, Waiting, State, Reached, Next, Continues, Over, bind, data_of, input_of, at_rest, begin, enter, entry_in, block_in, go_to, emit, perform, move, turn, step_at, step, start}
+use Rattle.pliron_laws.specs.Machine.{Environment, Waiting, State, Reached, Continues, Over, bind, data_of, input_of, at_rest, begin, enter, entry_in, block_in, go_to, emit, perform, move, turn, step_at, step, start}
 use Rattle.pliron_laws.proofs.Records.{block_of, region_entry}
-use Rattle.pliron_theory.proofs.Lockstep.{Tied, EnvsTied, Waits}
+use Rattle.pliron_theory.proofs.Lockstep.{Tied, EnvsTied}
 use Rattle.pliron_pass_linked.specs.Calls.{CallingConvention}
 use Rattle.pliron_rewrite_inlining.specs.Inlined.{InlinedCall, JumpsTo, IsBlockCopy, HasNewJump, IsCallInlined}
-use Rattle.pliron_rewrite_inlining.proofs.Carried.{Carries}
 use Rattle.pliron_rewrite_inlining.proofs.Effects.{with_effects}
 use Rattle.pliron_rewrite_inlining.proofs.CopiedShapes.{live_op, live_op_at, copy_at, original_block_at}
-use Rattle.pliron_rewrite_inlining.proofs.CopiedSteps.{WaitsAt, InCopy, Both, bound_alike, fresh_standing, going_enters}
+use Rattle.pliron_rewrite_inlining.proofs.CopiedSteps.{InCopy, Both, bound_alike, fresh_standing}
 use Rattle.pliron_rewrite_inlining.proofs.CallerSteps.{caller_ties, AtCall, reads_same}
 use Rattle.pliron_rewrite_inlining.proofs.Running.{data_length, binds}
 

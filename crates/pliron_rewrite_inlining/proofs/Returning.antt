@@ -1,21 +1,21 @@
 -- A return leaves the callee's frame, and the caller goes on behind the call, where the copy jumps there.
-use Rattle.std.proofs.Common.{◌≡◌, ◌<◌, inl, inr, ℕ, List, [], ◌∷◌, map, length, Option, Some, None, slice_get, refl, sym, ap, ◌∙◌, subst, arith}
+use Rattle.std.proofs.Common.{◌≡◌, inl, inr, ℕ, List, [], ◌∷◌, map, length, Option, Some, None, refl, sym, ap, ◌∙◌, subst, arith}
 use Rattle.std.proofs.lemmas.List.{length-map}
 use Rattle.pliron_core.specs.declared.context.Def.{Def}
 use Rattle.pliron_core.specs.declared.context.Def.TheVariants.{Result}
 use Rattle.pliron_core.specs.Lists.{IsDistinct}
-use Rattle.pliron_core.specs.Tree.{Tree, In, IsLive, IsBlock, head_of, operands_of, results_of, successors_of, arguments_of, body_of, block_parent_of}
+use Rattle.pliron_core.specs.Tree.{Tree, In, IsBlock, operands_of, results_of, arguments_of, body_of, block_parent_of}
 use Rattle.pliron_core.specs.Invariant.{IsTree}
 use Rattle.pliron_core.proofs.HoldingLemmas.{some_of}
 use Rattle.pliron_core.proofs.FlatLemmas.{distinct-indices}
-use Rattle.pliron_laws.specs.Datum.{Datum, Empty, Meaning, Move, Give, Goto, Leave, Emit}
-use Rattle.pliron_laws.specs.Tree.{Operation, Block, op_at, block_at, shape_of}
-use Rattle.pliron_laws.specs.Machine.{Environment, Waiting, State, Ended, Next, Continues, Over, bind, data_of, input_of, at_rest, leave, after_giving, enter, emit, perform, move, turn, step_at, step}
+use Rattle.pliron_laws.specs.Datum.{Datum, Empty, Meaning}
+use Rattle.pliron_laws.specs.Tree.{Operation, op_at, shape_of}
+use Rattle.pliron_laws.specs.Machine.{Environment, Waiting, State, Ended, Continues, Over, bind, data_of, input_of, at_rest, leave, after_giving, enter, perform, move, turn, step_at, step}
 use Rattle.pliron_laws.proofs.Records.{block_of, make_block}
-use Rattle.pliron_theory.proofs.Lockstep.{Tied, EnvsTied, Waits}
+use Rattle.pliron_theory.proofs.Lockstep.{Tied, EnvsTied}
 use Rattle.pliron_pass_linked.specs.Calls.{CallingConvention}
-use Rattle.pliron_rewrite_inlining.specs.Inlined.{InlinedCall, IsReturnReplaced, HasNewJump, IsCallInlined}
-use Rattle.pliron_rewrite_inlining.proofs.Carried.{Carries, carries_left, carries_reads}
+use Rattle.pliron_rewrite_inlining.specs.Inlined.{InlinedCall, IsReturnReplaced, IsCallInlined}
+use Rattle.pliron_rewrite_inlining.proofs.Carried.{carries_left, carries_reads}
 use Rattle.pliron_rewrite_inlining.proofs.CopiedShapes.{live_op, live_op_at}
 use Rattle.pliron_rewrite_inlining.proofs.CopiedSteps.{CallerData, InCopy}
 use Rattle.pliron_rewrite_inlining.proofs.CallerSteps.{caller_ties, bound_same}

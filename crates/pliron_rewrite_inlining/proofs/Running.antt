@@ -1,11 +1,11 @@
 -- What is known of a frame of a function that is fit to run, and of binding values.
-use Rattle.std.proofs.Common.{◌≡◌, inl, inr, ⊎_elim, ℕ, suc, List, [], ◌∷◌, length, Option, Some, None, refl, sym, ap, ap₂, ◌∙◌, subst, arith}
+use Rattle.std.proofs.Common.{◌≡◌, inl, inr, ℕ, suc, List, [], ◌∷◌, length, Option, Some, None, refl, sym, ap, ap₂, ◌∙◌, subst, arith}
 use Rattle.pliron_core.specs.Lists.{IsDistinct}
-use Rattle.pliron_core.specs.Tree.{Tree, In, IsLive, IsInside, IsWithin, parent_operation_of, operands_of}
+use Rattle.pliron_core.specs.Tree.{Tree, IsLive, IsWithin}
 use Rattle.pliron_core.specs.Invariant.{IsTree}
 use Rattle.pliron_core.proofs.HoldingLemmas.{not_none, inside_up, holder_live}
 use Rattle.pliron_laws.specs.Datum.{Datum, Meaning}
-use Rattle.pliron_laws.specs.Machine.{Environment, Waiting, State, Next, Continues, environment_with, bind, prepend_optional, data_of, start, step}
+use Rattle.pliron_laws.specs.Machine.{Environment, State, Continues, environment_with, bind, prepend_optional, data_of, start, step}
 use Rattle.pliron_laws.proofs.BindingLemmas.{bind_other, bound_it}
 use Rattle.pliron_theory.specs.Keeps.{IsFit}
 use Rattle.pliron_theory.proofs.Simulation.{IfGoes}
