@@ -7,7 +7,7 @@ use Rattle.pliron_core.proofs.HoldingLemmas.{not_none, some_of, in_slice, slice_
 use Rattle.pliron_core.proofs.NeighbourLemmas.{first_of-In}
 use Rattle.pliron_laws.specs.Datum.{Head, Datum, Empty, Meaning, Move}
 use Rattle.pliron_laws.specs.Tree.{Operation, Block, op_with, op_at, block_at, and_block, entry_block, count_arguments, unless, shape_of}
-use Rattle.pliron_laws.specs.Machine.{Environment, State, Next, Continues, Over, bind, data_of, input_of, leave, entry_in, block_in, perform, move, turn, step_at, step}
+use Rattle.pliron_laws.specs.Machine.{Environment, State, Next, Continues, Over, bind, data_of, input_of, entry_in, block_in, perform, move, turn, step_at, step}
 use Rattle.pliron_laws.specs.Acting.{MovesAlike, PassesSame, JumpsSame}
 use Rattle.pliron_laws.proofs.Records.{ShowsOperation, op_shows, make_op, block_of, make_block, region_entry}
 use Rattle.pliron_theory.proofs.Lockstep.{Ties, Tied, NextAlike, EnvsTied, EntersTied, alike_tied, leave_tied}
