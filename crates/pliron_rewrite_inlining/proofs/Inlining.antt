@@ -7,6 +7,7 @@ use Rattle.pliron_core.proofs.HoldingLemmas.{some_is, not_none}
 use Rattle.pliron_laws.specs.Datum.{Datum, Empty, Meaning}
 use Rattle.pliron_laws.specs.Machine.{Waiting, State, Sight, Ended, Trapped, Reached, Next, Continues, Over, step, start}
 use Rattle.pliron_theory.specs.Keeps.{IsFit}
+use Rattle.pliron_theory.proofs.Alike.{data_long}
 use Rattle.pliron_theory.proofs.Bound.{IsReady}
 use Rattle.pliron_theory.proofs.Lockstep.{Waits}
 use Rattle.pliron_pass_linked.specs.Calls.{CallingConvention}
@@ -19,7 +20,7 @@ use Rattle.pliron_rewrite_inlining.proofs.Seen.{SeenSame, SeenInside, latest}
 use Rattle.pliron_rewrite_inlining.proofs.Effects.{with_world}
 use Rattle.pliron_rewrite_inlining.proofs.CopiedSteps.{WaitsAt, Standing}
 use Rattle.pliron_rewrite_inlining.proofs.CallerSteps.{AtCall}
-use Rattle.pliron_rewrite_inlining.proofs.Running.{data_length, OnWay, starts_on, stays_on, world_on, ready_on}
+use Rattle.pliron_rewrite_inlining.proofs.Running.{OnWay, starts_on, stays_on, world_on, ready_on}
 use Rattle.pliron_rewrite_inlining.proofs.Entering.{IsAtCall, at_call, Enters, enters}
 use Rattle.pliron_rewrite_inlining.proofs.Returning.{ReturnsTo, returns_to}
 use Rattle.pliron_rewrite_inlining.proofs.Catching.{Meets, Go, Meeting, shown_alike}
@@ -158,7 +159,7 @@ module _ (m : Meaning) (c : CallingConvention) (p : Program) (n : ℕ) (u : Tree
 
       calls : Left s ≡ Goes (called_with s ready.input)
       calls = by_step m c link p s (Over (Reached (h.calls.effect ready.input ∷ s.top.state.effects))) (before_here m c p n u x symbol link w w' h l live named s.top root fe ∙ e.asks)
-          ∙ ap (after_effect link s (h.calls.effect ready.input)) (h.calls.is_call ready.input (data_length s.top.state.environment (operands_of (p n) x.call) ready.input ready.has_data))
+          ∙ ap (after_effect link s (h.calls.effect ready.input)) (h.calls.is_call ready.input (data_long s.top.state.environment (operands_of (p n) x.call) ready.input ready.has_data))
           ∙ ap (after_call link s (h.calls.effect ready.input) ready.input) (ap (λ g. link g.in_module symbol) fe ∙ named)
 
       jumps : Right s' ≡ Goes (with_state s' e.copy)
