@@ -164,7 +164,7 @@ fn narrow_comparison(
     first: Narrow,
     second: Atom,
 ) -> Result<Term, OptError>
-    ensures ok { IfOk result (λ term. term ≡ narrow_comparison_by comparison first second.now) }
+    ensures ok { IfOk result (λ term. term ≡ narrow_comparison_by comparison first second) }
     ensures memory { IsOkUnless result OptError.Memory }
 {
     let narrow = Comparison {
@@ -248,12 +248,14 @@ fn is_plain_truncation(cast: Conversion, narrow: Narrow) -> bool
 fn truncate_narrow(cast: Option<Conversion>, a: &Operand) -> Option<Term>
     ensures { result ≡ truncate_narrow_by cast a.now }
 {
-    let cast = cast?;
-    let narrow = narrow_source(cast.width, a)?;
-    if is_plain_truncation(cast, narrow) {
-        Some(Term::Atomic(Atom::Named(narrow.value)))
-    } else {
-        None
+    let Some(cast) = cast else {
+        return None;
+    };
+    match narrow_source(cast.width, a) {
+        Some(narrow) if is_plain_truncation(cast, narrow) => {
+            Some(Term::Atomic(Atom::Named(narrow.value)))
+        }
+        _ => None,
     }
 }
 
