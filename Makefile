@@ -37,7 +37,7 @@ install-programs:
 	install -m 644 tools/people/check_lines.py tools/people/first_run.py tools/people/generic.py tools/people/notation.py \
 		tools/people/program.py tools/people/reduce.py tools/people/report.py "$(LIBEXEC)/people"
 	install -m 755 tools/run_program "$(LIBEXEC)/run_program"
-	install -m 755 tools/rachonpas-cc "$(AT)/bin/rachonpas-cc" && ln -sf rachonpas-cc "$(AT)/bin/rachonpas-c++"
+	install -m 755 tools/rachonpas-cc tools/rachonpas-c++ "$(AT)/bin"
 	made=$$(mktemp -d) && PLIR_PROGRAM="$(LIBEXEC)/plir" PLIR_MLIR_PROGRAM="$(LIBEXEC)/plir_mlir" python3 tools/people/completions.py "$$made" && \
 		install -m 644 "$$made"/*.1 "$(AT)/share/man/man1" && \
 		install -m 644 "$$made/plir.bash" "$(AT)/share/bash-completion/completions/plir" && \

@@ -131,7 +131,14 @@ fn compare<'a>(alloc: Global) -> Result<Arg<'a>, AllocError> {
 }
 
 /// The names of the passes.
-static PASSES: [&str; 5] = ["sccp", "dce", "simplify-cfg", "cse", "canonicalize"];
+static PASSES: [&str; 6] = [
+    "sccp",
+    "dce",
+    "simplify-cfg",
+    "cse",
+    "canonicalize",
+    "combine",
+];
 
 /// The statuses of `opt`.
 static OPT_STATUSES: &str =
@@ -142,7 +149,7 @@ static OPT_STATUSES: &str =
 static PIPELINE: &str =
     "The passes, joined by commas: `sccp` (constant propagation), `dce` (dead code elimination), `simplify-cfg` \
      (simplification of control flow), `cse` (common subexpression elimination), `canonicalize` (uses go to what \
-     results and arguments are). `nested(LIST)` runs them on each operation directly inside, `repeat<N>(..)` \
+     results and arguments are), `combine` (rewrite rules of the dialect). `nested(LIST)` runs them on each operation directly inside, `repeat<N>(..)` \
      until nothing changes, at most N times, from 1 to 64: `repeat<8>(nested(sccp,dce))`. `nested:LIST` and \
      `repeat:N:..` say the same, as for `plir_opt`, which has only the first three. Blanks around commas and \
      brackets say nothing";
@@ -184,7 +191,7 @@ fn with_prints<'a>(command: Command<'a>, alloc: Global) -> Result<Command<'a>, A
             alloc,
             "print-after",
             "Tell the operation after each run of this pass, on standard error: `sccp`, `dce`, `simplify-cfg`, \
-             `cse` or `canonicalize`; once for each pass",
+             `cse`, `canonicalize` or `combine`; once for each pass",
         ))?
         .arg(print_pass(
             alloc,

@@ -317,6 +317,7 @@ dce           dead code elimination
 simplify-cfg  simplification of control flow
 cse           common subexpression elimination
 canonicalize  folding to operands, constants and what arguments are
+combine       rewrite rules of the dialect
 ";
 
 // Writes the answer of the command, and answers the status: to the file that is named, or to standard output. A file

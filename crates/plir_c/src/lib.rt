@@ -14,6 +14,7 @@ ghost use Rattle.pliron_driver_buffers.specs.Fills.{FillsBy};
 ghost use Rattle.pliron_driver_buffers.specs.Optimises.{Optimises, IsListed, Explains};
 ghost use Rattle.pliron_driver_buffers.specs.Modules.{IsWord, OptimisesModule};
 
+use pliron_bench_rules::BenchRules;
 use pliron_dialect_bench::Bench;
 use pliron_dialect_mlir::{AnyMeaning, Mlir};
 use pliron_driver::{Closed, PassPipeline};
@@ -58,9 +59,10 @@ pub extern "C" fn plir_optimise(
     needed: &mut usize,
 ) -> u32
     ensures { FillsBy (Optimises (closed_reads ReadsBench) (closed_prints PrintsBench) bench
-        (RunsAlone ⟦<BenchFactKind as PartialEq>⟧.eq ⟦<PassPipeline<Bench, BenchFacts> as Pass>⟧.outcome)
+        (RunsAlone ⟦<BenchFactKind as PartialEq>⟧.eq ⟦<PassPipeline<Bench, BenchFacts, BenchRules> as Pass>⟧.outcome)
         pipeline.now text.now) (Explains (IsListed (RunsAlone ⟦<BenchFactKind as PartialEq>⟧.eq
-        ⟦<PassPipeline<Bench, BenchFacts> as Pass>⟧.outcome) pipeline.now)) output.old output.new needed.new result }
+        ⟦<PassPipeline<Bench, BenchFacts, BenchRules> as Pass>⟧.outcome) pipeline.now)) output.old
+        output.new needed.new result }
 {
     optimise_into::<Text>(alloc, pipeline, text, output, needed).number()
 }

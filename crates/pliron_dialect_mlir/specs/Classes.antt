@@ -23,6 +23,7 @@ use Rattle.pliron_dialect.specs.CountLaws.{effect_fits, region_fits, fork_fits, 
 use Rattle.pliron_dialect_mlir.specs.ClassNumbers.{number_of_class, class_of_number, numbered}
 use Rattle.pliron_dialect_mlir.specs.Data.{is_width, bits_of_width, number, bits_at, truth, bit}
 use Rattle.pliron_dialect_mlir.specs.Heads.{attribute_at, width_at, flags_at}
+use Rattle.pliron_dialect_mlir.specs.OtherData.{given_otherwise}
 
 -- ---- integers
 
@@ -162,7 +163,7 @@ mlir class_of kind value = record {
   kind_of = λ n. option_map kind (class_of_number n);
   constant = kind ConstantClass;
   jump = kind Jump;
-  value = value;
+  value = given_otherwise value;
   allows = λ k. allows_of_class (class_of k);
   is_ssa = λ k. true;
   accepts = λ attr. true;

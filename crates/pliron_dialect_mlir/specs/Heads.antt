@@ -73,9 +73,13 @@ switch_head counts width cases form = head_of Switch (naturals counts ++ pos wid
 abbrev pub last_behind : ℕ → List AttrObj → Option ℕ
 last_behind n attrs = if nat_lt n (length attrs) then Some (attribute_at attrs (length attrs - 1)) else None
 
--- how many attributes an operation has that folding made: a constant its datum, a jump none
+-- how many attributes an operation has that passes made, which has no form: a constant its datum, what is done with
+-- integers all but the form, a jump none
 abbrev pub made_attributes : Class → ℕ
 made_attributes Constant = 1
+made_attributes Compare = 2
+made_attributes (CastClass cast) = 3
+made_attributes (Binary operator) = 2
 made_attributes _ = 0
 
 abbrev pub form_in : Option Class → List AttrObj → Option ℕ

@@ -10,7 +10,11 @@ use pliron_core::{AttrObj, Attrs, Head};
 use std::alloc::{AllocFailed, Global};
 
 // The head of an operation of the class with these numbers as attributes.
-fn head_with(alloc: Global, class: Class, numbers: &[i128]) -> Result<Head, AllocFailed<AttrObj>>
+pub(crate) fn head_with(
+    alloc: Global,
+    class: Class,
+    numbers: &[i128],
+) -> Result<Head, AllocFailed<AttrObj>>
     ensures { IfOk result (λ head. head ≡ head_of class numbers.now) }
 {
     let mut attrs = Vec::new(alloc);

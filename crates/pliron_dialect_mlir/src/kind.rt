@@ -8,7 +8,8 @@ use pliron_bits::{BinaryOperator, Cast};
 use pliron_dialect::{Counting, Form, Otherwise};
 use std::marker::PhantomData;
 
-/// What pure operations give. It counts where no table says it. Contracts alone speak of it.
+/// What pure operations give. It counts where no table says it, but not for those that compare, cast or compute integers:
+/// they pass on what is no number. Contracts alone speak of it.
 pub trait Interpretation: Copy + Eq {
     ghost value: { Interprets };
 }

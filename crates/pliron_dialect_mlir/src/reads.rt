@@ -16,12 +16,14 @@ pub fn class_of_head(head: &Head) -> Option<Class>
     numbered_class(head.kind)
 }
 
-// How many attributes an operation of the class has that folding made.
+// How many attributes an operation of the class has that passes made.
 fn made_attributes(class: Class) -> usize
     ensures { result ≡ made_attributes_of class }
 {
     match class {
         Class::Constant => 1,
+        Class::Compare | Class::Binary(_) => 2,
+        Class::Cast(_) => 3,
         _ => 0,
     }
 }
@@ -37,7 +39,7 @@ fn last_behind(least: usize, attrs: &Attrs) -> Option<u128>
     }
 }
 
-/// The form of the text of an operation with this head; none where folding made it. Cost: constant.
+/// The form of the text of an operation with this head; none where a pass made it. Cost: constant.
 pub fn form_of(head: &Head) -> Option<u128>
     ensures { result ≡ form_of_head (class_of_number head.now.kind) head.now.attrs }
 {

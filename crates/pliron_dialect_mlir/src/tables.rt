@@ -65,7 +65,7 @@ fn compute_numbers(operator: BinaryOperator, head: &Head, numbers: &[Option<i128
 }
 
 // The predicate with this number, if there is one.
-fn numbered_predicate(number: u128) -> Option<Predicate>
+pub(crate) fn numbered_predicate(number: u128) -> Option<Predicate>
     ensures { result ≡ predicate_of_number number }
 {
     if number < 10 {

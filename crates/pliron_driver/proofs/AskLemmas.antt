@@ -6,7 +6,7 @@ use Rattle.pliron_driver.specs.Plans.{IsPlan}
 use Rattle.pliron_driver.specs.Asked.{IsPlanned}
 
 -- a pipeline of the names that a word plans is planned by the word
-pub planned : {D E B K X : Type 0} (word : List ℕ) (runs : Option ℕ) (nested : Bool) (names : List (List ℕ)) (r : Result (Option (PassPipelineOf D E B K)) X) → IsPlan word runs nested names → IfOk r (λ found. IfSome found (λ pipeline. IsPipelineOf step_name runs nested names pipeline)) → IfOk r (λ found. IfSome found (λ pipeline. IsPlanned word pipeline))
+pub planned : {D E L B K X : Type 0} (word : List ℕ) (runs : Option ℕ) (nested : Bool) (names : List (List ℕ)) (r : Result (Option (PassPipelineOf D E L B K)) X) → IsPlan word runs nested names → IfOk r (λ found. IfSome found (λ pipeline. IsPipelineOf step_name runs nested names pipeline)) → IfOk r (λ found. IfSome found (λ pipeline. IsPlanned word pipeline))
 planned word runs nested names (Ok (Some pipeline)) plan is = record { runs = runs; nested = nested; names = names; plan = plan; planned = is }
 planned word runs nested names (Ok None) plan is = tt
 planned word runs nested names (Err e) plan is = tt

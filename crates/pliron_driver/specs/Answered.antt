@@ -47,6 +47,6 @@ module _ (reads : Reads) (prints : Prints) (m : Meaning) where
     pub lines : answer ≡ printed ++ status_line status
 
   -- what the command answers to the text; of a graph nothing is said
-  abbrev pub Answers : {D B : Type 0} → (PassPipelineOf D BenchFacts B BenchFactKind → ℕ → Tree → Tree → IRStatus → Type 0) → Command D B → (text answer : List ℕ) → Type 0
+  abbrev pub Answers : {D L B : Type 0} → (PassPipelineOf D BenchFacts L B BenchFactKind → ℕ → Tree → Tree → IRStatus → Type 0) → Command D L B → (text answer : List ℕ) → Type 0
   Answers ran (Optimise pipeline) text answer = IsOptimised (ran pipeline) text answer
   Answers ran Graph text answer = Unit {0}

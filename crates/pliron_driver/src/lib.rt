@@ -26,6 +26,7 @@ pub use driver::{
 use driver::{Command, read_command};
 pub use graph::describe_graph;
 pub use host::{host_words, optimise_host};
+use pliron_bench_rules::BenchRules;
 use pliron_dialect_bench::Bench;
 pub use pliron_laws::OptError;
 pub use pliron_opt_cfg::{
@@ -46,12 +47,12 @@ use std::io::{Read, Write};
 // What the command answers to the input, if that is readable.
 fn answer<N: Notation>(
     alloc: Global,
-    command: Command<N::D>,
+    command: Command<N::D, N::Rules>,
     text: &[u8],
 ) -> Result<Option<Vec<u8>>, OptError>
     ensures { IfOk result (λ found. IfSome found (λ answer. Answers N.reads N.prints N.D.meaning
-        (RunsAlone ⟦<BenchFactKind as PartialEq>⟧.eq ⟦<PassPipeline<N::D, BenchFacts> as Pass>⟧.outcome) command
-        text.now answer.items)) }
+        (RunsAlone ⟦<BenchFactKind as PartialEq>⟧.eq ⟦<PassPipeline<N::D, BenchFacts, N::Rules> as Pass>⟧.outcome)
+        command text.now answer.items)) }
 {
     match command {
         Command::Optimise(pipeline) => optimise_text::<N>(alloc, pipeline, text),
@@ -66,7 +67,7 @@ fn answer_to_input<N: Notation, R: Read>(
     input: &mut R,
 ) -> Result<Vec<u8>, Failure>
     ensures { IfOk result (λ answer. IsAnswer AskFor (Answers N.reads N.prints N.D.meaning
-        (RunsAlone ⟦<BenchFactKind as PartialEq>⟧.eq ⟦<PassPipeline<N::D, BenchFacts> as Pass>⟧.outcome))
+        (RunsAlone ⟦<BenchFactKind as PartialEq>⟧.eq ⟦<PassPipeline<N::D, BenchFacts, N::Rules> as Pass>⟧.outcome))
         (map string_bytes words.now) (R.remaining input.old) answer.items) }
 {
     let Some(command) = read_command(alloc, words)? else {
@@ -103,8 +104,8 @@ pub fn run_optimiser<N: Notation, R: Read, W: Write, E: Write>(
     errors: &mut E,
 ) -> u8
     ensures { Ends (IsAnswer AskFor (Answers N.reads N.prints N.D.meaning (RunsAlone ⟦<BenchFactKind as PartialEq>⟧.eq
-        ⟦<PassPipeline<N::D, BenchFacts> as Pass>⟧.outcome)) (map string_bytes args.now) (R.remaining input.old))
-        (W.contents output.old) (W.contents output.new) result }
+        ⟦<PassPipeline<N::D, BenchFacts, N::Rules> as Pass>⟧.outcome)) (map string_bytes args.now)
+        (R.remaining input.old)) (W.contents output.old) (W.contents output.new) result }
 {
     match answer_to_input::<N, R>(alloc, args, input) {
         Ok(answer) => match write_answer(&answer, output) {
@@ -128,7 +129,7 @@ pub fn plir_run<R: Read, W: Write, E: Write>(
     errors: &mut E,
 ) -> u8
     ensures { Ends (IsAnswer AskFor (Answers (closed_reads ReadsBench) (closed_prints PrintsBench) bench
-        (RunsAlone ⟦<BenchFactKind as PartialEq>⟧.eq ⟦<PassPipeline<Bench, BenchFacts> as Pass>⟧.outcome))
+        (RunsAlone ⟦<BenchFactKind as PartialEq>⟧.eq ⟦<PassPipeline<Bench, BenchFacts, BenchRules> as Pass>⟧.outcome))
         (map string_bytes args.now) (R.remaining input.old))
         (W.contents output.old) (W.contents output.new) result }
 {

@@ -41,7 +41,7 @@ pub explains_list : (listed : Type 0) (failure : CallFailure) → (failure ≡ A
 explains_list listed failure (inl e) = subst (λ f. Explains listed f) (sym e) tt
 explains_list listed failure (inr e) = subst (λ f. Explains listed f) (sym e) tt
 
-pub lists : {D B : Type 0} (ran : PassPipelineOf D BenchFacts B BenchFactKind → ℕ → Tree → Tree → IRStatus → Type 0) (list : List ℕ) (pipeline : PassPipelineOf D BenchFacts B BenchFactKind) → IsPlanned list pipeline → IsListed ran list
+pub lists : {D L B : Type 0} (ran : PassPipelineOf D BenchFacts L B BenchFactKind → ℕ → Tree → Tree → IRStatus → Type 0) (list : List ℕ) (pipeline : PassPipelineOf D BenchFacts L B BenchFactKind) → IsPlanned list pipeline → IsListed ran list
 lists ran list pipeline p = record { pipeline = pipeline; planned = p }
 
 pub explains_text : {listed : Type 0} (failure : CallFailure) → listed → failure ≢ Arguments → Explains listed failure
@@ -51,6 +51,6 @@ explains_text Refused is other = is
 explains_text Memory is other = tt
 
 -- what the passes of a pipeline make of a text is what the list that plans it asks for
-pub optimises : {D B T E : Type 0} (reads : Reads) (prints : Prints) (m : Meaning) (ran : PassPipelineOf D BenchFacts B BenchFactKind → ℕ → Tree → Tree → IRStatus → Type 0) (bytes : T → List ℕ) (list text : List ℕ) (pipeline : PassPipelineOf D BenchFacts B BenchFactKind) → IsPlanned list pipeline → (r : Result T E) → IfOk r (λ answer. IsOptimised reads prints m (ran pipeline) text (bytes answer)) → IfOk r (λ answer. Optimises reads prints m ran list text (bytes answer))
+pub optimises : {D L B T E : Type 0} (reads : Reads) (prints : Prints) (m : Meaning) (ran : PassPipelineOf D BenchFacts L B BenchFactKind → ℕ → Tree → Tree → IRStatus → Type 0) (bytes : T → List ℕ) (list text : List ℕ) (pipeline : PassPipelineOf D BenchFacts L B BenchFactKind) → IsPlanned list pipeline → (r : Result T E) → IfOk r (λ answer. IsOptimised reads prints m (ran pipeline) text (bytes answer)) → IfOk r (λ answer. Optimises reads prints m ran list text (bytes answer))
 optimises reads prints m ran bytes list text pipeline plan (Ok answer) made = record { pipeline = pipeline; planned = plan; optimised = made }
 optimises reads prints m ran bytes list text pipeline plan (Err e) made = tt

@@ -12,14 +12,14 @@ use Rattle.pliron_driver_buffers.specs.declared.status.CallFailure.{CallFailure}
 use Rattle.pliron_driver_buffers.specs.declared.status.CallFailure.TheVariants.{Arguments, Text, Refused, Memory}
 
 -- the list plans a pipeline of passes, and the answer is what these make of the text, printed
-pub record Optimises {D B : Type 0} (reads : Reads) (prints : Prints) (m : Meaning) (ran : PassPipelineOf D BenchFacts B BenchFactKind → ℕ → Tree → Tree → IRStatus → Type 0) (list text answer : List ℕ) : Type 0 where
-  pub pipeline : PassPipelineOf D BenchFacts B BenchFactKind
+pub record Optimises {D L B : Type 0} (reads : Reads) (prints : Prints) (m : Meaning) (ran : PassPipelineOf D BenchFacts L B BenchFactKind → ℕ → Tree → Tree → IRStatus → Type 0) (list text answer : List ℕ) : Type 0 where
+  pub pipeline : PassPipelineOf D BenchFacts L B BenchFactKind
   pub planned : IsPlanned list pipeline
   pub optimised : IsOptimised reads prints m (ran pipeline) text answer
 
 -- the list plans a pipeline of passes, of those that run so
-pub record IsListed {D B : Type 0} (ran : PassPipelineOf D BenchFacts B BenchFactKind → ℕ → Tree → Tree → IRStatus → Type 0) (list : List ℕ) : Type 0 where
-  pub pipeline : PassPipelineOf D BenchFacts B BenchFactKind
+pub record IsListed {D L B : Type 0} (ran : PassPipelineOf D BenchFacts L B BenchFactKind → ℕ → Tree → Tree → IRStatus → Type 0) (list : List ℕ) : Type 0 where
+  pub pipeline : PassPipelineOf D BenchFacts L B BenchFactKind
   pub planned : IsPlanned list pipeline
 
 -- why there is no answer: of the list nothing is said; or it is one, and the text is at fault, or the passes gave up

@@ -11,13 +11,14 @@ use crate::status::{CallFailure, Status};
 use pliron_driver::{MAX_TEXT, Notation, PassPipeline, optimise_text, read_pipeline};
 use pliron_laws::Dialect;
 use pliron_pass::{BenchFactKind, BenchFacts, Pass};
+use pliron_rewrite_rules::Rules;
 use std::alloc::Global;
 
 // The pipeline that the list plans. Errors: the list isn't one of names of passes; allocation failure.
-fn pipeline_of<D: Dialect>(
+fn pipeline_of<D: Dialect, L: Rules<D>>(
     alloc: Global,
     list: &[u8],
-) -> Result<PassPipeline<D, BenchFacts>, CallFailure>
+) -> Result<PassPipeline<D, BenchFacts, L>, CallFailure>
     ensures planned { IfOk result (λ pipeline. IsPlanned list.now pipeline) }
     ensures failure { IfErr result (λ failure. (failure ≡ CallFailure.Arguments) ⊎ (failure ≡ CallFailure.Memory)) }
 {
@@ -35,12 +36,12 @@ fn pipeline_of<D: Dialect>(
 // Errors: the text is outside the notation or too long; those of the passes; allocation failure.
 fn answer_of<N: Notation>(
     alloc: Global,
-    pipeline: PassPipeline<N::D, BenchFacts>,
+    pipeline: PassPipeline<N::D, BenchFacts, N::Rules>,
     text: &[u8],
 ) -> Result<Vec<u8>, CallFailure>
     ensures answer { IfOk result (λ answer. IsOptimised N.reads N.prints N.D.meaning
-        (RunsAlone ⟦<BenchFactKind as PartialEq>⟧.eq ⟦<PassPipeline<N::D, BenchFacts> as Pass>⟧.outcome pipeline)
-        text.now answer.items) }
+        (RunsAlone ⟦<BenchFactKind as PartialEq>⟧.eq ⟦<PassPipeline<N::D, BenchFacts, N::Rules> as Pass>⟧.outcome
+        pipeline) text.now answer.items) }
     ensures failure { IfErr result (λ failure. failure ≢ CallFailure.Arguments) }
 {
     if text.len() > MAX_TEXT {
@@ -64,10 +65,10 @@ pub fn optimise_by_list<N: Notation>(
     text: &[u8],
 ) -> Result<Vec<u8>, CallFailure>
     ensures answer { IfOk result (λ answer. Optimises N.reads N.prints N.D.meaning
-        (RunsAlone ⟦<BenchFactKind as PartialEq>⟧.eq ⟦<PassPipeline<N::D, BenchFacts> as Pass>⟧.outcome)
+        (RunsAlone ⟦<BenchFactKind as PartialEq>⟧.eq ⟦<PassPipeline<N::D, BenchFacts, N::Rules> as Pass>⟧.outcome)
         list.now text.now answer.items) }
     ensures failure { IfErr result (Explains (IsListed (RunsAlone ⟦<BenchFactKind as PartialEq>⟧.eq
-        ⟦<PassPipeline<N::D, BenchFacts> as Pass>⟧.outcome) list.now)) }
+        ⟦<PassPipeline<N::D, BenchFacts, N::Rules> as Pass>⟧.outcome) list.now)) }
 {
     let pipeline = pipeline_of(alloc, list)?;
     answer_of::<N>(alloc, pipeline, text)
@@ -84,9 +85,10 @@ pub fn optimise_into<N: Notation>(
     needed: &mut usize,
 ) -> Status
     ensures { Fills (Optimises N.reads N.prints N.D.meaning
-        (RunsAlone ⟦<BenchFactKind as PartialEq>⟧.eq ⟦<PassPipeline<N::D, BenchFacts> as Pass>⟧.outcome)
+        (RunsAlone ⟦<BenchFactKind as PartialEq>⟧.eq ⟦<PassPipeline<N::D, BenchFacts, N::Rules> as Pass>⟧.outcome)
         list.now text.now) (Explains (IsListed (RunsAlone ⟦<BenchFactKind as PartialEq>⟧.eq
-        ⟦<PassPipeline<N::D, BenchFacts> as Pass>⟧.outcome) list.now)) output.old output.new needed.new result }
+        ⟦<PassPipeline<N::D, BenchFacts, N::Rules> as Pass>⟧.outcome) list.now)) output.old output.new
+        needed.new result }
 {
     fill(optimise_by_list::<N>(alloc, list, text), output, needed)
 }

@@ -28,7 +28,7 @@ pub struct Instrumentation {
 /// One of the passes, which notes what is seen of its runs. It does to trees and caches what the pass does.
 #[derive(Drop)]
 pub struct Instrumented<N: Notation, C: Progress + Drop> {
-    step: PassStep<N::D, BenchFacts>,
+    step: PassStep<N::D, BenchFacts, N::Rules>,
     instrumentation: Instrumentation,
     clock: C,
     records: InstrumentationRecord,
@@ -56,7 +56,7 @@ impl<N: Notation, C: Progress + Drop> Instrumented<N, C> {
     /// The pass, of which nothing was noted. Cost: constant.
     pub fn new(
         alloc: Global,
-        step: PassStep<N::D, BenchFacts>,
+        step: PassStep<N::D, BenchFacts, N::Rules>,
         instrumentation: Instrumentation,
         clock: C,
     ) -> Self
@@ -72,7 +72,7 @@ impl<N: Notation, C: Progress + Drop> Instrumented<N, C> {
 
     /// The name of the pass. Cost: constant.
     pub fn pass_name(&self) -> &str
-        ensures { result.now ≡ ⟦<PassStep<N::D, BenchFacts> as Pass>⟧.name self.now.step }
+        ensures { result.now ≡ ⟦<PassStep<N::D, BenchFacts, N::Rules> as Pass>⟧.name self.now.step }
     {
         self.step.name()
     }
@@ -154,9 +154,10 @@ impl<N: Notation, C: Progress + Drop> Pass for Instrumented<N, C> {
 
     ghost is_pass_manager = { λ p. false };
 
-    ghost name = { λ p. ⟦<PassStep<N::D, BenchFacts> as Pass>⟧.name p.step };
+    ghost name = { λ p. ⟦<PassStep<N::D, BenchFacts, N::Rules> as Pass>⟧.name p.step };
 
-    ghost outcome = { λ p p' op s s' r. ⟦<PassStep<N::D, BenchFacts> as Pass>⟧.outcome p.step p'.step op s s' r };
+    ghost outcome = { λ p p' op s s' r.
+        ⟦<PassStep<N::D, BenchFacts, N::Rules> as Pass>⟧.outcome p.step p'.step op s s' r };
 
     fn name(&self) -> &str {
         self.step.name()

@@ -9,6 +9,7 @@ use pliron_core::Context;
 use pliron_dialect_mlir::{AnyMeaning, Mlir};
 use pliron_driver::{Closed, Notation};
 use pliron_laws::{HasMeaning, OptError};
+use pliron_mlir_rules::MlirRules;
 use pliron_text_mlir_reader::Sheet;
 use std::alloc::Global;
 use std::marker::PhantomData;
@@ -22,6 +23,8 @@ pub struct ClosedForm(PhantomData<Sheet>);
 
 impl Notation for ClosedForm {
     type D = Mlir<AnyMeaning>;
+
+    type Rules = MlirRules;
 
     type Sheet = Sheet;
 

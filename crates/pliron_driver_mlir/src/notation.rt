@@ -6,6 +6,7 @@ use crate::failure::{ModuleFailure, ModuleFault, failure_of};
 use pliron_core::Context;
 use pliron_driver::{Document, Notation};
 use pliron_laws::{Dialect, OptError};
+use pliron_pass_pipeline::NoRules;
 use pliron_text_mlir_printer::print_module;
 use pliron_text_mlir_reader::{Sheet, read_module};
 use std::alloc::Global;
@@ -20,6 +21,8 @@ pub struct GenericForm<D>(PhantomData<(D, Sheet)>);
 
 impl<D: Dialect> Notation for GenericForm<D> {
     type D = D;
+
+    type Rules = NoRules;
 
     type Sheet = Sheet;
 

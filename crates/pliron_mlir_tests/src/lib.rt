@@ -9,6 +9,8 @@ mod buffers;
 #[cfg(test)]
 mod calls;
 #[cfg(test)]
+mod combined;
+#[cfg(test)]
 mod edges;
 #[cfg(test)]
 mod functions;

@@ -1,3 +1,4 @@
+pub mod CombinationLemmas
 pub mod EffectLemmas
 pub mod DeadCodeLemmas
 pub mod ControlFlowLemmas

@@ -1,6 +1,7 @@
 pub mod ChangeReports
 pub mod Optimising
 pub mod Canonicalized
+pub mod Combination
 pub mod CommonSubexpressions
 pub mod Constants
 pub mod ControlFlow

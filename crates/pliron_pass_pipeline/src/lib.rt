@@ -4,6 +4,7 @@
 #![tactic(auto)]
 
 mod canonicalization;
+mod combination;
 mod common_subexpressions;
 mod constants;
 mod control_flow;
@@ -14,6 +15,7 @@ mod pipeline;
 mod step;
 
 pub use canonicalization::{Canonicalization, CanonicalizePass};
+pub use combination::{Combination, CombinePass, MAX_REWRITES, NoRules};
 pub use common_subexpressions::{CSEPass, CommonSubexpressions};
 pub use constants::{Constants, SCCPPass};
 pub use control_flow::{ControlFlow, SimplifyCFGPass};

@@ -10,11 +10,13 @@ pub enum PassName {
     SimplifyCfg,
     Cse,
     Canonicalize,
+    Combine,
 }
 
 impl PassName {
     /// All names, as a message lists them.
-    pub const LIST: &'static str = "`sccp`, `dce`, `simplify-cfg`, `cse` or `canonicalize`";
+    pub const LIST: &'static str =
+        "`sccp`, `dce`, `simplify-cfg`, `cse`, `canonicalize` or `combine`";
 
     /// The pass of this name. Cost: constant.
     pub fn from_name(name: &str) -> Option<Self>
@@ -27,6 +29,7 @@ impl PassName {
             "simplify-cfg" => Some(PassName::SimplifyCfg),
             "cse" => Some(PassName::Cse),
             "canonicalize" => Some(PassName::Canonicalize),
+            "combine" => Some(PassName::Combine),
             _ => None,
         }
     }

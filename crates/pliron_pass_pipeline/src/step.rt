@@ -6,6 +6,7 @@ ghost use Rattle.pliron_pass_pipeline.specs.PassNames.{IsNoPass};
 ghost use Rattle.pliron_pass_pipeline.specs.PassSteps.{of_step, step_name};
 
 use crate::canonicalization::{Canonicalization, CanonicalizePass};
+use crate::combination::{Combination, CombinePass, NoRules};
 use crate::common_subexpressions::{CSEPass, CommonSubexpressions};
 use crate::constants::{Constants, SCCPPass};
 use crate::control_flow::{ControlFlow, SimplifyCFGPass};
@@ -16,19 +17,21 @@ use crate::pipeline::{Pipeline, Step};
 use pliron_core::{Context, Operation, Ptr};
 use pliron_laws::{Dialect, OptError};
 use pliron_pass::{Analyses, AnalysisKind, AnalysisManager, Pass, PassResult};
+use pliron_rewrite_rules::Rules;
 use std::alloc::Global;
 
-/// One of the five passes, for pipelines of different ones.
+/// One of the six passes, for pipelines of different ones; `combine` with the rules `L`.
 #[derive(Drop)]
-pub enum PassStep<D: Dialect, E: Analyses + Drop> {
+pub enum PassStep<D: Dialect, E: Analyses + Drop, L: Rules<D> = NoRules> {
     Sccp(SCCPPass<D, E>),
     Dce(DCEPass<D, E>),
     SimplifyCfg(SimplifyCFGPass<D, E>),
     Cse(CSEPass<D, E>),
     Canonicalize(CanonicalizePass<D, E>),
+    Combine(CombinePass<D, L, E>),
 }
 
-impl<D: Dialect, E: Analyses + Drop> PassStep<D, E> {
+impl<D: Dialect, E: Analyses + Drop, L: Rules<D>> PassStep<D, E, L> {
     /// The pass of this name. Cost: constant.
     pub fn from_name(name: &str) -> Option<Self>
         ensures named { IfSome result (λ step. step_name step ≡ name.now) }
@@ -40,12 +43,13 @@ impl<D: Dialect, E: Analyses + Drop> PassStep<D, E> {
             Some(PassName::SimplifyCfg) => Some(PassStep::SimplifyCfg(SimplifyCFGPass::new())),
             Some(PassName::Cse) => Some(PassStep::Cse(CSEPass::new())),
             Some(PassName::Canonicalize) => Some(PassStep::Canonicalize(CanonicalizePass::new())),
+            Some(PassName::Combine) => Some(PassStep::Combine(CombinePass::new())),
             None => None,
         }
     }
 }
 
-impl<D: Dialect, E: Analyses + Drop> Pass for PassStep<D, E> {
+impl<D: Dialect, E: Analyses + Drop, L: Rules<D>> Pass for PassStep<D, E, L> {
     type D = D;
 
     type E = E;
@@ -60,7 +64,8 @@ impl<D: Dialect, E: Analyses + Drop> Pass for PassStep<D, E> {
         ⟦<DeadCode<D> as Optimisation>⟧.outcome
         ⟦<ControlFlow<D> as Optimisation>⟧.outcome
         ⟦<CommonSubexpressions<D> as Optimisation>⟧.outcome
-        ⟦<Canonicalization<D> as Optimisation>⟧.outcome p) op s s' r };
+        ⟦<Canonicalization<D> as Optimisation>⟧.outcome
+        ⟦<Combination<D, L> as Optimisation>⟧.outcome p) op s s' r };
 
     fn name(&self) -> &str {
         match self {
@@ -69,6 +74,7 @@ impl<D: Dialect, E: Analyses + Drop> Pass for PassStep<D, E> {
             PassStep::SimplifyCfg(pass) => pass.name(),
             PassStep::Cse(pass) => pass.name(),
             PassStep::Canonicalize(pass) => pass.name(),
+            PassStep::Combine(pass) => pass.name(),
         }
     }
 
@@ -85,6 +91,7 @@ impl<D: Dialect, E: Analyses + Drop> Pass for PassStep<D, E> {
             PassStep::SimplifyCfg(pass) => pass.run(alloc, op, ctx, analyses),
             PassStep::Cse(pass) => pass.run(alloc, op, ctx, analyses),
             PassStep::Canonicalize(pass) => pass.run(alloc, op, ctx, analyses),
+            PassStep::Combine(pass) => pass.run(alloc, op, ctx, analyses),
         }
     }
 
@@ -93,9 +100,9 @@ impl<D: Dialect, E: Analyses + Drop> Pass for PassStep<D, E> {
     }
 }
 
-impl<D: Dialect, E: Analyses + Drop> Step for PassStep<D, E> {
+impl<D: Dialect, E: Analyses + Drop, L: Rules<D>> Step for PassStep<D, E, L> {
     ghost accurate = { record { same = λ p q op s s' a runs. optimisation_same _ _ _ op s s' a runs.1 } };
 }
 
 /// A pipeline of the passes here.
-pub type PassPipeline<D, E> = Pipeline<PassStep<D, E>>;
+pub type PassPipeline<D, E, L = NoRules> = Pipeline<PassStep<D, E, L>>;

@@ -1,20 +1,19 @@
 -- The runs of a function before and after, where it isn't at the call.
-use Rattle.std.proofs.Common.{◌≡◌, ◌<◌, ◌⊎◌, inl, inr, ⊎_elim, ℕ, List, [], ◌∷◌, map, length, Option, Some, None, IsSome, slice_get, refl, sym, ap, ap₂, ◌∙◌, subst}
+use Rattle.std.proofs.Common.{◌≡◌, ◌<◌, inl, inr, ⊎_elim, ℕ, List, [], ◌∷◌, map, length, Option, Some, None, IsSome, slice_get, refl, sym, ap, ap₂, ◌∙◌, subst}
 use Rattle.std.proofs.lemmas.Option.{slice_get_cases}
-use Rattle.pliron_core.specs.Tree.{Tree, In, IsLive, IsBlock, first_of, head_of, row_of, operands_of, results_of, successors_of, regions_of, parent_of, body_of, arguments_of, block_parent_of, layout_of, region_parent_of, op_of_slot, definition_of, IsMadeBy, IsDefined}
+use Rattle.pliron_core.specs.Tree.{Tree, In, IsLive, IsBlock, first_of, head_of, row_of, operands_of, results_of, successors_of, regions_of, parent_of, block_parent_of, layout_of, region_parent_of, op_of_slot, IsMadeBy, IsDefined}
 use Rattle.pliron_core.specs.Invariant.{IsTree}
-use Rattle.pliron_core.proofs.HoldingLemmas.{some_is, not_none, some_of, in_slice, slice_in}
+use Rattle.pliron_core.proofs.HoldingLemmas.{not_none, some_of, in_slice, slice_in}
 use Rattle.pliron_core.proofs.NeighbourLemmas.{first_of-In}
-use Rattle.pliron_laws.specs.Datum.{Head, Datum, Empty, Meaning, Move, Give, Visit, Goto, Leave, Emit, Trap}
+use Rattle.pliron_laws.specs.Datum.{Head, Datum, Empty, Meaning, Move}
 use Rattle.pliron_laws.specs.Tree.{Operation, Block, op_with, op_at, block_at, and_block, entry_block, count_arguments, unless, shape_of}
-use Rattle.pliron_laws.specs.Machine.{Environment, State, Sight, Next, Continues, Over, bind, data_of, input_of, leave, entry_in, block_in, perform, move, turn, step_at, step}
+use Rattle.pliron_laws.specs.Machine.{Environment, State, Next, Continues, Over, bind, data_of, input_of, entry_in, block_in, perform, move, turn, step_at, step}
 use Rattle.pliron_laws.specs.Acting.{MovesAlike, PassesSame, JumpsSame}
 use Rattle.pliron_laws.proofs.Records.{ShowsOperation, op_shows, make_op, block_of, make_block, region_entry}
-use Rattle.pliron_theory.proofs.Lockstep.{Ties, Tied, NextAlike, EnvsTied, EntersTied, AlikeMoves, alike_tied, leave_tied, trap_tied}
-use Rattle.pliron_rewrite_copies.proofs.Maps.{map_map}
+use Rattle.pliron_theory.proofs.Lockstep.{Ties, Tied, NextAlike, EnvsTied, EntersTied, alike_tied, leave_tied}
 use Rattle.pliron_pass_linked.specs.Calls.{CallingConvention}
 use Rattle.pliron_rewrite_inlining.specs.Inlined.{InlinedCall, HasNewJump, IsCallInlined}
-use Rattle.pliron_rewrite_inlining.proofs.Carried.{Carries, carries_one, carries_reads, map_same}
+use Rattle.pliron_rewrite_inlining.proofs.Carried.{carries_one, carries_reads, map_same}
 use Rattle.pliron_rewrite_inlining.proofs.CopiedShapes.{same_shape}
 use Rattle.pliron_rewrite_inlining.proofs.Seen.{SeenSame, NextSeen}
 use Rattle.pliron_rewrite_inlining.proofs.Effects.{with_effects, ButForEffects, step_seen}

@@ -1,12 +1,11 @@
 -- Environments of which one has the data of the other, by other names.
-use Rattle.std.proofs.Common.{◌≡◌, ◌<◌, ◌≤◌, inl, inr, ⊎_elim, ℕ, List, [], ◌∷◌, map, Option, Some, None, refl, sym, ap, ap₂, ◌∙◌, subst, arith}
+use Rattle.std.proofs.Common.{◌≡◌, inl, inr, ⊎_elim, ℕ, List, [], ◌∷◌, map, Option, Some, None, refl, sym, ap, ap₂, ◌∙◌, subst}
 use Rattle.std.proofs.lemmas.Bool.{cases_eq}
 use Rattle.pliron_core.specs.Tree.{In}
-use Rattle.pliron_core.proofs.HoldingLemmas.{some_is, not_none}
+use Rattle.pliron_core.proofs.HoldingLemmas.{not_none}
 use Rattle.pliron_laws.specs.Datum.{Datum}
-use Rattle.pliron_laws.specs.States.{Environment, environment_with, bind, prepend_optional, data_of}
+use Rattle.pliron_laws.specs.States.{Environment, environment_with, prepend_optional, data_of}
 use Rattle.pliron_laws.proofs.BindingLemmas.{bound_it, bind_other}
-use Rattle.pliron_theory.proofs.Lockstep.{EnvsTied}
 
 -- each value in P has the datum that the other environment has of the value f v
 abbrev pub Carries : (ℕ → Type 0) → (ℕ → ℕ) → Environment → Environment → Type 0

@@ -1,5 +1,5 @@
 -- Two linked machines that meet again and again show the same.
-use Rattle.std.proofs.Common.{◌≡◌, ◌↔◌, ℕ, zero, suc, List, refl, sym, ap, ◌∙◌, subst}
+use Rattle.std.proofs.Common.{◌≡◌, ◌↔◌, ℕ, zero, suc, refl, sym, ap, ◌∙◌, subst}
 use Rattle.pliron_laws.specs.Machine.{Sight, Reached}
 use Rattle.pliron_pass_linked.specs.LinkedRuns.{LinkedState, LinkedNext, Goes, Stops, goes_on, linked_from, linked_sight}
 use Rattle.pliron_pass_linked.specs.LinkedAgree.{LinkedShows}

@@ -1,14 +1,13 @@
 -- A copied operation has the shape of its original, and leads to copies of what that leads to.
-use Rattle.std.proofs.Common.{◌≡◌, ℕ, true, List, [], ◌∷◌, map, length, Option, Some, None, slice_get, refl, sym, ap, ap₂, ◌∙◌, subst}
+use Rattle.std.proofs.Common.{◌≡◌, ℕ, true, List, [], map, length, Option, Some, None, slice_get, refl, sym, ap, ◌∙◌, subst}
 use Rattle.std.specs.Option.{option_map}
 use Rattle.std.proofs.lemmas.List.{length-map}
 use Rattle.std.proofs.lemmas.Option.{slice_get-map}
-use Rattle.pliron_core.specs.Tree.{Tree, In, IsLive, IsBlock, head_of, operands_of, results_of, successors_of, regions_of, arguments_of, body_of, block_parent_of}
-use Rattle.pliron_core.proofs.HoldingLemmas.{some_is, some_of, in_slice, slice_in}
+use Rattle.pliron_core.specs.Tree.{Tree, In, IsLive, head_of, operands_of, results_of, successors_of, regions_of, arguments_of, block_parent_of}
+use Rattle.pliron_core.proofs.HoldingLemmas.{some_of, in_slice}
 use Rattle.pliron_laws.specs.Datum.{Head, Shape, Meaning}
-use Rattle.pliron_laws.specs.Tree.{Operation, Block, op_at, block_at, entry_block, count_arguments, unless, shape_of}
-use Rattle.pliron_laws.specs.Machine.{block_in}
-use Rattle.pliron_laws.proofs.Records.{op_shows, operation_of, block_of, make_op, make_block}
+use Rattle.pliron_laws.specs.Tree.{Operation, op_at, block_at, entry_block, count_arguments, unless, shape_of}
+use Rattle.pliron_laws.proofs.Records.{operation_of, block_of, make_op, make_block}
 use Rattle.pliron_rewrite_copies.proofs.Maps.{map_map}
 use Rattle.pliron_rewrite_inlining.specs.Inlined.{InlinedCall, IsCopy, IsBlockCopy}
 

@@ -1,15 +1,13 @@
 -- The run of a callee, and that of its copy with the caller's frame around it: a copied operation acts as its original.
-use Rattle.std.proofs.Common.{◌≡◌, ◌<◌, ◌⊎◌, inl, inr, ⊎_elim, ℕ, List, [], ◌∷◌, map, length, Option, Some, None, slice_get, refl, sym, ap, ◌∙◌, subst, arith}
-use Rattle.pliron_core.specs.Tree.{Tree, In, operands_of, results_of, body_of, arguments_of, block_parent_of}
-use Rattle.pliron_core.proofs.HoldingLemmas.{some_is, not_none, some_of}
+use Rattle.std.proofs.Common.{◌≡◌, ◌<◌, ◌⊎◌, inl, inr, ℕ, List, [], ◌∷◌, map, length, Option, Some, None, slice_get, refl, sym, ap, ◌∙◌, subst, arith}
+use Rattle.pliron_core.specs.Tree.{Tree, In, operands_of, results_of, body_of, arguments_of}
 use Rattle.pliron_laws.specs.Datum.{Datum, Empty, Meaning, Move, Give, Visit, Goto, Leave, Emit, Trap}
-use Rattle.pliron_laws.specs.Tree.{Operation, Block, op_at, block_at, shape_of}
-use Rattle.pliron_laws.specs.Machine.{Environment, Waiting, State, Next, Continues, Over, trap, bind, data_of, input_of, at_rest, leave, after_giving, begin, enter, entry_in, block_in, go_to, emit, perform, move, turn, step_at, step}
+use Rattle.pliron_laws.specs.Tree.{op_at, block_at, shape_of}
+use Rattle.pliron_laws.specs.Machine.{Environment, Waiting, State, trap, bind, data_of, input_of, after_giving, begin, enter, entry_in, block_in, go_to, emit, perform, move, turn, step_at, step}
 use Rattle.pliron_laws.proofs.Records.{block_of}
 use Rattle.pliron_theory.proofs.Lockstep.{EnvsTied, Waits}
 use Rattle.pliron_pass_linked.specs.Calls.{CallingConvention}
-use Rattle.pliron_rewrite_copies.specs.Copies.{Originals}
-use Rattle.pliron_rewrite_inlining.specs.Inlined.{InlinedCall, IsFresh, IsCopy, NeverGives, IsReturnReplaced, AreCopies, IsBlockCopy, HasNewJump, IsCallInlined}
+use Rattle.pliron_rewrite_inlining.specs.Inlined.{InlinedCall, IsFresh, IsCopy, NeverGives, IsReturnReplaced, AreCopies, HasNewJump, IsCallInlined}
 use Rattle.pliron_rewrite_inlining.proofs.Seen.{NextInside}
 use Rattle.pliron_rewrite_inlining.proofs.Carried.{Carries, carries_one, carries_right, carries_reads}
 use Rattle.pliron_rewrite_inlining.proofs.CopiedShapes.{IsBlockAlike, HasOriginal, has_original, targets_alike, copy_at, original_block_at}

@@ -2,7 +2,7 @@
 use Rattle.std.proofs.Common.{◌≡◌, ℕ, List, [], ◌∷◌, Option, Some, None, refl, arith, slice_get}
 use Rattle.pliron_laws.specs.Datum.{Datum, Move, Give, Visit, Goto, Leave, Emit, Trap, Meaning}
 use Rattle.pliron_laws.specs.Tree.{Tree, Operation, Block, op_at, shape_of}
-use Rattle.pliron_laws.specs.Machine.{Environment, Waiting, State, Sight, Ended, Trapped, Reached, Next, Continues, Over, bind, input_of, leave, after_giving, begin, enter, entry_in, block_in, go_to, emit, perform, move, turn, step_at, step}
+use Rattle.pliron_laws.specs.Machine.{Environment, Waiting, State, Ended, Trapped, Reached, Next, Continues, Over, bind, input_of, leave, after_giving, begin, enter, entry_in, block_in, go_to, emit, perform, move, turn, step_at, step}
 use Rattle.pliron_rewrite_inlining.proofs.Seen.{SeenSame}
 
 abbrev pub with_effects : State → List Datum → State

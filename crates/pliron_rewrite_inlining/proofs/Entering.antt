@@ -1,22 +1,22 @@
 -- A call begins a frame of the callee, where the new jump comes to the copy of the callee's entry.
-use Rattle.std.proofs.Common.{◌≡◌, ◌⊎◌, inl, inr, ⊎_elim, ℕ, List, [], ◌∷◌, map, length, Option, Some, None, slice_get, refl, sym, ap, ◌∙◌, subst}
+use Rattle.std.proofs.Common.{◌≡◌, inl, inr, ℕ, List, [], ◌∷◌, map, length, Option, Some, None, slice_get, refl, sym, ap, ◌∙◌, subst}
 use Rattle.std.proofs.lemmas.List.{length-map}
-use Rattle.pliron_core.specs.Tree.{Tree, In, IsLive, first_of, head_of, operands_of, results_of, successors_of, regions_of, arguments_of, body_of, block_parent_of, layout_of, region_parent_of, op_of_slot}
+use Rattle.pliron_core.specs.Tree.{Tree, operands_of, arguments_of, body_of, block_parent_of, region_parent_of, op_of_slot}
 use Rattle.pliron_core.specs.Invariant.{IsTree}
 use Rattle.pliron_core.proofs.HoldingLemmas.{not_none, some_of}
-use Rattle.pliron_laws.specs.Datum.{Datum, Empty, Meaning, Move, Goto, Visit, Emit}
+use Rattle.pliron_laws.specs.Datum.{Datum, Empty, Meaning, Goto, Emit}
 use Rattle.pliron_laws.specs.Tree.{Operation, Block, op_at, block_at, and_block, entry_block, shape_of}
-use Rattle.pliron_laws.specs.Machine.{Environment, Waiting, State, Reached, Next, Continues, Over, bind, data_of, input_of, at_rest, begin, enter, entry_in, block_in, go_to, emit, perform, move, turn, step_at, step, start}
+use Rattle.pliron_laws.specs.Machine.{Environment, Waiting, State, Reached, Continues, Over, bind, data_of, input_of, at_rest, begin, enter, entry_in, block_in, go_to, emit, perform, move, turn, step_at, step, start}
 use Rattle.pliron_laws.proofs.Records.{block_of, region_entry}
-use Rattle.pliron_theory.proofs.Lockstep.{Tied, EnvsTied, Waits}
+use Rattle.pliron_theory.proofs.Alike.{data_long}
+use Rattle.pliron_theory.proofs.Lockstep.{Tied, EnvsTied}
 use Rattle.pliron_pass_linked.specs.Calls.{CallingConvention}
 use Rattle.pliron_rewrite_inlining.specs.Inlined.{InlinedCall, JumpsTo, IsBlockCopy, HasNewJump, IsCallInlined}
-use Rattle.pliron_rewrite_inlining.proofs.Carried.{Carries}
 use Rattle.pliron_rewrite_inlining.proofs.Effects.{with_effects}
 use Rattle.pliron_rewrite_inlining.proofs.CopiedShapes.{live_op, live_op_at, copy_at, original_block_at}
-use Rattle.pliron_rewrite_inlining.proofs.CopiedSteps.{WaitsAt, InCopy, Both, bound_alike, fresh_standing, going_enters}
+use Rattle.pliron_rewrite_inlining.proofs.CopiedSteps.{InCopy, Both, bound_alike, fresh_standing}
 use Rattle.pliron_rewrite_inlining.proofs.CallerSteps.{caller_ties, AtCall, reads_same}
-use Rattle.pliron_rewrite_inlining.proofs.Running.{data_length, binds}
+use Rattle.pliron_rewrite_inlining.proofs.Running.{binds}
 
 -- where a block begins that has these arguments
 pub entered : (s : State) (b : Block) (ds : List Datum) (ws : List Waiting) (env : Environment) → bind s.environment b.arguments ds ≡ Some env → enter s (Some b) ds ws ≡ Continues (at_rest s env b.operations ws)
@@ -27,7 +27,7 @@ pub jumped : (m : Meaning) (t : Tree) (s : State) (k block : ℕ) (rest : List �
 unfolding step
 jumped m t s k block rest j e me ae ds de w ws we =
     ap (step_at m t s) e ∙ ap (turn m t s k rest) (live_op_at t k j.live) ∙ ap (move m t s (live_op t k j.live) k rest) (ap (input_of s.environment (operands_of t k)) ae ∙ de)
-    ∙ ap (perform t s (live_op t k j.live) k rest) (ap (λ z. m.act (shape_of m t (live_op t k j.live)) z ds) me ∙ j.goes (live_op t k j.live) (live_op_at t k j.live) ds (data_length s.environment (operands_of t k) ds de))
+    ∙ ap (perform t s (live_op t k j.live) k rest) (ap (λ z. m.act (shape_of m t (live_op t k j.live)) z ds) me ∙ j.goes (live_op t k j.live) (live_op_at t k j.live) ds (data_long s.environment (operands_of t k) ds de))
     ∙ ap (λ l. go_to t s (slice_get l 0) ds s.waiting) j.leads ∙ going t s (Some block) ds s.waiting w ws we
   where
     going : (y : Tree) (s : State) (b : Option ℕ) (ds : List Datum) (ws : List Waiting) (w : Waiting) (vs : List Waiting) → ws ≡ w ∷ vs → go_to y s b ds ws ≡ enter s (block_in y b) ds ws
@@ -74,7 +74,7 @@ module _ (m : Meaning) (c : CallingConvention) (t u : Tree) (x : InlinedCall) (s
 
   module _ (g g' : State) (r : Tied (caller_ties t x) g (with_effects g' g.effects)) (a : IsAtCall g g') (ds : List Datum) (has : data_of g.environment (operands_of t x.call) ≡ Some ds) (quiet : g.world ≡ []) where
     counted : length ds ≡ length (operands_of t x.call)
-    counted = data_length g.environment (operands_of t x.call) ds has
+    counted = data_long g.environment (operands_of t x.call) ds has
 
     abbrev call_op : Operation
     call_op = live_op t x.call h.calls.live

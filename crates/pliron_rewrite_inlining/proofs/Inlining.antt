@@ -1,30 +1,31 @@
 -- Linked runs show the same where a call was inlined.
-use Rattle.std.proofs.Common.{◌≡◌, ◌⊎◌, inl, inr, ⊎_elim, ℕ, List, [], ◌∷◌, ◌++◌, map, Option, Some, None, refl, sym, ap, ◌∙◌, subst}
+use Rattle.std.proofs.Common.{◌≡◌, ◌⊎◌, inl, inr, ⊎_elim, ℕ, List, [], ◌∷◌, ◌++◌, map, Some, None, refl, sym, ap, ◌∙◌, subst}
 use Rattle.std.proofs.lemmas.Bool.{cases_eq}
 use Rattle.pliron_core.specs.Tree.{Tree, operands_of}
 use Rattle.pliron_core.specs.Invariant.{IsTree}
 use Rattle.pliron_core.proofs.HoldingLemmas.{some_is, not_none}
 use Rattle.pliron_laws.specs.Datum.{Datum, Empty, Meaning}
-use Rattle.pliron_laws.specs.Machine.{Waiting, State, Sight, Ended, Trapped, Reached, Next, Continues, Over, data_of, step, start}
+use Rattle.pliron_laws.specs.Machine.{Waiting, State, Sight, Ended, Trapped, Reached, Next, Continues, Over, step, start}
 use Rattle.pliron_theory.specs.Keeps.{IsFit}
+use Rattle.pliron_theory.proofs.Alike.{data_long}
 use Rattle.pliron_theory.proofs.Bound.{IsReady}
-use Rattle.pliron_theory.proofs.Lockstep.{Tied, Waits}
+use Rattle.pliron_theory.proofs.Lockstep.{Waits}
 use Rattle.pliron_pass_linked.specs.Calls.{CallingConvention}
-use Rattle.pliron_pass_linked.specs.LinkedRuns.{Program, Function, Linker, Reply, Caller, Below, World, Frame, LinkedState, LinkedNext, Goes, Stops, frame_of, with_answer, with_frame, after_return, after_call, after_effect, after_sight, with_state, linked_start}
+use Rattle.pliron_pass_linked.specs.LinkedRuns.{Program, Function, Linker, Reply, Caller, Below, World, Frame, LinkedState, LinkedNext, Goes, with_answer, with_frame, after_return, after_call, after_effect, after_sight, with_state, linked_start}
 use Rattle.pliron_pass_linked.specs.LinkedAgree.{LinkedAgree}
 use Rattle.pliron_pass_linked.specs.KeepsLinked.{IsFitIn, IsLiveIn, IsLinker, AllLive, with_module}
 use Rattle.pliron_rewrite_inlining.specs.Inlined.{InlinedCall, IsReturnReplaced, IsCallInlined}
 use Rattle.pliron_rewrite_inlining.specs.InliningLaws.{InliningLaw}
-use Rattle.pliron_rewrite_inlining.proofs.Seen.{SeenSame, SeenInside, NextSeen, NextInside, latest}
-use Rattle.pliron_rewrite_inlining.proofs.Effects.{with_effects, with_world}
+use Rattle.pliron_rewrite_inlining.proofs.Seen.{SeenSame, SeenInside, latest}
+use Rattle.pliron_rewrite_inlining.proofs.Effects.{with_world}
 use Rattle.pliron_rewrite_inlining.proofs.CopiedSteps.{WaitsAt, Standing}
 use Rattle.pliron_rewrite_inlining.proofs.CallerSteps.{AtCall}
-use Rattle.pliron_rewrite_inlining.proofs.Running.{data_length, OnWay, starts_on, stays_on, world_on, ready_on}
+use Rattle.pliron_rewrite_inlining.proofs.Running.{OnWay, starts_on, stays_on, world_on, ready_on}
 use Rattle.pliron_rewrite_inlining.proofs.Entering.{IsAtCall, at_call, Enters, enters}
 use Rattle.pliron_rewrite_inlining.proofs.Returning.{ReturnsTo, returns_to}
-use Rattle.pliron_rewrite_inlining.proofs.Catching.{Meets, Stop, Go, Meeting, shown_alike}
-use Rattle.pliron_rewrite_inlining.proofs.LinkedFrames.{t, fn, before, after, before_here, after_here, callee_fit, CallerPair, Elsewhere, Here, LoneNext, JoinedNext, lone_step, joined_step, IsAsking, quiet_step, asking, lone_begun}
-use Rattle.pliron_rewrite_inlining.proofs.LinkedStacks.{by_step, Q, LonePair, JoinedFrames, IsAway, IsCopying, AsksIn, Stacks, lone_pushed, Tops, Alone, Two, Related, left, right, OnWays, now, NextOnWay, meets_by, effect_shown, returned}
+use Rattle.pliron_rewrite_inlining.proofs.Catching.{Meets, Go, Meeting, shown_alike}
+use Rattle.pliron_rewrite_inlining.proofs.LinkedFrames.{fn, before_here, after_here, callee_fit, CallerPair, Elsewhere, Here, LoneNext, JoinedNext, lone_step, joined_step, quiet_step, asking, lone_begun}
+use Rattle.pliron_rewrite_inlining.proofs.LinkedStacks.{by_step, LonePair, JoinedFrames, IsAway, IsCopying, AsksIn, Stacks, lone_pushed, Tops, Alone, Two, Related, left, right, now, NextOnWay, meets_by, effect_shown, returned}
 
 waits_held : (W : List ℕ → List ℕ → Datum → Type 0) (ws ws' : List Waiting) → Waits W ws ws' → (y : Waiting) (ys : List Waiting) → ws ≡ y ∷ ys → (z : Waiting) × (zs : List Waiting) × (ws' ≡ z ∷ zs)
 waits_held W [] ws' k y ys e = absurd (nothing e)
@@ -158,7 +159,7 @@ module _ (m : Meaning) (c : CallingConvention) (p : Program) (n : ℕ) (u : Tree
 
       calls : Left s ≡ Goes (called_with s ready.input)
       calls = by_step m c link p s (Over (Reached (h.calls.effect ready.input ∷ s.top.state.effects))) (before_here m c p n u x symbol link w w' h l live named s.top root fe ∙ e.asks)
-          ∙ ap (after_effect link s (h.calls.effect ready.input)) (h.calls.is_call ready.input (data_length s.top.state.environment (operands_of (p n) x.call) ready.input ready.has_data))
+          ∙ ap (after_effect link s (h.calls.effect ready.input)) (h.calls.is_call ready.input (data_long s.top.state.environment (operands_of (p n) x.call) ready.input ready.has_data))
           ∙ ap (after_call link s (h.calls.effect ready.input) ready.input) (ap (λ g. link g.in_module symbol) fe ∙ named)
 
       jumps : Right s' ≡ Goes (with_state s' e.copy)

@@ -13,3 +13,5 @@ pub mod LinkedFrames
 pub mod LinkedStacks
 pub mod Inlining
 pub mod KeepsLinkedBy
+pub mod InlinedWays
+pub mod InlinedDominance

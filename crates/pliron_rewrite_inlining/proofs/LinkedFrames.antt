@@ -1,19 +1,18 @@
 -- Frames before and after, side by side: where a call was inlined, one frame stands for two.
-use Rattle.std.proofs.Common.{◌≡◌, ◌⊎◌, inl, inr, ⊎_elim, ℕ, List, [], ◌∷◌, ◌++◌, map, Option, Some, None, refl, sym, ap, ◌∙◌, subst}
+use Rattle.std.proofs.Common.{◌≡◌, inl, ⊎_elim, ℕ, List, [], ◌∷◌, ◌++◌, map, Some, None, refl, sym, ap, ◌∙◌, subst}
 use Rattle.std.proofs.lemmas.Bool.{cases_eq}
-use Rattle.pliron_core.specs.Tree.{Tree, IsLive, head_of, operands_of}
+use Rattle.pliron_core.specs.Tree.{Tree, IsLive, head_of}
 use Rattle.pliron_core.specs.Invariant.{IsTree}
 use Rattle.pliron_core.proofs.HoldingLemmas.{not_none, some_of}
 use Rattle.pliron_laws.specs.Datum.{Datum, Empty, Meaning}
-use Rattle.pliron_laws.specs.Machine.{State, Sight, Ended, Trapped, Reached, Next, Continues, Over, data_of, step, start}
+use Rattle.pliron_laws.specs.Machine.{State, Sight, Ended, Trapped, Reached, Next, Continues, Over, step, start}
 use Rattle.pliron_theory.specs.Keeps.{IsFit}
-use Rattle.pliron_theory.proofs.Lockstep.{Tied}
 use Rattle.pliron_pass_linked.specs.Calls.{CallingConvention}
 use Rattle.pliron_pass_linked.specs.LinkedRuns.{Program, Function, Linker, Caller, Below, Frame, frame_of, with_answer}
 use Rattle.pliron_pass_linked.specs.KeepsLinked.{IsFitIn, IsLiveIn, IsLinker, AllLive, with_module}
 use Rattle.pliron_rewrite_inlining.specs.Inlined.{InlinedCall, IsCopy, IsCallInlined}
 use Rattle.pliron_rewrite_inlining.proofs.Seen.{SeenSame, NextSeen, NextInside}
-use Rattle.pliron_rewrite_inlining.proofs.Effects.{with_effects, with_world, Asks, step_asks}
+use Rattle.pliron_rewrite_inlining.proofs.Effects.{with_world, Asks, step_asks}
 use Rattle.pliron_rewrite_inlining.proofs.CopiedSteps.{InCopy, Behind, copied_step}
 use Rattle.pliron_rewrite_inlining.proofs.CallerSteps.{AtCall, CallerAlike, caller_seen}
 use Rattle.pliron_rewrite_inlining.proofs.Modules.{here_tree, there_tree}

@@ -1,16 +1,15 @@
 -- Linked states before and after an inlined call, side by side.
-use Rattle.std.proofs.Common.{◌≡◌, ◌⊎◌, inl, inr, ⊎_elim, ℕ, List, [], ◌∷◌, ◌++◌, Option, Some, None, refl, sym, ap, ◌∙◌, subst}
+use Rattle.std.proofs.Common.{◌≡◌, ◌⊎◌, inl, inr, ℕ, List, [], ◌∷◌, Option, Some, None, refl, sym, ap, ◌∙◌, subst}
 use Rattle.pliron_core.specs.Tree.{Tree}
 use Rattle.pliron_core.specs.Invariant.{IsTree}
 use Rattle.pliron_laws.specs.Datum.{Datum, Meaning}
-use Rattle.pliron_laws.specs.Machine.{State, Sight, Ended, Trapped, Reached, Next, Continues, Over, step}
+use Rattle.pliron_laws.specs.Machine.{State, Ended, Trapped, Reached, Next, Continues, step}
 use Rattle.pliron_pass_linked.specs.Calls.{Call, CallingConvention}
-use Rattle.pliron_pass_linked.specs.LinkedRuns.{Program, Function, Linker, Reply, Answer, Callback, Caller, Below, World, Frame, LinkedState, LinkedNext, Goes, Stops, frame_of, with_answer, with_frame, after_callback, after_reply, show_world, after_return, after_call, after_effect, after_sight, with_state, after_step, linked_step}
+use Rattle.pliron_pass_linked.specs.LinkedRuns.{Program, Function, Linker, Reply, Answer, Callback, Caller, Below, World, Frame, LinkedState, LinkedNext, Goes, Stops, with_answer, with_frame, after_callback, after_reply, show_world, after_return, after_call, after_effect, with_state, after_step, linked_step}
 use Rattle.pliron_pass_linked.specs.KeepsLinked.{IsLinker, AllLive, with_module}
 use Rattle.pliron_rewrite_inlining.specs.Inlined.{InlinedCall, IsCallInlined}
-use Rattle.pliron_rewrite_inlining.proofs.Seen.{NextSeen, NextInside}
 use Rattle.pliron_rewrite_inlining.proofs.Catching.{AreOnWay, Meets, Stop, Go}
-use Rattle.pliron_rewrite_inlining.proofs.LinkedFrames.{q, before, after, Lone, Joined, Away, Copying, LoneNext, JoinedNext, lone_step, joined_step, lone_answered, joined_answered, IsAsking, answer_step, lone_begun}
+use Rattle.pliron_rewrite_inlining.proofs.LinkedFrames.{Lone, Joined, Away, Copying, LoneNext, JoinedNext, lone_step, joined_step, lone_answered, joined_answered, IsAsking, answer_step, lone_begun}
 
 pub by_step : (m : Meaning) (c : CallingConvention) (link : Linker) (p : Program) (s : LinkedState) (o : Next) → step m (p s.top.function.in_module) s.top.state ≡ o → linked_step m c link p s ≡ after_step c link s o
 unfolding linked_step

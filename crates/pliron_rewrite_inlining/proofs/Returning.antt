@@ -1,26 +1,27 @@
 -- A return leaves the callee's frame, and the caller goes on behind the call, where the copy jumps there.
-use Rattle.std.proofs.Common.{◌≡◌, ◌<◌, inl, inr, ℕ, List, [], ◌∷◌, map, length, Option, Some, None, slice_get, refl, sym, ap, ◌∙◌, subst, arith}
+use Rattle.std.proofs.Common.{◌≡◌, inl, inr, ℕ, List, [], ◌∷◌, map, length, Option, Some, None, refl, sym, ap, ◌∙◌, subst, arith}
 use Rattle.std.proofs.lemmas.List.{length-map}
 use Rattle.pliron_core.specs.declared.context.Def.{Def}
 use Rattle.pliron_core.specs.declared.context.Def.TheVariants.{Result}
 use Rattle.pliron_core.specs.Lists.{IsDistinct}
-use Rattle.pliron_core.specs.Tree.{Tree, In, IsLive, IsBlock, head_of, operands_of, results_of, successors_of, arguments_of, body_of, block_parent_of}
+use Rattle.pliron_core.specs.Tree.{Tree, In, IsBlock, operands_of, results_of, arguments_of, body_of, block_parent_of}
 use Rattle.pliron_core.specs.Invariant.{IsTree}
 use Rattle.pliron_core.proofs.HoldingLemmas.{some_of}
 use Rattle.pliron_core.proofs.FlatLemmas.{distinct-indices}
-use Rattle.pliron_laws.specs.Datum.{Datum, Empty, Meaning, Move, Give, Goto, Leave, Emit}
-use Rattle.pliron_laws.specs.Tree.{Operation, Block, op_at, block_at, shape_of}
-use Rattle.pliron_laws.specs.Machine.{Environment, Waiting, State, Ended, Next, Continues, Over, bind, data_of, input_of, at_rest, leave, after_giving, enter, emit, perform, move, turn, step_at, step}
+use Rattle.pliron_laws.specs.Datum.{Datum, Empty, Meaning}
+use Rattle.pliron_laws.specs.Tree.{Operation, op_at, shape_of}
+use Rattle.pliron_laws.specs.Machine.{Environment, Waiting, State, Ended, Continues, Over, bind, data_of, input_of, at_rest, leave, after_giving, enter, perform, move, turn, step_at, step}
 use Rattle.pliron_laws.proofs.Records.{block_of, make_block}
-use Rattle.pliron_theory.proofs.Lockstep.{Tied, EnvsTied, Waits}
+use Rattle.pliron_theory.proofs.Alike.{data_long}
+use Rattle.pliron_theory.proofs.Lockstep.{Tied, EnvsTied}
 use Rattle.pliron_pass_linked.specs.Calls.{CallingConvention}
-use Rattle.pliron_rewrite_inlining.specs.Inlined.{InlinedCall, IsReturnReplaced, HasNewJump, IsCallInlined}
-use Rattle.pliron_rewrite_inlining.proofs.Carried.{Carries, carries_left, carries_reads}
+use Rattle.pliron_rewrite_inlining.specs.Inlined.{InlinedCall, IsReturnReplaced, IsCallInlined}
+use Rattle.pliron_rewrite_inlining.proofs.Carried.{carries_left, carries_reads}
 use Rattle.pliron_rewrite_inlining.proofs.CopiedShapes.{live_op, live_op_at}
 use Rattle.pliron_rewrite_inlining.proofs.CopiedSteps.{CallerData, InCopy}
 use Rattle.pliron_rewrite_inlining.proofs.CallerSteps.{caller_ties, bound_same}
 use Rattle.pliron_rewrite_inlining.proofs.Effects.{with_effects, with_world}
-use Rattle.pliron_rewrite_inlining.proofs.Running.{data_length, binds, bound_read}
+use Rattle.pliron_rewrite_inlining.proofs.Running.{binds, bound_read}
 use Rattle.pliron_rewrite_inlining.proofs.Entering.{entered, jumped}
 
 module _ (m : Meaning) (c : CallingConvention) (t u : Tree) (x : InlinedCall) (symbol : Datum) (w : IsTree t) (w' : IsTree u) (h : IsCallInlined m c t u x symbol) where
@@ -54,7 +55,7 @@ module _ (m : Meaning) (c : CallingConvention) (t u : Tree) (x : InlinedCall) (s
       (g_rest : g.rest ≡ x.call ∷ x.jump ∷ []) (g_memo : g.memo ≡ Empty) (g_answer : g.answer ≡ None)
       (gs : List Datum) (g_has : data_of g.environment (operands_of t x.call) ≡ Some gs) (g_inner : Waiting) (g_others : List Waiting) (g_waits : g.waiting ≡ g_inner ∷ g_others) (quiet : s'.world ≡ []) where
     counted : length ds ≡ length (results_of t x.call)
-    counted = data_length s.environment (operands_of t (x.originals.operation k)) ds has ∙ ap length y.operands ∙ length-map (operands_of u k) x.originals.value ∙ y.count
+    counted = data_long s.environment (operands_of t (x.originals.operation k)) ds has ∙ ap length y.operands ∙ length-map (operands_of u k) x.originals.value ∙ y.count
 
     -- ---- the callee
 
@@ -71,7 +72,7 @@ module _ (m : Meaning) (c : CallingConvention) (t u : Tree) (x : InlinedCall) (s
     unfolding step
     leaving = ap (step_at m t s) (r.place ∙ ap (map x.originals.operation) rest_is) ∙ ap (turn m t s (x.originals.operation k) []) return_at
         ∙ ap (move m t s return_op (x.originals.operation k) []) (ap (input_of s.environment return_op.operands) (r.answer ∙ answer_is) ∙ has)
-        ∙ ap (perform t s return_op (x.originals.operation k) []) (ap (λ z. m.act (shape_of m t return_op) z ds) (r.memo ∙ memo_is) ∙ y.returns.leaves return_op return_at ds (data_length s.environment (operands_of t (x.originals.operation k)) ds has))
+        ∙ ap (perform t s return_op (x.originals.operation k) []) (ap (λ z. m.act (shape_of m t return_op) z ds) (r.memo ∙ memo_is) ∙ y.returns.leaves return_op return_at ds (data_long s.environment (operands_of t (x.originals.operation k)) ds has))
         ∙ ap (λ z. leave s z ds) r.waits
 
     ending : step m t left_state ≡ Over (Ended ds left_state.effects)
@@ -94,7 +95,7 @@ module _ (m : Meaning) (c : CallingConvention) (t u : Tree) (x : InlinedCall) (s
     unfolding step
     answering = ap (step_at m t (with_world g (c.answer_of ds))) g_rest ∙ ap (turn m t (with_world g (c.answer_of ds)) x.call (x.jump ∷ [])) call_at
         ∙ ap (move m t (with_world g (c.answer_of ds)) call_op x.call (x.jump ∷ [])) (ap (input_of g.environment call_op.operands) g_answer ∙ g_has)
-        ∙ ap (perform t (with_world g (c.answer_of ds)) call_op x.call (x.jump ∷ [])) (ap (λ z. m.act (shape_of m t call_op) z gs) g_memo ∙ h.calls.asks call_op call_at gs (data_length g.environment (operands_of t x.call) gs g_has))
+        ∙ ap (perform t (with_world g (c.answer_of ds)) call_op x.call (x.jump ∷ [])) (ap (λ z. m.act (shape_of m t call_op) z gs) g_memo ∙ h.calls.asks call_op call_at gs (data_long g.environment (operands_of t x.call) gs g_has))
 
     given_env : (env : Environment) × (bind g.environment (results_of t x.call) ds ≡ Some env)
     given_env = binds (results_of t x.call) ds g.environment counted

@@ -1,11 +1,11 @@
 -- What is known of a frame of a function that is fit to run, and of binding values.
-use Rattle.std.proofs.Common.{◌≡◌, inl, inr, ⊎_elim, ℕ, suc, List, [], ◌∷◌, length, Option, Some, None, refl, sym, ap, ap₂, ◌∙◌, subst, arith}
+use Rattle.std.proofs.Common.{◌≡◌, inl, inr, ℕ, List, [], ◌∷◌, length, Some, None, refl, sym, ap₂, ◌∙◌, subst, arith}
 use Rattle.pliron_core.specs.Lists.{IsDistinct}
-use Rattle.pliron_core.specs.Tree.{Tree, In, IsLive, IsInside, IsWithin, parent_operation_of, operands_of}
+use Rattle.pliron_core.specs.Tree.{Tree, IsLive, IsWithin}
 use Rattle.pliron_core.specs.Invariant.{IsTree}
-use Rattle.pliron_core.proofs.HoldingLemmas.{not_none, inside_up, holder_live}
+use Rattle.pliron_core.proofs.HoldingLemmas.{inside_up, holder_live}
 use Rattle.pliron_laws.specs.Datum.{Datum, Meaning}
-use Rattle.pliron_laws.specs.Machine.{Environment, Waiting, State, Next, Continues, environment_with, bind, prepend_optional, data_of, start, step}
+use Rattle.pliron_laws.specs.Machine.{Environment, State, Continues, environment_with, bind, prepend_optional, data_of, start, step}
 use Rattle.pliron_laws.proofs.BindingLemmas.{bind_other, bound_it}
 use Rattle.pliron_theory.specs.Keeps.{IsFit}
 use Rattle.pliron_theory.proofs.Simulation.{IfGoes}
@@ -36,15 +36,6 @@ module _ (m : Meaning) (t : Tree) (w : IsTree t) (root : ℕ) (fit : IsFit m t r
   pub live_on : (s : State) → OnWay s → (k : ℕ) (rest : List ℕ) → s.rest ≡ k ∷ rest → IsLive t k
   unfolding IsOnWay
   live_on s o k rest e = live_within k (at_within t w root s.environment o.holder k rest (subst (IsAt t root s.environment o.holder) e o.place.0))
-
-pub data_length : (env : Environment) (vs : List ℕ) (ds : List Datum) → data_of env vs ≡ Some ds → length ds ≡ length vs
-data_length env [] ds e = let f : [] ≡ ds = cc in ap length (sym f)
-data_length env (v ∷ vs) ds e = go (env v) (data_of env vs) refl e (λ bs hb. data_length env vs bs hb)
-  where
-    go : (a : Option Datum) (b : Option (List Datum)) → data_of env vs ≡ b → prepend_optional a b ≡ Some ds → ((bs : List Datum) → data_of env vs ≡ Some bs → length bs ≡ length vs) → length ds ≡ suc (length vs)
-    go None b hb q again = absurd (not_none q)
-    go (Some d) None hb q again = absurd (not_none q)
-    go (Some d) (Some bs) hb q again = let f : d ∷ bs ≡ ds = cc in ap length (sym f) ∙ ap suc (again bs hb)
 
 pub binds : (vs : List ℕ) (ds : List Datum) (env : Environment) → length ds ≡ length vs → (env1 : Environment) × (bind env vs ds ≡ Some env1)
 binds [] [] env e = (env, refl)

@@ -8,14 +8,14 @@
 
 ghost use Rattle.pliron_rewrite_inlining.specs.InliningLaws.{InliningKeepsLaw, InliningLaw, LinkedByLaws};
 
-/// A call may become a jump to a copy of its callee's blocks, in which returns jump to what stands behind the call:
-/// linked runs show the same, with recursion, and with callbacks by the world.
+/// A call may become a jump to a copy of its callee's blocks. In the place of each return the copy jumps to what
+/// stands behind the call. Linked runs show the same, with recursion, and with callbacks by the world.
 pub fn calls_are_inlined()
     ensures { InliningLaw }
 {}
 
-/// "Linked runs are kept where these names stand for these functions" follows where they are kept at all, as after
-/// passes. It is transitive, and more names may be asked for.
+/// "Linked runs are kept by linkers of these names" is transitive. It follows from "linked runs are kept", which
+/// passes promise, and holds of more names.
 pub fn linked_runs_kept_by_name()
     ensures { LinkedByLaws }
 {}

@@ -1,7 +1,9 @@
 //! The laws on linked runs and on rewrite rules.
 use pliron_dialect_bench::Bench;
 use pliron_pass_linked::{linked_runs_agree, linked_runs_agree_on_inputs, linked_runs_kept};
-use pliron_rewrite_inlining::{calls_are_inlined, inlined_calls_keep_linked_runs, linked_runs_kept_by_name};
+use pliron_rewrite_inlining::{
+    calls_are_inlined, inlined_calls_keep_linked_runs, linked_runs_kept_by_name,
+};
 use pliron_rewrite_rules::{
     equal_values_replace_one_another, leaves_replace_results, operations_are_inserted,
     results_before_replace_results,

@@ -235,7 +235,7 @@ impl<N: Shown> Stages<'_, N> {
     ) -> Result<IRStatus, OptError> {
         let op = subject.op;
         let alloc = self.alloc;
-        let Some(mut step) = PassStep::<N::D, BenchFacts>::from_name(name) else {
+        let Some(mut step) = PassStep::<N::D, BenchFacts, N::Rules>::from_name(name) else {
             return Ok(IRStatus::Unchanged);
         };
         if !op.is_live(ctx) || !is_well_linked::<N::D>(op, ctx) {

@@ -12,10 +12,12 @@ use pliron_core::{Children, Context, IRRewriter, IRStatus, Operation, Ptr};
 use pliron_laws::{Dialect, OptError, is_well_linked};
 use pliron_opt_canonicalize::canonicalize;
 use pliron_opt_cfg::{fold_branches, merge_inside_op, remove_blocks_inside_op};
+use pliron_opt_combine::combine;
 use pliron_opt_cse::cse;
 use pliron_opt_dce::dce;
 use pliron_opt_sccp::sccp;
-use pliron_pass_pipeline::PassName;
+use pliron_pass_pipeline::{MAX_REWRITES, PassName};
+use pliron_rewrite_rules::Rules;
 use pliron_show::{Shown, read_shown};
 use pliron_show_places::TextParts;
 use std::alloc::{AllocError, Global};
@@ -29,6 +31,7 @@ fn rewrites_of(pass: PassName) -> &'static [Rewrite] {
         PassName::SimplifyCfg => &[Rewrite::Branches, Rewrite::Unreachable, Rewrite::Joining],
         PassName::Cse => &[Rewrite::Subexpressions],
         PassName::Canonicalize => &[Rewrite::Canonicalization],
+        PassName::Combine => &[Rewrite::Combination],
     }
 }
 
@@ -40,11 +43,12 @@ fn name_of(pass: PassName) -> &'static str {
         PassName::SimplifyCfg => "simplify-cfg",
         PassName::Cse => "cse",
         PassName::Canonicalize => "canonicalize",
+        PassName::Combine => "combine",
     }
 }
 
 // Makes one rewrite of a pass, by the call that the pass makes. Errors: those of that call.
-fn make_rewrite<D: Dialect>(
+fn make_rewrite<D: Dialect, L: Rules<D>>(
     alloc: Global,
     rewrite: Rewrite,
     op: Ptr<Operation>,
@@ -64,6 +68,14 @@ fn make_rewrite<D: Dialect>(
         Rewrite::Joining => merge_inside_op::<D, IRRewriter>(alloc, op, ctx, &mut rewriter),
         Rewrite::Subexpressions => cse::<D>(alloc, op, ctx),
         Rewrite::Canonicalization => canonicalize::<D>(alloc, op, ctx),
+        Rewrite::Combination => {
+            let combined = combine::<D, L>(alloc, op, MAX_REWRITES, ctx)?;
+            Ok(if combined.count == 0 {
+                IRStatus::Unchanged
+            } else {
+                IRStatus::Changed
+            })
+        }
     }
 }
 
@@ -112,7 +124,7 @@ impl<N: Shown> Explaining<'_, N> {
             return Ok(IRStatus::Unchanged);
         }
         let before = tree_state(self.alloc, op, ctx)?;
-        let status = make_rewrite::<N::D>(self.alloc, rewrite, op, ctx)?;
+        let status = make_rewrite::<N::D, N::Rules>(self.alloc, rewrite, op, ctx)?;
         if status == IRStatus::Changed {
             self.accept(pass, rewrite, &before, ctx)?;
         }

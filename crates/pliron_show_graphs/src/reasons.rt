@@ -26,6 +26,8 @@ pub enum Rewrite {
     Subexpressions,
     /// Results and arguments are replaced by the values that they equal.
     Canonicalization,
+    /// What rules build has the uses of results.
+    Combination,
 }
 
 /// What is reported of one operation or argument.
@@ -259,9 +261,11 @@ impl<N: Shown> Reasons<'_, N> {
             let state = &before.operations[i];
             match (self.rewrite, state.op.is_live(ctx), state.successor) {
                 (Rewrite::Constants, true, _) => self.note_constants(ctx, state)?,
-                (Rewrite::Subexpressions | Rewrite::Canonicalization, true, _) => {
-                    self.note_replacements(ctx, state)?
-                }
+                (
+                    Rewrite::Subexpressions | Rewrite::Canonicalization | Rewrite::Combination,
+                    true,
+                    _,
+                ) => self.note_replacements(ctx, state)?,
                 (Rewrite::Joining, false, Some(target)) => {
                     self.branches.insert(target, i)?;
                 }
@@ -374,6 +378,19 @@ impl<N: Shown> Reasons<'_, N> {
         Ok(())
     }
 
+    // Adds that a result has no uses any more, as a rule gave them to another value.
+    fn push_rewritten(&self, state: &OperationState, why: &mut String) -> Result<(), AllocError> {
+        let is_rewritten = state
+            .results
+            .iter()
+            .any(|value| self.replacements.contains_key(value));
+        if is_rewritten {
+            part_phrases(why)?;
+            why.push_str("rewritten by a rule")?;
+        }
+        Ok(())
+    }
+
     // Adds which values the results of a live operation are, where their uses were replaced by uses of those.
     fn push_folded(
         &self,
@@ -381,6 +398,9 @@ impl<N: Shown> Reasons<'_, N> {
         state: &OperationState,
         why: &mut String,
     ) -> Result<(), AllocError> {
+        if self.rewrite == Rewrite::Combination {
+            return self.push_rewritten(state, why);
+        }
         if self.rewrite != Rewrite::Canonicalization {
             return Ok(());
         }

@@ -4,6 +4,7 @@ use pliron_dialect_mlir::{AnyMeaning, Mlir};
 use pliron_driver::Notation;
 use pliron_driver_mlir::{ClosedForm, ModuleDocument, ModuleFailure, ModuleFault};
 use pliron_laws::OptError;
+use pliron_mlir_rules::MlirRules;
 use pliron_text_mlir_syntax::Sheet;
 use std::alloc::Global;
 use std::marker::PhantomData;
@@ -13,6 +14,8 @@ pub struct MlirNotation(PhantomData<Sheet>);
 
 impl Notation for MlirNotation {
     type D = Mlir<AnyMeaning>;
+
+    type Rules = MlirRules;
 
     type Sheet = Sheet;
 

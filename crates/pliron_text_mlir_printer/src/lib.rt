@@ -4,6 +4,7 @@
 mod comparison;
 mod constants;
 mod naming;
+mod operations;
 mod printer;
 
 pub use comparison::{ModuleView, is_same_module};

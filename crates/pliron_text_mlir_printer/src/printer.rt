@@ -3,6 +3,7 @@ use crate::constants::{
     datum_of, dialect_of, form_of_datum, form_of_head, type_of_datum, write_constant, write_number,
 };
 use crate::naming::{ByHandle, Naming};
+use crate::operations::IntegerOperation;
 use pliron_core::{BasicBlock, Context, Def, Head, Operation, Ptr, Region, Value};
 use pliron_dialect_mlir::{Class, class_of_head, count_of_edge};
 use pliron_text_mlir_syntax::{OperationForm, Sheet};
@@ -32,7 +33,7 @@ struct ModulePrinter<'s, G> {
     items: Vec<Item>,
 }
 
-/// Prints a module as the sheet says: values and blocks are named by their handles, and what has no form, since folding
+/// Prints a module as the sheet says: values and blocks are named by their handles, and what has no form, since a pass
 /// made it, is printed in the dialect of the function around.
 ///
 /// Errors: allocation failure. Cost: linear in what is printed.
@@ -149,7 +150,7 @@ impl<G: Naming> ModulePrinter<'_, G> {
         match form_of_head(op.head(ctx), self.sheet) {
             Some(form) if form.is_whole => self.whole(form),
             Some(form) => self.by_form(op, form, ctx),
-            None => self.folded_operation(op, ctx),
+            None => self.made_operation(op, ctx),
         }
     }
 
@@ -345,17 +346,43 @@ impl<G: Naming> ModulePrinter<'_, G> {
         if let Some(text) = self.sheet.type_of(value.key()) {
             return self.text(text);
         }
-        let datum = match maker(value, ctx) {
-            Some(head) => datum_of(head),
-            None => None,
-        };
-        type_of_datum(datum, self.sheet, &mut self.out)
+        match maker(value, ctx) {
+            Some(head) => self.type_made(head),
+            None => Ok(()),
+        }
     }
 
-    // An operation that folding made.
-    fn folded_operation(&mut self, op: Ptr<Operation>, ctx: &Context) -> Result<(), AllocError> {
+    // The type of what an operation with this head makes, which a pass made.
+    fn type_made(&mut self, head: &Head) -> Result<(), AllocError> {
+        match IntegerOperation::of_head(head) {
+            Some(operation) => operation.write_result(&mut self.out),
+            None => type_of_datum(datum_of(head), self.sheet, &mut self.out),
+        }
+    }
+
+    // An operation on integers that a pass made.
+    fn integer_operation(
+        &mut self,
+        op: Ptr<Operation>,
+        operation: IntegerOperation,
+        ctx: &Context,
+    ) -> Result<(), AllocError> {
+        let dialect = dialect_of(op, self.sheet, ctx);
+        operation.write_name(dialect, &mut self.out)?;
+        self.edges(op, ctx)?;
+        operation.write_properties(dialect, &mut self.out)?;
+        self.operand_types(op, ctx)?;
+        operation.write_result(&mut self.out)?;
+        self.text(b"\n")
+    }
+
+    // An operation that a pass made.
+    fn made_operation(&mut self, op: Ptr<Operation>, ctx: &Context) -> Result<(), AllocError> {
         if !op.is_live(ctx) {
             return Ok(());
+        }
+        if let Some(operation) = IntegerOperation::of_head(op.head(ctx)) {
+            return self.integer_operation(op, operation, ctx);
         }
         let dialect = dialect_of(op, self.sheet, ctx);
         match datum_of(op.head(ctx)) {

@@ -105,15 +105,15 @@ fn with_status(mut text: Vec<u8>, status: IRStatus) -> Result<Vec<u8>, AllocErro
 /// Errors: those of the passes and of the notation. Cost: reading, the passes and printing.
 pub fn optimise_text<N: Notation>(
     alloc: Global,
-    mut pipeline: PassPipeline<N::D, BenchFacts>,
+    mut pipeline: PassPipeline<N::D, BenchFacts, N::Rules>,
     text: &[u8],
 ) -> Result<Option<Vec<u8>>, OptError>
     ensures { IfOk result (λ found. IfSome found (λ answer. IsOptimised N.reads N.prints N.D.meaning
-        (RunsAlone ⟦<BenchFactKind as PartialEq>⟧.eq ⟦<PassPipeline<N::D, BenchFacts> as Pass>⟧.outcome pipeline)
-        text.now answer.items)) }
+        (RunsAlone ⟦<BenchFactKind as PartialEq>⟧.eq ⟦<PassPipeline<N::D, BenchFacts, N::Rules> as Pass>⟧.outcome
+        pipeline) text.now answer.items)) }
 {
     let mut nothing = Unobserved;
-    match optimise::<N, PassStep<N::D, BenchFacts>, Unobserved>(
+    match optimise::<N, PassStep<N::D, BenchFacts, N::Rules>, Unobserved>(
         alloc,
         &mut pipeline,
         text,

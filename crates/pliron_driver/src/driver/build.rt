@@ -7,6 +7,7 @@ use crate::program::PipelineText;
 use pliron_laws::Dialect;
 use pliron_pass::{BenchFacts, Either, NestedOpsPass, Pass, Passes, Repeat};
 use pliron_pass_pipeline::{PassStep, Pipeline, Round, Step};
+use pliron_rewrite_rules::Rules;
 use std::alloc::{AllocError, Global};
 use std::marker::PhantomData;
 
@@ -22,12 +23,12 @@ pub trait StepFactory {
 
 /// Makes the passes of a dialect as they are.
 #[derive(Drop)]
-pub struct PlainPasses<D>(pub PhantomData<D>);
+pub struct PlainPasses<D, L>(pub PhantomData<(D, L)>);
 
-impl<D: Dialect> StepFactory for PlainPasses<D> {
-    type S = PassStep<D, BenchFacts>;
+impl<D: Dialect, L: Rules<D>> StepFactory for PlainPasses<D, L> {
+    type S = PassStep<D, BenchFacts, L>;
 
-    fn step(&self, _: Global, name: &str) -> Option<PassStep<D, BenchFacts>> {
+    fn step(&self, _: Global, name: &str) -> Option<PassStep<D, BenchFacts, L>> {
         PassStep::from_name(name)
     }
 }

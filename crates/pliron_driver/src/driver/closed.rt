@@ -16,6 +16,8 @@ pub struct Closed<N>(PhantomData<N>);
 impl<N: Notation> Notation for Closed<N> {
     type D = N::D;
 
+    type Rules = N::Rules;
+
     type Sheet = N::Sheet;
 
     type Fault = N::Fault;

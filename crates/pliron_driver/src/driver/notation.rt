@@ -7,10 +7,13 @@ ghost use Rattle.pliron_driver.specs.Answered.{Reads, Prints};
 ghost use Rattle.pliron_dialect.specs.Roles.{meaning_by, role_at, allows_at};
 ghost use Rattle.pliron_driver.specs.Read.{ReadsBench, ReadsKinds, PrintsBench, PrintsKinds};
 
+use pliron_bench_rules::BenchRules;
 use pliron_core::{Context, Operation, Ptr};
 use pliron_dialect::ByRoles;
 use pliron_dialect_bench::Bench;
 use pliron_laws::{Dialect, OptError};
+use pliron_pass_pipeline::NoRules;
+use pliron_rewrite_rules::Rules;
 use pliron_text::{Grammar, print_operation, print_text, read_operation, read_text};
 use std::alloc::Global;
 use std::marker::PhantomData;
@@ -43,6 +46,9 @@ pub struct Document<S> {
 /// relation of that notation between texts and trees, whatever it is.
 pub trait Notation {
     type D: Dialect;
+
+    /// The rules of the pass `combine`.
+    type Rules: Rules<Self::D>;
 
     /// What a text says beside the tree.
     type Sheet: Drop;
@@ -130,6 +136,8 @@ pub struct BenchNotation;
 impl Notation for BenchNotation {
     type D = Bench;
 
+    type Rules = BenchRules;
+
     type Sheet = ();
 
     type Fault = ();
@@ -162,6 +170,8 @@ pub struct KindNotation<K>(PhantomData<K>);
 
 impl<K: Grammar> Notation for KindNotation<K> {
     type D = ByRoles<K>;
+
+    type Rules = NoRules;
 
     type Sheet = ();
 

@@ -15,3 +15,6 @@ returns-in-Cse-clause-outcome g c = rw c.in-Cse.is (refl, c.run-in-Cse.ensures.o
 
 pub returns-in-Canonicalize-clause-outcome : goal.returns-in-Canonicalize-clause-outcome
 returns-in-Canonicalize-clause-outcome g c = rw c.in-Canonicalize.is (refl, c.run-in-Canonicalize.ensures.outcome)
+
+pub returns-in-Combine-clause-outcome : goal.returns-in-Combine-clause-outcome
+returns-in-Combine-clause-outcome g c = rw c.in-Combine.is (refl, c.run-in-Combine.ensures.outcome)
