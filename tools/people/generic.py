@@ -5,8 +5,8 @@ from dataclasses import dataclass, field
 import notation
 from notation import Block, blocks_of, made_in, regions, smaller, values_of, walk
 
-# what a text without comments is made of: strings, arrows, brackets, commas and ends of lines
-PIECE = re.compile(r'"(?:[^"\\]|\\.)*"|->|[()\[\]{}<>,\n]')
+# what a text without comments is made of: strings, arrows, comparisons, brackets, commas and ends of lines
+PIECE = re.compile(r'"(?:[^"\\]|\\.)*"|->|[<>]=|[()\[\]{}<>,\n]')
 # a bracket without others in it, and what has none
 FLAT = re.compile(r'[(\[{<][^()\[\]{}<>"]*[)\]}>]')
 PLAIN = re.compile(r'[^()\[\]{}<>"]*')
@@ -31,7 +31,9 @@ LOOSE = re.compile(
 
 
 class Value(str):
-    """The name of a value, with its type; that of an argument has the location behind it."""
+    """The name of a value, with its type, and with the location of an argument."""
+
+    location = ""
 
     def __new__(cls, name, kind):
         value = super().__new__(cls, name)
