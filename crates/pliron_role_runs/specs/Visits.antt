@@ -6,7 +6,7 @@ use Rattle.pliron_laws.specs.Datum.{Datum, Empty, Number, Text, Join, Shape, Mov
 use Rattle.pliron_laws.specs.Laws.{CountsFit}
 use Rattle.pliron_laws.specs.Acting.{Comes}
 use Rattle.pliron_laws.specs.Acting.Comes.{Begins, Answered, AnsweredByWorld}
-use Rattle.pliron_dialect.specs.Roles.{Role, Allows, NamesFit}
+use Rattle.pliron_dialect.specs.Roles.{Role, Allows, NamesFit, chain_of, data_in}
 use Rattle.pliron_role_runs.specs.Numbers.{whole_number_of, wrapped_sum, condition_of}
 
 -- the memo after a first transition
@@ -56,17 +56,6 @@ once_fits b s (Number n) move after x y = y
 once_fits b s (Text t) move after x y = y
 once_fits b s (Join d e) move after x y = y
 
--- data as one datum, and as data again
-abbrev pub chain_of : List Datum → Datum
-chain_of [] = Empty
-chain_of (d ∷ ds) = Join d (chain_of ds)
-
-abbrev pub data_of_chain : Datum → List Datum
-data_of_chain (Join d e) = d ∷ data_of_chain e
-data_of_chain Empty = []
-data_of_chain (Number n) = []
-data_of_chain (Text s) = []
-
 -- ---- operations that ask the world
 
 -- the world is asked by an effect that has this name and the operands; its answer is the first result, the others are 0
@@ -89,7 +78,7 @@ operands_from place operands region argument = operand_from place operands argum
 -- between visits the memo is a stage beside the operands; at first it is empty, and the input is the operands
 abbrev pub kept_operands : Datum → List Datum → List Datum
 kept_operands Empty input = input
-kept_operands (Join stage kept) input = data_of_chain kept
+kept_operands (Join stage kept) input = data_in kept
 kept_operands (Number n) input = []
 kept_operands (Text s) input = []
 
@@ -149,7 +138,7 @@ counted_loop = turning 1 counted_turns
 
 -- ---- what they owe
 
-data-of-chain : (ds : List Datum) → data_of_chain (chain_of ds) ≡ ds
+data-of-chain : (ds : List Datum) → data_in (chain_of ds) ≡ ds
 data-of-chain [] = refl
 data-of-chain (d ∷ ds) = ap (λ z. d ∷ z) (data-of-chain ds)
 

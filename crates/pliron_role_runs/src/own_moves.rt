@@ -2,10 +2,10 @@
 ghost use Rattle.std.specs.Prelude.{◌≡◌, ◌++◌, pos, int_lt, map, drop, IfOk};
 ghost use Rattle.pliron_laws.specs.Datum.{Give, Leave};
 ghost use Rattle.pliron_evaluator.specs.Evaluator.{datum_of_value, move_of};
-ghost use Rattle.pliron_dialect.specs.Roles.{is_zero};
+ghost use Rattle.pliron_dialect.specs.Roles.{is_zero, chain_of as chain_in, data_in};
 ghost use Rattle.pliron_role_runs.specs.Numbers.{condition_of, edge_by_condition};
 ghost use Rattle.pliron_role_runs.specs.Visits.{once, fit_data, first_or_zero, visit_of, visit_keeping as visit_with, ask_world as ask_by};
-ghost use Rattle.pliron_role_runs.specs.Visits.{chain_of as chain_in, data_of_chain as data_in, kept_operands, stage_of, last_answer, turn_move};
+ghost use Rattle.pliron_role_runs.specs.Visits.{kept_operands, stage_of, last_answer, turn_move};
 ghost use Rattle.pliron_role_runs.specs.Visits.{turns_left as left_of, again_if, counted_loop as counted_by};
 ghost use Rattle.pliron_role_runs.specs.OwnMoves.{shape_of_counts, turn_of};
 
