@@ -5,21 +5,21 @@ ghost use Rattle.std.specs.Prelude.{length};
 ghost use Rattle.pliron_text_llvm_reader.specs.TokenLists.{AreTokens, AreTokens-prop};
 
 use crate::words::{is_type_word, is_value_word};
-use pliron_text_llvm_syntax::{Bracket, Span, Token, TokenKind, bytes_of};
+use pliron_text_llvm_syntax::{Bracket, ByteSpan, LlvmToken, TokenKind, bytes_of};
 
 /// What is left of a statement.
 #[doc(hidden)]
 #[derive(Clone, Copy)]
-pub struct Cursor<'t> {
+pub struct StatementCursor<'t> {
     text: &'t [u8],
     /// The tokens that are left.
-    tokens: &'t [Token],
+    tokens: &'t [LlvmToken],
     /// Where the last token ended that was taken.
     end: usize,
     ghost order: { AreTokens end (length text.now) tokens.now } by { AreTokens-prop end (length text.now) tokens.now },
 }
 
-impl<'t> Cursor<'t> {
+impl<'t> StatementCursor<'t> {
     ghost use Rattle.std.specs.Prelude.{◌≡◌, ◌<◌, ◌≤◌, [], drop, slice_get, Some, IsSome};
     ghost use Rattle.std.specs.Bool.{OnTrue, OnFalse};
     ghost use Rattle.pliron_text_llvm_syntax.specs.Tokens.{bytes_of_span};
@@ -31,13 +31,13 @@ impl<'t> Cursor<'t> {
 
     /// All of these tokens are left, from this byte on. Asks that they are tokens of the text from there on, in their
     /// order. Cost: constant.
-    pub fn new(text: &'t [u8], tokens: &'t [Token], start: usize) -> Self
+    pub fn new(text: &'t [u8], tokens: &'t [LlvmToken], start: usize) -> Self
         requires { AreTokens start (length text.now) tokens.now }
         ensures text { text_of result ≡ text.now }
         ensures tokens { tokens_of result ≡ tokens.now }
         ensures end { result.end ≡ start }
     {
-        Cursor {
+        StatementCursor {
             text,
             tokens,
             end: start,
@@ -45,13 +45,13 @@ impl<'t> Cursor<'t> {
     }
 
     // These tokens are left behind this byte.
-    fn behind(&self, tokens: &'t [Token], end: usize) -> Self
+    fn behind(&self, tokens: &'t [LlvmToken], end: usize) -> Self
         requires { AreTokens end (length (text_of self.now)) tokens.now }
         ensures text { text_of result ≡ text_of self.now }
         ensures tokens { tokens_of result ≡ tokens.now }
         ensures end { result.end ≡ end }
     {
-        Cursor {
+        StatementCursor {
             text: self.text,
             tokens,
             end,
@@ -116,10 +116,10 @@ impl<'t> Cursor<'t> {
     }
 
     /// What was taken since this place. Cost: constant.
-    pub fn since(&self, start: usize) -> Span
+    pub fn since(&self, start: usize) -> ByteSpan
         ensures { result ≡ span_between start self.now.end }
     {
-        Span {
+        ByteSpan {
             start,
             end: self.end,
         }

@@ -1,10 +1,10 @@
 -- The token that a text begins with.
-use Rattle.std.specs.Prelude.{◌==◌, ◌&&◌, ◌||◌, ◌≡◌, ◌+◌, ◌-◌, ℕ, suc, Bool, false, not, nat_lt, List, [], ◌∷◌, length, take, drop, take_while, slice_get, Option, Some, None, unwrap_or, if◌then◌else◌}
+use Rattle.std.specs.Prelude.{◌==◌, ◌&&◌, ◌||◌, ◌≡◌, ◌+◌, ◌-◌, ℕ, suc, Bool, false, true, not, nat_lt, List, [], ◌∷◌, length, take, drop, take_while, slice_get, Option, Some, None, unwrap_or, if◌then◌else◌}
 use Rattle.std.specs.Option.{option_map, option_or}
 use Rattle.std.specs.Char.{is_ascii_digit}
 use Rattle.pliron_text_llvm_syntax.specs.declared.tokens.Bracket.TheVariants.{Round, Square, Brace, Angle}
 use Rattle.pliron_text_llvm_syntax.specs.declared.tokens.First.{First}
-use Rattle.pliron_text_llvm_syntax.specs.declared.tokens.Token.{Token}
+use Rattle.pliron_text_llvm_syntax.specs.declared.tokens.LlvmToken.{LlvmToken}
 use Rattle.pliron_text_llvm_syntax.specs.declared.tokens.TokenKind.{TokenKind}
 use Rattle.pliron_text_llvm_syntax.specs.declared.tokens.TokenKind.TheVariants.{Trivia, Word, Label, Name, Text, Open, Close, Mark}
 use Rattle.pliron_text_llvm_syntax.specs.Tokens.{is_blank, is_line_end, is_word_byte}
@@ -175,6 +175,24 @@ first_token (first ∷ behind) =
     option_or (option_map (λ kind. first_with kind 1) (kind_of_byte first)) (longer_token first behind)
 
 -- the token that the text has at this byte
-abbrev pub IsLexedAt : List ℕ → ℕ → Token → Type 0
+abbrev pub IsLexedAt : List ℕ → ℕ → LlvmToken → Type 0
 IsLexedAt text at token =
     (token.span.start ≡ at) × (first_token (drop at text) ≡ Some (first_with token.kind (token.span.end - at)))
+
+-- ---- what stands between tokens
+
+-- blanks or a comment
+abbrev pub is_trivia : TokenKind → Bool
+is_trivia Trivia = true
+is_trivia _ = false
+
+-- from `start` up to a byte there are blanks and comments alone
+pub data AreBlanks (text : List ℕ) (start : ℕ) : ℕ → Type 0 where
+  Nothing : AreBlanks text start start
+  More : {at : ℕ} (token : LlvmToken)
+      → AreBlanks text start at → IsLexedAt text at token → is_trivia token.kind ≡ true → AreBlanks text start token.span.end
+
+-- where a token begins; where there is none, the end
+abbrev pub start_of : Option LlvmToken → ℕ → ℕ
+start_of None end = end
+start_of (Some token) end = token.span.start

@@ -2,7 +2,7 @@
 ghost use Rattle.std.specs.Prelude.{◌≡◌, ◌≤◌, ◌∷◌, [], if◌then◌else◌, slice_index_or, length, map, count_by, IfOk, IsTrue};
 ghost use Rattle.pliron_text_llvm_syntax.specs.Forms.{is_mark, mark_of_kind, form_behind, text_of_form, AreHoles, bytes_of_hole};
 
-use crate::tokens::{Span, bytes_of};
+use crate::tokens::{ByteSpan, bytes_of};
 use std::alloc::{AllocError, Global};
 use std::slice;
 
@@ -31,7 +31,7 @@ impl HoleKind {
 #[derive(Clone, Copy, Debug, Drop, PartialEq, Eq)]
 pub struct Hole {
     pub kind: HoleKind,
-    pub span: Span,
+    pub span: ByteSpan,
 }
 
 /// Whether the byte stands for an operand or a successor in a form. Cost: constant.
@@ -81,7 +81,7 @@ pub fn cut(alloc: Global, text: &[u8], holes: &[Hole]) -> Result<Vec<u8>, AllocE
     let mut form = Vec::with_capacity(alloc, text.len())?;
     let mut at = 0;
     for hole in holes {
-        let plain = Span {
+        let plain = ByteSpan {
             start: at,
             end: hole.span.start,
         };
@@ -90,7 +90,7 @@ pub fn cut(alloc: Global, text: &[u8], holes: &[Hole]) -> Result<Vec<u8>, AllocE
         form.push(hole.kind.mark())?;
         at = hole.span.end;
     }
-    let rest = Span {
+    let rest = ByteSpan {
         start: at,
         end: text.len(),
     };

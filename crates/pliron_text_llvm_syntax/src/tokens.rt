@@ -7,12 +7,12 @@ ghost use Rattle.pliron_text_llvm_syntax.specs.Lexing.{is_byte_at, with_colon, f
 ghost use Rattle.pliron_text_llvm_syntax.specs.Lexing.{first_comment, metadata_name_len, name_len, first_name, first_number, kind_of_open};
 ghost use Rattle.pliron_text_llvm_syntax.specs.Lexing.{kind_of_close, is_mark, kind_of_byte, is_sign_of_name, longer_token, first_token, IsLexedAt};
 
-use crate::fault::{Expected, Fault};
+use crate::fault::{ExpectedSyntax, LlvmFault};
 
 /// Some of the text: from the first byte on, up to the end, which is not in it.
 #[doc(hidden)]
 #[derive(Clone, Copy, Debug, Drop, PartialEq, Eq)]
-pub struct Span {
+pub struct ByteSpan {
     pub start: usize,
     pub end: usize,
 }
@@ -50,9 +50,9 @@ pub enum TokenKind {
 /// A token, and where it is.
 #[doc(hidden)]
 #[derive(Clone, Copy, Debug, Drop, PartialEq, Eq)]
-pub struct Token {
+pub struct LlvmToken {
     pub kind: TokenKind,
-    pub span: Span,
+    pub span: ByteSpan,
 }
 
 /// What a text begins with.
@@ -462,7 +462,7 @@ fn first_token(text: &[u8]) -> Option<First>
 
 /// The bytes of the span. Asks that it is in the text. Cost: constant.
 #[doc(hidden)]
-pub fn bytes_of(text: &[u8], span: Span) -> &[u8]
+pub fn bytes_of(text: &[u8], span: ByteSpan) -> &[u8]
     requires ordered { span.start ≤ span.end }
     requires within { span.end ≤ length text.now }
     ensures { result.now ≡ bytes_of_span text.now span }
@@ -471,18 +471,18 @@ pub fn bytes_of(text: &[u8], span: Span) -> &[u8]
 }
 
 // What is expected where no token begins with this byte.
-fn expected_at(byte: u8) -> Expected {
+fn expected_at(byte: u8) -> ExpectedSyntax {
     if byte == b'"' {
-        Expected::Text
+        ExpectedSyntax::Text
     } else {
-        Expected::Word
+        ExpectedSyntax::Word
     }
 }
 
 /// The token at this byte: blanks and comments are tokens too. Asks that the byte is in the text. Errors: none begins there, or its string doesn't end.
 /// Cost: linear in it.
 #[doc(hidden)]
-pub fn token_at(text: &[u8], at: usize) -> Result<Token, Fault>
+pub fn token_at(text: &[u8], at: usize) -> Result<LlvmToken, LlvmFault>
     requires { at < length text.now }
     ensures lexed { IfOk result (λ token. IsLexedAt text.now at token) }
     ensures token { IfOk result (λ token. IsTokenAt text.now at token) }
@@ -490,13 +490,13 @@ pub fn token_at(text: &[u8], at: usize) -> Result<Token, Fault>
     ensures fault { IfErr result (λ fault. IsFaultIn text.now fault) }
 {
     match first_token(&text[at..]) {
-        Some(First { kind, len }) => Ok(Token {
+        Some(First { kind, len }) => Ok(LlvmToken {
             kind,
-            span: Span {
+            span: ByteSpan {
                 start: at,
                 end: at + len,
             },
         }),
-        None => Err(Fault::Expected(at, expected_at(text[at]))),
+        None => Err(LlvmFault::Expected(at, expected_at(text[at]))),
     }
 }

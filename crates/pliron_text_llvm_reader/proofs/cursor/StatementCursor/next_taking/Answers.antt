@@ -1,13 +1,13 @@
 use Rattle.std.proofs.Common.{rules, ◌≡◌, List, ◌∷◌, length, sym, ap, ◌∙◌, subst}
 use Rattle.std.specs.Prelude.{reverse, Some}
 use Rattle.pliron_text_llvm_reader.specs.declared.rules.Rule.{Rule}
-use Rattle.pliron_text_llvm_reader.specs.declared.table.Step.{Step}
+use Rattle.pliron_text_llvm_reader.specs.declared.table.GrammarStep.{GrammarStep}
 use Rattle.pliron_text_llvm_reader.specs.Cursors.{text_of, tokens_of}
 use Rattle.pliron_text_llvm_reader.specs.Grammar.{move_of, move_of_rule, with_last}
 use Rattle.pliron_text_llvm_reader.specs.Grammar.Move.{Skipped, Taken}
 use Rattle.pliron_text_llvm_reader.specs.Readings.{Leads}
 use Rattle.pliron_text_llvm_reader.proofs.ReadingLemmas.{popped, skips_to, skips_step, emptied}
-use Rattle.pliron_text_llvm_reader.proofs.cursor.Cursor.next_taking.Goals as goal
+use Rattle.pliron_text_llvm_reader.proofs.cursor.StatementCursor.next_taking.Goals as goal
 
 pub returns-in-Take-clause-next : goal.returns-in-Take-clause-next
 returns-in-Take-clause-next c =
@@ -25,5 +25,5 @@ loop-step-preserved c =
 pub returns-clause-skips : goal.returns-clause-skips
 returns-clause-skips c = λ holes.
     let none : length c.loop-step.steps.items ≡ 0 = search rules in
-    subst (λ (xs : List Step). Leads (text_of c.args.self.now) c.args.reads (reverse c.args.steps.now.items) (tokens_of c.args.self.now) holes xs (tokens_of c.args.self.now) holes)
+    subst (λ (xs : List GrammarStep). Leads (text_of c.args.self.now) c.args.reads (reverse c.args.steps.now.items) (tokens_of c.args.self.now) holes xs (tokens_of c.args.self.now) holes)
     (emptied c.loop-step.steps.items none) (c.loop-step.invariant holes)

@@ -1,7 +1,7 @@
 use Rattle.std.proofs.Common.{rules, ◌∙◌, ap}
 use Rattle.pliron_text_llvm_reader.specs.Cursors.{place_of, span_between, HasNext}
 use Rattle.pliron_text_llvm_reader.proofs.CursorLemmas.{next_end}
-use Rattle.pliron_text_llvm_reader.proofs.cursor.Cursor.opcode.Goals as goal
+use Rattle.pliron_text_llvm_reader.proofs.cursor.StatementCursor.opcode.Goals as goal
 
 pub returns-clause-place : goal.returns-clause-place
 returns-clause-place c =

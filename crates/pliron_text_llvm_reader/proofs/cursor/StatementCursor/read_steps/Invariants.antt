@@ -4,7 +4,7 @@ use Rattle.std.specs.Prelude.{reverse}
 use Rattle.pliron_text_llvm_reader.specs.Cursors.{text_of, tokens_of, IsForward}
 use Rattle.pliron_text_llvm_reader.specs.Holes.{AreHolesBetween}
 use Rattle.pliron_text_llvm_reader.specs.Readings.{Leads}
-use Rattle.pliron_text_llvm_reader.proofs.cursor.Cursor.read_steps.Given as goal
+use Rattle.pliron_text_llvm_reader.proofs.cursor.StatementCursor.read_steps.Given as goal
 
 abbrev pub invariant-loop-taking : goal.invariant-loop-taking
 invariant-loop-taking l =

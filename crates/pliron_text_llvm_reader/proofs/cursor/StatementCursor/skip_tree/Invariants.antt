@@ -1,7 +1,7 @@
 -- The cursor moves forward, up to the end of the brackets that are open.
 use Rattle.std.proofs.Common.{◌≡◌, ◌-◌, ◌≤◌, length}
 use Rattle.pliron_text_llvm_reader.specs.Cursors.{text_of, tokens_of, behind_brackets, end_of_brackets, behind_tree, end_of_tree, HasNext, IsForward, HasTaken}
-use Rattle.pliron_text_llvm_reader.proofs.cursor.Cursor.skip_tree.Given as goal
+use Rattle.pliron_text_llvm_reader.proofs.cursor.StatementCursor.skip_tree.Given as goal
 
 abbrev pub invariant-loop-depth : goal.invariant-loop-depth
 invariant-loop-depth l =
