@@ -18,3 +18,4 @@ pub use body::{BodyLine, BodyStatement, BodyStop, FunctionBody, read_body};
 pub use statement::{Statement, StatementRoom, read_statement};
 pub use stop::{KeptReason, StatementStop};
 pub use table::{Gives, GrammarStep, ListStep, OpcodeRow, Piece, Reads, StatementLayout};
+pub use tokens::push_tokens;
