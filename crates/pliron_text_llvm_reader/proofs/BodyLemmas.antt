@@ -2,7 +2,7 @@
 use Rattle.std.proofs.Common.{◌≡◌, ℕ, zero, suc, ◌+◌, ◌<◌, ◌≤◌, List, [], ◌∷◌, ◌++◌, length, get_or, take, map, sym, ap, ◌∙◌, subst, append_assoc, arith}
 use Rattle.std.proofs.lemmas.List.{take_more, length-map, length-take-le, map-append}
 use Rattle.pliron_text_llvm_syntax.specs.declared.lines.LineText.{LineText}
-use Rattle.pliron_text_llvm_syntax.specs.Lines.{span_of_line, AreLines}
+use Rattle.pliron_text_llvm_syntax.specs.Lines.{span_of_line, AreLines, AreGaps}
 use Rattle.pliron_text_llvm_reader.specs.declared.blocks.LineRole.{LineRole}
 use Rattle.pliron_text_llvm_reader.specs.declared.blocks.BlockLines.{BlockLines}
 use Rattle.pliron_text_llvm_reader.specs.declared.body.BodyLine.{BodyLine}
@@ -44,6 +44,12 @@ pub lines_within : (text before : List ℕ) (start end : ℕ) (lines read : List
 lines_within text before start end lines read e within h same =
     let long : length before ≡ end = ap length e ∙ length-take-le end text within in
     subst (AreLines start end) (sym same) (subst (λ n. AreLines start n lines) long h)
+
+-- what is outside lines of the text up to this byte
+pub gaps_within : (text before : List ℕ) (start end : ℕ) (lines read : List LineText) → before ≡ take end text → end ≤ length text → AreGaps before start (length before) lines → read ≡ lines → AreGaps (take end text) start end read
+gaps_within text before start end lines read e within h same =
+    let long : length before ≡ end = ap length e ∙ length-take-le end text within in
+    subst (AreGaps (take end text) start end) (sym same) (subst (λ t. AreGaps t start end lines) e (subst (λ n. AreGaps before start n lines) long h))
 
 -- blocks by the roles of lines are blocks of the lines
 pub blocks_read : (roles : List LineRole) (lines : List BodyLine) (blocks : List BlockLines) → roles ≡ map role_of_line lines → AreBlocks roles 0 (length roles) blocks → AreBlocks (map role_of_line lines) 0 (length lines) blocks

@@ -1,6 +1,6 @@
 //! Bodies of functions: statements with their operands and successors, and the blocks that they are in.
 ghost use Rattle.std.specs.Prelude.{◌≡◌, ◌≤◌, ◌++◌, length, map, take, IfOk, OnOk};
-ghost use Rattle.pliron_text_llvm_syntax.specs.Lines.{span_of_line, AreLines};
+ghost use Rattle.pliron_text_llvm_syntax.specs.Lines.{span_of_line, AreLines, AreGaps};
 ghost use Rattle.pliron_text_llvm_syntax.specs.declared.fault.LlvmFault.TheVariants.{NoMemory};
 ghost use Rattle.pliron_text_llvm_reader.specs.declared.body.BodyStop.TheVariants.{Broken};
 ghost use Rattle.pliron_text_llvm_reader.specs.Blocks.{AreBlocks};
@@ -225,16 +225,18 @@ fn block_stop(lines: &[BodyLine], end: usize, fault: BlockFault) -> BodyStop {
 }
 
 /// Reads what is between the brackets of a body: its lines, with the operands and successors of its statements, and its
-/// blocks, which are the lines.
+/// blocks, which are the lines. Outside the lines are only blanks and comments.
 ///
 /// Asks that it is in the text. Errors: a statement that isn't in the table, and so keeps its function as it is written;
 /// a token or a bracket is broken; there is no block, or a block without an end; allocation failure. Cost: linear in it.
 #[doc(hidden)]
-#[tactic(auto, using(crate::proofs::BodyLemmas::lines_lower, crate::proofs::BodyLemmas::lines_within, crate::proofs::BodyLemmas::blocks_read, crate::proofs::BodyLemmas::rows_none))]
+#[tactic(auto, using(crate::proofs::BodyLemmas::lines_lower, crate::proofs::BodyLemmas::lines_within, crate::proofs::BodyLemmas::gaps_within, crate::proofs::BodyLemmas::blocks_read, crate::proofs::BodyLemmas::rows_none))]
 pub fn read_body(alloc: Global, text: &[u8], inside: ByteSpan) -> Result<FunctionBody, BodyStop>
     requires ordered { inside.start ≤ inside.end }
     requires within { inside.end ≤ length text.now }
     ensures lines { IfOk result (λ body. AreLines inside.start inside.end (map line_of body.lines.items)) }
+    ensures gaps { IfOk result (λ body.
+        AreGaps (take inside.end text.now) inside.start inside.end (map line_of body.lines.items)) }
     ensures rows { IfOk result (λ body. AreRows (take inside.end text.now) body.lines.items body.holes.items) }
     ensures blocks { IfOk result (λ body.
         AreBlocks (map role_of_line body.lines.items) 0 (length body.lines.items) body.blocks.items) }
