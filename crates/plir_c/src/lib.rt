@@ -9,9 +9,9 @@ ghost use Rattle.pliron_driver.specs.Ran.{RunsAlone};
 ghost use Rattle.pliron_driver.specs.Read.{ReadsBench, PrintsBench, PrintsKinds};
 ghost use Rattle.pliron_driver_mlir.specs.Modules.{ReadsModule};
 ghost use Rattle.pliron_driver.specs.Closed.{closed_reads, closed_prints};
-ghost use Rattle.pliron_driver_buffers.specs.Faults.{nowhere, IsFaultPlace};
+ghost use Rattle.pliron_driver_buffers.specs.Faults.{no_place, IsFaultPlace};
 ghost use Rattle.pliron_driver_buffers.specs.Fills.{FillsBy};
-ghost use Rattle.pliron_driver_buffers.specs.Optimises.{Optimises, IsListed, Explains};
+ghost use Rattle.pliron_driver_buffers.specs.Optimises.{Optimises, IsListedPipeline, Explains};
 ghost use Rattle.pliron_driver_buffers.specs.Modules.{IsWord, OptimisesModule};
 
 use pliron_bench_rules::BenchRules;
@@ -60,7 +60,7 @@ pub extern "C" fn plir_optimise(
 ) -> u32
     ensures { FillsBy (Optimises (closed_reads ReadsBench) (closed_prints PrintsBench) bench
         (RunsAlone ⟦<BenchFactKind as PartialEq>⟧.eq ⟦<PassPipeline<Bench, BenchFacts, BenchRules> as Pass>⟧.outcome)
-        pipeline.now text.now) (Explains (IsListed (RunsAlone ⟦<BenchFactKind as PartialEq>⟧.eq
+        pipeline.now text.now) (Explains (IsListedPipeline (RunsAlone ⟦<BenchFactKind as PartialEq>⟧.eq
         ⟦<PassPipeline<Bench, BenchFacts, BenchRules> as Pass>⟧.outcome) pipeline.now)) output.old
         output.new needed.new result }
 {
@@ -98,8 +98,8 @@ pub extern "C" fn plir_find_fault(
     needed: &mut usize,
     place: &mut Place,
 ) -> u32
-    ensures fills { FillsBy (λ expected. place.new ≡ nowhere → expected ≡ [])
-        (λ failure. (failure ≡ CallFailure.Memory) × (place.new ≡ nowhere)) output.old output.new needed.new result }
+    ensures fills { FillsBy (λ expected. place.new ≡ no_place → expected ≡ [])
+        (λ failure. (failure ≡ CallFailure.Memory) × (place.new ≡ no_place)) output.old output.new needed.new result }
     ensures place { IsFaultPlace text.now place.new }
 {
     find_fault_into(alloc, text, output, needed, place).number()
@@ -143,8 +143,8 @@ pub extern "C" fn plir_find_fault_mlir(
     needed: &mut usize,
     place: &mut Place,
 ) -> u32
-    ensures fills { FillsBy (λ expected. place.new ≡ nowhere → expected ≡ [])
-        (λ failure. (failure ≡ CallFailure.Memory) × (place.new ≡ nowhere)) output.old output.new needed.new result }
+    ensures fills { FillsBy (λ expected. place.new ≡ no_place → expected ≡ [])
+        (λ failure. (failure ≡ CallFailure.Memory) × (place.new ≡ no_place)) output.old output.new needed.new result }
     ensures place { IsFaultPlace text.now place.new }
 {
     find_module_fault_into::<Mlir<AnyMeaning>>(alloc, text, output, needed, place).number()

@@ -5,7 +5,7 @@
 //! be written.
 #![tactic(auto)]
 
-use pliron_fuzz::{Subject, Tally, Verdict, judge};
+use pliron_fuzz::{FuzzSubject, Tally, Verdict, judge};
 use pliron_laws::OptError;
 use std::alloc::Global;
 use std::env;
@@ -25,30 +25,37 @@ fn numbers(rt: &HostRuntime) -> Option<(u64, u64)> {
 
 /// Why it ends early.
 #[derive(Drop)]
-enum Failure {
+enum FuzzFailure {
     Refused(OptError),
     Writing,
 }
 
 // Makes the text of this seed, judges it, and writes a line where the answer shows a fault.
-fn try_seed(rt: &HostRuntime, alloc: Global, seed: u64, tally: &mut Tally) -> Result<(), Failure> {
-    let subject = Subject::new(alloc, seed).map_err(|error| Failure::Refused(error.into()))?;
-    let verdict = judge(alloc, &subject).map_err(Failure::Refused)?;
+fn try_seed(
+    rt: &HostRuntime,
+    alloc: Global,
+    seed: u64,
+    tally: &mut Tally,
+) -> Result<(), FuzzFailure> {
+    let subject = FuzzSubject::new(alloc, seed).map_err(|error| FuzzFailure::Refused(
+        error.into(),
+    ))?;
+    let verdict = judge(alloc, &subject).map_err(FuzzFailure::Refused)?;
     tally.add(subject.kind, verdict);
     if let Verdict::Found(fault) = verdict {
-        let Subject { list, text, .. } = &subject;
-        println!(rt; "seed {seed}: {fault}: {list} :: {text}").map_err(|_| Failure::Writing)?;
+        let FuzzSubject { list, text, .. } = &subject;
+        println!(rt; "seed {seed}: {fault}: {list} :: {text}").map_err(|_| FuzzFailure::Writing)?;
     }
     Ok(())
 }
 
 // Tries the seeds, and writes the counts.
-fn try_seeds(rt: &HostRuntime, alloc: Global, first: u64, count: u64) -> Result<bool, Failure> {
+fn try_seeds(rt: &HostRuntime, alloc: Global, first: u64, count: u64) -> Result<bool, FuzzFailure> {
     let mut tally = Tally::new();
     for place in 0..count {
         try_seed(rt, alloc, first.wrapping_add(place), &mut tally)?;
     }
-    println!(rt; "{count} texts: {tally}").map_err(|_| Failure::Writing)?;
+    println!(rt; "{count} texts: {tally}").map_err(|_| FuzzFailure::Writing)?;
     Ok(tally.found == 0)
 }
 
@@ -60,10 +67,10 @@ fn main(rt: HostRuntime) -> ExitCode {
     match try_seeds(&rt, rt.alloc(), seed, count) {
         Ok(true) => ExitCode::from(0),
         Ok(false) => ExitCode::from(1),
-        Err(Failure::Refused(error)) => {
+        Err(FuzzFailure::Refused(error)) => {
             let _ = eprintln!(rt; "refused: {error}");
             ExitCode::from(1)
         }
-        Err(Failure::Writing) => ExitCode::from(2),
+        Err(FuzzFailure::Writing) => ExitCode::from(2),
     }
 }

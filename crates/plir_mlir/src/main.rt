@@ -8,7 +8,7 @@ ghost use Rattle.pliron_driver.specs.Ran.{RunsAlone};
 ghost use Rattle.pliron_driver.specs.Read.{PrintsKinds};
 ghost use Rattle.pliron_driver_mlir.specs.Modules.{ReadsModule};
 ghost use Rattle.pliron_driver.specs.Closed.{closed_reads, closed_prints};
-ghost use Rattle.pliron_driver_mlir.specs.Outcomes.{EndsOptimised, EndsByWord};
+ghost use Rattle.pliron_driver_mlir.specs.Outcomes.{EndsWithModule, EndsByWord};
 ghost use Rattle.pliron_driver_mlir.specs.Streams.{EndsOnStreams};
 
 mod command;
@@ -78,7 +78,7 @@ fn run_to<'r, R: Read>(
     file: Option<&str>,
 ) -> u8
     ensures { EndsOnStreams (λ text. EndsByWord ⟦<Instrumented<Form, ProcessClock<'r>> as Pass>⟧.name
-        (λ pipeline. EndsOptimised (closed_reads (ReadsModule ⟦<Mlir<AnyMeaning> as HasMeaning>⟧.meaning))
+        (λ pipeline. EndsWithModule (closed_reads (ReadsModule ⟦<Mlir<AnyMeaning> as HasMeaning>⟧.meaning))
         (closed_prints PrintsKinds) ⟦<Mlir<AnyMeaning> as HasMeaning>⟧.meaning (RunsAlone
         ⟦<BenchFactKind as PartialEq>⟧.eq ⟦<InstrumentedPipeline<Form, ProcessClock<'r>> as Pass>⟧.outcome pipeline)
         text) request.now.pipeline.now) (R.remaining input.old) None None result }

@@ -29,28 +29,28 @@ use std::time::Instant;
 
 /// Why it ends early.
 #[derive(Drop)]
-enum Failure {
+enum TimesFailure {
     Usage,
     Refused,
     Unreadable,
     Stream,
 }
 
-impl From<io::Error> for Failure {
-    fn from(_: io::Error) -> Failure {
-        Failure::Stream
+impl From<io::Error> for TimesFailure {
+    fn from(_: io::Error) -> TimesFailure {
+        TimesFailure::Stream
     }
 }
 
-impl From<OptError> for Failure {
-    fn from(_: OptError) -> Failure {
-        Failure::Refused
+impl From<OptError> for TimesFailure {
+    fn from(_: OptError) -> TimesFailure {
+        TimesFailure::Refused
     }
 }
 
-impl From<AllocError> for Failure {
-    fn from(_: AllocError) -> Failure {
-        Failure::Refused
+impl From<AllocError> for TimesFailure {
+    fn from(_: AllocError) -> TimesFailure {
+        TimesFailure::Refused
     }
 }
 
@@ -71,25 +71,25 @@ fn time_call(
     Ok(())
 }
 
-fn time_graph(rt: &HostRuntime, words: &[String]) -> Result<(), Failure> {
+fn time_graph(rt: &HostRuntime, words: &[String]) -> Result<(), TimesFailure> {
     if words.len() != 3 {
-        return Err(Failure::Usage);
+        return Err(TimesFailure::Usage);
     }
-    let shape = TimedShape::from_name(&words[0]).ok_or(Failure::Usage)?;
-    let count = words[1].parse::<usize>().map_err(|_| Failure::Usage)?;
-    let call = TimedCall::from_name(&words[2]).ok_or(Failure::Usage)?;
+    let shape = TimedShape::from_name(&words[0]).ok_or(TimesFailure::Usage)?;
+    let count = words[1].parse::<usize>().map_err(|_| TimesFailure::Usage)?;
+    let call = TimedCall::from_name(&words[2]).ok_or(TimesFailure::Usage)?;
     let rows = rows_of(rt.alloc(), shape, count)?;
     let mut size = count;
     for row in &rows {
         size = size.saturating_add(row.len());
     }
-    let graph = AdjacencyList::new(rt.alloc(), rows)?.ok_or(Failure::Usage)?;
+    let graph = AdjacencyList::new(rt.alloc(), rows)?.ok_or(TimesFailure::Usage)?;
     time_call(rt, call, &graph, size)?;
     Ok(())
 }
 
-fn run(rt: &HostRuntime, words: &[String]) -> Result<(), Failure> {
-    let (word, rest) = words.split_first().ok_or(Failure::Usage)?;
+fn run(rt: &HostRuntime, words: &[String]) -> Result<(), TimesFailure> {
+    let (word, rest) = words.split_first().ok_or(TimesFailure::Usage)?;
     if word.as_str() == "graph" {
         return time_graph(rt, rest);
     }
@@ -98,15 +98,15 @@ fn run(rt: &HostRuntime, words: &[String]) -> Result<(), Failure> {
         "passes" => {
             rt.stdin().read_to_end(&mut text)?;
             let length = length_after(rt.alloc(), rest, &text)?;
-            println!(rt; "{} bytes", length.ok_or(Failure::Unreadable)?)?;
+            println!(rt; "{} bytes", length.ok_or(TimesFailure::Unreadable)?)?;
         }
         "text" if rest.is_empty() => {
             rt.stdin().read_to_end(&mut text)?;
             let printed = print_again(rt.alloc(), &text)?;
             rt.stdout()
-                .write_all(printed.ok_or(Failure::Unreadable)?.as_bytes())?;
+                .write_all(printed.ok_or(TimesFailure::Unreadable)?.as_bytes())?;
         }
-        _ => return Err(Failure::Usage),
+        _ => return Err(TimesFailure::Usage),
     }
     Ok(())
 }
@@ -124,14 +124,14 @@ fn words_of(rt: &HostRuntime) -> io::Result<Vec<String>> {
 fn main(rt: HostRuntime) -> ExitCode {
     let ended = match words_of(&rt) {
         Ok(words) => run(&rt, &words),
-        Err(_) => Err(Failure::Stream),
+        Err(_) => Err(TimesFailure::Stream),
     };
     match ended {
         Ok(()) => ExitCode::from(0),
-        Err(Failure::Unreadable) => ExitCode::from(1),
-        Err(Failure::Refused) => ExitCode::from(1),
-        Err(Failure::Stream) => ExitCode::from(2),
-        Err(Failure::Usage) => {
+        Err(TimesFailure::Unreadable) => ExitCode::from(1),
+        Err(TimesFailure::Refused) => ExitCode::from(1),
+        Err(TimesFailure::Stream) => ExitCode::from(2),
+        Err(TimesFailure::Usage) => {
             let _ = eprintln!(rt;
                 "usage: plir_times graph SHAPE COUNT CALL, or passes NAME.., or text"
             );

@@ -16,9 +16,9 @@ use Rattle.pliron_dialect.specs.Roles.{number_of as number_of_datum, act_of, by_
 use Rattle.pliron_rewrite_rules.specs.Insertions.{pure_shape}
 use Rattle.pliron_dialect_bench.specs.declared.kind.BenchKind.{BenchKind}
 use Rattle.pliron_dialect_bench.specs.declared.kind.BenchKind.TheVariants.{Add, Mul}
-use Rattle.pliron_dialect_bench.specs.Bench.{kind_of, number_of, plain_head, is_number}
+use Rattle.pliron_dialect_bench.specs.Bench.{kind_of, number_of_kind, plain_head, is_number_attribute}
 use Rattle.pliron_dialect_bench.specs.BenchMoves.{bench, bench_role, bench_tables, bench_value}
-use Rattle.pliron_dialect_bench.specs.BenchNumbers.{fits, sum, product}
+use Rattle.pliron_dialect_bench.specs.BenchNumbers.{fits, wrapping_sum, wrapping_product}
 use Rattle.pliron_rewrite_rules.specs.declared.view.Leaf.{Leaf}
 use Rattle.pliron_rewrite_rules.specs.declared.view.Leaf.TheVariants.{Unknown, Known}
 use Rattle.pliron_rewrite_rules.specs.declared.view.Operand.{Operand}
@@ -28,7 +28,7 @@ use Rattle.pliron_rewrite_rules.specs.declared.term.Term.{Term}
 use Rattle.pliron_rewrite_rules.specs.RuleLaws.{IsPureHead, IsRule, RulesHold}
 use Rattle.pliron_rewrite_rules.specs.Views.{Each, only_given, Agrees, OperandAgrees, LeafAgrees, leaf_value, leaf_datum, operand_value, operand_values, operand_datum, data_by, result_datum, view_datum, term_datum, shown_in}
 use Rattle.pliron_bench_rules.specs.declared.Addend.{Addend}
-use Rattle.pliron_bench_rules.specs.BenchRules.{is_kind, number_in, known_operand, part_of_leaves, part_of, with_number, join_with, join_of, double_of, first_of_two, rules_of_two, by_operands, bench_rules}
+use Rattle.pliron_bench_rules.specs.BenchRules.{is_kind, number_of_attribute, known_operand, part_of_leaves, part_of, term_with_number, join_with, join_of, double_of, first_of_two, rules_of_two, by_operands, bench_rules}
 
 -- ---- numbers
 
@@ -38,7 +38,7 @@ wrap_twice n = int_wrap_fits w64 (int_wrap w64 n) (SFits-int_wrap w64 n)
 regroup : (a b c : ℤ) → (a +ℤ b) +ℤ c ≡ a +ℤ (b +ℤ c)
 regroup a b c = omega (arith, ints)
 
-sums_join : (a b c : ℤ) → sum (int_wrap w64 (sum a b)) c ≡ sum a (int_wrap w64 (sum b c))
+sums_join : (a b c : ℤ) → wrapping_sum (int_wrap w64 (wrapping_sum a b)) c ≡ wrapping_sum a (int_wrap w64 (wrapping_sum b c))
 sums_join a b c =
     ap (λ z. int_wrap w64 (z +ℤ c)) (wrap_twice (a +ℤ b))
     ∙ int_wrap-add_left w64 (a +ℤ b) c
@@ -61,7 +61,7 @@ zero_wraps = refl
 abbrev as_number : Datum → ℤ
 as_number d = int_wrap w64 (number_of_datum d)
 
-read_constant : (c : AttrObj) → as_number (datum_of c) ≡ number_in c
+read_constant : (c : AttrObj) → as_number (datum_of c) ≡ number_of_attribute c
 read_constant (Int n) = refl
 read_constant (Words s) = zero_wraps
 
@@ -69,12 +69,12 @@ fit : (n : ℤ) → FitsSigned w64 n → IsTrue (fits n)
 fit (pos n) h = let lt = h.sfits in search (rules, arith)
 fit (negsuc n) h = let lt = h.sfits in search (rules, arith)
 
-fits_sum : (a b : ℤ) → IsTrue (fits (sum a b))
+fits_sum : (a b : ℤ) → IsTrue (fits (wrapping_sum a b))
 fits_sum a b = fit (int_wrap w64 (a +ℤ b)) (SFits-int_wrap w64 (a +ℤ b))
 
 -- ---- what sums and products give
 
-kind_is : (kind : BenchKind) (head : Head) → is_kind kind head ≡ true → head.kind ≡ number_of kind
+kind_is : (kind : BenchKind) (head : Head) → is_kind kind head ≡ true → head.kind ≡ number_of_kind kind
 kind_is kind head e = grind (arith, e)
 
 add_role : role_at bench_tables 3 ≡ Some (bench_role Add)
@@ -85,11 +85,11 @@ mul_role : role_at bench_tables 4 ≡ Some (bench_role Mul)
 unfolding kind_of
 mul_role = refl
 
-add_gives : (head : Head) (d e : Datum) → head.kind ≡ 3 → result_datum bench head (Some (d ∷ e ∷ [])) ≡ Some (Number (sum (as_number d) (as_number e)))
+add_gives : (head : Head) (d e : Datum) → head.kind ≡ 3 → result_datum bench head (Some (d ∷ e ∷ [])) ≡ Some (Number (wrapping_sum (as_number d) (as_number e)))
 unfolding meaning_by
 add_gives head d e is = ap (λ r. only_given (by_role no_act (act_of bench_value) r (pure_shape head 2) Empty (d ∷ e ∷ []))) (ap (role_at bench_tables) is ∙ add_role)
 
-mul_gives : (head : Head) (d e : Datum) → head.kind ≡ 4 → result_datum bench head (Some (d ∷ e ∷ [])) ≡ Some (Number (product (as_number d) (as_number e)))
+mul_gives : (head : Head) (d e : Datum) → head.kind ≡ 4 → result_datum bench head (Some (d ∷ e ∷ [])) ≡ Some (Number (wrapping_product (as_number d) (as_number e)))
 unfolding meaning_by
 mul_gives head d e is = ap (λ r. only_given (by_role no_act (act_of bench_value) r (pure_shape head 2) Empty (d ∷ e ∷ []))) (ap (role_at bench_tables) is ∙ mul_role)
 
@@ -128,7 +128,7 @@ known_reads env (Made v head leaves) n e f is = absurd (not_none e)
 pub record IsSum (env : Environment) (a : Operand) (part : Addend) (d : Datum) : Type 0 where
   pub datum : Datum
   pub has : env part.value ≡ Some datum
-  pub is : d ≡ Number (sum (as_number datum) part.number)
+  pub is : d ≡ Number (wrapping_sum (as_number datum) part.number)
 
 sum_of_leaves : (env : Environment) (v : ℕ) (head : Head) (leaves : List Leaf) (part : Addend) (d : Datum) → head.kind ≡ 3 → Each (LeafAgrees env) leaves → part_of_leaves leaves ≡ Some part → result_datum bench head (data_by (leaf_datum env) leaves) ≡ Some d → IsSum env (Made v head leaves) part d
 sum_of_leaves env v head [] part d kind agrees e is = absurd (not_none e)
@@ -139,7 +139,7 @@ sum_of_leaves env v head (p ∷ Known w c ∷ []) part d kind agrees e is =
     subst (λ z. IsSum env (Made v head (p ∷ Known w c ∷ [])) z d) (some_is e) (record {
       datum = both.0;
       has = agrees.0 ∙ both.2;
-      is = some_is (sym is ∙ ap (λ o. result_datum bench head (prepend_optional o (Some (datum_of c ∷ [])))) both.2 ∙ add_gives head both.0 (datum_of c) kind) ∙ ap (λ n. Number (sum (as_number both.0) n)) (read_constant c);
+      is = some_is (sym is ∙ ap (λ o. result_datum bench head (prepend_optional o (Some (datum_of c ∷ [])))) both.2 ∙ add_gives head both.0 (datum_of c) kind) ∙ ap (λ n. Number (wrapping_sum (as_number both.0) n)) (read_constant c);
     })
 sum_of_leaves env v head (p ∷ q ∷ r ∷ leaves) part d kind agrees e is = absurd (not_none e)
 
@@ -169,38 +169,38 @@ part_shown (Made v head leaves) part e = go (is_kind Add head) e
 -- ---- the rules
 
 abbrev IsRuleOf : View → Term → Type 0
-IsRuleOf view term = IsRule bench (effects_by (role_at bench_tables)) is_number view term
+IsRuleOf view term = IsRule bench (effects_by (role_at bench_tables)) is_number_attribute view term
 
 module _ (head : Head) (kind : head.kind ≡ 3) (a b : Operand) where
   abbrev view : View
   view = record { head = head; operands = a ∷ b ∷ [] }
 
-  sum_datum : (env : Environment) (d e f : Datum) → view_datum bench env view ≡ Some d → operand_datum bench env a ≡ Some e → operand_datum bench env b ≡ Some f → d ≡ Number (sum (as_number e) (as_number f))
+  sum_datum : (env : Environment) (d e f : Datum) → view_datum bench env view ≡ Some d → operand_datum bench env a ≡ Some e → operand_datum bench env b ≡ Some f → d ≡ Number (wrapping_sum (as_number e) (as_number f))
   sum_datum env d e f is p q = some_is (sym is ∙ ap₂ (λ o r. result_datum bench head (prepend_optional o (prepend_optional r (Some [])))) p q ∙ add_gives head e f kind)
 
-  join_holds : (part : Addend) (n : ℤ) → part_of a ≡ Some part → known_operand b ≡ Some n → IsRuleOf view (with_number Add part.value (sum part.number n))
+  join_holds : (part : Addend) (n : ℤ) → part_of a ≡ Some part → known_operand b ≡ Some n → IsRuleOf view (term_with_number Add part.value (wrapping_sum part.number n))
   join_holds part n of known = record {
     buildable = (pure_add, (tt, (fits_sum part.number n, tt)));
     shown = λ v i. shown v i;
     equal = λ env d agrees is. equal env d agrees is;
   }
     where
-      equal : (env : Environment) (d : Datum) → Agrees bench env view → view_datum bench env view ≡ Some d → term_datum bench env (with_number Add part.value (sum part.number n)) ≡ Some d
+      equal : (env : Environment) (d : Datum) → Agrees bench env view → view_datum bench env view ≡ Some d → term_datum bench env (term_with_number Add part.value (wrapping_sum part.number n)) ≡ Some d
       equal env d agrees is =
           let both = both_have bench head (operand_datum bench env a) (operand_datum bench env b) d is in
           let first = sum_is env a part both.0 agrees.0 of both.2 in
           let second = known_reads env b n known both.1 both.3 in
-          ap (λ o. result_datum bench (plain_head Add) (prepend_optional o (Some (Number (sum part.number n) ∷ [])))) first.has
-          ∙ add_gives (plain_head Add) first.datum (Number (sum part.number n)) refl
+          ap (λ o. result_datum bench (plain_head Add) (prepend_optional o (Some (Number (wrapping_sum part.number n) ∷ [])))) first.has
+          ∙ add_gives (plain_head Add) first.datum (Number (wrapping_sum part.number n)) refl
           ∙ ap (λ z. Some (Number z)) (sym (sums_join (as_number first.datum) part.number n))
-          ∙ ap₂ (λ z y. Some (Number (sum (as_number z) y))) (sym first.is) (sym second)
+          ∙ ap₂ (λ z y. Some (Number (wrapping_sum (as_number z) y))) (sym first.is) (sym second)
           ∙ ap Some (sym (sum_datum env d both.0 both.1 is both.2 both.3))
 
       shown : (v : ℕ) → In v (part.value ∷ []) → In v (shown_in view)
       shown v (inl e) = subst (λ z. In z (shown_in view)) (sym e) (In-left part.value (operand_values a) (flat_map operand_values (b ∷ [])) (part_shown a part of))
       shown v (inr never) = absurd never
 
-  double_holds : operand_value a ≡ operand_value b → IsRuleOf view (with_number Mul (operand_value a) (pos 2))
+  double_holds : operand_value a ≡ operand_value b → IsRuleOf view (term_with_number Mul (operand_value a) (pos 2))
   double_holds same = record {
     buildable = (pure_mul, (tt, (refl, tt)));
     shown = λ v i. shown v i;
@@ -211,10 +211,10 @@ module _ (head : Head) (kind : head.kind ≡ 3) (a b : Operand) where
       shown v (inl e) = subst (λ z. In z (shown_in view)) (sym e) (In-left (operand_value a) (operand_values a) (flat_map operand_values (b ∷ [])) (shown_value a))
       shown v (inr never) = absurd never
 
-      doubles : (n : ℤ) → product n (int_wrap w64 (pos 2)) ≡ sum n n
-      doubles n = ap (λ z. product n z) two ∙ ap (int_wrap w64) (sym (twice n))
+      doubles : (n : ℤ) → wrapping_product n (int_wrap w64 (pos 2)) ≡ wrapping_sum n n
+      doubles n = ap (λ z. wrapping_product n z) two ∙ ap (int_wrap w64) (sym (twice n))
 
-      equal : (env : Environment) (d : Datum) → Agrees bench env view → view_datum bench env view ≡ Some d → term_datum bench env (with_number Mul (operand_value a) (pos 2)) ≡ Some d
+      equal : (env : Environment) (d : Datum) → Agrees bench env view → view_datum bench env view ≡ Some d → term_datum bench env (term_with_number Mul (operand_value a) (pos 2)) ≡ Some d
       equal env d agrees is =
           let both = both_have bench head (operand_datum bench env a) (operand_datum bench env b) d is in
           let here : env (operand_value a) ≡ Some both.0 = operand_has env a agrees.0 ∙ both.2 in
@@ -223,13 +223,13 @@ module _ (head : Head) (kind : head.kind ≡ 3) (a b : Operand) where
           ap (λ o. result_datum bench (plain_head Mul) (prepend_optional o (Some (Number (pos 2) ∷ [])))) here
           ∙ mul_gives (plain_head Mul) both.0 (Number (pos 2)) refl
           ∙ ap (λ z. Some (Number z)) (doubles (as_number both.0))
-          ∙ ap (λ z. Some (Number (sum (as_number both.0) (as_number z)))) one
+          ∙ ap (λ z. Some (Number (wrapping_sum (as_number both.0) (as_number z)))) one
           ∙ ap Some (sym (sum_datum env d both.0 both.1 is both.2 both.3))
 
   doubles_hold : (term : Term) → double_of a b ≡ Some term → IsRuleOf view term
   doubles_hold term e = go (nat_eq (operand_value a) (operand_value b)) refl e
     where
-      go : (y : Bool) → nat_eq (operand_value a) (operand_value b) ≡ y → (if y then Some (with_number Mul (operand_value a) (pos 2)) else None) ≡ Some term → IsRuleOf view term
+      go : (y : Bool) → nat_eq (operand_value a) (operand_value b) ≡ y → (if y then Some (term_with_number Mul (operand_value a) (pos 2)) else None) ≡ Some term → IsRuleOf view term
       go true same f = subst (IsRuleOf view) (some_is f) (double_holds (grind (arith, same)))
       go false other f = absurd (not_none f)
 
@@ -241,7 +241,7 @@ module _ (head : Head) (kind : head.kind ≡ 3) (a b : Operand) where
       go (Some part) p None q f = doubles_hold term f
       go (Some part) p (Some n) q f = subst (IsRuleOf view) (some_is f) (join_holds part n p q)
 
-pub bench_rules_hold : RulesHold bench (effects_by (role_at bench_tables)) is_number bench_rules
+pub bench_rules_hold : RulesHold bench (effects_by (role_at bench_tables)) is_number_attribute bench_rules
 bench_rules_hold view term e = by view.head view.operands e
   where
     with_kind : (head : Head) (a b : Operand) → rules_of_two head a b ≡ Some term → IsRuleOf (record { head = head; operands = a ∷ b ∷ [] }) term

@@ -5,7 +5,10 @@
 #![tactic(auto)]
 
 ghost use Rattle.std.specs.Prelude.{◌≡◌, IfOk, IsOkUnless};
-ghost use Rattle.pliron_bench_rules.specs.BenchRules.{bench_rules, double_of as double_by, is_kind as is_kind_by, join_of as join_by, known_leaf as known_leaf_by, known_operand as known_operand_by, number_in as number_in_by, part_of as part_of_by, part_of_leaves as part_of_leaves_by, part_with as part_with_by, rules_of_two as rules_of_two_by, with_number as with_number_by};
+ghost use Rattle.pliron_bench_rules.specs.BenchRules.{bench_rules, double_of as double_by, is_kind as is_kind_by, join_of as join_by};
+ghost use Rattle.pliron_bench_rules.specs.BenchRules.{known_leaf as known_leaf_by, known_operand as known_operand_by, number_of_attribute as number_in_by};
+ghost use Rattle.pliron_bench_rules.specs.BenchRules.{part_of as part_of_by, part_of_leaves as part_of_leaves_by, part_with as part_with_by};
+ghost use Rattle.pliron_bench_rules.specs.BenchRules.{rules_of_two as rules_of_two_by, term_with_number as with_number_by};
 ghost use Rattle.pliron_bench_rules.specs.RulesHold.{bench_rules_hold};
 ghost use Rattle.pliron_rewrite_rules.specs.Views.{leaf_value as leaf_value_by, operand_value as operand_value_by};
 

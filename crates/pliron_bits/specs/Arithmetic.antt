@@ -6,8 +6,8 @@ use Rattle.pliron_bits.specs.declared.flags.Flags.{Flags}
 use Rattle.pliron_bits.specs.Numbers.{signed_value, is_signed, bits_of}
 
 -- a number, unless something speaks against it
-abbrev pub unless : Bool → ℕ → Option ℕ
-unless b n = if b then None else Some n
+abbrev pub unless_flagged : Bool → ℕ → Option ℕ
+unless_flagged b n = if b then None else Some n
 
 -- ---- what may wrap: by the exact result read as signed, whether the unsigned one is exact, and the unsigned one
 
@@ -15,7 +15,7 @@ abbrev pub wraps : Flags → (width : ℕ) → ℤ → Bool → Bool
 wraps f width z exact = (f.no_signed_wrap && not (is_signed width z)) || (f.no_unsigned_wrap && not exact)
 
 abbrev pub wrap : Flags → (width : ℕ) → ℤ → Bool → ℕ → Option ℕ
-wrap f width z exact n = unless (wraps f width z exact) (n % 2 ^ width)
+wrap f width z exact n = unless_flagged (wraps f width z exact) (n % 2 ^ width)
 
 abbrev pub sum : Flags → (width a b : ℕ) → Option ℕ
 sum f width a b = wrap f width (signed_value width a +ℤ signed_value width b) (nat_lt (a + b) (2 ^ width)) (a + b)
@@ -39,10 +39,10 @@ truncation f width to a = wrap f to (signed_value width a) (nat_lt a (2 ^ to)) a
 -- ---- division: not by 0, not the least signed number by -1, and where it has to be exact without a remainder
 
 abbrev pub unsigned_quotient : Flags → (a b : ℕ) → Option ℕ
-unsigned_quotient f a b = unless (nat_eq b 0 || (f.exact && not (nat_eq (a % b) 0))) (a / b)
+unsigned_quotient f a b = unless_flagged (nat_eq b 0 || (f.exact && not (nat_eq (a % b) 0))) (a / b)
 
 abbrev pub unsigned_remainder : (a b : ℕ) → Option ℕ
-unsigned_remainder a b = unless (nat_eq b 0) (a % b)
+unsigned_remainder a b = unless_flagged (nat_eq b 0) (a % b)
 
 -- the signed quotient, which rounds to 0
 abbrev pub quotient_in : (width a b : ℕ) → ℤ
@@ -56,10 +56,10 @@ divides width a b = not (nat_eq b 0) && is_signed width (quotient_in width a b)
 
 abbrev pub signed_quotient : Flags → (width a b : ℕ) → Option ℕ
 signed_quotient f width a b =
-    unless (not (divides width a b) || (f.exact && not (nat_eq (unsigned_abs (remainder_in width a b)) 0))) (bits_of width (quotient_in width a b))
+    unless_flagged (not (divides width a b) || (f.exact && not (nat_eq (unsigned_abs (remainder_in width a b)) 0))) (bits_of width (quotient_in width a b))
 
 abbrev pub signed_remainder : (width a b : ℕ) → Option ℕ
-signed_remainder width a b = unless (not (divides width a b)) (bits_of width (remainder_in width a b))
+signed_remainder width a b = unless_flagged (not (divides width a b)) (bits_of width (remainder_in width a b))
 
 -- ---- shifts to the right: quotients by a power of two that round down
 
@@ -68,10 +68,10 @@ abbrev pub shift_fails : Flags → (width a b : ℕ) → Bool
 shift_fails f width a b = nat_le width b || (f.exact && not (nat_eq (a % 2 ^ b) 0))
 
 abbrev pub logical_shift : Flags → (width a b : ℕ) → Option ℕ
-logical_shift f width a b = unless (shift_fails f width a b) (a / 2 ^ b)
+logical_shift f width a b = unless_flagged (shift_fails f width a b) (a / 2 ^ b)
 
 abbrev pub arithmetic_shift : Flags → (width a b : ℕ) → Option ℕ
-arithmetic_shift f width a b = unless (shift_fails f width a b) (bits_of width (int_div_euclid (signed_value width a) (pos (2 ^ b))))
+arithmetic_shift f width a b = unless_flagged (shift_fails f width a b) (bits_of width (int_div_euclid (signed_value width a) (pos (2 ^ b))))
 
 -- ---- bits
 
@@ -79,7 +79,7 @@ abbrev pub conjunction : (a b : ℕ) → Option ℕ
 conjunction a b = Some (bit_and a b)
 
 abbrev pub disjunction : Flags → (a b : ℕ) → Option ℕ
-disjunction f a b = unless (f.disjoint && not (nat_eq (bit_and a b) 0)) (bit_or a b)
+disjunction f a b = unless_flagged (f.disjoint && not (nat_eq (bit_and a b) 0)) (bit_or a b)
 
 abbrev pub exclusion : (a b : ℕ) → Option ℕ
 exclusion a b = Some (bit_xor a b)
@@ -104,7 +104,7 @@ signed_maximum width a b = Some (if signed_less width a b then b else a)
 -- ---- extensions
 
 abbrev pub zero_extended : Flags → (width a : ℕ) → Option ℕ
-zero_extended f width a = unless (f.nonnegative && nat_le (2 ^ (width - 1)) a) a
+zero_extended f width a = unless_flagged (f.nonnegative && nat_le (2 ^ (width - 1)) a) a
 
 abbrev pub sign_extended : (width to a : ℕ) → Option ℕ
 sign_extended width to a = Some (bits_of to (signed_value width a))

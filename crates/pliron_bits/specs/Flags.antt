@@ -11,8 +11,8 @@ flags_of_number n = record {
   nonnegative = nat_eq (n / 16 % 2) 1;
 }
 
-abbrev pub weight : Bool → ℕ → ℕ
-weight b n = if b then n else 0
+abbrev pub flag_weight : Bool → ℕ → ℕ
+flag_weight b n = if b then n else 0
 
 abbrev pub number_of_flags : Flags → ℕ
-number_of_flags f = weight f.no_signed_wrap 1 + weight f.no_unsigned_wrap 2 + weight f.exact 4 + weight f.disjoint 8 + weight f.nonnegative 16
+number_of_flags f = flag_weight f.no_signed_wrap 1 + flag_weight f.no_unsigned_wrap 2 + flag_weight f.exact 4 + flag_weight f.disjoint 8 + flag_weight f.nonnegative 16

@@ -1,6 +1,6 @@
 //! What an operation promises of its operands and its result.
 ghost use Rattle.std.specs.Prelude.{◌≡◌, ◌≤◌, ◌<◌};
-ghost use Rattle.pliron_bits.specs.Flags.{weight as weight_of, number_of_flags, flags_of_number};
+ghost use Rattle.pliron_bits.specs.Flags.{flag_weight as weight_of, number_of_flags, flags_of_number};
 
 /// What an operation promises: where it doesn't hold, the answer has no meaning. An operation heeds only the flags that
 /// it has in LLVM.

@@ -17,18 +17,18 @@ use Rattle.pliron_laws.specs.OperandFolding.{ReadsOperands}
 use Rattle.pliron_dialect.specs.OperandFolds.{place_picked, answer_at, fold_by_form, answers_at, operands_by, operand_folds_by}
 use Rattle.pliron_dialect.specs.declared.form.Form.{Form}
 use Rattle.pliron_dialect.specs.declared.form.Form.TheVariants.{Constant}
-use Rattle.pliron_dialect.specs.Roles.{Interpretation, Allows, allows_at, constant_head_of, Role, Tables, by_role, role_at, form_at, form_of, meaning_by, answers_by, answers_of, role_answer, answers_by_form, constants_by, is_constant, identity_in, truth_in, truth_of, known_number_at, entry_operands_by, no_operand, named_by}
-use Rattle.pliron_dialect.specs.Outcomes.{form_in, fold_of, outcome_by}
+use Rattle.pliron_dialect.specs.Roles.{Interpretation, Allows, allows_at, constant_head_of, Role, Tables, by_role, role_at, form_at, form_of, meaning_by, answers_by, form_answers, role_answer, answers_by_form, constants_by, is_constant, identity_in, truth_in, truth_of, known_number_at, entry_operands_by, no_operand, named_by}
+use Rattle.pliron_dialect.specs.Outcomes.{form_of_head, fold_of, outcome_by}
 
 same_head : (t : Tree) (op : ℕ) (h : Head) (o : Operation) → head_of t op ≡ Some h → op_at t op ≡ Some o → h ≡ o.head
 same_head t op h o e at = same_Some h o.head (sym e ∙ head_at t op o at)
 
 -- ---- constants
 
-pub answers_read : {K : Type 0} (tables : Tables K) (t : Tree) (op : ℕ) (h : Head) (k : K) (f : Form) (known items : List (Option AttrObj)) → head_of t op ≡ Some h → Some k ≡ tables.kind_of h.kind → f ≡ form_of (tables.role_of k) → items ≡ answers_of f (role_answer (tables.role_of k) h known) → ReadsShape (meaning_by tables.value (role_at tables) (allows_at tables)) (λ s. constants_by (role_at tables) s known) t op items
+pub answers_read : {K : Type 0} (tables : Tables K) (t : Tree) (op : ℕ) (h : Head) (k : K) (f : Form) (known items : List (Option AttrObj)) → head_of t op ≡ Some h → Some k ≡ tables.kind_of h.kind → f ≡ form_of (tables.role_of k) → items ≡ form_answers f (role_answer (tables.role_of k) h known) → ReadsShape (meaning_by tables.value (role_at tables) (allows_at tables)) (λ s. constants_by (role_at tables) s known) t op items
 unfolding constants_by shape_of
 answers_read tables t op h k f known items e g form i = λ o at.
-    i ∙ ap (λ z. answers_of z (role_answer (tables.role_of k) h known)) form
+    i ∙ ap (λ z. form_answers z (role_answer (tables.role_of k) h known)) form
     ∙ answers_by_form (tables.role_of k) h known
     ∙ ap (λ z. by_role [] (answers_by h known) (option_map tables.role_of z)) g
     ∙ ap (λ z. by_role [] (answers_by z known) (role_at tables z.kind)) (same_head t op h o e at)
@@ -62,17 +62,17 @@ form_folds : (value : Interpretation) (roles : ℕ → Option Role) (allows : Al
 form_folds value roles allows accepts n ssa (Some Constant) t u op known answer e m = grind arith
 form_folds value roles allows accepts n ssa _ t u op known answer e m = m
 
-head_form : (roles : ℕ → Option Role) (t : Tree) (op : ℕ) (b : Bool) (o : Option Head) → IsSome o → head_of t op ≡ o → ReadsHead (λ h. is_constant (form_at roles h.kind)) t op b → b ≡ is_constant (form_in roles (head_of t op))
+head_form : (roles : ℕ → Option Role) (t : Tree) (op : ℕ) (b : Bool) (o : Option Head) → IsSome o → head_of t op ≡ o → ReadsHead (λ h. is_constant (form_at roles h.kind)) t op b → b ≡ is_constant (form_of_head roles (head_of t op))
 head_form roles t op b None s e r = grind arith
-head_form roles t op b (Some h) s e r = r h e ∙ ap (λ o. is_constant (form_in roles o)) (sym e)
+head_form roles t op b (Some h) s e r = r h e ∙ ap (λ o. is_constant (form_of_head roles o)) (sym e)
 
 pub constant_stays : (value : Interpretation) (roles : ℕ → Option Role) (allows : Allows) (accepts : AttrObj → Bool) (n : ℕ) (ssa : Bool) (t : Tree) (op : ℕ) (known : List (Option AttrObj)) (b : Bool) → IsLive t op → ReadsHead (λ h. is_constant (form_at roles h.kind)) t op b → b ≡ true → outcome_by value roles allows accepts n ssa t t op known (Some Unchanged)
 unfolding outcome_by
-constant_stays value roles allows accepts n ssa t op known b live r e = form_stays value roles allows accepts n ssa (form_in roles (head_of t op)) t op known (sym (head_form roles t op b (head_of t op) live refl r) ∙ e)
+constant_stays value roles allows accepts n ssa t op known b live r e = form_stays value roles allows accepts n ssa (form_of_head roles (head_of t op)) t op known (sym (head_form roles t op b (head_of t op) live refl r) ∙ e)
 
 pub others_fold : (value : Interpretation) (roles : ℕ → Option Role) (allows : Allows) (accepts : AttrObj → Bool) (n : ℕ) (ssa : Bool) (t u : Tree) (op : ℕ) (known : List (Option AttrObj)) (b : Bool) (answer : Option IRStatus) → IsLive t op → ReadsHead (λ h. is_constant (form_at roles h.kind)) t op b → b ≡ false → materialising_outcome (meaning_by value roles allows) (constants_by roles) accepts (constant_head_of n ssa) t u op known answer → outcome_by value roles allows accepts n ssa t u op known answer
 unfolding outcome_by
-others_fold value roles allows accepts n ssa t u op known b answer live r e m = form_folds value roles allows accepts n ssa (form_in roles (head_of t op)) t u op known answer (sym (head_form roles t op b (head_of t op) live refl r) ∙ e) m
+others_fold value roles allows accepts n ssa t u op known b answer live r e m = form_folds value roles allows accepts n ssa (form_of_head roles (head_of t op)) t u op known answer (sym (head_form roles t op b (head_of t op) live refl r) ∙ e) m
 
 -- ---- operands of visits
 

@@ -15,7 +15,7 @@ use Rattle.pliron_laws.specs.PlaceLaws.{pick_all}
 use Rattle.pliron_dialect.specs.Ranges.{in_range, range_without}
 use Rattle.pliron_dialect.specs.declared.form.Counting.{Counting}
 use Rattle.pliron_dialect.specs.Counted.{counts_by, counts_fit, all_counted, fits_again, fewer_by, fewer_counted_by, counted_attributes, rest_kept, one_other, total, start_of, count_of, fewer, edge_range, values_of_edge, fewer_total, edge_within, edges_distinct, edge_passes, edges_lose, capped_places, uncapped, capped_get, value_there, value_else}
-use Rattle.pliron_dialect.specs.Roles.{Interpretation, Role, Allows, Fits, RoleFits, RolesFit, Jumps, Chooses, first_number, edge_chosen, head_without_counts, edge_or, chosen_edge, counts_of, by_role, by_form, form_of, act_of, no_act, branches, folds_of, places_by, jump_range, takes_by, meaning_by, folds_by, branch_folds_by, is_of_number, interfaces_by, shortened_by, shortened_of}
+use Rattle.pliron_dialect.specs.Roles.{Interpretation, Role, Allows, Fits, RoleFits, RolesFit, Jumps, Chooses, first_number, edge_chosen, head_without_counts, edge_or, chosen_edge, edge_counts_of, by_role, by_form, form_of, act_of, no_act, branches, folds_of, places_by, jump_range, takes_by, meaning_by, folds_by, branch_folds_by, is_of_number, interfaces_by, shortened_by, shortened_of}
 use Rattle.pliron_laws.specs.InPlace.{PassSameTests}
 use Rattle.pliron_dialect.specs.Parts.{Admits, AdmitsAll, comes_first, three, both_parts, both_true, same, same_true, below}
 use Rattle.pliron_dialect.specs.FoldLaws.{branch_quiet}
@@ -94,7 +94,7 @@ jump_within n (suc i) p h = absurd h
 
 role_within : (k : Role) (s : Shape) (i p : ℕ) → IsTrue (branches (form_of k)) → Admits (Some k) s → In p (edge_places (Some k) s i) → p < s.operands
 role_within Jumps s i p br h l = jump_within s.operands i p l
-role_within (Chooses counting choose) s i p br h l = edge_within (counts_of counting s) i p s.operands (choice_of counting choose s h).operands (subst (In p) (uncapped s.operands (counts_of counting s) i (choice_of counting choose s h).operands) l)
+role_within (Chooses counting choose) s i p br h l = edge_within (edge_counts_of counting s) i p s.operands (choice_of counting choose s h).operands (subst (In p) (uncapped s.operands (edge_counts_of counting s) i (choice_of counting choose s h).operands) l)
 role_within _ s i p br h l = grind arith
 
 within : (o : Option Role) (s : Shape) (i p : ℕ) → Admits o s → IsTrue (by_form false branches (option_map form_of o)) → In p (edge_places o s i) → p < s.operands
@@ -108,7 +108,7 @@ jump_distinct n (suc i) j k l p e f = nowhere k p e
 
 role_distinct : (k : Role) (s : Shape) (i j u v p : ℕ) → IsTrue (branches (form_of k)) → slice_get (edge_places (Some k) s i) u ≡ Some p → slice_get (edge_places (Some k) s j) v ≡ Some p → (i ≡ j) × (u ≡ v)
 role_distinct Jumps s i j u v p br e f = jump_distinct s.operands i j u v p e f
-role_distinct (Chooses counting choose) s i j u v p br e f = edges_distinct (counts_of counting s) i j u v p (capped_get s.operands (counts_of counting s) i u p e) (capped_get s.operands (counts_of counting s) j v p f)
+role_distinct (Chooses counting choose) s i j u v p br e f = edges_distinct (edge_counts_of counting s) i j u v p (capped_get s.operands (edge_counts_of counting s) i u p e) (capped_get s.operands (edge_counts_of counting s) j v p f)
 role_distinct _ s i j u v p br e f = grind arith
 
 pub distinct : (o : Option Role) (s : Shape) (i j u v p : ℕ) → IsTrue (by_form false branches (option_map form_of o)) → slice_get (edge_places o s i) u ≡ Some p → slice_get (edge_places o s j) v ≡ Some p → (i ≡ j) × (u ≡ v)
@@ -127,7 +127,7 @@ PassesAt places first Trap = Unit {0}
 
 role_passes : (value : Interpretation) (k : Role) (s : Shape) (memo : Datum) (first : List Datum) → IsTrue (branches (form_of k)) → Admits (Some k) s → length first ≡ s.operands → PassesAt (edge_places (Some k) s) first (act_of value k s memo first)
 role_passes value Jumps s memo first br h l = sym (pick_all first s.operands l)
-role_passes value (Chooses counting choose) s memo first br h l = edge_passes (counts_of counting s) (edge_chosen value counting choose s first) first ((choice_of counting choose s h).operands ∙ sym l) ∙ ap (λ z. pick z first) (sym (uncapped s.operands (counts_of counting s) (edge_chosen value counting choose s first) (choice_of counting choose s h).operands))
+role_passes value (Chooses counting choose) s memo first br h l = edge_passes (edge_counts_of counting s) (edge_chosen value counting choose s first) first ((choice_of counting choose s h).operands ∙ sym l) ∙ ap (λ z. pick z first) (sym (uncapped s.operands (edge_counts_of counting s) (edge_chosen value counting choose s first) (choice_of counting choose s h).operands))
 role_passes value _ s memo first br h l = grind arith
 
 passes : (value : Interpretation) (o : Option Role) (s : Shape) (memo : Datum) (first : List Datum) → Admits o s → IsTrue (by_form false branches (option_map form_of o)) → length first ≡ s.operands → PassesAt (edge_places o s) first (by_role no_act (act_of value) o s memo first)
@@ -243,32 +243,32 @@ module _ (value : Interpretation) (roles : ℕ → Option Role) (allows : Allows
   taken_kept [] (suc p) lt = refl
   taken_kept (d ∷ ds) (suc p) lt = refl
 
-  choice_without : (counting : Counting) (choose : ℕ → List AttrObj → ℤ → Option ℕ) (o : Option Role) (s : Shape) (i j p : ℕ) → o ≡ Some (Chooses counting choose) → roles s.head.kind ≡ o → Admits o s → i < s.successors → (0 < count_of (counts_of counting s) i → IsTrue (allows (record s.head { attrs = fewer_by counting s.head.attrs s.successors i }) (s.operands - 1) s.results s.successors (length s.entry_arguments))) → slice_get (capped_places s.operands (counts_of counting s) i) j ≡ Some p → LosesOperand (meaning_by value roles allows) (SameTests value roles allows number_of) s i j p (record s.head { attrs = fewer_by counting s.head.attrs s.successors i })
+  choice_without : (counting : Counting) (choose : ℕ → List AttrObj → ℤ → Option ℕ) (o : Option Role) (s : Shape) (i j p : ℕ) → o ≡ Some (Chooses counting choose) → roles s.head.kind ≡ o → Admits o s → i < s.successors → (0 < count_of (edge_counts_of counting s) i → IsTrue (allows (record s.head { attrs = fewer_by counting s.head.attrs s.successors i }) (s.operands - 1) s.results s.successors (length s.entry_arguments))) → slice_get (capped_places s.operands (edge_counts_of counting s) i) j ≡ Some p → LosesOperand (meaning_by value roles allows) (SameTests value roles allows number_of) s i j p (record s.head { attrs = fewer_by counting s.head.attrs s.successors i })
   unfolding meaning_by
   choice_without counting choose o s i j p f e h lt allowed capped_at =
-      let at = capped_get s.operands (counts_of counting s) i j p capped_at in
+      let at = capped_get s.operands (edge_counts_of counting s) i j p capped_at in
       let k = choice_of counting choose s (subst (λ x. Admits x s) f h) in
       let s' : Shape = fewer_operands s (record s.head { attrs = fewer_by counting s.head.attrs s.successors i }) in
-      let place = range_at (suc (start_of (counts_of counting s) i)) (count_of (counts_of counting s) i) j p at in
-      let some : 0 < count_of (counts_of counting s) i = omega (arith, place.1) in
-      let counts : counts_of counting s' ≡ fewer (counts_of counting s) i = fewer_counted_by counting s.successors s.operands i s.head.attrs lt some in
-      let less : suc (total (counts_of counting s')) ≡ s.operands - 1 = ap (λ ns. suc (total ns)) counts ∙ omega (arith, fewer_total (counts_of counting s) i some, k.operands) in
+      let place = range_at (suc (start_of (edge_counts_of counting s) i)) (count_of (edge_counts_of counting s) i) j p at in
+      let some : 0 < count_of (edge_counts_of counting s) i = omega (arith, place.1) in
+      let counts : edge_counts_of counting s' ≡ fewer (edge_counts_of counting s) i = fewer_counted_by counting s.successors s.operands i s.head.attrs lt some in
+      let less : suc (total (edge_counts_of counting s')) ≡ s.operands - 1 = ap (λ ns. suc (total ns)) counts ∙ omega (arith, fewer_total (edge_counts_of counting s) i some, k.operands) in
       record {
         same_head = head_but (one_other counting s.successors i s.head.attrs);
         same_tests = same_tests s.head (fewer_by counting s.head.attrs s.successors i);
         admitted = both_true _ _ (subst (λ x. Admits x s') (sym (e ∙ f)) (choice_taken counting choose s'.head s'.operands s.results s.successors (length s.entry_arguments) (fits_again counting s.head.attrs s.successors s.operands i lt some k.fits) k.results k.successors k.regions)) (allowed some);
-        same_edges = λ n. subst (λ x. edge_places x s' n ≡ map (moved_up p) (if nat_eq n i then remove (edge_places x s n) j else edge_places x s n)) (sym (e ∙ f)) (uncapped s'.operands (counts_of counting s') n less ∙ ap (λ ns. edge_range ns n) counts ∙ edges_lose (counts_of counting s) i j p n at ∙ ap (λ z. map (moved_up p) (if nat_eq n i then remove z j else z)) (sym (uncapped s.operands (counts_of counting s) n k.operands)));
+        same_edges = λ n. subst (λ x. edge_places x s' n ≡ map (moved_up p) (if nat_eq n i then remove (edge_places x s n) j else edge_places x s n)) (sym (e ∙ f)) (uncapped s'.operands (edge_counts_of counting s') n less ∙ ap (λ ns. edge_range ns n) counts ∙ edges_lose (edge_counts_of counting s) i j p n at ∙ ap (λ z. map (moved_up p) (if nat_eq n i then remove z j else z)) (sym (uncapped s.operands (edge_counts_of counting s) n k.operands)));
         alike = λ first l. alike_at_once s s' first (remove first p) i j (subst (λ x. IsTrue (by_form false branches (option_map form_of x))) (sym (e ∙ f)) refl)
             (subst (λ x. MovesAlike PassesSame (JumpsLess i j) (by_role no_act (act_of value) x s Empty first) (by_role no_act (act_of value) x s' Empty (remove first p))) (sym (e ∙ f))
             (let rest : drop (counted_attributes counting s.successors) (fewer_by counting s.head.attrs s.successors i) ≡ drop (counted_attributes counting s.successors) s.head.attrs = rest_kept counting s.successors i s.head.attrs lt in
             let edge : edge_chosen value counting choose s' (remove first p) ≡ edge_chosen value counting choose s first =
             ap₂ (λ attrs ds. edge_or value (record s.head { attrs = attrs }) ds (choose s.head.kind attrs (first_number (remove first p)))) rest (taken_kept first p (omega (arith, place.0)))
             ∙ ap (λ c. edge_or value (head_without_counts counting s) (take 1 first) (chosen_edge counting choose s c)) (condition_kept first p (omega (arith, place.0))) in
-            goto_alike PassesSame (JumpsLess i j) (edge_chosen value counting choose s first) (edge_chosen value counting choose s' (remove first p)) (values_of_edge (counts_of counting s) (edge_chosen value counting choose s first) first) (values_of_edge (counts_of counting s') (edge_chosen value counting choose s' (remove first p)) (remove first p)) (
+            goto_alike PassesSame (JumpsLess i j) (edge_chosen value counting choose s first) (edge_chosen value counting choose s' (remove first p)) (values_of_edge (edge_counts_of counting s) (edge_chosen value counting choose s first) first) (values_of_edge (edge_counts_of counting s') (edge_chosen value counting choose s' (remove first p)) (remove first p)) (
               edge,
-              subst (λ x. DropsAt i j (edge_chosen value counting choose s first) (values_of_edge (counts_of counting s) (edge_chosen value counting choose s first) first) (values_of_edge (counts_of counting s') x (remove first p))) (sym edge)
-                  (subst (λ ns. DropsAt i j (edge_chosen value counting choose s first) (values_of_edge (counts_of counting s) (edge_chosen value counting choose s first) first) (values_of_edge ns (edge_chosen value counting choose s first) (remove first p))) (sym counts)
-                  (choice_loses (counts_of counting s) i j p (edge_chosen value counting choose s first) first place.0 place.1 (k.operands ∙ sym l))),
+              subst (λ x. DropsAt i j (edge_chosen value counting choose s first) (values_of_edge (edge_counts_of counting s) (edge_chosen value counting choose s first) first) (values_of_edge (edge_counts_of counting s') x (remove first p))) (sym edge)
+                  (subst (λ ns. DropsAt i j (edge_chosen value counting choose s first) (values_of_edge (edge_counts_of counting s) (edge_chosen value counting choose s first) first) (values_of_edge ns (edge_chosen value counting choose s first) (remove first p))) (sym counts)
+                  (choice_loses (edge_counts_of counting s) i j p (edge_chosen value counting choose s first) first place.0 place.1 (k.operands ∙ sym l))),
             )));
       }
     where

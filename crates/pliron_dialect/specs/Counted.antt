@@ -84,19 +84,19 @@ fewer_total (n ∷ ns) (suc i) some = let r = fewer_total ns i some in omega (ar
 -- ---- counts in attributes
 
 -- what the first c attributes count
-abbrev pub counts_in : ℕ → List AttrObj → List ℕ
-counts_in zero attrs = []
-counts_in (suc c) [] = []
-counts_in (suc c) (a ∷ attrs) = counted_by a ∷ counts_in c attrs
+abbrev pub edge_counts_in : ℕ → List AttrObj → List ℕ
+edge_counts_in zero attrs = []
+edge_counts_in (suc c) [] = []
+edge_counts_in (suc c) (a ∷ attrs) = counted_by a ∷ edge_counts_in c attrs
 
 -- the attributes, where the one of this edge counts one fewer
 abbrev pub one_fewer : List AttrObj → ℕ → ℕ → List AttrObj
-one_fewer attrs c i = slice_set attrs i (Int (pos (count_of (counts_in c attrs) i - 1)))
+one_fewer attrs c i = slice_set attrs i (Int (pos (count_of (edge_counts_in c attrs) i - 1)))
 
-pub fewer_counted : (c i n : ℕ) (attrs : List AttrObj) → i < c → n ≡ count_of (counts_in c attrs) i - 1 → counts_in c (slice_set attrs i (Int (pos n))) ≡ fewer (counts_in c attrs) i
+pub fewer_counted : (c i n : ℕ) (attrs : List AttrObj) → i < c → n ≡ count_of (edge_counts_in c attrs) i - 1 → edge_counts_in c (slice_set attrs i (Int (pos n))) ≡ fewer (edge_counts_in c attrs) i
 fewer_counted zero i n attrs lt e = absurd (omega (arith, lt))
 fewer_counted (suc c) i n [] lt e = refl
-fewer_counted (suc c) zero n (a ∷ attrs) lt e = ap (λ x. x ∷ counts_in c attrs) e
+fewer_counted (suc c) zero n (a ∷ attrs) lt e = ap (λ x. x ∷ edge_counts_in c attrs) e
 fewer_counted (suc c) (suc i) n (a ∷ attrs) lt e = ap (λ xs. counted_by a ∷ xs) (fewer_counted c i n attrs (omega (arith, lt)) e)
 
 -- ---- places and values
@@ -245,13 +245,13 @@ start_next [] (suc i) = refl
 start_next (n ∷ ns) zero = omega arith
 start_next (n ∷ ns) (suc i) = let r = start_next ns i in omega (arith, r)
 
-pub count_at : (c i : ℕ) (attrs : List AttrObj) (a : AttrObj) → i < c → slice_get attrs i ≡ Some a → count_of (counts_in c attrs) i ≡ counted_by a
+pub count_at : (c i : ℕ) (attrs : List AttrObj) (a : AttrObj) → i < c → slice_get attrs i ≡ Some a → count_of (edge_counts_in c attrs) i ≡ counted_by a
 count_at zero i attrs a lt e = absurd (omega (arith, lt))
 count_at (suc c) i [] a lt e = grind arith
 count_at (suc c) zero (x ∷ attrs) a lt e = ap counted_by (same_Some x a e)
 count_at (suc c) (suc i) (x ∷ attrs) a lt e = count_at c i attrs a (omega (arith, lt)) e
 
-pub count_past : (c i : ℕ) (attrs : List AttrObj) → c ≤ i ⊎ length attrs ≤ i → count_of (counts_in c attrs) i ≡ 0
+pub count_past : (c i : ℕ) (attrs : List AttrObj) → c ≤ i ⊎ length attrs ≤ i → count_of (edge_counts_in c attrs) i ≡ 0
 count_past zero i attrs le = refl
 count_past (suc c) i [] le = refl
 count_past (suc c) zero (x ∷ attrs) (inl le) = absurd (omega (arith, le))
@@ -266,7 +266,7 @@ capped_empty a ns i e = of_bool (nat_le (suc (start_of ns i + count_of ns i)) a)
     of_bool true = ap (range_with_len (suc (start_of ns i))) e
     of_bool false = refl
 
-pub start_all : (c : ℕ) (attrs : List AttrObj) → start_of (counts_in c attrs) c ≡ total (counts_in c attrs)
+pub start_all : (c : ℕ) (attrs : List AttrObj) → start_of (edge_counts_in c attrs) c ≡ total (edge_counts_in c attrs)
 start_all zero attrs = refl
 start_all (suc c) [] = refl
 start_all (suc c) (a ∷ attrs) = ap (λ x. counted_by a + x) (start_all c attrs)
@@ -289,7 +289,7 @@ two_counts n m = min n m ∷ (m - n) ∷ []
 -- of a branch with c edges and a operands
 abbrev pub counts_by : Counting → (c a : ℕ) → List AttrObj → List ℕ
 counts_by OfFirst c a attrs = two_counts (first_edge_count attrs) (a - 1)
-counts_by OfEach c a attrs = counts_in c attrs
+counts_by OfEach c a attrs = edge_counts_in c attrs
 
 -- whether an attribute counts the operands of this edge
 abbrev pub counts_edge : Counting → ℕ → Bool
@@ -305,7 +305,7 @@ fewer_by OfEach attrs c i = one_fewer attrs c i
 -- whether the counts fit the operands
 abbrev pub counts_fit : Counting → List AttrObj → (c a : ℕ) → Bool
 counts_fit OfFirst attrs c a = nat_eq c 2 && nat_lt (first_edge_count attrs) a
-counts_fit OfEach attrs c a = nat_eq (suc (total (counts_in c attrs))) a
+counts_fit OfEach attrs c a = nat_eq (suc (total (edge_counts_in c attrs))) a
 
 first_fewer : (n m : ℕ) → 0 < min n m → two_counts (n - 1) (m - 1) ≡ fewer (two_counts n m) 0
 first_fewer n m some = ap₂ (λ x y. x ∷ y ∷ []) (omega (arith, some)) (omega (arith, some))
@@ -314,7 +314,7 @@ second_fewer : (n m : ℕ) → 0 < m - n → two_counts n (m - 1) ≡ fewer (two
 second_fewer n m some = ap₂ (λ x y. x ∷ y ∷ []) (omega (arith, some)) (omega (arith, some))
 
 pub fewer_counted_by : (counting : Counting) (c a i : ℕ) (attrs : List AttrObj) → i < c → 0 < count_of (counts_by counting c a attrs) i → counts_by counting c (a - 1) (fewer_by counting attrs c i) ≡ fewer (counts_by counting c a attrs) i
-fewer_counted_by OfEach c a i attrs lt some = fewer_counted c i (count_of (counts_in c attrs) i - 1) attrs lt refl
+fewer_counted_by OfEach c a i attrs lt some = fewer_counted c i (count_of (edge_counts_in c attrs) i - 1) attrs lt refl
 fewer_counted_by OfFirst c a zero [] lt some = absurd (omega (arith, some))
 fewer_counted_by OfFirst c a zero (x ∷ attrs) lt some = first_fewer (counted_by x) (a - 1) some
 fewer_counted_by OfFirst c a (suc zero) attrs lt some = second_fewer (first_edge_count attrs) (a - 1) some
@@ -358,7 +358,7 @@ second_below n a some = omega (arith, some)
 
 -- so they do without an operand of an edge
 pub fits_again : (counting : Counting) (attrs : List AttrObj) (c a i : ℕ) → i < c → 0 < count_of (counts_by counting c a attrs) i → IsTrue (counts_fit counting attrs c a) → IsTrue (counts_fit counting (fewer_by counting attrs c i) c (a - 1))
-fits_again OfEach attrs c a i lt some h = same_is _ (a - 1) (ap (λ ns. suc (total ns)) (fewer_counted c i (count_of (counts_in c attrs) i - 1) attrs lt refl) ∙ omega (arith, fewer_total (counts_in c attrs) i some, is_same _ a h))
+fits_again OfEach attrs c a i lt some h = same_is _ (a - 1) (ap (λ ns. suc (total ns)) (fewer_counted c i (count_of (edge_counts_in c attrs) i - 1) attrs lt refl) ∙ omega (arith, fewer_total (edge_counts_in c attrs) i some, is_same _ a h))
 fits_again OfFirst [] c a zero lt some h = absurd (omega (arith, some))
 fits_again OfFirst (x ∷ attrs) c a zero lt some h = let p = and_both _ _ h in and_true _ _ p.0 (below_is (counted_by x - 1) (a - 1) (omega (arith, some, is_below (counted_by x) a p.1)))
 fits_again OfFirst attrs c a (suc zero) lt some h = let p = and_both _ _ h in and_true _ _ p.0 (below_is (first_edge_count attrs) (a - 1) (second_below (first_edge_count attrs) a some))
@@ -374,10 +374,10 @@ dropped (suc c) (suc i) x (a ∷ attrs) lt = dropped c i x attrs (omega (arith, 
 pub rest_kept : (counting : Counting) (c i : ℕ) (attrs : List AttrObj) → i < c → drop (counted_attributes counting c) (fewer_by counting attrs c i) ≡ drop (counted_attributes counting c) attrs
 rest_kept OfFirst c zero attrs lt = dropped 1 0 (Int (pos (first_edge_count attrs - 1))) attrs (omega arith)
 rest_kept OfFirst c (suc i) attrs lt = refl
-rest_kept OfEach c i attrs lt = dropped c i (Int (pos (count_of (counts_in c attrs) i - 1))) attrs lt
+rest_kept OfEach c i attrs lt = dropped c i (Int (pos (count_of (edge_counts_in c attrs) i - 1))) attrs lt
 
 -- one attribute at most is another one
 pub one_other : (counting : Counting) (c i : ℕ) (attrs : List AttrObj) → (fewer_by counting attrs c i ≡ attrs) ⊎ ((a : ℕ) × (x : AttrObj) × (fewer_by counting attrs c i ≡ slice_set attrs a x))
 one_other OfFirst c zero attrs = inr (0, Int (pos (first_edge_count attrs - 1)), refl)
 one_other OfFirst c (suc i) attrs = inl refl
-one_other OfEach c i attrs = inr (i, Int (pos (count_of (counts_in c attrs) i - 1)), refl)
+one_other OfEach c i attrs = inr (i, Int (pos (count_of (edge_counts_in c attrs) i - 1)), refl)

@@ -19,11 +19,11 @@ use Rattle.pliron_dialect.specs.Parts.{Admits, IsQuiet, comes_first, three, both
 
 -- ---- numbers that are known
 
-abbrev pub Agrees : Option ℤ → ℤ → Type 0
-Agrees None n = Unit {0}
-Agrees (Some m) n = m ≡ n
+abbrev pub AgreesWithKnown : Option ℤ → ℤ → Type 0
+AgreesWithKnown None n = Unit {0}
+AgreesWithKnown (Some m) n = m ≡ n
 
-pub first_agrees : (known : List (Option AttrObj)) (ds : List Datum) → Known known ds → Agrees (known_number_at known 0) (first_number ds)
+pub first_agrees : (known : List (Option AttrObj)) (ds : List Datum) → Known known ds → AgreesWithKnown (known_number_at known 0) (first_number ds)
 first_agrees [] ds h = tt
 first_agrees (a ∷ known) [] h = absurd h
 first_agrees (None ∷ known) (d ∷ ds) h = tt
@@ -136,7 +136,7 @@ nothing_picked value h ds (Some true) = tt
 nothing_picked value h ds (Some false) = tt
 nothing_picked value h ds None = number_given value h ds None
 
-picked_given : (value : Interpretation) (h : Head) (known : List (Option AttrObj)) (ds : List Datum) (truth : ℤ → Option Bool) (o : Option ℤ) (c : ℤ) → Agrees o c → Known known ds → Known (picked_known known (truth_of truth o) ∷ []) (operands_picked value h ds (truth c))
+picked_given : (value : Interpretation) (h : Head) (known : List (Option AttrObj)) (ds : List Datum) (truth : ℤ → Option Bool) (o : Option ℤ) (c : ℤ) → AgreesWithKnown o c → Known known ds → Known (picked_known known (truth_of truth o) ∷ []) (operands_picked value h ds (truth c))
 picked_given value h known ds truth None c a k = nothing_picked value h ds (truth c)
 picked_given value h known ds truth (Some n) c a k = subst (λ x. Known (picked_known known (truth n) ∷ []) (operands_picked value h ds (truth x))) a (where_true value h known ds (truth n) k)
 
@@ -302,7 +302,7 @@ edge_among : (value : Interpretation) (h : Head) (ds : List Datum) (targets : Li
 edge_among value h ds targets None b e = get_in targets (edge_or value h ds None) b e
 edge_among value h ds targets (Some i) b e = subst (λ x. In b (only_successor x)) (sym e) (inl refl)
 
-edge_within : (value : Interpretation) (h : Head) (ds : List Datum) (targets : List ℕ) (choose : ℤ → Option ℕ) (p : Option ℤ) (c : ℤ) → Agrees p c → (b : ℕ) → slice_get targets (edge_or value h ds (choose c)) ≡ Some b → In b (edges_taken targets choose p)
+edge_within : (value : Interpretation) (h : Head) (ds : List Datum) (targets : List ℕ) (choose : ℤ → Option ℕ) (p : Option ℤ) (c : ℤ) → AgreesWithKnown p c → (b : ℕ) → slice_get targets (edge_or value h ds (choose c)) ≡ Some b → In b (edges_taken targets choose p)
 edge_within value h ds targets choose None c a b e = get_in targets (edge_or value h ds (choose c)) b e
 edge_within value h ds targets choose (Some n) c a b e = subst (λ x. In b (only_edge targets (choose x))) (sym a) (edge_among value h ds targets (choose c) b e)
 

@@ -12,14 +12,14 @@ use Rattle.pliron_laws.specs.Datum.{Datum, Empty, Number, Text, Join, datum_of, 
 use Rattle.pliron_laws.specs.Acting.{Known}
 use Rattle.pliron_laws.specs.declared.operand_folds.OpFoldResult.{OpFoldResult}
 use Rattle.pliron_laws.specs.declared.operand_folds.OpFoldResult.TheVariants.{Operand, Constant as ConstantFold}
-use Rattle.pliron_laws.specs.OperandFolding.{AreSameData, datum_by, IsWithin, AnswersOperand, AnswersOperands}
+use Rattle.pliron_laws.specs.OperandFolding.{AreSameData, datum_by, IsWithinShape, AnswersOperand, AnswersOperands}
 use Rattle.pliron_dialect.specs.declared.identity.Absorption.{Absorption}
 use Rattle.pliron_dialect.specs.declared.identity.Identity.{Identity}
 use Rattle.pliron_dialect.specs.Identities.{same_datum, is_this, place_of_one, place_by, place_between, place_in, is_known_as, are_same, identity_operand, agrees_with, absorption_if, absorption_of, absorber_of, absorbed_of, equal_if, equal_of, given_by, given_between, given_in, identity_constant, IdentityHolds, operand_by_fact, constant_by_fact}
 use Rattle.pliron_dialect.specs.Roles.{Interpretation, Allows, Role, Constant, Folds, Picks, Opaque, Jumps, Chooses, Leaves, Stops, Acts, Names, Forks, Holds, RoleFits, RolesFit, ComputesFacts, complete, give_or_trap, numbers_of, first_number, results_given, operands_picked, operand_left, nth_datum, truth_of, known_number_at, by_role, by_form, form_of, act_of, no_act, meaning_by, folds_of}
 use Rattle.pliron_dialect.specs.declared.form.Otherwise.TheVariants.{Says, Never, Traps}
 use Rattle.pliron_dialect.specs.Parts.{Admits, AdmitsAll, IsQuiet, comes_first, three, same, both_parts}
-use Rattle.pliron_dialect.specs.FoldLaws.{Agrees, first_agrees, role_quiet}
+use Rattle.pliron_dialect.specs.FoldLaws.{AgreesWithKnown, first_agrees, role_quiet}
 use Rattle.pliron_dialect.specs.OperandFolds.{place_picked, answer_at, fold_by_identity, operands_by, operand_folds_by}
 use Rattle.pliron_dialect.specs.OperandFacts.{GivesAnswered, facts_answer, fact_within}
 
@@ -359,7 +359,7 @@ there [] p lt = absurd (omega (arith, lt))
 there (d ∷ ds) zero lt = refl
 there (d ∷ ds) (suc p) lt = there ds p (omega (arith, lt))
 
-truth_agrees : (truth : ℤ → Option Bool) (o : Option ℤ) (c : ℤ) (b : Bool) → Agrees o c → truth_of truth o ≡ Some b → truth c ≡ Some b
+truth_agrees : (truth : ℤ → Option Bool) (o : Option ℤ) (c : ℤ) (b : Bool) → AgreesWithKnown o c → truth_of truth o ≡ Some b → truth c ≡ Some b
 truth_agrees truth None c b a e = grind arith
 truth_agrees truth (Some n) c b a e = ap truth (sym a) ∙ e
 
@@ -384,7 +384,7 @@ record Left (value : Interpretation) (r : Role) (s : Shape) (known : List (Optio
   one_result : s.results ≡ 1
   no_successors : s.successors ≡ 0
   folds : IsTrue (folds_of (form_of r))
-  within : IsWithin s answer
+  within : IsWithinShape s answer
   gives : (memo : Datum) (first : List Datum) → length first ≡ s.operands → Known known first → AreSameData operands first → GivesAnswered answer first (act_of value r s memo first)
 
 answered : (o : Option OpFoldResult) (i : ℕ) (answer : OpFoldResult) → slice_get (o ∷ []) i ≡ Some (Some answer) → (i ≡ 0) × (o ≡ Some answer)
@@ -397,12 +397,12 @@ is_answer (Some p) number answer e = inl (p, refl, sym (same_Some (Operand p) an
 is_answer None None answer e = grind arith
 is_answer None (Some m) answer e = inr (m, refl, refl, sym (same_Some (ConstantFold (Int m)) answer e))
 
-identity_answer_within : (i : Identity) (s : Shape) (known : List (Option AttrObj)) (operands : List ℕ) (answer : OpFoldResult) → length known ≡ s.operands → answer_at (identity_operand i known operands) (identity_constant i known operands) ≡ Some answer → IsWithin s answer
+identity_answer_within : (i : Identity) (s : Shape) (known : List (Option AttrObj)) (operands : List ℕ) (answer : OpFoldResult) → length known ≡ s.operands → answer_at (identity_operand i known operands) (identity_constant i known operands) ≡ Some answer → IsWithinShape s answer
 identity_answer_within i s known operands answer l e = by_case (is_answer (identity_operand i known operands) (identity_constant i known operands) answer e)
   where
-    by_case : ((p : ℕ) × (identity_operand i known operands ≡ Some p) × (answer ≡ Operand p)) ⊎ ((m : ℤ) × (identity_operand i known operands ≡ None) × (identity_constant i known operands ≡ Some m) × (answer ≡ ConstantFold (Int m))) → IsWithin s answer
-    by_case (inl c) = subst (IsWithin s) (sym c.2) (omega (arith, identity_operand_within i known operands c.0 c.1, l))
-    by_case (inr c) = subst (IsWithin s) (sym c.3) tt
+    by_case : ((p : ℕ) × (identity_operand i known operands ≡ Some p) × (answer ≡ Operand p)) ⊎ ((m : ℤ) × (identity_operand i known operands ≡ None) × (identity_constant i known operands ≡ Some m) × (answer ≡ ConstantFold (Int m))) → IsWithinShape s answer
+    by_case (inl c) = subst (IsWithinShape s) (sym c.2) (omega (arith, identity_operand_within i known operands c.0 c.1, l))
+    by_case (inr c) = subst (IsWithinShape s) (sym c.3) tt
 
 identity_answer_given : (value : Interpretation) (h : Head) (computed : Option ℤ) (i : Identity) (known : List (Option AttrObj)) (operands : List ℕ) (answer : OpFoldResult) (first : List Datum) → Known known first → AreSameData operands first → answer_at (identity_operand i known operands) (identity_constant i known operands) ≡ Some answer → GivesFirst answer first (operand_left first (place_in i first) (results_given value h first (option_or (given_in i first) computed)))
 identity_answer_given value h computed i known operands answer first k s e = by_case (is_answer (identity_operand i known operands) (identity_constant i known operands) answer e)
@@ -415,12 +415,12 @@ identity_answer_given value h computed i known operands answer first k s e = by_
     by_case (inr c) = subst (λ a. GivesFirst a first given) (sym c.3) (number_given_by value h first computed i known operands first c.0 k s c.1 c.2)
 
 -- by a fact about what is computed
-fact_answer_within : (i : Identity) (s : Shape) (known : List (Option AttrObj)) (operands : List ℕ) (answer : OpFoldResult) → length known ≡ s.operands → answer_at (operand_by_fact i known) (constant_by_fact i known operands) ≡ Some answer → IsWithin s answer
+fact_answer_within : (i : Identity) (s : Shape) (known : List (Option AttrObj)) (operands : List ℕ) (answer : OpFoldResult) → length known ≡ s.operands → answer_at (operand_by_fact i known) (constant_by_fact i known operands) ≡ Some answer → IsWithinShape s answer
 fact_answer_within i s known operands answer l e = by_case (is_answer (operand_by_fact i known) (constant_by_fact i known operands) answer e)
   where
-    by_case : ((p : ℕ) × (operand_by_fact i known ≡ Some p) × (answer ≡ Operand p)) ⊎ ((m : ℤ) × (operand_by_fact i known ≡ None) × (constant_by_fact i known operands ≡ Some m) × (answer ≡ ConstantFold (Int m))) → IsWithin s answer
-    by_case (inl c) = subst (IsWithin s) (sym c.2) (omega (arith, fact_within i known c.0 c.1, l))
-    by_case (inr c) = subst (IsWithin s) (sym c.3) tt
+    by_case : ((p : ℕ) × (operand_by_fact i known ≡ Some p) × (answer ≡ Operand p)) ⊎ ((m : ℤ) × (operand_by_fact i known ≡ None) × (constant_by_fact i known operands ≡ Some m) × (answer ≡ ConstantFold (Int m))) → IsWithinShape s answer
+    by_case (inl c) = subst (IsWithinShape s) (sym c.2) (omega (arith, fact_within i known c.0 c.1, l))
+    by_case (inr c) = subst (IsWithinShape s) (sym c.3) tt
 
 picked_answer : (o : Option Bool) (answer : OpFoldResult) → answer_at (place_picked o) None ≡ Some answer → (p : ℕ) × (place_picked o ≡ Some p) × (answer ≡ Operand p)
 picked_answer None answer e = grind arith
@@ -470,7 +470,7 @@ role_left value allows (Picks truth) s known operands i answer own h l e =
       one_result = u.0;
       no_successors = v.0;
       folds = refl;
-      within = subst (IsWithin s) (sym c.2) (omega (arith, picked_within (truth_of truth (known_number_at known 0)) c.0 c.1, q.0));
+      within = subst (IsWithinShape s) (sym c.2) (omega (arith, picked_within (truth_of truth (known_number_at known 0)) c.0 c.1, q.0));
       gives = λ memo first k known_first same_data. subst (λ a. GivesFirst a first (operands_picked value s.head first (truth (first_number first)))) (sym c.2) (picked_place value s.head (truth_of truth (known_number_at known 0)) (truth (first_number first)) first c.0 (k ∙ q.0) (λ b. truth_agrees truth (known_number_at known 0) (first_number first) b (first_agrees known first known_first)) c.1);
     }
 role_left value allows Constant s known operands i answer own h l e = grind arith

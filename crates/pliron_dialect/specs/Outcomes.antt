@@ -26,14 +26,14 @@ use Rattle.pliron_dialect.specs.declared.form.Form.{Form}
 use Rattle.pliron_dialect.specs.declared.form.Form.TheVariants.{Constant as ConstantForm}
 use Rattle.pliron_dialect.specs.Counted.{edge_range, uncapped}
 use Rattle.pliron_dialect.specs.BranchLaws.{is_choice}
-use Rattle.pliron_dialect.specs.Roles.{Interpretation, Role, Tables, role_at, by_form, no_places, places_by_form, Allows, constant_head_of, head_of_kind, Jumps, Chooses, chosen_edge, counts_of, by_role, takes_by, meaning_by, form_at, constants_by, known_number_at, places_by}
+use Rattle.pliron_dialect.specs.Roles.{Interpretation, Role, Tables, role_at, by_form, no_places, places_by_form, Allows, constant_head_of, head_of_kind, Jumps, Chooses, chosen_edge, edge_counts_of, by_role, takes_by, meaning_by, form_at, constants_by, known_number_at, places_by}
 use Rattle.pliron_dialect.specs.Parts.{Admits, both_parts}
 use Rattle.pliron_dialect.specs.declared.form.Counting.{Counting}
 use Rattle.pliron_dialect.specs.Replacing.{becomes_jump}
 
-abbrev pub form_in : (ℕ → Option Role) → Option Head → Option Form
-form_in roles None = None
-form_in roles (Some h) = form_at roles h.kind
+abbrev pub form_of_head : (ℕ → Option Role) → Option Head → Option Form
+form_of_head roles None = None
+form_of_head roles (Some h) = form_at roles h.kind
 
 -- a constant stays as it is, for all else constants with this number are put
 abbrev pub fold_of : Interpretation → (ℕ → Option Role) → Allows → (AttrObj → Bool) → ℕ → Bool → Option Form → Outcome
@@ -41,7 +41,7 @@ fold_of value roles allows accepts n ssa (Some ConstantForm) t t' op known answe
 fold_of value roles allows accepts n ssa _ t t' op known answer = materialising_outcome (meaning_by value roles allows) (constants_by roles) accepts (constant_head_of n ssa) t t' op known answer
 
 unfoldable pub outcome_by : Interpretation → (ℕ → Option Role) → Allows → (AttrObj → Bool) → ℕ → Bool → Outcome
-outcome_by value roles allows accepts n ssa t t' op known answer = fold_of value roles allows accepts n ssa (form_in roles (head_of t op)) t t' op known answer
+outcome_by value roles allows accepts n ssa t t' op known answer = fold_of value roles allows accepts n ssa (form_of_head roles (head_of t op)) t t' op known answer
 
 -- an index that is there
 abbrev pub index_below : ℕ → Option ℕ → Option ℕ
@@ -144,15 +144,15 @@ module _ (value : Interpretation) (roles : ℕ → Option Role) (allows : Allows
   constant_within (Some ConstantForm) t t' op known answer o at h = (Rest (same_tree t t' h.0), subst (λ a. ReportsChange a t t') (sym h.1) (same_tree t t' h.0))
   constant_within _ t t' op known answer o at h = folds_by_constants (meaning_by value roles allows) (constants_by roles) accepts (constant_head_of n ssa) t t' op known answer o at h
 
-  places_same : (s : Shape) (counting : Counting) (choose : ℕ → List AttrObj → ℤ → Option ℕ) (e : ℕ) → roles s.head.kind ≡ Some (Chooses counting choose) → Admits (Some (Chooses counting choose)) s → (meaning_by value roles allows).forwarded s e ≡ edge_range (counts_of counting s) e
+  places_same : (s : Shape) (counting : Counting) (choose : ℕ → List AttrObj → ℤ → Option ℕ) (e : ℕ) → roles s.head.kind ≡ Some (Chooses counting choose) → Admits (Some (Chooses counting choose)) s → (meaning_by value roles allows).forwarded s e ≡ edge_range (edge_counts_of counting s) e
   unfolding meaning_by
-  places_same s counting choose e f h = ap (by_role [] (places_by s e)) f ∙ uncapped s.operands (counts_of counting s) e (is_choice counting choose s.head s.operands s.results s.successors (length s.entry_arguments) h).operands
+  places_same s counting choose e f h = ap (by_role [] (places_by s e)) f ∙ uncapped s.operands (edge_counts_of counting s) e (is_choice counting choose s.head s.operands s.results s.successors (length s.entry_arguments) h).operands
 
   jump_within : (t t' : Tree) (op : ℕ) (known : List (Option AttrObj)) (o : Operation) (counting : Counting) (choose : ℕ → List AttrObj → ℤ → Option ℕ) (c : ℤ) (e : ℕ) → op_at t op ≡ Some o → roles (shape_of (meaning_by value roles allows) t o).head.kind ≡ Some (Chooses counting choose) → Admits (Some (Chooses counting choose)) (shape_of (meaning_by value roles allows) t o) → known_number_at known 0 ≡ Some c → chosen_edge counting choose (shape_of (meaning_by value roles allows) t o) c ≡ Some e → BecomesJump value roles allows m jump_ssa t t' op o e → FoldsBranch (meaning_by value roles allows) op known t t' × (IsSameTree t t' → ⊥)
   jump_within t t' op known o counting choose c e at f h k reported j =
       let s : Shape = shape_of (meaning_by value roles allows) t o in
       let new = becomes_jump value roles allows m jump_ssa jumps allowed counting choose (shape_of (meaning_by value roles allows) t o) o.successors known c e j.block f h k reported j.target in (
-        subst (FoldsBranch (meaning_by value roles allows) op known t) (sym j.tree) (Replaced o (head_of_kind m jump_ssa) j.values (j.block ∷ []) (edge_range (counts_of counting (shape_of (meaning_by value roles allows) t o)) e) (e ∷ []) at (subst (λ z. map Some j.values ≡ pick z o.operands) (places_same (shape_of (meaning_by value roles allows) t o) counting choose e f h) j.forwarded) new),
+        subst (FoldsBranch (meaning_by value roles allows) op known t) (sym j.tree) (Replaced o (head_of_kind m jump_ssa) j.values (j.block ∷ []) (edge_range (edge_counts_of counting (shape_of (meaning_by value roles allows) t o)) e) (e ∷ []) at (subst (λ z. map Some j.values ≡ pick z o.operands) (places_same (shape_of (meaning_by value roles allows) t o) counting choose e f h) j.forwarded) new),
         differs t t' op o.head (head_at t op o at) (ap (λ z. row_of z op) j.tree ∙ replaced_gone t op (head_of_kind m jump_ssa) j.values (j.block ∷ []) (liveness t op o.head (head_at t op o at))),
       )
 
@@ -173,6 +173,6 @@ module _ (value : Interpretation) (roles : ℕ → Option Role) (allows : Allows
 pub folds_in_place : (value : Interpretation) (roles : ℕ → Option Role) (allows : Allows) (accepts : AttrObj → Bool) (n : ℕ) (ssa : Bool) (m : ℕ) (jump_ssa : Bool) → roles m ≡ Some Jumps → ((k : ℕ) → IsTrue (allows (head_of_kind m jump_ssa) k 0 1 0)) → FoldsInPlace (meaning_by value roles allows) (constants_by roles) accepts (constant_head_of n ssa) (outcome_by value roles allows accepts n ssa) (branch_outcome_by value roles allows m jump_ssa)
 unfolding outcome_by branch_outcome_by
 folds_in_place value roles allows accepts n ssa m jump_ssa jumps allowed = record {
-  constant = λ t t' op known answer o at h. constant_within value roles allows accepts n ssa m jump_ssa jumps allowed (form_in roles (head_of t op)) t t' op known answer o at h;
+  constant = λ t t' op known answer o at h. constant_within value roles allows accepts n ssa m jump_ssa jumps allowed (form_of_head roles (head_of t op)) t t' op known answer o at h;
   branch = λ t t' op known answer h. edge_within value roles allows accepts n ssa m jump_ssa jumps allowed (admits_shape roles allows (shape_of (meaning_by value roles allows) t h.0)) (known_number_at known 0) (roles (shape_of (meaning_by value roles allows) t h.0).head.kind) t t' op known h.0 answer h.1 refl refl refl h.2;
 }

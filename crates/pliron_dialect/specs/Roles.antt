@@ -283,8 +283,8 @@ chosen_edge counting choose s c = choose s.head.kind (drop (counted_attributes c
 abbrev pub edge_chosen : Interpretation → Counting → (ℕ → List AttrObj → ℤ → Option ℕ) → Shape → List Datum → ℕ
 edge_chosen value counting choose s input = edge_or value (head_without_counts counting s) (take 1 input) (chosen_edge counting choose s (first_number input))
 
-abbrev pub counts_of : Counting → Shape → List ℕ
-counts_of counting s = counts_by counting s.successors s.operands s.head.attrs
+abbrev pub edge_counts_of : Counting → Shape → List ℕ
+edge_counts_of counting s = counts_by counting s.successors s.operands s.head.attrs
 
 -- what is computed where all numbers are known
 abbrev pub complete : (Head → List (Option ℤ) → Option ℤ) → Head → List ℤ → Option ℤ
@@ -310,7 +310,7 @@ act_of value (Folds n knows identity otherwise) s memo input = folds_to otherwis
 act_of value (Picks truth) s memo input = Give (operands_picked value s.head input (truth (first_number input)))
 act_of value Opaque s memo input = Give (fit_data s.results (value s.head input))
 act_of value Jumps s memo input = Goto 0 input
-act_of value (Chooses counting choose) s memo input = Goto (edge_chosen value counting choose s input) (values_of_edge (counts_of counting s) (edge_chosen value counting choose s input) input)
+act_of value (Chooses counting choose) s memo input = Goto (edge_chosen value counting choose s input) (values_of_edge (edge_counts_of counting s) (edge_chosen value counting choose s input) input)
 act_of value Leaves s memo input = Leave input
 act_of value Stops s memo input = Trap
 act_of value (Acts says removes act) s memo input = act s memo input
@@ -426,7 +426,7 @@ LosesFit allows r s i = Fits allows r s → IsTrue (allows (shortened_of s i r) 
 abbrev pub RoleFits : Allows → Role → Shape → Type 0
 RoleFits allows (Folds n knows identity otherwise) s = ResultFits otherwise n knows identity
 RoleFits allows Jumps s = 0 < s.operands → LosesFit allows Jumps s 0
-RoleFits allows (Chooses counting choose) s = (i : ℕ) → i < s.successors → 0 < count_of (counts_of counting s) i → LosesFit allows (Chooses counting choose) s i
+RoleFits allows (Chooses counting choose) s = (i : ℕ) → i < s.successors → 0 < count_of (edge_counts_of counting s) i → LosesFit allows (Chooses counting choose) s i
 RoleFits allows (Acts says removes act) s = MovesFit allows (Acts says removes act) act s
 RoleFits allows (Names act named) s = NamesFit allows (Names act named) act named s
 RoleFits allows (Forks says act) s = MovesFit allows (Forks says act) act s
@@ -606,20 +606,20 @@ is_constant (Some ConstantForm) = true
 is_constant _ = false
 
 -- the answer of an operation of a form, of these three, and the list of it
-abbrev pub answer_in : Form → Option AttrObj → (Otherwise → Option AttrObj) → Option AttrObj → Option AttrObj
-answer_in ConstantForm a b c = a
-answer_in (FoldsForm n otherwise) a b c = b otherwise
-answer_in PicksForm a b c = c
-answer_in _ a b c = None
+abbrev pub form_answer : Form → Option AttrObj → (Otherwise → Option AttrObj) → Option AttrObj → Option AttrObj
+form_answer ConstantForm a b c = a
+form_answer (FoldsForm n otherwise) a b c = b otherwise
+form_answer PicksForm a b c = c
+form_answer _ a b c = None
 
-abbrev pub answers_of : Form → Option AttrObj → List (Option AttrObj)
-answers_of ConstantForm answer = answer ∷ []
-answers_of (FoldsForm n otherwise) answer = answer ∷ []
-answers_of PicksForm answer = answer ∷ []
-answers_of _ answer = []
+abbrev pub form_answers : Form → Option AttrObj → List (Option AttrObj)
+form_answers ConstantForm answer = answer ∷ []
+form_answers (FoldsForm n otherwise) answer = answer ∷ []
+form_answers PicksForm answer = answer ∷ []
+form_answers _ answer = []
 
 abbrev pub role_answer : Role → Head → List (Option AttrObj) → Option AttrObj
-role_answer r h known = answer_in (form_of r) (Some (first_attribute h.attrs)) (λ otherwise. folded_by otherwise (identity_in r h) (knows_in r h) known) (picked_known known (truth_of (truth_in r) (known_number_at known 0)))
+role_answer r h known = form_answer (form_of r) (Some (first_attribute h.attrs)) (λ otherwise. folded_by otherwise (identity_in r h) (knows_in r h) known) (picked_known known (truth_of (truth_in r) (known_number_at known 0)))
 
 -- the edge that a table has for a known number
 abbrev pub edge_by_role : Option Role → Head → ℕ → Option ℤ → Option ℕ
@@ -628,7 +628,7 @@ edge_by_role _ h c _ = None
 
 -- ---- the same by forms, for the code
 
-pub answers_by_form : (r : Role) (h : Head) (known : List (Option AttrObj)) → answers_of (form_of r) (role_answer r h known) ≡ answers_by h known r
+pub answers_by_form : (r : Role) (h : Head) (known : List (Option AttrObj)) → form_answers (form_of r) (role_answer r h known) ≡ answers_by h known r
 answers_by_form Constant h known = refl
 answers_by_form (Folds n knows identity otherwise) h known = refl
 answers_by_form (Picks truth) h known = refl

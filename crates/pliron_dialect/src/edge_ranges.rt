@@ -4,7 +4,7 @@ ghost use Rattle.std.specs.List.{range_with_len};
 ghost use Rattle.pliron_core.specs.Tree.{IsLive, head_of, operands_of, successors_of};
 ghost use Rattle.pliron_laws.specs.Datum.{Head as HeadOf};
 ghost use Rattle.pliron_laws.specs.Answers.{ReadsHead, with_head};
-ghost use Rattle.pliron_dialect.specs.Counted.{counts_edge as counts_edge_of, counts_in, counts_fit, two_counts, start_of, count_of, total, capped_places, first_edge_count};
+ghost use Rattle.pliron_dialect.specs.Counted.{counts_edge as counts_edge_of, edge_counts_in, counts_fit, two_counts, start_of, count_of, total, capped_places, first_edge_count};
 ghost use Rattle.pliron_dialect.specs.Roles.{role_at, form_at as form_by, by_form, no_places, places_by_form, shortened_by_form};
 
 use crate::EdgeRange;
@@ -25,7 +25,7 @@ fn sum_up_to(a: usize, b: usize, most: usize) -> usize
 
 // How many operands the edge with this index forwards, of so many edges, at most so many.
 fn count_at(attrs: &Attrs, edges: usize, i: usize, most: usize) -> usize
-    ensures { result ≡ min (count_of (counts_in edges attrs.now) i) most }
+    ensures { result ≡ min (count_of (edge_counts_in edges attrs.now) i) most }
 {
     if i >= edges {
         return 0;
@@ -38,7 +38,7 @@ fn count_at(attrs: &Attrs, edges: usize, i: usize, most: usize) -> usize
 
 // How many operands the edges before this one forward, at most so many.
 fn start_at(attrs: &Attrs, edges: usize, i: usize, most: usize) -> usize
-    ensures { result ≡ min (start_of (counts_in edges attrs.now) i) most }
+    ensures { result ≡ min (start_of (edge_counts_in edges attrs.now) i) most }
 {
     let mut start = 0;
     for j in 0..i {
@@ -60,7 +60,7 @@ fn first_count(attrs: &Attrs, most: usize) -> usize
 
 // Whether so many operands are what a branch decides by and what the attributes count of all its edges.
 fn each_fits(attrs: &Attrs, edges: usize, operands: usize) -> bool
-    ensures { result ≡ nat_eq (suc (total (counts_in edges attrs.now))) operands }
+    ensures { result ≡ nat_eq (suc (total (edge_counts_in edges attrs.now))) operands }
 {
     let all = start_at(attrs, edges, edges, operands);
     all < operands && all + 1 == operands
@@ -127,7 +127,8 @@ pub fn edge_near<K: Roles>(op: Ptr<Operation>, ctx: &Context, place: usize) -> u
 
 // The places of the operands that an edge of a branch with so many edges and operands forwards.
 fn branch_places(attrs: &Attrs, operands: usize, edges: usize, i: usize) -> EdgeRange
-    ensures places { capped_places operands (counts_in edges attrs.now) i ≡ range_with_len result.first result.count }
+    ensures places { capped_places operands (edge_counts_in edges attrs.now) i ≡ range_with_len result.first
+        result.count }
     ensures within { (j : ℕ) → j < result.count → result.first + j < operands }
     ensures fits { result.first + result.count ≤ 18446744073709551615 }
 {

@@ -3,7 +3,7 @@ ghost use Rattle.std.specs.Prelude.{◌≡◌, ◌∷◌, [], IfOk, IsOkUnless, 
 ghost use Rattle.pliron_core.specs.declared.attrs.AttrObj.TheVariants.{Int};
 ghost use Rattle.pliron_core.specs.Tree.{IsLive};
 ghost use Rattle.pliron_laws.specs.Answers.{ReadsHead};
-ghost use Rattle.pliron_dialect.specs.Roles.{first_attribute as first_of, answers_of as answers_in, role_answer, known_as, all_known, number_computed, complete, folded_by, identity_in, knows_in, picked_known, truth_of, truth_in, known_number_at, is_constant, role_at, form_at as form_by};
+ghost use Rattle.pliron_dialect.specs.Roles.{first_attribute as first_of, form_answers as answers_in, role_answer, known_as, all_known, number_computed, complete, folded_by, identity_in, knows_in, picked_known, truth_of, truth_in, known_number_at, is_constant, role_at, form_at as form_by};
 
 use crate::form::{Form, Otherwise};
 use crate::given::known_given;

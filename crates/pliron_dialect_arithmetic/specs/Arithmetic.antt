@@ -8,7 +8,7 @@ use Rattle.pliron_laws.specs.Laws.{CountsFit}
 use Rattle.pliron_dialect.specs.Roles.{Role, Tables, KeepsTables, RoleFits, is_zero, Constant, Jumps, Leaves, Acts}
 use Rattle.pliron_role_runs.specs.Numbers.{is_whole_number, known_at, wrapped_sum, wrapped_product, less, condition_of, edge_by_condition}
 use Rattle.pliron_role_runs.specs.Plain.{computes, branches_by_condition, never_asked, any_counts, allows_plain, computes_fits, jump_fits, branch_fits}
-use Rattle.pliron_role_runs.specs.Visits.{once, fit_data, visit_of, length-fitted, visit_fits, once_fits}
+use Rattle.pliron_role_runs.specs.Visits.{visit_of, length-fit_with_zeros, visit_fits, once_fits, once, fit_with_zeros}
 
 -- a function has one region, visits it once with its inputs, and leaves with what the visit gives
 abbrev pub function_takes : ℕ → ℕ → ℕ → Bool
@@ -23,7 +23,7 @@ abbrev pub if_takes : ℕ → ℕ → ℕ → Bool
 if_takes operands results regions = nat_eq regions 2
 
 abbrev pub if_act : Shape → Datum → List Datum → Move
-if_act s memo input = once memo (visit_of (edge_by_condition (condition_of input)) s (drop 1 input)) (Give (fit_data s.results input))
+if_act s memo input = once memo (visit_of (edge_by_condition (condition_of input)) s (drop 1 input)) (Give (fit_with_zeros s.results input))
 
 -- a `while` visits its region with its operands, and again with the values of each visit until the first
 -- of them is 0; then it gives the others
@@ -31,7 +31,7 @@ abbrev pub while_takes : ℕ → ℕ → ℕ → Bool
 while_takes operands results regions = nat_eq regions 1
 
 abbrev pub again_unless : Bool → Shape → List Datum → Move
-again_unless true s values = Give (fit_data s.results values)
+again_unless true s values = Give (fit_with_zeros s.results values)
 again_unless false s values = visit_of 0 s values
 
 abbrev pub while_act : Shape → Datum → List Datum → Move
@@ -113,13 +113,13 @@ numbered If = refl
 numbered While = refl
 
 again_fits : (b : Bool) (s : Shape) (values : List Datum) → CountsFit false s (again_unless b s values)
-again_fits true s values = length-fitted s.results values
+again_fits true s values = length-fit_with_zeros s.results values
 again_fits false s values = visit_fits false 0 s values
 
 -- what each role owes: moves pass as many values as there are places for
 fit : (k : ArithmeticKind) (s : Shape) → RoleFits (arithmetic.allows k) (arithmetic_role_of k) s
 fit Function s = λ h memo input. once_fits false s memo (visit_of 0 s input) (Leave input) (visit_fits false 0 s input) tt
-fit If s = λ h memo input. once_fits false s memo (visit_of (edge_by_condition (condition_of input)) s (drop 1 input)) (Give (fit_data s.results input)) (visit_fits false (edge_by_condition (condition_of input)) s (drop 1 input)) (length-fitted s.results input)
+fit If s = λ h memo input. once_fits false s memo (visit_of (edge_by_condition (condition_of input)) s (drop 1 input)) (Give (fit_with_zeros s.results input)) (visit_fits false (edge_by_condition (condition_of input)) s (drop 1 input)) (length-fit_with_zeros s.results input)
 fit While s = λ h memo input. once_fits false s memo (visit_of 0 s input) (again_unless (is_zero (condition_of input)) s (drop 1 input)) (visit_fits false 0 s input) (again_fits (is_zero (condition_of input)) s (drop 1 input))
 fit Add s = computes_fits 2 (λ os. wrapped_sum (known_at os 0) (known_at os 1))
 fit Mul s = computes_fits 2 (λ os. wrapped_product (known_at os 0) (known_at os 1))

@@ -5,7 +5,8 @@ use Rattle.std.specs.Int.{w64, CanDivide, cast_unsigned, int_rem_euclid, int_wra
 use Rattle.std.proofs.lemmas.Option.{slice_get_past}
 use Rattle.std.proofs.lemmas.Int.{SFits-int_wrap, to_z-of_z}
 use Rattle.pliron_dialect_bench.specs.Bench.{kinds, kind_of}
-use Rattle.pliron_dialect_bench.specs.BenchNumbers.{fits, is_zero, quotient}
+use Rattle.pliron_dialect_bench.specs.BenchNumbers.{fits, quotient}
+use Rattle.pliron_dialect.specs.Roles.{is_zero}
 
 -- no kind has a number past the last one
 pub none_past : (n : ℕ) → 15 < n → kind_of n ≡ None

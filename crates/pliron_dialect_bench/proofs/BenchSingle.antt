@@ -9,7 +9,7 @@ use Rattle.pliron_dialect_bench.specs.declared.kind.BenchKind.TheVariants.{Const
 use Rattle.pliron_dialect.specs.declared.form.Form.{Form}
 use Rattle.pliron_dialect.specs.declared.form.Form.TheVariants.{Constant as ConstantForm}
 use Rattle.pliron_dialect.specs.Roles.{Interpretation, Role, Allows, role_at, allows_at, meaning_by, constants_by, constant_head_of, head_of_kind}
-use Rattle.pliron_dialect.specs.Outcomes.{form_in, fold_of, outcome_by, edge_under, BecomesJump, JumpsWhereKnown, branch_outcome_by}
+use Rattle.pliron_dialect.specs.Outcomes.{form_of_head, fold_of, outcome_by, edge_under, BecomesJump, JumpsWhereKnown, branch_outcome_by}
 use Rattle.pliron_laws.specs.Datum.{Head, Meaning}
 use Rattle.pliron_laws.specs.Tree.{Operation, shape_of}
 use Rattle.pliron_laws.specs.Folding.{Constants}
@@ -17,7 +17,7 @@ use Rattle.pliron_laws.specs.Outcomes.{after_materialising, Materialises}
 use Rattle.pliron_laws.specs.Outcomes.Materialises.{Finished, Unanswered, Unknown, PassedOver, Put}
 use Rattle.pliron_laws.specs.Replacing.{branch_replaced}
 use Rattle.pliron_laws.specs.InPlace.{IsSingle, ReportsChange, materialising_outcome}
-use Rattle.pliron_dialect_bench.specs.Bench.{number_of, is_ssa, is_number}
+use Rattle.pliron_dialect_bench.specs.Bench.{number_of_kind, is_ssa, is_number_attribute}
 use Rattle.pliron_dialect_bench.specs.BenchMoves.{bench_value, bench_tables}
 use Rattle.pliron_dialect_bench.specs.BenchAnswers.{bench_outcome, bench_branch_outcome}
 use Rattle.pliron_dialect.specs.Ranges.{same_data}
@@ -66,10 +66,10 @@ fold_single value roles allows accepts n ssa _ t u u' op known o a b at x y = pu
 
 outcome_single : (value : Interpretation) (roles : ℕ → Option Role) (allows : Allows) (accepts : AttrObj → Bool) (n : ℕ) (ssa : Bool) → IsSingle (outcome_by value roles allows accepts n ssa)
 unfolding outcome_by
-outcome_single value roles allows accepts n ssa t u u' op known o a b at x y = fold_single value roles allows accepts n ssa (form_in roles (head_of t op)) t u u' op known o a b at x y
+outcome_single value roles allows accepts n ssa t u u' op known o a b at x y = fold_single value roles allows accepts n ssa (form_of_head roles (head_of t op)) t u u' op known o a b at x y
 
 pub constants_single : IsSingle bench_outcome
-constants_single = outcome_single bench_value (role_at bench_tables) (allows_at bench_tables) is_number (number_of Const) (is_ssa Const)
+constants_single = outcome_single bench_value (role_at bench_tables) (allows_at bench_tables) is_number_attribute (number_of_kind Const) (is_ssa Const)
 
 -- ---- branches
 
@@ -91,4 +91,4 @@ module _ (value : Interpretation) (roles : ℕ → Option Role) (allows : Allows
       edge_single (edge_under roles allows (shape_of (meaning_by value roles allows) t x.0) known) t u u' op x.0 a b x.2 (subst (λ z. JumpsWhereKnown value roles allows n ssa (edge_under roles allows (shape_of (meaning_by value roles allows) t z) known) t u' op z (Some b)) same y.2)
 
 pub branches_single : IsSingle bench_branch_outcome
-branches_single = branch_single bench_value (role_at bench_tables) (allows_at bench_tables) (number_of Br) (is_ssa Br)
+branches_single = branch_single bench_value (role_at bench_tables) (allows_at bench_tables) (number_of_kind Br) (is_ssa Br)

@@ -12,23 +12,23 @@ use Rattle.pliron_dialect.specs.Counted.{first_edge_count as first_count}
 abbrev pub kinds : List BenchKind
 kinds = Mod ∷ Func ∷ Const ∷ Add ∷ Mul ∷ Div ∷ Read ∷ Print ∷ Pair ∷ Sink ∷ Scope ∷ Box ∷ Br ∷ Cbr ∷ Ret ∷ Fork ∷ []
 
-abbrev pub number_of : BenchKind → ℕ
-number_of Mod = 0
-number_of Func = 1
-number_of Const = 2
-number_of Add = 3
-number_of Mul = 4
-number_of Div = 5
-number_of Read = 6
-number_of Print = 7
-number_of Pair = 8
-number_of Sink = 9
-number_of Scope = 10
-number_of Box = 11
-number_of Br = 12
-number_of Cbr = 13
-number_of Ret = 14
-number_of Fork = 15
+abbrev pub number_of_kind : BenchKind → ℕ
+number_of_kind Mod = 0
+number_of_kind Func = 1
+number_of_kind Const = 2
+number_of_kind Add = 3
+number_of_kind Mul = 4
+number_of_kind Div = 5
+number_of_kind Read = 6
+number_of_kind Print = 7
+number_of_kind Pair = 8
+number_of_kind Sink = 9
+number_of_kind Scope = 10
+number_of_kind Box = 11
+number_of_kind Br = 12
+number_of_kind Cbr = 13
+number_of_kind Ret = 14
+number_of_kind Fork = 15
 
 -- the kind with this number, if there is one
 unfoldable pub kind_of : ℕ → Option BenchKind
@@ -77,12 +77,12 @@ abbrev pub has_none : List AttrObj → Bool
 has_none [] = true
 has_none (a ∷ attrs) = false
 
-abbrev pub is_number : AttrObj → Bool
-is_number (Int n) = fits n
-is_number (Words s) = false
+abbrev pub is_number_attribute : AttrObj → Bool
+is_number_attribute (Int n) = fits n
+is_number_attribute (Words s) = false
 
 abbrev pub has_number : List AttrObj → Bool
-has_number (a ∷ []) = is_number a
+has_number (a ∷ []) = is_number_attribute a
 has_number _ = false
 
 abbrev pub is_count : AttrObj → ℕ → Bool
@@ -116,10 +116,10 @@ takes h operands results successors regions k = same_bool h.ssa (is_ssa k) && ta
 
 -- the head of a kind without attributes, and with one
 abbrev pub plain_head : BenchKind → Head
-plain_head k = record { kind = number_of k; ssa = is_ssa k; attrs = [] }
+plain_head k = record { kind = number_of_kind k; ssa = is_ssa k; attrs = [] }
 
 abbrev pub attribute_head : BenchKind → AttrObj → Head
-attribute_head k a = record { kind = number_of k; ssa = is_ssa k; attrs = a ∷ [] }
+attribute_head k a = record { kind = number_of_kind k; ssa = is_ssa k; attrs = a ∷ [] }
 
 -- the head of an operation of the kind, where a constant is n and the first edge of a `cbr` forwards so
 -- many values
@@ -129,8 +129,8 @@ head_with Cbr n first_edge = attribute_head Cbr (Int first_edge)
 head_with k n first_edge = plain_head k
 
 -- how many operands the first edge of a `cbr` forwards
-abbrev pub first_edge_count : List AttrObj → ℕ
-first_edge_count attrs = first_count attrs
+abbrev pub branch_edge_count : List AttrObj → ℕ
+branch_edge_count attrs = first_count attrs
 
 -- operations of the kind are in no block
 abbrev pub IsTopKind : BenchKind → Type 0

@@ -6,8 +6,8 @@ use Rattle.std.specs.Prelude.{ℤ, pos, negsuc, int_div, ◌*ℤ◌}
 use Rattle.std.specs.Int.{w64, int_wrap}
 use Rattle.pliron_core.specs.declared.attrs.Head.{Head}
 use Rattle.pliron_dialect.specs.Identities.{IfAnyIs, IdentityHolds}
-use Rattle.pliron_dialect.specs.Roles.{Stays, AllStay, Grows, ComputesFacts, AllSuffice, complete}
-use Rattle.pliron_dialect_bench.specs.BenchNumbers.{fits, is_zero, product, quotient, known_sum, zero_only, known_product, known_quotient, known_at, of_both}
+use Rattle.pliron_dialect.specs.Roles.{Stays, AllStay, Grows, ComputesFacts, AllSuffice, complete, is_zero}
+use Rattle.pliron_dialect_bench.specs.BenchNumbers.{fits, wrapping_product, quotient, known_sum, zero_only, known_product, known_quotient, wrapped_known_at, of_both}
 use Rattle.pliron_dialect_bench.specs.BenchMoves.{product_identity, quotient_identity, nothing_else}
 
 -- ---- knowing more
@@ -19,14 +19,14 @@ wrap_stays : (o p : Option ℤ) → Stays o p → Stays (option_map (int_wrap w6
 wrap_stays None p s = tt
 wrap_stays (Some n) p s = ap (option_map (int_wrap w64)) s
 
-at_stays : (os ps : List (Option ℤ)) (i : ℕ) → AllStay os ps → Stays (known_at os i) (known_at ps i)
+at_stays : (os ps : List (Option ℤ)) (i : ℕ) → AllStay os ps → Stays (wrapped_known_at os i) (wrapped_known_at ps i)
 at_stays [] ps i s = tt
 at_stays (o ∷ os) [] i s = absurd s
 at_stays (o ∷ os) (p ∷ ps) zero s = wrap_stays o p s.0
 at_stays (o ∷ os) (p ∷ ps) (suc i) s = at_stays os ps i s.1
 
 both_grow : (table : Option ℤ → Option ℤ → Option ℤ) → KeepsMore table → Grows (of_both table)
-both_grow table keeps h os ps s = keeps (known_at os 0) (known_at os 1) (known_at ps 0) (known_at ps 1) (at_stays os ps 0 s) (at_stays os ps 1 s)
+both_grow table keeps h os ps s = keeps (wrapped_known_at os 0) (wrapped_known_at os 1) (wrapped_known_at ps 0) (wrapped_known_at ps 1) (at_stays os ps 0 s) (at_stays os ps 1 s)
 
 sum_keeps : KeepsMore known_sum
 sum_keeps (Some a) (Some b) c d s t = ap₂ known_sum s t
@@ -44,10 +44,10 @@ zero_times b = omega (arith, ints)
 times_zero : (a : ℤ) → a *ℤ pos 0 ≡ pos 0
 times_zero a = omega (arith, ints)
 
-zero_product : (b : ℤ) → product (pos 0) b ≡ pos 0
+zero_product : (b : ℤ) → wrapping_product (pos 0) b ≡ pos 0
 zero_product b = ap (int_wrap w64) (zero_times b) ∙ wrapped_zero
 
-product_zero : (a : ℤ) → product a (pos 0) ≡ pos 0
+product_zero : (a : ℤ) → wrapping_product a (pos 0) ≡ pos 0
 product_zero a = ap (int_wrap w64) (times_zero a) ∙ wrapped_zero
 
 zero_by : (q : Option ℤ) → known_product (Some (pos 0)) q ≡ Some (pos 0)
@@ -101,7 +101,7 @@ product_suffices h (a ∷ b ∷ ns) e = refl
 product_holds : (h : Head) → IdentityHolds (product_identity h) (complete (of_both known_product) h)
 product_holds h = record {
   bare = refl;
-  annihilates = (λ b. ap (λ n. product n (int_wrap w64 b)) wrapped_zero ∙ zero_product (int_wrap w64 b), λ a either. ap (product (int_wrap w64 a)) wrapped_zero ∙ product_zero (int_wrap w64 a));
+  annihilates = (λ b. ap (λ n. wrapping_product n (int_wrap w64 b)) wrapped_zero ∙ zero_product (int_wrap w64 b), λ a either. ap (wrapping_product (int_wrap w64 a)) wrapped_zero ∙ product_zero (int_wrap w64 a));
   equal = tt;
 }
 

@@ -10,15 +10,15 @@ use Rattle.pliron_laws.specs.Datum.{Datum, Empty, Number, Text, Join, Shape, Mov
 use Rattle.pliron_laws.specs.Acting.{Comes}
 use Rattle.pliron_laws.specs.Acting.Comes.{Begins, Answered, AnsweredByWorld}
 use Rattle.pliron_laws.specs.Laws.{CountsFit}
-use Rattle.pliron_dialect.specs.Parts.{both_parts}
+use Rattle.pliron_dialect.specs.Parts.{both_parts, below}
 use Rattle.pliron_dialect.specs.Roles.{Role, Fits, NamesFit, RoleFits, KeepsTables, constant_head_of}
-use Rattle.pliron_dialect_bench.specs.Bench.{kind_of, number_of, takes, is_number}
+use Rattle.pliron_dialect_bench.specs.Bench.{kind_of, number_of_kind, takes, is_number_attribute}
 use Rattle.pliron_dialect_bench.specs.BenchNumbers.{fits}
-use Rattle.pliron_dialect_bench.specs.BenchMoves.{memo_when_done, once, fit_data, datum_at, edge_taken, argument_count, func_act, scope_act, read_act, print_act, fork_act, operand_of_index, bench_role, bench_allows, bench_tables}
+use Rattle.pliron_dialect_bench.specs.BenchMoves.{memo_when_done, once, fit_with_zeros, datum_at, edge_taken, argument_count, func_act, scope_act, read_act, print_act, bench_fork_act, operand_of_index, bench_role, bench_allows, bench_tables}
 use Rattle.pliron_dialect_bench.specs.BenchFacts.{sum_facts, product_facts, quotient_facts}
-use Rattle.pliron_dialect_bench.specs.BenchTaken.{numbered, IsTaken, taken, below, br_loses, cbr_loses}
+use Rattle.pliron_dialect_bench.specs.BenchTaken.{numbered, IsTaken, taken, br_loses, cbr_loses}
 
-constants_taken : (attr : AttrObj) → IsTrue (is_number attr) → IsTrue (takes (constant_head_of (number_of Const) true attr) 0 1 0 0 Const)
+constants_taken : (attr : AttrObj) → IsTrue (is_number_attribute attr) → IsTrue (takes (constant_head_of (number_of_kind Const) true attr) 0 1 0 0 Const)
 constants_taken (Int n) h = four (fits n) h
   where
     four : (x : Bool) → IsTrue x → IsTrue (x && true && true && true && true)
@@ -32,12 +32,12 @@ constants_taken (Words s) h = grind arith
 of_kind : (k : BenchKind) (r : Role) (s : Shape) → Fits (bench_allows k) r s → IsTaken k s.head s.operands s.results s.successors (length s.entry_arguments)
 of_kind k r s h = taken k s.head s.operands s.results s.successors (length s.entry_arguments) (both_parts _ _ h).1
 
-length-fitted : (n : ℕ) (ds : List Datum) → length (fit_data n ds) ≡ n
+length-fitted : (n : ℕ) (ds : List Datum) → length (fit_with_zeros n ds) ≡ n
 length-fitted zero ds = refl
 length-fitted (suc n) [] = ap suc (length-fitted n [])
 length-fitted (suc n) (d ∷ ds) = ap suc (length-fitted n ds)
 
-visit_fits : (counts : List ℕ) (input : List Datum) (n : ℕ) → slice_get counts 0 ≡ Some n → length (fit_data (slice_index_or counts 0 0) input) ≡ n
+visit_fits : (counts : List ℕ) (input : List Datum) (n : ℕ) → slice_get counts 0 ≡ Some n → length (fit_with_zeros (slice_index_or counts 0 0) input) ≡ n
 visit_fits [] input n e = grind arith
 visit_fits (c ∷ counts) input n e = length-fitted c input ∙ same_Some c n e
 
@@ -62,7 +62,7 @@ print_fits s memo input e = once_fits s memo _ (Give []) tt (sym e)
 scope_fits : (s : Shape) (memo : Datum) (input : List Datum) → s.results ≡ 0 → CountsFit false s (scope_act s memo input)
 scope_fits s memo input e = once_fits s memo _ (Give []) (λ n at. visit_fits s.entry_arguments input n at) (sym e)
 
-fork_fits : (s : Shape) (memo : Datum) (input : List Datum) → CountsFit false s (fork_act s memo input)
+fork_fits : (s : Shape) (memo : Datum) (input : List Datum) → CountsFit false s (bench_fork_act s memo input)
 fork_fits s memo input = λ counts n f g at. target_fits s.target_arguments (edge_taken input) (datum_at input 0) counts n g at
 
 -- ---- the operand that a `scope` names
@@ -100,7 +100,7 @@ first_alone s first later memo input Begins e = refl
 first_alone s first later memo input (Answered i ds next answer c move) e = absurd (not_done next (at_first _ _ i ds next move).2 e)
 first_alone s first later memo input (AnsweredByWorld effect next answer c move) e = absurd (no_effect _ _ effect next move)
 
-fitted_at : (n : ℕ) (ds : List Datum) (j : ℕ) (d : Datum) → j < length ds → slice_get (fit_data n ds) j ≡ Some d → slice_get ds j ≡ Some d
+fitted_at : (n : ℕ) (ds : List Datum) (j : ℕ) (d : Datum) → j < length ds → slice_get (fit_with_zeros n ds) j ≡ Some d → slice_get ds j ≡ Some d
 fitted_at zero ds j d lt e = grind arith
 fitted_at (suc n) [] j d lt e = absurd (omega (arith, lt))
 fitted_at (suc n) (x ∷ ds) zero d lt e = e

@@ -9,9 +9,9 @@ use Rattle.pliron_dialect.specs.declared.form.Counting.TheVariants.{OfFirst}
 use Rattle.pliron_dialect.specs.declared.form.Otherwise.TheVariants.{Never, Traps}
 use Rattle.pliron_dialect.specs.declared.identity.Identity.{Identity}
 use Rattle.pliron_dialect.specs.Identities.{no_identity}
-use Rattle.pliron_dialect.specs.Roles.{Interpretation, Allows, Role, Constant, Folds, Opaque, Jumps, Chooses, Leaves, Acts, Names, Forks, Holds, Tables, first_number, role_at, allows_at, meaning_by, shortened_by}
-use Rattle.pliron_dialect_bench.specs.Bench.{kind_of, number_of, takes, is_ssa, is_number}
-use Rattle.pliron_dialect_bench.specs.BenchNumbers.{is_zero, known_sum, known_product, known_quotient, of_both}
+use Rattle.pliron_dialect.specs.Roles.{Interpretation, Allows, Role, Constant, Folds, Opaque, Jumps, Chooses, Leaves, Acts, Names, Forks, Holds, Tables, first_number, role_at, allows_at, meaning_by, shortened_by, is_zero}
+use Rattle.pliron_dialect_bench.specs.Bench.{kind_of, number_of_kind, takes, is_ssa, is_number_attribute}
+use Rattle.pliron_dialect_bench.specs.BenchNumbers.{known_sum, known_product, known_quotient, of_both}
 
 -- ---- moves of its own
 
@@ -27,14 +27,14 @@ once (Text s) move after = after
 once (Join a b) move after = after
 
 -- so many data: cut, or filled with 0
-abbrev pub fit_data : ℕ → List Datum → List Datum
-fit_data zero ds = []
-fit_data (suc n) [] = Number (pos 0) ∷ fit_data n []
-fit_data (suc n) (d ∷ ds) = d ∷ fit_data n ds
+abbrev pub fit_with_zeros : ℕ → List Datum → List Datum
+fit_with_zeros zero ds = []
+fit_with_zeros (suc n) [] = Number (pos 0) ∷ fit_with_zeros n []
+fit_with_zeros (suc n) (d ∷ ds) = d ∷ fit_with_zeros n ds
 
 -- the first region is invoked with the input, as far as its entry has arguments
 abbrev pub visit_once : Datum → List ℕ → List Datum → Move → Move
-visit_once memo entry_arguments input after = once memo (Visit 0 (fit_data (slice_index_or entry_arguments 0 0) input) memo_when_done) after
+visit_once memo entry_arguments input after = once memo (Visit 0 (fit_with_zeros (slice_index_or entry_arguments 0 0) input) memo_when_done) after
 
 -- `read` and `print` as texts
 abbrev pub read_word : Datum
@@ -71,8 +71,8 @@ read_act s memo input = once memo (Emit read_word memo_when_done) (Give (datum_a
 abbrev pub print_act : Shape → Datum → List Datum → Move
 print_act s memo input = once memo (Emit (Join print_word (datum_at input 0)) memo_when_done) (Give [])
 
-abbrev pub fork_act : Shape → Datum → List Datum → Move
-fork_act s memo input = Goto (edge_taken input) (replicate (argument_count s.target_arguments (edge_taken input)) (datum_at input 0))
+abbrev pub bench_fork_act : Shape → Datum → List Datum → Move
+bench_fork_act s memo input = Goto (edge_taken input) (replicate (argument_count s.target_arguments (edge_taken input)) (datum_at input 0))
 
 -- ---- what else the tables say
 
@@ -117,7 +117,7 @@ bench_role Box = Holds true
 bench_role Br = Jumps
 bench_role Cbr = Chooses OfFirst cbr_edge
 bench_role Ret = Leaves
-bench_role Fork = Forks false fork_act
+bench_role Fork = Forks false bench_fork_act
 
 abbrev pub bench_allows : BenchKind → Allows
 bench_allows k h a b c d = takes h a b c d k
@@ -130,14 +130,14 @@ is_cbr _ = false
 abbrev pub bench_tables : Tables BenchKind
 bench_tables = record {
   role_of = bench_role;
-  number_of = number_of;
+  number_of = number_of_kind;
   kind_of = kind_of;
   constant = Const;
   jump = Br;
   value = bench_value;
   allows = bench_allows;
   is_ssa = is_ssa;
-  accepts = is_number;
+  accepts = is_number_attribute;
   checks_edges = is_cbr;
 }
 

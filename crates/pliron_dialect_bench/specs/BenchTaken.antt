@@ -9,8 +9,9 @@ use Rattle.pliron_dialect_bench.specs.declared.kind.BenchKind.TheVariants.{Mod, 
 use Rattle.pliron_dialect.specs.declared.form.Counting.TheVariants.{OfFirst}
 use Rattle.pliron_dialect.specs.Counted.{counts_by, count_of, fewer_by}
 use Rattle.pliron_dialect.specs.Roles.{has_some, takes_by, by_role, by_kind, meaning_by}
-use Rattle.pliron_dialect_bench.specs.Bench.{kind_of, number_of, has_number, result_count, successor_count, region_count, takes_operands, takes_attributes, has_count, is_ssa, same_bool, takes, first_edge_count}
+use Rattle.pliron_dialect_bench.specs.Bench.{kind_of, number_of_kind, has_number, result_count, successor_count, region_count, takes_operands, takes_attributes, has_count, is_ssa, same_bool, takes, branch_edge_count}
 use Rattle.pliron_dialect_bench.specs.BenchMoves.{bench_role, bench_allows, bench}
+use Rattle.pliron_dialect.specs.Parts.{below, same, same_true}
 
 both_parts : (x y : Bool) → IsTrue (x && y) → IsTrue x × IsTrue y
 both_parts true y h = (refl, h)
@@ -19,15 +20,6 @@ both_parts false y h = grind arith
 both_true : (x y : Bool) → IsTrue x → IsTrue y → IsTrue (x && y)
 both_true true y h k = k
 both_true false y h k = grind arith
-
-same : (a b : ℕ) → IsTrue (nat_eq a b) → a ≡ b
-same a b h = search (rules, arith)
-
-same_true : (a b : ℕ) → a ≡ b → IsTrue (nat_eq a b)
-same_true a b e = search (rules, arith)
-
-pub below : (a b : ℕ) → IsTrue (nat_lt a b) → a < b
-below a b h = search (rules, arith)
 
 below_true : (a b : ℕ) → a < b → IsTrue (nat_lt a b)
 below_true a b lt = search (rules, arith)
@@ -64,14 +56,14 @@ takes_again k h a b c d t =
 
 -- ---- the count of the first edge
 
-pub count_below : (attrs : List AttrObj) (a : ℕ) → IsTrue (has_count attrs a) → first_edge_count attrs < a
-count_below [] a h = grind arith
-count_below (Int (pos n) ∷ []) a h = below n a h
-count_below (Int (pos n) ∷ x ∷ attrs) a h = grind arith
-count_below (Int (negsuc n) ∷ []) a h = grind arith
-count_below (Int (negsuc n) ∷ x ∷ attrs) a h = grind arith
-count_below (Words w ∷ []) a h = grind arith
-count_below (Words w ∷ x ∷ attrs) a h = grind arith
+pub first_count_below : (attrs : List AttrObj) (a : ℕ) → IsTrue (has_count attrs a) → branch_edge_count attrs < a
+first_count_below [] a h = grind arith
+first_count_below (Int (pos n) ∷ []) a h = below n a h
+first_count_below (Int (pos n) ∷ x ∷ attrs) a h = grind arith
+first_count_below (Int (negsuc n) ∷ []) a h = grind arith
+first_count_below (Int (negsuc n) ∷ x ∷ attrs) a h = grind arith
+first_count_below (Words w ∷ []) a h = grind arith
+first_count_below (Words w ∷ x ∷ attrs) a h = grind arith
 
 pub count_fits : (attrs : List AttrObj) (a b n : ℕ) → IsTrue (has_count attrs a) → n < b → IsTrue (has_count (slice_set attrs 0 (Int (pos n))) b)
 count_fits [] a b n h lt = grind arith
@@ -82,7 +74,7 @@ count_fits (Int (negsuc m) ∷ x ∷ attrs) a b n h lt = grind arith
 count_fits (Words w ∷ []) a b n h lt = grind arith
 count_fits (Words w ∷ x ∷ attrs) a b n h lt = grind arith
 
-pub count_kept : (attrs : List AttrObj) (a b : ℕ) → IsTrue (has_count attrs a) → first_edge_count attrs < b → IsTrue (has_count attrs b)
+pub count_kept : (attrs : List AttrObj) (a b : ℕ) → IsTrue (has_count attrs a) → branch_edge_count attrs < b → IsTrue (has_count attrs b)
 count_kept [] a b h lt = grind arith
 count_kept (Int (pos m) ∷ []) a b h lt = below_true m b lt
 count_kept (Int (pos m) ∷ x ∷ attrs) a b h lt = grind arith
@@ -98,14 +90,14 @@ br_loses h a b c d t = takes_again Br h (a - 1) b c d (record { dominance = t.do
 
 pub cbr_loses : (h : Head) (a b c d i : ℕ) → IsTaken Cbr h a b c d → 0 < count_of (counts_by OfFirst c a h.attrs) i → IsTrue (takes (record h { attrs = fewer_by OfFirst h.attrs c i }) (a - 1) b c d Cbr)
 cbr_loses h a b c d zero t some =
-    let lt = count_below h.attrs a t.attributes in
-    takes_again Cbr (record h { attrs = slice_set h.attrs 0 (Int (pos (first_edge_count h.attrs - 1))) }) (a - 1) b c d (record { dominance = t.dominance; attributes = count_fits h.attrs a (a - 1) (first_edge_count h.attrs - 1) t.attributes (omega (arith, lt, some)); operands = refl; results = t.results; successors = t.successors; regions = t.regions })
+    let lt = first_count_below h.attrs a t.attributes in
+    takes_again Cbr (record h { attrs = slice_set h.attrs 0 (Int (pos (branch_edge_count h.attrs - 1))) }) (a - 1) b c d (record { dominance = t.dominance; attributes = count_fits h.attrs a (a - 1) (branch_edge_count h.attrs - 1) t.attributes (omega (arith, lt, some)); operands = refl; results = t.results; successors = t.successors; regions = t.regions })
 cbr_loses h a b c d (suc zero) t some = takes_again Cbr h (a - 1) b c d (record { dominance = t.dominance; attributes = count_kept h.attrs a (a - 1) t.attributes (omega (arith, some)); operands = refl; results = t.results; successors = t.successors; regions = t.regions })
 cbr_loses h a b c d (suc (suc i)) t some = absurd (omega (arith, some))
 
 -- ---- what the table of its kind takes is admitted
 
-pub numbered : (k : BenchKind) → kind_of (number_of k) ≡ Some k
+pub numbered : (k : BenchKind) → kind_of (number_of_kind k) ≡ Some k
 unfolding kind_of
 numbered Mod = refl
 numbered Func = refl
@@ -146,11 +138,11 @@ role_takes Scope h a b c d t = same_true c 0 t.successors
 role_takes Box h a b c d t = both_true _ _ (same_true b 0 t.results) (same_true c 0 t.successors)
 role_takes Br h a b c d t = both_true _ _ (same_true b 0 t.results) (both_true _ _ (same_true c 1 t.successors) (same_true d 0 t.regions))
 role_takes Cbr h a b c d t =
-    both_true _ _ (both_true _ _ (same_true c 2 t.successors) (below_true (first_edge_count h.attrs) a (count_below h.attrs a t.attributes)))
+    both_true _ _ (both_true _ _ (same_true c 2 t.successors) (below_true (branch_edge_count h.attrs) a (first_count_below h.attrs a t.attributes)))
     (both_true _ _ (same_true b 0 t.results) (both_true _ _ (below_true 1 c (omega (arith, t.successors))) (same_true d 0 t.regions)))
 role_takes Ret h a b c d t = both_true _ _ (same_true b 0 t.results) (both_true _ _ (same_true c 0 t.successors) (same_true d 0 t.regions))
 role_takes Fork h a b c d t = below_true 0 c (omega (arith, t.successors))
 
-pub admitted : (k : BenchKind) (h : Head) (a b c d : ℕ) → h.kind ≡ number_of k → IsTrue (takes h a b c d k) → IsTrue (bench.admits h a b c d)
+pub admitted : (k : BenchKind) (h : Head) (a b c d : ℕ) → h.kind ≡ number_of_kind k → IsTrue (takes h a b c d k) → IsTrue (bench.admits h a b c d)
 unfolding meaning_by
 admitted k h a b c d e t = subst (λ o. IsTrue (by_role false (takes_by h a b c d) (option_map bench_role o) && by_kind bench_allows o h a b c d)) (sym (ap kind_of e ∙ numbered k)) (both_true _ _ (role_takes k h a b c d (taken k h a b c d t)) t)

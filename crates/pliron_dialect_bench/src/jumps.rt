@@ -1,6 +1,6 @@
 //! The edges of branches.
 ghost use Rattle.std.specs.Prelude.{◌≡◌, min};
-ghost use Rattle.pliron_dialect_bench.specs.Bench.{first_edge_count as first_count_of};
+ghost use Rattle.pliron_dialect_bench.specs.Bench.{branch_edge_count as first_count_of};
 
 use pliron_core::Attrs;
 use pliron_dialect::counts::count_up_to;

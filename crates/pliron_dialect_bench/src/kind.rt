@@ -1,6 +1,6 @@
 //! The kinds of operations.
 ghost use Rattle.std.specs.Prelude.{◌≡◌, IsTrue};
-ghost use Rattle.pliron_dialect_bench.specs.Bench.{kind_of, number_of, is_ssa, result_count, region_count, successor_count, IsTopKind};
+ghost use Rattle.pliron_dialect_bench.specs.Bench.{kind_of, number_of_kind, is_ssa, result_count, region_count, successor_count, IsTopKind};
 
 /// The kind of an operation.
 #[derive(Clone, Copy, Debug, PartialEq, Eq)]
@@ -71,7 +71,7 @@ impl BenchKind {
 
     /// The number of the kind in a head. Cost: constant.
     pub fn number(self) -> u32
-        ensures { result ≡ number_of self }
+        ensures { result ≡ number_of_kind self }
     {
         match self {
             BenchKind::Mod => 0,

@@ -1,8 +1,8 @@
 //! Attributes as numbers of 64 signed bits.
 ghost use Rattle.std.specs.Prelude.{◌≡◌, ◌-◌};
 ghost use Rattle.std.specs.Int.{w64, int_wrap};
-ghost use Rattle.pliron_dialect_bench.specs.Bench.{is_number as is_number_within};
-ghost use Rattle.pliron_dialect_bench.specs.BenchNumbers.{fits as is_within, known_at, sum as sum_of, product as product_of, known_sum as sum_known, known_product as product_known, zero_only as zero_of, known_quotient as quotient_known, quotient as quotient_in};
+ghost use Rattle.pliron_dialect_bench.specs.Bench.{is_number_attribute as is_number_within};
+ghost use Rattle.pliron_dialect_bench.specs.BenchNumbers.{fits as is_within, wrapped_known_at, wrapping_sum as sum_of, wrapping_product as product_of, known_sum as sum_known, known_product as product_known, zero_only as zero_of, known_quotient as quotient_known, quotient as quotient_in};
 ghost use Rattle.pliron_dialect_bench.specs.BenchMoves.{edge_of as edge_in};
 
 use pliron_core::AttrObj;
@@ -38,7 +38,7 @@ pub fn is_number(attr: &AttrObj) -> bool
 /// The number that is known at this index, brought into 64 signed bits. Cost: constant.
 #[inline(always)]
 pub fn known_number(numbers: &[Option<i128>], i: usize) -> Option<i64>
-    ensures { result ≡ known_at numbers.now i }
+    ensures { result ≡ wrapped_known_at numbers.now i }
 {
     if i >= numbers.len() {
         return None;

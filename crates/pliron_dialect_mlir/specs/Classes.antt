@@ -20,7 +20,7 @@ use Rattle.pliron_dialect.specs.declared.form.Counting.TheVariants.{OfEach}
 use Rattle.pliron_dialect.specs.declared.form.Otherwise.TheVariants.{Says}
 use Rattle.pliron_dialect.specs.Roles.{Interpretation, Role, Constant, Folds, Picks, Opaque, Jumps, Chooses, Leaves, Stops, Acts, Forks, Tables, KeepsTables, RoleFits, effect_act, region_act, fork_act, fit_data, has_some, head_of_kind, constant_head_of}
 use Rattle.pliron_dialect.specs.CountLaws.{effect_fits, region_fits, fork_fits, at_fits, length-fitted}
-use Rattle.pliron_dialect_mlir.specs.ClassNumbers.{number_of_class, class_of_number, numbered}
+use Rattle.pliron_dialect_mlir.specs.ClassNumbers.{number_of_class, class_of_number, numbered_class}
 use Rattle.pliron_dialect_mlir.specs.Data.{is_width, bits_of_width, number, bits_at, truth, bit}
 use Rattle.pliron_dialect_mlir.specs.Heads.{attribute_at, width_at, flags_at}
 use Rattle.pliron_dialect_mlir.specs.OtherData.{given_otherwise}
@@ -172,7 +172,7 @@ mlir class_of kind value = record {
 
 pub keeps_mlir : {K : Type 0} (class_of : K → Class) (kind : Class → K) (value : Interpretation) → ((k : K) → kind (class_of k) ≡ k) → ((c : Class) → class_of (kind c) ≡ c) → KeepsTables (mlir class_of kind value)
 keeps_mlir class_of kind value back forth = record {
-  numbered = λ k. ap (option_map kind) (numbered (class_of k)) ∙ ap Some (back k);
+  numbered = λ k. ap (option_map kind) (numbered_class (class_of k)) ∙ ap Some (back k);
   constant = ap role_of_class (forth ConstantClass);
   jump = ap role_of_class (forth Jump);
   constants_allowed = λ attr p. subst (λ c. IsTrue (allows_of_class c (constant_head_of (number_of_class c) true attr) 0 1 0 0)) (sym (forth ConstantClass)) refl;

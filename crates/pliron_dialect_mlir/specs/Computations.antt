@@ -13,7 +13,7 @@ use Rattle.pliron_dialect_mlir.specs.declared.computations.Conversion.{Conversio
 use Rattle.pliron_dialect_mlir.specs.declared.computations.Arithmetic.{Arithmetic}
 use Rattle.pliron_dialect_mlir.specs.ClassNumbers.{number_of_class}
 use Rattle.pliron_dialect_mlir.specs.Data.{is_width, some_if}
-use Rattle.pliron_dialect_mlir.specs.Heads.{attribute_at, width_at, flags_at, head_of}
+use Rattle.pliron_dialect_mlir.specs.Heads.{attribute_at, width_at, flags_at, head_of_class}
 
 abbrev pub is_of_class : Class → Head → Bool
 is_of_class class h = nat_eq h.kind (number_of_class class)
@@ -37,10 +37,10 @@ abbrev pub arithmetic_of : BinaryOperator → Head → Option Arithmetic
 arithmetic_of operator h = some_if (is_of_class (Binary operator) h && is_width (width_at h.attrs 0)) (record { width = width_at h.attrs 0; flags = flags_at h.attrs 1 })
 
 abbrev pub head_of_comparison : Comparison → Head
-head_of_comparison c = head_of Compare (pos c.width ∷ pos (number_of_predicate c.predicate) ∷ [])
+head_of_comparison c = head_of_class Compare (pos c.width ∷ pos (number_of_predicate c.predicate) ∷ [])
 
 abbrev pub head_of_conversion : Cast → Conversion → Head
-head_of_conversion cast c = head_of (CastClass cast) (pos c.width ∷ pos c.to ∷ pos (number_of_flags c.flags) ∷ [])
+head_of_conversion cast c = head_of_class (CastClass cast) (pos c.width ∷ pos c.to ∷ pos (number_of_flags c.flags) ∷ [])
 
 abbrev pub head_of_arithmetic : BinaryOperator → Arithmetic → Head
-head_of_arithmetic operator a = head_of (Binary operator) (pos a.width ∷ pos (number_of_flags a.flags) ∷ [])
+head_of_arithmetic operator a = head_of_class (Binary operator) (pos a.width ∷ pos (number_of_flags a.flags) ∷ [])

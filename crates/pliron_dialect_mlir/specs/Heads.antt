@@ -40,32 +40,32 @@ has_dominance _ = true
 abbrev pub attributes : List ℤ → List AttrObj
 attributes numbers = map (λ n. Int n) numbers
 
-abbrev pub head_of : Class → List ℤ → Head
-head_of class numbers = record { kind = number_of_class class; ssa = has_dominance class; attrs = attributes numbers }
+abbrev pub head_of_class : Class → List ℤ → Head
+head_of_class class numbers = record { kind = number_of_class class; ssa = has_dominance class; attrs = attributes numbers }
 
 abbrev pub constant_head : ℤ → ℕ → Head
-constant_head datum form = head_of Constant (datum ∷ pos form ∷ [])
+constant_head datum form = head_of_class Constant (datum ∷ pos form ∷ [])
 
-abbrev pub plain_head : Class → ℕ → Head
-plain_head class form = head_of class (pos form ∷ [])
+abbrev pub plain_class_head : Class → ℕ → Head
+plain_class_head class form = head_of_class class (pos form ∷ [])
 
 abbrev pub binary_head : BinaryOperator → ℕ → Flags → ℕ → Head
-binary_head operator width flags form = head_of (Binary operator) (pos width ∷ pos (number_of_flags flags) ∷ pos form ∷ [])
+binary_head operator width flags form = head_of_class (Binary operator) (pos width ∷ pos (number_of_flags flags) ∷ pos form ∷ [])
 
 abbrev pub compare_head : ℕ → Predicate → ℕ → Head
-compare_head width predicate form = head_of Compare (pos width ∷ pos (number_of_predicate predicate) ∷ pos form ∷ [])
+compare_head width predicate form = head_of_class Compare (pos width ∷ pos (number_of_predicate predicate) ∷ pos form ∷ [])
 
 abbrev pub cast_head : Cast → (width to : ℕ) → Flags → ℕ → Head
-cast_head cast width to flags form = head_of (CastClass cast) (pos width ∷ pos to ∷ pos (number_of_flags flags) ∷ pos form ∷ [])
+cast_head cast width to flags form = head_of_class (CastClass cast) (pos width ∷ pos to ∷ pos (number_of_flags flags) ∷ pos form ∷ [])
 
 abbrev pub naturals : List ℕ → List ℤ
 naturals ns = map (λ n. pos n) ns
 
 abbrev pub branch_head : (on_true on_false form : ℕ) → Head
-branch_head on_true on_false form = head_of Branch (pos on_true ∷ pos on_false ∷ pos form ∷ [])
+branch_head on_true on_false form = head_of_class Branch (pos on_true ∷ pos on_false ∷ pos form ∷ [])
 
 abbrev pub switch_head : List ℕ → ℕ → List ℕ → ℕ → Head
-switch_head counts width cases form = head_of Switch (naturals counts ++ pos width ∷ (naturals cases ++ pos form ∷ []))
+switch_head counts width cases form = head_of_class Switch (naturals counts ++ pos width ∷ (naturals cases ++ pos form ∷ []))
 
 -- ---- the form
 

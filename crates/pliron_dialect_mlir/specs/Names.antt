@@ -15,8 +15,8 @@ abbrev pub is_named : List (List ℕ) → List ℕ → Bool
 is_named [] name = false
 is_named (known ∷ names) name = bytes_eq name known || is_named names name
 
-abbrev pub begins : List ℕ → List ℕ → Bool
-begins start name = bytes_eq (take (length start) name) start
+abbrev pub name_begins : List ℕ → List ℕ → Bool
+name_begins start name = bytes_eq (take (length start) name) start
 
 -- ---- the dialects `builtin`, `func`, `cf`, and terminators of others that only pass on their operands
 
@@ -163,10 +163,10 @@ abbrev pub float_others : List (List ℕ)
 float_others = codes "powi" ∷ codes "fma" ∷ codes "fmuladd" ∷ codes "copysign" ∷ codes "minnum" ∷ codes "maxnum" ∷ codes "minimum" ∷ codes "maximum" ∷ codes "is.fpclass" ∷ []
 
 abbrev pub is_pure_intrinsic : List ℕ → Bool
-is_pure_intrinsic name = is_named counting_intrinsics name || (is_named overflowing_intrinsics name || (is_named hinting_intrinsics name || (is_named float_functions name || (is_named float_roundings name || (is_named float_others name || begins (codes "vector.reduce.") name)))))
+is_pure_intrinsic name = is_named counting_intrinsics name || (is_named overflowing_intrinsics name || (is_named hinting_intrinsics name || (is_named float_functions name || (is_named float_roundings name || (is_named float_others name || name_begins (codes "vector.reduce.") name)))))
 
 abbrev pub is_pure : List ℕ → Bool
-is_pure name = if begins (codes "intr.") name then is_pure_intrinsic (drop 5 name) else (is_named pure_casts name || (is_named pure_aggregates name || is_named float_operations name))
+is_pure name = if name_begins (codes "intr.") name then is_pure_intrinsic (drop 5 name) else (is_named pure_casts name || (is_named pure_aggregates name || is_named float_operations name))
 
 -- what asks the world, as names that are none of these do
 abbrev pub llvm_effects : List (List ℕ)
@@ -190,8 +190,8 @@ llvm_class name = some_binary_or (lookup llvm_operators name) (some_or (lookup l
 
 abbrev pub class_named : List ℕ → Option Class
 class_named name =
-    if begins (codes "llvm.") name then llvm_class (drop 5 name)
-    else if begins (codes "arith.") name then Some (arith_class (drop 6 name))
-    else if begins (codes "math.") name then Some Opaque
-    else if begins (codes "complex.") name then Some (complex_class name)
+    if name_begins (codes "llvm.") name then llvm_class (drop 5 name)
+    else if name_begins (codes "arith.") name then Some (arith_class (drop 6 name))
+    else if name_begins (codes "math.") name then Some Opaque
+    else if name_begins (codes "complex.") name then Some (complex_class name)
     else lookup classes_elsewhere name

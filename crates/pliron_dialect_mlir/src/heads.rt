@@ -2,7 +2,9 @@
 ghost use Rattle.std.specs.Prelude.{◌≡◌, ◌+◌, ◌<◌, pos, ◌∷◌, [], ◌++◌, map, IfOk, OnOk, OnErr, List, ℕ, ℤ};
 ghost use Rattle.pliron_core.specs.declared.attrs.AttrObj.{AttrObj as Attribute};
 ghost use Rattle.pliron_core.specs.declared.attrs.AttrObj.TheVariants.{Int};
-ghost use Rattle.pliron_dialect_mlir.specs.Heads.{attributes, naturals, head_of, constant_head as constant_head_of, plain_head as plain_head_of, binary_head as binary_head_of, compare_head as compare_head_of, cast_head as cast_head_of, branch_head as branch_head_of, switch_head as switch_head_of};
+ghost use Rattle.pliron_dialect_mlir.specs.Heads.{attributes, naturals, head_of_class, constant_head as constant_head_of};
+ghost use Rattle.pliron_dialect_mlir.specs.Heads.{plain_class_head as plain_head_of, binary_head as binary_head_of, compare_head as compare_head_of};
+ghost use Rattle.pliron_dialect_mlir.specs.Heads.{cast_head as cast_head_of, branch_head as branch_head_of, switch_head as switch_head_of};
 
 use crate::kind::{Class, class_number};
 use pliron_bits::{BinaryOperator, Cast, Flags, Predicate};
@@ -15,7 +17,7 @@ pub(crate) fn head_with(
     class: Class,
     numbers: &[i128],
 ) -> Result<Head, AllocFailed<AttrObj>>
-    ensures { IfOk result (λ head. head ≡ head_of class numbers.now) }
+    ensures { IfOk result (λ head. head ≡ head_of_class class numbers.now) }
 {
     let mut attrs = Vec::new(alloc);
     for number in numbers {

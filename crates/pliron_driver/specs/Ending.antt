@@ -4,12 +4,12 @@ use Rattle.std.specs.Io.KnownBytes.{Appends, Keeps}
 use Rattle.pliron_driver.specs.declared.program.failure.Failure.{Failure}
 use Rattle.pliron_driver.specs.declared.program.failure.Failure.TheVariants.{Arguments, Reading, Text, Refused, Writing}
 
-abbrev pub status_of : Failure → ℕ
-status_of Arguments = 2
-status_of Reading = 2
-status_of Text = 2
-status_of (Refused e) = 1
-status_of Writing = 2
+abbrev pub exit_status : Failure → ℕ
+exit_status Arguments = 2
+exit_status Reading = 2
+exit_status Text = 2
+exit_status (Refused e) = 1
+exit_status Writing = 2
 
 -- the text is all that was left to be read, where that is known
 abbrev pub IsRestOfInput : Option (List ℕ) → List ℕ → Type 0

@@ -12,7 +12,7 @@ use Rattle.pliron_driver_buffers.specs.declared.status.CallFailure.{CallFailure}
 use Rattle.pliron_driver_buffers.specs.declared.status.CallFailure.TheVariants.{Arguments, Text, Refused, Memory}
 use Rattle.pliron_driver_buffers.specs.declared.status.Status.{Status}
 use Rattle.pliron_driver_buffers.specs.Fills.{Fills, Fills.Whole, Fills.Short, Fills.Fails}
-use Rattle.pliron_driver_buffers.specs.Optimises.{Optimises, IsListed, Explains}
+use Rattle.pliron_driver_buffers.specs.Optimises.{Optimises, IsListedPipeline, Explains}
 
 -- each answer and each failure is one of these too
 pub fills_by : {A B : List ℕ → Type 0} {F G : CallFailure → Type 0} (before after : List ℕ) (needed : ℕ) (status : Status) → Fills A F before after needed status → ((answer : List ℕ) → A answer → B answer) → ((failure : CallFailure) → F failure → G failure) → Fills B G before after needed status
@@ -41,7 +41,7 @@ pub explains_list : (listed : Type 0) (failure : CallFailure) → (failure ≡ A
 explains_list listed failure (inl e) = subst (λ f. Explains listed f) (sym e) tt
 explains_list listed failure (inr e) = subst (λ f. Explains listed f) (sym e) tt
 
-pub lists : {D L B : Type 0} (ran : PassPipelineOf D BenchFacts L B BenchFactKind → ℕ → Tree → Tree → IRStatus → Type 0) (list : List ℕ) (pipeline : PassPipelineOf D BenchFacts L B BenchFactKind) → IsPlanned list pipeline → IsListed ran list
+pub lists : {D L B : Type 0} (ran : PassPipelineOf D BenchFacts L B BenchFactKind → ℕ → Tree → Tree → IRStatus → Type 0) (list : List ℕ) (pipeline : PassPipelineOf D BenchFacts L B BenchFactKind) → IsPlanned list pipeline → IsListedPipeline ran list
 lists ran list pipeline p = record { pipeline = pipeline; planned = p }
 
 pub explains_text : {listed : Type 0} (failure : CallFailure) → listed → failure ≢ Arguments → Explains listed failure

@@ -3,8 +3,8 @@ use Rattle.std.specs.Prelude.{◌≡◌, ◌+◌, ◌≤◌, ◌⊎◌, ℕ, Lis
 use Rattle.pliron_show_places.specs.Position.{line_behind, column_behind}
 use Rattle.pliron_driver_buffers.specs.declared.fault.Place.{Place}
 
-abbrev pub nowhere : Place
-nowhere = record { start = 0; len = 0; line = 0; column = 0 }
+abbrev pub no_place : Place
+no_place = record { start = 0; len = 0; line = 0; column = 0 }
 
 -- the place is a part of the text, and its line and column are those of its first byte
 pub record IsPartOf (text : List ℕ) (place : Place) : Type 0 where
@@ -14,4 +14,4 @@ pub record IsPartOf (text : List ℕ) (place : Place) : Type 0 where
 
 -- nothing is wrong, or this part of the text is
 abbrev pub IsFaultPlace : List ℕ → Place → Type 0
-IsFaultPlace text place = (place ≡ nowhere) ⊎ IsPartOf text place
+IsFaultPlace text place = (place ≡ no_place) ⊎ IsPartOf text place

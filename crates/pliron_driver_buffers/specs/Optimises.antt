@@ -18,7 +18,7 @@ pub record Optimises {D L B : Type 0} (reads : Reads) (prints : Prints) (m : Mea
   pub optimised : IsOptimised reads prints m (ran pipeline) text answer
 
 -- the list plans a pipeline of passes, of those that run so
-pub record IsListed {D L B : Type 0} (ran : PassPipelineOf D BenchFacts L B BenchFactKind → ℕ → Tree → Tree → IRStatus → Type 0) (list : List ℕ) : Type 0 where
+pub record IsListedPipeline {D L B : Type 0} (ran : PassPipelineOf D BenchFacts L B BenchFactKind → ℕ → Tree → Tree → IRStatus → Type 0) (list : List ℕ) : Type 0 where
   pub pipeline : PassPipelineOf D BenchFacts L B BenchFactKind
   pub planned : IsPlanned list pipeline
 

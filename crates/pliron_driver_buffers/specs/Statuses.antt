@@ -8,19 +8,19 @@ use Rattle.pliron_driver_buffers.specs.declared.status.Status.{Status}
 use Rattle.pliron_driver_buffers.specs.declared.status.Status.TheVariants.{Answered, Refused, Text, Arguments, TooSmall, Memory}
 
 -- the numbers by which other languages know them
-abbrev pub number_of : Status → ℕ
-number_of Answered = 0
-number_of Refused = 1
-number_of Text = 2
-number_of Arguments = 3
-number_of TooSmall = 4
-number_of Memory = 5
+abbrev pub number_of_status : Status → ℕ
+number_of_status Answered = 0
+number_of_status Refused = 1
+number_of_status Text = 2
+number_of_status Arguments = 3
+number_of_status TooSmall = 4
+number_of_status Memory = 5
 
-abbrev pub status_of : CallFailure → Status
-status_of ByArguments = Arguments
-status_of ByText = Text
-status_of ByPasses = Refused
-status_of ByMemory = Memory
+abbrev pub status_of_failure : CallFailure → Status
+status_of_failure ByArguments = Arguments
+status_of_failure ByText = Text
+status_of_failure ByPasses = Refused
+status_of_failure ByMemory = Memory
 
 abbrev pub failure_of : OptError → CallFailure
 failure_of WantOfMemory = ByMemory

@@ -1,7 +1,7 @@
 //! An answer in a buffer.
 ghost use Rattle.std.specs.Prelude.{◌≡◌, IsOkAnd, IsErrOf};
 ghost use Rattle.pliron_driver_buffers.specs.Fills.{Fills};
-ghost use Rattle.pliron_driver_buffers.specs.Statuses.{status_of};
+ghost use Rattle.pliron_driver_buffers.specs.Statuses.{status_of_failure};
 
 use crate::status::{CallFailure, Status};
 
@@ -20,7 +20,7 @@ pub fn fill(answer: Result<Vec<u8>, CallFailure>, output: &mut [u8], needed: &mu
 /// Reports that there is no answer. Cost: constant.
 pub fn put_nothing(failure: CallFailure, needed: &mut usize) -> Status
     ensures length { needed.new ≡ 0 }
-    ensures status { result ≡ status_of failure }
+    ensures status { result ≡ status_of_failure failure }
 {
     *needed = 0;
     failure.status()

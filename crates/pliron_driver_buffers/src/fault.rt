@@ -1,7 +1,7 @@
 //! Where a text leaves the notation.
 ghost use Rattle.std.specs.Prelude.{◌≡◌, ◌+◌, ◌≤◌, [], length, IfOk, IfErr, IfSome};
 ghost use Rattle.pliron_driver_buffers.specs.Fills.{Fills};
-ghost use Rattle.pliron_driver_buffers.specs.Faults.{nowhere, IsPartOf, IsFaultPlace};
+ghost use Rattle.pliron_driver_buffers.specs.Faults.{no_place, IsPartOf, IsFaultPlace};
 
 use crate::buffer::{put, put_nothing};
 use crate::optimise_module::MAX_MODULE;
@@ -36,26 +36,26 @@ const NOWHERE: Place = Place {
 
 /// What is wrong with a text: after how many bytes, in how many, and what was expected there.
 #[derive(Drop)]
-struct Fault {
+struct BufferFault {
     start: usize,
     len: usize,
     expected: String,
 }
 
 // The first place at which the text leaves the notation or is too long. Errors: allocation failure.
-fn fault_of(alloc: Global, text: &[u8]) -> Result<Option<Fault>, CallFailure>
+fn fault_of(alloc: Global, text: &[u8]) -> Result<Option<BufferFault>, CallFailure>
     ensures within { IfOk result (λ found. IfSome found (λ fault. fault.start + fault.len ≤ length text.now)) }
     ensures memory { IfErr result (λ failure. failure ≡ CallFailure.Memory) }
 {
     if text.len() > MAX_TEXT {
-        return Ok(Some(Fault {
+        return Ok(Some(BufferFault {
             start: MAX_TEXT,
             len: text.len() - MAX_TEXT,
             expected: format!(in alloc; "at most {MAX_TEXT} bytes")?,
         }));
     }
     match find_text_fault(alloc, text) {
-        Ok(Some(fault)) => Ok(Some(Fault {
+        Ok(Some(fault)) => Ok(Some(BufferFault {
             start: fault.span.start,
             len: fault.span.len,
             expected: fault.expected.to_string(alloc)?,
@@ -81,7 +81,7 @@ fn place_in(text: &[u8], start: usize, len: usize) -> Place
 
 // Reports the place of what was found in the text, and puts what was expected there into the buffer.
 fn report_fault(
-    found: Result<Option<Fault>, CallFailure>,
+    found: Result<Option<BufferFault>, CallFailure>,
     text: &[u8],
     output: &mut [u8],
     needed: &mut usize,
@@ -89,8 +89,8 @@ fn report_fault(
 ) -> Status
     requires within { IfOk found (λ found. IfSome found (λ fault. fault.start + fault.len ≤ length text.now)) }
     requires memory { IfErr found (λ failure. failure ≡ CallFailure.Memory) }
-    ensures fills { Fills (λ expected. place.new ≡ nowhere → expected ≡ [])
-        (λ failure. (failure ≡ CallFailure.Memory) × (place.new ≡ nowhere)) output.old output.new needed.new result }
+    ensures fills { Fills (λ expected. place.new ≡ no_place → expected ≡ [])
+        (λ failure. (failure ≡ CallFailure.Memory) × (place.new ≡ no_place)) output.old output.new needed.new result }
     ensures place { IsFaultPlace text.now place.new }
 {
     match found {
@@ -120,8 +120,8 @@ pub fn find_fault_into(
     needed: &mut usize,
     place: &mut Place,
 ) -> Status
-    ensures fills { Fills (λ expected. place.new ≡ nowhere → expected ≡ [])
-        (λ failure. (failure ≡ CallFailure.Memory) × (place.new ≡ nowhere)) output.old output.new needed.new result }
+    ensures fills { Fills (λ expected. place.new ≡ no_place → expected ≡ [])
+        (λ failure. (failure ≡ CallFailure.Memory) × (place.new ≡ no_place)) output.old output.new needed.new result }
     ensures place { IsFaultPlace text.now place.new }
 {
     report_fault(fault_of(alloc, text), text, output, needed, place)
@@ -129,12 +129,15 @@ pub fn find_fault_into(
 
 // The first place at which the text leaves MLIR's generic form, or asks for what a dialect doesn't admit, or is too
 // long. Errors: allocation failure.
-fn fault_of_module<D: Dialect>(alloc: Global, text: &[u8]) -> Result<Option<Fault>, CallFailure>
+fn fault_of_module<D: Dialect>(
+    alloc: Global,
+    text: &[u8],
+) -> Result<Option<BufferFault>, CallFailure>
     ensures within { IfOk result (λ found. IfSome found (λ fault. fault.start + fault.len ≤ length text.now)) }
     ensures memory { IfErr result (λ failure. failure ≡ CallFailure.Memory) }
 {
     if text.len() > MAX_MODULE {
-        return Ok(Some(Fault {
+        return Ok(Some(BufferFault {
             start: MAX_MODULE,
             len: text.len() - MAX_MODULE,
             expected: Expectation::ShorterText.to_string(alloc)?,
@@ -149,7 +152,7 @@ fn fault_of_module_in<D: Dialect>(
     alloc: Global,
     text: &[u8],
     ctx: &mut Context,
-) -> Result<Option<Fault>, CallFailure>
+) -> Result<Option<BufferFault>, CallFailure>
     ensures within { IfOk result (λ found. IfSome found (λ fault. fault.start + fault.len ≤ length text.now)) }
     ensures memory { IfErr result (λ failure. failure ≡ CallFailure.Memory) }
 {
@@ -157,7 +160,7 @@ fn fault_of_module_in<D: Dialect>(
         return Ok(None);
     };
     match failure_of(fault) {
-        TextFailure::Text(fault) => Ok(Some(Fault {
+        TextFailure::Text(fault) => Ok(Some(BufferFault {
             start: fault.place.min(text.len()),
             len: 0,
             expected: fault.expected.to_string(alloc)?,
@@ -177,8 +180,8 @@ pub fn find_module_fault_into<D: Dialect>(
     needed: &mut usize,
     place: &mut Place,
 ) -> Status
-    ensures fills { Fills (λ expected. place.new ≡ nowhere → expected ≡ [])
-        (λ failure. (failure ≡ CallFailure.Memory) × (place.new ≡ nowhere)) output.old output.new needed.new result }
+    ensures fills { Fills (λ expected. place.new ≡ no_place → expected ≡ [])
+        (λ failure. (failure ≡ CallFailure.Memory) × (place.new ≡ no_place)) output.old output.new needed.new result }
     ensures place { IsFaultPlace text.now place.new }
 {
     report_fault(

@@ -4,7 +4,7 @@ ghost use Rattle.pliron_driver.specs.Answered.{IsOptimised};
 ghost use Rattle.pliron_driver.specs.Asked.{IsPlanned};
 ghost use Rattle.pliron_driver.specs.Ran.{RunsAlone};
 ghost use Rattle.pliron_driver_buffers.specs.Fills.{Fills};
-ghost use Rattle.pliron_driver_buffers.specs.Optimises.{Optimises, IsListed, Explains};
+ghost use Rattle.pliron_driver_buffers.specs.Optimises.{Optimises, IsListedPipeline, Explains};
 
 use crate::buffer::fill;
 use crate::status::{CallFailure, Status};
@@ -67,7 +67,7 @@ pub fn optimise_by_list<N: Notation>(
     ensures answer { IfOk result (λ answer. Optimises N.reads N.prints N.D.meaning
         (RunsAlone ⟦<BenchFactKind as PartialEq>⟧.eq ⟦<PassPipeline<N::D, BenchFacts, N::Rules> as Pass>⟧.outcome)
         list.now text.now answer.items) }
-    ensures failure { IfErr result (Explains (IsListed (RunsAlone ⟦<BenchFactKind as PartialEq>⟧.eq
+    ensures failure { IfErr result (Explains (IsListedPipeline (RunsAlone ⟦<BenchFactKind as PartialEq>⟧.eq
         ⟦<PassPipeline<N::D, BenchFacts, N::Rules> as Pass>⟧.outcome) list.now)) }
 {
     let pipeline = pipeline_of(alloc, list)?;
@@ -86,7 +86,7 @@ pub fn optimise_into<N: Notation>(
 ) -> Status
     ensures { Fills (Optimises N.reads N.prints N.D.meaning
         (RunsAlone ⟦<BenchFactKind as PartialEq>⟧.eq ⟦<PassPipeline<N::D, BenchFacts, N::Rules> as Pass>⟧.outcome)
-        list.now text.now) (Explains (IsListed (RunsAlone ⟦<BenchFactKind as PartialEq>⟧.eq
+        list.now text.now) (Explains (IsListedPipeline (RunsAlone ⟦<BenchFactKind as PartialEq>⟧.eq
         ⟦<PassPipeline<N::D, BenchFacts, N::Rules> as Pass>⟧.outcome) list.now)) output.old output.new
         needed.new result }
 {

@@ -49,7 +49,7 @@ pub enum Status {
 }
 
 impl CallFailure {
-    ghost use Rattle.pliron_driver_buffers.specs.Statuses.{failure_of, status_of};
+    ghost use Rattle.pliron_driver_buffers.specs.Statuses.{failure_of, status_of_failure};
 
     /// The failure of a call that gave up so. Cost: constant.
     pub fn of(error: OptError) -> Self
@@ -67,7 +67,7 @@ impl CallFailure {
 
     /// The status that reports it. Cost: constant.
     pub fn status(self) -> Status
-        ensures { result ≡ status_of self }
+        ensures { result ≡ status_of_failure self }
     {
         match self {
             CallFailure::Arguments => Status::Arguments,
@@ -79,11 +79,11 @@ impl CallFailure {
 }
 
 impl Status {
-    ghost use Rattle.pliron_driver_buffers.specs.Statuses.{number_of};
+    ghost use Rattle.pliron_driver_buffers.specs.Statuses.{number_of_status};
 
     /// The number by which other languages know it. Cost: constant.
     pub fn number(self) -> u32
-        ensures { result ≡ number_of self }
+        ensures { result ≡ number_of_status self }
     {
         match self {
             Status::Answered => 0,

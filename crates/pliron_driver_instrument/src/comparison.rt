@@ -26,7 +26,7 @@ pub struct RewriteCounts {
 
 /// What was inside operations before runs and after them, and what the runs rewrote.
 #[derive(Clone, Copy, Debug, Drop)]
-pub struct Comparison {
+pub struct ContentsComparison {
     pub before: ContentsCount,
     pub after: ContentsCount,
     pub rewrites: RewriteCounts,
@@ -106,10 +106,10 @@ fn changed_operands(op: Ptr<Operation>, before: &[Value], ctx: &Context) -> usiz
     changed
 }
 
-impl Comparison {
+impl ContentsComparison {
     /// Nothing was inside, and nothing was rewritten. Cost: constant.
     pub(crate) fn none() -> Self {
-        Comparison {
+        ContentsComparison {
             before: ContentsCount::none(),
             after: ContentsCount::none(),
             rewrites: RewriteCounts::none(),
@@ -117,7 +117,7 @@ impl Comparison {
     }
 
     /// Adds what the others count. Cost: constant.
-    pub(crate) fn add(&mut self, others: &Comparison) {
+    pub(crate) fn add(&mut self, others: &ContentsComparison) {
         self.before.add(&others.before);
         self.after.add(&others.after);
         self.rewrites.add(&others.rewrites);
@@ -208,12 +208,12 @@ impl Snapshot {
 
     /// What was inside the operation, what is there now, and what was rewritten. Asks that it is live (`is_live` tests
     /// it). Cost: linear in what was there and what is.
-    pub(crate) fn compare(&self, op: Ptr<Operation>, ctx: &Context) -> Comparison
+    pub(crate) fn compare(&self, op: Ptr<Operation>, ctx: &Context) -> ContentsComparison
         requires { IsLive ctx.now.tree op }
     {
         let after = ContentsCount::of(op, ctx);
         let rewrites = self.rewrites(&after, ctx);
-        Comparison {
+        ContentsComparison {
             before: self.counts,
             after,
             rewrites,

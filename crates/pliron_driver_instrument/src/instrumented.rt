@@ -3,7 +3,7 @@ ghost use Rattle.std.specs.Prelude.{◌≡◌, false};
 ghost use Rattle.pliron_core.specs.Tree.{IsLive};
 ghost use Rattle.pliron_pass_pipeline.specs.AccurateSteps.{optimisation_same};
 
-use crate::comparison::{Comparison, Snapshot};
+use crate::comparison::{ContentsComparison, Snapshot};
 use crate::progress::Progress;
 use crate::run_records::{InstrumentationRecord, RunMeasure, RunNote};
 use pliron_core::{Context, IRStatus, Operation, Ptr};
@@ -35,12 +35,12 @@ pub struct Instrumented<N: Notation, C: Progress + Drop> {
 }
 
 // What was inside the operation, what is there now, and what was rewritten, where it is known what was there.
-fn compare_after(before: &Option<Snapshot>, op: Ptr<Operation>, ctx: &Context) -> Comparison
+fn compare_after(before: &Option<Snapshot>, op: Ptr<Operation>, ctx: &Context) -> ContentsComparison
     requires { IsLive ctx.now.tree op }
 {
     match before {
         Some(snapshot) => snapshot.compare(op, ctx),
-        None => Comparison::none(),
+        None => ContentsComparison::none(),
     }
 }
 

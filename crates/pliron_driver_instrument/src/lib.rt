@@ -10,7 +10,7 @@ mod pipeline;
 mod progress;
 mod run_records;
 
-pub use comparison::{Comparison, RewriteCounts};
+pub use comparison::{ContentsComparison, RewriteCounts};
 pub use contents_count::ContentsCount;
 pub use instrumented::{Instrumentation, Instrumented, has_fault, is_short};
 pub use pipeline::{InstrumentationOptions, InstrumentedPipeline, instrumented_pipeline};

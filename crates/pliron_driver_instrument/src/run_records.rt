@@ -1,5 +1,5 @@
 //! What is noted of the runs of a pass.
-use crate::comparison::Comparison;
+use crate::comparison::ContentsComparison;
 use pliron_core::{IRStatus, Operation, Ptr};
 use pliron_laws::OptError;
 use std::alloc::{AllocError, Global};
@@ -11,7 +11,7 @@ pub struct RoundRecord {
     pub runs: usize,
     pub changed: usize,
     /// What was inside the operations before and after, and what was rewritten.
-    pub compared: Comparison,
+    pub compared: ContentsComparison,
     /// How many nanoseconds they took.
     pub nanos: u128,
 }
@@ -48,7 +48,7 @@ pub struct InstrumentationRecord {
 pub struct RunMeasure {
     pub op: Ptr<Operation>,
     pub status: IRStatus,
-    pub compared: Comparison,
+    pub compared: ContentsComparison,
     pub nanos: u128,
 }
 
@@ -86,7 +86,7 @@ impl InstrumentationRecord {
             self.rows.push(RoundRecord {
                 runs: 0,
                 changed: 0,
-                compared: Comparison::none(),
+                compared: ContentsComparison::none(),
                 nanos: 0,
             })?;
         }

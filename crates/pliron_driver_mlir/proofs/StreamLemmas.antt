@@ -4,7 +4,7 @@ use Rattle.pliron_driver.specs.Ending.{IsRestOfInput}
 use Rattle.pliron_pass_pipeline.specs.Pipelines.{PipelineOf}
 use Rattle.pliron_driver_mlir.specs.declared.outcome.ModuleOutcome.{ModuleOutcome}
 use Rattle.pliron_driver_mlir.specs.Outcomes.{EndsWithout, EndsByPlan, AsksFor, EndsByWord, EndsByWord.ByWord, EndsByWord.WithoutWord}
-use Rattle.pliron_driver_mlir.specs.Streams.{IsOfInput, IsWritten, EndsOnStreams, EndsOnStreams.WithOutcome}
+use Rattle.pliron_driver_mlir.specs.Streams.{IsOfInput, IsOutcomeWritten, EndsOnStreams, EndsOnStreams.WithOutcome}
 
 -- all that was left is read into an empty buffer, and passed on
 pub is_rest : (known : Option (List ℕ)) (old new text : List ℕ) → IfSome known (λ bytes. new ≡ old ++ bytes) → old ≡ [] → text ≡ new → IsRestOfInput known text
@@ -40,5 +40,5 @@ of_unread name EndsSo word known (Ok o) without = (whole_of known, whole_is_rest
 of_unread name EndsSo word known (Err e) without = tt
 
 -- an outcome of the input that is written
-pub with_outcome : (ends : List ℕ → ModuleOutcome → Type 0) (known : Option (List ℕ)) (o : ModuleOutcome) (before after : Option (List ℕ)) (status : ℕ) → IsOfInput ends known o → IsWritten o before after status → EndsOnStreams ends known before after status
+pub with_outcome : (ends : List ℕ → ModuleOutcome → Type 0) (known : Option (List ℕ)) (o : ModuleOutcome) (before after : Option (List ℕ)) (status : ℕ) → IsOfInput ends known o → IsOutcomeWritten o before after status → EndsOnStreams ends known before after status
 with_outcome ends known o before after status of written = WithOutcome o of written

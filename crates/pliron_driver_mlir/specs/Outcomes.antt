@@ -18,14 +18,14 @@ Writes printed o = ((o.output.items ≡ printed) × (o.status ≡ 0)) ⊎ EndsWi
 
 module _ (reads : Reads) (prints : Prints) (m : Meaning) (ran : ℕ → Tree → Tree → IRStatus → Type 0) (text : List ℕ) where
   -- what is written is the tree, printed, that the passes made of the one that was read of the text
-  pub record IsMade (output : List ℕ) : Type 0 where
+  pub record IsModuleMade (output : List ℕ) : Type 0 where
     pub status : IRStatus
     pub made : IsOptimised reads prints m ran text (output ++ status_line status)
 
   -- with 0 that is written, else nothing
-  pub data EndsOptimised (o : ModuleOutcome) : Type 0 where
-    WithModule : IsMade o.output.items → o.status ≡ 0 → EndsOptimised o
-    WithoutModule : EndsWithout o → EndsOptimised o
+  pub data EndsWithModule (o : ModuleOutcome) : Type 0 where
+    WithModule : IsModuleMade o.output.items → o.status ≡ 0 → EndsWithModule o
+    WithoutModule : EndsWithout o → EndsWithModule o
 
 -- it ends so by passes that have these names and are run so, or nothing is to be written
 pub data EndsByPlan {P D E B K : Type 0} (name : P → List ℕ) (EndsSo : PipelineOf P D E B K → ModuleOutcome → Type 0) (runs : Option ℕ) (nested : Bool) (names : List (List ℕ)) (o : ModuleOutcome) : Type 0 where

@@ -1,7 +1,7 @@
 //! How a run of the program ends.
 ghost use Rattle.std.specs.Prelude.{◌≡◌, map, IfOk};
 ghost use Rattle.pliron_driver.specs.Ran.{RunsAlone};
-ghost use Rattle.pliron_driver_mlir.specs.Outcomes.{EndsWithout, Writes, EndsOptimised, EndsByPlan};
+ghost use Rattle.pliron_driver_mlir.specs.Outcomes.{EndsWithout, Writes, EndsWithModule, EndsByPlan};
 
 use crate::failure::{ModuleFailure, failure_message, failure_status};
 use crate::fitness::write_fitness;
@@ -122,7 +122,7 @@ fn run_pipeline<N: ModuleNotation, C: Progress + Copy + Drop>(
     options: &ModuleOptions,
     pipeline: &mut InstrumentedPipeline<N, C>,
 ) -> Result<ModuleOutcome, AllocError>
-    ensures { IfOk result (EndsOptimised N.reads N.prints N.D.meaning
+    ensures { IfOk result (EndsWithModule N.reads N.prints N.D.meaning
         (RunsAlone ⟦<BenchFactKind as PartialEq>⟧.eq ⟦<InstrumentedPipeline<N, C> as Pass>⟧.outcome
         pipeline.old) source.now.text.now) }
 {
@@ -166,7 +166,7 @@ pub fn run_passes<N: ModuleNotation, C: Progress + Copy + Drop>(
     clock: C,
 ) -> Result<ModuleOutcome, AllocError>
     ensures { IfOk result (EndsByPlan ⟦<Instrumented<N, C> as Pass>⟧.name
-        (λ pipeline. EndsOptimised N.reads N.prints N.D.meaning
+        (λ pipeline. EndsWithModule N.reads N.prints N.D.meaning
         (RunsAlone ⟦<BenchFactKind as PartialEq>⟧.eq ⟦<InstrumentedPipeline<N, C> as Pass>⟧.outcome
         pipeline) source.now.text.now) plan.now.runs plan.now.nested (map (λ name. name.now) plan.now.names.items)) }
 {

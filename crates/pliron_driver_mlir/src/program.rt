@@ -1,8 +1,8 @@
 //! The program over streams: what is read and what is written.
 ghost use Rattle.std.specs.Prelude.{◌≡◌, map, IfOk, OnOk};
 ghost use Rattle.pliron_driver.specs.Ran.{RunsAlone};
-ghost use Rattle.pliron_driver_mlir.specs.Outcomes.{EndsWithout, EndsOptimised, EndsByPlan, EndsByWord};
-ghost use Rattle.pliron_driver_mlir.specs.Streams.{EndsOnStreams, IsOfInput, IsWritten};
+ghost use Rattle.pliron_driver_mlir.specs.Outcomes.{EndsWithout, EndsWithModule, EndsByPlan, EndsByWord};
+ghost use Rattle.pliron_driver_mlir.specs.Streams.{EndsOnStreams, IsOfInput, IsOutcomeWritten};
 
 use crate::each_pass::print_after_each;
 use crate::module_observer::ModuleOptions;
@@ -44,7 +44,7 @@ fn run_plan<N: ModuleNotation, E: Write, C: Progress + Copy + Drop>(
     clock: C,
 ) -> Result<ModuleOutcome, AllocError>
     ensures { IfOk result (EndsByPlan ⟦<Instrumented<N, C> as Pass>⟧.name
-        (λ pipeline. EndsOptimised N.reads N.prints N.D.meaning (RunsAlone ⟦<BenchFactKind as PartialEq>⟧.eq
+        (λ pipeline. EndsWithModule N.reads N.prints N.D.meaning (RunsAlone ⟦<BenchFactKind as PartialEq>⟧.eq
         ⟦<InstrumentedPipeline<N, C> as Pass>⟧.outcome pipeline) source.now.text.now)
         plan.now.runs plan.now.nested (map (λ name. name.now) plan.now.names.items)) }
 {
@@ -65,7 +65,7 @@ fn run_word<N: ModuleNotation, E: Write, C: Progress + Copy + Drop>(
     clock: C,
 ) -> Result<ModuleOutcome, AllocError>
     ensures { IfOk result (EndsByWord ⟦<Instrumented<N, C> as Pass>⟧.name
-        (λ pipeline. EndsOptimised N.reads N.prints N.D.meaning (RunsAlone ⟦<BenchFactKind as PartialEq>⟧.eq
+        (λ pipeline. EndsWithModule N.reads N.prints N.D.meaning (RunsAlone ⟦<BenchFactKind as PartialEq>⟧.eq
         ⟦<InstrumentedPipeline<N, C> as Pass>⟧.outcome pipeline) text.now)
         request.now.pipeline.now) }
 {
@@ -101,7 +101,7 @@ fn outcome_of_input<N: ModuleNotation, R: Read, E: Write, C: Progress + Copy + D
     clock: C,
 ) -> Result<ModuleOutcome, AllocError>
     ensures { IfOk result (IsOfInput (λ text. EndsByWord ⟦<Instrumented<N, C> as Pass>⟧.name
-        (λ pipeline. EndsOptimised N.reads N.prints N.D.meaning (RunsAlone ⟦<BenchFactKind as PartialEq>⟧.eq
+        (λ pipeline. EndsWithModule N.reads N.prints N.D.meaning (RunsAlone ⟦<BenchFactKind as PartialEq>⟧.eq
         ⟦<InstrumentedPipeline<N, C> as Pass>⟧.outcome pipeline) text) request.now.pipeline.now)
         (R.remaining input.old)) }
 {
@@ -136,7 +136,7 @@ fn report_refused<E: Write>(errors: &mut E) -> u8
 // Writes the outcome: the report to `errors`, and to `output` the module, where there is one. Answers the status: that
 // of the outcome, but 2 where writing the module fails, also where nobody reads it any more.
 fn write_outcome<W: Write, E: Write>(outcome: &ModuleOutcome, output: &mut W, errors: &mut E) -> u8
-    ensures { IsWritten outcome.now (W.contents output.old) (W.contents output.new) result }
+    ensures { IsOutcomeWritten outcome.now (W.contents output.old) (W.contents output.new) result }
 {
     let _ = write!(errors, "{}", outcome.report);
     if outcome.status != 0 {
@@ -167,7 +167,7 @@ pub fn run_on<N: ModuleNotation, R: Read, W: Write, E: Write, C: Progress + Copy
     clock: C,
 ) -> u8
     ensures { EndsOnStreams (λ text. EndsByWord ⟦<Instrumented<N, C> as Pass>⟧.name
-        (λ pipeline. EndsOptimised N.reads N.prints N.D.meaning (RunsAlone ⟦<BenchFactKind as PartialEq>⟧.eq
+        (λ pipeline. EndsWithModule N.reads N.prints N.D.meaning (RunsAlone ⟦<BenchFactKind as PartialEq>⟧.eq
         ⟦<InstrumentedPipeline<N, C> as Pass>⟧.outcome pipeline) text) request.now.pipeline.now)
         (R.remaining input.old) (W.contents output.old) (W.contents output.new) result }
 {

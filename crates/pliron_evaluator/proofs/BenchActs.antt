@@ -13,8 +13,8 @@ use Rattle.pliron_laws.specs.Answers.{ReadsHead, ReadsShape}
 use Rattle.pliron_dialect.specs.Counted.{count_of, start_of, values_of_edge}
 use Rattle.pliron_dialect.specs.Roles.{act_of, no_act, by_role, by_form, form_of, branches, numbers_of, number_of, fit_data as fit_or_empty, meaning_by}
 use Rattle.pliron_dialect_bench.specs.Bench.{kind_of}
-use Rattle.pliron_dialect_bench.specs.BenchNumbers.{known_at}
-use Rattle.pliron_dialect_bench.specs.BenchMoves.{bench, bench_role, bench_value, datum_at, memo_when_done, once, fit_data, edge_taken, argument_count}
+use Rattle.pliron_dialect_bench.specs.BenchNumbers.{wrapped_known_at}
+use Rattle.pliron_dialect_bench.specs.BenchMoves.{bench, bench_role, bench_value, datum_at, memo_when_done, once, fit_with_zeros, edge_taken, argument_count}
 use Rattle.pliron_evaluator.specs.Tiny.{fitted_or_empty}
 use Rattle.pliron_evaluator.specs.declared.evaluator.values.Datum.{Datum as DatumValue}
 use Rattle.pliron_evaluator.specs.declared.evaluator.values.Move.{Move as MoveValue}
@@ -23,7 +23,7 @@ use Rattle.pliron_laws.proofs.Records.{op_shows}
 use Rattle.pliron_laws.proofs.ShapeLemmas.{head_at, shape_head}
 
 -- data, cut or filled
-pub fitted_begins : (n : ℕ) (ds : List Datum) → fit_data (suc n) ds ≡ datum_at ds 0 ∷ fit_data n (drop 1 ds)
+pub fitted_begins : (n : ℕ) (ds : List Datum) → fit_with_zeros (suc n) ds ≡ datum_at ds 0 ∷ fit_with_zeros n (drop 1 ds)
 fitted_begins n [] = refl
 fitted_begins n (d ∷ ds) = refl
 
@@ -38,15 +38,15 @@ filled_as (suc n) [] = ap (λ z. Empty ∷ z) (filled_as n [])
 filled_as (suc n) (d ∷ ds) = ap (λ z. d ∷ z) (filled_as n ds)
 
 -- the numbers that are there
-pub known_there : (xs : List DatumValue) (i : ℕ) (x : DatumValue) → i < length xs → x ≡ get_or xs i x → known_at (map Some (numbers_of (map datum_of_value xs))) i ≡ Some (int_wrap w64 (number_of (datum_of_value x)))
+pub known_there : (xs : List DatumValue) (i : ℕ) (x : DatumValue) → i < length xs → x ≡ get_or xs i x → wrapped_known_at (map Some (numbers_of (map datum_of_value xs))) i ≡ Some (int_wrap w64 (number_of (datum_of_value x)))
 known_there [] i x lt e = absurd (omega (arith, lt))
 known_there (y ∷ xs) zero x lt e = ap (λ z. Some (int_wrap w64 (number_of (datum_of_value z)))) (sym e)
 known_there (y ∷ xs) (suc i) x lt e = known_there xs i x (omega (arith, lt)) e
 
-pub number_there : (xs : List DatumValue) (i : ℕ) (x : DatumValue) (n : ℤ) → i < length xs → x ≡ get_or xs i x → n ≡ int_wrap w64 (number_of (datum_of_value x)) → Some n ≡ known_at (map Some (numbers_of (map datum_of_value xs))) i
+pub number_there : (xs : List DatumValue) (i : ℕ) (x : DatumValue) (n : ℤ) → i < length xs → x ≡ get_or xs i x → n ≡ int_wrap w64 (number_of (datum_of_value x)) → Some n ≡ wrapped_known_at (map Some (numbers_of (map datum_of_value xs))) i
 number_there xs i x n lt e f = ap Some f ∙ sym (known_there xs i x lt e)
 
-pub none_there : (xs : List DatumValue) (i : ℕ) → length xs ≤ i → None ≡ known_at (map Some (numbers_of (map datum_of_value xs))) i
+pub none_there : (xs : List DatumValue) (i : ℕ) → length xs ≤ i → None ≡ wrapped_known_at (map Some (numbers_of (map datum_of_value xs))) i
 none_there [] i le = refl
 none_there (y ∷ xs) zero le = absurd (omega (arith, le))
 none_there (y ∷ xs) (suc i) le = none_there xs i (omega (arith, le))
@@ -93,9 +93,9 @@ module _ (t : Tree) (op : ℕ) (k : BenchKind) (memo : Datum) (input : List Datu
   entries o at = ap (map (λ r. count_arguments (entry_block t r))) (op_shows t op o at).regions
 
   -- it visits its region
-  pub by_entry : (after : Move) (count : ℕ) (kind : BenchKind) → k ≡ kind → count ≡ slice_index_or (map (λ r. count_arguments (entry_block t r)) (regions_of t op)) 0 0 → ((s : Shape) → once memo (Visit 0 (fit_data (slice_index_or s.entry_arguments 0 0) input) memo_when_done) after ≡ act_of bench_value (bench_role kind) s memo input) → (o : Operation) → op_at t op ≡ Some o → Acts o (once memo (Visit 0 (fit_data count input) memo_when_done) after)
+  pub by_entry : (after : Move) (count : ℕ) (kind : BenchKind) → k ≡ kind → count ≡ slice_index_or (map (λ r. count_arguments (entry_block t r)) (regions_of t op)) 0 0 → ((s : Shape) → once memo (Visit 0 (fit_with_zeros (slice_index_or s.entry_arguments 0 0) input) memo_when_done) after ≡ act_of bench_value (bench_role kind) s memo input) → (o : Operation) → op_at t op ≡ Some o → Acts o (once memo (Visit 0 (fit_with_zeros count input) memo_when_done) after)
   by_entry after count kind e is f = λ o at.
-      ap (λ z. once memo (Visit 0 (fit_data z input) memo_when_done) after) (is ∙ ap (λ z. slice_index_or z 0 0) (entries o at)) ∙ f (shape_of bench t o) ∙ ap (λ z. act_of bench_value (bench_role z) (shape_of bench t o) memo input) (sym e)
+      ap (λ z. once memo (Visit 0 (fit_with_zeros z input) memo_when_done) after) (is ∙ ap (λ z. slice_index_or z 0 0) (entries o at)) ∙ f (shape_of bench t o) ∙ ap (λ z. act_of bench_value (bench_role z) (shape_of bench t o) memo input) (sym e)
 
   target_counts : (o : Operation) → op_at t op ≡ Some o → kind_of o.head.kind ≡ Some Fork → (i : ℕ) → slice_index_or (map (λ b. count_arguments (block_at t b)) (successors_of t op)) i 0 ≡ argument_count (shape_of bench t o).target_arguments i
   unfolding shape_of meaning_by

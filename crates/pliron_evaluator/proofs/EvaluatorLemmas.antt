@@ -6,8 +6,9 @@ use Rattle.std.specs.Option.{option_map}
 use Rattle.pliron_laws.specs.Datum.{Datum, Empty}
 use Rattle.pliron_laws.specs.States.{Environment, environment_with, bind, prepend_optional, data_of}
 use Rattle.pliron_evaluator.specs.declared.evaluator.values.Datum.{Datum as DatumValue}
-use Rattle.pliron_evaluator.specs.Tiny.{first_datum, fitted_or_empty}
+use Rattle.pliron_evaluator.specs.Tiny.{fitted_or_empty}
 use Rattle.pliron_evaluator.specs.Evaluator.{datum_of_value, environment_of}
+use Rattle.pliron_dialect.specs.Roles.{first_datum}
 
 -- at a place of a list
 pub drop_at : {X : Type 0} (xs : List X) (i : ℕ) (x : X) → i < length xs → x ≡ get_or xs i x → drop i xs ≡ x ∷ drop (i + 1) xs

@@ -12,7 +12,7 @@ use Rattle.pliron_laws.specs.Tree.{Operation, op_at, shape_of}
 use Rattle.pliron_laws.specs.Acting.{pick}
 use Rattle.pliron_laws.specs.Answers.{AreForwarded, IsForwardedAt, HasPlace, LosesForwarded, ReadsHead, ReadsShape, with_head}
 use Rattle.pliron_laws.specs.PlaceLaws.{pick_all}
-use Rattle.pliron_evaluator.specs.Tiny.{first_attribute, forwarded_along, tiny, kind_of, first_entry_operand, tiny_constants, tiny_entry_operands, tiny_shortened}
+use Rattle.pliron_evaluator.specs.Tiny.{first_attribute, forwarded_along, tiny, tiny_kind_of, first_entry_operand, tiny_constants, tiny_entry_operands, tiny_shortened}
 use Rattle.pliron_evaluator.specs.TinyEntries.{at_first}
 use Rattle.pliron_evaluator.specs.declared.tiny.TinyKind.{TinyKind}
 use Rattle.pliron_laws.proofs.ShapeLemmas.{head_at, operands_at, live_at}
@@ -84,13 +84,13 @@ place_of t op j lt = λ o at.
     (j, range_get 0 (length o.operands) j within ∙ ap Some (omega arith), within)
 
 -- what is read of the operand that is named for the first argument of the first region, and for another
-pub entry_named : (t : Tree) (op i j : ℕ) (kind : Option TinyKind) (n : ℕ) (k : Option ℕ) → ReadsHead (λ h. kind_of h.kind) t op kind → n ≡ length (operands_of t op) → i ≡ 0 → j ≡ 0 → k ≡ first_entry_operand kind n → ReadsShape tiny (λ s. tiny_entry_operands s i j) t op k
+pub entry_named : (t : Tree) (op i j : ℕ) (kind : Option TinyKind) (n : ℕ) (k : Option ℕ) → ReadsHead (λ h. tiny_kind_of h.kind) t op kind → n ≡ length (operands_of t op) → i ≡ 0 → j ≡ 0 → k ≡ first_entry_operand kind n → ReadsShape tiny (λ s. tiny_entry_operands s i j) t op k
 unfolding tiny tiny_entry_operands shape_of
 entry_named t op i j kind n k reads e first begin f = λ o at.
     f ∙ ap (λ z. first_entry_operand z n) (reads o.head (head_at t op o at))
-    ∙ ap (first_entry_operand (kind_of o.head.kind)) (e ∙ sym (ap length (operands_at t op o at)))
-    ∙ ap (λ z. if nat_eq z 0 && nat_eq 0 0 then first_entry_operand (kind_of o.head.kind) (length o.operands) else None) (sym first)
-    ∙ ap (λ z. if nat_eq i 0 && nat_eq z 0 then first_entry_operand (kind_of o.head.kind) (length o.operands) else None) (sym begin)
+    ∙ ap (first_entry_operand (tiny_kind_of o.head.kind)) (e ∙ sym (ap length (operands_at t op o at)))
+    ∙ ap (λ z. if nat_eq z 0 && nat_eq 0 0 then first_entry_operand (tiny_kind_of o.head.kind) (length o.operands) else None) (sym first)
+    ∙ ap (λ z. if nat_eq i 0 && nat_eq z 0 then first_entry_operand (tiny_kind_of o.head.kind) (length o.operands) else None) (sym begin)
 
 nowhere_else : (b : Bool) (k : Option ℕ) → (IsTrue b → ⊥) → None ≡ (if b then k else None)
 nowhere_else true k fails = absurd (fails refl)

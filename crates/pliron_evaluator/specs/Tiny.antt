@@ -13,6 +13,7 @@ use Rattle.pliron_evaluator.specs.declared.tiny.TinyKind.{TinyKind}
 use Rattle.pliron_evaluator.specs.declared.tiny.TinyKind.TheVariants.{Const, Ask, Scope, Br, Both, Twice}
 use Rattle.pliron_laws.specs.Entries.{EntryOperands}
 use Rattle.pliron_laws.specs.Datum.{Datum, Empty, Number, Text, Join, datum_of, Head, Shape, Move, Give, Visit, Goto, Emit, Trap, Meaning}
+use Rattle.pliron_dialect.specs.Roles.{first_datum}
 
 -- the number of a kind, and the kind with a number
 abbrev pub tiny_number_of : TinyKind → ℕ
@@ -23,13 +24,8 @@ tiny_number_of Br = 3
 tiny_number_of Both = 4
 tiny_number_of Twice = 5
 
-abbrev pub kind_of : ℕ → Option TinyKind
-kind_of n = if nat_eq n 0 then Some Const else if nat_eq n 1 then Some Ask else if nat_eq n 2 then Some Scope else if nat_eq n 3 then Some Br else if nat_eq n 4 then Some Both else if nat_eq n 5 then Some Twice else None
-
--- the first datum, by default empty; the first count
-abbrev pub first_datum : List Datum → Datum
-first_datum [] = Empty
-first_datum (d ∷ ds) = d
+abbrev pub tiny_kind_of : ℕ → Option TinyKind
+tiny_kind_of n = if nat_eq n 0 then Some Const else if nat_eq n 1 then Some Ask else if nat_eq n 2 then Some Scope else if nat_eq n 3 then Some Br else if nat_eq n 4 then Some Both else if nat_eq n 5 then Some Twice else None
 
 abbrev pub first_count : List ℕ → ℕ
 first_count [] = 0
@@ -60,8 +56,8 @@ scope_move false count input = Visit 0 (fitted_or_empty count input) memo_when_b
 scope_move true count input = Give []
 
 -- the memo between two visits, which keeps a datum
-abbrev pub between : Datum → Datum
-between kept = Join kept Empty
+abbrev pub kept_between : Datum → Datum
+kept_between kept = Join kept Empty
 
 -- the region is visited with this datum for the first argument of its entry, and `Empty` for the others
 abbrev pub visit_with : List ℕ → (region : ℕ) → Datum → Datum → Move
@@ -69,14 +65,14 @@ visit_with counts region d memo = Visit region (fitted_or_empty (slice_index_or 
 
 -- the first region is visited with operand 1, then the second one with none, and nothing is given then
 abbrev pub both_move : Datum → List ℕ → List Datum → Move
-both_move Empty counts input = visit_with counts 0 (first_datum (drop 1 input)) (between Empty)
+both_move Empty counts input = visit_with counts 0 (first_datum (drop 1 input)) (kept_between Empty)
 both_move (Join kept e) counts input = visit_with counts 1 Empty memo_when_begun
 both_move (Number n) counts input = Give []
 both_move (Text w) counts input = Give []
 
 -- the region is visited with operand 0 and once more with the same, and nothing is given then
 abbrev pub twice_move : Datum → List ℕ → List Datum → Move
-twice_move Empty counts input = visit_with counts 0 (first_datum input) (between (first_datum input))
+twice_move Empty counts input = visit_with counts 0 (first_datum input) (kept_between (first_datum input))
 twice_move (Join kept e) counts input = visit_with counts 0 kept memo_when_begun
 twice_move (Number n) counts input = Give []
 twice_move (Text w) counts input = Give []
@@ -120,14 +116,14 @@ is_const (Some Both) = false
 is_const (Some Twice) = false
 
 -- the kinds that name operands for their regions
-abbrev pub is_naming : Option TinyKind → Bool
-is_naming None = false
-is_naming (Some Const) = false
-is_naming (Some Ask) = false
-is_naming (Some Scope) = false
-is_naming (Some Br) = false
-is_naming (Some Both) = true
-is_naming (Some Twice) = true
+abbrev pub is_naming_kind : Option TinyKind → Bool
+is_naming_kind None = false
+is_naming_kind (Some Const) = false
+is_naming_kind (Some Ask) = false
+is_naming_kind (Some Scope) = false
+is_naming_kind (Some Br) = false
+is_naming_kind (Some Both) = true
+is_naming_kind (Some Twice) = true
 
 -- a branch forwards all its operands along its one edge
 abbrev pub forwarded_along : ℕ → ℕ → List ℕ
@@ -136,11 +132,11 @@ forwarded_along (suc i) operands = []
 
 unfoldable pub tiny : Meaning
 tiny = record {
-  act = λ s memo input. tiny_act_of (kind_of s.head.kind) s memo input;
-  admits = λ h a b c d. admits_of (kind_of h.kind) a b c d;
-  may_be_root = λ h. not (is_naming (kind_of h.kind));
-  is_terminator = λ h. is_br (kind_of h.kind);
-  is_branch = λ h. is_br (kind_of h.kind);
+  act = λ s memo input. tiny_act_of (tiny_kind_of s.head.kind) s memo input;
+  admits = λ h a b c d. admits_of (tiny_kind_of h.kind) a b c d;
+  may_be_root = λ h. not (is_naming_kind (tiny_kind_of h.kind));
+  is_terminator = λ h. is_br (tiny_kind_of h.kind);
+  is_branch = λ h. is_br (tiny_kind_of h.kind);
   forwarded = λ s i. forwarded_along i s.operands;
 }
 
@@ -156,7 +152,7 @@ tiny_effects_of (Some Both) = Some true
 tiny_effects_of (Some Twice) = Some true
 
 unfoldable pub tiny_side_effects : Head → Option Bool
-tiny_side_effects h = tiny_effects_of (kind_of h.kind)
+tiny_side_effects h = tiny_effects_of (tiny_kind_of h.kind)
 
 abbrev pub tiny_removable_of : Option TinyKind → Bool → Option Bool
 tiny_removable_of None entry = None
@@ -168,7 +164,7 @@ tiny_removable_of (Some Both) entry = Some (not entry)
 tiny_removable_of (Some Twice) entry = Some (not entry)
 
 unfoldable pub tiny_removable : Head → ℕ → Bool → Option Bool
-tiny_removable h i entry = tiny_removable_of (kind_of h.kind) entry
+tiny_removable h i entry = tiny_removable_of (tiny_kind_of h.kind) entry
 
 -- the operand that every visit passes for the first argument of the first region's entry; no other argument
 -- has one
@@ -182,11 +178,11 @@ first_entry_operand (Some Both) n = if nat_lt 1 n then Some 1 else None
 first_entry_operand (Some Twice) n = Some 0
 
 unfoldable pub tiny_entry_operands : EntryOperands
-tiny_entry_operands s region argument = if nat_eq region 0 && nat_eq argument 0 then first_entry_operand (kind_of s.head.kind) s.operands else None
+tiny_entry_operands s region argument = if nat_eq region 0 && nat_eq argument 0 then first_entry_operand (tiny_kind_of s.head.kind) s.operands else None
 
 -- a constant folds to its attribute
 unfoldable pub tiny_folds : Head → Bool
-tiny_folds h = is_const (kind_of h.kind)
+tiny_folds h = is_const (tiny_kind_of h.kind)
 
 unfoldable pub tiny_constants : Shape → List (Option AttrObj) → List (Option AttrObj)
 tiny_constants s known = Some (first_attribute s.head.attrs) ∷ []
@@ -223,10 +219,10 @@ tiny_interface_of ConstFold k = is_const k
 tiny_interface_of BranchFold k = false
 tiny_interface_of Branch k = is_br k
 tiny_interface_of Terminator k = is_br k
-tiny_interface_of RegionBranch k = is_naming k
+tiny_interface_of RegionBranch k = is_naming_kind k
 
 unfoldable pub has_tiny_interface : Head → Interface → Bool
-has_tiny_interface h interface = tiny_interface_of interface (kind_of h.kind)
+has_tiny_interface h interface = tiny_interface_of interface (tiny_kind_of h.kind)
 
 -- a branch that lost an operand has its head as before
 unfoldable pub tiny_shortened : Shape → ℕ → ℕ → Head

@@ -9,15 +9,17 @@ use Rattle.pliron_laws.specs.Acting.{Act, Comes}
 use Rattle.pliron_laws.specs.Acting.Comes.{Begins, Answered, AnsweredByWorld}
 use Rattle.pliron_laws.specs.Laws.{Admitted}
 use Rattle.pliron_laws.specs.Entries.{NamesOperands, RootsNameNone}
-use Rattle.pliron_evaluator.specs.Tiny.{memo_when_begun, between, first_datum, fitted_or_empty, both_move, twice_move, kind_of, is_naming, first_entry_operand, admits_of, tiny_act_of, tiny, tiny_entry_operands, has_tiny_interface}
-use Rattle.pliron_evaluator.specs.TinyLaws.{parts, same, below, twice_counts}
+use Rattle.pliron_evaluator.specs.Tiny.{memo_when_begun, kept_between, fitted_or_empty, both_move, twice_move, tiny_kind_of, is_naming_kind, first_entry_operand, admits_of, tiny_act_of, tiny, tiny_entry_operands, has_tiny_interface}
+use Rattle.pliron_evaluator.specs.TinyLaws.{parts, twice_counts}
+use Rattle.pliron_dialect.specs.Roles.{first_datum}
+use Rattle.pliron_dialect.specs.Parts.{same, below}
 
 -- ---- which operand is named
 
 unsaid : {k : ℕ} → None ≡ Some k → ⊥
 unsaid e = cc
 
-silent : (o : Option TinyKind) (n : ℕ) → is_naming o ≡ false → first_entry_operand o n ≡ None
+silent : (o : Option TinyKind) (n : ℕ) → is_naming_kind o ≡ false → first_entry_operand o n ≡ None
 silent None n e = refl
 silent (Some Const) n e = refl
 silent (Some Ask) n e = refl
@@ -66,7 +68,7 @@ Holds keeps first (Join kept e) input = kept ≡ keeps first
 Holds keeps first (Number n) input = Unit {0}
 Holds keeps first (Text w) input = Unit {0}
 
-after_first : (keeps : List Datum → Datum) (first input answer : List Datum) (next : Datum) → input ≡ first → between (keeps input) ≡ next → Holds keeps first next answer
+after_first : (keeps : List Datum → Datum) (first input answer : List Datum) (next : Datum) → input ≡ first → kept_between (keeps input) ≡ next → Holds keeps first next answer
 after_first keeps first input answer next same e = subst (λ z. Holds keeps first z answer) e (ap keeps same)
 
 after_second : (keeps : List Datum → Datum) (first answer : List Datum) (next : Datum) → memo_when_begun ≡ next → Holds keeps first next answer
@@ -160,17 +162,17 @@ pub at_first : (i j : ℕ) → IsTrue (nat_eq i 0 && nat_eq j 0) → (i ≡ 0) �
 at_first i j h = let p = parts true (nat_eq i 0) (nat_eq j 0) h in (same i 0 p.1, same j 0 p.2)
 
 module _ (s : Shape) (first : List Datum) where
-  acts : (o : Option TinyKind) → kind_of s.head.kind ≡ o → (memo : Datum) (input : List Datum) → tiny_act_of o s memo input ≡ tiny.act s memo input
+  acts : (o : Option TinyKind) → tiny_kind_of s.head.kind ≡ o → (memo : Datum) (input : List Datum) → tiny_act_of o s memo input ≡ tiny.act s memo input
   unfolding tiny
   acts o kind memo input = ap (λ y. tiny_act_of y s memo input) (sym kind)
 
-  both_held : kind_of s.head.kind ≡ Some Both → (later : Bool) (memo : Datum) (input : List Datum) → Comes tiny.act s first later memo input → Holds nothing first memo input
+  both_held : tiny_kind_of s.head.kind ≡ Some Both → (later : Bool) (memo : Datum) (input : List Datum) → Comes tiny.act s first later memo input → Holds nothing first memo input
   both_held kind = holds tiny.act s nothing first (λ z x i ds next answer held m. both_holds first z s.entry_arguments x i ds next answer held (acts (Some Both) kind z x ∙ m)) (λ z x effect next m. both_silent z s.entry_arguments x effect next (acts (Some Both) kind z x ∙ m))
 
-  twice_held : kind_of s.head.kind ≡ Some Twice → (later : Bool) (memo : Datum) (input : List Datum) → Comes tiny.act s first later memo input → Holds first_datum first memo input
+  twice_held : tiny_kind_of s.head.kind ≡ Some Twice → (later : Bool) (memo : Datum) (input : List Datum) → Comes tiny.act s first later memo input → Holds first_datum first memo input
   twice_held kind = holds tiny.act s first_datum first (λ z x i ds next answer held m. twice_holds first z s.entry_arguments x i ds next answer held (acts (Some Twice) kind z x ∙ m)) (λ z x effect next m. twice_silent z s.entry_arguments x effect next (acts (Some Twice) kind z x ∙ m))
 
-  passes : (k : ℕ) → ((kind_of s.head.kind ≡ Some Both) × (k ≡ 1)) ⊎ ((kind_of s.head.kind ≡ Some Twice) × (k ≡ 0)) → k < length first → (later : Bool) (memo : Datum) (input ds : List Datum) (next d : Datum) → Comes tiny.act s first later memo input → tiny.act s memo input ≡ Visit 0 ds next → slice_get ds 0 ≡ Some d → slice_get first k ≡ Some d
+  passes : (k : ℕ) → ((tiny_kind_of s.head.kind ≡ Some Both) × (k ≡ 1)) ⊎ ((tiny_kind_of s.head.kind ≡ Some Twice) × (k ≡ 0)) → k < length first → (later : Bool) (memo : Datum) (input ds : List Datum) (next d : Datum) → Comes tiny.act s first later memo input → tiny.act s memo input ≡ Visit 0 ds next → slice_get ds 0 ≡ Some d → slice_get first k ≡ Some d
   passes k (inl (kind, one)) lt later memo input ds next d comes move at =
       ap (slice_get first) one ∙ both_passes first (subst (λ x. x < length first) one lt) memo s.entry_arguments input ds next d (both_held kind later memo input comes) (acts (Some Both) kind memo input ∙ move) at
   passes k (inr (kind, none)) lt later memo input ds next d comes move at =
@@ -179,16 +181,16 @@ module _ (s : Shape) (first : List Datum) where
   passes_at : Admitted tiny s → (i j k : ℕ) → tiny_entry_operands s i j ≡ Some k → length first ≡ s.operands → (later : Bool) (memo : Datum) (input ds : List Datum) (next : Datum) → Comes tiny.act s first later memo input → tiny.act s memo input ≡ Visit i ds next → (d : Datum) → slice_get ds j ≡ Some d → slice_get first k ≡ Some d
   unfolding tiny tiny_entry_operands
   passes_at h i j k e l later memo input ds next comes move d at =
-      let it = in_case (nat_eq i 0 && nat_eq j 0) (first_entry_operand (kind_of s.head.kind) s.operands) k e in
+      let it = in_case (nat_eq i 0 && nat_eq j 0) (first_entry_operand (tiny_kind_of s.head.kind) s.operands) k e in
       let place = at_first i j it.0 in
-      let inside : k < length first = subst (λ x. k < x) (sym l) (there (kind_of s.head.kind) s.operands _ _ _ k h it.1) in
-      passes k (named (kind_of s.head.kind) s.operands k it.1) inside later memo input ds next d comes (move ∙ ap (λ x. Visit x ds next) place.0) (ap (slice_get ds) (sym place.1) ∙ at)
+      let inside : k < length first = subst (λ x. k < x) (sym l) (there (tiny_kind_of s.head.kind) s.operands _ _ _ k h it.1) in
+      passes k (named (tiny_kind_of s.head.kind) s.operands k it.1) inside later memo input ds next d comes (move ∙ ap (λ x. Visit x ds next) place.0) (ap (slice_get ds) (sym place.1) ∙ at)
 
 pub tiny_names : NamesOperands tiny tiny_entry_operands (λ h. has_tiny_interface h RegionBranch)
 unfolding tiny tiny_entry_operands has_tiny_interface
 tiny_names = record {
-  silent = λ s i j no. none_but (nat_eq i 0 && nat_eq j 0) _ (silent (kind_of s.head.kind) s.operands no);
-  there = λ s h i j k e. there (kind_of s.head.kind) s.operands _ _ _ k h (in_case (nat_eq i 0 && nat_eq j 0) _ k e).1;
+  silent = λ s i j no. none_but (nat_eq i 0 && nat_eq j 0) _ (silent (tiny_kind_of s.head.kind) s.operands no);
+  there = λ s h i j k e. there (tiny_kind_of s.head.kind) s.operands _ _ _ k h (in_case (nat_eq i 0 && nat_eq j 0) _ k e).1;
   passes = λ s h i j k e first l later memo input ds next comes move d at. passes_at s first h i j k e l later memo input ds next comes move d at;
 }
 

@@ -18,7 +18,8 @@ use Rattle.pliron_laws.specs.Outcomes.MaterialisesSome.{Rest}
 use Rattle.pliron_laws.specs.Replacing.FoldsBranch.{Kept}
 use Rattle.pliron_laws.specs.InPlace.{FoldsInPlace, ReportsChange, PassSameTests}
 use Rattle.pliron_laws.specs.PlaceLaws.{pick_all, in_places, moved_places}
-use Rattle.pliron_evaluator.specs.Tiny.{first_attribute, first_count, fitted_or_empty, ask_move, scope_move, both_move, twice_move, has_begun, tiny_act_of, admits_of, is_br, is_const, forwarded_along, kind_of, tiny, tiny_effects_of, tiny_side_effects, tiny_removable_of, tiny_removable, tiny_folds, tiny_constants, tiny_accepts, tiny_constant, tiny_folds_branch, tiny_feasible, tiny_outcome, has_tiny_kind, has_tiny_interface, tiny_shortened}
+use Rattle.pliron_evaluator.specs.Tiny.{first_attribute, first_count, fitted_or_empty, ask_move, scope_move, both_move, twice_move, has_begun, tiny_act_of, admits_of, is_br, is_const, forwarded_along, tiny_kind_of, tiny, tiny_effects_of, tiny_side_effects, tiny_removable_of, tiny_removable, tiny_folds, tiny_constants, tiny_accepts, tiny_constant, tiny_folds_branch, tiny_feasible, tiny_outcome, has_tiny_kind, has_tiny_interface, tiny_shortened}
+use Rattle.pliron_dialect.specs.Parts.{below, same}
 
 -- the parts of a test of counts
 pub parts : (x y z : Bool) → IsTrue (x && y && z) → IsTrue x × IsTrue y × IsTrue z
@@ -26,12 +27,6 @@ parts true true true h = (refl, refl, refl)
 parts true true false h = grind arith
 parts true false z h = grind arith
 parts false y z h = grind arith
-
-pub same : (a b : ℕ) → IsTrue (nat_eq a b) → a ≡ b
-same a b h = search (rules, arith)
-
-pub below : (a b : ℕ) → IsTrue (nat_lt a b) → a < b
-below a b h = search (rules, arith)
 
 -- one of the counts that the dialect asks of an operation
 constant_counts : (a b c d : ℕ) → IsTrue (admits_of (Some Const) a b c d) → (a ≡ 0) × (b ≡ 1) × (c ≡ 0) × (d ≡ 0)
@@ -113,8 +108,8 @@ fits (Some Twice) s memo input h = twice_fits false s memo input (twice_counts s
 pub tiny_counts : KeepsCounts tiny
 unfolding tiny
 tiny_counts = record {
-  successors = λ s h lt. ends (kind_of s.head.kind) _ _ _ _ h lt;
-  moves = λ s h first later memo input comes. fits (kind_of s.head.kind) s memo input h;
+  successors = λ s h lt. ends (tiny_kind_of s.head.kind) _ _ _ _ h lt;
+  moves = λ s h first later memo input comes. fits (tiny_kind_of s.head.kind) s memo input h;
 }
 
 gives : (k : Option TinyKind) (s : Shape) (input : List Datum) → tiny_effects_of k ≡ Some false → IsGive (tiny_act_of k s Empty input)
@@ -128,7 +123,7 @@ gives (Some Twice) s input e = grind arith
 
 pub tiny_effects : GivesAtOnce tiny tiny_side_effects
 unfolding tiny tiny_side_effects
-tiny_effects = λ s h e first l. gives (kind_of s.head.kind) s first e
+tiny_effects = λ s h e first l. gives (tiny_kind_of s.head.kind) s first e
 
 -- what is a branch is of the kind `Br`
 br_alone : (k : Option TinyKind) → IsTrue (is_br k) → k ≡ Some Br
@@ -165,7 +160,7 @@ apart n zero zero k l p e f = let a = range_at 0 n k p e in let b = range_at 0 n
 apart n zero (suc j) k l p e f = absurd (nowhere l p f)
 apart n (suc i) j k l p e f = absurd (nowhere k p e)
 
-counts_of_branch : (s : Shape) → Admitted tiny s → IsTrue (is_br (kind_of s.head.kind)) → (s.results ≡ 0) × (s.successors ≡ 1) × (length s.entry_arguments ≡ 0)
+counts_of_branch : (s : Shape) → Admitted tiny s → IsTrue (is_br (tiny_kind_of s.head.kind)) → (s.results ≡ 0) × (s.successors ≡ 1) × (length s.entry_arguments ≡ 0)
 unfolding tiny
 counts_of_branch s h br = branch_counts s.operands s.results s.successors (length s.entry_arguments) (subst (λ k. IsTrue (admits_of k s.operands s.results s.successors (length s.entry_arguments))) (br_alone _ br) h)
 
@@ -208,10 +203,10 @@ goes_alike a b first others j e f g = record {
 abbrev SameTests : Head → Head → Type 0
 SameTests = PassSameTests tiny tiny_folds tiny_folds_branch has_tiny_kind has_tiny_interface
 
-goes : (s : Shape) → IsTrue (is_br (kind_of s.head.kind)) → (memo : Datum) (input : List Datum) → tiny_act_of (kind_of s.head.kind) s memo input ≡ Goto 0 input
+goes : (s : Shape) → IsTrue (is_br (tiny_kind_of s.head.kind)) → (memo : Datum) (input : List Datum) → tiny_act_of (tiny_kind_of s.head.kind) s memo input ≡ Goto 0 input
 goes s br memo input = ap (λ k. tiny_act_of k s memo input) (br_alone _ br)
 
-loses : (s : Shape) → Admitted tiny s → IsTrue (is_br (kind_of s.head.kind)) → (i j p : ℕ) → slice_get (forwarded_along i s.operands) j ≡ Some p → LosesOperand tiny SameTests s i j p s.head
+loses : (s : Shape) → Admitted tiny s → IsTrue (is_br (tiny_kind_of s.head.kind)) → (i j p : ℕ) → slice_get (forwarded_along i s.operands) j ≡ Some p → LosesOperand tiny SameTests s i j p s.head
 unfolding tiny
 loses s h br (suc i) j p e = absurd (nowhere j p e)
 loses s h br zero j p e =
@@ -251,7 +246,7 @@ entry_kept (Some Twice) e = grind arith
 
 pub tiny_arguments : ActsWithoutArgument tiny tiny_removable
 unfolding tiny_removable
-tiny_arguments = λ s h i n j e f l first. absurd (entry_kept (kind_of s.head.kind) e)
+tiny_arguments = λ s h i n j e f l first. absurd (entry_kept (tiny_kind_of s.head.kind) e)
 
 given : Move → Option (List Datum)
 given (Give ds) = Some ds
@@ -283,8 +278,8 @@ one_result (Some Twice) a b c d f h = grind arith
 pub tiny_answers : AnswersTrue tiny tiny_folds tiny_constants
 unfolding tiny tiny_folds tiny_constants
 tiny_answers = record {
-  counts = λ s h f known l. one_result (kind_of s.head.kind) _ _ _ _ f h;
-  gives = λ s h f known first l k later memo input ds comes e. constant_given (kind_of s.head.kind) s memo input ds f e;
+  counts = λ s h f known l. one_result (tiny_kind_of s.head.kind) _ _ _ _ f h;
+  gives = λ s h f known first l k later memo input ds comes e. constant_given (tiny_kind_of s.head.kind) s memo input ds f e;
 }
 
 never : IsTrue false → ⊥

@@ -18,8 +18,8 @@ ghost use Rattle.std.specs.Prelude.{◌≡◌, Ok, ℕ, Some, IfOk, slice_get};
 ghost use Rattle.pliron_core.specs.Tree.{IsLive, IsBlock, block_parent_of, operands_of};
 ghost use Rattle.pliron_laws.specs.Answers.{ReadsHead, is_entry};
 ghost use Rattle.pliron_laws.specs.OperandFolding.{no_operand_folds, none_answered};
-ghost use Rattle.pliron_evaluator.specs.Tiny.{tiny_number_of, kind_of, is_br, is_const, first_attribute, tiny, tiny_side_effects, tiny_removable, tiny_folds};
-ghost use Rattle.pliron_evaluator.specs.Tiny.{tiny_constants, tiny_accepts, tiny_constant, tiny_folds_branch, tiny_feasible, tiny_outcome, has_tiny_kind, has_tiny_interface, tiny_shortened, is_naming, first_entry_operand, tiny_entry_operands};
+ghost use Rattle.pliron_evaluator.specs.Tiny.{tiny_number_of, tiny_kind_of, is_br, is_const, first_attribute, tiny, tiny_side_effects, tiny_removable, tiny_folds};
+ghost use Rattle.pliron_evaluator.specs.Tiny.{tiny_constants, tiny_accepts, tiny_constant, tiny_folds_branch, tiny_feasible, tiny_outcome, has_tiny_kind, has_tiny_interface, tiny_shortened, is_naming_kind, first_entry_operand, tiny_entry_operands};
 ghost use Rattle.pliron_evaluator.specs.TinyLaws.{tiny_counts, tiny_effects, tiny_forwards, tiny_arguments, tiny_answers, tiny_jumps, tiny_in_place, tiny_makes};
 ghost use Rattle.pliron_evaluator.specs.TinyEntries.{tiny_names, tiny_roots};
 
@@ -66,7 +66,7 @@ impl TinyKind {
 
     /// The kind with this number, if there is one. Cost: constant.
     pub fn of(number: u32) -> Option<TinyKind>
-        ensures { result ≡ kind_of number }
+        ensures { result ≡ tiny_kind_of number }
     {
         match number {
             0 => Some(TinyKind::Const),
@@ -83,7 +83,7 @@ impl TinyKind {
 // The kind of the operation, if it is one of this dialect.
 fn kind_at(op: Ptr<Operation>, ctx: &Context) -> Option<TinyKind>
     requires { IsLive ctx.now.tree op }
-    ensures { ReadsHead (λ h. kind_of h.kind) ctx.now.tree op result }
+    ensures { ReadsHead (λ h. tiny_kind_of h.kind) ctx.now.tree op result }
 {
     TinyKind::of(op.head(ctx).kind)
 }
@@ -103,7 +103,7 @@ fn is_jump(kind: Option<TinyKind>) -> bool
 
 // Whether operations of the kind name operands for their regions.
 fn is_naming(kind: Option<TinyKind>) -> bool
-    ensures { result ≡ is_naming kind }
+    ensures { result ≡ is_naming_kind kind }
 {
     matches!(kind, Some(TinyKind::Both | TinyKind::Twice))
 }

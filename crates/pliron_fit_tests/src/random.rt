@@ -4,7 +4,7 @@ use super::by_definition::{Use, all_uses, is_fit_by_definition};
 use super::ill_defined::trees::{all_of, holders_of};
 use pliron_core::{Context, Operation, Ptr};
 use pliron_dialect_bench::Bench;
-use pliron_fuzz::{Kind, Subject};
+use pliron_fuzz::{FuzzSubject, Kind};
 use pliron_laws::is_well_linked;
 use pliron_pass_fit::is_fit;
 use pliron_test_cases::cases::read;
@@ -49,7 +49,7 @@ fn compare_roots(
     alloc: Global,
     ctx: &Context,
     whole: Ptr<Operation>,
-    subject: &Subject,
+    subject: &FuzzSubject,
 ) {
     let all = all_of(rt, alloc, whole, ctx);
     let uses = all_uses(rt, alloc, &all, ctx);
@@ -60,14 +60,14 @@ fn compare_roots(
     }
 }
 
-fn compare_all(rt: &impl Abort, alloc: Global, ctx: &mut Context, subject: &Subject) {
+fn compare_all(rt: &impl Abort, alloc: Global, ctx: &mut Context, subject: &FuzzSubject) {
     if let Some(whole) = read(alloc, ctx, &subject.text) {
         compare_roots(rt, alloc, ctx, whole, subject);
     }
 }
 
 fn compare_text(rt: &impl Abort, alloc: Global, seed: u64) {
-    let subject = Subject::new(alloc, seed).expect(rt, "memory");
+    let subject = FuzzSubject::new(alloc, seed).expect(rt, "memory");
     let mut ctx = Context::new(alloc);
     compare_all(rt, alloc, &mut ctx, &subject);
 }

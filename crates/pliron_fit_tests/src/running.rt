@@ -2,7 +2,7 @@
 use super::ill_defined::trees::holders_of;
 use pliron_core::{Context, IRStatus, Operation, Ptr};
 use pliron_dialect_bench::Bench;
-use pliron_fuzz::Subject;
+use pliron_fuzz::FuzzSubject;
 use pliron_laws::OptError;
 use pliron_pass::{AnalysisManager, BenchFacts, Passes};
 use pliron_pass_fit::{RunError, fit_roots, is_fit, run_checked, run_checked_for};
@@ -71,7 +71,7 @@ fn run_in(rt: &impl Abort, alloc: Global, ctx: &mut Context, text: &str) {
 }
 
 fn run_text(rt: &impl Abort, alloc: Global, seed: u64) {
-    let subject = Subject::new(alloc, seed).expect(rt, "memory");
+    let subject = FuzzSubject::new(alloc, seed).expect(rt, "memory");
     let mut ctx = Context::new(alloc);
     run_in(rt, alloc, &mut ctx, &subject.text);
 }

@@ -7,7 +7,7 @@ use pliron_dialect_bench::Bench;
 use pliron_laws::Dialect;
 use pliron_pass_fit::{find_violation, is_fit};
 use pliron_test_cases::Tiny;
-use pliron_test_cases::cases::{Row, fields, operation_at, read, row_of};
+use pliron_test_cases::cases::{CaseRow, fields, operation_at, read, row_of};
 use pliron_test_cases::trees::build;
 use std::alloc::Global;
 use std::process::Abort;
@@ -130,7 +130,7 @@ fn answer(
 }
 
 fn check(rt: &impl Abort, alloc: Global, subject: Subject, case: &str) {
-    let Row { name, asked, want } = row_of(case).expect(rt, "a case");
+    let CaseRow { name, asked, want } = row_of(case).expect(rt, "a case");
     let mut ctx = Context::new(alloc);
     let answer = answer(rt, alloc, &mut ctx, subject, asked);
     expect_text(rt, answer.as_str(), want, name);

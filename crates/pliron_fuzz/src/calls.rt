@@ -7,38 +7,51 @@ ghost use Rattle.pliron_dialect_bench.specs.BenchMoves.{bench};
 
 use crate::runs::runs_are_kept;
 use crate::texts::is_printed;
+use pliron_bench_rules::BenchRules;
 use pliron_core::{Context, IRStatus, Operation, Ptr};
 use pliron_dialect_bench::Bench;
 use pliron_laws::OptError;
 use pliron_opt_canonicalize::canonicalize;
+use pliron_opt_combine::{Ending, combine};
 use pliron_opt_cse::cse;
 use pliron_text::{print_text, read_text};
 use std::alloc::Global;
+
+// So often rules are applied. Where values of a malformed text are made of themselves, some rules never come to an end.
+static MAX_REWRITES: usize = 4_096;
 
 /// One of the calls.
 #[derive(Clone, Copy, Debug, Drop, PartialEq, Eq)]
 pub enum Call {
     Cse,
     Canonicalize,
+    Combine,
 }
 
-/// What a call leaves of a text that is read: the text before and after, printed, whether the call says that it changed
-/// the tree, and whether a second one does.
+/// What a call leaves of a readable text: the text before and after, printed; what it says of the change; and whether a
+/// second one says that the tree changed.
 #[derive(Drop)]
 struct Left {
     before: String,
     after: String,
-    is_changed: bool,
+    change: Change,
     is_changed_again: bool,
 }
 
-// Whether the call says that it changed the tree.
-fn changes(
+/// What a call says: whether it changed the tree, and whether it finished.
+#[derive(Clone, Copy, Drop)]
+struct Change {
+    is_changed: bool,
+    is_finished: bool,
+}
+
+// What the call says of the tree.
+fn apply_call(
     alloc: Global,
     call: Call,
     root: Ptr<Operation>,
     ctx: &mut Context,
-) -> Result<bool, OptError>
+) -> Result<Change, OptError>
     requires live { IsLive ctx.old.tree root }
     requires linked { IsWellLinked bench ctx.old.tree root }
     ensures live { IsLive ctx.new.tree root }
@@ -48,8 +61,18 @@ fn changes(
     let status = match call {
         Call::Cse => cse::<Bench>(alloc, root, ctx)?,
         Call::Canonicalize => canonicalize::<Bench>(alloc, root, ctx)?,
+        Call::Combine => {
+            let combined = combine::<Bench, BenchRules>(alloc, root, MAX_REWRITES, ctx)?;
+            return Ok(Change {
+                is_changed: combined.count != 0,
+                is_finished: combined.ending == Ending::Finished,
+            });
+        }
     };
-    Ok(status == IRStatus::Changed)
+    Ok(Change {
+        is_changed: status == IRStatus::Changed,
+        is_finished: true,
+    })
 }
 
 fn call_twice_in(
@@ -65,13 +88,13 @@ fn call_twice_in(
         return Ok(None);
     };
     let before = print_text(alloc, root, ctx)?;
-    let is_changed = changes(alloc, call, root, ctx)?;
+    let change = apply_call(alloc, call, root, ctx)?;
     let after = print_text(alloc, root, ctx)?;
-    let is_changed_again = changes(alloc, call, root, ctx)?;
+    let is_changed_again = apply_call(alloc, call, root, ctx)?.is_changed;
     Ok(Some(Left {
         before,
         after,
-        is_changed,
+        change,
         is_changed_again,
     }))
 }
@@ -85,7 +108,8 @@ fn call_twice(alloc: Global, call: Call, text: &str) -> Result<Option<Left>, Opt
 
 /// Whether the call leaves a text that is read again and printed the same, says truly whether it changed the tree,
 /// leaves nothing for a second one, and of a well-defined text keeps the runs of its functions; of any other text
-/// common subexpression elimination may leave something. True of a text outside the notation.
+/// common subexpression elimination may leave something, and rules too where they don't come to an end. True of a text
+/// outside the notation.
 ///
 /// Errors: allocation failure. Cost: the call twice, and the runs of each function before and after.
 pub fn is_right(alloc: Global, call: Call, text: &str, is_defined: bool) -> Result<bool, OptError>
@@ -94,13 +118,17 @@ pub fn is_right(alloc: Global, call: Call, text: &str, is_defined: bool) -> Resu
     let Some(left) = call_twice(alloc, call, text)? else {
         return Ok(true);
     };
-    if left.is_changed == (left.before == left.after)
+    if left.change.is_changed == (left.before == left.after)
         || !is_printed(alloc, &left.after, &left.after)?
     {
         return Ok(false);
     }
     if !is_defined {
-        return Ok(call == Call::Cse || !left.is_changed_again);
+        return Ok(call == Call::Cse || !left.change.is_finished || !left.is_changed_again);
     }
-    Ok(!left.is_changed_again && runs_are_kept(alloc, text, &left.after)?)
+    Ok(
+        left.change.is_finished
+            && !left.is_changed_again
+            && runs_are_kept(alloc, text, &left.after)?,
+    )
 }

@@ -19,6 +19,6 @@ mod texts;
 mod verdict;
 mod writer;
 
-pub use subject::{Kind, Subject};
+pub use subject::{FuzzSubject, Kind};
 pub use tally::Tally;
 pub use verdict::{AnswerFault, Verdict, judge};

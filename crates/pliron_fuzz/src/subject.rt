@@ -18,7 +18,7 @@ pub enum Kind {
 
 /// A text, and passes to run on it.
 #[derive(Drop)]
-pub struct Subject {
+pub struct FuzzSubject {
     pub kind: Kind,
     /// The word that names the passes.
     pub list: String,
@@ -31,7 +31,7 @@ static CHARACTERS: [char; 20] = [
     '\n',
 ];
 
-impl Subject {
+impl FuzzSubject {
     /// What this seed makes, always the same. Errors: allocation failure. Cost: that of the texts of up to three
     /// functions.
     pub fn new(alloc: Global, seed: u64) -> Result<Self, AllocError> {
@@ -47,7 +47,7 @@ impl Subject {
             Kind::Defined | Kind::Hostile => text,
             Kind::Mangled => mangle(alloc, &mut dice, &text)?,
         };
-        Ok(Subject { kind, list, text })
+        Ok(FuzzSubject { kind, list, text })
     }
 }
 

@@ -6,7 +6,7 @@ use crate::calls::{Call, is_right};
 use crate::runs::runs_are_kept;
 use crate::settled::{is_settled, is_simple_after};
 use crate::texts::is_printed;
-use crate::{Kind, Subject};
+use crate::{FuzzSubject, Kind};
 use pliron_laws::OptError;
 use std::alloc::Global;
 use thiserror::Error;
@@ -36,6 +36,8 @@ pub enum AnswerFault {
     Subexpressions,
     #[error("canonicalization leaves something that folds, or changes a run")]
     Folds,
+    #[error("a rule is left that applies, or the rules change a run")]
+    Rules,
 }
 
 /// What came of a text.
@@ -64,7 +66,7 @@ fn reports_truly(list: &str, is_same: bool, is_changed: bool) -> bool {
 // What is wrong with the line that is answered, and what it says of change.
 fn fault_of_line(
     alloc: Global,
-    subject: &Subject,
+    subject: &FuzzSubject,
     line: &str,
     is_changed: bool,
 ) -> Result<Option<AnswerFault>, OptError>
@@ -83,7 +85,7 @@ fn fault_of_line(
 // What is wrong with what calls leave of the text, and of the line, for which the program has no words.
 fn fault_of_calls(
     alloc: Global,
-    subject: &Subject,
+    subject: &FuzzSubject,
     line: &str,
 ) -> Result<Option<AnswerFault>, OptError>
     ensures { IsOkUnless result OptError.Memory }
@@ -99,13 +101,18 @@ fn fault_of_calls(
     {
         return Ok(Some(AnswerFault::Folds));
     }
+    if !is_right(alloc, Call::Combine, &subject.text, is_defined)?
+        || !is_right(alloc, Call::Combine, line, is_defined)?
+    {
+        return Ok(Some(AnswerFault::Rules));
+    }
     Ok(None)
 }
 
 // What is wrong with what the passes leave of the text, which is the line.
 fn fault_of_passes(
     alloc: Global,
-    subject: &Subject,
+    subject: &FuzzSubject,
     line: &str,
 ) -> Result<Option<AnswerFault>, OptError>
     ensures { IsOkUnless result OptError.Memory }
@@ -127,7 +134,7 @@ fn fault_of_passes(
 // What is wrong with the answer, which is this line.
 fn fault_of(
     alloc: Global,
-    subject: &Subject,
+    subject: &FuzzSubject,
     line: &str,
     is_changed: bool,
 ) -> Result<Option<AnswerFault>, OptError>
@@ -146,7 +153,7 @@ fn fault_of(
 ///
 /// Errors: allocation failure. Cost: seven answers of the program, and eight runs of each function or, where a
 /// few moves show too little, twelve.
-pub fn judge(alloc: Global, subject: &Subject) -> Result<Verdict, OptError>
+pub fn judge(alloc: Global, subject: &FuzzSubject) -> Result<Verdict, OptError>
     ensures unreadable { IfOk result (λ verdict. verdict ≡ Verdict.Unreadable → subject.now.kind ≡ Kind.Mangled) }
     ensures refused { IfOk result (λ verdict. verdict ≡ Verdict.Refused → ¬ (subject.now.kind ≡ Kind.Defined)) }
     ensures memory { IsOkUnless result OptError.Memory }

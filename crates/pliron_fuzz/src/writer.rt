@@ -7,7 +7,7 @@
 //! a region that is left.
 
 use crate::dice::Dice;
-use crate::names::Name;
+use crate::names::RandomName;
 use crate::region_plan::{Exit, PlannedOperation, RegionPlan};
 use std::alloc::{AllocError, Global};
 
@@ -45,7 +45,7 @@ struct Frame {
 
 /// A part of a text.
 #[derive(Clone, Copy, Debug, PartialEq, Eq)]
-enum Part {
+enum WrittenPart {
     /// The name of a block, with its arguments.
     Name,
     PlannedOperation(PlannedOperation),
@@ -66,7 +66,7 @@ struct Writer {
     // So many regions were opened.
     regions: usize,
     // Values of regions that are left.
-    left: Vec<Name>,
+    left: Vec<RandomName>,
 }
 
 /// A function at random. Errors: allocation failure. Cost: linear in the text, and for each use in the values
@@ -88,7 +88,7 @@ pub fn function(alloc: Global, dice: Dice, is_hostile: bool) -> Result<(Dice, St
 
 // Adds the names of a block's arguments, and of the results of its first so many operations.
 fn push_names(
-    names: &mut Vec<Name>,
+    names: &mut Vec<RandomName>,
     plan: &RegionPlan,
     block: usize,
     count: usize,
@@ -97,16 +97,16 @@ fn push_names(
         return Ok(());
     };
     for place in 0..found.arguments {
-        names.push(Name::Argument(plan.number, block, place))?;
+        names.push(RandomName::Argument(plan.number, block, place))?;
     }
     for place in 0..found.results_before(count) {
-        names.push(Name::Result(plan.number, block, place))?;
+        names.push(RandomName::Result(plan.number, block, place))?;
     }
     Ok(())
 }
 
 // Adds the names of all values that the region makes.
-fn push_all_names(names: &mut Vec<Name>, plan: &RegionPlan) -> Result<(), AllocError> {
+fn push_all_names(names: &mut Vec<RandomName>, plan: &RegionPlan) -> Result<(), AllocError> {
     for block in 0..plan.blocks.len() {
         push_names(names, plan, block, usize::MAX)?;
     }
@@ -143,16 +143,16 @@ impl Writer {
     }
 
     // What comes next.
-    fn next_part(&self) -> Part {
+    fn next_part(&self) -> WrittenPart {
         let Some(frame) = self.frames.last() else {
-            return Part::Close;
+            return WrittenPart::Close;
         };
         match frame.plan.blocks.get(frame.block) {
-            None => Part::Close,
-            Some(_) if !frame.is_begun => Part::Name,
+            None => WrittenPart::Close,
+            Some(_) if !frame.is_begun => WrittenPart::Name,
             Some(plan) => match plan.steps.get(frame.step).copied() {
-                Some(step) => Part::PlannedOperation(step),
-                None => Part::Exit(plan.exit),
+                Some(step) => WrittenPart::PlannedOperation(step),
+                None => WrittenPart::Exit(plan.exit),
             },
         }
     }
@@ -160,10 +160,10 @@ impl Writer {
     // Writes what comes next.
     fn write_part(&mut self) -> Result<(), AllocError> {
         match self.next_part() {
-            Part::Name => self.write_name(),
-            Part::PlannedOperation(step) => self.write_step(step),
-            Part::Exit(exit) => self.write_exit(exit),
-            Part::Close => self.close(),
+            WrittenPart::Name => self.write_name(),
+            WrittenPart::PlannedOperation(step) => self.write_step(step),
+            WrittenPart::Exit(exit) => self.write_exit(exit),
+            WrittenPart::Close => self.close(),
         }
     }
 
@@ -187,7 +187,7 @@ impl Writer {
         write!(self.text, "{before}b{block}(").map_err(|_| AllocError)?;
         for place in 0..frame.plan.arguments(block) {
             let before = if place > 0 { ", " } else { "" };
-            let name = Name::Argument(number, block, place);
+            let name = RandomName::Argument(number, block, place);
             write!(self.text, "{before}{name}").map_err(|_| AllocError)?;
         }
         self.text.push_str("):")
@@ -231,7 +231,7 @@ impl Writer {
         self.text.push_str(if frame.step > 0 { "; " } else { " " })?;
         for place in 0..step.results() {
             let before = if place > 0 { ", " } else { "" };
-            let name = Name::Result(number, block, first.saturating_add(place));
+            let name = RandomName::Result(number, block, first.saturating_add(place));
             write!(self.text, "{before}{name}").map_err(|_| AllocError)?;
         }
         if step.results() > 0 {
@@ -321,18 +321,22 @@ impl Writer {
     }
 
     // A value that a use may name here.
-    fn value(&mut self) -> Result<Name, AllocError> {
+    fn value(&mut self) -> Result<RandomName, AllocError> {
         let names = if self.is_hostile && !self.dice.once_in(2) {
             self.all_names()?
         } else {
             self.names_before()?
         };
         // Each block begins with a constant, so there is a value.
-        Ok(self.dice.one_of(&names).unwrap_or(Name::Result(0, 0, 0)))
+        Ok(
+            self.dice
+                .one_of(&names)
+                .unwrap_or(RandomName::Result(0, 0, 0)),
+        )
     }
 
     // The values that are defined before what comes next, on every path to it.
-    fn names_before(&self) -> Result<Vec<Name>, AllocError> {
+    fn names_before(&self) -> Result<Vec<RandomName>, AllocError> {
         let mut names = Vec::new(self.alloc);
         for frame in &self.frames {
             push_names(&mut names, &frame.plan, frame.block, frame.step)?;
@@ -344,7 +348,7 @@ impl Writer {
     }
 
     // The values of all regions that are open or left.
-    fn all_names(&self) -> Result<Vec<Name>, AllocError> {
+    fn all_names(&self) -> Result<Vec<RandomName>, AllocError> {
         let mut names = Vec::new(self.alloc);
         names.extend_from_slice(&self.left)?;
         for frame in &self.frames {

@@ -13,7 +13,7 @@ use Rattle.pliron_core.proofs.WalkStepLemmas.{up_smaller}
 use Rattle.pliron_core.proofs.ContainedLemmas.{within_up}
 use Rattle.pliron_laws.specs.Datum.{Head}
 use Rattle.pliron_laws.specs.Answers.{ReadsHead, HeadPasses}
-use Rattle.pliron_graph_components.specs.Ancestors.{IsAtOrAbove, IsAncestor, IsDirectlyIn, IsDirectlyInRegion, IsBlockInside, IsNearest, FindsNearest}
+use Rattle.pliron_graph_components.specs.Ancestors.{IsAtOrAbove, IsAncestor, IsDirectlyIn, IsDirectlyInRegion, IsBlockInside, IsNearestAncestor, FindsNearest}
 
 -- a search has come up to here: what is here is one of those that are visited, and each of them that
 -- meets the test is here or further up
@@ -66,7 +66,7 @@ module _ (t : Tree) (w : IsTree t) (Meets : ℕ → Type 0) where
   climb_on_above op = climb_step (IsAncestor t op) (λ x p a e. inside_trans t p x op (Directly e) a)
 
   -- it ends at the first that meets the test, or at the top
-  pub climb_found : (Among : ℕ → Type 0) (at : Option ℕ) (x : ℕ) → at ≡ Some x → Meets x → IsClimb t Among Meets at → IsNearest (IsInside t) Among Meets x
+  pub climb_found : (Among : ℕ → Type 0) (at : Option ℕ) (x : ℕ) → at ≡ Some x → Meets x → IsClimb t Among Meets at → IsNearestAncestor (IsInside t) Among Meets x
   climb_found Among at x is m c = record {
     among = c.among x is;
     meets = m;
@@ -106,9 +106,9 @@ module _ (t : Tree) (w : IsTree t) (r : ℕ) where
       ]
 
   -- the block of the operation that was found
-  pub block_of_found : (op a : ℕ) (o : Option ℕ) → o ≡ parent_of t a → IsNearest (IsInside t) (IsAtOrAbove t op) (IsDirectlyInRegion t r) a → FindsNearest (IsBlockInside t) (λ b. IsInOperation t b op) (IsDirectlyIn t r) o
+  pub block_of_found : (op a : ℕ) (o : Option ℕ) → o ≡ parent_of t a → IsNearestAncestor (IsInside t) (IsAtOrAbove t op) (IsDirectlyInRegion t r) a → FindsNearest (IsBlockInside t) (λ b. IsInOperation t b op) (IsDirectlyIn t r) o
   block_of_found op a o e n =
-      let found : IsNearest (IsBlockInside t) (λ b. IsInOperation t b op) (IsDirectlyIn t r) n.meets.0 =
+      let found : IsNearestAncestor (IsBlockInside t) (λ b. IsInOperation t b op) (IsDirectlyIn t r) n.meets.0 =
       record { among = (a, n.meets.1, n.among); meets = n.meets.2; nearest = λ c i s m. not_nested n.meets.0 c n.meets.2 m i } in
       subst (FindsNearest (IsBlockInside t) (λ b. IsInOperation t b op) (IsDirectlyIn t r)) (sym n.meets.1 ∙ sym e) found
 
@@ -118,7 +118,7 @@ module _ (t : Tree) (w : IsTree t) (r : ℕ) where
       subst (FindsNearest (IsBlockInside t) (λ b. IsInOperation t b op) (IsDirectlyIn t r)) (sym e) nothing
 
   -- the block itself
-  pub block_itself : (b : ℕ) → IsDirectlyIn t r b → IsNearest (IsBlockInside t) (λ c. IsBlockWithin t c b) (IsDirectlyIn t r) b
+  pub block_itself : (b : ℕ) → IsDirectlyIn t r b → IsNearestAncestor (IsBlockInside t) (λ c. IsBlockWithin t c b) (IsDirectlyIn t r) b
   block_itself b at_b = record { among = inl refl; meets = at_b; nearest = λ c i s m. not_nested b c at_b m i }
 
   -- or what stands around the operation that holds it

@@ -9,14 +9,14 @@ use Rattle.pliron_graph_traversal.specs.Digraph.{Digraph, IsLawful, Reaches}
 use Rattle.pliron_graph_traversal.specs.Adjacency.{Adjacency, graph_of}
 use Rattle.pliron_graph_traversal.specs.ByNumber.{IsByNumber}
 use Rattle.pliron_graph_traversal.specs.Search.{number_in}
-use Rattle.pliron_graph_traversal.specs.Internal.AdjacencyLawful.{same, reflexive, node_below, below_node}
-use Rattle.pliron_graph_traversal.specs.Internal.Forest.{leaf, Grows, done}
+use Rattle.pliron_graph_traversal.specs.Internal.AdjacencyLawful.{same_number, reflexive, node_below, below_node}
+use Rattle.pliron_graph_traversal.specs.Internal.Forest.{leaf, ForestGrows, done}
 use Rattle.pliron_graph_traversal.specs.Internal.Membership.{HasMember, in_from, contains_from}
 use Rattle.pliron_graph_traversal.proofs.NumberingLemmas.{search_from_growth}
 use Rattle.pliron_graph_components.specs.Components.{AreComponents, ReachEachOther, IsCyclic, Descends, HasGreatest, entry_then_nodes}
 use Rattle.pliron_graph_components.specs.declared.components.Scc.{Scc}
 use Rattle.pliron_graph_components.specs.Internal.Collecting.{AreNumberedComponents}
-use Rattle.pliron_graph_components.specs.Internal.Named.{IsNamed, AreNamed}
+use Rattle.pliron_graph_components.specs.Internal.Named.{IsNamedComponent, AreNamed}
 use Rattle.pliron_graph_components.proofs.PreSentinelLemmas.{contains_item, item_contained, item_of_push}
 use Rattle.pliron_graph_traversal.proofs.NumberedLemmas.{in_map, of_map, named_items, number_of, node_in, place_named}
 use Rattle.pliron_graph_components.proofs.ByNumberLemmas.{search_named, pre_below, post_below, reaches_named, path_numbered, reaches_numbered, loop_named, loop_numbered}
@@ -32,28 +32,28 @@ item_of_map f (x ∷ xs) zero y e = let here : f x ≡ y = cc e in (x, refl, her
 item_of_map f (x ∷ xs) (suc i) y e = item_of_map f xs i y e
 
 pub nat_laws : IsEquivalence nat_eq
-nat_laws = record { refl = reflexive; symm = λ x y. symm x y (nat_eq x y) (nat_eq y x) refl refl; congr = λ x y z h. let e : x ≡ y = same x y h in ap (λ w. nat_eq w z) e }
+nat_laws = record { refl = reflexive; symm = λ x y. symm x y (nat_eq x y) (nat_eq y x) refl refl; congr = λ x y z h. let e : x ≡ y = same_number x y h in ap (λ w. nat_eq w z) e }
   where
     symm : (x y : ℕ) (b c : Bool) → nat_eq x y ≡ b → nat_eq y x ≡ c → nat_eq x y ≡ nat_eq y x
-    symm x y true c p q = let e : x ≡ y = same x y p in ap (λ w. nat_eq w y) e ∙ ap (nat_eq y) (sym e)
-    symm x y false true p q = let e : y ≡ x = same y x q in ap (λ w. nat_eq w y) (sym e) ∙ ap (nat_eq y) e
+    symm x y true c p q = let e : x ≡ y = same_number x y p in ap (λ w. nat_eq w y) e ∙ ap (nat_eq y) (sym e)
+    symm x y false true p q = let e : y ≡ x = same_number y x q in ap (λ w. nat_eq w y) (sym e) ∙ ap (nat_eq y) e
     symm x y false false p q = p ∙ sym q
 
 pub named_none : {N : Type 0} (nodes : List N) → AreNamed nodes [] []
 named_none nodes = record { same_count = refl; each = λ i c d a b. absurd (cc a) }
 
 -- while the components get their nodes
-pub named_push : {N : Type 0} (nodes : List N) (cs : List (Scc ℕ)) (ds : List (Scc N)) (c : Scc ℕ) (d : Scc N) → IsNamed nodes c d → AreNamed nodes cs ds → AreNamed nodes (cs ++ c ∷ []) (ds ++ d ∷ [])
+pub named_push : {N : Type 0} (nodes : List N) (cs : List (Scc ℕ)) (ds : List (Scc N)) (c : Scc ℕ) (d : Scc N) → IsNamedComponent nodes c d → AreNamed nodes cs ds → AreNamed nodes (cs ++ c ∷ []) (ds ++ d ∷ [])
 named_push {N} nodes cs ds c d is all = record {
   same_count = length_push ds d ∙ ap (λ n. n + 1) all.same_count ∙ sym (length_push cs c);
   each = λ k a b at_a at_b. by k a b (item_of_push cs c k a at_a) (item_of_push ds d k b at_b);
 }
   where
-    by : (k : ℕ) (a : Scc ℕ) (b : Scc N) → ((k < length cs) × (slice_get cs k ≡ Some a)) ⊎ ((k ≡ length cs) × (c ≡ a)) → ((k < length ds) × (slice_get ds k ≡ Some b)) ⊎ ((k ≡ length ds) × (d ≡ b)) → IsNamed nodes a b
+    by : (k : ℕ) (a : Scc ℕ) (b : Scc N) → ((k < length cs) × (slice_get cs k ≡ Some a)) ⊎ ((k ≡ length cs) × (c ≡ a)) → ((k < length ds) × (slice_get ds k ≡ Some b)) ⊎ ((k ≡ length ds) × (d ≡ b)) → IsNamedComponent nodes a b
     by k a b (inl x) (inl y) = all.each k a b x.1 y.1
     by k a b (inl x) (inr y) = absurd (omega (arith, x.0, y.0, all.same_count))
     by k a b (inr x) (inl y) = absurd (omega (arith, x.0, y.0, all.same_count))
-    by k a b (inr x) (inr y) = subst (λ (z : Scc ℕ). IsNamed nodes z b) x.1 (subst (λ (z : Scc N). IsNamed nodes c z) y.1 is)
+    by k a b (inr x) (inr y) = subst (λ (z : Scc ℕ). IsNamedComponent nodes z b) x.1 (subst (λ (z : Scc N). IsNamedComponent nodes c z) y.1 is)
 
 -- the numbers of a component are below the number of nodes
 pub numbers_below : (n : ℕ) (g : Adjacency) (numbers : List ℕ) → n ≡ length g.succ → All (λ v. Contains (graph_of g).nodes v) numbers → All (λ k. k < n) numbers
@@ -236,7 +236,7 @@ module _ {N : Type 0} (eq : N → N → Bool) (laws : IsEquivalence eq) (g : Dig
           let roots : [] ≡ entry_then_nodes g = sym (ap (λ o. option_to_list o ++ g.nodes) (by.entry ∙ ap (λ ns'. slice_get ns' 0) e) ∙ e) in
           record {
             orders = record { pre = []; post = [] };
-            search = search_from_growth eq lawful.same laws.refl g (entry_then_nodes g) [] [] (record { forest = leaf; grows = subst (λ z. Grows eq g [] z leaf) roots done; pre_is = refl; post_is = refl });
+            search = search_from_growth eq lawful.same laws.refl g (entry_then_nodes g) [] [] (record { forest = leaf; grows = subst (λ z. ForestGrows eq g [] z leaf) roots done; pre_is = refl; post_is = refl });
             not_empty = λ c h. absurd (none c h);
             covers = λ v. (λ h. absurd (in_from [] v (subst (λ z. Contains z v) e h)), λ h. absurd (none h.0 h.1));
             shares = λ c u v h hu. absurd (none c h);

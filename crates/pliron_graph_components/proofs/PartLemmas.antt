@@ -8,7 +8,7 @@ use Rattle.pliron_graph_traversal.specs.Search.{number_in}
 use Rattle.pliron_graph_components.specs.Components.{Descends, IsCyclic}
 use Rattle.pliron_graph_components.specs.declared.components.Scc.{Scc}
 use Rattle.pliron_graph_traversal.specs.Internal.Membership.{in_from, contains_from}
-use Rattle.pliron_graph_components.specs.Internal.Collecting.{Collects, IsTaken}
+use Rattle.pliron_graph_components.specs.Internal.Collecting.{Collects, IsTakenOff}
 use Rattle.pliron_graph_traversal.specs.Internal.Membership.{HasMember}
 use Rattle.pliron_graph_components.specs.Internal.Picking.{IsListedFrom}
 use Rattle.pliron_graph_components.proofs.PickLemmas.{dropped_stand}
@@ -35,7 +35,7 @@ module _ {N : Type 0} (eq : N → N → Bool) (laws : IsEquivalence eq) (same : 
   pub members : (xs ys : List N) → xs ≡ ys → ((v : N) → (Contains ys v ↔ Contains (drop first new) v)) → All (λ v. Contains g.nodes v) xs
   members xs ys e h k d l = part_inside (get_or xs k d) ((h (get_or xs k d)).0 (subst (λ zs. Contains zs (get_or xs k d)) e (Contains-get_or xs k d l)))
 
-  pub taken : (pre : List N) (c : Scc N) (xs : List N) → xs ≡ c.nodes.items → ((v : N) → (Contains c.nodes.items v ↔ Contains (drop first new) v)) → Descends (number_in eq pre) c.nodes.items → (IsTrue c.is_cyclic ↔ IsCyclic g xs) → IsTaken g eq pre root old new c
+  pub taken : (pre : List N) (c : Scc N) (xs : List N) → xs ≡ c.nodes.items → ((v : N) → (Contains c.nodes.items v ↔ Contains (drop first new) v)) → Descends (number_in eq pre) c.nodes.items → (IsTrue c.is_cyclic ↔ IsCyclic g xs) → IsTakenOff g eq pre root old new c
   taken pre c xs e h descends cyclic = record {
     collects = collects;
     same = λ x. (
@@ -46,7 +46,7 @@ module _ {N : Type 0} (eq : N → N → Bool) (laws : IsEquivalence eq) (same : 
     cyclic = subst (λ zs. IsTrue c.is_cyclic ↔ IsCyclic g zs) e cyclic;
   }
 
-module _ {N : Type 0} (eq : N → N → Bool) (laws : IsEquivalence eq) (same : (x y : N) → eq x y ≡ true → x ≡ y) (g : Digraph N) (pre : List N) (root : N) (old new : List N) (c : Scc N) (taken : IsTaken g eq pre root old new c) where
+module _ {N : Type 0} (eq : N → N → Bool) (laws : IsEquivalence eq) (same : (x y : N) → eq x y ≡ true → x ≡ y) (g : Digraph N) (pre : List N) (root : N) (old new : List N) (c : Scc N) (taken : IsTakenOff g eq pre root old new c) where
   -- the nodes of the component are those that are held since
   pub taken_stand : (first : ℕ) → first ≡ length old → (v : N) → (IsListedFrom eq new first v ↔ Contains c.nodes.items v)
   taken_stand first at v =

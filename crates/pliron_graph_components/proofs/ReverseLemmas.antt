@@ -8,7 +8,7 @@ use Rattle.std.proofs.lemmas.List.Folds.{find_at}
 use Rattle.std.proofs.lemmas.Option.{slice_get-map}
 use Rattle.pliron_graph_traversal.specs.Digraph.{Digraph}
 use Rattle.pliron_graph_traversal.specs.Search.{IsListed, number_in}
-use Rattle.pliron_graph_components.specs.Reverse.{Reversed, Fits, reverse_pred}
+use Rattle.pliron_graph_components.specs.Reverse.{Reversed, FitsReversal, reverse_pred}
 use Rattle.pliron_graph_components.specs.declared.reverse_node.ReverseNode.{ReverseNode}
 use Rattle.pliron_graph_components.specs.declared.reverse_node.ReverseNode.TheVariants.{Sentinel, Real}
 use Rattle.pliron_graph_traversal.specs.Internal.Membership.{HasMember, in_from, contains_from, any_from_in}
@@ -42,7 +42,7 @@ module _ {N : Type 0} (eq : N → N → Bool) (same : (x y : N) → eq x y ≡ t
   pub mapped_place : {B : Type 0} (f : N → B) (nodes : List N) (v : N) → list_any (eq v) nodes ≡ true → slice_get (map f nodes) (number_in eq nodes v) ≡ Some (f v)
   mapped_place f nodes v h = mapped_at f nodes (number_in eq nodes v) v (sym (find_at (eq v) nodes) ∙ found_listed nodes v h)
 
-  module _ {G : Type 0} (g : Digraph N) (r : Reversed G N) (fits : Fits eq g r) (node : ReverseNode N) (v : N) (is : node ≡ Real v) (member : Contains (Sentinel ∷ map Real g.nodes) node) where
+  module _ {G : Type 0} (g : Digraph N) (r : Reversed G N) (fits : FitsReversal eq g r) (node : ReverseNode N) (v : N) (is : node ≡ Real v) (member : Contains (Sentinel ∷ map Real g.nodes) node) where
     pub kept_node : IsListed eq r.nodes v
     kept_node = rw fits.same_nodes (listed_node g.nodes v (real_node g.nodes node v is member))
 

@@ -3,7 +3,7 @@ use Rattle.std.proofs.Common.{◌≡◌, ℕ, ◌+◌, ◌≤◌, Bool, true, Li
 use Rattle.std.specs.List.{list_any}
 use Rattle.std.proofs.lemmas.List.{take_all}
 use Rattle.pliron_graph_traversal.specs.Digraph.{Digraph}
-use Rattle.pliron_graph_traversal.specs.Internal.Forest.{Forest, leaf, grow, forest_preorder, postorder, Grows, done, skip, Grew}
+use Rattle.pliron_graph_traversal.specs.Internal.Forest.{Forest, leaf, grow, forest_preorder, postorder, ForestGrows, done, skip, Grew}
 use Rattle.pliron_graph_traversal.proofs.WalkLemmas.{plus, pre_plus, grows_plus}
 use Rattle.pliron_graph_traversal.proofs.UnwindingLemmas.{take_next}
 
@@ -16,7 +16,7 @@ module _ {N : Type 0} (eq : N → N → Bool) (g : Digraph N) where
   pub grew_plus : (xs ys p q p' q' p'' q'' : List N) → Grew eq g xs p q p' q' → Grew eq g ys p' q' p'' q'' → Grew eq g (xs ++ ys) p q p'' q''
   grew_plus xs ys p q p' q' p'' q'' a b = record {
     forest = plus a.forest b.forest;
-    grows = grows_plus eq g a.grows (subst (λ x. Grows eq g x ys b.forest) a.pre_is b.grows);
+    grows = grows_plus eq g a.grows (subst (λ x. ForestGrows eq g x ys b.forest) a.pre_is b.grows);
     pre_is = b.pre_is ∙ ap (λ x. x ++ forest_preorder b.forest) a.pre_is ∙ append_assoc p (forest_preorder a.forest) (forest_preorder b.forest) ∙ ap (λ x. p ++ x) (sym (pre_plus a.forest b.forest));
     post_is = b.post_is ∙ ap (λ x. x ++ postorder b.forest) a.post_is ∙ append_assoc q (postorder a.forest) (postorder b.forest) ∙ ap (λ x. q ++ x) (sym (post_plus a.forest b.forest));
   }

@@ -10,7 +10,7 @@ use Rattle.pliron_graph_components.specs.Components.{entry_then_nodes}
 use Rattle.pliron_graph_components.specs.declared.components.Scc.{Scc}
 use Rattle.pliron_graph_traversal.specs.Internal.Membership.{HasMember, in_from, contains_from, in_cases, any_from_in, not_in_from_any, in_from_any}
 use Rattle.pliron_graph_traversal.specs.Internal.Forest.{Grew}
-use Rattle.pliron_graph_components.specs.Internal.Collecting.{IsTaken, LeadsOutside, AreNumberedComponents}
+use Rattle.pliron_graph_components.specs.Internal.Collecting.{IsTakenOff, LeadsOutside, AreNumberedComponents}
 use Rattle.pliron_graph_traversal.proofs.ItemLemmas.{in_from_item}
 use Rattle.pliron_graph_components.proofs.ItemLemmas.{item_left, item_right, place_of_item}
 use Rattle.pliron_graph_components.proofs.ComponentLemmas.{AreTaken, none_taken, passed, one_more}
@@ -72,7 +72,7 @@ module _ {N : Type 0} (eq : N → N → Bool) (g : Digraph N) (lawful : IsLawful
       over held cs there t = subst (AreTaken g (entry_then_nodes g) (number_in eq pre) (number_in eq post) held cs) root_number
           (passed g (entry_then_nodes g) (number_in eq pre) (number_in eq post) (length pre) search.numbering held cs root root_reached (in_from_any eq lawful.same laws.refl held root there) (before held cs t))
 
-      pub more : (held new : List N) (cs : List (Scc N)) (c : Scc N) → list_any (eq root) held ≡ false → IsTaken g eq pre root held new c
+      pub more : (held new : List N) (cs : List (Scc N)) (c : Scc N) → list_any (eq root) held ≡ false → IsTakenOff g eq pre root held new c
           → AreTaken g (entry_then_nodes g) (number_in eq pre) (number_in eq post) held cs (length all)
           → AreTaken g (entry_then_nodes g) (number_in eq pre) (number_in eq post) new (cs ++ c ∷ []) (length rest)
       more held new cs c unheld taken t =

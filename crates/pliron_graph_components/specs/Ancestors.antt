@@ -28,7 +28,7 @@ abbrev pub IsBlockInside : Tree → (b c : ℕ) → Type 0
 IsBlockInside t b c = (k : ℕ) × (block_parent_operation_of t c ≡ Some k) × IsInOperation t b k
 
 -- a is one of these and meets the test, and nothing nearer does: none that is inside a
-pub record IsNearest (Inside : ℕ → ℕ → Type 0) (Among Meets : ℕ → Type 0) (a : ℕ) : Type 0 where
+pub record IsNearestAncestor (Inside : ℕ → ℕ → Type 0) (Among Meets : ℕ → Type 0) (a : ℕ) : Type 0 where
   pub among : Among a
   pub meets : Meets a
   pub nearest : (k : ℕ) → Inside a k → Among k → Meets k → ⊥
@@ -36,7 +36,7 @@ pub record IsNearest (Inside : ℕ → ℕ → Type 0) (Among Meets : ℕ → Ty
 -- the nearest of these that meets the test, or nothing if none of them does
 abbrev pub FindsNearest : (Inside : ℕ → ℕ → Type 0) (Among Meets : ℕ → Type 0) → Option ℕ → Type 0
 FindsNearest Inside Among Meets None = (k : ℕ) → Among k → Meets k → ⊥
-FindsNearest Inside Among Meets (Some a) = IsNearest Inside Among Meets a
+FindsNearest Inside Among Meets (Some a) = IsNearestAncestor Inside Among Meets a
 
 -- both are in one block, a before b
 pub record StrictlyPrecedes (t : Tree) (a b : ℕ) : Type 0 where

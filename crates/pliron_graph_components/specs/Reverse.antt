@@ -58,7 +58,7 @@ pub record Reversed (G N : Type 0) : Type 0 where
   pub predecessors : List (List (ReverseNode N))
 
 -- what is kept fits a graph: the nodes and their predecessors are those of its reverse, and the pre-sentinels are nodes
-pub record Fits {G N : Type 0} (eq : N → N → Bool) (g : Digraph N) (r : Reversed G N) : Type 0 where
+pub record FitsReversal {G N : Type 0} (eq : N → N → Bool) (g : Digraph N) (r : Reversed G N) : Type 0 where
   pub same_nodes : r.nodes ≡ g.nodes
   pub same_predecessors : r.predecessors ≡ map (λ v. reverse_pred eq g r.pre_sentinels (Real v)) g.nodes
   pub starts_in : All (λ v. Contains g.nodes v) r.pre_sentinels

@@ -4,7 +4,7 @@ ghost use Rattle.std.specs.List.{All, IsDistinct, list_any};
 ghost use Rattle.pliron_graph_components.specs.Components.{AreComponents, IsCyclic, Descends, entry_then_nodes};
 ghost use Rattle.pliron_graph_traversal.specs.Search.{IsListed, number_in};
 ghost use Rattle.pliron_graph_traversal.specs.Internal.Forest.{Grew};
-ghost use Rattle.pliron_graph_components.specs.Internal.Collecting.{TakesIn, Collects, IsTaken, AreNumberedComponents};
+ghost use Rattle.pliron_graph_components.specs.Internal.Collecting.{TakesIn, Collects, IsTakenOff, AreNumberedComponents};
 ghost use Rattle.pliron_graph_components.specs.Internal.Named.{AreNamedComponents};
 ghost use Rattle.pliron_graph_traversal.specs.Adjacency.{AreInverse, graph_of};
 ghost use Rattle.pliron_graph_components.specs.Internal.Picking.{IsListedFrom};
@@ -188,7 +188,7 @@ pub(crate) fn take_component<C, G: ControlFlowGraph<C>, S: ListedSet<G::Node>>(
     requires unheld { list_any (G.Node.eq root) (S.listed held.old) ≡ false }
     requires listed { All (IsListed G.Node.eq (S.listed pre.now)) (G.graph graph.now ctx.now).nodes }
     requires once { IsDistinct G.Node.eq (S.listed pre.now) }
-    ensures taken { IfOk result (λ r. IsTaken (G.graph graph.now ctx.now) G.Node.eq (S.listed pre.now) root
+    ensures taken { IfOk result (λ r. IsTakenOff (G.graph graph.now ctx.now) G.Node.eq (S.listed pre.now) root
         (S.listed held.old) (S.listed held.new) (record { nodes = nodes.new; is_cyclic = r })) }
     ensures memory { IsOkUnless result OptError.Memory }
 {

@@ -2,7 +2,7 @@
 ghost use Rattle.std.specs.Prelude.{◌≡◌, ◌++◌, ◌∷◌, [], Contains, IfOk, IsOkUnless, Some, length, map, refl, slice_get};
 ghost use Rattle.std.specs.List.{All, IsDistinct};
 ghost use Rattle.pliron_graph_traversal.specs.Search.{IsListed, number_in};
-ghost use Rattle.pliron_graph_components.specs.Reverse.{ArePreSentinels, Reversed, Fits, reverse_of, reverse_pred};
+ghost use Rattle.pliron_graph_components.specs.Reverse.{ArePreSentinels, Reversed, FitsReversal, reverse_of, reverse_pred};
 ghost use Rattle.pliron_graph_components.specs.Internal.ReverseLawful.{reverse_lawful};
 
 use crate::ReverseNode;
@@ -97,7 +97,7 @@ impl<'a, G: ControlFlowGraph<C>, C> ControlFlowGraph<C> for ReverseGraph<'a, G, 
 
     ghost graph = { λ r c. reverse_of G.Node.eq (G.graph r.original c) r.pre_sentinels };
 
-    ghost is_lawful = { λ r c. G.is_lawful r.original c × Fits G.Node.eq (G.graph r.original c) r };
+    ghost is_lawful = { λ r c. G.is_lawful r.original c × FitsReversal G.Node.eq (G.graph r.original c) r };
 
     ghost laws = { λ r c h. reverse_lawful G.Node.eq _ (λ x y. refl) (λ y. refl) (λ x. refl) G.Node.Eq.laws.refl
         (G.graph r.original c) r.pre_sentinels (G.laws r.original c h.0) h.1.starts_in };

@@ -10,8 +10,8 @@ use Rattle.pliron_laws.specs.Paths.{Path}
 use Rattle.pliron_laws.specs.Root.{HasPassed}
 use Rattle.pliron_rewrite_equals.specs.OperationDominance.{DominatesOperation}
 use Rattle.pliron_rewrite_equals.proofs.Ways.{split_once, part_to, first_part}
-use Rattle.pliron_graph_order.specs.Seen.{IsReachedIn}
-use Rattle.pliron_graph_order.specs.Behind.{IsBehind, IsNearest, BehindLaws}
+use Rattle.pliron_graph_order.specs.Seen.{IsOnPathIn}
+use Rattle.pliron_graph_order.specs.Behind.{IsBehind, IsNearestBefore, BehindLaws}
 
 module _ (t : Tree) (w : IsTree t) (r : ℕ) where
   -- the operation that holds the region of a block
@@ -108,7 +108,7 @@ module _ (t : Tree) (w : IsTree t) (r : ℕ) where
       back (inr (inl q)) = inl (q.0, q.1, q.2, λ entry before fe path. ⊎_elim (λ i. inl (In-left x done (p ∷ []) i)) (λ y. inr y) (q.3 entry before fe path))
       back (inr (inr q)) = inr q
 
-  first : (c d x : ℕ) → IsReachedIn t r c → IsNearest t r d c → IsBehind t r c [] x ↔ IsBehind t r d (body_of t d) x
+  first : (c d x : ℕ) → IsOnPathIn t r c → IsNearestBefore t r d c → IsBehind t r c [] x ↔ IsBehind t r d (body_of t d) x
   first c d x reached near = (forth, back)
     where
       forth : IsBehind t r c [] x → IsBehind t r d (body_of t d) x

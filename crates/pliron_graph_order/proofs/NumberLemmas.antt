@@ -13,8 +13,8 @@ use Rattle.pliron_graph_dominance.specs.Candidates.{IsOnWayUp, Here, Above}
 use Rattle.pliron_graph_dominance.specs.ParentTables.{parent_by, AreParents}
 use Rattle.pliron_graph_dominance.proofs.TableLemmas.{decide, within, above_early, up_one}
 use Rattle.pliron_rewrite_equals.specs.OperationDominance.{DominatesOperation}
-use Rattle.pliron_graph_order.specs.Numbering.{Numbers, IsAbove, GivesBefore, IsBeforeHolder, IsWaiting, IsNumbering, Grows, IsStart, AddsOperation, AddsRegion, IsLeft, AreTaken, IsDone}
-use Rattle.pliron_graph_order.specs.Seen.{IsSeen, IsVisited}
+use Rattle.pliron_graph_order.specs.Numbering.{NumberTables, IsAbove, GivesBefore, IsBeforeHolder, IsWaiting, IsNumbering, NumbersGrow, IsStart, AddsOperation, AddsRegion, IsLeftAt, AreTaken, IsDone}
+use Rattle.pliron_graph_order.specs.Seen.{IsSeen, IsVisitedFrom}
 use Rattle.pliron_graph_order.specs.Behind.{IsBehind}
 
 -- what a set of keys tells of its members
@@ -67,13 +67,13 @@ get_front xs ys zs i e l = ap (λ z. get_or z i 0) e ∙ get_or_append_left xs y
 pub longer : (xs ys zs : List ℕ) → zs ≡ xs ++ ys → length xs ≤ length zs
 longer xs ys zs e = omega (arith, ap length e, length-append xs ys)
 
-pub grows_none : (n : Numbers) → Grows n n
+pub grows_none : (n : NumberTables) → NumbersGrow n n
 grows_none n = record { root = refl; ops = ([], sym (append-nil n.ops)); parents = ([], sym (append-nil n.parents)); regions = ([], sym (append-nil n.regions)) }
 
 joined : (a b c xs ys : List ℕ) → b ≡ a ++ xs → c ≡ b ++ ys → c ≡ a ++ (xs ++ ys)
 joined a b c xs ys e f = f ∙ ap (λ z. z ++ ys) e ∙ append_assoc a xs ys
 
-pub grows_both : (a b c : Numbers) → Grows a b → Grows b c → Grows a c
+pub grows_both : (a b c : NumberTables) → NumbersGrow a b → NumbersGrow b c → NumbersGrow a c
 grows_both a b c g h = record {
   root = h.root ∙ g.root;
   ops = (g.ops.0 ++ h.ops.0, joined a.ops b.ops c.ops g.ops.0 h.ops.0 g.ops.1 h.ops.1);
@@ -81,13 +81,13 @@ grows_both a b c g h = record {
   regions = (g.regions.0 ++ h.regions.0, joined a.regions b.regions c.regions g.regions.0 h.regions.0 g.regions.1 h.regions.1);
 }
 
-pub ops_kept : (a b : Numbers) → Grows a b → (k : ℕ) → In k a.ops → In k b.ops
+pub ops_kept : (a b : NumberTables) → NumbersGrow a b → (k : ℕ) → In k a.ops → In k b.ops
 ops_kept a b g k i = subst (In k) (sym g.ops.1) (In-left k a.ops g.ops.0 i)
 
-pub regions_kept : (a b : Numbers) → Grows a b → (k : ℕ) → In k a.regions → In k b.regions
+pub regions_kept : (a b : NumberTables) → NumbersGrow a b → (k : ℕ) → In k a.regions → In k b.regions
 regions_kept a b g k i = subst (In k) (sym g.regions.1) (In-left k a.regions g.regions.0 i)
 
-module _ (t : Tree) (old new : Numbers) (g : Grows old new) (counted : length old.parents ≡ suc (length old.ops)) (p : AreParents old.parents) where
+module _ (t : Tree) (old new : NumberTables) (g : NumbersGrow old new) (counted : length old.parents ≡ suc (length old.ops)) (p : AreParents old.parents) where
   get_ops : (j : ℕ) → j < length old.ops → get_or new.ops j 0 ≡ get_or old.ops j 0
   get_ops j l = get_front old.ops g.ops.0 new.ops j g.ops.1 l
 
@@ -118,26 +118,26 @@ module _ (t : Tree) (old new : Numbers) (g : Grows old new) (counted : length ol
 
   pub waiting_on : (r at : ℕ) → IsWaiting t old r at → IsWaiting t new r at
   waiting_on r at h = record {
-    visited = subst (λ z. IsVisited t z r) (sym g.root) h.visited;
+    visited = subst (λ z. IsVisitedFrom t z r) (sym g.root) h.visited;
     lawful = h.lawful;
     low = low_on at h.low;
     before = tells_on at (IsBeforeHolder t r) h.low h.before;
   }
 
-  pub left_on : (c : ℕ) (done : List ℕ) (at : ℕ) → IsLeft t old c done at → IsLeft t new c done at
+  pub left_on : (c : ℕ) (done : List ℕ) (at : ℕ) → IsLeftAt t old c done at → IsLeftAt t new c done at
   left_on c done at h = record { low = low_on at h.low; before = λ r e. tells_on at (IsBehind t r c done) h.low (h.before r e) }
 
-pub taken_on : (t : Tree) (a b : Numbers) (ks : List ℕ) → Grows a b → AreTaken t a ks → AreTaken t b ks
+pub taken_on : (t : Tree) (a b : NumberTables) (ks : List ℕ) → NumbersGrow a b → AreTaken t a ks → AreTaken t b ks
 taken_on t a b ks g h k i = (ops_kept a b g k (h k i).0, λ q j. regions_kept a b g q ((h k i).1 q j))
 
-pub done_on : (t : Tree) (a b : Numbers) (r : ℕ) → Grows a b → IsDone t a r → IsDone t b r
+pub done_on : (t : Tree) (a b : NumberTables) (r : ℕ) → NumbersGrow a b → IsDone t a r → IsDone t b r
 done_on t a b r g h = record {
   nested = λ c k q l e i. regions_kept a b g q (h.nested c k q l e i);
   seen = λ s c k l e. ops_kept a b g k (h.seen s c k l e);
 }
 
 -- what an operation's own number tells
-pub own_tells : (t : Tree) (n : Numbers) → IsNumbering t n → (j : ℕ) → j < length n.ops → GivesBefore t n (suc j) (λ x. (x ≡ get_or n.ops j 0) ⊎ DominatesOperation t x (get_or n.ops j 0))
+pub own_tells : (t : Tree) (n : NumberTables) → IsNumbering t n → (j : ℕ) → j < length n.ops → GivesBefore t n (suc j) (λ x. (x ≡ get_or n.ops j 0) ⊎ DominatesOperation t x (get_or n.ops j 0))
 own_tells t n h j l x s = (forth, back)
   where
     forth : IsAbove n (suc j) x → (x ≡ get_or n.ops j 0) ⊎ DominatesOperation t x (get_or n.ops j 0)
@@ -151,11 +151,11 @@ own_tells t n h j l x s = (forth, back)
     back (inr q) = let a = (h.before j l x s).1 q in (a.0, Above a.1, a.2, a.3)
 
 -- one more operation
-module _ (t : Tree) (old : Numbers) (op above : ℕ) (h : IsNumbering t old) (seen : IsSeen t old.root op) (low : above < length old.parents) (accurate : GivesBefore t old above (λ x. DominatesOperation t x op)) where
-  abbrev more : Numbers
+module _ (t : Tree) (old : NumberTables) (op above : ℕ) (h : IsNumbering t old) (seen : IsSeen t old.root op) (low : above < length old.parents) (accurate : GivesBefore t old above (λ x. DominatesOperation t x op)) where
+  abbrev more : NumberTables
   more = record old { ops = old.ops ++ op ∷ []; parents = old.parents ++ above ∷ [] }
 
-  pub more_grows : Grows old more
+  pub more_grows : NumbersGrow old more
   more_grows = record { root = refl; ops = (op ∷ [], refl); parents = (above ∷ [], refl); regions = ([], sym (append-nil old.regions)) }
 
   last_parent : parent_by more.parents (length old.parents) ≡ above
@@ -214,19 +214,19 @@ module _ (t : Tree) (old : Numbers) (op above : ℕ) (h : IsNumbering t old) (se
   }
 
 -- the same, if it had no number yet
-module _ (t : Tree) (old new : Numbers) (op above number : ℕ) (h : IsNumbering t old) (seen : IsSeen t old.root op) (low : above < length old.parents) (accurate : GivesBefore t old above (λ x. DominatesOperation t x op)) (a : AddsOperation old new op above number) where
-  pub added_grows : Grows old new
-  added_grows = ⊎_elim (λ e. subst (Grows old) (sym e) (grows_none old)) (λ m. subst (Grows old) (sym m.1) (more_grows t old op above h seen low accurate)) a.step
+module _ (t : Tree) (old new : NumberTables) (op above number : ℕ) (h : IsNumbering t old) (seen : IsSeen t old.root op) (low : above < length old.parents) (accurate : GivesBefore t old above (λ x. DominatesOperation t x op)) (a : AddsOperation old new op above number) where
+  pub added_grows : NumbersGrow old new
+  added_grows = ⊎_elim (λ e. subst (NumbersGrow old) (sym e) (grows_none old)) (λ m. subst (NumbersGrow old) (sym m.1) (more_grows t old op above h seen low accurate)) a.step
 
   pub added_numbering : IsNumbering t new
   added_numbering = ⊎_elim (λ e. subst (IsNumbering t) (sym e) h) (λ m. subst (IsNumbering t) (sym m.1) (more_numbering t old op above h seen low accurate)) a.step
 
 -- one more region
-module _ (t : Tree) (old new : Numbers) (r above : ℕ) (h : IsNumbering t old) (waits : IsWaiting t old r above) (a : AddsRegion old new r above) where
-  abbrev wider : Numbers
+module _ (t : Tree) (old new : NumberTables) (r above : ℕ) (h : IsNumbering t old) (waits : IsWaiting t old r above) (a : AddsRegion old new r above) where
+  abbrev wider : NumberTables
   wider = record old { regions = old.regions ++ r ∷ []; above = old.above ++ above ∷ [] }
 
-  wider_grows : Grows old wider
+  wider_grows : NumbersGrow old wider
   wider_grows = record { root = refl; ops = ([], sym (append-nil old.ops)); parents = ([], sym (append-nil old.parents)); regions = (r ∷ [], refl) }
 
   regions_size : length wider.regions ≡ suc (length old.regions)
@@ -261,13 +261,13 @@ module _ (t : Tree) (old new : Numbers) (r above : ℕ) (h : IsNumbering t old) 
     waits = all_wait;
   }
 
-  pub region_grows : Grows old new
-  region_grows = ⊎_elim (λ e. subst (Grows old) (sym e) (grows_none old)) (λ e. subst (Grows old) (sym e) wider_grows) a.1
+  pub region_grows : NumbersGrow old new
+  region_grows = ⊎_elim (λ e. subst (NumbersGrow old) (sym e) (grows_none old)) (λ e. subst (NumbersGrow old) (sym e) wider_grows) a.1
 
   pub region_numbering : IsNumbering t new
   region_numbering = ⊎_elim (λ e. subst (IsNumbering t) (sym e) h) (λ e. subst (IsNumbering t) (sym e) wider_numbering) a.1
 
-pub start_numbering : (t : Tree) (root : ℕ) (n : Numbers) → IsStart root n → IsNumbering t n
+pub start_numbering : (t : Tree) (root : ℕ) (n : NumberTables) → IsStart root n → IsNumbering t n
 start_numbering t root n e = subst (IsNumbering t) (sym e) (record {
   counted = refl;
   parents = record { some = omega arith; top = refl; earlier = λ v l ne. absurd (omega (arith, l, ne)) };

@@ -11,9 +11,9 @@ use Rattle.pliron_graph_dominance.specs.TreeIntervals.{Places, GivesAbove, AreIn
 use Rattle.pliron_graph_dominance.specs.ParentTables.{parent_by}
 use Rattle.pliron_graph_dominance.proofs.TableLemmas.{decide, within, above_early, up_one, first_above}
 use Rattle.pliron_rewrite_equals.specs.OperationDominance.{DominatesOperation}
-use Rattle.pliron_graph_order.specs.Numbering.{key_eq, Numbers, IsNumbering}
+use Rattle.pliron_graph_order.specs.Numbering.{key_eq, NumberTables, IsNumbering}
 use Rattle.pliron_graph_order.specs.Order.{IsOrder}
-use Rattle.pliron_graph_order.specs.Preorder.{AreAtPlaces, HavePlaces, ListsInPlace}
+use Rattle.pliron_graph_order.specs.Preorder.{AreAtPlaces, HaveIndices, ListsInPlace}
 use Rattle.pliron_graph_order.specs.Seen.{IsSeen}
 use Rattle.pliron_graph_order.proofs.NumberLemmas.{at_in}
 
@@ -55,7 +55,7 @@ apart_distinct (x ∷ xs) h = (
 pub all_below : (xs : List ℕ) (n : ℕ) → length xs ≡ n → IsDistinct xs → ((x : ℕ) → In x xs → x < n) → (k : ℕ) → k < n → In k xs
 all_below xs n size d below k l = ⊎_elim (λ i. i) (λ out. absurd (omega (arith, distinct-length n (k ∷ xs) (out, d) (λ x i. ⊎_elim (λ e. subst (λ z. z < n) (sym e) l) (λ j. below x j) i), size))) (decide_in k xs)
 
-module _ (t : Tree) (n : Numbers) (h : IsNumbering t n) (all : (k : ℕ) → IsSeen t n.root k → In k n.ops) (distinct : IsDistinct n.ops) (p : Places) (gives : GivesAbove n.parents p) (intervals : AreIntervals n.parents p) (numbers : List ℕ) (at : AreAtPlaces (length n.parents) p.places numbers) where
+module _ (t : Tree) (n : NumberTables) (h : IsNumbering t n) (all : (k : ℕ) → IsSeen t n.root k → In k n.ops) (distinct : IsDistinct n.ops) (p : Places) (gives : GivesAbove n.parents p) (intervals : AreIntervals n.parents p) (numbers : List ℕ) (at : AreAtPlaces (length n.parents) p.places numbers) where
   abbrev place : ℕ → ℕ
   place v = get_or p.places v 0
 
@@ -105,7 +105,7 @@ module _ (t : Tree) (n : Numbers) (h : IsNumbering t n) (all : (k : ℕ) → IsS
       (λ ne. omega (arith, ne))
       (decide (number k) 0)
 
-  pub have_places : HavePlaces numbers p
+  pub have_places : HaveIndices numbers p
   have_places = record {
     counted = gives.counted ∙ sym at.counted;
     other = λ k some l. number_other k some (omega (arith, l, at.counted));

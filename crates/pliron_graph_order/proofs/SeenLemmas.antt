@@ -10,7 +10,7 @@ use Rattle.pliron_laws.specs.Linked.{EdgesLast}
 use Rattle.pliron_laws.specs.Paths.{Path}
 use Rattle.pliron_graph_traversal.specs.Regions.{IsLawfulRegion}
 use Rattle.pliron_rewrite_equals.specs.OperationDominance.{DominatesOperation}
-use Rattle.pliron_graph_order.specs.Seen.{IsReachedIn, IsVisitedBlock, IsVisitedBlockIf, IsVisited, Starts, Nested, IsSeen}
+use Rattle.pliron_graph_order.specs.Seen.{IsOnPathIn, IsVisitedBlockFrom, IsVisitedBlockFromIf, IsVisitedFrom, Starts, Nested, IsSeen}
 use Rattle.pliron_graph_order.specs.Behind.{IsBehind}
 use Rattle.pliron_graph_order.specs.Numbering.{IsBeforeHolder}
 
@@ -23,14 +23,14 @@ module _ (t : Tree) (w : IsTree t) where
   entry_in : (r b : ℕ) → first_of (layout_of t r) None ≡ Some b → block_parent_of t b ≡ Some r
   entry_in r b e = w.layouts.owned b r (first_of-In b (layout_of t r) e)
 
-  pub reached_in : (r b : ℕ) → IsReachedIn t r b → block_parent_of t b ≡ Some r
+  pub reached_in : (r b : ℕ) → IsOnPathIn t r b → block_parent_of t b ≡ Some r
   reached_in r b x = path_in t r x.0 b x.2 (entry_in r x.0 x.1) x.3
 
-  looked_if : (d : Bool) (r b : ℕ) → IsVisitedBlockIf d t r b → block_parent_of t b ≡ Some r
+  looked_if : (d : Bool) (r b : ℕ) → IsVisitedBlockFromIf d t r b → block_parent_of t b ≡ Some r
   looked_if true r b x = reached_in r b x
   looked_if false r b x = entry_in r b x
 
-  pub looked_in : (r b : ℕ) → IsVisitedBlock t r b → block_parent_of t b ≡ Some r
+  pub looked_in : (r b : ℕ) → IsVisitedBlockFrom t r b → block_parent_of t b ≡ Some r
   looked_in r b x = looked_if (has_ssa t r) r b x
 
   -- what holds a region of an operation
@@ -41,7 +41,7 @@ module _ (t : Tree) (w : IsTree t) where
   held_by k b r h at is held = holder_by t k b h at (block_holder_from t b r is ∙ held)
 
   -- the operation that holds a visited region is the root or stands inside it
-  pub visited_within : (root r : ℕ) → IsVisited t root r → (h : ℕ) × (region_parent_of t r ≡ Some h) × IsWithin t root h
+  pub visited_within : (root r : ℕ) → IsVisitedFrom t root r → (h : ℕ) × (region_parent_of t r ≡ Some h) × IsWithin t root h
   visited_within root r (Starts i) = (root, holder_of_region root r i, inl refl)
   visited_within root r (Nested outer b k v l p i) =
       let up = visited_within root outer v in

@@ -8,19 +8,19 @@ use Rattle.pliron_core.proofs.ListLemmas.{In-right, In-cases, split_at}
 use Rattle.pliron_laws.specs.Linked.{EdgesLast}
 use Rattle.pliron_graph_traversal.specs.Regions.{IsLawfulRegion}
 use Rattle.pliron_rewrite_equals.specs.OperationDominance.{DominatesOperation}
-use Rattle.pliron_graph_order.specs.Numbering.{Numbers, GivesBefore, IsBeforeHolder, IsWaiting, IsNumbering, Grows, AddsOperation, AreTaken, IsDone, IsEntryExecutable, IsLeft, IsStart}
-use Rattle.pliron_graph_order.specs.Seen.{IsReachedIn, IsVisitedBlockIf, IsVisited, Starts, Nested, IsSeen}
+use Rattle.pliron_graph_order.specs.Numbering.{NumberTables, GivesBefore, IsBeforeHolder, IsWaiting, IsNumbering, NumbersGrow, AddsOperation, AreTaken, IsDone, IsEntered, IsLeftAt, IsStart}
+use Rattle.pliron_graph_order.specs.Seen.{IsOnPathIn, IsVisitedBlockFromIf, IsVisitedFrom, Starts, Nested, IsSeen}
 use Rattle.pliron_graph_order.specs.Behind.{IsBehind}
 use Rattle.pliron_graph_order.proofs.Behind.{behind}
 use Rattle.pliron_graph_order.proofs.NumberLemmas.{own_tells, not_true, at_in, left_on, added_grows, added_numbering, grows_both, taken_on, regions_kept}
 use Rattle.pliron_graph_order.proofs.SeenLemmas.{holder_of_region, lawful_nested, edges_nested, behind_elsewhere, reached_in, none_before_root}
 
 -- the same facts in other words
-pub tells_alike : (t : Tree) (n : Numbers) (at : ℕ) (P Q : ℕ → Type 0) → ((x : ℕ) → IsSeen t n.root x → P x ↔ Q x) → GivesBefore t n at P → GivesBefore t n at Q
+pub tells_alike : (t : Tree) (n : NumberTables) (at : ℕ) (P Q : ℕ → Type 0) → ((x : ℕ) → IsSeen t n.root x → P x ↔ Q x) → GivesBefore t n at P → GivesBefore t n at Q
 tells_alike t n at P Q same h x s = let a = same x s in let b = h x s in (λ u. a.0 (b.0 u), λ q. b.1 (a.1 q))
 
 -- a region of an operation waits below what stands before the operation
-pub nested_waiting : (t : Tree) (w : IsTree t) (n : Numbers) (k q at : ℕ) → In q (regions_of t k) → IsVisited t n.root q → EdgesLast t k → at < length n.parents → GivesBefore t n at (λ x. DominatesOperation t x k) → IsWaiting t n q at
+pub nested_waiting : (t : Tree) (w : IsTree t) (n : NumberTables) (k q at : ℕ) → In q (regions_of t k) → IsVisitedFrom t n.root q → EdgesLast t k → at < length n.parents → GivesBefore t n at (λ x. DominatesOperation t x k) → IsWaiting t n q at
 nested_waiting t w n k q at i v e l h = record {
   visited = v;
   lawful = lawful_nested t w k q i e;
@@ -32,7 +32,7 @@ nested_waiting t w n k q at i v e l h = record {
     back x b = let same : b.0 ≡ k = some_is (sym b.1 ∙ holder_of_region t w k q i) in subst (DominatesOperation t x) same b.2
 
 -- in a block that is reached
-module _ (t : Tree) (w : IsTree t) (n : Numbers) (r c at : ℕ) (visited : IsVisited t n.root r) (lawful : IsLawfulRegion t r) (dominance : IsTrue (has_ssa t r)) (reached : IsReachedIn t r c) (done rest : List ℕ) (op : ℕ) (body : body_of t c ≡ done ++ op ∷ rest) (h : IsLeft t n c done at) where
+module _ (t : Tree) (w : IsTree t) (n : NumberTables) (r c at : ℕ) (visited : IsVisitedFrom t n.root r) (lawful : IsLawfulRegion t r) (dominance : IsTrue (has_ssa t r)) (reached : IsOnPathIn t r c) (done rest : List ℕ) (op : ℕ) (body : body_of t c ≡ done ++ op ∷ rest) (h : IsLeftAt t n c done at) where
   region_is : block_parent_of t c ≡ Some r
   region_is = reached_in t w r c reached
 
@@ -45,15 +45,15 @@ module _ (t : Tree) (w : IsTree t) (n : Numbers) (r c at : ℕ) (visited : IsVis
   pub op_tells : GivesBefore t n at (λ x. DominatesOperation t x op)
   op_tells = tells_alike t n at (IsBehind t r c done) (λ x. DominatesOperation t x op) (λ x s. let b = behind.operation t r c op x done rest w region_is body in (b.1, b.0)) (h.before r region_is)
 
-  was_visited : IsVisitedBlockIf (has_ssa t r) t r c
-  was_visited = subst (λ z. IsVisitedBlockIf z t r c) (sym dominance) reached
+  was_visited : IsVisitedBlockFromIf (has_ssa t r) t r c
+  was_visited = subst (λ z. IsVisitedBlockFromIf z t r c) (sym dominance) reached
 
   pub op_waits : (q : ℕ) → In q (regions_of t op) → IsWaiting t n q at
   op_waits q i = nested_waiting t w n op q at i (Nested r c op visited was_visited parent_is i) (edges_nested t w r c op lawful region_is parent_is) h.low op_tells
 
 -- behind the operation, by its number
-module _ (t : Tree) (w : IsTree t) (n : Numbers) (numbered : IsNumbering t n) (c : ℕ) (done rest : List ℕ) (op : ℕ) (body : body_of t c ≡ done ++ op ∷ rest) (place number : ℕ) (is : number ≡ suc place) (low : place < length n.ops) (stored : get_or n.ops place 0 ≡ op) where
-  pub op_left : IsLeft t n c (done ++ op ∷ []) number
+module _ (t : Tree) (w : IsTree t) (n : NumberTables) (numbered : IsNumbering t n) (c : ℕ) (done rest : List ℕ) (op : ℕ) (body : body_of t c ≡ done ++ op ∷ rest) (place number : ℕ) (is : number ≡ suc place) (low : place < length n.ops) (stored : get_or n.ops place 0 ≡ op) where
+  pub op_left : IsLeftAt t n c (done ++ op ∷ []) number
   op_left = record {
     low = omega (arith, is, low, numbered.counted);
     before = λ r region. subst (λ z. GivesBefore t n z (IsBehind t r c (done ++ op ∷ []))) (sym is)
@@ -67,31 +67,31 @@ module _ (t : Tree) (w : IsTree t) (n : Numbers) (numbered : IsNumbering t n) (c
           let b = behind.next t r c op x done rest w region body in
           (λ u. b.1 (⊎_elim (λ e. inl e) (λ s. inr (a.0 s)) u), λ u. ⊎_elim (λ e. inl e) (λ s. inr (a.1 s)) (b.0 u))
 
-pub entered_left : (t : Tree) → IsTree t → (n : Numbers) (r c at : ℕ) → IsEntryExecutable t n r c at → IsLeft t n c [] at
+pub entered_left : (t : Tree) → IsTree t → (n : NumberTables) (r c at : ℕ) → IsEntered t n r c at → IsLeftAt t n c [] at
 entered_left t w n r c at e = record {
   low = e.low;
   before = λ q is. let same : r ≡ q = some_is (sym (reached_in t w r c e.reached) ∙ is) in subst (λ z. GivesBefore t n at (IsBehind t z c [])) same e.before;
 }
 
 -- one operation more of a block: its regions are visited, and it gets a number
-pub record IsBlockStep (t : Tree) (n new : Numbers) (c : ℕ) (done : List ℕ) (number : ℕ) : Type 0 where
+pub record IsBlockStep (t : Tree) (n new : NumberTables) (c : ℕ) (done : List ℕ) (number : ℕ) : Type 0 where
   pub numbered : IsNumbering t new
-  pub grows : Grows n new
-  pub left : IsLeft t new c done number
+  pub grows : NumbersGrow n new
+  pub left : IsLeftAt t new c done number
   pub taken : AreTaken t new done
 
-module _ (t : Tree) (w : IsTree t) (first n mid new : Numbers) (r c start at : ℕ) (entered : IsEntryExecutable t first r c start) (before : Grows first n) (done rest : List ℕ) (op : ℕ) (body : body_of t c ≡ done ++ op ∷ rest) (numbered : IsNumbering t n) (left : IsLeft t n c done at) where
-  visited_now : IsVisited t n.root r
-  visited_now = subst (λ z. IsVisited t z r) (sym before.root) entered.visited
+module _ (t : Tree) (w : IsTree t) (first n mid new : NumberTables) (r c start at : ℕ) (entered : IsEntered t first r c start) (before : NumbersGrow first n) (done rest : List ℕ) (op : ℕ) (body : body_of t c ≡ done ++ op ∷ rest) (numbered : IsNumbering t n) (left : IsLeftAt t n c done at) where
+  visited_now : IsVisitedFrom t n.root r
+  visited_now = subst (λ z. IsVisitedFrom t z r) (sym before.root) entered.visited
 
   pub step_waits : (q : ℕ) → In q (regions_of t op) → IsWaiting t n q at
   step_waits q i = op_waits t w n r c at visited_now entered.lawful entered.dominance entered.reached done rest op body left q i
 
-  module _ (grown : Grows n mid) (numbered_mid : IsNumbering t mid) (all : (q : ℕ) → In q (regions_of t op) → In q mid.regions) (number : ℕ) (added : AddsOperation mid new op at number) (taken : AreTaken t n done) where
-    visited_mid : IsVisited t mid.root r
-    visited_mid = subst (λ z. IsVisited t z r) (sym grown.root) visited_now
+  module _ (grown : NumbersGrow n mid) (numbered_mid : IsNumbering t mid) (all : (q : ℕ) → In q (regions_of t op) → In q mid.regions) (number : ℕ) (added : AddsOperation mid new op at number) (taken : AreTaken t n done) where
+    visited_mid : IsVisitedFrom t mid.root r
+    visited_mid = subst (λ z. IsVisitedFrom t z r) (sym grown.root) visited_now
 
-    left_mid : IsLeft t mid c done at
+    left_mid : IsLeftAt t mid c done at
     left_mid = left_on t n mid grown numbered.counted numbered.parents c done at left
 
     seen : IsSeen t mid.root op
@@ -100,7 +100,7 @@ module _ (t : Tree) (w : IsTree t) (first n mid new : Numbers) (r c start at : �
     accurate : GivesBefore t mid at (λ x. DominatesOperation t x op)
     accurate = op_tells t w mid r c at visited_mid entered.lawful entered.dominance entered.reached done rest op body left_mid
 
-    grown_new : Grows mid new
+    grown_new : NumbersGrow mid new
     grown_new = added_grows t mid new op at number numbered_mid seen left_mid.low accurate added
 
     numbered_new : IsNumbering t new
@@ -121,7 +121,7 @@ module _ (t : Tree) (w : IsTree t) (first n mid new : Numbers) (r c start at : �
     }
 
 -- in the head block of a region without SSA dominance
-module _ (t : Tree) (w : IsTree t) (n : Numbers) (r c at : ℕ) (h : IsWaiting t n r at) (none : IsTrue (has_ssa t r) → ⊥) (region_is : block_parent_of t c ≡ Some r) (was_visited : IsVisitedBlockIf (has_ssa t r) t r c) (op : ℕ) (here : In op (body_of t c)) where
+module _ (t : Tree) (w : IsTree t) (n : NumberTables) (r c at : ℕ) (h : IsWaiting t n r at) (none : IsTrue (has_ssa t r) → ⊥) (region_is : block_parent_of t c ≡ Some r) (was_visited : IsVisitedBlockFromIf (has_ssa t r) t r c) (op : ℕ) (here : In op (body_of t c)) where
   pub head_waits : (q : ℕ) → In q (regions_of t op) → IsWaiting t n q at
   head_waits q i =
       let parent_is = w.bodies.owned op c here in
@@ -137,18 +137,18 @@ module _ (t : Tree) (w : IsTree t) (n : Numbers) (r c at : ℕ) (h : IsWaiting t
       split i = split_at op (body_of t c) i
 
 -- the head block is all that is looked into in such a region
-pub head_done : (t : Tree) → IsTree t → (n : Numbers) (r c : ℕ) → (IsTrue (has_ssa t r) → ⊥) → first_of (layout_of t r) None ≡ Some c → ((k q : ℕ) → In k (body_of t c) → In q (regions_of t k) → In q n.regions) → IsDone t n r
+pub head_done : (t : Tree) → IsTree t → (n : NumberTables) (r c : ℕ) → (IsTrue (has_ssa t r) → ⊥) → first_of (layout_of t r) None ≡ Some c → ((k q : ℕ) → In k (body_of t c) → In q (regions_of t k) → In q n.regions) → IsDone t n r
 head_done t w n r c none at all = record {
-  nested = λ b k q was_visited p i. all k q (w.bodies.listed k c (p ∙ ap Some (same b (subst (λ z. IsVisitedBlockIf z t r b) (not_true (has_ssa t r) none) was_visited)))) i;
+  nested = λ b k q was_visited p i. all k q (w.bodies.listed k c (p ∙ ap Some (same b (subst (λ z. IsVisitedBlockFromIf z t r b) (not_true (has_ssa t r) none) was_visited)))) i;
   seen = λ s b k x p. absurd (none s);
 }
   where
     same : (b : ℕ) → first_of (layout_of t r) None ≡ Some b → b ≡ c
     same b e = some_is (sym e ∙ at)
 
-pub no_head : (t : Tree) (n : Numbers) (r : ℕ) → (IsTrue (has_ssa t r) → ⊥) → first_of (layout_of t r) None ≡ None → IsDone t n r
+pub no_head : (t : Tree) (n : NumberTables) (r : ℕ) → (IsTrue (has_ssa t r) → ⊥) → first_of (layout_of t r) None ≡ None → IsDone t n r
 no_head t n r none empty = record {
-  nested = λ b k q was_visited p i. absurd (not_none (sym empty ∙ first b (subst (λ z. IsVisitedBlockIf z t r b) (not_true (has_ssa t r) none) was_visited)));
+  nested = λ b k q was_visited p i. absurd (not_none (sym empty ∙ first b (subst (λ z. IsVisitedBlockFromIf z t r b) (not_true (has_ssa t r) none) was_visited)));
   seen = λ s b k x p. absurd (none s);
 }
   where
@@ -156,15 +156,15 @@ no_head t n r none empty = record {
     first b e = e
 
 -- where the region has SSA dominance, the blocks that its entry reaches are looked into
-pub reached_done : (t : Tree) → IsTree t → (n : Numbers) (r : ℕ) → IsTrue (has_ssa t r) → ((c : ℕ) → IsReachedIn t r c → AreTaken t n (body_of t c)) → IsDone t n r
+pub reached_done : (t : Tree) → IsTree t → (n : NumberTables) (r : ℕ) → IsTrue (has_ssa t r) → ((c : ℕ) → IsOnPathIn t r c → AreTaken t n (body_of t c)) → IsDone t n r
 reached_done t w n r dominance taken = record {
-  nested = λ b k q was_visited p i. ((taken b (subst (λ z. IsVisitedBlockIf z t r b) dominance was_visited)) k (w.bodies.listed k b p)).1 q i;
+  nested = λ b k q was_visited p i. ((taken b (subst (λ z. IsVisitedBlockFromIf z t r b) dominance was_visited)) k (w.bodies.listed k b p)).1 q i;
   seen = λ s b k x p. (taken b x k (w.bodies.listed k b p)).0;
 }
 
 -- where all is done, whatever is seen has a number
-module _ (t : Tree) (n : Numbers) (starts : (q : ℕ) → In q (regions_of t n.root) → In q n.regions) (done : (r : ℕ) → In r n.regions → IsDone t n r) where
-  all_visited : (r : ℕ) → IsVisited t n.root r → In r n.regions
+module _ (t : Tree) (n : NumberTables) (starts : (q : ℕ) → In q (regions_of t n.root) → In q n.regions) (done : (r : ℕ) → In r n.regions → IsDone t n r) where
+  all_visited : (r : ℕ) → IsVisitedFrom t n.root r → In r n.regions
   all_visited r (Starts i) = starts r i
   all_visited r (Nested outer b k v l p i) = (done outer (all_visited outer v)).nested b k r l p i
 
@@ -172,6 +172,6 @@ module _ (t : Tree) (n : Numbers) (starts : (q : ℕ) → In q (regions_of t n.r
   all_seen k s = (done s.region (all_visited s.region s.visited)).seen s.dominance s.block k s.reached s.in_block
 
 -- at the start nothing stands before the root
-pub start_waits : (t : Tree) → IsTree t → (root : ℕ) (n : Numbers) → IsStart root n → EdgesLast t root → (q : ℕ) → In q (regions_of t root) → IsWaiting t n q 0
+pub start_waits : (t : Tree) → IsTree t → (root : ℕ) (n : NumberTables) → IsStart root n → EdgesLast t root → (q : ℕ) → In q (regions_of t root) → IsWaiting t n q 0
 start_waits t w root n start edges q i = subst (λ z. IsWaiting t z q 0) (sym start) (nested_waiting t w (record { root = root; ops = []; parents = 0 ∷ []; regions = []; above = [] }) root q 0 i (Starts i) edges (omega arith)
     (λ x s. ((λ a. absurd (omega (arith, a.2))), (λ b. absurd (none_before_root t w root x s b)))))

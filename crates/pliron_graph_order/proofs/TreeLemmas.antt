@@ -22,9 +22,9 @@ use Rattle.pliron_graph_dominance.specs.NumberTests.{Parents, AreParentsOf, Give
 use Rattle.pliron_graph_dominance.proofs.RegionLemmas.{forwards, backwards, first_in, both}
 use Rattle.pliron_graph_dominance.proofs.TableLemmas.{decide, within}
 use Rattle.pliron_graph_dominance.proofs.GivingLemmas.{within_listed, immediate_at, first_is_entry}
-use Rattle.pliron_graph_order.specs.Numbering.{key_eq, Numbers, GivesBefore, IsBeforeHolder, IsWaiting, IsLeft}
-use Rattle.pliron_graph_order.specs.Seen.{IsReachedIn, IsSeen}
-use Rattle.pliron_graph_order.specs.Behind.{IsBehind, IsPassedBy, IsNearest}
+use Rattle.pliron_graph_order.specs.Numbering.{key_eq, NumberTables, GivesBefore, IsBeforeHolder, IsWaiting, IsLeftAt}
+use Rattle.pliron_graph_order.specs.Seen.{IsOnPathIn, IsSeen}
+use Rattle.pliron_graph_order.specs.Behind.{IsBehind, IsPassedBy, IsNearestBefore}
 use Rattle.pliron_graph_order.proofs.Behind.{behind}
 use Rattle.pliron_graph_order.proofs.SeenLemmas.{reached_in}
 use Rattle.pliron_graph_order.proofs.StepLemmas.{tells_alike}
@@ -55,7 +55,7 @@ module _ (t : Tree) (r : ℕ) (l : IsLawfulRegion t r) (tree : Parents ℕ) (h :
   listed k lt = within_listed (key_eq (node k)) tree.nodes (subst (λ z. z < length tree.nodes) (sym (place k lt)) lt)
 
   -- each is reached
-  pub node_reached : (k : ℕ) → k < length tree.nodes → IsReachedIn t r (node k)
+  pub node_reached : (k : ℕ) → k < length tree.nodes → IsOnPathIn t r (node k)
   node_reached k lt =
       let x = (gives.listed (node k)).0 (listed k lt) in
       let at : first_of (layout_of t r) None ≡ Some x.0 = in_option (first_of (layout_of t r) None) x.0 (in_keys (option_to_list (first_of (layout_of t r) None)) x.0 x.1) in
@@ -63,7 +63,7 @@ module _ (t : Tree) (r : ℕ) (l : IsLawfulRegion t r) (tree : Parents ℕ) (h :
       (x.0, at, p.0, p.1)
 
   -- and what is reached is one of them
-  pub reached_node : (c : ℕ) → IsReachedIn t r c → (k : ℕ) × (k < length tree.nodes) × (node k ≡ c)
+  pub reached_node : (c : ℕ) → IsOnPathIn t r c → (k : ℕ) × (k < length tree.nodes) × (node k ≡ c)
   reached_node c x =
       let f = forwards t r l x.0 c x.2 x.3 in
       let here : IsListed key_eq tree.nodes c = (gives.listed c).1 (x.0, keys_have (option_to_list (first_of (layout_of t r) None)) x.0 (option_in (first_of (layout_of t r) None) x.0 x.1), (f.0, f.1)) in
@@ -75,7 +75,7 @@ module _ (t : Tree) (r : ℕ) (l : IsLawfulRegion t r) (tree : Parents ℕ) (h :
   node_entry k lt e = first_is_entry key_eq equivalence tree h (graph_of_region t r) gives (node k) (listed k lt) (place k lt ∙ e)
 
   -- and of each other the parent is the immediate dominator
-  pub node_nearest : (k : ℕ) → k < length tree.nodes → k ≢ 0 → IsNearest t r (node (parent_by tree.parents k)) (node k)
+  pub node_nearest : (k : ℕ) → k < length tree.nodes → k ≢ 0 → IsNearestBefore t r (node (parent_by tree.parents k)) (node k)
   node_nearest k lt ne =
       let up = parent_by tree.parents k in
       let low : up < length tree.nodes = omega (arith, within tree.parents (h.parents (omega (arith, lt))) k (omega (arith, lt, h.counted)), h.counted) in
@@ -93,7 +93,7 @@ module _ (t : Tree) (r : ℕ) (l : IsLawfulRegion t r) (tree : Parents ℕ) (h :
       get_default xs i d lt = get_or_default xs i 0 d lt
 
   -- what stands before the start of a block, by the number before it
-  module _ (n : Numbers) (above : ℕ) (waiting : IsWaiting t n r above) (k : ℕ) (lt : k < length tree.nodes) (from : ℕ) (top : k ≡ 0 → from ≡ above) (up : k ≢ 0 → IsLeft t n (node (parent_by tree.parents k)) (body_of t (node (parent_by tree.parents k))) from) where
+  module _ (n : NumberTables) (above : ℕ) (waiting : IsWaiting t n r above) (k : ℕ) (lt : k < length tree.nodes) (from : ℕ) (top : k ≡ 0 → from ≡ above) (up : k ≢ 0 → IsLeftAt t n (node (parent_by tree.parents k)) (body_of t (node (parent_by tree.parents k))) from) where
     pub node_low : from < length n.parents
     node_low = ⊎_elim (λ e. subst (λ z. z < length n.parents) (sym (top e)) waiting.low) (λ ne. (up ne).low) (decide k 0)
 

@@ -6,7 +6,7 @@ use Rattle.pliron_core.specs.Invariant.{IsTree}
 use Rattle.pliron_laws.specs.Paths.{Path}
 use Rattle.pliron_laws.specs.Root.{HasPassed}
 use Rattle.pliron_rewrite_equals.specs.OperationDominance.{DominatesOperation}
-use Rattle.pliron_graph_order.specs.Seen.{IsReachedIn}
+use Rattle.pliron_graph_order.specs.Seen.{IsOnPathIn}
 
 -- x dominates the place behind the operations `done` in the block c: in its region r, or it dominates what holds r
 abbrev pub IsBehind : Tree → (r c : ℕ) → List ℕ → ℕ → Type 0
@@ -17,7 +17,7 @@ abbrev pub IsPassedBy : Tree → (r d b : ℕ) → Type 0
 IsPassedBy t r d b = (entry : ℕ) (before : List ℕ) → first_of (layout_of t r) None ≡ Some entry → Path t entry b before → In d (b ∷ before)
 
 -- d is another block that each path to c passes, and whatever else they all pass, all paths to d pass
-pub record IsNearest (t : Tree) (r d c : ℕ) : Type 0 where
+pub record IsNearestBefore (t : Tree) (r d c : ℕ) : Type 0 where
   pub beside : block_parent_of t d ≡ Some r
   pub other : d ≢ c
   pub passed : IsPassedBy t r d c
@@ -29,6 +29,6 @@ pub record BehindLaws : Type 0 where
   -- behind one more operation, that one too
   pub next : (t : Tree) (r c p x : ℕ) (done rest : List ℕ) → IsTree t → block_parent_of t c ≡ Some r → body_of t c ≡ done ++ p ∷ rest → IsBehind t r c (done ++ p ∷ []) x ↔ ((x ≡ p) ⊎ IsBehind t r c done x)
   -- at the start of a block that is reached, what dominates the end of its immediate dominator
-  pub first : (t : Tree) (r c d x : ℕ) → IsTree t → IsReachedIn t r c → IsNearest t r d c → IsBehind t r c [] x ↔ IsBehind t r d (body_of t d) x
+  pub first : (t : Tree) (r c d x : ℕ) → IsTree t → IsOnPathIn t r c → IsNearestBefore t r d c → IsBehind t r c [] x ↔ IsBehind t r d (body_of t d) x
   -- at the start of an entry, what dominates the operation that holds it
   pub entry : (t : Tree) (r c h x : ℕ) → IsTree t → first_of (layout_of t r) None ≡ Some c → region_parent_of t r ≡ Some h → IsBehind t r c [] x ↔ DominatesOperation t x h

@@ -8,7 +8,7 @@ pub record AreAtPlaces (count : ℕ) (places numbers : List ℕ) : Type 0 where
   pub at : (v : ℕ) → v < count → get_or numbers (get_or places v 0) 0 ≡ v
 
 -- each place but the first is that of a number other than 0, whose interval ends within all
-pub record HavePlaces (numbers : List ℕ) (p : Places) : Type 0 where
+pub record HaveIndices (numbers : List ℕ) (p : Places) : Type 0 where
   pub counted : length p.places ≡ length numbers
   pub other : (k : ℕ) → 0 < k → k < length numbers → 0 < get_or numbers k 0
   pub low : (k : ℕ) → 0 < k → k < length numbers → get_or numbers k 0 < length numbers

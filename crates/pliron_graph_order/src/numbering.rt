@@ -1,6 +1,6 @@
 //! Operations by number, each with the nearest one that dominates it.
 ghost use Rattle.std.specs.Prelude.{◌≡◌, ◌<◌, ℕ, IfOk, OnOk, IsOkUnless, length};
-ghost use Rattle.pliron_graph_order.specs.Numbering.{numbers_of, AddsOperation, AddsRegion, IsStart};
+ghost use Rattle.pliron_graph_order.specs.Numbering.{tables_of, AddsOperation, AddsRegion, IsStart};
 
 use indexmap::IndexSet;
 use pliron_core::{Operation, Ptr, Region};
@@ -23,7 +23,7 @@ pub struct Numbering {
 impl Numbering {
     /// The root alone has a number. Errors: allocation failure. Cost: constant.
     pub fn start(alloc: Global, root: Ptr<Operation>) -> Result<Numbering, OptError>
-        ensures start { IfOk result (λ n. IsStart root (numbers_of n)) }
+        ensures start { IfOk result (λ n. IsStart root (tables_of n)) }
         ensures memory { IsOkUnless result OptError.Memory }
     {
         let mut parents = Vec::new(alloc);
@@ -40,7 +40,7 @@ impl Numbering {
     /// The operation gets the next number, below this one, unless it has one. Answers its number. Errors:
     /// allocation failure. Cost: amortised constant.
     pub fn add_operation(&mut self, op: Ptr<Operation>, above: usize) -> Result<usize, OptError>
-        ensures added { IfOk result (λ number. AddsOperation (numbers_of self.old) (numbers_of self.new) op above
+        ensures added { IfOk result (λ number. AddsOperation (tables_of self.old) (tables_of self.new) op above
             number) }
         ensures memory { IsOkUnless result OptError.Memory }
     {
@@ -57,7 +57,7 @@ impl Numbering {
     /// The region is visited, below this number, unless it is. Errors: allocation failure. Cost: amortised
     /// constant.
     pub fn add_region(&mut self, region: Ptr<Region>, above: usize) -> Result<(), OptError>
-        ensures added { OnOk result (AddsRegion (numbers_of self.old) (numbers_of self.new) region above) }
+        ensures added { OnOk result (AddsRegion (tables_of self.old) (tables_of self.new) region above) }
         ensures memory { IsOkUnless result OptError.Memory }
     {
         if self.regions.insert(region)? {

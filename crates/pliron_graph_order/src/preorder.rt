@@ -2,9 +2,9 @@
 ghost use Rattle.std.specs.Prelude.{◌≡◌, ℕ, suc, IfOk, IsOkUnless, length};
 ghost use Rattle.pliron_core.specs.Tree.{In};
 ghost use Rattle.pliron_graph_dominance.specs.TreeIntervals.{AreIntervals};
-ghost use Rattle.pliron_graph_order.specs.Numbering.{numbers_of, IsNumbering};
+ghost use Rattle.pliron_graph_order.specs.Numbering.{tables_of, IsNumbering};
 ghost use Rattle.pliron_graph_order.specs.Order.{IsOrder};
-ghost use Rattle.pliron_graph_order.specs.Preorder.{AreAtPlaces, HavePlaces, ListsInPlace};
+ghost use Rattle.pliron_graph_order.specs.Preorder.{AreAtPlaces, HaveIndices, ListsInPlace};
 ghost use Rattle.pliron_graph_order.specs.Seen.{IsSeen};
 
 use crate::numbering::Numbering;
@@ -48,7 +48,7 @@ fn list_by_place(
     places: &TreePlaces,
 ) -> Result<DominanceOrder, OptError>
     requires counted { length numbers.now ≡ suc (length listed.now) }
-    requires placed { HavePlaces numbers.now places.now }
+    requires placed { HaveIndices numbers.now places.now }
     ensures listed { IfOk result (λ o. ListsInPlace (length numbers.now) numbers.now listed.now places.now
         o.operations.items o.ends.items) }
     ensures memory { IsOkUnless result OptError.Memory }
@@ -70,8 +70,8 @@ pub fn in_preorder(
     numbering: &Numbering,
     ctx: &Context,
 ) -> Result<DominanceOrder, OptError>
-    requires numbered { IsNumbering ctx.now.tree (numbers_of numbering.now) }
-    requires all { (k : ℕ) → IsSeen ctx.now.tree numbering.now.root k → In k (numbers_of numbering.now).ops }
+    requires numbered { IsNumbering ctx.now.tree (tables_of numbering.now) }
+    requires all { (k : ℕ) → IsSeen ctx.now.tree numbering.now.root k → In k (tables_of numbering.now).ops }
     ensures order { IfOk result (λ o. IsOrder ctx.now.tree numbering.now.root o.operations.items o.ends.items) }
     ensures memory { IsOkUnless result OptError.Memory }
 {

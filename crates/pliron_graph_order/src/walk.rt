@@ -6,7 +6,7 @@ ghost use Rattle.pliron_laws.specs.Linked.{EdgesLast};
 ghost use Rattle.pliron_graph_traversal.specs.Regions.{graph_of_region};
 ghost use Rattle.pliron_graph_dominance.specs.ParentTables.{parent_by};
 ghost use Rattle.pliron_graph_dominance.specs.NumberTests.{GivesDominance};
-ghost use Rattle.pliron_graph_order.specs.Numbering.{numbers_of, key_eq, AreTaken, Grows, IsDone, IsEntryExecutable, IsLeft, IsNumbering, IsWaiting};
+ghost use Rattle.pliron_graph_order.specs.Numbering.{tables_of, key_eq, AreTaken, NumbersGrow, IsDone, IsEntered, IsLeftAt, IsNumbering, IsWaiting};
 ghost use Rattle.pliron_graph_order.specs.Seen.{IsSeen};
 
 use crate::numbering::Numbering;
@@ -24,12 +24,12 @@ fn add_regions(
     ctx: &Context,
 ) -> Result<(), OptError>
     requires live { IsLive ctx.now.tree op }
-    requires numbered { IsNumbering ctx.now.tree (numbers_of numbering.old) }
-    requires waits { (q : ℕ) → In q (regions_of ctx.now.tree op) → IsWaiting ctx.now.tree (numbers_of numbering.old) q
+    requires numbered { IsNumbering ctx.now.tree (tables_of numbering.old) }
+    requires waits { (q : ℕ) → In q (regions_of ctx.now.tree op) → IsWaiting ctx.now.tree (tables_of numbering.old) q
         above }
-    ensures numbered { OnOk result (IsNumbering ctx.now.tree (numbers_of numbering.new)) }
-    ensures grows { OnOk result (Grows (numbers_of numbering.old) (numbers_of numbering.new)) }
-    ensures all { OnOk result ((q : ℕ) → In q (regions_of ctx.now.tree op) → In q (numbers_of numbering.new).regions) }
+    ensures numbered { OnOk result (IsNumbering ctx.now.tree (tables_of numbering.new)) }
+    ensures grows { OnOk result (NumbersGrow (tables_of numbering.old) (tables_of numbering.new)) }
+    ensures all { OnOk result ((q : ℕ) → In q (regions_of ctx.now.tree op) → In q (tables_of numbering.new).regions) }
     ensures memory { IsOkUnless result OptError.Memory }
 {
     for i in 0..op.num_region(ctx) {
@@ -46,13 +46,14 @@ fn add_block(
     above: usize,
     ctx: &Context,
 ) -> Result<usize, OptError>
-    requires numbered { IsNumbering ctx.now.tree (numbers_of numbering.old) }
-    requires entered { (r : ℕ) × IsEntryExecutable ctx.now.tree (numbers_of numbering.old) r block above }
-    ensures numbered { OnOk result (IsNumbering ctx.now.tree (numbers_of numbering.new)) }
-    ensures grows { OnOk result (Grows (numbers_of numbering.old) (numbers_of numbering.new)) }
-    ensures left { IfOk result (λ end. IsLeft ctx.now.tree (numbers_of numbering.new) block (body_of ctx.now.tree block)
+    requires numbered { IsNumbering ctx.now.tree (tables_of numbering.old) }
+    requires entered { (r : ℕ) × IsEntered ctx.now.tree (tables_of numbering.old) r block above }
+    ensures numbered { OnOk result (IsNumbering ctx.now.tree (tables_of numbering.new)) }
+    ensures grows { OnOk result (NumbersGrow (tables_of numbering.old) (tables_of numbering.new)) }
+    ensures left { IfOk result (λ end. IsLeftAt ctx.now.tree (tables_of numbering.new) block
+        (body_of ctx.now.tree block)
         end) }
-    ensures taken { OnOk result (AreTaken ctx.now.tree (numbers_of numbering.new) (body_of ctx.now.tree block)) }
+    ensures taken { OnOk result (AreTaken ctx.now.tree (tables_of numbering.new) (body_of ctx.now.tree block)) }
     ensures memory { IsOkUnless result OptError.Memory }
 {
     ctx.well_formed();
@@ -92,12 +93,12 @@ fn add_blocks(
     above: usize,
     ctx: &Context,
 ) -> Result<(), OptError>
-    requires numbered { IsNumbering ctx.now.tree (numbers_of numbering.old) }
-    requires is_waiting { (r : ℕ) × IsWaiting ctx.now.tree (numbers_of numbering.old) r above × IsTrue
+    requires numbered { IsNumbering ctx.now.tree (tables_of numbering.old) }
+    requires is_waiting { (r : ℕ) × IsWaiting ctx.now.tree (tables_of numbering.old) r above × IsTrue
         (has_ssa ctx.now.tree r) × GivesDominance key_eq (graph_of_region ctx.now.tree r) tree.now }
-    ensures numbered { OnOk result (IsNumbering ctx.now.tree (numbers_of numbering.new)) }
-    ensures grows { OnOk result (Grows (numbers_of numbering.old) (numbers_of numbering.new)) }
-    ensures taken { OnOk result ((k : ℕ) → k < length tree.now.nodes → AreTaken ctx.now.tree (numbers_of numbering.new)
+    ensures numbered { OnOk result (IsNumbering ctx.now.tree (tables_of numbering.new)) }
+    ensures grows { OnOk result (NumbersGrow (tables_of numbering.old) (tables_of numbering.new)) }
+    ensures taken { OnOk result ((k : ℕ) → k < length tree.now.nodes → AreTaken ctx.now.tree (tables_of numbering.new)
         (body_of ctx.now.tree (get_or tree.now.nodes k 0))) }
     ensures memory { IsOkUnless result OptError.Memory }
 {
@@ -120,12 +121,12 @@ fn add_reached(
     above: usize,
     ctx: &Context,
 ) -> Result<(), OptError>
-    requires numbered { IsNumbering ctx.now.tree (numbers_of numbering.old) }
-    requires waiting { IsWaiting ctx.now.tree (numbers_of numbering.old) region above }
+    requires numbered { IsNumbering ctx.now.tree (tables_of numbering.old) }
+    requires waiting { IsWaiting ctx.now.tree (tables_of numbering.old) region above }
     requires dominance { IsTrue (has_ssa ctx.now.tree region) }
-    ensures numbered { OnOk result (IsNumbering ctx.now.tree (numbers_of numbering.new)) }
-    ensures grows { OnOk result (Grows (numbers_of numbering.old) (numbers_of numbering.new)) }
-    ensures done { OnOk result (IsDone ctx.now.tree (numbers_of numbering.new) region) }
+    ensures numbered { OnOk result (IsNumbering ctx.now.tree (tables_of numbering.new)) }
+    ensures grows { OnOk result (NumbersGrow (tables_of numbering.old) (tables_of numbering.new)) }
+    ensures done { OnOk result (IsDone ctx.now.tree (tables_of numbering.new) region) }
     ensures memory { IsOkUnless result OptError.Memory }
 {
     ctx.well_formed();
@@ -143,12 +144,12 @@ fn add_head(
     above: usize,
     ctx: &Context,
 ) -> Result<(), OptError>
-    requires numbered { IsNumbering ctx.now.tree (numbers_of numbering.old) }
-    requires waiting { IsWaiting ctx.now.tree (numbers_of numbering.old) region above }
+    requires numbered { IsNumbering ctx.now.tree (tables_of numbering.old) }
+    requires waiting { IsWaiting ctx.now.tree (tables_of numbering.old) region above }
     requires other { IsTrue (has_ssa ctx.now.tree region) → ⊥ }
-    ensures numbered { OnOk result (IsNumbering ctx.now.tree (numbers_of numbering.new)) }
-    ensures grows { OnOk result (Grows (numbers_of numbering.old) (numbers_of numbering.new)) }
-    ensures done { OnOk result (IsDone ctx.now.tree (numbers_of numbering.new) region) }
+    ensures numbered { OnOk result (IsNumbering ctx.now.tree (tables_of numbering.new)) }
+    ensures grows { OnOk result (NumbersGrow (tables_of numbering.old) (tables_of numbering.new)) }
+    ensures done { OnOk result (IsDone ctx.now.tree (tables_of numbering.new) region) }
     ensures memory { IsOkUnless result OptError.Memory }
 {
     ctx.well_formed();
@@ -170,11 +171,11 @@ fn add_contents(
     above: usize,
     ctx: &Context,
 ) -> Result<(), OptError>
-    requires numbered { IsNumbering ctx.now.tree (numbers_of numbering.old) }
-    requires waiting { IsWaiting ctx.now.tree (numbers_of numbering.old) region above }
-    ensures numbered { OnOk result (IsNumbering ctx.now.tree (numbers_of numbering.new)) }
-    ensures grows { OnOk result (Grows (numbers_of numbering.old) (numbers_of numbering.new)) }
-    ensures done { OnOk result (IsDone ctx.now.tree (numbers_of numbering.new) region) }
+    requires numbered { IsNumbering ctx.now.tree (tables_of numbering.old) }
+    requires waiting { IsWaiting ctx.now.tree (tables_of numbering.old) region above }
+    ensures numbered { OnOk result (IsNumbering ctx.now.tree (tables_of numbering.new)) }
+    ensures grows { OnOk result (NumbersGrow (tables_of numbering.old) (tables_of numbering.new)) }
+    ensures done { OnOk result (IsDone ctx.now.tree (tables_of numbering.new) region) }
     ensures memory { IsOkUnless result OptError.Memory }
 {
     ctx.well_formed();
@@ -186,21 +187,21 @@ fn add_contents(
 
 // The region at this place, and its number.
 fn waiting_at(numbering: &Numbering, place: usize) -> (Ptr<Region>, usize)
-    requires place { place < length (numbers_of numbering.now).regions }
-    requires listed { length (numbers_of numbering.now).above ≡ length (numbers_of numbering.now).regions }
-    ensures region { result.0 ≡ get_or (numbers_of numbering.now).regions place 0 }
-    ensures above { result.1 ≡ get_or (numbers_of numbering.now).above place 0 }
+    requires place { place < length (tables_of numbering.now).regions }
+    requires listed { length (tables_of numbering.now).above ≡ length (tables_of numbering.now).regions }
+    ensures region { result.0 ≡ get_or (tables_of numbering.now).regions place 0 }
+    ensures above { result.1 ≡ get_or (tables_of numbering.now).above place 0 }
 {
     (numbering.regions.as_slice()[place], numbering.above[place])
 }
 
 // What is visited in each of the regions, and in those that come behind them.
 fn add_all(alloc: Global, numbering: &mut Numbering, ctx: &Context) -> Result<(), OptError>
-    requires { IsNumbering ctx.now.tree (numbers_of numbering.old) }
-    ensures numbered { OnOk result (IsNumbering ctx.now.tree (numbers_of numbering.new)) }
-    ensures grows { OnOk result (Grows (numbers_of numbering.old) (numbers_of numbering.new)) }
-    ensures done { OnOk result ((r : ℕ) → In r (numbers_of numbering.new).regions → IsDone ctx.now.tree
-        (numbers_of numbering.new) r) }
+    requires { IsNumbering ctx.now.tree (tables_of numbering.old) }
+    ensures numbered { OnOk result (IsNumbering ctx.now.tree (tables_of numbering.new)) }
+    ensures grows { OnOk result (NumbersGrow (tables_of numbering.old) (tables_of numbering.new)) }
+    ensures done { OnOk result ((r : ℕ) → In r (tables_of numbering.new).regions → IsDone ctx.now.tree
+        (tables_of numbering.new) r) }
     ensures memory { IsOkUnless result OptError.Memory }
 {
     for i in 0..usize::MAX {
@@ -219,9 +220,9 @@ fn add_all(alloc: Global, numbering: &mut Numbering, ctx: &Context) -> Result<()
 pub fn number_all(alloc: Global, root: Ptr<Operation>, ctx: &Context) -> Result<Numbering, OptError>
     requires live { IsLive ctx.now.tree root }
     requires edges { EdgesLast ctx.now.tree root }
-    ensures numbered { IfOk result (λ n. IsNumbering ctx.now.tree (numbers_of n)) }
+    ensures numbered { IfOk result (λ n. IsNumbering ctx.now.tree (tables_of n)) }
     ensures root { IfOk result (λ n. n.root ≡ root) }
-    ensures all { IfOk result (λ n. (k : ℕ) → IsSeen ctx.now.tree root k → In k (numbers_of n).ops) }
+    ensures all { IfOk result (λ n. (k : ℕ) → IsSeen ctx.now.tree root k → In k (tables_of n).ops) }
     ensures memory { IsOkUnless result OptError.Memory }
 {
     ctx.well_formed();

@@ -1,7 +1,7 @@
 -- What a search that grew says of the graph.
 use Rattle.std.proofs.Common.{◌≡◌, ℕ, zero, suc, ◌+◌, ◌<◌, ◌≤◌, Bool, true, List, [], ◌∷◌, ◌++◌, refl, sym, ◌∙◌, ap, subst, arith, inl, inr, ◌⊎◌, Some, slice_get}
 use Rattle.pliron_graph_traversal.specs.Digraph.{Digraph, IsPath, Reaches}
-use Rattle.pliron_graph_traversal.specs.Internal.Forest.{Forest, forest_preorder, postorder, Grows, done, skip, visit}
+use Rattle.pliron_graph_traversal.specs.Internal.Forest.{Forest, forest_preorder, postorder, ForestGrows, done, skip, visit}
 use Rattle.pliron_graph_traversal.specs.Search.{IsWhollyLater}
 use Rattle.pliron_graph_traversal.specs.Internal.Membership.{HasMember, in_from, contains_from, in_left, in_right, in_cases, in_from_any, not_in_from_any}
 use Rattle.pliron_graph_traversal.proofs.TreeLemmas.{size, InF, Top, Parent, top_in, parent_above, lower_in, pre_in, in_pre, post_in, Placed, range}
@@ -26,14 +26,14 @@ module _ {N : Type 0} (eq : N → N → Bool) (g : Digraph N) (same : (x y : N) 
   root_split seen r w h = elim (in_cases seen (r ∷ []) w h) [ inl x ↦ inl x | inr y ↦ elim y [ inl e ↦ inr e | inr n ↦ absurd n ] ]
 
   -- nothing that was found had been seen
-  pub fresh : {seen todo : List N} {f : Forest N} → Grows eq g seen todo f → (v : N) → InF f v → HasMember seen v → ⊥
+  pub fresh : {seen todo : List N} {f : Forest N} → ForestGrows eq g seen todo f → (v : N) → InF f v → HasMember seen v → ⊥
   fresh done v h i = absurd h
   fresh (skip k gr) v h i = fresh gr v h i
   fresh (visit {seen = p} {v = r} n gc gs) v (inl e) i = not_in_from_any eq same reflexive p r n (subst (HasMember p) (sym e) i)
   fresh (visit {seen = p} {v = r} n gc gs) v (inr (inl h)) i = fresh gc v h (in_left p (r ∷ []) v i)
   fresh (visit {seen = p} {v = r} {c = c} n gc gs) v (inr (inr h)) i = fresh gs v h (in_left (p ++ r ∷ []) (forest_preorder c) v (in_left p (r ∷ []) v i))
 
-  pub pre_distinct : {seen todo : List N} {f : Forest N} → Grows eq g seen todo f → Distinct (forest_preorder f)
+  pub pre_distinct : {seen todo : List N} {f : Forest N} → ForestGrows eq g seen todo f → Distinct (forest_preorder f)
   pre_distinct done = tt
   pre_distinct (skip k gr) = pre_distinct gr
   pre_distinct (visit {seen = p} {v = r} {c = c} {s = s} n gc gs) =
@@ -45,7 +45,7 @@ module _ {N : Type 0} (eq : N → N → Bool) (g : Digraph N) (same : (x y : N) 
         distinct_append (forest_preorder c) (forest_preorder s) (pre_distinct gc) (pre_distinct gs) (λ v i j. fresh gs v (pre_in s v j) (in_right (p ++ r ∷ []) (forest_preorder c) v i)),
       )
 
-  pub post_distinct : {seen todo : List N} {f : Forest N} → Grows eq g seen todo f → Distinct (postorder f)
+  pub post_distinct : {seen todo : List N} {f : Forest N} → ForestGrows eq g seen todo f → Distinct (postorder f)
   post_distinct done = tt
   post_distinct (skip k gr) = post_distinct gr
   post_distinct (visit {seen = p} {v = r} {c = c} {s = s} n gc gs) =
@@ -58,7 +58,7 @@ module _ {N : Type 0} (eq : N → N → Bool) (g : Digraph N) (same : (x y : N) 
       ])
 
   -- each root was seen or is found
-  pub roots_found : {seen todo : List N} {f : Forest N} → Grows eq g seen todo f → (w : N) → HasMember todo w → HasMember seen w ⊎ InF f w
+  pub roots_found : {seen todo : List N} {f : Forest N} → ForestGrows eq g seen todo f → (w : N) → HasMember todo w → HasMember seen w ⊎ InF f w
   roots_found done w h = absurd h
   roots_found (skip {seen = p} {v = r} k gr) w (inl e) = inl (subst (HasMember p) e (in_from_any eq same reflexive p r k))
   roots_found (skip k gr) w (inr h) = roots_found gr w h
@@ -69,7 +69,7 @@ module _ {N : Type 0} (eq : N → N → Bool) (g : Digraph N) (same : (x y : N) 
   ]
 
   -- what a search finds is reached from the roots
-  pub found_reached : {seen todo : List N} {f : Forest N} → Grows eq g seen todo f → (v : N) → InF f v → (r : N) × HasMember todo r × Reaches g r v
+  pub found_reached : {seen todo : List N} {f : Forest N} → ForestGrows eq g seen todo f → (v : N) → InF f v → (r : N) × HasMember todo r × Reaches g r v
   found_reached done v h = absurd h
   found_reached (skip k gr) v h = let r = found_reached gr v h in (r.0, inr r.1, r.2)
   found_reached (visit {v = r} n gc gs) v (inl e) = (r, inl refl, ([], e))
@@ -78,13 +78,13 @@ module _ {N : Type 0} (eq : N → N → Bool) (g : Digraph N) (same : (x y : N) 
   found_reached (visit n gc gs) v (inr (inr h)) = let k = found_reached gs v h in (k.0, inr k.1, k.2)
 
   -- roots and parents
-  pub top_root : {seen todo : List N} {f : Forest N} → Grows eq g seen todo f → (v : N) → Top f v → HasMember todo v
+  pub top_root : {seen todo : List N} {f : Forest N} → ForestGrows eq g seen todo f → (v : N) → Top f v → HasMember todo v
   top_root done v h = absurd h
   top_root (skip k gr) v h = inr (top_root gr v h)
   top_root (visit n gc gs) v (inl e) = inl e
   top_root (visit n gc gs) v (inr h) = inr (top_root gs v h)
 
-  pub parent_edge : {seen todo : List N} {f : Forest N} → Grows eq g seen todo f → (p v : N) → Parent f p v → HasMember (g.succ p) v
+  pub parent_edge : {seen todo : List N} {f : Forest N} → ForestGrows eq g seen todo f → (p v : N) → Parent f p v → HasMember (g.succ p) v
   parent_edge done p v h = absurd h
   parent_edge (skip k gr) p v h = parent_edge gr p v h
   parent_edge (visit n gc gs) p v (inl h) = subst (λ x. HasMember (g.succ x) v) (sym h.0) (top_root gc v h.1)
@@ -93,7 +93,7 @@ module _ {N : Type 0} (eq : N → N → Bool) (g : Digraph N) (same : (x y : N) 
 
   module _ (pre post : N → ℕ) where
     -- every edge from a node that was found leads to one that was seen, or to one that was found and is not wholly later
-    pub edge_found : {seen todo : List N} {f : Forest N} (a b : ℕ) → Grows eq g seen todo f → Placed pre post a b f → (u w : N) → InF f u → HasMember (g.succ u) w
+    pub edge_found : {seen todo : List N} {f : Forest N} (a b : ℕ) → ForestGrows eq g seen todo f → Placed pre post a b f → (u w : N) → InF f u → HasMember (g.succ u) w
         → HasMember seen w ⊎ (InF f w × (IsWhollyLater pre post u w → ⊥))
     edge_found a b done p u w h e = absurd h
     edge_found a b (skip k gr) p u w h e = edge_found a b gr p u w h e
@@ -144,7 +144,7 @@ module _ {N : Type 0} (eq : N → N → Bool) (g : Digraph N) (same : (x y : N) 
         (λ e. none 0 (omega arith) (ap Some e), inr (before_first xs k j w v (λ i m. none (suc i) (omega (arith, m))) (omega (arith, l)) at))
 
     -- a root before the first v was seen, or comes earlier
-    pub root_order : {seen todo : List N} {f : Forest N} (a b : ℕ) → Grows eq g seen todo f → Placed pre post a b f → (v w : N) → Top f v → BeforeFirst todo w v
+    pub root_order : {seen todo : List N} {f : Forest N} (a b : ℕ) → ForestGrows eq g seen todo f → Placed pre post a b f → (v w : N) → Top f v → BeforeFirst todo w v
         → HasMember seen w ⊎ (InF f w × (pre w < pre v))
     root_order a b done p v w t o = absurd t
     root_order a b (skip {seen = q} {v = r} k gr) p v w t (first, inl e) = inl (subst (HasMember q) e (in_from_any eq same reflexive q r k))
@@ -166,7 +166,7 @@ module _ {N : Type 0} (eq : N → N → Bool) (g : Digraph N) (same : (x y : N) 
           | inr new ↦ inr (inr (inr new.0), new.1)
         ]
 
-    pub child_order : {seen todo : List N} {f : Forest N} (a b : ℕ) → Grows eq g seen todo f → Placed pre post a b f → (x v w : N) → Parent f x v → BeforeFirst (g.succ x) w v
+    pub child_order : {seen todo : List N} {f : Forest N} (a b : ℕ) → ForestGrows eq g seen todo f → Placed pre post a b f → (x v w : N) → Parent f x v → BeforeFirst (g.succ x) w v
         → HasMember seen w ⊎ (InF f w × (pre w < pre v))
     child_order a b done p x v w t o = absurd t
     child_order a b (skip k gr) p x v w t o = child_order a b gr p x v w t o
@@ -203,6 +203,6 @@ module _ {N : Type 0} (eq : N → N → Bool) (g : Digraph N) (same : (x y : N) 
         ]
 
   -- what the roots reach is found
-  pub reached_found : {todo : List N} {f : Forest N} → Grows eq g [] todo f → ((u w : N) → InF f u → HasMember (g.succ u) w → InF f w) → (u v : N) (ws : List N) → InF f u → IsPath g u ws v → InF f v
+  pub reached_found : {todo : List N} {f : Forest N} → ForestGrows eq g [] todo f → ((u w : N) → InF f u → HasMember (g.succ u) w → InF f w) → (u v : N) (ws : List N) → InF f u → IsPath g u ws v → InF f v
   reached_found {f = f} gr closed u v [] h p = subst (InF f) p h
   reached_found gr closed u v (w ∷ ws) h p = reached_found gr closed w v ws (closed u w h (in_from (g.succ u) w p.0)) p.1

@@ -11,7 +11,7 @@ use Rattle.pliron_graph_traversal.specs.Adjacency.{Adjacency, graph_of, count_fr
 use Rattle.pliron_graph_traversal.specs.ByNumber.{IsByNumber}
 use Rattle.pliron_graph_traversal.specs.Search.{number_in}
 use Rattle.pliron_graph_traversal.specs.Internal.AdjacencyLawful.{counted}
-use Rattle.pliron_graph_traversal.specs.Internal.Forest.{Forest, leaf, grow, forest_preorder, postorder, Grows, done, skip, visit, Grew}
+use Rattle.pliron_graph_traversal.specs.Internal.Forest.{Forest, leaf, grow, forest_preorder, postorder, ForestGrows, done, skip, visit, Grew}
 use Rattle.pliron_graph_traversal.specs.Internal.Walked.{trees, AreFoundWalks, AreNamedLists}
 use Rattle.pliron_graph_traversal.specs.Internal.Membership.{HasMember, in_from, contains_from, in_cases}
 use Rattle.pliron_graph_traversal.proofs.TreeLemmas.{InF, pre_in, post_in}
@@ -64,7 +64,7 @@ trees_low n (grow v c s) h = (
   trees_low n s (λ x i. h x (inr (inr i))),
 )
 
-no_trees : (g : Digraph ℕ) {seen todo : List ℕ} {f : Forest ℕ} → Grows nat_eq g seen todo f → todo ≡ [] → trees f ≡ []
+no_trees : (g : Digraph ℕ) {seen todo : List ℕ} {f : Forest ℕ} → ForestGrows nat_eq g seen todo f → todo ≡ [] → trees f ≡ []
 no_trees g done e = refl
 no_trees g (skip {v = v} {vs = vs} k gr) e = absurd (not_empty v vs e)
 no_trees g (visit {v = v} {vs = vs} n gc gs) e = absurd (not_empty v vs e)
@@ -142,15 +142,15 @@ module _ {N : Type 0} (eq : N → N → Bool) (laws : IsEquivalence eq) (g : Dig
   post_mapped (grow v c s) =
       ap (λ z. z ++ (node v ∷ postorder (mapped s))) (post_mapped c) ∙ ap (λ z. map node (postorder c) ++ (node v ∷ z)) (post_mapped s) ∙ sym (map-append node (postorder c) (v ∷ postorder s))
 
-  found_below : {seen todo : List ℕ} {f : Forest ℕ} → Grows nat_eq (graph_of lists) seen todo f → ((v : ℕ) → HasMember todo v → v < length lists.succ) → (v : ℕ) → InF f v → v < length lists.succ
+  found_below : {seen todo : List ℕ} {f : Forest ℕ} → ForestGrows nat_eq (graph_of lists) seen todo f → ((v : ℕ) → HasMember todo v → v < length lists.succ) → (v : ℕ) → InF f v → v < length lists.succ
   found_below done low v i = absurd i
   found_below (skip k gr) low v i = found_below gr (λ x j. low x (inr j)) v i
   found_below (visit {v = r} n gc gs) low v (inl e) = subst (λ z. z < length lists.succ) e (low r (inl refl))
   found_below (visit {v = r} n gc gs) low v (inr (inl i)) = found_below gc (λ x j. row_below r x (low r (inl refl)) j) v i
   found_below (visit {v = r} n gc gs) low v (inr (inr i)) = found_below gs (λ x j. low x (inr j)) v i
 
-  grows_named : {seen todo : List ℕ} {f : Forest ℕ} → Grows nat_eq (graph_of lists) seen todo f → ((v : ℕ) → HasMember seen v → v < length lists.succ) → ((v : ℕ) → HasMember todo v → v < length lists.succ)
-      → Grows eq g (map node seen) (map node todo) (mapped f)
+  grows_named : {seen todo : List ℕ} {f : Forest ℕ} → ForestGrows nat_eq (graph_of lists) seen todo f → ((v : ℕ) → HasMember seen v → v < length lists.succ) → ((v : ℕ) → HasMember todo v → v < length lists.succ)
+      → ForestGrows eq g (map node seen) (map node todo) (mapped f)
   grows_named done old low = done
   grows_named (skip {seen = p} {v = r} k gr) old low = skip (any_named r p (low r (inl refl)) old ∙ k) (grows_named gr old (λ v i. low v (inr i)))
   grows_named (visit {seen = p} {v = r} {vs = vs} {c = c} {s = s} k gc gs) old low =
@@ -167,8 +167,8 @@ module _ {N : Type 0} (eq : N → N → Bool) (laws : IsEquivalence eq) (g : Dig
       let all_is : map node ((p ++ r ∷ []) ++ forest_preorder c) ≡ (map node p ++ node r ∷ []) ++ forest_preorder (mapped c) =
       map-append node (p ++ r ∷ []) (forest_preorder c) ∙ ap (λ z. z ++ map node (forest_preorder c)) seen_is ∙ ap (λ z. (map node p ++ node r ∷ []) ++ z) (sym (pre_mapped c)) in
       visit (any_named r p here old ∙ k)
-      (subst (λ z. Grows eq g z (g.succ (node r)) (mapped c)) seen_is (subst (λ z. Grows eq g (map node (p ++ r ∷ [])) z (mapped c)) (sym (succ_named r here)) (grows_named gc new (λ x j. row_below r x here j))))
-      (subst (λ z. Grows eq g z (map node vs) (mapped s)) all_is (grows_named gs more (λ x j. low x (inr j))))
+      (subst (λ z. ForestGrows eq g z (g.succ (node r)) (mapped c)) seen_is (subst (λ z. ForestGrows eq g (map node (p ++ r ∷ [])) z (mapped c)) (sym (succ_named r here)) (grows_named gc new (λ x j. row_below r x here j))))
+      (subst (λ z. ForestGrows eq g z (map node vs) (mapped s)) all_is (grows_named gs more (λ x j. low x (inr j))))
 
   -- all nodes, from the i-th on
   pub nodes_from : (i m : ℕ) → i + m ≡ length g.nodes → map node (count_from i m) ≡ drop i g.nodes
@@ -220,7 +220,7 @@ module _ {N : Type 0} (eq : N → N → Bool) (laws : IsEquivalence eq) (g : Dig
         forest_preorder (mapped found.1.forest),
         record {
           forest = mapped f;
-          grows = subst (λ z. Grows eq g [] z (mapped f)) all (grows_named found.1.grows (λ v i. absurd i) nodes_below);
+          grows = subst (λ z. ForestGrows eq g [] z (mapped f)) all (grows_named found.1.grows (λ v i. absurd i) nodes_below);
           seen_is = refl;
           walks_are = lists_named vs ws named (walks_low ws found) ∙ ap (map (map node)) found.1.walks_are ∙ sym (trees_mapped f);
         },
@@ -299,7 +299,7 @@ module _ {N : Type 0} (eq : N → N → Bool) (laws : IsEquivalence eq) (g : Dig
     [],
     record {
       forest = leaf;
-      grows = subst (λ z. Grows eq g [] z leaf) (sym none) done;
+      grows = subst (λ z. ForestGrows eq g [] z leaf) (sym none) done;
       seen_is = refl;
       walks_are = empty vs (named ∙ ap (map (map (λ k. slice_get g.nodes k))) (walks_none none ws found));
     },

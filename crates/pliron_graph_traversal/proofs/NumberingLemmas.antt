@@ -2,7 +2,7 @@
 use Rattle.std.proofs.Common.{◌≡◌, ℕ, suc, ◌+◌, Bool, true, false, not, cond, List, [], ◌∷◌, refl, sym, ◌∙◌, ap, subst, arith, inl, inr, ◌⊎◌, Contains}
 use Rattle.std.specs.List.{position_or_len, IsDistinct}
 use Rattle.pliron_graph_traversal.specs.Digraph.{Digraph, IsReached}
-use Rattle.pliron_graph_traversal.specs.Internal.Forest.{Forest, forest_preorder, postorder, Grows, Grew}
+use Rattle.pliron_graph_traversal.specs.Internal.Forest.{Forest, forest_preorder, postorder, ForestGrows, Grew}
 use Rattle.pliron_graph_traversal.specs.Search.{Encloses, Numbers, IsNearest, IsTop, IsSearchNumbering, IsSearch}
 use Rattle.pliron_graph_traversal.specs.Internal.Membership.{HasMember, in_from, contains_from, in_from_any, any_from_in}
 use Rattle.pliron_graph_traversal.proofs.TreeLemmas.{size, InF, Above, Parent, parent_above, lower_in, upper_in, has_place, pre_in, in_pre, post_in, in_post, length_pre, length_post, Seated, seated_range, seated_each, seated_once, Placed, placed, above_encloses, encloses_above, comparable, top_free, parent_nearest}
@@ -29,7 +29,7 @@ module _ {N : Type 0} (eq : N → N → Bool) (same : (x y : N) → eq x y ≡ t
       step v i true e = absurd (h.0 (subst (HasMember xs) (same v x e) i))
       step v i false e = ap (λ b. cond (not b) (1 + place xs v) 0) e ∙ omega arith
 
-  module _ (g : Digraph N) (roots : List N) (f : Forest N) (grows : Grows eq g [] roots f) where
+  module _ (g : Digraph N) (roots : List N) (f : Forest N) (grows : ForestGrows eq g [] roots f) where
     abbrev pub pre : N → ℕ
     pre v = place (forest_preorder f) v
 

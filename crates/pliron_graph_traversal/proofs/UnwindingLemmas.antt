@@ -1,6 +1,6 @@
 -- What is left to do of a search whose stack has nodes with the index of the next successor, the newest last.
 use Rattle.std.proofs.Common.{◌≡◌, ℕ, zero, suc, ◌+◌, ◌≤◌, Bool, true, false, List, [], ◌∷◌, ◌++◌, length, drop, take, slice_get, Some, refl, sym, ◌∙◌, ap, subst, append_assoc, add-one, append-nil, Contains}
-use Rattle.pliron_graph_traversal.specs.Internal.Steps.{Finishes, Unwinds, IsStep}
+use Rattle.pliron_graph_traversal.specs.Internal.Steps.{Finishes, Unwinds, IsWalkStep}
 use Rattle.std.proofs.lemmas.List.{drop_all, take_more}
 use Rattle.std.specs.List.{All}
 use Rattle.std.proofs.lemmas.List.Elements.{All-push, All-pop, Contains-get_or}
@@ -8,7 +8,7 @@ use Rattle.pliron_graph_traversal.proofs.WorkLemmas.{falls_skipped, falls_visite
 use Rattle.std.proofs.lemmas.Option.{slice_get_within, get_or_from_slice_get}
 use Rattle.std.specs.List.{list_any}
 use Rattle.pliron_graph_traversal.specs.Digraph.{Digraph}
-use Rattle.pliron_graph_traversal.specs.Internal.Forest.{leaf, grow, forest_preorder, postorder, Grows, done, skip, visit, Grew}
+use Rattle.pliron_graph_traversal.specs.Internal.Forest.{leaf, grow, forest_preorder, postorder, ForestGrows, done, skip, visit, Grew}
 
 pub drop_at : {X : Type 0} (xs : List X) (i : ℕ) (x : X) → slice_get xs i ≡ Some x → drop i xs ≡ x ∷ drop (suc i) xs
 drop_at [] i x e = absurd (cc)
@@ -39,7 +39,7 @@ module _ {N : Type 0} (eq : N → N → Bool) (g : Digraph N) where
   pub joined : (w : N) (vs p q pm qm fa pn fb : List N) → list_any (eq w) p ≡ false → Grew eq g (g.succ w) (p ++ w ∷ []) q pm fa → qm ≡ fa ++ w ∷ [] → Grew eq g vs pm qm pn fb → Grew eq g (w ∷ vs) p q pn fb
   joined w vs p q pm qm fa pn fb unseen a e b = record {
     forest = grow w a.forest b.forest;
-    grows = visit unseen a.grows (subst (λ x. Grows eq g x vs b.forest) a.pre_is b.grows);
+    grows = visit unseen a.grows (subst (λ x. ForestGrows eq g x vs b.forest) a.pre_is b.grows);
     pre_is = b.pre_is ∙ ap (λ x. x ++ forest_preorder b.forest) a.pre_is ∙ simp append_assoc;
     post_is = b.post_is ∙ ap (λ x. x ++ postorder b.forest) (e ∙ ap (λ x. x ++ w ∷ []) a.post_is) ∙ simp append_assoc;
   }
@@ -54,7 +54,7 @@ module _ {N : Type 0} (eq : N → N → Bool) (g : Digraph N) where
         found = f.found;
         grew = record {
           forest = f.grew.forest;
-          grows = subst (λ vs. Grows eq g p vs f.grew.forest) (sym (drop_next (g.succ v) i w at)) (skip seen f.grew.grows);
+          grows = subst (λ vs. ForestGrows eq g p vs f.grew.forest) (sym (drop_next (g.succ v) i w at)) (skip seen f.grew.grows);
           pre_is = f.grew.pre_is;
           post_is = f.grew.post_is;
         };
@@ -83,7 +83,7 @@ module _ {N : Type 0} (eq : N → N → Bool) (g : Digraph N) where
     found = q;
     grew = record {
       forest = leaf;
-      grows = subst (λ vs. Grows eq g p vs leaf) (sym (drop_all i (g.succ v) past)) done;
+      grows = subst (λ vs. ForestGrows eq g p vs leaf) (sym (drop_all i (g.succ v) past)) done;
       pre_is = sym (append-nil p);
       post_is = sym (append-nil q);
     };
@@ -109,7 +109,7 @@ module _ {N : Type 0} (eq : N → N → Bool) (g : Digraph N) where
     all_last es e all = (All-pop (λ (x : N × ℕ). Contains g.nodes x.0) (es ++ e ∷ []) es (Some e) refl all).1
 
     pub step_skipped : (es : List (N × ℕ)) (v w : N) (i : ℕ) (p q : List N) → slice_get (g.succ v) i ≡ Some w → list_any (eq w) p ≡ true
-        → IsStep eq g (es ++ (v, i) ∷ []) p q (es ++ (v, i + 1) ∷ []) p q
+        → IsWalkStep eq g (es ++ (v, i) ∷ []) p q (es ++ (v, i + 1) ∷ []) p q
     step_skipped es v w i p q at seen = record {
       rest = λ pe qe u. skipped es v w i p q pe qe at seen u;
       descends = falls_skipped eq g es v i p (slice_get_within (g.succ v) i w at);
@@ -117,7 +117,7 @@ module _ {N : Type 0} (eq : N → N → Bool) (g : Digraph N) where
     }
 
     pub step_visited : (es : List (N × ℕ)) (v w : N) (i : ℕ) (p q : List N) → Contains g.nodes v → slice_get (g.succ v) i ≡ Some w → list_any (eq w) p ≡ false
-        → IsStep eq g (es ++ (v, i) ∷ []) p q ((es ++ (v, i + 1) ∷ []) ++ (w, 0) ∷ []) (p ++ w ∷ []) q
+        → IsWalkStep eq g (es ++ (v, i) ∷ []) p q ((es ++ (v, i + 1) ∷ []) ++ (w, 0) ∷ []) (p ++ w ∷ []) q
     step_visited es v w i p q member at unseen =
         let within = slice_get_within (g.succ v) i w at in
         let is : Contains (g.succ v) w = subst (Contains (g.succ v)) (get_or_from_slice_get (g.succ v) i w w at) (Contains-get_or (g.succ v) i w within) in
@@ -129,12 +129,12 @@ module _ {N : Type 0} (eq : N → N → Bool) (g : Digraph N) where
         }
 
     pub step_left : (es : List (N × ℕ)) (v : N) (i : ℕ) (p q : List N) → length (g.succ v) ≤ i
-        → IsStep eq g (es ++ (v, i) ∷ []) p q es p (q ++ v ∷ [])
+        → IsWalkStep eq g (es ++ (v, i) ∷ []) p q es p (q ++ v ∷ [])
     step_left es v i p q past = record {
       rest = λ pe qe u. left es v i p q pe qe past u;
       descends = falls_left eq g es v i p;
       nodes = λ all. (All-pop (λ (x : N × ℕ). Contains g.nodes x.0) (es ++ (v, i) ∷ []) es (Some (v, i)) refl all).0;
     }
 
-  pub before_step : (es all : List (N × ℕ)) (e : N × ℕ) (p q : List N) (es' : List (N × ℕ)) (p' q' : List N) → all ≡ es ++ e ∷ [] → IsStep eq g (es ++ e ∷ []) p q es' p' q' → IsStep eq g all p q es' p' q'
-  before_step es all e p q es' p' q' is s = subst (λ x. IsStep eq g x p q es' p' q') (sym is) s
+  pub before_step : (es all : List (N × ℕ)) (e : N × ℕ) (p q : List N) (es' : List (N × ℕ)) (p' q' : List N) → all ≡ es ++ e ∷ [] → IsWalkStep eq g (es ++ e ∷ []) p q es' p' q' → IsWalkStep eq g all p q es' p' q'
+  before_step es all e p q es' p' q' is s = subst (λ x. IsWalkStep eq g x p q es' p' q') (sym is) s

@@ -4,7 +4,7 @@ use Rattle.std.proofs.lemmas.List.{take_more, take_all}
 use Rattle.std.specs.List.{list_any, All, AllByRecursion}
 use Rattle.std.proofs.lemmas.List.Elements.{All-from_recursion}
 use Rattle.pliron_graph_traversal.specs.Digraph.{Digraph}
-use Rattle.pliron_graph_traversal.specs.Internal.Forest.{Forest, leaf, grow, forest_preorder, postorder, Grows, done, skip, visit, Grew}
+use Rattle.pliron_graph_traversal.specs.Internal.Forest.{Forest, leaf, grow, forest_preorder, postorder, ForestGrows, done, skip, visit, Grew}
 use Rattle.pliron_graph_traversal.specs.Search.{number_in}
 use Rattle.pliron_graph_traversal.specs.Walks.{concatenation, IsWalk, AreWalks}
 use Rattle.pliron_graph_traversal.specs.Internal.Walked.{trees, Walked}
@@ -79,13 +79,13 @@ module _ {N : Type 0} where
     tree_below a b (grow t d s) r c v p (inr h) (inr (inr i)) = tree_below (a + 1 + size d) (b + size d + 1) s r c v p.3 h i
 
 module _ {N : Type 0} (eq : N → N → Bool) (g : Digraph N) where
-  pub grows_plus : {seen xs ys : List N} {f h : Forest N} → Grows eq g seen xs f → Grows eq g (seen ++ forest_preorder f) ys h → Grows eq g seen (xs ++ ys) (plus f h)
-  grows_plus {seen = p} {ys = ys} {h = h} done k = subst (λ x. Grows eq g x ys h) (append-nil p) k
+  pub grows_plus : {seen xs ys : List N} {f h : Forest N} → ForestGrows eq g seen xs f → ForestGrows eq g (seen ++ forest_preorder f) ys h → ForestGrows eq g seen (xs ++ ys) (plus f h)
+  grows_plus {seen = p} {ys = ys} {h = h} done k = subst (λ x. ForestGrows eq g x ys h) (append-nil p) k
   grows_plus (skip e gr) k = skip e (grows_plus gr k)
   grows_plus {ys = ys} {h = h} (visit {seen = p} {v = r} {c = c} {s = s} n gc gs) k =
-      visit n gc (grows_plus gs (subst (λ x. Grows eq g x ys h) (simp append_assoc) k))
+      visit n gc (grows_plus gs (subst (λ x. ForestGrows eq g x ys h) (simp append_assoc) k))
 
-  single : {seen : List N} {v : N} {h : Forest N} → Grows eq g seen (v ∷ []) h → list_any (eq v) seen ≡ false → trees h ≡ postorder h ∷ []
+  single : {seen : List N} {v : N} {h : Forest N} → ForestGrows eq g seen (v ∷ []) h → list_any (eq v) seen ≡ false → trees h ≡ postorder h ∷ []
   single (skip e gr) unseen = absurd (true≢false (sym e ∙ unseen))
   single (visit n gc done) unseen = refl
 
@@ -104,13 +104,13 @@ module _ {N : Type 0} (eq : N → N → Bool) (g : Digraph N) where
       → Walked eq g (xs ++ v ∷ []) seen' (walks ++ post ∷ [])
   walked_more xs seen seen' post walks v unseen new w = record {
     forest = plus w.forest new.forest;
-    grows = grows_plus w.grows (subst (λ x. Grows eq g x (v ∷ []) new.forest) w.seen_is new.grows);
+    grows = grows_plus w.grows (subst (λ x. ForestGrows eq g x (v ∷ []) new.forest) w.seen_is new.grows);
     seen_is = new.pre_is ∙ ap (λ x. x ++ forest_preorder new.forest) w.seen_is ∙ sym (pre_plus w.forest new.forest);
     walks_are = ap (λ x. x ++ post ∷ []) w.walks_are ∙ ap (λ x. trees w.forest ++ x) (ap (λ x. x ∷ []) new.post_is ∙ sym (single new.grows unseen)) ∙ sym (trees_plus w.forest new.forest);
   }
 
   module _ (same : (x y : N) → eq x y ≡ true → x ≡ y) (reflexive : (x : N) → eq x x ≡ true) where
-    all_trees : (xs : List N) (f : Forest N) (gr : Grows eq g [] xs f) (part : Forest N) → ((r : N) (c : Forest N) → IsTree part r c → IsTree f r c)
+    all_trees : (xs : List N) (f : Forest N) (gr : ForestGrows eq g [] xs f) (part : Forest N) → ((r : N) (c : Forest N) → IsTree part r c → IsTree f r c)
         → AllByRecursion (IsWalk eq g xs (record { pre = forest_preorder f; post = postorder f })) (trees part)
     all_trees xs f gr leaf within = tt
     all_trees xs f gr (grow r c s) within =

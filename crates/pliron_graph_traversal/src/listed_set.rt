@@ -3,7 +3,7 @@ ghost use Rattle.std.specs.Prelude.{◌≡◌, ◌<◌, ℕ, not, List, [], IfOk
 ghost use Rattle.std.specs.List.{IsDistinct, list_any};
 ghost use Rattle.indexmap.specs.IndexSet.{insert_key};
 ghost use Rattle.pliron_graph_traversal.specs.Search.{number_in};
-ghost use Rattle.pliron_graph_traversal.specs.Internal.Marks.{mark_of};
+ghost use Rattle.pliron_graph_traversal.specs.Internal.Marks.{mark_of_member};
 
 use indexmap::IndexSet;
 use pliron_laws::OptError;
@@ -84,20 +84,20 @@ pub struct NumberSet {
 }
 
 impl Model for NumberSet {
-    ghost use Rattle.pliron_graph_traversal.specs.Internal.Marks.{AreMarks};
+    ghost use Rattle.pliron_graph_traversal.specs.Internal.Marks.{AreMarksOf};
     ghost use Rattle.std.specs.Prelude.{ℕ, List};
 
     ghost Value = { List ℕ };
 
     ghost view = { λ s. s.members.items };
 
-    ghost invariant = { λ s. AreMarks s.members.items s.marks.items };
+    ghost invariant = { λ s. AreMarksOf s.members.items s.marks.items };
 }
 
 impl NumberSet {
     // One more than the place of the number, or 0 where it is no member.
     fn mark(&self, number: u32) -> usize
-        ensures { result ≡ mark_of self.now number }
+        ensures { result ≡ mark_of_member self.now number }
     {
         let index = number as usize;
         if index < self.marks.len() {

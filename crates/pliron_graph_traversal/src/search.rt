@@ -2,7 +2,7 @@
 ghost use Rattle.std.specs.Prelude.{◌≡◌, ◌∷◌, ◌++◌, [], false, Contains, OnOk, IsOkUnless};
 ghost use Rattle.std.specs.List.{list_any};
 ghost use Rattle.pliron_graph_traversal.specs.Internal.Forest.{Grew};
-ghost use Rattle.pliron_graph_traversal.specs.Internal.Steps.{IsStep};
+ghost use Rattle.pliron_graph_traversal.specs.Internal.Steps.{IsWalkStep};
 
 use crate::{ControlFlowGraph, ListedSet};
 use pliron_laws::OptError;
@@ -20,7 +20,7 @@ fn step<C, G: ControlFlowGraph<C>, S: ListedSet<G::Node>>(
 ) -> Result<(), OptError>
     requires lawful { G.is_lawful graph.now ctx.now }
     requires member { Contains (G.graph graph.now ctx.now).nodes top.0 }
-    ensures step { OnOk result (IsStep G.Node.eq (G.graph graph.now ctx.now) (stack.old.items ++ top ∷ [])
+    ensures step { OnOk result (IsWalkStep G.Node.eq (G.graph graph.now ctx.now) (stack.old.items ++ top ∷ [])
         (S.listed seen.old) post.old.items stack.new.items (S.listed seen.new) post.new.items) }
     ensures memory { IsOkUnless result OptError.Memory }
 {

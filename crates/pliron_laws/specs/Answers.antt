@@ -1,5 +1,5 @@
 -- What the answers of a dialect may read.
-use Rattle.std.specs.Prelude.{◌≡◌, ◌<◌, ℕ, Bool, nat_eq, false, List, Option, Some, None, slice_get, slice_set, length, map, IsTrue}
+use Rattle.std.specs.Prelude.{◌≡◌, ◌<◌, ℕ, Bool, nat_eq, false, true, List, Option, Some, None, slice_get, slice_set, length, map, IsTrue}
 use Rattle.std.specs.Option.{option_map}
 use Rattle.pliron_core.specs.declared.attrs.AttrObj.{AttrObj}
 use Rattle.pliron_core.specs.Tree.{Tree, head_of, row_of, operands_of, results_of, successors_of, regions_of, arguments_of, block_parent_of, slot_of, layout_of, first_of}
@@ -86,3 +86,14 @@ LosesForwarded m shortened t t' op i j v = (o : Operation) (p : ℕ) → op_at t
 abbrev pub IsMaterialised : (AttrObj → Bool) → (AttrObj → Head) → AttrObj → (t t' : Tree) → Option ℕ → Type 0
 IsMaterialised accepts head attr t t' None = (accepts attr ≡ false) × (t' ≡ t)
 IsMaterialised accepts head attr t t' (Some op) = IsTrue (accepts attr) × (op ≡ length t.operations) × (t' ≡ after_creating t (head attr) 1 0)
+
+-- whether the answer is that there are no side effects
+abbrev pub is_harmless : Option Bool → Bool
+is_harmless None = false
+is_harmless (Some true) = false
+is_harmless (Some false) = true
+
+-- an answer for one result, where there is one for it
+abbrev pub answer_in : {A : Type 0} → Option (Option A) → Option A
+answer_in None = None
+answer_in (Some a) = a

@@ -28,15 +28,15 @@ abbrev pub GivesAnswer : Meaning → Shape → List (Option AttrObj) → List �
 GivesAnswer m s known operands i answer = (first : List Datum) → length first ≡ s.operands → Known known first → AreSameData operands first → (later : Bool) (memo : Datum) (input ds : List Datum) → Comes m.act s first later memo input → m.act s memo input ≡ Give ds → slice_get ds i ≡ datum_by answer first
 
 -- the answer names an operand that there is
-abbrev pub IsWithin : Shape → OpFoldResult → Type 0
-IsWithin s (Operand p) = p < s.operands
-IsWithin s (Constant c) = Unit {0}
+abbrev pub IsWithinShape : Shape → OpFoldResult → Type 0
+IsWithinShape s (Operand p) = p < s.operands
+IsWithinShape s (Constant c) = Unit {0}
 
 -- what an admitted operation answers is of results that it has and of operands that it has, which it gives; only
 -- operations without successors answer
 pub record AnswersOperand (m : Meaning) (s : Shape) (known : List (Option AttrObj)) (operands : List ℕ) (i : ℕ) (answer : OpFoldResult) : Type 0 where
   pub result : i < s.results
-  pub within : IsWithin s answer
+  pub within : IsWithinShape s answer
   pub no_successors : s.successors ≡ 0
   pub gives : GivesAnswer m s known operands i answer
 

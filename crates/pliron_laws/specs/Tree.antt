@@ -1,6 +1,6 @@
 -- Operations, blocks and regions of a tree, each as one record, and the shape of an operation.
 pub use Rattle.pliron_core.specs.Tree.{Tree}
-use Rattle.std.specs.Prelude.{ℕ, Bool, true, false, List, [], ◌∷◌, Option, Some, None, map, length}
+use Rattle.std.specs.Prelude.{ℕ, Bool, true, false, nat_eq, ◌&&◌, List, [], ◌∷◌, Option, Some, None, map, length}
 use Rattle.pliron_core.specs.Tree.{head_of, operands_of, successors_of, results_of, regions_of, parent_of, arguments_of, body_of, block_parent_of, layout_of, region_parent_of}
 use Rattle.pliron_laws.specs.Datum.{Head, Shape, Meaning}
 
@@ -75,3 +75,7 @@ shape_of m t o = record {
   entry_arguments = map (λ r. count_arguments (entry_block t r)) o.regions;
   target_arguments = unless (m.is_branch o.head) (map (λ b. count_arguments (block_at t b)) o.successors);
 }
+
+-- whether they are the same handle
+abbrev pub is_one_key : ℕ → ℕ → Bool
+is_one_key x y = nat_eq x y && true

@@ -1,6 +1,6 @@
 //! Bodies, and their labels and statements, each in brackets. `|` stands for the end of a line.
 use crate::lines::{in_one_line, with_lines};
-use pliron_text_llvm_syntax::{Line, split_lines};
+use pliron_text_llvm_syntax::{LineText, split_lines};
 use std::alloc::Global;
 use std::process::Abort;
 
@@ -34,7 +34,7 @@ orders of uses -- ret void|  uselistorder i32 %x, { 1, 0 } => [ret void][uselist
 fn lines_of(rt: &impl Abort, alloc: Global, text: &[u8]) -> String {
     let mut out = String::new(alloc);
     let mut open = Vec::new(alloc);
-    let mut lines: Vec<Line> = Vec::new(alloc);
+    let mut lines: Vec<LineText> = Vec::new(alloc);
     split_lines(text, 0, &mut open, &mut lines)
         .ok()
         .expect(rt, "lines");

@@ -1,6 +1,6 @@
 //! Broken modules, with line, column and what was expected there. `|` stands for the end of a line.
 use crate::lines::with_lines;
-use pliron_text_llvm_syntax::{Fault, split_text};
+use pliron_text_llvm_syntax::{LlvmFault, split_text};
 use pliron_text_mlir_syntax::position_of;
 use std::alloc::Global;
 use std::process::Abort;
@@ -8,12 +8,12 @@ use std::process::Abort;
 // The place where the text is broken, and what was expected there.
 fn fault_of(rt: &impl Abort, alloc: Global, text: &str) -> String {
     match split_text(alloc, text.as_bytes()) {
-        Err(Fault::Expected(at, expected)) => {
+        Err(LlvmFault::Expected(at, expected)) => {
             let place = position_of(text.as_bytes(), at);
             let (line, column) = (place.line, place.column);
             format!(in alloc; "{line}:{column} {expected}").expect(rt, "memory")
         }
-        Err(Fault::NoMemory) => format!(in alloc; "memory").expect(rt, "memory"),
+        Err(LlvmFault::NoMemory) => format!(in alloc; "memory").expect(rt, "memory"),
         Ok(_) => format!(in alloc; "read").expect(rt, "memory"),
     }
 }

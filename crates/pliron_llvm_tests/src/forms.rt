@@ -1,5 +1,5 @@
 //! Forms, cut and filled. `_` stands for an operand, `^` for a successor.
-use pliron_text_llvm_syntax::{Hole, HoleKind, Span, are_holes, cut, fill, is_mark, num_mark};
+use pliron_text_llvm_syntax::{ByteSpan, Hole, HoleKind, are_holes, cut, fill, is_mark, num_mark};
 use std::alloc::Global;
 use std::process::Abort;
 
@@ -8,15 +8,15 @@ static STATEMENT: &str = "br i1 %c, label %a, label %b";
 static HOLES: [Hole; 3] = [
     Hole {
         kind: HoleKind::Operand,
-        span: Span { start: 6, end: 8 },
+        span: ByteSpan { start: 6, end: 8 },
     },
     Hole {
         kind: HoleKind::Successor,
-        span: Span { start: 16, end: 18 },
+        span: ByteSpan { start: 16, end: 18 },
     },
     Hole {
         kind: HoleKind::Successor,
-        span: Span { start: 26, end: 28 },
+        span: ByteSpan { start: 26, end: 28 },
     },
 ];
 

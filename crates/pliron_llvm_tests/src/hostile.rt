@@ -1,5 +1,5 @@
 //! Large and awkward modules.
-use pliron_text_llvm_syntax::{Expected, Fault, Part, split_text};
+use pliron_text_llvm_syntax::{ExpectedSyntax, LlvmFault, ModulePart, split_text};
 use std::alloc::Global;
 use std::process::Abort;
 
@@ -28,7 +28,7 @@ fn refuses_a_million_open_brackets_at_the_end(rt: HostRuntime) {
     let mut text = Vec::new(rt.alloc());
     repeat(&rt, b"<", 1_000_000, &mut text);
     let found = split_text(rt.alloc(), &text).err();
-    assert!(rt; found == Some(Fault::Expected(1_000_000, Expected::CloseAngle)));
+    assert!(rt; found == Some(LlvmFault::Expected(1_000_000, ExpectedSyntax::CloseAngle)));
 }
 
 #[test]
@@ -60,6 +60,6 @@ fn takes_bytes_that_are_no_text(rt: HostRuntime) {
     let parts = split_text(rt.alloc(), text).ok().expect(&rt, "parts");
     assert_eq!(rt; parts.len(), 1);
     for part in &parts {
-        assert!(rt; matches!(part, Part::Raw(span) if span.end == text.len()));
+        assert!(rt; matches!(part, ModulePart::Raw(span) if span.end == text.len()));
     }
 }

@@ -14,6 +14,8 @@ mod hostile;
 #[cfg(test)]
 mod lines;
 #[cfg(test)]
+mod names;
+#[cfg(test)]
 mod parts;
 #[cfg(test)]
 mod readings;

@@ -1,6 +1,6 @@
 //! Parts of modules. `|` stands for the end of a line.
 use crate::lines::{in_one_line, with_lines};
-use pliron_text_llvm_syntax::{Part, Span, join_parts, split_text};
+use pliron_text_llvm_syntax::{ByteSpan, ModulePart, join_parts, split_text};
 use std::alloc::Global;
 use std::process::Abort;
 
@@ -40,17 +40,17 @@ two functions on a line -- define void @f() { ret void } define void @g() { ret 
 no blank between functions -- define void @f() { ret void }define void @g() { ret void } => \
     [@f () { ret void }][@g () { ret void }]";
 
-fn push_span(rt: &impl Abort, alloc: Global, text: &str, span: Span, out: &mut String) {
+fn push_span(rt: &impl Abort, alloc: Global, text: &str, span: ByteSpan, out: &mut String) {
     let bytes = text.as_bytes().get(span.start..span.end).unwrap_or(b"?");
     let line = in_one_line(alloc, bytes).expect(rt, "memory");
     out.push_str(line.as_str()).expect(rt, "memory");
 }
 
-fn push_part(rt: &impl Abort, alloc: Global, text: &str, part: Part, out: &mut String) {
+fn push_part(rt: &impl Abort, alloc: Global, text: &str, part: ModulePart, out: &mut String) {
     out.push_str("[").expect(rt, "memory");
     match part {
-        Part::Raw(span) => push_span(rt, alloc, text, span, out),
-        Part::Function(function) => {
+        ModulePart::Raw(span) => push_span(rt, alloc, text, span, out),
+        ModulePart::Function(function) => {
             push_span(rt, alloc, text, function.name, out);
             out.push_str(" ").expect(rt, "memory");
             push_span(rt, alloc, text, function.parameters, out);
@@ -61,7 +61,7 @@ fn push_part(rt: &impl Abort, alloc: Global, text: &str, part: Part, out: &mut S
     out.push_str("]").expect(rt, "memory");
 }
 
-fn push_parts(rt: &impl Abort, alloc: Global, text: &str, parts: &[Part], out: &mut String) {
+fn push_parts(rt: &impl Abort, alloc: Global, text: &str, parts: &[ModulePart], out: &mut String) {
     for part in parts {
         push_part(rt, alloc, text, *part, out);
     }

@@ -1,6 +1,6 @@
 //! Bodies as they are read: lines, blocks, and where reading stops.
-use pliron_text_llvm_reader::{Body, BodyStop, read_body};
-use pliron_text_llvm_syntax::Span;
+use pliron_text_llvm_reader::{BodyStop, FunctionBody, read_body};
+use pliron_text_llvm_syntax::ByteSpan;
 use std::alloc::Global;
 use std::process::Abort;
 
@@ -18,7 +18,7 @@ an unknown word -- br label %a /a: / frobnicate i32 1 / ret void / => at 36: an 
 a broken word -- br label %a /a: / ~ / ret void / => broken";
 
 // What was read.
-fn counted(rt: &impl Abort, alloc: Global, body: &Body) -> String {
+fn counted(rt: &impl Abort, alloc: Global, body: &FunctionBody) -> String {
     let lines = body.lines.len();
     let holes = body.holes.len();
     let blocks = body.blocks.len();
@@ -49,7 +49,7 @@ fn reading_of(rt: &impl Abort, alloc: Global, body: &str) -> String {
     }
     let end = text.len();
     text.push('}').expect(rt, "memory");
-    let inside = Span { start: 18, end };
+    let inside = ByteSpan { start: 18, end };
     assert!(rt; inside.start <= inside.end, "a body");
     match read_body(alloc, text.as_bytes(), inside) {
         Ok(body) => counted(rt, alloc, &body),

@@ -1,5 +1,5 @@
 //! Statements by themselves: what is read of each. `_` stands for an operand, `^` for a successor.
-use pliron_text_llvm_reader::{Statement, StatementRoom, Stop, read_statement};
+use pliron_text_llvm_reader::{Statement, StatementRoom, StatementStop, read_statement};
 use pliron_text_llvm_syntax::{Hole, are_holes, cut};
 use std::alloc::Global;
 use std::process::Abort;
@@ -125,8 +125,8 @@ fn reading_of(rt: &impl Abort, alloc: Global, text: &[u8]) -> String {
     let mut holes = Vec::new(alloc);
     match read_statement(text, 0, &mut room, &mut holes) {
         Ok(statement) => described(rt, alloc, text, &statement, &holes),
-        Err(Stop::Kept(reason)) => format!(in alloc; "{reason}").expect(rt, "memory"),
-        Err(Stop::Broken(_)) => format!(in alloc; "broken").expect(rt, "memory"),
+        Err(StatementStop::Kept(reason)) => format!(in alloc; "{reason}").expect(rt, "memory"),
+        Err(StatementStop::Broken(_)) => format!(in alloc; "broken").expect(rt, "memory"),
     }
 }
 

@@ -1,5 +1,5 @@
 //! Tokens, by LLVM's lexer: a text a line, and what its tokens are.
-use pliron_text_llvm_syntax::{Token, TokenKind, bytes_of, token_at};
+use pliron_text_llvm_syntax::{LlvmToken, TokenKind, bytes_of, token_at};
 use std::alloc::Global;
 use std::process::Abort;
 
@@ -38,7 +38,7 @@ fn name_of(kind: TokenKind) -> &'static str {
     }
 }
 
-fn write_token(rt: &impl Abort, text: &[u8], token: &Token, out: &mut String) {
+fn write_token(rt: &impl Abort, text: &[u8], token: &LlvmToken, out: &mut String) {
     if token.kind == TokenKind::Trivia {
         return;
     }

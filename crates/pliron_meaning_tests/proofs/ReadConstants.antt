@@ -11,7 +11,7 @@ use Rattle.pliron_laws.specs.Datum.{Datum, datum_of, Empty, Meaning, Give}
 use Rattle.pliron_laws.specs.Tree.{Operation, op_at, shape_of}
 use Rattle.pliron_theory.specs.Keeps.{IsFit}
 use Rattle.pliron_theory.specs.Renaming.{IsReadAs}
-use Rattle.pliron_evaluator.specs.Tiny.{first_attribute, kind_of, tiny_act_of, tiny}
+use Rattle.pliron_evaluator.specs.Tiny.{first_attribute, tiny_kind_of, tiny_act_of, tiny}
 use Rattle.pliron_evaluator.specs.declared.tiny.TinyKind.TheVariants.{Const}
 use Rattle.pliron_laws.proofs.Records.{op_shows}
 use Rattle.pliron_theory.proofs.ConstantData.{read_constant}
@@ -34,7 +34,7 @@ one_item (x ∷ []) v e f = ap (λ z. z ∷ []) (some_is f)
 one_item (x ∷ y ∷ xs) v e f = grind arith
 
 -- the result of a constant of the tiny dialect
-pub tiny_read : (t : Tree) (op v : ℕ) (head : Head) (c : Datum) → IsTree t → head_of t op ≡ Some head → kind_of head.kind ≡ Some Const → datum_of (first_attribute head.attrs) ≡ c → length (results_of t op) ≡ 1 → length (operands_of t op) ≡ 0 → length (regions_of t op) ≡ 0 → slice_get (results_of t op) 0 ≡ Some v → (root : ℕ) → IsFit tiny t root → IsReadAs tiny t v c root
+pub tiny_read : (t : Tree) (op v : ℕ) (head : Head) (c : Datum) → IsTree t → head_of t op ≡ Some head → tiny_kind_of head.kind ≡ Some Const → datum_of (first_attribute head.attrs) ≡ c → length (results_of t op) ≡ 1 → length (operands_of t op) ≡ 0 → length (regions_of t op) ≡ 0 → slice_get (results_of t op) 0 ≡ Some v → (root : ℕ) → IsFit tiny t root → IsReadAs tiny t v c root
 unfolding tiny shape_of
 tiny_read t op v head c w at kind datum results operands regions first root f =
     read_constant tiny t op v c w (record { results = one_item (results_of t op) v results first; operands = no_items (operands_of t op) operands; regions = no_items (regions_of t op) regions; gives = gives }) root f
@@ -42,4 +42,4 @@ tiny_read t op v head c w at kind datum results operands regions first root f =
     gives : (o : Operation) → op_at t op ≡ Some o → tiny.act (shape_of tiny t o) Empty [] ≡ Give (c ∷ [])
     gives o e =
         let same : o.head ≡ head = some_is (sym (op_shows t op o e).head ∙ at) in
-        ap (λ k. tiny_act_of k (shape_of tiny t o) Empty []) (ap (λ h. kind_of h.kind) same ∙ kind) ∙ ap (λ h. Give (datum_of (first_attribute h.attrs) ∷ [])) same ∙ ap (λ d. Give (d ∷ [])) datum
+        ap (λ k. tiny_act_of k (shape_of tiny t o) Empty []) (ap (λ h. tiny_kind_of h.kind) same ∙ kind) ∙ ap (λ h. Give (datum_of (first_attribute h.attrs) ∷ [])) same ∙ ap (λ d. Give (d ∷ [])) datum

@@ -7,7 +7,7 @@ use pliron_test_cases::bench::{Bench, BenchKind};
 use pliron_test_cases::cases::{
     all_known, fields, known_operand, line, number, operation_at, read,
 };
-use pliron_test_cases::listener::Counting;
+use pliron_test_cases::listener::CountingListener;
 use pliron_test_cases::trees::build;
 use pliron_test_cases::{BlockArgRemoval, ConstFoldInterface, Dialect, SideEffects};
 use std::alloc::Global;
@@ -192,7 +192,7 @@ fn fold_in_place(
     assert!(rt; Bench::folds(op, ctx));
     assert!(rt; op.num_operand(ctx) == operands.len());
     assert!(rt; op.get_parent_block(ctx).is_some());
-    let mut rewriter = Counting::new();
+    let mut rewriter = CountingListener::new();
     rewriter.set_insertion_point_before_operation(op);
     let operands = operands.as_slice();
     let status = <Bench as ConstFoldInterface>::fold_in_place(

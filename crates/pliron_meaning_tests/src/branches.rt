@@ -4,7 +4,7 @@ use crate::questions::{Question, check_table, operation_in};
 use pliron_core::{AttrObj, BasicBlock, Context, IRStatus, Operation, Ptr, Rewriter};
 use pliron_test_cases::bench::Bench;
 use pliron_test_cases::cases::{all_known, fields, line, number, operation_at, read};
-use pliron_test_cases::listener::Counting;
+use pliron_test_cases::listener::CountingListener;
 use pliron_test_cases::losses::{lose, lose_along};
 use pliron_test_cases::{BranchOpFoldInterface, Dialect};
 use std::alloc::Global;
@@ -98,7 +98,7 @@ fn fold_in_place(
     assert!(rt; Bench::folds_branch(op, ctx));
     assert!(rt; op.num_operand(ctx) == operands.len());
     assert!(rt; op.get_parent_block(ctx).is_some());
-    let mut rewriter = Counting::new();
+    let mut rewriter = CountingListener::new();
     rewriter.set_insertion_point_before_operation(op);
     let status = <Bench as BranchOpFoldInterface>::fold_in_place(
         alloc,

@@ -2,7 +2,7 @@
 use crate::notation::heads;
 use crate::{argument_values, bench, branches, tiny};
 use pliron_core::{Context, Operation, Ptr};
-use pliron_test_cases::cases::{Row, operation_at, read, row_of};
+use pliron_test_cases::cases::{CaseRow, operation_at, read, row_of};
 use std::alloc::Global;
 use std::process::Abort;
 
@@ -72,12 +72,12 @@ fn answer(
     }
 }
 
-fn check_in(rt: &impl Abort, alloc: Global, ctx: &mut Context, question: Question, row: &Row) {
+fn check_in(rt: &impl Abort, alloc: Global, ctx: &mut Context, question: Question, row: &CaseRow) {
     let answer = answer(rt, alloc, ctx, question, row.asked);
     assert_eq!(rt; answer.as_str(), row.want, "{}", row.name);
 }
 
-fn check_row(rt: &impl Abort, alloc: Global, question: Question, row: &Row) {
+fn check_row(rt: &impl Abort, alloc: Global, question: Question, row: &CaseRow) {
     let mut ctx = Context::new(alloc);
     check_in(rt, alloc, &mut ctx, question, row)
 }

@@ -2,7 +2,7 @@
 ghost use Rattle.std.specs.Prelude.{◌≡◌, Some, IsTrue};
 ghost use Rattle.pliron_core.specs.declared.attrs.AttrObj.TheVariants.{Int};
 ghost use Rattle.pliron_core.specs.Tree.{IsLive, head_of};
-ghost use Rattle.pliron_evaluator.specs.Tiny.{kind_of, first_attribute};
+ghost use Rattle.pliron_evaluator.specs.Tiny.{tiny_kind_of, first_attribute};
 ghost use Rattle.pliron_evaluator.specs.declared.tiny.TinyKind.TheVariants.{Const};
 ghost use Rattle.pliron_laws.specs.Datum.{Head};
 
@@ -11,7 +11,7 @@ use pliron_core::{AttrObj, BasicBlock, Context, IRStatus, Operation, Ptr};
 use pliron_laws::is_well_linked;
 use pliron_pass_rewrites::{is_defined_inside, replace_by_constant_inside};
 use pliron_test_cases::evaluator::{Datum, Sight, evaluate};
-use pliron_test_cases::listener::Counting;
+use pliron_test_cases::listener::CountingListener;
 use pliron_test_cases::rewrites::{
     erase_unused, replace_argument_by_constant, replace_result_by_constant,
 };
@@ -33,7 +33,7 @@ fn sight_of_root(rt: &impl Abort, alloc: Global, ctx: &Context, root: Ptr<Operat
 // Whether the operation is a constant of this number.
 fn makes(ctx: &Context, op: Ptr<Operation>, number: i128) -> bool
     requires { IsLive ctx.now.tree op }
-    ensures { (h : Head) → head_of ctx.now.tree op ≡ Some h → IsTrue result → (kind_of h.kind ≡ Some Const)
+    ensures { (h : Head) → head_of ctx.now.tree op ≡ Some h → IsTrue result → (tiny_kind_of h.kind ≡ Some Const)
         × (first_attribute h.attrs ≡ Int number) }
 {
     let head = op.head(ctx);
@@ -50,8 +50,10 @@ fn erase<D: Dialect>(
 ) -> IRStatus {
     assert!(rt; op.is_live(ctx));
     assert!(rt; op.is_self_contained(ctx));
-    let mut rewriter = Counting::new();
-    let status = erase_unused::<D, Counting>(alloc, op, ctx, &mut rewriter).expect(rt, "memory");
+    let mut rewriter = CountingListener::new();
+    let status = erase_unused::<D, CountingListener>(alloc, op, ctx, &mut rewriter).expect(
+        rt, "memory",
+    );
     assert!(rt; rewriter.had_room());
     status
 }
@@ -72,8 +74,8 @@ fn replace_result(
     assert!(rt; op.num_region(ctx) == 0);
     ctx.well_formed();
     let attr = AttrObj::Int(number);
-    let mut rewriter = Counting::new();
-    let status = replace_result_by_constant::<Tiny, Counting>(
+    let mut rewriter = CountingListener::new();
+    let status = replace_result_by_constant::<Tiny, CountingListener>(
         alloc,
         op,
         0,
@@ -98,8 +100,8 @@ fn replace_argument<D: Dialect>(
     assert!(rt; body.get_argument(ctx, 0).num_use(ctx) == 0);
     ctx.well_formed();
     let attr = AttrObj::Int(number);
-    let mut rewriter = Counting::new();
-    let status = replace_argument_by_constant::<D, Counting>(
+    let mut rewriter = CountingListener::new();
+    let status = replace_argument_by_constant::<D, CountingListener>(
         alloc,
         body,
         0,
@@ -130,8 +132,8 @@ fn replace_inside<D: Dialect>(
     assert!(rt; argument.num_use(ctx) == 0);
     ctx.well_formed();
     let attr = AttrObj::Int(number);
-    let mut rewriter = Counting::new();
-    let status = replace_by_constant_inside::<D, Counting>(
+    let mut rewriter = CountingListener::new();
+    let status = replace_by_constant_inside::<D, CountingListener>(
         alloc,
         holder,
         argument,

@@ -5,7 +5,7 @@
 //! values, and with which effects, the latest first. Data are numbers and texts; `a:b` joins two, and `-` is `Empty`.
 use pliron_core::{AttrObj, Attrs, Context, Head, IRRewriter, Operation, Ptr, Rewriter, Text};
 use pliron_test_cases::bench::Bench;
-use pliron_test_cases::cases::{Row, number, read, row_of};
+use pliron_test_cases::cases::{CaseRow, number, read, row_of};
 use pliron_test_cases::evaluator::{Datum, Sight, evaluate};
 use pliron_test_cases::trees::build;
 use pliron_test_cases::{Tiny, TinyKind};
@@ -201,7 +201,7 @@ enum Subject {
     Bound,
 }
 
-fn check_row(rt: &impl Abort, alloc: Global, ctx: &mut Context, subject: Subject, row: &Row) {
+fn check_row(rt: &impl Abort, alloc: Global, ctx: &mut Context, subject: Subject, row: &CaseRow) {
     let seen = match subject {
         Subject::Text => text_in(rt, alloc, ctx, row.asked),
         Subject::Tree => tree_in(rt, alloc, ctx, row.asked),

@@ -4,7 +4,7 @@ use crate::questions::{Question, check_table};
 use pliron_core::{AttrObj, Context, IRRewriter, IRStatus, Operation, Ptr, Rewriter, Value};
 use pliron_test_cases::answers::{effects, entry_operand_of, interfaces, removable};
 use pliron_test_cases::cases::number;
-use pliron_test_cases::listener::Counting;
+use pliron_test_cases::listener::CountingListener;
 use pliron_test_cases::losses::lose;
 use pliron_test_cases::trees::{TestTree, build, make};
 use pliron_test_cases::{
@@ -139,7 +139,7 @@ fn fold<D: Dialect>(
     assert!(rt; D::folds(op, ctx));
     assert!(rt; op.num_operand(ctx) == 0);
     assert!(rt; op.get_parent_block(ctx).is_some());
-    let mut rewriter = Counting::new();
+    let mut rewriter = CountingListener::new();
     rewriter.set_insertion_point_before_operation(op);
     let status = D::fold_with_materialization(alloc, op, ctx, &[], &mut rewriter).expect(
         rt, "memory",

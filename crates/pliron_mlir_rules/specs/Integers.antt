@@ -27,6 +27,9 @@ bits_below width n bits e = grind (arith, tests, e)
 at_most : (width : ℕ) → is_width width ≡ true → bits_of_width width ≤ 64
 at_most width w = grind (arith, tests, w)
 
+pub some_bits : (width : ℕ) → is_width width ≡ true → 1 ≤ bits_of_width width
+some_bits width w = grind (arith, tests, w)
+
 pub bits_back : (width bits : ℕ) → is_width width ≡ true → bits < 2 ^ bits_of_width width → bits_in width (integer width bits) ≡ Some bits
 bits_back width bits w lt =
     let le : 2 ^ bits_of_width width ≤ 2 ^ 64 = pow_mono (at_most width w) in
@@ -41,6 +44,15 @@ no_zero width = grind (arith, tests)
 
 nothing_said : {A : Type 0} {x : Option ℕ} {n : ℕ} → x ≡ None → x ≡ Some n → A
 nothing_said none some = absurd (not_none (sym none ∙ some))
+
+pub bits_alone : (w a b : ℕ) → integer w a ≡ integer w b → a ≡ b
+bits_alone w a b e =
+    let same : w * 2 ^ 64 + a ≡ w * 2 ^ 64 + b = ap size_of e in
+    omega (arith, same)
+  where
+    size_of : Datum → ℕ
+    size_of (Number (pos n)) = n
+    size_of d = 0
 
 -- an integer of a width, by its bits
 pub is_integer : (width : ℕ) (d : Datum) (n : ℕ) → bits_in width d ≡ Some n → d ≡ integer width n

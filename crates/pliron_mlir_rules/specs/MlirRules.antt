@@ -1,17 +1,20 @@
 -- Rules on integers, as a table from views to terms.
-use Rattle.std.specs.Prelude.{if◌then◌else◌, nat_eq, nat_lt, not, ℕ, ◌^◌, Bool, true, false, ◌&&◌, List, [], ◌∷◌, Option, Some, None, ℤ, pos}
+use Rattle.std.specs.Prelude.{if◌then◌else◌, nat_eq, nat_lt, not, ℕ, ◌+◌, ◌-◌, ◌%◌, ◌^◌, Bool, true, false, ◌&&◌, List, [], ◌∷◌, Option, Some, None, ℤ, pos}
 use Rattle.std.specs.Option.{option_or}
 use Rattle.pliron_core.specs.declared.attrs.AttrObj.{AttrObj}
 use Rattle.pliron_core.specs.declared.attrs.AttrObj.TheVariants.{Int, Text}
 use Rattle.pliron_core.specs.declared.attrs.Head.{Head}
 use Rattle.pliron_bits.specs.declared.flags.Flags.{Flags}
+use Rattle.pliron_bits.specs.declared.operators.BinaryOperator.TheVariants.{Add, Subtract, And, Xor}
 use Rattle.pliron_bits.specs.declared.operators.Predicate.{Predicate}
 use Rattle.pliron_bits.specs.declared.operators.Predicate.TheVariants.{Equal, NotEqual, SignedLess, SignedLessEqual, SignedGreater, SignedGreaterEqual, UnsignedLess, UnsignedLessEqual, UnsignedGreater, UnsignedGreaterEqual}
-use Rattle.pliron_bits.specs.declared.operators.Cast.TheVariants.{ZeroExtend, Truncate}
+use Rattle.pliron_bits.specs.declared.operators.Cast.{Cast}
+use Rattle.pliron_bits.specs.declared.operators.Cast.TheVariants.{ZeroExtend, SignExtend, Truncate}
 use Rattle.pliron_dialect_mlir.specs.declared.computations.Comparison.{Comparison}
+use Rattle.pliron_dialect_mlir.specs.declared.computations.Arithmetic.{Arithmetic}
 use Rattle.pliron_dialect_mlir.specs.declared.computations.Conversion.{Conversion}
 use Rattle.pliron_dialect_mlir.specs.Data.{bits_of_width, number, bits_at, some_if}
-use Rattle.pliron_dialect_mlir.specs.Computations.{comparison_of, conversion_of, head_of_comparison, head_of_conversion}
+use Rattle.pliron_dialect_mlir.specs.Computations.{comparison_of, conversion_of, arithmetic_of, head_of_comparison, head_of_conversion, head_of_arithmetic}
 use Rattle.pliron_rewrite_rules.specs.declared.view.Leaf.{Leaf}
 use Rattle.pliron_rewrite_rules.specs.declared.view.Leaf.TheVariants.{Unknown, Known}
 use Rattle.pliron_rewrite_rules.specs.declared.view.Operand.{Operand}
@@ -21,8 +24,9 @@ use Rattle.pliron_rewrite_rules.specs.declared.term.Atom.{Atom}
 use Rattle.pliron_rewrite_rules.specs.declared.term.Atom.TheVariants.{Named, Constant}
 use Rattle.pliron_rewrite_rules.specs.declared.term.Term.{Term}
 use Rattle.pliron_rewrite_rules.specs.declared.term.Term.TheVariants.{Atomic, Make}
-use Rattle.pliron_rewrite_rules.specs.Views.{leaf_value}
-use Rattle.pliron_mlir_rules.specs.declared.Narrow.{Narrow}
+use Rattle.pliron_rewrite_rules.specs.Views.{leaf_value, operand_value}
+use Rattle.pliron_mlir_rules.specs.declared.seen.CastSource.{CastSource}
+use Rattle.pliron_mlir_rules.specs.declared.sums.ConstantSum.{ConstantSum}
 
 -- ---- what is seen of an operand
 
@@ -39,18 +43,20 @@ abbrev pub known_bits : (width : ℕ) → Operand → Option ℕ
 known_bits width (Plain leaf) = leaf_bits width leaf
 known_bits width (Made v head leaves) = None
 
--- whether the cast is to this width from one with fewer bits, and takes negative numbers
-abbrev pub is_plain_extension : (to : ℕ) → Conversion → Bool
-is_plain_extension to c = nat_eq c.to to && (nat_lt (bits_of_width c.width) (bits_of_width to) && not c.flags.nonnegative)
+-- whether the cast has more bits, or fewer, as its name says, and promises nothing
+abbrev pub is_plain_cast : Cast → Conversion → Bool
+is_plain_cast ZeroExtend c = nat_lt (bits_of_width c.width) (bits_of_width c.to) && not c.flags.nonnegative
+is_plain_cast SignExtend c = nat_lt (bits_of_width c.width) (bits_of_width c.to)
+is_plain_cast Truncate c = nat_lt (bits_of_width c.to) (bits_of_width c.width) && (not c.flags.no_signed_wrap && not c.flags.no_unsigned_wrap)
 
-abbrev pub narrow_leaf : (to : ℕ) → Option Conversion → List Leaf → Option Narrow
-narrow_leaf to (Some c) (leaf ∷ []) = some_if (is_plain_extension to c) (record { value = leaf_value leaf; width = c.width })
-narrow_leaf to _ _ = None
+abbrev pub source_leaf : Cast → (to : ℕ) → Option Conversion → List Leaf → Option CastSource
+source_leaf cast to (Some c) (leaf ∷ []) = some_if (nat_eq c.to to && is_plain_cast cast c) (record { value = leaf_value leaf; width = c.width })
+source_leaf cast to _ _ = None
 
--- what the operand is the zero extension of, to this width
-abbrev pub narrow_source : (to : ℕ) → Operand → Option Narrow
-narrow_source to (Plain leaf) = None
-narrow_source to (Made v head leaves) = narrow_leaf to (conversion_of ZeroExtend head) leaves
+-- the value that the operand casts to this width
+abbrev pub source_of : Cast → (to : ℕ) → Operand → Option CastSource
+source_of cast to (Plain leaf) = None
+source_of cast to (Made v head leaves) = source_leaf cast to (conversion_of cast head) leaves
 
 -- ---- comparisons of zero extensions
 
@@ -68,72 +74,189 @@ unsigned_of UnsignedGreater = UnsignedGreater
 unsigned_of UnsignedGreaterEqual = UnsignedGreaterEqual
 
 -- the value of this width; the number that it holds, as one of it
-abbrev pub of_width : (width : ℕ) → Option Narrow → Option Atom
+abbrev pub of_width : (width : ℕ) → Option CastSource → Option Atom
 of_width width (Some n) = some_if (nat_eq n.width width) (Named n.value)
 of_width width None = None
 
-abbrev pub fitting : (width : ℕ) → Option ℕ → Option Atom
-fitting width (Some bits) = some_if (nat_lt bits (2 ^ bits_of_width width)) (Constant (Int (number width bits)))
-fitting width None = None
+abbrev pub fitting_constant : (width : ℕ) → Option ℕ → Option Atom
+fitting_constant width (Some bits) = some_if (nat_lt bits (2 ^ bits_of_width width)) (Constant (Int (number width bits)))
+fitting_constant width None = None
 
 -- what the operand of the width `to` is the zero extension of
 abbrev pub narrow_atom : (width to : ℕ) → Operand → Option Atom
-narrow_atom width to b = option_or (of_width width (narrow_source to b)) (fitting width (known_bits to b))
+narrow_atom width to b = option_or (of_width width (source_of ZeroExtend to b)) (fitting_constant width (known_bits to b))
 
-abbrev pub narrow_comparison : Comparison → Narrow → Atom → Term
+abbrev pub narrow_comparison : Comparison → CastSource → Atom → Term
 narrow_comparison c a b = Make (head_of_comparison (record { width = a.width; predicate = unsigned_of c.predicate })) (Named a.value ∷ b ∷ [])
 
-abbrev pub comparison_with : Comparison → Narrow → Option Atom → Option Term
-comparison_with c a (Some b) = Some (narrow_comparison c a b)
-comparison_with c a None = None
+abbrev pub comparison_term : Comparison → CastSource → Option Atom → Option Term
+comparison_term c a (Some b) = Some (narrow_comparison c a b)
+comparison_term c a None = None
 
-abbrev pub comparison_from : Comparison → Option Narrow → Operand → Option Term
-comparison_from c (Some a) b = comparison_with c a (narrow_atom a.width c.width b)
+abbrev pub comparison_from : Comparison → Option CastSource → Operand → Option Term
+comparison_from c (Some a) b = comparison_term c a (narrow_atom a.width c.width b)
 comparison_from c None b = None
 
 -- `icmp p (zext a) (zext b)`, or a constant in the place of the latter, is `icmp p a b`, without signs
 abbrev pub compare_narrow : Option Comparison → (a b : Operand) → Option Term
-compare_narrow (Some c) a b = comparison_from c (narrow_source c.width a) b
+compare_narrow (Some c) a b = comparison_from c (source_of ZeroExtend c.width a) b
 compare_narrow None a b = None
 
--- ---- casts of zero extensions
+-- ---- casts of casts
+
+-- the cast that two in a row are, from so many bits to so many, where it is one
+abbrev pub joined_cast : (first second : Cast) → (from to : ℕ) → Option Cast
+joined_cast ZeroExtend ZeroExtend from to = Some ZeroExtend
+joined_cast ZeroExtend SignExtend from to = Some ZeroExtend
+joined_cast ZeroExtend Truncate from to = Some (if nat_lt from to then ZeroExtend else Truncate)
+joined_cast SignExtend ZeroExtend from to = None
+joined_cast SignExtend SignExtend from to = Some SignExtend
+joined_cast SignExtend Truncate from to = Some (if nat_lt from to then SignExtend else Truncate)
+joined_cast Truncate ZeroExtend from to = None
+joined_cast Truncate SignExtend from to = None
+joined_cast Truncate Truncate from to = Some Truncate
 
 abbrev pub no_flags : Flags
 no_flags = record { no_signed_wrap = false; no_unsigned_wrap = false; exact = false; disjoint = false; nonnegative = false }
 
-abbrev pub extension_to : (to : ℕ) → Narrow → Term
-extension_to to n = Make (head_of_conversion ZeroExtend (record { width = n.width; to = to; flags = no_flags })) (Named n.value ∷ [])
+abbrev pub plain_cast : (width to : ℕ) → Conversion
+plain_cast width to = record { width = width; to = to; flags = no_flags }
 
-abbrev pub extension_from : Conversion → Option Narrow → Option Term
-extension_from c (Some n) = some_if (is_plain_extension c.to c) (extension_to c.to n)
-extension_from c None = None
+-- this cast of the source: itself, where it has the width
+abbrev pub cast_term : Option Cast → CastSource → (to : ℕ) → Option Term
+cast_term (Some cast) s to =
+    if nat_eq s.width to
+    then Some (Atomic (Named s.value))
+    else some_if (is_plain_cast cast (plain_cast s.width to)) (Make (head_of_conversion cast (plain_cast s.width to)) (Named s.value ∷ []))
+cast_term None s to = None
 
--- `zext (zext a)` is `zext a`
-abbrev pub extend_narrow : Option Conversion → (a : Operand) → Option Term
-extend_narrow (Some c) a = extension_from c (narrow_source c.width a)
-extend_narrow None a = None
+abbrev pub joined_term : (first second : Cast) → Conversion → Option CastSource → Option Term
+joined_term first second c (Some s) = cast_term (joined_cast first second (bits_of_width s.width) (bits_of_width c.to)) s c.to
+joined_term first second c None = None
 
-abbrev pub is_plain_truncation : Conversion → Narrow → Bool
-is_plain_truncation c n = nat_eq n.width c.to && (not c.flags.no_signed_wrap && not c.flags.no_unsigned_wrap)
+abbrev pub join_cast : (first second : Cast) → Conversion → (a : Operand) → Option Term
+join_cast first second c a = joined_term first second c (source_of first c.width a)
 
-abbrev pub truncation_from : Conversion → Option Narrow → Option Term
-truncation_from c (Some n) = some_if (is_plain_truncation c n) (Atomic (Named n.value))
-truncation_from c None = None
+-- a cast of a cast is one cast
+abbrev pub join_casts : Cast → Option Conversion → (a : Operand) → Option Term
+join_casts second (Some c) a =
+    if is_plain_cast second c
+    then option_or (join_cast ZeroExtend second c a) (option_or (join_cast SignExtend second c a) (join_cast Truncate second c a))
+    else None
+join_casts second None a = None
 
--- `trunc (zext a)` is `a`, where it has the width of `a`
-abbrev pub truncate_narrow : Option Conversion → (a : Operand) → Option Term
-truncate_narrow (Some c) a = truncation_from c (narrow_source c.width a)
-truncate_narrow None a = None
+-- ---- masks
+
+-- the low bits of the source, so many as the width between has
+abbrev pub mask_term : Conversion → Option CastSource → Option Term
+mask_term c (Some s) =
+    some_if (nat_eq s.width c.to)
+    (Make (head_of_arithmetic And (record { width = s.width; flags = no_flags })) (Named s.value ∷ Constant (Int (number s.width (2 ^ bits_of_width c.width - 1))) ∷ []))
+mask_term c None = None
+
+-- `zext (trunc x)`, where it has the width of `x`, is `x & mask`
+abbrev pub mask_bits : Option Conversion → (a : Operand) → Option Term
+mask_bits (Some c) a = if is_plain_cast ZeroExtend c then mask_term c (source_of Truncate c.width a) else None
+mask_bits None a = None
+
+-- ---- sums with constants
+
+-- a promise of signs, or none
+abbrev pub if_signed : Bool → Flags
+if_signed b = record { no_signed_wrap = b; no_unsigned_wrap = false; exact = false; disjoint = false; nonnegative = false }
+
+abbrev pub sum_with : (width : ℕ) → Bool → (value c : ℕ) → Term
+sum_with width signed value c = Make (head_of_arithmetic Add (record { width = width; flags = if_signed signed })) (Named value ∷ Constant (Int (number width c)) ∷ [])
+
+-- whether adding -c promises of signs what subtracting c does
+abbrev pub may_negate : Arithmetic → (c : ℕ) → Bool
+may_negate s c = nat_lt 0 c && (not s.flags.no_unsigned_wrap && not (s.flags.no_signed_wrap && nat_eq c (2 ^ (bits_of_width s.width - 1))))
+
+abbrev pub negated_sum : Arithmetic → (value : ℕ) → Option ℕ → Option Term
+negated_sum s value (Some c) = some_if (may_negate s c) (sum_with s.width s.flags.no_signed_wrap value (2 ^ bits_of_width s.width - c))
+negated_sum s value None = None
+
+-- `x - c` is `x + -c`
+abbrev pub subtract_constant : Option Arithmetic → (a b : Operand) → Option Term
+subtract_constant (Some s) a b = negated_sum s (operand_value a) (known_bits s.width b)
+subtract_constant None a b = None
+
+abbrev pub wraps_freely : Flags → Bool
+wraps_freely flags = not flags.no_signed_wrap && not flags.no_unsigned_wrap
+
+abbrev pub summand_with : (value : ℕ) → Option ℕ → Option ConstantSum
+summand_with value (Some c) = Some (record { value = value; constant = c })
+summand_with value None = None
+
+abbrev pub sum_leaves : (width : ℕ) → Option Arithmetic → List Leaf → Option ConstantSum
+sum_leaves width (Some s) (x ∷ c ∷ []) = if nat_eq s.width width && wraps_freely s.flags then summand_with (leaf_value x) (leaf_bits width c) else None
+sum_leaves width _ _ = None
+
+-- the value and the constant that the operand is the sum of, where that may wrap
+abbrev pub constant_sum : (width : ℕ) → Operand → Option ConstantSum
+constant_sum width (Plain leaf) = None
+constant_sum width (Made v head leaves) = sum_leaves width (arithmetic_of Add head) leaves
+
+abbrev pub joined_sum : (width : ℕ) → Option ConstantSum → Option ℕ → Option Term
+joined_sum width (Some t) (Some d) = Some (sum_with width false t.value ((t.constant + d) % 2 ^ bits_of_width width))
+joined_sum width _ _ = None
+
+-- `(x + c) + d` is `x + (c + d)`
+abbrev pub join_sums : Option Arithmetic → (a b : Operand) → Option Term
+join_sums (Some s) a b = if wraps_freely s.flags then joined_sum s.width (constant_sum s.width a) (known_bits s.width b) else None
+join_sums None a b = None
+
+-- ---- inverted comparisons
+
+abbrev pub inverse_of : Predicate → Predicate
+inverse_of Equal = NotEqual
+inverse_of NotEqual = Equal
+inverse_of SignedLess = SignedGreaterEqual
+inverse_of SignedLessEqual = SignedGreater
+inverse_of SignedGreater = SignedLessEqual
+inverse_of SignedGreaterEqual = SignedLess
+inverse_of UnsignedLess = UnsignedGreaterEqual
+inverse_of UnsignedLessEqual = UnsignedGreater
+inverse_of UnsignedGreater = UnsignedLessEqual
+inverse_of UnsignedGreaterEqual = UnsignedLess
+
+abbrev pub inverse_leaves : Option Comparison → List Leaf → Option Term
+inverse_leaves (Some c) (x ∷ y ∷ []) =
+    Some (Make (head_of_comparison (record { width = c.width; predicate = inverse_of c.predicate })) (Named (leaf_value x) ∷ Named (leaf_value y) ∷ []))
+inverse_leaves _ _ = None
+
+-- the inverse of what the operand compares
+abbrev pub inverse_term : Operand → Option Term
+inverse_term (Plain leaf) = None
+inverse_term (Made v head leaves) = inverse_leaves (comparison_of head) leaves
+
+abbrev pub inverse_if : Option ℕ → (a : Operand) → Option Term
+inverse_if (Some k) a = if nat_eq k 1 then inverse_term a else None
+inverse_if None a = None
+
+-- `(icmp p x y) xor true` is `icmp not-p x y`
+abbrev pub invert_comparison : Option Arithmetic → (a b : Operand) → Option Term
+invert_comparison (Some s) a b = if nat_eq s.width 1 then inverse_if (known_bits 1 b) a else None
+invert_comparison None a b = None
 
 -- ---- the rules
 
-abbrev pub rules_of_one : Head → (a : Operand) → Option Term
-rules_of_one head a = option_or (extend_narrow (conversion_of ZeroExtend head) a) (truncate_narrow (conversion_of Truncate head) a)
+abbrev pub rules_of_unary : Head → (a : Operand) → Option Term
+rules_of_unary head a =
+    option_or (join_casts ZeroExtend (conversion_of ZeroExtend head) a)
+    (option_or (join_casts SignExtend (conversion_of SignExtend head) a)
+    (option_or (join_casts Truncate (conversion_of Truncate head) a) (mask_bits (conversion_of ZeroExtend head) a)))
 
-abbrev pub by_operands : Head → List Operand → Option Term
-by_operands head (a ∷ []) = rules_of_one head a
-by_operands head (a ∷ b ∷ []) = compare_narrow (comparison_of head) a b
-by_operands head _ = None
+abbrev pub rules_of_binary : Head → (a b : Operand) → Option Term
+rules_of_binary head a b =
+    option_or (compare_narrow (comparison_of head) a b)
+    (option_or (subtract_constant (arithmetic_of Subtract head) a b)
+    (option_or (join_sums (arithmetic_of Add head) a b) (invert_comparison (arithmetic_of Xor head) a b)))
+
+abbrev pub by_mlir_operands : Head → List Operand → Option Term
+by_mlir_operands head (a ∷ []) = rules_of_unary head a
+by_mlir_operands head (a ∷ b ∷ []) = rules_of_binary head a b
+by_mlir_operands head _ = None
 
 abbrev pub mlir_rules : View → Option Term
-mlir_rules view = by_operands view.head view.operands
+mlir_rules view = by_mlir_operands view.head view.operands

@@ -14,9 +14,10 @@ use Rattle.pliron_bits.specs.Operators.{comparison}
 use Rattle.pliron_dialect_mlir.specs.Data.{is_width, bits_of_width, number, bit}
 use Rattle.pliron_dialect_mlir.specs.IntegerIdentities.{truth_of_equal}
 use Rattle.pliron_dialect_mlir.specs.OtherData.{first_other, passed_on}
-use Rattle.pliron_mlir_rules.specs.Integers.{bits_in, integer, is_integer, below_size, first_is_other, first_is_later, passed_twice, passed_apart, signed_narrow}
-use Rattle.pliron_mlir_rules.specs.Extensions.{extended_integer, extended_other, extended_bits, extended_none}
-use Rattle.pliron_mlir_rules.specs.IntegerActs.{unequal, comparison_result_if, comparison_result, extension_result}
+use Rattle.pliron_mlir_rules.specs.Integers.{bits_in, integer, bits_alone, is_integer, below_size, first_is_other, first_is_later, passed_twice, passed_apart, signed_narrow}
+use Rattle.pliron_bits.specs.declared.operators.Cast.TheVariants.{ZeroExtend}
+use Rattle.pliron_mlir_rules.specs.CastResults.{cast_integer, cast_other, cast_some, cast_none}
+use Rattle.pliron_mlir_rules.specs.IntegerActs.{unequal, comparison_result_if, comparison_result, cast_result}
 use Rattle.pliron_mlir_rules.specs.MlirRules.{unsigned_of}
 use Rattle.pliron_mlir_rules.specs.SameData.{same_decides}
 
@@ -50,63 +51,54 @@ truth_is UnsignedLessEqual = refl
 truth_is UnsignedGreater = refl
 truth_is UnsignedGreaterEqual = refl
 
-bits_alone : (w a b : ℕ) → integer w a ≡ integer w b → a ≡ b
-bits_alone w a b e =
-    let same : w * 2 ^ 64 + a ≡ w * 2 ^ 64 + b = ap size_of e in
-    omega (arith, same)
-  where
-    size_of : Datum → ℕ
-    size_of (Number (pos n)) = n
-    size_of d = 0
-
 -- ---- other data
 
-module _ (width to : ℕ) (is : is_width width ≡ true) (wide : is_width to ≡ true) (less : bits_of_width width < bits_of_width to) where
+module _ (width to : ℕ) (wide : is_width to ≡ true) (less : bits_of_width width < bits_of_width to) where
   -- what extensions tell of what they extend
-  apart : (d e : Datum) → (p q : Option ℕ) → bits_in width d ≡ p → bits_in width e ≡ q → extension_result width to d ≡ extension_result width to e → d ≡ e
-  apart d e None None p q same = passed_apart width to d e p q (sym (extended_other width to is wide less d p) ∙ same ∙ extended_other width to is wide less e q)
-  apart d e None (Some b) p q same = absurd (not_none (sym (extended_none width to is wide less d p) ∙ ap (bits_in to) same ∙ extended_bits width to is wide less e b q))
-  apart d e (Some a) None p q same = absurd (not_none (sym (extended_none width to is wide less e q) ∙ ap (bits_in to) (sym same) ∙ extended_bits width to is wide less d a p))
+  apart : (d e : Datum) → (p q : Option ℕ) → bits_in width d ≡ p → bits_in width e ≡ q → cast_result ZeroExtend width to d ≡ cast_result ZeroExtend width to e → d ≡ e
+  apart d e None None p q same = passed_apart width to d e p q (sym (cast_other ZeroExtend width to wide less d p) ∙ same ∙ cast_other ZeroExtend width to wide less e q)
+  apart d e None (Some b) p q same = absurd (not_none (sym (cast_none ZeroExtend width to wide less d p) ∙ ap (bits_in to) same ∙ cast_some ZeroExtend width to wide less e b q))
+  apart d e (Some a) None p q same = absurd (not_none (sym (cast_none ZeroExtend width to wide less e q) ∙ ap (bits_in to) (sym same) ∙ cast_some ZeroExtend width to wide less d a p))
   apart d e (Some a) (Some b) p q same =
       is_integer width d a p
-      ∙ ap (integer width) (bits_alone to a b (sym (extended_integer width to is wide less d a p) ∙ same ∙ extended_integer width to is wide less e b q))
+      ∙ ap (integer width) (bits_alone to a b (sym (cast_integer ZeroExtend width to wide less d a p) ∙ same ∙ cast_integer ZeroExtend width to wide less e b q))
       ∙ sym (is_integer width e b q)
 
-  same_extended : (d e : Datum) → same_datum (extension_result width to d) (extension_result width to e) ≡ same_datum d e
+  same_extended : (d e : Datum) → same_datum (cast_result ZeroExtend width to d) (cast_result ZeroExtend width to e) ≡ same_datum d e
   same_extended d e =
-      same_from_decides (same_datum (extension_result width to d) (extension_result width to e)) (same_datum d e)
-      (Decides-like (same_datum (extension_result width to d) (extension_result width to e)) (apart d e (bits_in width d) (bits_in width e) refl refl) (ap (extension_result width to)) (same_decides (extension_result width to d) (extension_result width to e)))
+      same_from_decides (same_datum (cast_result ZeroExtend width to d) (cast_result ZeroExtend width to e)) (same_datum d e)
+      (Decides-like (same_datum (cast_result ZeroExtend width to d) (cast_result ZeroExtend width to e)) (apart d e (bits_in width d) (bits_in width e) refl refl) (ap (cast_result ZeroExtend width to)) (same_decides (cast_result ZeroExtend width to d) (cast_result ZeroExtend width to e)))
       (same_decides d e)
 
   -- where the first datum is none of the width, and where the second is
-  first_passes : (d e : Datum) → bits_in width d ≡ None → passed_on to 1 (first_other to (extension_result width to d ∷ e ∷ [])) ≡ passed_on width 1 d
+  first_passes : (d e : Datum) → bits_in width d ≡ None → passed_on to 1 (first_other to (cast_result ZeroExtend width to d ∷ e ∷ [])) ≡ passed_on width 1 d
   first_passes d e none =
-      ap (passed_on to 1) (first_is_other to (extension_result width to d) (e ∷ []) (extended_none width to is wide less d none) ∙ extended_other width to is wide less d none)
+      ap (passed_on to 1) (first_is_other to (cast_result ZeroExtend width to d) (e ∷ []) (cast_none ZeroExtend width to wide less d none) ∙ cast_other ZeroExtend width to wide less d none)
       ∙ passed_twice width to 1 d none
 
-  second_passes : (d e : Datum) (a : ℕ) → bits_in width d ≡ Some a → bits_in width e ≡ None → passed_on to 1 (first_other to (extension_result width to d ∷ extension_result width to e ∷ [])) ≡ passed_on width 1 e
+  second_passes : (d e : Datum) (a : ℕ) → bits_in width d ≡ Some a → bits_in width e ≡ None → passed_on to 1 (first_other to (cast_result ZeroExtend width to d ∷ cast_result ZeroExtend width to e ∷ [])) ≡ passed_on width 1 e
   second_passes d e a some none =
-      ap (passed_on to 1) (first_is_later to (extension_result width to d) (extension_result width to e ∷ []) a (extended_bits width to is wide less d a some) ∙ first_is_other to (extension_result width to e) [] (extended_none width to is wide less e none) ∙ extended_other width to is wide less e none)
+      ap (passed_on to 1) (first_is_later to (cast_result ZeroExtend width to d) (cast_result ZeroExtend width to e ∷ []) a (cast_some ZeroExtend width to wide less d a some) ∙ first_is_other to (cast_result ZeroExtend width to e) [] (cast_none ZeroExtend width to wide less e none) ∙ cast_other ZeroExtend width to wide less e none)
       ∙ passed_twice width to 1 e none
 
-  unequal_narrow : (predicate : Predicate) (d e : Datum) (p q : Option ℕ) → bits_in width d ≡ p → bits_in width e ≡ q → unequal to predicate (bits_in to (extension_result width to d)) (bits_in to (extension_result width to e)) (extension_result width to d) (extension_result width to e) ≡ unequal width (unsigned_of predicate) p q d e
+  unequal_narrow : (predicate : Predicate) (d e : Datum) (p q : Option ℕ) → bits_in width d ≡ p → bits_in width e ≡ q → unequal to predicate (bits_in to (cast_result ZeroExtend width to d)) (bits_in to (cast_result ZeroExtend width to e)) (cast_result ZeroExtend width to d) (cast_result ZeroExtend width to e) ≡ unequal width (unsigned_of predicate) p q d e
   unequal_narrow predicate d e None q none f =
-      ap (λ x. unequal to predicate x (bits_in to (extension_result width to e)) (extension_result width to d) (extension_result width to e)) (extended_none width to is wide less d none)
-      ∙ first_passes d (extension_result width to e) none
+      ap (λ x. unequal to predicate x (bits_in to (cast_result ZeroExtend width to e)) (cast_result ZeroExtend width to d) (cast_result ZeroExtend width to e)) (cast_none ZeroExtend width to wide less d none)
+      ∙ first_passes d (cast_result ZeroExtend width to e) none
       ∙ ap (passed_on width 1) (sym (first_is_other width d (e ∷ []) none))
   unequal_narrow predicate d e (Some a) None some none =
-      ap₂ (λ x y. unequal to predicate x y (extension_result width to d) (extension_result width to e)) (extended_bits width to is wide less d a some) (extended_none width to is wide less e none)
+      ap₂ (λ x y. unequal to predicate x y (cast_result ZeroExtend width to d) (cast_result ZeroExtend width to e)) (cast_some ZeroExtend width to wide less d a some) (cast_none ZeroExtend width to wide less e none)
       ∙ second_passes d e a some none
       ∙ ap (passed_on width 1) (sym (first_is_later width d (e ∷ []) a some ∙ first_is_other width e [] none))
   unequal_narrow predicate d e (Some a) (Some b) first second =
-      ap₂ (λ x y. unequal to predicate x y (extension_result width to d) (extension_result width to e)) (extended_bits width to is wide less d a first) (extended_bits width to is wide less e b second)
+      ap₂ (λ x y. unequal to predicate x y (cast_result ZeroExtend width to d) (cast_result ZeroExtend width to e)) (cast_some ZeroExtend width to wide less d a first) (cast_some ZeroExtend width to wide less e b second)
       ∙ ap (λ x. integer 1 (bit x)) (compares_narrow predicate (bits_of_width width) (bits_of_width to) a b less (below_size width d a first) (below_size width e b second))
 
-  pub compared_narrow : (predicate : Predicate) (d e : Datum) → comparison_result to predicate (extension_result width to d) (extension_result width to e) ≡ comparison_result width (unsigned_of predicate) d e
+  pub compared_narrow : (predicate : Predicate) (d e : Datum) → comparison_result to predicate (cast_result ZeroExtend width to d) (cast_result ZeroExtend width to e) ≡ comparison_result width (unsigned_of predicate) d e
   compared_narrow predicate d e =
-      ap (λ same. comparison_result_if same to predicate (extension_result width to d) (extension_result width to e)) (same_extended d e)
+      ap (λ same. comparison_result_if same to predicate (cast_result ZeroExtend width to d) (cast_result ZeroExtend width to e)) (same_extended d e)
       ∙ by (same_datum d e)
     where
-      by : (same : Bool) → comparison_result_if same to predicate (extension_result width to d) (extension_result width to e) ≡ comparison_result_if same width (unsigned_of predicate) d e
+      by : (same : Bool) → comparison_result_if same to predicate (cast_result ZeroExtend width to d) (cast_result ZeroExtend width to e) ≡ comparison_result_if same width (unsigned_of predicate) d e
       by true = ap Number (truth_is predicate)
       by false = unequal_narrow predicate d e (bits_in width d) (bits_in width e) refl refl

@@ -40,37 +40,129 @@ fn expect_combined(rt: &impl Abort, alloc: Global, case: &str, ctx: &mut Context
 
 /// Names, bodies of functions, and what is left of them.
 static ROWS: &str = "\
-unsigned less -- (%0: i8, %1: i8):|  %2 = \"llvm.zext\"(%0) : (i8) -> i32|  %3 = \"llvm.zext\"(%1) : (i8) -> i32|  %4 = \
-    \"llvm.icmp\"(%2, %3) <{predicate = 6 : i64}> : (i32, i32) -> i1|  \"llvm.return\"(%4) : (i1) -> () => (%0: i8, %1: \
-    i8):|  %2 = \"llvm.zext\"(%0) : (i8) -> i32|  %3 = \"llvm.zext\"(%1) : (i8) -> i32|  %5 = \"llvm.icmp\"(%0, %1) \
-    <{predicate = 6 : i64}> : (i8, i8) -> i1|  %4 = \"llvm.icmp\"(%2, %3) <{predicate = 6 : i64}> : (i32, i32) -> i1|  \
-    \"llvm.return\"(%5) : (i1) -> ()
-signed less becomes unsigned -- (%0: i8, %1: i8):|  %2 = \"llvm.zext\"(%0) : (i8) -> i32|  %3 = \"llvm.zext\"(%1) : (i8) -> \
-    i32|  %4 = \"llvm.icmp\"(%2, %3) <{predicate = 2 : i64}> : (i32, i32) -> i1|  \"llvm.return\"(%4) : (i1) -> () => (%0: \
-    i8, %1: i8):|  %2 = \"llvm.zext\"(%0) : (i8) -> i32|  %3 = \"llvm.zext\"(%1) : (i8) -> i32|  %5 = \"llvm.icmp\"(%0, %1) \
-    <{predicate = 6 : i64}> : (i8, i8) -> i1|  %4 = \"llvm.icmp\"(%2, %3) <{predicate = 2 : i64}> : (i32, i32) -> i1|  \
-    \"llvm.return\"(%5) : (i1) -> ()
-other widths -- (%0: i8, %1: i16):|  %2 = \"llvm.zext\"(%0) : (i8) -> i32|  %3 = \"llvm.zext\"(%1) : (i16) -> i32|  %4 = \
-    \"llvm.icmp\"(%2, %3) <{predicate = 0 : i64}> : (i32, i32) -> i1|  \"llvm.return\"(%4) : (i1) -> () => (%0: i8, %1: \
-    i16):|  %2 = \"llvm.zext\"(%0) : (i8) -> i32|  %3 = \"llvm.zext\"(%1) : (i16) -> i32|  %4 = \"llvm.icmp\"(%2, %3) \
-    <{predicate = 0 : i64}> : (i32, i32) -> i1|  \"llvm.return\"(%4) : (i1) -> ()
-a constant that fits -- (%0: i8):|  %1 = \"llvm.mlir.constant\"() <{value = 200 : i32}> : () -> i32|  %2 = \"llvm.zext\"(%0) \
-    : (i8) -> i32|  %3 = \"llvm.icmp\"(%2, %1) <{predicate = 0 : i64}> : (i32, i32) -> i1|  \"llvm.return\"(%3) : (i1) -> \
-    () => (%0: i8):|  %1 = \"llvm.mlir.constant\"() <{value = 200 : i32}> : () -> i32|  %2 = \"llvm.zext\"(%0) : (i8) -> \
-    i32|  %4 = \"llvm.mlir.constant\"() <{value = -56 : i8}> : () -> i8|  %5 = \"llvm.icmp\"(%0, %4) <{predicate = 0 : \
-    i64}> : (i8, i8) -> i1|  %3 = \"llvm.icmp\"(%2, %1) <{predicate = 0 : i64}> : (i32, i32) -> i1|  \"llvm.return\"(%5) : \
-    (i1) -> ()
+unsigned less -- (%0: i8, %1: i8):|  %2 = \"llvm.zext\"(%0) : (i8) -> i32|  %3 = \"llvm.zext\"(%1) : (i8) -> i32|  %4 \
+    = \"llvm.icmp\"(%2, %3) <{predicate = 6 : i64}> : (i32, i32) -> i1|  \"llvm.return\"(%4) : (i1) -> () => (%0: i8, \
+    %1: i8):|  %2 = \"llvm.zext\"(%0) : (i8) -> i32|  %3 = \"llvm.zext\"(%1) : (i8) -> i32|  %5 = \"llvm.icmp\"(%0, \
+    %1) <{predicate = 6 : i64}> : (i8, i8) -> i1|  %4 = \"llvm.icmp\"(%2, %3) <{predicate = 6 : i64}> : (i32, i32) -> \
+    i1|  \"llvm.return\"(%5) : (i1) -> ()
+signed less becomes unsigned -- (%0: i8, %1: i8):|  %2 = \"llvm.zext\"(%0) : (i8) -> i32|  %3 = \"llvm.zext\"(%1) : \
+    (i8) -> i32|  %4 = \"llvm.icmp\"(%2, %3) <{predicate = 2 : i64}> : (i32, i32) -> i1|  \"llvm.return\"(%4) : (i1) \
+    -> () => (%0: i8, %1: i8):|  %2 = \"llvm.zext\"(%0) : (i8) -> i32|  %3 = \"llvm.zext\"(%1) : (i8) -> i32|  %5 = \
+    \"llvm.icmp\"(%0, %1) <{predicate = 6 : i64}> : (i8, i8) -> i1|  %4 = \"llvm.icmp\"(%2, %3) <{predicate = 2 : \
+    i64}> : (i32, i32) -> i1|  \"llvm.return\"(%5) : (i1) -> ()
+other widths -- (%0: i8, %1: i16):|  %2 = \"llvm.zext\"(%0) : (i8) -> i32|  %3 = \"llvm.zext\"(%1) : (i16) -> i32|  %4 \
+    = \"llvm.icmp\"(%2, %3) <{predicate = 0 : i64}> : (i32, i32) -> i1|  \"llvm.return\"(%4) : (i1) -> () => (%0: i8, \
+    %1: i16):|  %2 = \"llvm.zext\"(%0) : (i8) -> i32|  %3 = \"llvm.zext\"(%1) : (i16) -> i32|  %4 = \"llvm.icmp\"(%2, \
+    %3) <{predicate = 0 : i64}> : (i32, i32) -> i1|  \"llvm.return\"(%4) : (i1) -> ()
+a constant that fits -- (%0: i8):|  %1 = \"llvm.mlir.constant\"() <{value = 200 : i32}> : () -> i32|  %2 = \
+    \"llvm.zext\"(%0) : (i8) -> i32|  %3 = \"llvm.icmp\"(%2, %1) <{predicate = 0 : i64}> : (i32, i32) -> i1|  \
+    \"llvm.return\"(%3) : (i1) -> () => (%0: i8):|  %1 = \"llvm.mlir.constant\"() <{value = 200 : i32}> : () -> i32|  \
+    %2 = \"llvm.zext\"(%0) : (i8) -> i32|  %4 = \"llvm.mlir.constant\"() <{value = -56 : i8}> : () -> i8|  %5 = \
+    \"llvm.icmp\"(%0, %4) <{predicate = 0 : i64}> : (i8, i8) -> i1|  %3 = \"llvm.icmp\"(%2, %1) <{predicate = 0 : \
+    i64}> : (i32, i32) -> i1|  \"llvm.return\"(%5) : (i1) -> ()
 a constant that doesn't -- (%0: i8):|  %1 = \"llvm.mlir.constant\"() <{value = 256 : i32}> : () -> i32|  %2 = \
     \"llvm.zext\"(%0) : (i8) -> i32|  %3 = \"llvm.icmp\"(%2, %1) <{predicate = 0 : i64}> : (i32, i32) -> i1|  \
-    \"llvm.return\"(%3) : (i1) -> () => (%0: i8):|  %1 = \"llvm.mlir.constant\"() <{value = 256 : i32}> : () -> i32|  %2 = \
-    \"llvm.zext\"(%0) : (i8) -> i32|  %3 = \"llvm.icmp\"(%2, %1) <{predicate = 0 : i64}> : (i32, i32) -> i1|  \
+    \"llvm.return\"(%3) : (i1) -> () => (%0: i8):|  %1 = \"llvm.mlir.constant\"() <{value = 256 : i32}> : () -> i32|  \
+    %2 = \"llvm.zext\"(%0) : (i8) -> i32|  %3 = \"llvm.icmp\"(%2, %1) <{predicate = 0 : i64}> : (i32, i32) -> i1|  \
     \"llvm.return\"(%3) : (i1) -> ()
-an extension of an extension -- (%0: i8):|  %1 = \"llvm.zext\"(%0) : (i8) -> i16|  %2 = \"llvm.zext\"(%1) : (i16) -> i64|  \
-    \"llvm.return\"(%2) : (i64) -> () => (%0: i8):|  %1 = \"llvm.zext\"(%0) : (i8) -> i16|  %3 = \"llvm.zext\"(%0) : (i8) \
-    -> i64|  %2 = \"llvm.zext\"(%1) : (i16) -> i64|  \"llvm.return\"(%3) : (i64) -> ()
+an extension of an extension -- (%0: i8):|  %1 = \"llvm.zext\"(%0) : (i8) -> i16|  %2 = \"llvm.zext\"(%1) : (i16) -> \
+    i64|  \"llvm.return\"(%2) : (i64) -> () => (%0: i8):|  %1 = \"llvm.zext\"(%0) : (i8) -> i16|  %3 = \
+    \"llvm.zext\"(%0) : (i8) -> i64|  %2 = \"llvm.zext\"(%1) : (i16) -> i64|  \"llvm.return\"(%3) : (i64) -> ()
 a truncation back -- (%0: i8):|  %1 = \"llvm.zext\"(%0) : (i8) -> i32|  %2 = \"llvm.trunc\"(%1) : (i32) -> i8|  \
-    \"llvm.return\"(%2) : (i8) -> () => (%0: i8):|  %1 = \"llvm.zext\"(%0) : (i8) -> i32|  %2 = \"llvm.trunc\"(%1) : (i32) \
-    -> i8|  \"llvm.return\"(%0) : (i8) -> ()";
+    \"llvm.return\"(%2) : (i8) -> () => (%0: i8):|  %1 = \"llvm.zext\"(%0) : (i8) -> i32|  %2 = \"llvm.trunc\"(%1) : \
+    (i32) -> i8|  \"llvm.return\"(%0) : (i8) -> ()
+a sign extension of a zero extension -- (%0: i8):|  %1 = \"llvm.zext\"(%0) : (i8) -> i16|  %2 = \"llvm.sext\"(%1) : \
+    (i16) -> i64|  \"llvm.return\"(%2) : (i64) -> () => (%0: i8):|  %1 = \"llvm.zext\"(%0) : (i8) -> i16|  %3 = \
+    \"llvm.zext\"(%0) : (i8) -> i64|  %2 = \"llvm.sext\"(%1) : (i16) -> i64|  \"llvm.return\"(%3) : (i64) -> ()
+a sign extension of one -- (%0: i8):|  %1 = \"llvm.sext\"(%0) : (i8) -> i16|  %2 = \"llvm.sext\"(%1) : (i16) -> i64|  \
+    \"llvm.return\"(%2) : (i64) -> () => (%0: i8):|  %1 = \"llvm.sext\"(%0) : (i8) -> i16|  %3 = \"llvm.sext\"(%0) : \
+    (i8) -> i64|  %2 = \"llvm.sext\"(%1) : (i16) -> i64|  \"llvm.return\"(%3) : (i64) -> ()
+a truncation of a zero extension, to more bits -- (%0: i8):|  %1 = \"llvm.zext\"(%0) : (i8) -> i64|  %2 = \
+    \"llvm.trunc\"(%1) : (i64) -> i32|  \"llvm.return\"(%2) : (i32) -> () => (%0: i8):|  %1 = \"llvm.zext\"(%0) : (i8) \
+    -> i64|  %3 = \"llvm.zext\"(%0) : (i8) -> i32|  %2 = \"llvm.trunc\"(%1) : (i64) -> i32|  \"llvm.return\"(%3) : \
+    (i32) -> ()
+a truncation of a sign extension, to fewer bits -- (%0: i32):|  %1 = \"llvm.sext\"(%0) : (i32) -> i64|  %2 = \
+    \"llvm.trunc\"(%1) : (i64) -> i8|  \"llvm.return\"(%2) : (i8) -> () => (%0: i32):|  %1 = \"llvm.sext\"(%0) : (i32) \
+    -> i64|  %3 = \"llvm.trunc\"(%0) : (i32) -> i8|  %2 = \"llvm.trunc\"(%1) : (i64) -> i8|  \"llvm.return\"(%3) : \
+    (i8) -> ()
+a truncation of a sign extension, back -- (%0: i8):|  %1 = \"llvm.sext\"(%0) : (i8) -> i64|  %2 = \"llvm.trunc\"(%1) : \
+    (i64) -> i8|  \"llvm.return\"(%2) : (i8) -> () => (%0: i8):|  %1 = \"llvm.sext\"(%0) : (i8) -> i64|  %2 = \
+    \"llvm.trunc\"(%1) : (i64) -> i8|  \"llvm.return\"(%0) : (i8) -> ()
+a truncation of a truncation -- (%0: i64):|  %1 = \"llvm.trunc\"(%0) : (i64) -> i32|  %2 = \"llvm.trunc\"(%1) : (i32) \
+    -> i8|  \"llvm.return\"(%2) : (i8) -> () => (%0: i64):|  %1 = \"llvm.trunc\"(%0) : (i64) -> i32|  %3 = \
+    \"llvm.trunc\"(%0) : (i64) -> i8|  %2 = \"llvm.trunc\"(%1) : (i32) -> i8|  \"llvm.return\"(%3) : (i8) -> ()
+a zero extension of a sign extension -- (%0: i8):|  %1 = \"llvm.sext\"(%0) : (i8) -> i16|  %2 = \"llvm.zext\"(%1) : \
+    (i16) -> i64|  \"llvm.return\"(%2) : (i64) -> () => (%0: i8):|  %1 = \"llvm.sext\"(%0) : (i8) -> i16|  %2 = \
+    \"llvm.zext\"(%1) : (i16) -> i64|  \"llvm.return\"(%2) : (i64) -> ()
+a zero extension of a truncation -- (%0: i64):|  %1 = \"llvm.trunc\"(%0) : (i64) -> i16|  %2 = \"llvm.zext\"(%1) : \
+    (i16) -> i64|  \"llvm.return\"(%2) : (i64) -> () => (%0: i64):|  %1 = \"llvm.trunc\"(%0) : (i64) -> i16|  %3 = \
+    \"llvm.mlir.constant\"() <{value = 65535 : i64}> : () -> i64|  %4 = \"llvm.and\"(%0, %3) : (i64, i64) -> i64|  %2 \
+    = \"llvm.zext\"(%1) : (i16) -> i64|  \"llvm.return\"(%4) : (i64) -> ()
+a zero extension of a truncation, to another width -- (%0: i64):|  %1 = \"llvm.trunc\"(%0) : (i64) -> i16|  %2 = \
+    \"llvm.zext\"(%1) : (i16) -> i32|  \"llvm.return\"(%2) : (i32) -> () => (%0: i64):|  %1 = \"llvm.trunc\"(%0) : \
+    (i64) -> i16|  %2 = \"llvm.zext\"(%1) : (i16) -> i32|  \"llvm.return\"(%2) : (i32) -> ()
+not less -- (%0: i32, %1: i32):|  %2 = \"llvm.mlir.constant\"() <{value = true}> : () -> i1|  %3 = \"llvm.icmp\"(%0, \
+    %1) <{predicate = 2 : i64}> : (i32, i32) -> i1|  %4 = \"llvm.xor\"(%3, %2) : (i1, i1) -> i1|  \"llvm.return\"(%4) \
+    : (i1) -> () => (%0: i32, %1: i32):|  %2 = \"llvm.mlir.constant\"() <{value = true}> : () -> i1|  %3 = \
+    \"llvm.icmp\"(%0, %1) <{predicate = 2 : i64}> : (i32, i32) -> i1|  %5 = \"llvm.icmp\"(%0, %1) <{predicate = 5 : \
+    i64}> : (i32, i32) -> i1|  %4 = \"llvm.xor\"(%3, %2) : (i1, i1) -> i1|  \"llvm.return\"(%5) : (i1) -> ()
+not equal -- (%0: i32, %1: i32):|  %2 = \"llvm.mlir.constant\"() <{value = true}> : () -> i1|  %3 = \"llvm.icmp\"(%0, \
+    %1) <{predicate = 0 : i64}> : (i32, i32) -> i1|  %4 = \"llvm.xor\"(%3, %2) : (i1, i1) -> i1|  \"llvm.return\"(%4) \
+    : (i1) -> () => (%0: i32, %1: i32):|  %2 = \"llvm.mlir.constant\"() <{value = true}> : () -> i1|  %3 = \
+    \"llvm.icmp\"(%0, %1) <{predicate = 0 : i64}> : (i32, i32) -> i1|  %5 = \"llvm.icmp\"(%0, %1) <{predicate = 1 : \
+    i64}> : (i32, i32) -> i1|  %4 = \"llvm.xor\"(%3, %2) : (i1, i1) -> i1|  \"llvm.return\"(%5) : (i1) -> ()
+not at most, unsigned -- (%0: i32, %1: i32):|  %2 = \"llvm.mlir.constant\"() <{value = true}> : () -> i1|  %3 = \
+    \"llvm.icmp\"(%0, %1) <{predicate = 7 : i64}> : (i32, i32) -> i1|  %4 = \"llvm.xor\"(%3, %2) : (i1, i1) -> i1|  \
+    \"llvm.return\"(%4) : (i1) -> () => (%0: i32, %1: i32):|  %2 = \"llvm.mlir.constant\"() <{value = true}> : () -> \
+    i1|  %3 = \"llvm.icmp\"(%0, %1) <{predicate = 7 : i64}> : (i32, i32) -> i1|  %5 = \"llvm.icmp\"(%0, %1) \
+    <{predicate = 8 : i64}> : (i32, i32) -> i1|  %4 = \"llvm.xor\"(%3, %2) : (i1, i1) -> i1|  \"llvm.return\"(%5) : \
+    (i1) -> ()
+a difference -- (%0: i32):|  %1 = \"llvm.mlir.constant\"() <{value = 3 : i32}> : () -> i32|  %2 = \"llvm.sub\"(%0, %1) \
+    <{overflowFlags = 0 : i32}> : (i32, i32) -> i32|  \"llvm.return\"(%2) : (i32) -> () => (%0: i32):|  %1 = \
+    \"llvm.mlir.constant\"() <{value = 3 : i32}> : () -> i32|  %3 = \"llvm.mlir.constant\"() <{value = -3 : i32}> : () \
+    -> i32|  %4 = \"llvm.add\"(%0, %3) : (i32, i32) -> i32|  %2 = \"llvm.sub\"(%0, %1) <{overflowFlags = 0 : i32}> : \
+    (i32, i32) -> i32|  \"llvm.return\"(%4) : (i32) -> ()
+a difference that promises signs -- (%0: i32):|  %1 = \"llvm.mlir.constant\"() <{value = 3 : i32}> : () -> i32|  %2 = \
+    \"llvm.sub\"(%0, %1) <{overflowFlags = 1 : i32}> : (i32, i32) -> i32|  \"llvm.return\"(%2) : (i32) -> () => (%0: \
+    i32):|  %1 = \"llvm.mlir.constant\"() <{value = 3 : i32}> : () -> i32|  %3 = \"llvm.mlir.constant\"() <{value = -3 \
+    : i32}> : () -> i32|  %4 = \"llvm.add\"(%0, %3) <{overflowFlags = #llvm.overflow<nsw>}> : (i32, i32) -> i32|  %2 = \
+    \"llvm.sub\"(%0, %1) <{overflowFlags = 1 : i32}> : (i32, i32) -> i32|  \"llvm.return\"(%4) : (i32) -> ()
+a difference that promises no borrow -- (%0: i32):|  %1 = \"llvm.mlir.constant\"() <{value = 3 : i32}> : () -> i32|  \
+    %2 = \"llvm.sub\"(%0, %1) <{overflowFlags = 2 : i32}> : (i32, i32) -> i32|  \"llvm.return\"(%2) : (i32) -> () => \
+    (%0: i32):|  %1 = \"llvm.mlir.constant\"() <{value = 3 : i32}> : () -> i32|  %2 = \"llvm.sub\"(%0, %1) \
+    <{overflowFlags = 2 : i32}> : (i32, i32) -> i32|  \"llvm.return\"(%2) : (i32) -> ()
+the least number is no opposite -- (%0: i32):|  %1 = \"llvm.mlir.constant\"() <{value = -2147483648 : i32}> : () -> \
+    i32|  %2 = \"llvm.sub\"(%0, %1) <{overflowFlags = 1 : i32}> : (i32, i32) -> i32|  \"llvm.return\"(%2) : (i32) -> \
+    () => (%0: i32):|  %1 = \"llvm.mlir.constant\"() <{value = -2147483648 : i32}> : () -> i32|  %2 = \"llvm.sub\"(%0, \
+    %1) <{overflowFlags = 1 : i32}> : (i32, i32) -> i32|  \"llvm.return\"(%2) : (i32) -> ()
+the least number is its own opposite -- (%0: i32):|  %1 = \"llvm.mlir.constant\"() <{value = -2147483648 : i32}> : () \
+    -> i32|  %2 = \"llvm.sub\"(%0, %1) <{overflowFlags = 0 : i32}> : (i32, i32) -> i32|  \"llvm.return\"(%2) : (i32) \
+    -> () => (%0: i32):|  %1 = \"llvm.mlir.constant\"() <{value = -2147483648 : i32}> : () -> i32|  %3 = \
+    \"llvm.mlir.constant\"() <{value = -2147483648 : i32}> : () -> i32|  %4 = \"llvm.add\"(%0, %3) : (i32, i32) -> \
+    i32|  %2 = \"llvm.sub\"(%0, %1) <{overflowFlags = 0 : i32}> : (i32, i32) -> i32|  \"llvm.return\"(%4) : (i32) -> \
+    ()
+two constants -- (%0: i32):|  %1 = \"llvm.mlir.constant\"() <{value = 3 : i32}> : () -> i32|  %2 = \"llvm.add\"(%0, \
+    %1) <{overflowFlags = 0 : i32}> : (i32, i32) -> i32|  %3 = \"llvm.mlir.constant\"() <{value = 4 : i32}> : () -> \
+    i32|  %4 = \"llvm.add\"(%2, %3) <{overflowFlags = 0 : i32}> : (i32, i32) -> i32|  \"llvm.return\"(%4) : (i32) -> \
+    () => (%0: i32):|  %1 = \"llvm.mlir.constant\"() <{value = 3 : i32}> : () -> i32|  %2 = \"llvm.add\"(%0, %1) \
+    <{overflowFlags = 0 : i32}> : (i32, i32) -> i32|  %3 = \"llvm.mlir.constant\"() <{value = 4 : i32}> : () -> i32|  \
+    %5 = \"llvm.mlir.constant\"() <{value = 7 : i32}> : () -> i32|  %6 = \"llvm.add\"(%0, %5) : (i32, i32) -> i32|  %4 \
+    = \"llvm.add\"(%2, %3) <{overflowFlags = 0 : i32}> : (i32, i32) -> i32|  \"llvm.return\"(%6) : (i32) -> ()
+two constants that wrap -- (%0: i32):|  %1 = \"llvm.mlir.constant\"() <{value = -2147483648 : i32}> : () -> i32|  %2 = \
+    \"llvm.add\"(%0, %1) <{overflowFlags = 0 : i32}> : (i32, i32) -> i32|  %3 = \"llvm.mlir.constant\"() <{value = -1 \
+    : i32}> : () -> i32|  %4 = \"llvm.add\"(%2, %3) <{overflowFlags = 0 : i32}> : (i32, i32) -> i32|  \
+    \"llvm.return\"(%4) : (i32) -> () => (%0: i32):|  %1 = \"llvm.mlir.constant\"() <{value = -2147483648 : i32}> : () \
+    -> i32|  %2 = \"llvm.add\"(%0, %1) <{overflowFlags = 0 : i32}> : (i32, i32) -> i32|  %3 = \"llvm.mlir.constant\"() \
+    <{value = -1 : i32}> : () -> i32|  %5 = \"llvm.mlir.constant\"() <{value = 2147483647 : i32}> : () -> i32|  %6 = \
+    \"llvm.add\"(%0, %5) : (i32, i32) -> i32|  %4 = \"llvm.add\"(%2, %3) <{overflowFlags = 0 : i32}> : (i32, i32) -> \
+    i32|  \"llvm.return\"(%6) : (i32) -> ()
+a sum that promises signs -- (%0: i32):|  %1 = \"llvm.mlir.constant\"() <{value = 3 : i32}> : () -> i32|  %2 = \
+    \"llvm.add\"(%0, %1) <{overflowFlags = 1 : i32}> : (i32, i32) -> i32|  %3 = \"llvm.mlir.constant\"() <{value = 4 : \
+    i32}> : () -> i32|  %4 = \"llvm.add\"(%2, %3) <{overflowFlags = 0 : i32}> : (i32, i32) -> i32|  \
+    \"llvm.return\"(%4) : (i32) -> () => (%0: i32):|  %1 = \"llvm.mlir.constant\"() <{value = 3 : i32}> : () -> i32|  \
+    %2 = \"llvm.add\"(%0, %1) <{overflowFlags = 1 : i32}> : (i32, i32) -> i32|  %3 = \"llvm.mlir.constant\"() <{value \
+    = 4 : i32}> : () -> i32|  %4 = \"llvm.add\"(%2, %3) <{overflowFlags = 0 : i32}> : (i32, i32) -> i32|  \
+    \"llvm.return\"(%4) : (i32) -> ()";
 
 #[test]
 fn rules_leave(rt: HostRuntime) {

@@ -4,7 +4,7 @@ use Rattle.std.specs.List.{list_any}
 use Rattle.std.proofs.lemmas.Bool.{eq-eqb}
 use Rattle.pliron_core.specs.Tree.{Tree, In}
 use Rattle.pliron_opt_canonicalize.specs.Counts.{count_below, is_used}
-use Rattle.pliron_opt_canonicalize.specs.Folds.{IsUsed}
+use Rattle.pliron_graph_order.specs.Seen.{IsUsed}
 
 either_way : (b : Bool) → (b ≡ true) ⊎ (b ≡ false)
 either_way true = inl refl

@@ -34,14 +34,14 @@ use Rattle.pliron_rewrite_operands.proofs.Whole.{answer_changes, answer_within, 
 use Rattle.pliron_rewrite_arguments.specs.ArgumentLaws.{OneValueChanges}
 use Rattle.pliron_rewrite_arguments.specs.OneValue.{IsOneValue, ReplacesByValue}
 use Rattle.pliron_rewrite_arguments.proofs.ArgumentEdges.{source, source_uses, made as argument_made}
-use Rattle.pliron_graph_order.specs.Seen.{IsSeen}
+use Rattle.pliron_graph_order.specs.Seen.{IsSeen, IsUsed}
 use Rattle.pliron_graph_order.proofs.SeenLemmas.{seen_inside, visited_within}
-use Rattle.pliron_opt_canonicalize.specs.Counts.{foldable_count, is_counted, is_foldable, is_used}
-use Rattle.pliron_opt_canonicalize.specs.Folds.{Fold, OfArgument, OfResult, FoldInTurn, FoldsTo, HasFolds, IsArgumentFold, IsFold, IsSeenBlock, IsUsed, ReportsFolds}
+use Rattle.pliron_opt_canonicalize.specs.Counts.{foldable_count, counts_as_foldable, is_foldable, is_used}
+use Rattle.pliron_opt_canonicalize.specs.Folds.{Fold, OfArgument, OfResult, FoldInTurn, FoldsTo, HasFolds, IsArgumentFold, IsFold, IsSeenBlock, ReportsFolds}
 use Rattle.pliron_opt_canonicalize.specs.Sites.{AreListed, IsAmong, IsLiveSite, IsSeenAt, index_of, site_of, values_at}
 use Rattle.pliron_opt_canonicalize.specs.declared.sites.Site.{Site}
 use Rattle.pliron_opt_canonicalize.specs.declared.sites.Site.TheVariants.{Arguments, Results}
-use Rattle.pliron_opt_canonicalize.specs.Steps.{AreDone, AreDonePartly, FoldsArgument, FoldsResult, IsFolding, IsOnWay, IsSeenStill, IsUndone, CountsFolds}
+use Rattle.pliron_opt_canonicalize.specs.Steps.{AreDone, AreDonePartly, FoldsArgument, FoldsResult, IsFolding, IsFoldingOnWay, IsSeenStill, IsUndone, CountsFolds}
 use Rattle.pliron_opt_canonicalize.proofs.Counting.{used_told}
 use Rattle.pliron_opt_canonicalize.proofs.Moving.{Moves, blocks_seen, count_lessened, edges_kept, empty, live, moves_to_constant, moves_to_used, same_results, seen_back, seen_forth}
 
@@ -115,7 +115,7 @@ module _ (x : Folding) (root : ℕ) where
   tells_same t0 t Unchanged e = (λ q. e, λ q. refl)
   tells_same t0 t Changed e = (λ q. absurd (cc q), λ q. let lt = subst (λ z. foldable_count z < foldable_count t0) q e.0 in absurd (omega (arith, lt)))
 
-  way_trans : (t0 t t' : Tree) → IsOnWay x.meaning t0 t root → IsOnWay x.meaning t t' root → IsOnWay x.meaning t0 t' root
+  way_trans : (t0 t t' : Tree) → IsFoldingOnWay x.meaning t0 t root → IsFoldingOnWay x.meaning t t' root → IsFoldingOnWay x.meaning t0 t' root
   way_trans t0 t t' a b = record {
     change = whole_trans x.meaning t0 t t' root a.change b.change;
     links = λ r l. b.links r (a.links r l);
@@ -124,7 +124,7 @@ module _ (x : Folding) (root : ℕ) where
   }
 
   module _ (t : Tree) (lives : IsLive t root) (linked : IsWellLinked x.meaning t root) where
-    way_refl : IsOnWay x.meaning t t root
+    way_refl : IsFoldingOnWay x.meaning t t root
     way_refl = record { change = whole_refl x.meaning t root lives linked; links = λ r l. l; edges = λ op a b. refl; stays = λ k l. l }
 
     pub done_start : (Done : Fold → Type 0) → ((f : Fold) (u : Tree) → Done f → FoldsTo x root f t u → ⊥) → AreDone x t t root Done Unchanged
@@ -194,7 +194,7 @@ module _ (x : Folding) (root : ℕ) where
 
 module _ (x : Folding) (root : ℕ) (t : Tree) (w : IsTree t) (lives : IsLive t root) (linked : IsWellLinked x.meaning t root) where
   -- the uses of a value went where it folds to
-  done_moved : (u : Tree) (old new : ℕ) → Moves t u old new → old < length t.definitions → is_counted t old ≡ true → IsWholeChange x.meaning t u root → ((r : ℕ) → IsWellLinked x.meaning t r → IsWellLinked x.meaning u r) → (f : Fold) → FoldsTo x root f t u → (Done : Fold → Type 0) → AreDone x t u root Done Changed
+  done_moved : (u : Tree) (old new : ℕ) → Moves t u old new → old < length t.definitions → counts_as_foldable t old ≡ true → IsWholeChange x.meaning t u root → ((r : ℕ) → IsWellLinked x.meaning t r → IsWellLinked x.meaning u r) → (f : Fold) → FoldsTo x root f t u → (Done : Fold → Type 0) → AreDone x t u root Done Changed
   done_moved u old new m low counted change links f fold Done = record {
     way = record { change = change; links = links; edges = edges_kept t u old new m; stays = live t u old new m };
     folded = (f ∷ [], (u, fold, refl));
@@ -221,7 +221,7 @@ module _ (x : Folding) (root : ℕ) (t : Tree) (w : IsTree t) (lives : IsLive t 
       low : is.has.value < length t.definitions
       low = slice_get_within t.definitions is.has.value (Result k i) made
 
-      counted : is_counted t is.has.value ≡ true
+      counted : counts_as_foldable t is.has.value ≡ true
       counted = both_true (is_used t is.has.value) (is_foldable t (definition_of t is.has.value)) (used_told t is.has.value is.used) (ap (is_foldable t) made ∙ filled (operands_of t k) is.has.may.operands)
 
     moves_of : (answer : OpFoldResult) (is : IsFold x t k i answer) → (new : ℕ) × Moves t (after_folding x t k is.has.value answer) is.has.value new
@@ -268,7 +268,7 @@ module _ (x : Folding) (root : ℕ) (t : Tree) (w : IsTree t) (lives : IsLive t 
         let used : IsUsed t v = (source x.meaning t w block i v is.one, source_uses x.meaning t w block i v is.one) in
         let made : definition_of t p ≡ Some (Argument block i) = argument_made x.meaning t w block i v is.one in
         let moves : Moves t (after_replacing t p v) p v = moves_to_used t p v w (w.joined.operands used.0 v used.1) is.one.apart used in
-        let counted : is_counted t p ≡ true = both_true (is_used t p) (is_foldable t (definition_of t p)) (used_told t p is.used) (ap (is_foldable t) made) in
+        let counted : counts_as_foldable t p ≡ true = both_true (is_used t p) (is_foldable t (definition_of t p)) (used_told t p is.used) (ap (is_foldable t) made) in
         done_moved (after_replacing t p v) p v moves (slice_get_within t.definitions p (Argument block i) made) counted (law.change t root block i v w lives linked holds is.one) (law.links t block i v is.one) (OfArgument block i v) (seen, (is, refl)) (λ f. (site_of f ≡ Arguments block) × (index_of f ≡ i))
 
     pub argument_done : (t' : Tree) (s : IRStatus) → FoldsArgument x.meaning t t' block i s → AreDone x t t' root (λ f. (site_of f ≡ Arguments block) × (index_of f ≡ i)) s

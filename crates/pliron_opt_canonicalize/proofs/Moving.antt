@@ -23,9 +23,9 @@ use Rattle.pliron_theory.specs.Edges.{EdgesAlike, KeepsEdges, has_entries}
 use Rattle.pliron_theory.proofs.EdgeLemmas.{edges_alike}
 use Rattle.pliron_theory.proofs.PutEdges.{put_alike}
 use Rattle.pliron_rewrite_equals.proofs.Replaced.{operands_replaced, target_cases, tree_kept}
-use Rattle.pliron_graph_order.specs.Seen.{IsReachedIn, IsVisitedBlockIf, IsVisited, Starts, Nested, IsSeen}
-use Rattle.pliron_opt_canonicalize.specs.Counts.{count_below, foldable_count, is_counted, is_foldable, is_used}
-use Rattle.pliron_opt_canonicalize.specs.Folds.{IsSeenBlock, IsUsed}
+use Rattle.pliron_graph_order.specs.Seen.{IsOnPathIn, IsVisitedBlockFromIf, IsVisitedFrom, Starts, Nested, IsSeen, IsUsed}
+use Rattle.pliron_opt_canonicalize.specs.Counts.{count_below, foldable_count, counts_as_foldable, is_foldable, is_used}
+use Rattle.pliron_opt_canonicalize.specs.Folds.{IsSeenBlock}
 use Rattle.pliron_opt_canonicalize.proofs.Counting.{count_less, told_used, used_told}
 
 -- the new value was used before, or a new operation of nothing makes it
@@ -120,7 +120,7 @@ module _ (t t' : Tree) (old new : ℕ) (h : Moves t t' old new) where
   same_foldable (Some (Argument b i)) = refl
   same_foldable (Some (Result k i)) = same_entries k
 
-  fewer : (v : ℕ) → v < length t.definitions → is_counted t' v ≡ true → is_counted t v ≡ true
+  fewer : (v : ℕ) → v < length t.definitions → counts_as_foldable t' v ≡ true → counts_as_foldable t v ≡ true
   fewer v lt e =
       let d : definition_of t' v ≡ definition_of t v = h.definitions v lt in
       let foldable : is_foldable t (definition_of t v) ≡ true = sym (same_foldable (definition_of t v)) ∙ ap (is_foldable t') (sym d) ∙ and_right (is_used t' v) (is_foldable t' (definition_of t' v)) e in
@@ -133,20 +133,20 @@ module _ (t t' : Tree) (old new : ℕ) (h : Moves t t' old new) where
           (λ q. absurd (omega (arith, lt, s, q.1)))
           h.new_is
 
-  deleted : is_counted t' old ≡ false
-  deleted = not_true (is_counted t' old) (λ e. unused (told_used t' old (and_left (is_used t' old) (is_foldable t' (definition_of t' old)) e)))
+  deleted : counts_as_foldable t' old ≡ false
+  deleted = not_true (counts_as_foldable t' old) (λ e. unused (told_used t' old (and_left (is_used t' old) (is_foldable t' (definition_of t' old)) e)))
 
-  new_uncounted : definition_of t' (length t.definitions) ≡ Some (Result (length t.operations) 0) → is_counted t' (length t.definitions) ≡ false
-  new_uncounted d = not_true (is_counted t' (length t.definitions)) (λ e. true≢false (sym (and_right (is_used t' (length t.definitions)) (is_foldable t' (definition_of t' (length t.definitions))) e) ∙ ap (is_foldable t') d ∙ ap has_entries new_empty))
+  new_uncounted : definition_of t' (length t.definitions) ≡ Some (Result (length t.operations) 0) → counts_as_foldable t' (length t.definitions) ≡ false
+  new_uncounted d = not_true (counts_as_foldable t' (length t.definitions)) (λ e. true≢false (sym (and_right (is_used t' (length t.definitions)) (is_foldable t' (definition_of t' (length t.definitions))) e) ∙ ap (is_foldable t') d ∙ ap has_entries new_empty))
 
-  pub count_lessened : old < length t.definitions → is_counted t old ≡ true → foldable_count t' < foldable_count t
+  pub count_lessened : old < length t.definitions → counts_as_foldable t old ≡ true → foldable_count t' < foldable_count t
   unfolding foldable_count
   count_lessened lt counted =
-      let less = count_less (λ v. is_counted t v) (λ v. is_counted t' v) (length t.definitions) old lt counted deleted fewer in
+      let less = count_less (λ v. counts_as_foldable t v) (λ v. counts_as_foldable t' v) (length t.definitions) old lt counted deleted fewer in
       ⊎_elim
-      (λ q. subst (λ z. count_below (λ v. is_counted t' v) z < count_below (λ v. is_counted t v) (length t.definitions)) (sym q.0) less)
-      (λ q. subst (λ z. count_below (λ v. is_counted t' v) z < count_below (λ v. is_counted t v) (length t.definitions)) (sym q.0)
-      (subst (λ b. (if b then 1 else 0) + count_below (λ v. is_counted t' v) (length t.definitions) < count_below (λ v. is_counted t v) (length t.definitions)) (sym (new_uncounted q.2)) (subst (λ z. z < count_below (λ v. is_counted t v) (length t.definitions)) (sym (zero_more (count_below (λ v. is_counted t' v) (length t.definitions)))) less)))
+      (λ q. subst (λ z. count_below (λ v. counts_as_foldable t' v) z < count_below (λ v. counts_as_foldable t v) (length t.definitions)) (sym q.0) less)
+      (λ q. subst (λ z. count_below (λ v. counts_as_foldable t' v) z < count_below (λ v. counts_as_foldable t v) (length t.definitions)) (sym q.0)
+      (subst (λ b. (if b then 1 else 0) + count_below (λ v. counts_as_foldable t' v) (length t.definitions) < count_below (λ v. counts_as_foldable t v) (length t.definitions)) (sym (new_uncounted q.2)) (subst (λ z. z < count_below (λ v. counts_as_foldable t v) (length t.definitions)) (sym (zero_more (count_below (λ v. counts_as_foldable t' v) (length t.definitions)))) less)))
       h.new_is
     where
       zero_more : (x : ℕ) → 0 + x ≡ x
@@ -178,38 +178,38 @@ module _ (t t' : Tree) (old new : ℕ) (h : Moves t t' old new) where
   path_back a b [] p = p
   path_back a b (c ∷ before) p = (record { successor = subst (In b) (h.alike.successors c) p.0.successor; same_region = sym (h.homes b) ∙ p.0.same_region ∙ h.homes c }, path_back a c before p.1)
 
-  reached_forth : (r c : ℕ) → IsReachedIn t r c → IsReachedIn t' r c
+  reached_forth : (r c : ℕ) → IsOnPathIn t r c → IsOnPathIn t' r c
   reached_forth r c x = (x.0, ap (λ l. first_of l None) (h.alike.layouts r) ∙ x.1, x.2, path_forth x.0 c x.2 x.3)
 
-  reached_back : (r c : ℕ) → IsReachedIn t' r c → IsReachedIn t r c
+  reached_back : (r c : ℕ) → IsOnPathIn t' r c → IsOnPathIn t r c
   reached_back r c x = (x.0, ap (λ l. first_of l None) (sym (h.alike.layouts r)) ∙ x.1, x.2, path_back x.0 c x.2 x.3)
 
-  looked_forth : (d : Bool) (r c : ℕ) → IsVisitedBlockIf d t r c → IsVisitedBlockIf d t' r c
+  looked_forth : (d : Bool) (r c : ℕ) → IsVisitedBlockFromIf d t r c → IsVisitedBlockFromIf d t' r c
   looked_forth true r c x = reached_forth r c x
   looked_forth false r c x = ap (λ l. first_of l None) (h.alike.layouts r) ∙ x
 
-  looked_back : (d : Bool) (r c : ℕ) → IsVisitedBlockIf d t' r c → IsVisitedBlockIf d t r c
+  looked_back : (d : Bool) (r c : ℕ) → IsVisitedBlockFromIf d t' r c → IsVisitedBlockFromIf d t r c
   looked_back true r c x = reached_back r c x
   looked_back false r c x = ap (λ l. first_of l None) (sym (h.alike.layouts r)) ∙ x
 
   module _ (root : ℕ) where
-    holder : (r : ℕ) → IsVisited t root r → (k : ℕ) × In r (regions_of t k)
+    holder : (r : ℕ) → IsVisitedFrom t root r → (k : ℕ) × In r (regions_of t k)
     holder r (Starts i) = (root, i)
     holder r (Nested outer c k v l p i) = (k, i)
 
-    visited_ssa : (r : ℕ) → IsVisited t root r → has_ssa t' r ≡ has_ssa t r
+    visited_ssa : (r : ℕ) → IsVisitedFrom t root r → has_ssa t' r ≡ has_ssa t r
     visited_ssa r v = let x = holder r v in same_ssa x.0 r x.1
 
-    visited_forth : (r : ℕ) → IsVisited t root r → IsVisited t' root r
+    visited_forth : (r : ℕ) → IsVisitedFrom t root r → IsVisitedFrom t' root r
     visited_forth r (Starts i) = Starts (subst (In r) (sym (regions_same root)) i)
-    visited_forth r (Nested outer c k v l p i) = Nested outer c k (visited_forth outer v) (subst (λ d. IsVisitedBlockIf d t' outer c) (sym (visited_ssa outer v)) (looked_forth (has_ssa t outer) outer c l)) (h.parents k (holder_old k r i) ∙ p) (subst (In r) (sym (regions_same k)) i)
+    visited_forth r (Nested outer c k v l p i) = Nested outer c k (visited_forth outer v) (subst (λ d. IsVisitedBlockFromIf d t' outer c) (sym (visited_ssa outer v)) (looked_forth (has_ssa t outer) outer c l)) (h.parents k (holder_old k r i) ∙ p) (subst (In r) (sym (regions_same k)) i)
 
-    visited_back : (r : ℕ) → IsVisited t' root r → IsVisited t root r
+    visited_back : (r : ℕ) → IsVisitedFrom t' root r → IsVisitedFrom t root r
     visited_back r (Starts i) = Starts (subst (In r) (regions_same root) i)
     visited_back r (Nested outer c k v l p i) =
         let before = visited_back outer v in
         let held = subst (In r) (regions_same k) i in
-        Nested outer c k before (looked_back (has_ssa t outer) outer c (subst (λ d. IsVisitedBlockIf d t' outer c) (visited_ssa outer before) l)) (sym (h.parents k (holder_old k r held)) ∙ p) held
+        Nested outer c k before (looked_back (has_ssa t outer) outer c (subst (λ d. IsVisitedBlockFromIf d t' outer c) (visited_ssa outer before) l)) (sym (h.parents k (holder_old k r held)) ∙ p) held
 
     pub seen_forth : (k : ℕ) → IsSeen t root k → IsSeen t' root k
     seen_forth k x = record {

@@ -15,12 +15,12 @@ use Rattle.pliron_laws.specs.Tree.{Operation, op_at}
 use Rattle.pliron_laws.proofs.Records.{make_op, operation_of}
 use Rattle.pliron_laws.specs.declared.operand_folds.OpFoldResult.{OpFoldResult}
 use Rattle.pliron_laws.specs.declared.operand_folds.OpFoldResult.TheVariants.{Operand, Constant}
-use Rattle.pliron_rewrite_operands.specs.Answers.{Folding, IsAnswered, operand_answers, constant_answers}
+use Rattle.pliron_rewrite_operands.specs.Answers.{Folding, IsAnsweredFold, operand_answers, constant_answers}
 use Rattle.pliron_rewrite_operands.specs.Answered.{HasAnswer, IsMade, MayFold}
 use Rattle.pliron_rewrite_operands.proofs.Answered.{AreLawful}
 use Rattle.pliron_rewrite_operands.proofs.Whole.{answer_within}
-use Rattle.pliron_opt_canonicalize.specs.Folds.{IsUsed}
 use Rattle.pliron_opt_canonicalize.specs.Steps.{AreAnswers, FoldsResult, PutsAnswer}
+use Rattle.pliron_graph_order.specs.Seen.{IsUsed}
 
 -- whether a value is a result
 module _ (t : Tree) (w : IsTree t) (v op : ℕ) where
@@ -43,7 +43,7 @@ module _ (x : Folding) (laws : AreLawful x) (t : Tree) (w : IsTree t) (k i v : �
   shown : (o : Operation) × (op_at t k ≡ Some o)
   shown = let h = some_of (head_of t k) live in (operation_of t k h.0, make_op t k h.0 h.1)
 
-  has : (answer : OpFoldResult) → IsAnswered x t shown.0 i answer → HasAnswer x t k i answer
+  has : (answer : OpFoldResult) → IsAnsweredFold x t shown.0 i answer → HasAnswer x t k i answer
   has answer answered = record { may = may; operation = shown.0; liveness = shown.1; value = v; listed = listed; answered = answered }
 
   pub operands_are : (answers : List (Option OpFoldResult)) → ((o : Operation) → op_at t k ≡ Some o → answers ≡ operand_answers x t o) → AreAnswers x t k i answers

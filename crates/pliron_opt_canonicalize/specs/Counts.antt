@@ -21,9 +21,9 @@ is_foldable t None = false
 is_foldable t (Some (Argument block i)) = true
 is_foldable t (Some (Result k i)) = has_entries (operands_of t k)
 
-abbrev pub is_counted : Tree → ℕ → Bool
-is_counted t v = is_used t v && is_foldable t (definition_of t v)
+abbrev pub counts_as_foldable : Tree → ℕ → Bool
+counts_as_foldable t v = is_used t v && is_foldable t (definition_of t v)
 
 -- how many values that may fold are used
 unfoldable pub foldable_count : Tree → ℕ
-foldable_count t = count_below (λ v. is_counted t v) (length t.definitions)
+foldable_count t = count_below (λ v. counts_as_foldable t v) (length t.definitions)

@@ -10,10 +10,7 @@ use Rattle.pliron_laws.specs.declared.operand_folds.OpFoldResult.{OpFoldResult}
 use Rattle.pliron_rewrite_operands.specs.Answers.{Folding}
 use Rattle.pliron_rewrite_operands.specs.Answered.{HasAnswer, IsMade, after_folding}
 use Rattle.pliron_rewrite_arguments.specs.OneValue.{IsOneValue}
-use Rattle.pliron_graph_order.specs.Seen.{IsSeen}
-
-abbrev pub IsUsed : Tree → ℕ → Type 0
-IsUsed t v = (user : ℕ) × In v (operands_of t user)
+use Rattle.pliron_graph_order.specs.Seen.{IsSeen, IsUsed}
 
 -- an operation that is seen is in the block
 abbrev pub IsSeenBlock : Tree → (root block : ℕ) → Type 0

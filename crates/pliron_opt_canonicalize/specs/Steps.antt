@@ -45,7 +45,7 @@ pub record IsUndone (t t' : Tree) : Type 0 where
   pub grows : length t.operations ≤ length t'.operations
 
 -- what holds all the way from the tree t0
-pub record IsOnWay (m : Meaning) (t0 t : Tree) (root : ℕ) : Type 0 where
+pub record IsFoldingOnWay (m : Meaning) (t0 t : Tree) (root : ℕ) : Type 0 where
   pub change : IsWholeChange m t0 t root
   pub links : (r : ℕ) → IsWellLinked m t0 r → IsWellLinked m t r
   pub edges : KeepsEdges t0 t
@@ -67,7 +67,7 @@ CountsFolds x t0 t root Unchanged = t ≡ t0
 
 -- the values that are done were folded, or none of them folds
 pub record AreDone (x : Folding) (t0 t : Tree) (root : ℕ) (Done : Fold → Type 0) (status : IRStatus) : Type 0 where
-  pub way : IsOnWay x.meaning t0 t root
+  pub way : IsFoldingOnWay x.meaning t0 t root
   pub folded : (fs : List Fold) × FoldInTurn x root fs t0 t
   pub still : IsSeenStill t0 t root
   pub accurate : CountsFolds x t0 t root status
@@ -75,7 +75,7 @@ pub record AreDone (x : Folding) (t0 t : Tree) (root : ℕ) (Done : Fold → Typ
 
 -- some were folded, until allocation failed
 pub record AreDonePartly (x : Folding) (t0 t : Tree) (root : ℕ) : Type 0 where
-  pub way : IsOnWay x.meaning t0 t root
+  pub way : IsFoldingOnWay x.meaning t0 t root
   pub folded : (fs : List Fold) × AreFolded x root fs t0 t
 
 -- what holds before each sweep over these sites: the tree came from t0 by folds, and if none is to follow then nothing folds

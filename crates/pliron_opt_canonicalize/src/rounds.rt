@@ -6,7 +6,7 @@ ghost use Rattle.pliron_laws.specs.Linked.{IsWellLinked};
 ghost use Rattle.pliron_opt_canonicalize.specs.Counts.{foldable_count};
 ghost use Rattle.pliron_opt_canonicalize.specs.Folds.{Fold, FoldInTurn, AreFolded, HasFolds, ReportsFolds};
 ghost use Rattle.pliron_opt_canonicalize.specs.Sites.{AreListed, IsAmong, site_of};
-ghost use Rattle.pliron_opt_canonicalize.specs.Steps.{IsOnWay, AreDone, AreDonePartly};
+ghost use Rattle.pliron_opt_canonicalize.specs.Steps.{IsFoldingOnWay, AreDone, AreDonePartly};
 
 use crate::moved_uses::MovedUses;
 use crate::sites::Site;
@@ -239,7 +239,7 @@ pub fn fold_all<D: Dialect, R: Rewriter + Room>(
     requires live { IsLive ctx.old.tree root }
     requires linked { IsWellLinked D.meaning ctx.old.tree root }
     requires listed { AreListed ctx.old.tree root sites.now }
-    ensures way { IsOnWay D.meaning ctx.old.tree ctx.new.tree root }
+    ensures way { IsFoldingOnWay D.meaning ctx.old.tree ctx.new.tree root }
     ensures folded { (fs : List Fold) × AreFolded ⟦<D as HasOperandFolding>⟧.operand_folding root fs ctx.old.tree
         ctx.new.tree × OnOk result (FoldInTurn ⟦<D as HasOperandFolding>⟧.operand_folding root fs ctx.old.tree
         ctx.new.tree) }

@@ -15,7 +15,7 @@ use Rattle.pliron_theory.specs.Keeps.{KeepsAllRuns}
 use Rattle.pliron_theory.proofs.WholeChanges.{all_refl, all_trans}
 use Rattle.pliron_rewrite_blocks.specs.Links.{KeepsLinks}
 use Rattle.pliron_rewrite_blocks.specs.Joining.{JoinsWell}
-use Rattle.pliron_rewrite_blocks.specs.Pairs.{IsMergeable, forwarded_uses, after_merging}
+use Rattle.pliron_rewrite_blocks.specs.Pairs.{IsMergeable, forwarded_uses, after_block_merging}
 use Rattle.pliron_opt_cfg.specs.Internal.Chains.{MergesAmong, MergesAmong.Nothing, MergesAmong.Then, HasNoPairAmong, ReportsMerged, MergesAmongPartly}
 use Rattle.pliron_opt_cfg.proofs.PairLemmas.{second_beside, way_jump, way_of_pair}
 use Rattle.pliron_opt_cfg.proofs.MergedTrees.{IsMerge, merges, first_held}
@@ -39,7 +39,7 @@ longer m blocks few t u v more way (Then {u = x} a b jump values before listed p
 
 module _ (m : Meaning) (can_fold : Head → Bool) (SameTests : Head → Head → Type 0) (shortened : Shape → ℕ → ℕ → Head) (law : ForwardsOperands m can_fold SameTests shortened) (blocks : List ℕ) where
   -- one more merge
-  pub one_merge : (t u : Tree) → AreLinked m blocks t → ChainKeeps m t u → (a b jump : ℕ) (values : List ℕ) → In a blocks → IsMergeable m u a b jump values → IsTree (after_merging u a b jump values) → JoinsWell m (forwarded_uses u (arguments_of u b) values) a b jump → IsMerge m u (after_merging u a b jump values) a b
+  pub one_merge : (t u : Tree) → AreLinked m blocks t → ChainKeeps m t u → (a b jump : ℕ) (values : List ℕ) → In a blocks → IsMergeable m u a b jump values → IsTree (after_block_merging u a b jump values) → JoinsWell m (forwarded_uses u (arguments_of u b) values) a b jump → IsMerge m u (after_block_merging u a b jump values) a b
   one_merge t u linked k a b jump values listed pair tree well =
       merges m can_fold SameTests shortened law a b jump values u k.tree pair (λ holder e. linked_still m t u blocks k linked a holder listed e) well tree
 
@@ -50,7 +50,7 @@ module _ (m : Meaning) (can_fold : Head → Bool) (SameTests : Head → Head →
       let o = one_merge t x linked k a b jump values listed pair tree well in
       record {
         tree = tree;
-        runs = all_trans m t x (after_merging x a b jump values) k.runs o.runs;
+        runs = all_trans m t x (after_block_merging x a b jump values) k.runs o.runs;
         links = λ root l. o.links root (k.links root l);
         blocks = λ c j e. k.blocks c j (o.blocks c j e);
       }
@@ -65,10 +65,10 @@ module _ (m : Meaning) (can_fold : Head → Bool) (SameTests : Head → Head →
       λ c d j vs i q. ⊎_elim
       (λ e. there a b jump values (subst (λ z. In z done) e i) pair)
       (λ ne.
-      let is = first_held m (after_merging x a b jump values) tree c d j vs q in
-      let all = (λ (holder : ℕ) (e : block_parent_operation_of (after_merging x a b jump values) c ≡ Some holder). (o.links holder (k.links holder (held c holder i (k.blocks c holder (o.blocks c holder e))))).edges) in
-      let z = way_jump m (after_merging x a b jump values) c d j j (way_of_pair m (after_merging x a b jump values) c d j vs q) (sym q.ends) in
-      let beside = second_beside (after_merging x a b jump values) tree c d j (ap is_some is.2) all (sym q.ends) z.1 in
+      let is = first_held m (after_block_merging x a b jump values) tree c d j vs q in
+      let all = (λ (holder : ℕ) (e : block_parent_operation_of (after_block_merging x a b jump values) c ≡ Some holder). (o.links holder (k.links holder (held c holder i (k.blocks c holder (o.blocks c holder e))))).edges) in
+      let z = way_jump m (after_block_merging x a b jump values) c d j j (way_of_pair m (after_block_merging x a b jump values) c d j vs q) (sym q.ends) in
+      let beside = second_beside (after_block_merging x a b jump values) tree c d j (ap is_some is.2) all (sym q.ends) z.1 in
       let y = o.before c d j vs ne beside q in
       there c d j y.0 i y.1)
       (cases_eq c a)
@@ -130,21 +130,21 @@ pub record IsStep (m : Meaning) (first : ℕ) (t u v : Tree) : Type 0 where
   pub smaller : length (blocks_in v (block_parent_of v first)) < length (blocks_in u (block_parent_of u first))
 
 module _ (m : Meaning) (can_fold : Head → Bool) (SameTests : Head → Head → Type 0) (shortened : Shape → ℕ → ℕ → Head) (law : ForwardsOperands m can_fold SameTests shortened) (first : ℕ) where
-  step_here : (t u : Tree) (s : IRStatus) (b jump : ℕ) (values : List ℕ) → IsTree t → AreLinked m (first ∷ []) t → MergesAmong m (first ∷ []) t u → ReportsMerged m (first ∷ []) t u s → IsMergeable m u first b jump values → IsTree (after_merging u first b jump values) → JoinsWell m (forwarded_uses u (arguments_of u b) values) first b jump → IsStep m first t u (after_merging u first b jump values)
+  step_here : (t u : Tree) (s : IRStatus) (b jump : ℕ) (values : List ℕ) → IsTree t → AreLinked m (first ∷ []) t → MergesAmong m (first ∷ []) t u → ReportsMerged m (first ∷ []) t u s → IsMergeable m u first b jump values → IsTree (after_block_merging u first b jump values) → JoinsWell m (forwarded_uses u (arguments_of u b) values) first b jump → IsStep m first t u (after_block_merging u first b jump values)
   step_here t u s b jump values w linked way accurate pair tree well =
       let k = chain m can_fold SameTests shortened law (first ∷ []) t u w linked way in
       let o = one_merge m can_fold SameTests shortened law (first ∷ []) t u linked k first b jump values (inl refl) pair tree well in
       record {
         way = Then first b jump values way (inl refl) pair tree well;
-        accurate = tells_pair m (first ∷ []) t u (after_merging u first b jump values) s first b jump values accurate (inl refl) pair;
+        accurate = tells_pair m (first ∷ []) t u (after_block_merging u first b jump values) s first b jump values accurate (inl refl) pair;
         block = ap is_some (o.first ∙ o.in_region);
         linked = λ holder e. o.links holder (k.links holder (linked first holder (inl refl) (k.blocks first holder (o.blocks first holder e))));
-        smaller = fewer_blocks m u (after_merging u first b jump values) first b o;
+        smaller = fewer_blocks m u (after_block_merging u first b jump values) first b o;
       }
 
-  pub step_at : (t u v : Tree) (s : IRStatus) (a b jump : ℕ) (values : List ℕ) → IsTree t → AreLinked m (first ∷ []) t → MergesAmong m (first ∷ []) t u → ReportsMerged m (first ∷ []) t u s → IsMergeable m u first b jump values × (a ≡ first) → IsTree v → v ≡ after_merging u a b jump values → JoinsWell m (forwarded_uses u (arguments_of u b) values) a b jump → IsStep m first t u v
+  pub step_at : (t u v : Tree) (s : IRStatus) (a b jump : ℕ) (values : List ℕ) → IsTree t → AreLinked m (first ∷ []) t → MergesAmong m (first ∷ []) t u → ReportsMerged m (first ∷ []) t u s → IsMergeable m u first b jump values × (a ≡ first) → IsTree v → v ≡ after_block_merging u a b jump values → JoinsWell m (forwarded_uses u (arguments_of u b) values) a b jump → IsStep m first t u v
   step_at t u v s a b jump values w linked way accurate found wv e well =
-      let whole : v ≡ after_merging u first b jump values = e ∙ ap (λ z. after_merging u z b jump values) found.1 in
+      let whole : v ≡ after_block_merging u first b jump values = e ∙ ap (λ z. after_block_merging u z b jump values) found.1 in
       subst (IsStep m first t u) (sym whole) (step_here t u s b jump values w linked way accurate found.0 (subst IsTree whole wv) (subst (λ z. JoinsWell m (forwarded_uses u (arguments_of u b) values) z b jump) found.1 well))
 
 -- one block more is done

@@ -14,7 +14,7 @@ use Rattle.pliron_theory.specs.Keeps.{KeepsAllRuns}
 use Rattle.pliron_theory.proofs.WholeChanges.{all_trans}
 use Rattle.pliron_rewrite_blocks.specs.Links.{KeepsLinks}
 use Rattle.pliron_rewrite_blocks.specs.Joining.{JoinsWell}
-use Rattle.pliron_rewrite_blocks.specs.Pairs.{IsMergeable, forwarded_uses, after_merging}
+use Rattle.pliron_rewrite_blocks.specs.Pairs.{IsMergeable, forwarded_uses, after_block_merging}
 use Rattle.pliron_rewrite_blocks.proofs.StandingLemmas.{block_was}
 use Rattle.pliron_rewrite_blocks.proofs.NoNewPairs.{no_new_pair}
 use Rattle.pliron_rewrite_blocks.proofs.JoinedLinks.{joined_links, joined_inside}
@@ -52,12 +52,12 @@ module _ (m : Meaning) (can_fold : Head → Bool) (SameTests : Head → Head →
       }
 
   -- the whole merge
-  module _ (well : JoinsWell m (forwarded_uses t (arguments_of t b) values) a b jump) (wv : IsTree (after_merging t a b jump values)) where
+  module _ (well : JoinsWell m (forwarded_uses t (arguments_of t b) values) a b jump) (wv : IsTree (after_block_merging t a b jump values)) where
     abbrev u : Tree
     u = forwarded_uses t (arguments_of t b) values
 
     abbrev v : Tree
-    v = after_merging t a b jump values
+    v = after_block_merging t a b jump values
 
     held : (r k : ℕ) × (block_parent_of t a ≡ Some r) × IsRegion t r × (region_parent_of t r ≡ Some k) × (block_parent_operation_of t a ≡ Some k) × IsLive t k
     held = first_held m t w a b jump values h

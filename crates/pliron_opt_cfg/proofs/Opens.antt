@@ -15,7 +15,7 @@ use Rattle.pliron_theory.specs.Splicing.{IsSpliced}
 use Rattle.pliron_theory.proofs.ChangeLemmas.{linked_inside}
 use Rattle.pliron_opt_cfg.specs.Visited.{Start, IsReachedIn, IsVisited, IsVisitedSsaRegion, IsUnreachable}
 use Rattle.pliron_rewrite_blocks.specs.Joining.{JoinsWell}
-use Rattle.pliron_rewrite_blocks.specs.Pairs.{IsMergeable, forwarded_uses, after_merging}
+use Rattle.pliron_rewrite_blocks.specs.Pairs.{IsMergeable, forwarded_uses, after_block_merging}
 use Rattle.pliron_rewrite_blocks.proofs.JoinedLinks.{joined_inside}
 use Rattle.pliron_opt_cfg.specs.Merged.{IsDue}
 use Rattle.pliron_opt_cfg.proofs.Forwarded.{IsForwarded, forwarded_all}
@@ -58,9 +58,9 @@ pub record IsKept (m : Meaning) (start : Start) (t v : Tree) (root : ℕ) : Type
   pub change : IsWholeChange m t v root
 
 module _ (m : Meaning) (can_fold : Head → Bool) (SameTests : Head → Head → Type 0) (shortened : Shape → ℕ → ℕ → Head) (law : ForwardsOperands m can_fold SameTests shortened) (start : Start) (root : ℕ) (lasting : IsLasting start root) where
-  module _ (t : Tree) (a b jump : ℕ) (values : List ℕ) (w : IsTree t) (live : IsLive t root) (linked : IsWellLinked m t root) (starts : (r : ℕ) → start t r → IsHeld t root r) (opened : IsOpen start t a) (h : IsMergeable m t a b jump values) (well : JoinsWell m (forwarded_uses t (arguments_of t b) values) a b jump) (wv : IsTree (after_merging t a b jump values)) where
+  module _ (t : Tree) (a b jump : ℕ) (values : List ℕ) (w : IsTree t) (live : IsLive t root) (linked : IsWellLinked m t root) (starts : (r : ℕ) → start t r → IsHeld t root r) (opened : IsOpen start t a) (h : IsMergeable m t a b jump values) (well : JoinsWell m (forwarded_uses t (arguments_of t b) values) a b jump) (wv : IsTree (after_block_merging t a b jump values)) where
     abbrev v : Tree
-    v = after_merging t a b jump values
+    v = after_block_merging t a b jump values
 
     abbrev xs : List (List ℕ)
     xs = (forwarded_uses t (arguments_of t b) values).operands

@@ -15,7 +15,7 @@ use Rattle.pliron_opt_cfg.specs.Visited.{IsVisited, IsVisited.Starts, IsVisited.
 use Rattle.pliron_opt_cfg.proofs.Lawful.{edges_held, visited_lawful, entered_in}
 use Rattle.pliron_opt_cfg.specs.declared.removal.scope.RemovalScope.{RemovalScope}
 use Rattle.pliron_opt_cfg.specs.declared.removal.scope.RemovalScope.TheVariants.{Operation, Block, Region}
-use Rattle.pliron_opt_cfg.specs.Internal.Scopes.{start_of, IsScopeLive, IsHolder}
+use Rattle.pliron_opt_cfg.specs.Internal.Scopes.{start_of_scope, IsScopeLive, IsHolder}
 use Rattle.pliron_opt_cfg.proofs.CutOffLemmas.{cut_in}
 
 -- the regions of an operation are those that it holds
@@ -42,7 +42,7 @@ top_within t (Operation op) root top h x = inl (x ∙ h)
 top_within t (Block block) root top h x = inr (Directly (holder_by t top block root x h))
 top_within t (Region region) root top h x = inl (some_is (sym x ∙ h))
 
-pub top_held : (t : Tree) → IsTree t → (s : RemovalScope) (r : ℕ) → IsScopeLive t s → start_of s t r → (h : ℕ) × IsTop t s h × (region_parent_of t r ≡ Some h) × IsRegion t r
+pub top_held : (t : Tree) → IsTree t → (s : RemovalScope) (r : ℕ) → IsScopeLive t s → start_of_scope s t r → (h : ℕ) × IsTop t s h × (region_parent_of t r ≡ Some h) × IsRegion t r
 top_held t w (Operation op) r is i = (op, refl, held_by t w op r i, stands_by t w op r i)
 top_held t w (Block block) r is (k, at, i) = (k, at, held_by t w k r i, stands_by t w k r i)
 top_held t w (Region region) r is e = let h = region_has t region is in (h.0, h.1, ap (region_parent_of t) e ∙ h.1, subst (IsRegion t) (sym e) is)
@@ -58,7 +58,7 @@ tops_apart t w (Block block) root a b h x y i =
 tops_apart t w (Region region) root a b h x y i = not_itself {t = t} w.joined.rooted (subst (λ z. IsInside t z a) (some_is (sym y ∙ x)) i)
 
 module _ (t : Tree) (w : IsTree t) (s : RemovalScope) (root : ℕ) (liveness : IsScopeLive t s) (holder : IsHolder t s root) (edges : EdgesLast t root) where
-  pub start_lawful : (r : ℕ) → start_of s t r → IsLawfulRegion t r
+  pub start_lawful : (r : ℕ) → start_of_scope s t r → IsLawfulRegion t r
   start_lawful r x =
       let top = top_held t w s r liveness x in
       record {
@@ -69,11 +69,11 @@ module _ (t : Tree) (w : IsTree t) (s : RemovalScope) (root : ℕ) (liveness : I
         edges = ⊎_elim (λ e. subst (EdgesLast t) (sym e) edges) (λ i. edges_held t root top.0 i edges) (top_within t s root top.0 holder top.1);
       }
 
-  lawful : (r : ℕ) → IsVisited t (start_of s t) r → IsLawfulRegion t r
-  lawful r v = visited_lawful t w (start_of s t) start_lawful r v
+  lawful : (r : ℕ) → IsVisited t (start_of_scope s t) r → IsLawfulRegion t r
+  lawful r v = visited_lawful t w (start_of_scope s t) start_lawful r v
 
   -- a visited region is held by one of the operations with which the call starts, or stands inside one
-  below : (r : ℕ) → IsVisited t (start_of s t) r → (h : ℕ) → region_parent_of t r ≡ Some h → (top : ℕ) × IsTop t s top × IsWithin t top h
+  below : (r : ℕ) → IsVisited t (start_of_scope s t) r → (h : ℕ) → region_parent_of t r ≡ Some h → (top : ℕ) × IsTop t s top × IsWithin t top h
   below r (Starts x) h e = let top = top_held t w s r liveness x in (top.0, top.1, inl (some_is (sym e ∙ top.2)))
   below r (Nested outer b k v ent p i) h e =
       let l = lawful outer v in
@@ -82,29 +82,29 @@ module _ (t : Tree) (w : IsTree t) (s : RemovalScope) (root : ℕ) (liveness : I
       let x = below outer v l.holder l.held in
       (x.0, x.1, inr (subst (IsInside t x.0) (sym same) (inside_by {t = t} l.holder up x.2)))
 
-  pub within_root : (r : ℕ) → IsVisited t (start_of s t) r → (h : ℕ) → region_parent_of t r ≡ Some h → IsWithin t root h
+  pub within_root : (r : ℕ) → IsVisited t (start_of_scope s t) r → (h : ℕ) → region_parent_of t r ≡ Some h → IsWithin t root h
   within_root r v h e =
       let x = below r v h e in
       ⊎_elim (λ z. subst (λ y. IsWithin t y h) z x.2) (λ i. inr (within_inside i x.2)) (top_within t s root x.0 holder x.1)
 
   -- what stands in a block of a visited region is inside what holds the region
-  in_block : (r b k : ℕ) (v : IsVisited t (start_of s t) r) → block_parent_of t b ≡ Some r → IsInOperation t b k → (l : IsLawfulRegion t r) → (top : ℕ) → IsWithin t top l.holder → IsInside t top k
+  in_block : (r b k : ℕ) (v : IsVisited t (start_of_scope s t) r) → block_parent_of t b ≡ Some r → IsInOperation t b k → (l : IsLawfulRegion t r) → (top : ℕ) → IsWithin t top l.holder → IsInside t top k
   in_block r b k v p y l top within =
       let up : parent_operation_of t y.0 ≡ Some l.holder = holder_from t y.0 b y.1 ∙ block_holder_from t b r p ∙ l.held in
       within_inside (inside_by {t = t} l.holder up within) y.2
 
   -- so neither the root nor where the call starts stands there
-  pub root_apart : (r b : ℕ) → IsVisited t (start_of s t) r → block_parent_of t b ≡ Some r → IsInOperation t b root → ⊥
+  pub root_apart : (r b : ℕ) → IsVisited t (start_of_scope s t) r → block_parent_of t b ≡ Some r → IsInOperation t b root → ⊥
   root_apart r b v p y = let l = lawful r v in not_itself {t = t} w.joined.rooted (in_block r b root v p y l root (within_root r v l.holder l.held))
 
-  pub top_apart : (r b k : ℕ) → IsVisited t (start_of s t) r → block_parent_of t b ≡ Some r → IsTop t s k → IsInOperation t b k → ⊥
+  pub top_apart : (r b k : ℕ) → IsVisited t (start_of_scope s t) r → block_parent_of t b ≡ Some r → IsTop t s k → IsInOperation t b k → ⊥
   top_apart r b k v p x y =
       let l = lawful r v in
       let z = below r v l.holder l.held in
       tops_apart t w s root k z.0 holder x z.1 (in_block r b k v p y l z.0 z.2)
 
 -- the block itself is none of a visited region
-block_apart : (t : Tree) (w : IsTree t) (block root : ℕ) (liveness : IsScopeLive t (Block block)) (holder : IsHolder t (Block block) root) → EdgesLast t root → (r : ℕ) → IsVisited t (start_of (Block block) t) r → block_parent_of t block ≡ Some r → ⊥
+block_apart : (t : Tree) (w : IsTree t) (block root : ℕ) (liveness : IsScopeLive t (Block block)) (holder : IsHolder t (Block block) root) → EdgesLast t root → (r : ℕ) → IsVisited t (start_of_scope (Block block) t) r → block_parent_of t block ≡ Some r → ⊥
 block_apart t w block root liveness holder edges r v p =
     let held : region_parent_of t r ≡ Some root = sym (block_holder_from t block r p) ∙ holder in
     let x = below t w (Block block) root liveness holder edges r v root held in
@@ -118,7 +118,7 @@ module _ (t v : Tree) (w : IsTree t) (wv : IsTree v) (root r : ℕ) (bs : List �
   stood : (k : ℕ) → IsLive v k → cut_op t bs k ≡ false
   stood k live = false_from_ne_true _ (λ e. true≢false (sym live ∙ ap is_some (cut.deleted k e)))
 
-  module _ (s : RemovalScope) (liveness : IsScopeLive t s) (holder : IsHolder t s root) (edges : EdgesLast t root) (visited : IsVisited t (start_of s t) r) where
+  module _ (s : RemovalScope) (liveness : IsScopeLive t s) (holder : IsHolder t s root) (edges : EdgesLast t root) (visited : IsVisited t (start_of_scope s t) r) where
     pub root_left : cut_op t bs root ≡ false
     root_left = left_of root (λ b i y. root_apart t w s root liveness holder edges r b visited (own b i) y)
 
@@ -132,32 +132,32 @@ module _ (t v : Tree) (w : IsTree t) (wv : IsTree v) (root r : ℕ) (bs : List �
     listed_still : (q : ℕ) → IsRegion t q → region_parent_of t q ≡ Some root → In q (regions_of v root)
     listed_still q is e = subst (λ z. In q z.regions) (sym row) (listed_by t w root q is e)
 
-  block_left : (block : ℕ) (liveness : IsScopeLive t (Block block)) (holder : IsHolder t (Block block) root) → EdgesLast t root → IsVisited t (start_of (Block block) t) r → cut_block t bs block ≡ false
+  block_left : (block : ℕ) (liveness : IsScopeLive t (Block block)) (holder : IsHolder t (Block block) root) → EdgesLast t root → IsVisited t (start_of_scope (Block block) t) r → cut_block t bs block ≡ false
   block_left block liveness holder edges visited = false_from_ne_true _ (λ e. ⊎_elim
       (λ i. block_apart t w block root liveness holder edges r visited (own block i))
       (λ q. true≢false (sym q.2 ∙ ap (cut_op t bs) (some_is (sym q.1 ∙ holder)) ∙ root_left (Block block) liveness holder edges visited))
       (block_cases t bs block e))
 
-  pub start_to : (s : RemovalScope) (liveness : IsScopeLive t s) (holder : IsHolder t s root) → EdgesLast t root → IsVisited t (start_of s t) r → (q : ℕ) → start_of s t q → start_of s v q
+  pub start_to : (s : RemovalScope) (liveness : IsScopeLive t s) (holder : IsHolder t s root) → EdgesLast t root → IsVisited t (start_of_scope s t) r → (q : ℕ) → start_of_scope s t q → start_of_scope s v q
   start_to (Operation op) liveness holder edges visited q i = subst (λ z. In q z.regions) (sym (cut.rows op (top_left (Operation op) liveness holder edges visited op refl))) i
   start_to (Block block) liveness holder edges visited q (k, at, i) =
       let left = top_left (Block block) liveness holder edges visited k at in
       (k, cut.parents k left ∙ at, subst (λ z. In q z.regions) (sym (cut.rows k left)) i)
   start_to (Region region) liveness holder edges visited q e = e
 
-  pub start_from : (s : RemovalScope) (liveness : IsScopeLive t s) (holder : IsHolder t s root) → EdgesLast t root → IsVisited t (start_of s t) r → (q : ℕ) → start_of s v q → start_of s t q
+  pub start_from : (s : RemovalScope) (liveness : IsScopeLive t s) (holder : IsHolder t s root) → EdgesLast t root → IsVisited t (start_of_scope s t) r → (q : ℕ) → start_of_scope s v q → start_of_scope s t q
   start_from (Operation op) liveness holder edges visited q i = subst (λ z. In q z.regions) (cut.rows op (top_left (Operation op) liveness holder edges visited op refl)) i
   start_from (Block block) liveness holder edges visited q (k, at, i) =
       let left = stood k (wv.joined.all_in_place k block at).0 in
       (k, sym (cut.parents k left) ∙ at, subst (λ z. In q z.regions) (cut.rows k left) i)
   start_from (Region region) liveness holder edges visited q e = e
 
-  pub stands_still : (s : RemovalScope) (liveness : IsScopeLive t s) (holder : IsHolder t s root) → EdgesLast t root → IsVisited t (start_of s t) r → IsScopeLive v s
+  pub stands_still : (s : RemovalScope) (liveness : IsScopeLive t s) (holder : IsHolder t s root) → EdgesLast t root → IsVisited t (start_of_scope s t) r → IsScopeLive v s
   stands_still (Operation op) liveness holder edges visited = subst (λ z. is_some z.head ≡ true) (sym (cut.rows op (top_left (Operation op) liveness holder edges visited op refl))) liveness
   stands_still (Block block) liveness holder edges visited = subst IsSome (sym (cut.block_parents block (block_left block liveness holder edges visited))) liveness
   stands_still (Region region) liveness holder edges visited = stands_by v wv root region (listed_still (root_row (Region region) liveness holder edges visited) region liveness holder)
 
-  pub holder_still : (s : RemovalScope) (liveness : IsScopeLive t s) (holder : IsHolder t s root) → EdgesLast t root → IsVisited t (start_of s t) r → IsHolder v s root
+  pub holder_still : (s : RemovalScope) (liveness : IsScopeLive t s) (holder : IsHolder t s root) → EdgesLast t root → IsVisited t (start_of_scope s t) r → IsHolder v s root
   holder_still (Operation op) liveness holder edges visited = holder
   holder_still (Block block) liveness holder edges visited =
       let x = block_steps t block root holder in

@@ -17,7 +17,7 @@ use Rattle.pliron_theory.proofs.WholeChanges.{whole_trans, whole_refl}
 use Rattle.pliron_opt_cfg.specs.Visited.{Start, OfOperation, OfRegion, IsVisited, IsUnreachable}
 use Rattle.pliron_opt_cfg.specs.Visits.{AreVisits}
 use Rattle.pliron_rewrite_blocks.specs.Links.{KeepsLinks}
-use Rattle.pliron_rewrite_blocks.specs.Pairs.{IsMergeable, forwarded_uses, after_merging}
+use Rattle.pliron_rewrite_blocks.specs.Pairs.{IsMergeable, forwarded_uses, after_block_merging}
 use Rattle.pliron_opt_cfg.specs.Merged.{MergesSome, MergesSome.Nothing as NoneMerged, MergesSome.Then as OneMerged, MergesAll, MergesPartly, IsHalfMerged, LosesOperation}
 use Rattle.pliron_opt_cfg.specs.Internal.Chains.{MergesAmong, MergesAmong.Nothing, MergesAmong.Then, HasNoPairAmong, ReportsMerged, IsHalfMergedAmong, MergesAmongPartly}
 use Rattle.pliron_opt_cfg.proofs.Forwarded.{forwarded_first}
@@ -97,7 +97,7 @@ module _ (m : Meaning) (can_fold : Head → Bool) (SameTests : Head → Head →
         were = λ c is. r.were c (k.were c is);
         lives = λ j l. r.lives j (k.lives j l);
         went = inr (jump, r.lives jump (jump_live m can_fold SameTests shortened law start root lasting x a b jump values r.tree r.change.liveness r.change.linked r.begins opened pair well tree), jump_gone m can_fold SameTests shortened law start root lasting x a b jump values r.tree r.change.liveness r.change.linked r.begins opened pair well tree);
-        change = whole_trans m t x (after_merging x a b jump values) root r.change k.change;
+        change = whole_trans m t x (after_block_merging x a b jump values) root r.change k.change;
       }
 
   -- no unreachable block and no block is new

@@ -4,7 +4,7 @@ use Rattle.pliron_core.specs.declared.attrs.IRStatus.{IRStatus}
 use Rattle.pliron_core.specs.declared.attrs.IRStatus.TheVariants.{Changed, Unchanged}
 use Rattle.pliron_core.specs.Tree.{Tree, IsLive, head_of, arguments_of, block_parent_of}
 use Rattle.pliron_laws.specs.Datum.{Meaning}
-use Rattle.pliron_rewrite_blocks.specs.Pairs.{IsMergeable, forwarded_uses, after_merging}
+use Rattle.pliron_rewrite_blocks.specs.Pairs.{IsMergeable, forwarded_uses, after_block_merging}
 use Rattle.pliron_opt_cfg.specs.Visited.{Start, IsVisitedSsaRegion, IsReachedIn}
 
 -- a mergeable pair of a searched region, whose first block the region's entry reaches
@@ -18,7 +18,7 @@ pub record IsDue (start : Start) (m : Meaning) (t : Tree) (a b jump : ℕ) (valu
 -- such pairs were merged, one after the other
 pub data MergesSome (start : Start) (m : Meaning) (t : Tree) : Tree → Type 0 where
   Nothing : MergesSome start m t t
-  Then : {u : Tree} (a b jump : ℕ) (values : List ℕ) → MergesSome start m t u → IsDue start m u a b jump values → MergesSome start m t (after_merging u a b jump values)
+  Then : {u : Tree} (a b jump : ℕ) (values : List ℕ) → MergesSome start m t u → IsDue start m u a b jump values → MergesSome start m t (after_block_merging u a b jump values)
 
 -- some pair is due
 abbrev pub HasPair : Start → Meaning → Tree → Type 0

@@ -11,8 +11,8 @@ ghost use Rattle.pliron_rewrite_blocks.specs.Links.{KeepsLinks};
 ghost use Rattle.pliron_opt_cfg.specs.Visited.{OfBlock, OfOperation, OfRegion};
 ghost use Rattle.pliron_opt_cfg.specs.Visits.{AreVisits};
 ghost use Rattle.pliron_opt_cfg.specs.Removed.{RemovesAll, RemovalFails};
-ghost use Rattle.pliron_opt_cfg.specs.Internal.Scopes.{start_of, IsScopeLive, IsHolder};
-ghost use Rattle.pliron_opt_cfg.specs.Internal.Cleared.{status_after};
+ghost use Rattle.pliron_opt_cfg.specs.Internal.Scopes.{start_of_scope, IsScopeLive, IsHolder};
+ghost use Rattle.pliron_opt_cfg.specs.Internal.Cleared.{status_after_more};
 
 mod contents;
 mod erasing;
@@ -34,7 +34,7 @@ use std::alloc::Global;
 
 // The status after one more part of the work.
 fn with_more(status: IRStatus, more: IRStatus) -> IRStatus
-    ensures { result ≡ status_after more status }
+    ensures { result ≡ status_after_more more status }
 {
     match more {
         IRStatus::Changed => IRStatus::Changed,
@@ -54,9 +54,9 @@ fn clear_regions<D: Dialect, R: Rewriter + Room>(
     requires liveness { IsScopeLive ctx.old.tree scope.now }
     requires linked { (holder : ℕ) → IsHolder ctx.old.tree scope.now holder → IsWellLinked D.meaning ctx.old.tree
         holder }
-    requires visits { AreVisits ctx.old.tree (start_of scope.now ctx.old.tree) regions.items reached.now.keys }
-    ensures ok { IfOk result (λ status. RemovesAll (start_of scope.now) ctx.old.tree ctx.new.tree status) }
-    ensures err { IfErr result (λ e. RemovalFails (start_of scope.now) ctx.old.tree ctx.new.tree e) }
+    requires visits { AreVisits ctx.old.tree (start_of_scope scope.now ctx.old.tree) regions.items reached.now.keys }
+    ensures ok { IfOk result (λ status. RemovesAll (start_of_scope scope.now) ctx.old.tree ctx.new.tree status) }
+    ensures err { IfErr result (λ e. RemovalFails (start_of_scope scope.now) ctx.old.tree ctx.new.tree e) }
     ensures change { (holder : ℕ) → IsHolder ctx.old.tree scope.now holder → IsWholeChange D.meaning ctx.old.tree
         ctx.new.tree holder }
     ensures links { KeepsLinks D.meaning ctx.old.tree ctx.new.tree }
@@ -86,8 +86,8 @@ fn remove_blocks_in<D: Dialect, R: Rewriter + Room>(
     requires liveness { IsScopeLive ctx.old.tree scope.now }
     requires linked { (holder : ℕ) → IsHolder ctx.old.tree scope.now holder → IsWellLinked D.meaning ctx.old.tree
         holder }
-    ensures ok { IfOk result (λ status. RemovesAll (start_of scope.now) ctx.old.tree ctx.new.tree status) }
-    ensures err { IfErr result (λ e. RemovalFails (start_of scope.now) ctx.old.tree ctx.new.tree e) }
+    ensures ok { IfOk result (λ status. RemovesAll (start_of_scope scope.now) ctx.old.tree ctx.new.tree status) }
+    ensures err { IfErr result (λ e. RemovalFails (start_of_scope scope.now) ctx.old.tree ctx.new.tree e) }
     ensures accurate { IfOk result (λ a. (a ≡ Unchanged) ↔ (ctx.new.tree ≡ ctx.old.tree)) }
     ensures change { (holder : ℕ) → IsHolder ctx.old.tree scope.now holder → IsWholeChange D.meaning ctx.old.tree
         ctx.new.tree holder }

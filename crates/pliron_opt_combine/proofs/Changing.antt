@@ -12,7 +12,7 @@ use Rattle.pliron_laws.specs.Linked.{IsWellLinked}
 use Rattle.pliron_laws.specs.Outcomes.{next_op}
 use Rattle.pliron_laws.proofs.ConstantLemmas.{new_row, some_block}
 use Rattle.pliron_rewrite_equals.proofs.Replaced.{operands_replaced, target_cases}
-use Rattle.pliron_graph_order.specs.Seen.{IsSeen}
+use Rattle.pliron_graph_order.specs.Seen.{IsSeen, IsUsed}
 use Rattle.pliron_graph_order.proofs.SeenLemmas.{seen_inside}
 use Rattle.pliron_rewrite_rules.specs.Insertions.{after_making, with_operation, IsInsertion, InsertedLaws}
 use Rattle.pliron_rewrite_rules.specs.Equations.{Makes}
@@ -35,7 +35,7 @@ use Rattle.pliron_rewrite_rules.proofs.RuleKeeps.{constant_insertion, term_inser
 use Rattle.pliron_rewrite_rules.specs.Applying.{Applies}
 use Rattle.pliron_rewrite_rules.proofs.AppliedRules.{applied_rule}
 use Rattle.pliron_rewrite_rules.proofs.LocalChanges.{applied_grows, applied_tree, local_applied}
-use Rattle.pliron_opt_combine.specs.Steps.{HasChanged, IsOnWay, IsUsed, LosesUses}
+use Rattle.pliron_opt_combine.specs.Steps.{HasChanged, IsOnSweep, LosesUses}
 use Rattle.pliron_opt_combine.proofs.Staying.{Stays, stays_refl, stays_trans, seen_stays}
 
 -- there is one operation more
@@ -140,7 +140,7 @@ module _ (x : RuleTables) (laws : IsLawful x) (rules : View → Option Term) (ho
 
   -- on the way
   module _ (root : ℕ) (live : IsLive t root) (linked : IsWellLinked x.meaning t root) (seen : IsSeen t root op) (term : Term) (a : Applies x rules t op term) where
-    pub rewritten_way : IsOnWay x.meaning t (after_rewriting x t op a.old term) root
+    pub rewritten_way : IsOnSweep x.meaning t (after_rewriting x t op a.old term) root
     rewritten_way =
         let c = local_applied x laws t w op a.old term (r term a) in
         record { change = c.change root live linked (seen_inside t w root op seen); links = c.links; edges = c.edges; stays = rewritten_lives term a }

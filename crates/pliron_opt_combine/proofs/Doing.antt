@@ -8,16 +8,16 @@ use Rattle.pliron_laws.specs.MaterialisedConstants.{IsRestored}
 use Rattle.pliron_laws.proofs.LinkedLemmas.{linked_same}
 use Rattle.pliron_theory.proofs.EdgeLemmas.{edges_same, edges_transitive}
 use Rattle.pliron_theory.proofs.WholeChanges.{same_whole, whole_refl, whole_trans}
-use Rattle.pliron_graph_order.specs.Seen.{IsSeen}
+use Rattle.pliron_graph_order.specs.Seen.{IsSeen, IsUsed}
 use Rattle.pliron_rewrite_rules.specs.Tables.{RuleTables}
 use Rattle.pliron_rewrite_rules.specs.declared.term.Term.{Term}
 use Rattle.pliron_rewrite_rules.specs.declared.view.View.{View}
 use Rattle.pliron_rewrite_rules.specs.Rewriting.{after_rewriting}
 use Rattle.pliron_rewrite_rules.specs.RuleLaws.{RulesHold}
 use Rattle.pliron_rewrite_rules.proofs.PureOperations.{IsLawful}
-use Rattle.pliron_rewrite_rules.specs.Applying.{Applies, IsAnswer, IsRewritten}
+use Rattle.pliron_rewrite_rules.specs.Applying.{Applies, IsRuleAnswer, IsRewritten}
 use Rattle.pliron_opt_combine.specs.Rewrites.{Rewrite, RewriteInTurn, AreRewritten, HasRewrites}
-use Rattle.pliron_opt_combine.specs.Steps.{AreDone, AreDonePartly, HasChanged, IsOnWay, IsUsed, LosesUses}
+use Rattle.pliron_opt_combine.specs.Steps.{AreSwept, AreSweptPartly, HasChanged, IsOnSweep, LosesUses}
 use Rattle.pliron_opt_combine.proofs.Changing.{rewritten_changes, rewritten_seen, rewritten_way}
 
 pub same_itself : (t : Tree) → IsSameTree t t
@@ -46,7 +46,7 @@ module _ (x : RuleTables) (rules : View → Option Term) (root : ℕ) where
   none_made [] t t' e turn = turn
   none_made (r ∷ rs) t t' e turn = absurd (omega (arith, e))
 
-  way_trans : (t0 t t' : Tree) → IsOnWay x.meaning t0 t root → IsOnWay x.meaning t t' root → IsOnWay x.meaning t0 t' root
+  way_trans : (t0 t t' : Tree) → IsOnSweep x.meaning t0 t root → IsOnSweep x.meaning t t' root → IsOnSweep x.meaning t0 t' root
   way_trans t0 t t' a b = record {
     change = whole_trans x.meaning t0 t t' root a.change b.change;
     links = λ r l. b.links r (a.links r l);
@@ -55,20 +55,20 @@ module _ (x : RuleTables) (rules : View → Option Term) (root : ℕ) where
   }
 
   -- where as many are left as before, the tree is as before
-  pub done_same : (t0 t : Tree) (left rest : ℕ) (Done : ℕ → Type 0) → AreDone x rules t0 t root left rest Done → rest ≡ left → t ≡ t0
+  pub done_same : (t0 t : Tree) (left rest : ℕ) (Done : ℕ → Type 0) → AreSwept x rules t0 t root left rest Done → rest ≡ left → t ≡ t0
   done_same t0 t left rest Done d e = let n = d.counted in none_made d.rewrites t0 t (omega (arith, n, e)) d.in_turn
 
   module _ (t : Tree) (live : IsLive t root) (linked : IsWellLinked x.meaning t root) where
-    way_refl : IsOnWay x.meaning t t root
+    way_refl : IsOnSweep x.meaning t t root
     way_refl = record { change = whole_refl x.meaning t root live linked; links = λ r l. l; edges = λ op a b. refl; stays = λ k l. l }
 
-    pub done_start : (left : ℕ) (Done : ℕ → Type 0) → (0 < left → (k : ℕ) (term : Term) → Done k → Applies x rules t k term → ⊥) → AreDone x rules t t root left left Done
+    pub done_start : (left : ℕ) (Done : ℕ → Type 0) → (0 < left → (k : ℕ) (term : Term) → Done k → Applies x rules t k term → ⊥) → AreSwept x rules t t root left left Done
     done_start left Done none = record { way = way_refl; rewrites = []; in_turn = refl; counted = omega arith; seen = λ k s. s; changed = λ lt. absurd (omega (arith, lt)); none = λ e. none }
 
-    pub partly_start : (left : ℕ) → AreDonePartly x rules t t root left
+    pub partly_start : (left : ℕ) → AreSweptPartly x rules t t root left
     partly_start left = record { way = way_refl; rewritten = ([], record { before = t; in_turn = refl; same = same_itself t; most = omega arith }) }
 
-    pub partly_restored : (t' : Tree) (left : ℕ) → IsTree t → IsTree t' → IsRestored t t' → AreDonePartly x rules t t' root left
+    pub partly_restored : (t' : Tree) (left : ℕ) → IsTree t → IsTree t' → IsRestored t t' → AreSweptPartly x rules t t' root left
     partly_restored t' left w w' b = record {
       way = record {
         change = same_whole x.meaning t t' root w w' b.same b.longer live linked;
@@ -79,7 +79,7 @@ module _ (x : RuleTables) (rules : View → Option Term) (root : ℕ) where
       rewritten = ([], record { before = t; in_turn = refl; same = b.same; most = omega arith });
     }
 
-  pub done_more : (t0 t t' : Tree) (left middle rest : ℕ) (Done Also : ℕ → Type 0) → AreDone x rules t0 t root left middle Done → AreDone x rules t t' root middle rest Also → AreDone x rules t0 t' root left rest (λ k. Done k ⊎ Also k)
+  pub done_more : (t0 t t' : Tree) (left middle rest : ℕ) (Done Also : ℕ → Type 0) → AreSwept x rules t0 t root left middle Done → AreSwept x rules t t' root middle rest Also → AreSwept x rules t0 t' root left rest (λ k. Done k ⊎ Also k)
   done_more t0 t t' left middle rest Done Also p q = record {
     way = way_trans t0 t t' p.way q.way;
     rewrites = p.rewrites ++ q.rewrites;
@@ -110,21 +110,21 @@ module _ (x : RuleTables) (rules : View → Option Term) (root : ℕ) where
           subst (λ z. HasChanged z t') same (q.changed (omega (arith, n, m, a, lt))))
           (cases middle left)
 
-  pub done_as : (t0 t : Tree) (left rest : ℕ) (Done Also : ℕ → Type 0) → ((k : ℕ) → Also k → Done k) → AreDone x rules t0 t root left rest Done → AreDone x rules t0 t root left rest Also
+  pub done_as : (t0 t : Tree) (left rest : ℕ) (Done Also : ℕ → Type 0) → ((k : ℕ) → Also k → Done k) → AreSwept x rules t0 t root left rest Done → AreSwept x rules t0 t root left rest Also
   done_as t0 t left rest Done Also h p = record { way = p.way; rewrites = p.rewrites; in_turn = p.in_turn; counted = p.counted; seen = p.seen; changed = p.changed; none = λ e some k term d a. p.none e some k term (h k d) a }
 
   -- where nothing is said to be done
-  pub done_nothing : (t0 t t' : Tree) (left middle rest : ℕ) → AreDone x rules t0 t root left middle (λ k. ⊥) → AreDone x rules t t' root middle rest (λ k. ⊥) → AreDone x rules t0 t' root left rest (λ k. ⊥)
+  pub done_nothing : (t0 t t' : Tree) (left middle rest : ℕ) → AreSwept x rules t0 t root left middle (λ k. ⊥) → AreSwept x rules t t' root middle rest (λ k. ⊥) → AreSwept x rules t0 t' root left rest (λ k. ⊥)
   done_nothing t0 t t' left middle rest p q = done_as t0 t' left rest (λ k. ⊥ ⊎ ⊥) (λ k. ⊥) (λ k never. absurd never) (done_more t0 t t' left middle rest (λ k. ⊥) (λ k. ⊥) p q)
 
   -- once there was a rewrite, nothing is said of what is done
-  pub done_anything : (t0 t : Tree) (left rest : ℕ) (Done Also : ℕ → Type 0) → rest < left → AreDone x rules t0 t root left rest Done → AreDone x rules t0 t root left rest Also
+  pub done_anything : (t0 t : Tree) (left rest : ℕ) (Done Also : ℕ → Type 0) → rest < left → AreSwept x rules t0 t root left rest Done → AreSwept x rules t0 t root left rest Also
   done_anything t0 t left rest Done Also lt p = record { way = p.way; rewrites = p.rewrites; in_turn = p.in_turn; counted = p.counted; seen = p.seen; changed = p.changed; none = λ e. absurd (omega (arith, e, lt)) }
 
-  pub done_fewer : (t0 t : Tree) (left rest : ℕ) (Done : ℕ → Type 0) → AreDone x rules t0 t root left rest Done → rest ≤ left
+  pub done_fewer : (t0 t : Tree) (left rest : ℕ) (Done : ℕ → Type 0) → AreSwept x rules t0 t root left rest Done → rest ≤ left
   done_fewer t0 t left rest Done p = let n = p.counted in omega (arith, n)
 
-  pub partly_more : (t0 t t' : Tree) (left middle : ℕ) (Done : ℕ → Type 0) → AreDone x rules t0 t root left middle Done → AreDonePartly x rules t t' root middle → AreDonePartly x rules t0 t' root left
+  pub partly_more : (t0 t t' : Tree) (left middle : ℕ) (Done : ℕ → Type 0) → AreSwept x rules t0 t root left middle Done → AreSweptPartly x rules t t' root middle → AreSweptPartly x rules t0 t' root left
   partly_more t0 t t' left middle Done p q =
       let a = q.rewritten.1 in
       record {
@@ -141,19 +141,19 @@ module _ (x : RuleTables) (rules : View → Option Term) (root : ℕ) where
       }
 
   -- what was done may be all that is
-  pub partly : (t0 t : Tree) (left rest : ℕ) (Done : ℕ → Type 0) → AreDone x rules t0 t root left rest Done → AreDonePartly x rules t0 t root left
+  pub partly : (t0 t : Tree) (left rest : ℕ) (Done : ℕ → Type 0) → AreSwept x rules t0 t root left rest Done → AreSweptPartly x rules t0 t root left
   partly t0 t left rest Done p = record { way = p.way; rewritten = (p.rewrites, record { before = t; in_turn = p.in_turn; same = same_itself t; most = let n = p.counted in omega (arith, n) }) }
 
   -- none is left
-  pub none_left : (t t' : Tree) (left rest : ℕ) → AreDone x rules t t' root left rest (λ k. IsSeen t root k) → rest ≡ left → 0 < left → HasRewrites x rules t' root → ⊥
+  pub none_left : (t t' : Tree) (left rest : ℕ) → AreSwept x rules t t' root left rest (λ k. IsSeen t root k) → rest ≡ left → 0 < left → HasRewrites x rules t' root → ⊥
   none_left t t' left rest p e some h =
       let same = done_same t t' left rest (λ k. IsSeen t root k) p e in
       p.none e some h.0.op h.0.term (subst (λ z. IsSeen z root h.0.op) same h.2.0) (subst (λ z. Applies x rules z h.0.op h.0.term) same h.2.1.0)
 
-  pub are_rewritten : (t0 t : Tree) (left rest : ℕ) (Done : ℕ → Type 0) → (p : AreDone x rules t0 t root left rest Done) → AreRewritten x rules root left p.rewrites t0 t
+  pub are_rewritten : (t0 t : Tree) (left rest : ℕ) (Done : ℕ → Type 0) → (p : AreSwept x rules t0 t root left rest Done) → AreRewritten x rules root left p.rewrites t0 t
   are_rewritten t0 t left rest Done p = record { before = t; in_turn = p.in_turn; same = same_itself t; most = let n = p.counted in omega (arith, n) }
 
-  pub counts_changes : (t0 t : Tree) (left rest : ℕ) (Done : ℕ → Type 0) → AreDone x rules t0 t root left rest Done → (n : ℕ) → left ≡ n + rest → (n ≡ 0 → t ≡ t0) × (t ≡ t0 → n ≡ 0)
+  pub counts_changes : (t0 t : Tree) (left rest : ℕ) (Done : ℕ → Type 0) → AreSwept x rules t0 t root left rest Done → (n : ℕ) → left ≡ n + rest → (n ≡ 0 → t ≡ t0) × (t ≡ t0 → n ≡ 0)
   counts_changes t0 t left rest Done p n e = (
     λ none. done_same t0 t left rest Done p (omega (arith, e, none)),
     λ same. ⊎_elim (λ z. z) (λ some. absurd (changed_differs t0 t (p.changed (omega (arith, e, some))) same)) (cases n),
@@ -182,20 +182,20 @@ seen_placed t root op seen = ap is_some seen.in_block
 pub seen_live : (t : Tree) (w : IsTree t) (root op : ℕ) → IsSeen t root op → IsLive t op
 seen_live t w root op seen = (w.joined.all_in_place op seen.block seen.in_block).0
 
-pub applied_result : (x : RuleTables) (rules : View → Option Term) (t : Tree) (op : ℕ) (answer : Option Term) (term : Term) → IsAnswer x rules t op answer → answer ≡ Some term → Applies x rules t op term
-applied_result x rules t op answer term is e = subst (IsAnswer x rules t op) e is
+pub applied_result : (x : RuleTables) (rules : View → Option Term) (t : Tree) (op : ℕ) (answer : Option Term) (term : Term) → IsRuleAnswer x rules t op answer → answer ≡ Some term → Applies x rules t op term
+applied_result x rules t op answer term is e = subst (IsRuleAnswer x rules t op) e is
 
 -- one operation
 module _ (x : RuleTables) (laws : IsLawful x) (rules : View → Option Term) (hold : RulesHold x.meaning x.side_effects x.accepts rules) (t : Tree) (w : IsTree t) (root op : ℕ) (live : IsLive t root) (linked : IsWellLinked x.meaning t root) (seen : IsSeen t root op) where
-  pub not_rewritten : (left : ℕ) (answer : Option Term) → IsAnswer x rules t op answer → answer ≡ None → AreDone x rules t t root left left (λ k. k ≡ op)
+  pub not_rewritten : (left : ℕ) (answer : Option Term) → IsRuleAnswer x rules t op answer → answer ≡ None → AreSwept x rules t t root left left (λ k. k ≡ op)
   not_rewritten left None is e = done_start x rules root t live linked left (λ k. k ≡ op) (λ some k term same a. is term (subst (λ z. Applies x rules t z term) same a))
   not_rewritten left (Some term) is e = absurd (cc e)
 
-  pub rewritten : (t' : Tree) (left rest new : ℕ) → left ≡ 1 + rest → IsRewritten x rules t t' op (Some new) → (Done : ℕ → Type 0) → AreDone x rules t t' root left rest Done
+  pub rewritten : (t' : Tree) (left rest new : ℕ) → left ≡ 1 + rest → IsRewritten x rules t t' op (Some new) → (Done : ℕ → Type 0) → AreSwept x rules t t' root left rest Done
   rewritten t' left rest new e is Done =
       let term = is.0 in
       let a = is.1 in
-      subst (λ z. AreDone x rules t z root left rest Done) (sym is.2) (record {
+      subst (λ z. AreSwept x rules t z root left rest Done) (sym is.2) (record {
         way = rewritten_way x laws rules hold t w op (seen_placed t root op seen) root live linked seen term a;
         rewrites = record { op = op; term = term } ∷ [];
         in_turn = (after_rewriting x t op a.old term, (seen, (a, refl)), refl);

@@ -7,7 +7,7 @@ use Rattle.pliron_core.specs.Reads.{has_ssa, has_ssa_at, ssa_in}
 use Rattle.pliron_core.specs.Tree.{Tree, In, no_entry, row_of, regions_of, parent_of, block_parent_of, layout_of, region_parent_of, first_of, op_of_slot}
 use Rattle.pliron_core.proofs.HoldingLemmas.{past_live, slice_in}
 use Rattle.pliron_laws.specs.Paths.{Path}
-use Rattle.pliron_graph_order.specs.Seen.{IsReachedIn, IsVisitedBlockIf, IsVisited, Starts, Nested, IsSeen}
+use Rattle.pliron_graph_order.specs.Seen.{IsOnPathIn, IsVisitedBlockFromIf, IsVisitedFrom, Starts, Nested, IsSeen}
 
 -- what was there has its regions and is where it was, and blocks and edges are as before
 pub record Stays (t u : Tree) : Type 0 where
@@ -63,24 +63,24 @@ module _ (t u : Tree) (w : IsTree t) (w' : IsTree u) (h : Stays t u) where
   path_stays a b [] p = p
   path_stays a b (c ∷ before) p = (record { successor = subst (In b) (sym (h.successors c)) p.0.successor; same_region = h.homes b ∙ p.0.same_region ∙ sym (h.homes c) }, path_stays a c before p.1)
 
-  reached_stays : (r c : ℕ) → IsReachedIn t r c → IsReachedIn u r c
+  reached_stays : (r c : ℕ) → IsOnPathIn t r c → IsOnPathIn u r c
   reached_stays r c x = (x.0, ap (λ l. first_of l None) (h.layouts r) ∙ x.1, x.2, path_stays x.0 c x.2 x.3)
 
-  block_stays : (d : Bool) (r c : ℕ) → IsVisitedBlockIf d t r c → IsVisitedBlockIf d u r c
+  block_stays : (d : Bool) (r c : ℕ) → IsVisitedBlockFromIf d t r c → IsVisitedBlockFromIf d u r c
   block_stays true r c x = reached_stays r c x
   block_stays false r c x = ap (λ l. first_of l None) (h.layouts r) ∙ x
 
   module _ (root : ℕ) where
-    holder : (r : ℕ) → IsVisited t root r → (k : ℕ) × In r (regions_of t k)
+    holder : (r : ℕ) → IsVisitedFrom t root r → (k : ℕ) × In r (regions_of t k)
     holder r (Starts i) = (root, i)
     holder r (Nested outer c k v l p i) = (k, i)
 
-    visited_ssa : (r : ℕ) → IsVisited t root r → has_ssa u r ≡ has_ssa t r
+    visited_ssa : (r : ℕ) → IsVisitedFrom t root r → has_ssa u r ≡ has_ssa t r
     visited_ssa r v = let x = holder r v in same_ssa x.0 r x.1
 
-    visited_stays : (r : ℕ) → IsVisited t root r → IsVisited u root r
+    visited_stays : (r : ℕ) → IsVisitedFrom t root r → IsVisitedFrom u root r
     visited_stays r (Starts i) = Starts (same_regions root r i)
-    visited_stays r (Nested outer c k v l p i) = Nested outer c k (visited_stays outer v) (subst (λ d. IsVisitedBlockIf d u outer c) (sym (visited_ssa outer v)) (block_stays (has_ssa t outer) outer c l)) (h.parents k (holder_low k r i) ∙ p) (same_regions k r i)
+    visited_stays r (Nested outer c k v l p i) = Nested outer c k (visited_stays outer v) (subst (λ d. IsVisitedBlockFromIf d u outer c) (sym (visited_ssa outer v)) (block_stays (has_ssa t outer) outer c l)) (h.parents k (holder_low k r i) ∙ p) (same_regions k r i)
 
     pub seen_stays : (k : ℕ) → IsSeen t root k → IsSeen u root k
     seen_stays k x = record {

@@ -3,7 +3,7 @@ ghost use Rattle.std.specs.Prelude.{◌≡◌, ℕ, IfOk, OnOk, OnErr, IsOkUnles
 ghost use Rattle.pliron_core.specs.Tree.{In, IsLive};
 ghost use Rattle.pliron_laws.specs.Linked.{IsWellLinked};
 ghost use Rattle.pliron_graph_order.specs.Seen.{IsSeen};
-ghost use Rattle.pliron_opt_combine.specs.Steps.{AreDone, AreDonePartly, AreSeen};
+ghost use Rattle.pliron_opt_combine.specs.Steps.{AreSwept, AreSweptPartly, AreSeen};
 
 use crate::worklist::{RewriteWorklist, add_viewers};
 use pliron_core::{Context, Operation, Ptr, Rewriter};
@@ -39,10 +39,10 @@ fn rewrite_operation<D: Dialect, L: Rules<D>, R: Rewriter + Room>(
     requires linked { IsWellLinked D.meaning ctx.old.tree root }
     requires is_seen { IsSeen ctx.old.tree root op }
     requires seen { AreSeen ctx.old.tree root work.old.seen.keys }
-    ensures ok { IfOk result (λ rest. AreDone ⟦<D as HasRuleTables>⟧.rule_tables L.rules ctx.old.tree ctx.new.tree root
+    ensures ok { IfOk result (λ rest. AreSwept ⟦<D as HasRuleTables>⟧.rule_tables L.rules ctx.old.tree ctx.new.tree root
         left rest (λ k. k ≡ op)) }
     ensures seen { OnOk result (AreSeen ctx.new.tree root work.new.seen.keys) }
-    ensures refused { OnErr result (AreDonePartly ⟦<D as HasRuleTables>⟧.rule_tables L.rules ctx.old.tree ctx.new.tree
+    ensures refused { OnErr result (AreSweptPartly ⟦<D as HasRuleTables>⟧.rule_tables L.rules ctx.old.tree ctx.new.tree
         root left) }
     ensures memory { IsOkUnless result OptError.Memory }
 {
@@ -74,10 +74,10 @@ fn sweep<D: Dialect, L: Rules<D>, R: Rewriter + Room>(
     requires linked { IsWellLinked D.meaning ctx.old.tree root }
     requires are_seen { AreSeen ctx.old.tree root ops.now }
     requires seen { AreSeen ctx.old.tree root work.old.seen.keys }
-    ensures ok { IfOk result (λ rest. AreDone ⟦<D as HasRuleTables>⟧.rule_tables L.rules ctx.old.tree ctx.new.tree root
+    ensures ok { IfOk result (λ rest. AreSwept ⟦<D as HasRuleTables>⟧.rule_tables L.rules ctx.old.tree ctx.new.tree root
         left rest (λ k. In k ops.now)) }
     ensures seen { OnOk result (AreSeen ctx.new.tree root work.new.seen.keys) }
-    ensures refused { OnErr result (AreDonePartly ⟦<D as HasRuleTables>⟧.rule_tables L.rules ctx.old.tree ctx.new.tree
+    ensures refused { OnErr result (AreSweptPartly ⟦<D as HasRuleTables>⟧.rule_tables L.rules ctx.old.tree ctx.new.tree
         root left) }
     ensures memory { IsOkUnless result OptError.Memory }
 {
@@ -101,10 +101,10 @@ fn rewrite_at<D: Dialect, L: Rules<D>, R: Rewriter + Room>(
     requires live { IsLive ctx.old.tree root }
     requires linked { IsWellLinked D.meaning ctx.old.tree root }
     requires seen { AreSeen ctx.old.tree root work.old.seen.keys }
-    ensures ok { IfOk result (λ rest. AreDone ⟦<D as HasRuleTables>⟧.rule_tables L.rules ctx.old.tree ctx.new.tree root
+    ensures ok { IfOk result (λ rest. AreSwept ⟦<D as HasRuleTables>⟧.rule_tables L.rules ctx.old.tree ctx.new.tree root
         left rest (λ k. ⊥)) }
     ensures seen { OnOk result (AreSeen ctx.new.tree root work.new.seen.keys) }
-    ensures refused { OnErr result (AreDonePartly ⟦<D as HasRuleTables>⟧.rule_tables L.rules ctx.old.tree ctx.new.tree
+    ensures refused { OnErr result (AreSweptPartly ⟦<D as HasRuleTables>⟧.rule_tables L.rules ctx.old.tree ctx.new.tree
         root left) }
     ensures memory { IsOkUnless result OptError.Memory }
 {
@@ -126,10 +126,10 @@ fn rewrite_round<D: Dialect, L: Rules<D>, R: Rewriter + Room>(
     requires live { IsLive ctx.old.tree root }
     requires linked { IsWellLinked D.meaning ctx.old.tree root }
     requires seen { AreSeen ctx.old.tree root work.old.seen.keys }
-    ensures ok { IfOk result (λ rest. AreDone ⟦<D as HasRuleTables>⟧.rule_tables L.rules ctx.old.tree ctx.new.tree root
+    ensures ok { IfOk result (λ rest. AreSwept ⟦<D as HasRuleTables>⟧.rule_tables L.rules ctx.old.tree ctx.new.tree root
         left rest (λ k. ⊥)) }
     ensures seen { OnOk result (AreSeen ctx.new.tree root work.new.seen.keys) }
-    ensures refused { OnErr result (AreDonePartly ⟦<D as HasRuleTables>⟧.rule_tables L.rules ctx.old.tree ctx.new.tree
+    ensures refused { OnErr result (AreSweptPartly ⟦<D as HasRuleTables>⟧.rule_tables L.rules ctx.old.tree ctx.new.tree
         root left) }
     ensures memory { IsOkUnless result OptError.Memory }
 {
@@ -152,9 +152,9 @@ fn rewrite_rounds<D: Dialect, L: Rules<D>, R: Rewriter + Room>(
     requires live { IsLive ctx.old.tree root }
     requires linked { IsWellLinked D.meaning ctx.old.tree root }
     requires seen { AreSeen ctx.old.tree root work.old.seen.keys }
-    ensures ok { IfOk result (λ rest. AreDone ⟦<D as HasRuleTables>⟧.rule_tables L.rules ctx.old.tree ctx.new.tree root
+    ensures ok { IfOk result (λ rest. AreSwept ⟦<D as HasRuleTables>⟧.rule_tables L.rules ctx.old.tree ctx.new.tree root
         left rest (λ k. ⊥)) }
-    ensures refused { OnErr result (AreDonePartly ⟦<D as HasRuleTables>⟧.rule_tables L.rules ctx.old.tree ctx.new.tree
+    ensures refused { OnErr result (AreSweptPartly ⟦<D as HasRuleTables>⟧.rule_tables L.rules ctx.old.tree ctx.new.tree
         root left) }
     ensures memory { IsOkUnless result OptError.Memory }
 {
@@ -184,9 +184,9 @@ pub fn sweep_in_rounds<D: Dialect, L: Rules<D>, R: Rewriter + Room>(
 ) -> Result<usize, OptError>
     requires live { IsLive ctx.old.tree root }
     requires linked { IsWellLinked D.meaning ctx.old.tree root }
-    ensures ok { IfOk result (λ rest. AreDone ⟦<D as HasRuleTables>⟧.rule_tables L.rules ctx.old.tree ctx.new.tree root
+    ensures ok { IfOk result (λ rest. AreSwept ⟦<D as HasRuleTables>⟧.rule_tables L.rules ctx.old.tree ctx.new.tree root
         left rest (λ k. IsSeen ctx.old.tree root k)) }
-    ensures refused { OnErr result (AreDonePartly ⟦<D as HasRuleTables>⟧.rule_tables L.rules ctx.old.tree ctx.new.tree
+    ensures refused { OnErr result (AreSweptPartly ⟦<D as HasRuleTables>⟧.rule_tables L.rules ctx.old.tree ctx.new.tree
         root left) }
     ensures memory { IsOkUnless result OptError.Memory }
 {

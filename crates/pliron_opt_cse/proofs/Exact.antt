@@ -18,10 +18,11 @@ use Rattle.pliron_rewrite_equals.proofs.Merging.{results_same, rows_same}
 use Rattle.pliron_rewrite_equals.proofs.OperationDominance.{stands_trans}
 use Rattle.pliron_graph_order.proofs.NumberLemmas.{at_in}
 use Rattle.pliron_graph_order.proofs.PreorderLemmas.{in_at}
-use Rattle.pliron_opt_cse.specs.Keys.{head_words_of, operand_words, key_words, region_around}
+use Rattle.pliron_opt_cse.specs.Keys.{head_words_of, operand_words, key_words}
 use Rattle.pliron_opt_cse.specs.Left.{HasRedundancy, UsesAreBehind, LeavesNoRedundancy, ReportsEquivalent}
-use Rattle.pliron_opt_cse.specs.MergingSteps.{IsMergeable, MayMerge, LeadsAt, AreFound, StaysAlone, AreNotRedundant, IsOrdered, IsExact}
+use Rattle.pliron_opt_cse.specs.MergingSteps.{IsEliminable, MayMerge, LeadsAt, FindLeaders, StaysAlone, AreNotRedundant, AreOrderedOperations, IsExact}
 use Rattle.pliron_opt_cse.specs.Merges.{IsPair}
+use Rattle.pliron_laws.specs.EdgeChecks.{region_around}
 use Rattle.pliron_opt_cse.proofs.Moved.{moved_regions, moved_successors}
 use Rattle.pliron_opt_cse.proofs.OnWay.{merged_stands, merged_seen, merged_gone, merged_fewer, row_of_merged, operands_of_merged, successors_of_merged, place_of_merged}
 
@@ -41,7 +42,7 @@ looks_key t u k l =
     ∙ ap (λ z. head_words_of (head_of t k) ++ length (results_of t k) ∷ operand_words z (region_around u k)) l.operands
     ∙ ap (λ z. head_words_of (head_of t k) ++ length (results_of t k) ∷ operand_words (operands_of t k) z) l.region
 
-looks_repeats : (side_effects : Head → Option Bool) (t u : Tree) (k : ℕ) → LooksAlike t u k → IsMergeable side_effects u k → IsMergeable side_effects t k
+looks_repeats : (side_effects : Head → Option Bool) (t u : Tree) (k : ℕ) → LooksAlike t u k → IsEliminable side_effects u k → IsEliminable side_effects t k
 looks_repeats side_effects t u k l r = record { regions = sym l.regions ∙ r.regions; successors = sym l.successors ∙ r.successors; harmless = λ h e. r.harmless h (l.head ∙ e) }
 
 looks_alike : (side_effects : Head → Option Bool) (t u : Tree) (a b : ℕ) → LooksAlike t u a → LooksAlike t u b → MayMerge side_effects u a b → MayMerge side_effects t a b
@@ -143,7 +144,7 @@ module _ (m : Meaning) (side_effects : Head → Option Bool) (counts : KeepsCoun
       (used_before (results_of t b) (results_of t a) t user v used') in
       (merged_stands m side_effects counts free t a b root w live linked pair w' k user nk nu).0 there
 
-  module _ (ops ends : List ℕ) (place : ℕ) (low : place < length ops) (at : b ≡ get_or ops place 0) (o : IsOrdered t root ops ends place) (behind : UsesAreBehind t root) where
+  module _ (ops ends : List ℕ) (place : ℕ) (low : place < length ops) (at : b ≡ get_or ops place 0) (o : AreOrderedOperations t root ops ends place) (behind : UsesAreBehind t root) where
     -- what comes before the redundant one uses none of its results
     looks_before : (i : ℕ) → i < place → IsLive (after_merging t a b) (get_or ops i 0) → LooksAlike t (after_merging t a b) (get_or ops i 0)
     looks_before i lt l =
@@ -161,7 +162,7 @@ module _ (m : Meaning) (side_effects : Head → Option Bool) (counts : KeepsCoun
         cases : (x y : ℕ) → (x ≡ y) ⊎ (x ≢ y)
         cases x y = grind arith
 
-    pub found_merged : (find find' : List ℕ → Option ℕ) → ((key : List ℕ) → find' key ≡ find key) → AreFound side_effects t ops ends place find → AreFound side_effects (after_merging t a b) ops ends (place + 1) find'
+    pub found_merged : (find find' : List ℕ → Option ℕ) → ((key : List ℕ) → find' key ≡ find key) → FindLeaders side_effects t ops ends place find → FindLeaders side_effects (after_merging t a b) ops ends (place + 1) find'
     found_merged find find' same h i lt li l r =
         let lt' = before i lt l in
         let k = get_or ops i 0 in
@@ -181,7 +182,7 @@ module _ (m : Meaning) (side_effects : Head → Option Bool) (counts : KeepsCoun
           alike = looks_alike side_effects t (after_merging t a b) (get_or ops i 0) (get_or ops j 0) (looks_before i (omega (arith, q.first, lt')) q.live) (looks_before j lt' l) q.alike;
         })
 
-  pub exact_merged : (t0 : Tree) (ops ends : List ℕ) (place : ℕ) (find find' : List ℕ → Option ℕ) (status : IRStatus) → place < length ops → b ≡ get_or ops place 0 → IsOrdered t root ops ends place → ((k : ℕ) → IsLive t k → IsLive t0 k) → (status ≡ Unchanged → t ≡ t0) → ((key : List ℕ) → find' key ≡ find key) → IsExact side_effects t0 t root ops ends place find status → IsExact side_effects t0 (after_merging t a b) root ops ends (place + 1) find' Changed
+  pub exact_merged : (t0 : Tree) (ops ends : List ℕ) (place : ℕ) (find find' : List ℕ → Option ℕ) (status : IRStatus) → place < length ops → b ≡ get_or ops place 0 → AreOrderedOperations t root ops ends place → ((k : ℕ) → IsLive t k → IsLive t0 k) → (status ≡ Unchanged → t ≡ t0) → ((key : List ℕ) → find' key ≡ find key) → IsExact side_effects t0 t root ops ends place find status → IsExact side_effects t0 (after_merging t a b) root ops ends (place + 1) find' Changed
   exact_merged t0 ops ends place find find' status low at o before_all unchanged same x = record {
     behind = λ h. behind_merged (x.behind h);
     found = λ h. found_merged ops ends place low at o (x.behind (uses h)) find find' same (x.found (inl (uses h)));
@@ -218,7 +219,7 @@ module _ (side_effects : Head → Option Bool) where
       cases x y = grind arith
 
   -- what is redundant is told by its place
-  redundancy_leads : (t : Tree) (w : IsTree t) (root : ℕ) (ops ends : List ℕ) (place : ℕ) → IsOrdered t root ops ends place → HasRedundancy side_effects t root → (i j : ℕ) × (j < length ops) × IsLive t (get_or ops j 0) × LeadsAt side_effects t ops ends i j
+  redundancy_leads : (t : Tree) (w : IsTree t) (root : ℕ) (ops ends : List ℕ) (place : ℕ) → AreOrderedOperations t root ops ends place → HasRedundancy side_effects t root → (i j : ℕ) × (j < length ops) × IsLive t (get_or ops j 0) × LeadsAt side_effects t ops ends i j
   redundancy_leads t w root ops ends place o (a, b, p) =
       let ia = in_at ops a (o.each a p.first) in
       let ib = in_at ops b (o.each b p.second) in
@@ -247,7 +248,7 @@ module _ (side_effects : Head → Option Bool) where
         },
       )
 
-  pub exact_end : (t0 t : Tree) (w : IsTree t) (root : ℕ) (ops ends : List ℕ) (place : ℕ) (find : List ℕ → Option ℕ) (status : IRStatus) → length ops ≤ place → IsOrdered t root ops ends place → (status ≡ Unchanged → t ≡ t0) → IsExact side_effects t0 t root ops ends place find status → LeavesNoRedundancy side_effects t0 t root × ReportsEquivalent side_effects t0 root status
+  pub exact_end : (t0 t : Tree) (w : IsTree t) (root : ℕ) (ops ends : List ℕ) (place : ℕ) (find : List ℕ → Option ℕ) (status : IRStatus) → length ops ≤ place → AreOrderedOperations t root ops ends place → (status ≡ Unchanged → t ≡ t0) → IsExact side_effects t0 t root ops ends place find status → LeavesNoRedundancy side_effects t0 t root × ReportsEquivalent side_effects t0 root status
   exact_end t0 t w root ops ends place find status all o unchanged x = (λ h redundancy. over (inl h) redundancy, (λ e. x.had e, λ redundancy. reported status refl redundancy))
     where
       over : UsesAreBehind t0 root ⊎ (t ≡ t0) → HasRedundancy side_effects t root → ⊥

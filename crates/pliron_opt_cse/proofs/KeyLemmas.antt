@@ -10,8 +10,9 @@ use Rattle.pliron_core.specs.declared.attrs.AttrObj.TheVariants.{Int, Text}
 use Rattle.pliron_core.specs.declared.attrs.Head.{Head}
 use Rattle.pliron_core.specs.Tree.{Tree, IsLive, head_of, operands_of, results_of}
 use Rattle.pliron_core.proofs.HoldingLemmas.{some_of}
-use Rattle.pliron_opt_cse.specs.Keys.{int_words, attr_words, attrs_words, flag_word, head_words, head_words_of, region_around, operand_words, key_words}
-use Rattle.pliron_opt_cse.specs.MergingSteps.{IsMergeable, MayMerge}
+use Rattle.pliron_opt_cse.specs.Keys.{int_words, attr_words, attrs_words, flag_word, head_words, head_words_of, operand_words, key_words}
+use Rattle.pliron_opt_cse.specs.MergingSteps.{IsEliminable, MayMerge}
+use Rattle.pliron_laws.specs.EdgeChecks.{region_around}
 
 -- lists of one length in front
 split_front : (xs ys r s : List ℕ) → length xs ≡ length ys → xs ++ r ≡ ys ++ s → (xs ≡ ys) × (r ≡ s)
@@ -96,7 +97,7 @@ split_operands (x ∷ xs) [] r s e = let q : ◌≡◌ {A = ℕ} (suc (length xs
 split_operands (x ∷ xs) (y ∷ ys) r s e = let q : y ∷ ys ≡ x ∷ xs = cc in (q, λ z. absurd (cc))
 
 -- what has the same numbers does the same
-pub same_key_alike : (side_effects : Head → Option Bool) (t : Tree) (a b : ℕ) → IsLive t a → IsLive t b → IsMergeable side_effects t a → IsMergeable side_effects t b → key_words t a ≡ key_words t b → MayMerge side_effects t a b
+pub same_key_alike : (side_effects : Head → Option Bool) (t : Tree) (a b : ℕ) → IsLive t a → IsLive t b → IsEliminable side_effects t a → IsEliminable side_effects t b → key_words t a ≡ key_words t b → MayMerge side_effects t a b
 same_key_alike side_effects t a b live_a live_b ra rb e =
     let ha = some_of (head_of t a) live_a in
     let hb = some_of (head_of t b) live_b in
@@ -133,7 +134,7 @@ alike_same_key side_effects t a b n =
     same [] h = ap (λ z. 0 ∷ option_to_list z) (h refl)
     same (x ∷ xs) h = refl
 
-pub alike_repeats : (side_effects : Head → Option Bool) (t : Tree) (a b : ℕ) → MayMerge side_effects t a b → IsMergeable side_effects t a × IsMergeable side_effects t b
+pub alike_repeats : (side_effects : Head → Option Bool) (t : Tree) (a b : ℕ) → MayMerge side_effects t a b → IsEliminable side_effects t a × IsEliminable side_effects t b
 alike_repeats side_effects t a b n = (
   record { regions = n.alike.no_region_of_first; successors = n.alike.none_of_first; harmless = λ h e. n.alike.harmless h (n.alike.head ∙ e) },
   record { regions = n.alike.no_regions; successors = n.alike.no_successors; harmless = n.alike.harmless },

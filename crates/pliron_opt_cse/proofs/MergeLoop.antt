@@ -9,21 +9,21 @@ use Rattle.pliron_laws.specs.Laws.{KeepsCounts, GivesAtOnce}
 use Rattle.pliron_laws.specs.Linked.{IsWellLinked}
 use Rattle.pliron_rewrite_equals.specs.Merging.{after_merging, partly_merged}
 use Rattle.pliron_opt_cse.specs.Left.{LeavesNoRedundancy, ReportsEquivalent}
-use Rattle.pliron_opt_cse.specs.MergingSteps.{IsOnWay, IsOrdered, IsMergedUpTo, LeadsAt, LeadsOn, MergesInPart, MergesOrStays, ReportsErased, status_after}
+use Rattle.pliron_opt_cse.specs.MergingSteps.{IsMergingOnWay, AreOrderedOperations, IsMergedUpTo, LeadsAt, LeadsOn, MergesInPart, MergesOrStays, ReportsMerging, status_after}
 use Rattle.pliron_opt_cse.specs.Merges.{IsPair, AreMergedSoFar, Pair}
 use Rattle.pliron_opt_cse.proofs.Exact.{exact_start, exact_merged, exact_stays, exact_end}
 use Rattle.pliron_opt_cse.proofs.OnWay.{way_start, way_more, way_merged, way_partly, ordered_merged, ordered_on, merged_gone, pair_of, turn_more}
 
-pub tells_unchanged : (t0 t : Tree) (status : IRStatus) → ReportsErased t0 t status → status ≡ Unchanged → t ≡ t0
+pub tells_unchanged : (t0 t : Tree) (status : IRStatus) → ReportsMerging t0 t status → status ≡ Unchanged → t ≡ t0
 tells_unchanged t0 t Unchanged reported e = reported
 tells_unchanged t0 t Changed reported e = absurd (cc e)
 
-pub tells_same : (t0 t : Tree) (status : IRStatus) → ReportsErased t0 t status → (status ≡ Unchanged) ↔ (t ≡ t0)
+pub tells_same : (t0 t : Tree) (status : IRStatus) → ReportsMerging t0 t status → (status ≡ Unchanged) ↔ (t ≡ t0)
 tells_same t0 t Unchanged reported = (λ e. reported, λ e. refl)
 tells_same t0 t Changed reported = (λ e. absurd (cc e), λ e. absurd (reported.2 (subst (λ z. IsLive z reported.0) (sym e) reported.1)))
 
 module _ (m : Meaning) (side_effects : Head → Option Bool) (counts : KeepsCounts m) (free : GivesAtOnce m side_effects) (t0 : Tree) (root : ℕ) (live : IsLive t0 root) (linked : IsWellLinked m t0 root) (ops ends : List ℕ) where
-  pub merging_start : (find : List ℕ → Option ℕ) → IsOrdered t0 root ops ends 0 → IsMergedUpTo m side_effects t0 t0 root ops ends 0 find Unchanged
+  pub merging_start : (find : List ℕ → Option ℕ) → AreOrderedOperations t0 root ops ends 0 → IsMergedUpTo m side_effects t0 t0 root ops ends 0 find Unchanged
   merging_start find o = record { way = way_start m t0 root live linked; merged = ([], refl); accurate = refl; ordered = o; exact = exact_start side_effects t0 root ops ends find }
 
   module _ (t : Tree) (place : ℕ) (find find' : List ℕ → Option ℕ) (status : IRStatus) (w : IsTree t) (low : place < length ops) (h : IsMergedUpTo m side_effects t0 t root ops ends place find status) where
@@ -62,9 +62,9 @@ module _ (m : Meaning) (side_effects : Head → Option Bool) (counts : KeepsCoun
     })
 
     -- memory was refused
-    pub refused_way : (t' : Tree) → IsTree t' → MergesInPart side_effects t t' ops ends place → IsOnWay m t0 t' root
-    refused_way t' w' (inl e) = subst (λ z. IsOnWay m t0 z root) (sym e) h.way
-    refused_way t' w' (inr (i, q, part)) = subst (λ z. IsOnWay m t0 z root) (sym part.tree) (way_more m t0 t (partly_merged t (get_or ops i 0) (get_or ops place 0) part.count) root h.way (way_partly m side_effects counts free t (get_or ops i 0) (get_or ops place 0) root w live_now linked_now (pair i q) part.count (subst IsTree part.tree w')))
+    pub refused_way : (t' : Tree) → IsTree t' → MergesInPart side_effects t t' ops ends place → IsMergingOnWay m t0 t' root
+    refused_way t' w' (inl e) = subst (λ z. IsMergingOnWay m t0 z root) (sym e) h.way
+    refused_way t' w' (inr (i, q, part)) = subst (λ z. IsMergingOnWay m t0 z root) (sym part.tree) (way_more m t0 t (partly_merged t (get_or ops i 0) (get_or ops place 0) part.count) root h.way (way_partly m side_effects counts free t (get_or ops i 0) (get_or ops place 0) root w live_now linked_now (pair i q) part.count (subst IsTree part.tree w')))
 
     pub refused_merged : (t' : Tree) → MergesInPart side_effects t t' ops ends place → (xs : List Pair) × AreMergedSoFar side_effects root xs t0 t'
     refused_merged t' (inl e) = (h.merged.0, (t, h.merged.1, inl e))

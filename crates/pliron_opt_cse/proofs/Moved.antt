@@ -15,7 +15,7 @@ use Rattle.pliron_rewrite_equals.specs.Merging.{replaced_all}
 use Rattle.pliron_rewrite_equals.proofs.Replaced.{places_kept, stands_kept}
 use Rattle.pliron_rewrite_equals.proofs.Merging.{ArePairs}
 use Rattle.pliron_graph_order.specs.Seen.{IsSeen}
-use Rattle.pliron_opt_cse.specs.Keys.{region_around}
+use Rattle.pliron_laws.specs.EdgeChecks.{region_around}
 use Rattle.pliron_opt_cse.proofs.SeenStays.{Shows, seen_on}
 
 module _ (t : Tree) (old new : ℕ) where

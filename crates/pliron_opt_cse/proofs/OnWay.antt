@@ -24,9 +24,9 @@ use Rattle.pliron_graph_order.specs.Seen.{IsSeen}
 use Rattle.pliron_graph_order.proofs.NumberLemmas.{at_in}
 use Rattle.pliron_graph_order.proofs.PreorderLemmas.{distinct_at}
 use Rattle.pliron_graph_order.proofs.SeenLemmas.{seen_inside}
-use Rattle.pliron_opt_cse.specs.Keys.{region_around}
-use Rattle.pliron_opt_cse.specs.MergingSteps.{MayMerge, IsOrdered, IsOnWay}
+use Rattle.pliron_opt_cse.specs.MergingSteps.{MayMerge, AreOrderedOperations, IsMergingOnWay}
 use Rattle.pliron_opt_cse.specs.Merges.{IsPair, Pair, MergeInTurn}
+use Rattle.pliron_laws.specs.EdgeChecks.{region_around}
 use Rattle.pliron_opt_cse.proofs.Changing.{links_all, inside_all, changing}
 use Rattle.pliron_opt_cse.proofs.ErasedEdges.{erased_alike}
 use Rattle.pliron_opt_cse.proofs.Moved.{moved_regions, moved_successors, moved_stands, moved_seen, moved_alike, moved_live, moved_around, merged_pairs}
@@ -38,10 +38,10 @@ alike_itself : (t : Tree) → EdgesAlike t t
 alike_itself t = record { grows = omega arith; regions = λ op. refl; layouts = λ r. refl; successors = λ b. refl; bodies = λ b. refl }
 
 module _ (m : Meaning) where
-  pub way_start : (t : Tree) (root : ℕ) → IsLive t root → IsWellLinked m t root → IsOnWay m t t root
+  pub way_start : (t : Tree) (root : ℕ) → IsLive t root → IsWellLinked m t root → IsMergingOnWay m t t root
   way_start t root live linked = record { change = whole_refl m t root live linked; links = λ r l. l; edges = λ op a b. refl; fewer = λ k l. l }
 
-  pub way_more : (t0 t u : Tree) (root : ℕ) → IsOnWay m t0 t root → IsOnWay m t u root → IsOnWay m t0 u root
+  pub way_more : (t0 t u : Tree) (root : ℕ) → IsMergingOnWay m t0 t root → IsMergingOnWay m t u root → IsMergingOnWay m t0 u root
   way_more t0 t u root a b = record {
     change = whole_trans m t0 t u root a.change b.change;
     links = λ r l. b.links r (a.links r l);
@@ -58,7 +58,7 @@ module _ (m : Meaning) (side_effects : Head → Option Bool) (counts : KeepsCoun
   inside = seen_inside t w root b pair.second
 
   -- the uses of some first results moved
-  pub way_partly : (n : ℕ) → IsTree (partly_merged t a b n) → IsOnWay m t (partly_merged t a b n) root
+  pub way_partly : (n : ℕ) → IsTree (partly_merged t a b n) → IsMergingOnWay m t (partly_merged t a b n) root
   way_partly n w' = record {
     change = record {
       liveness = (moved_live vs xs t root).0 live;
@@ -154,7 +154,7 @@ module _ (m : Meaning) (side_effects : Head → Option Bool) (counts : KeepsCoun
         (edges_alike t (results_merged t a b) w tree (moved_alike (results_of t b) (results_of t a) t (alike_itself t)))
         (edges_alike (results_merged t a b) (after_merging t a b) tree w' (erased_alike (results_merged t a b) b tree none lives_still contained w' root edges_last inside_still (λ x i. subst (In x) next i)))
 
-    pub way_merged : IsOnWay m t (after_merging t a b) root
+    pub way_merged : IsMergingOnWay m t (after_merging t a b) root
     way_merged = record {
       change = changing m side_effects counts free t root a b w w' live linked inside pair.leads;
       links = merged_links;
@@ -166,7 +166,7 @@ module _ (m : Meaning) (side_effects : Head → Option Bool) (counts : KeepsCoun
         merged_links r l = erased_links m (results_merged t a b) b tree w' lives_still contained r (links_all m (results_of t b) (results_of t a) t r l)
 
     -- of the operations in order, those behind stand still
-    pub ordered_merged : (ops ends : List ℕ) (place : ℕ) → place < length ops → b ≡ get_or ops place 0 → IsOrdered t root ops ends place → IsOrdered (after_merging t a b) root ops ends (place + 1)
+    pub ordered_merged : (ops ends : List ℕ) (place : ℕ) → place < length ops → b ≡ get_or ops place 0 → AreOrderedOperations t root ops ends place → AreOrderedOperations (after_merging t a b) root ops ends (place + 1)
     ordered_merged ops ends place low at o = record {
       counted = o.counted;
       distinct = o.distinct;
@@ -182,10 +182,10 @@ module _ (m : Meaning) (side_effects : Head → Option Bool) (counts : KeepsCoun
         cases : (x y : ℕ) → (x ≡ y) ⊎ (x ≢ y)
         cases x y = grind arith
 
-pub ordered_on : (t : Tree) (root : ℕ) (ops ends : List ℕ) (place : ℕ) → IsOrdered t root ops ends place → IsOrdered t root ops ends (place + 1)
+pub ordered_on : (t : Tree) (root : ℕ) (ops ends : List ℕ) (place : ℕ) → AreOrderedOperations t root ops ends place → AreOrderedOperations t root ops ends (place + 1)
 ordered_on t root ops ends place o = record { counted = o.counted; distinct = o.distinct; each = o.each; seen = o.seen; all_in_place = o.all_in_place; left = λ j from lj. o.left j (omega (arith, from)) lj }
 
-pub ordered_start : (t : Tree) → IsTree t → (root : ℕ) (ops ends : List ℕ) → IsOrder t root ops ends → IsOrdered t root ops ends 0
+pub ordered_start : (t : Tree) → IsTree t → (root : ℕ) (ops ends : List ℕ) → IsOrder t root ops ends → AreOrderedOperations t root ops ends 0
 ordered_start t w root ops ends o = record {
   counted = o.counted;
   distinct = o.distinct;
@@ -212,7 +212,7 @@ around_itself t w a b s block region at in_region same = ⊎_elim
     block_held h e = sym (ap (λ o. up_from o (λ c. block_parent_operation_of t c)) s.in_block) ∙ e
 
 -- an operation that leads another and is near to it, in order
-pub pair_of : (side_effects : Head → Option Bool) (t : Tree) → IsTree t → (root : ℕ) (ops ends : List ℕ) (i j : ℕ) (a b : ℕ) → IsOrdered t root ops ends j → i < j → j < length ops → j < get_or ends i 0 → a ≡ get_or ops i 0 → b ≡ get_or ops j 0 → IsLive t a → MayMerge side_effects t a b → IsPair side_effects t root a b
+pub pair_of : (side_effects : Head → Option Bool) (t : Tree) → IsTree t → (root : ℕ) (ops ends : List ℕ) (i j : ℕ) (a b : ℕ) → AreOrderedOperations t root ops ends j → i < j → j < length ops → j < get_or ends i 0 → a ≡ get_or ops i 0 → b ≡ get_or ops j 0 → IsLive t a → MayMerge side_effects t a b → IsPair side_effects t root a b
 pair_of side_effects t w root ops ends i j a b o lt low within is_a is_b live near = record {
   first = o.seen a (subst (λ z. In z ops) (sym is_a) (at_in ops i (omega (arith, lt, low)))) live;
   second = second;

@@ -7,7 +7,7 @@ use Rattle.pliron_core.specs.Reads.{has_ssa, has_ssa_at, ssa_in}
 use Rattle.pliron_core.proofs.HoldingLemmas.{slice_in}
 use Rattle.pliron_laws.specs.Linked.{EdgesLast}
 use Rattle.pliron_laws.specs.Paths.{Path}
-use Rattle.pliron_graph_order.specs.Seen.{IsReachedIn, IsVisitedBlockIf, IsVisited, Starts, Nested, IsSeen}
+use Rattle.pliron_graph_order.specs.Seen.{IsOnPathIn, IsVisitedBlockFromIf, IsVisitedFrom, Starts, Nested, IsSeen}
 use Rattle.pliron_opt_cse.proofs.Staying.{alike, is, lives, parents, regions_same, path_forth, path_back}
 
 -- u shows what t shows, but for the operation b, which holds nothing
@@ -21,24 +21,24 @@ pub record Shows (t u : Tree) (b : ℕ) : Type 0 where
   pub paths : (x y : ℕ) (before : List ℕ) → Path t x y before → Path u x y before
 
 module _ (t u : Tree) (b root : ℕ) (s : Shows t u b) where
-  reached_on : (r c : ℕ) → IsReachedIn t r c → IsReachedIn u r c
+  reached_on : (r c : ℕ) → IsOnPathIn t r c → IsOnPathIn u r c
   reached_on r c x = (x.0, ap (λ l. first_of l None) (s.layouts r) ∙ x.1, x.2, s.paths x.0 c x.2 x.3)
 
-  looked_on : (d : Bool) (r c : ℕ) → IsVisitedBlockIf d t r c → IsVisitedBlockIf d u r c
+  looked_on : (d : Bool) (r c : ℕ) → IsVisitedBlockFromIf d t r c → IsVisitedBlockFromIf d u r c
   looked_on true r c x = reached_on r c x
   looked_on false r c x = ap (λ l. first_of l None) (s.layouts r) ∙ x
 
   -- what holds a visited region
-  holder : (r : ℕ) → IsVisited t root r → (k : ℕ) × In r (regions_of t k)
+  holder : (r : ℕ) → IsVisitedFrom t root r → (k : ℕ) × In r (regions_of t k)
   holder r (Starts i) = (root, i)
   holder r (Nested outer c k v l p i) = (k, i)
 
-  same_ssa : (r : ℕ) → IsVisited t root r → has_ssa u r ≡ has_ssa t r
+  same_ssa : (r : ℕ) → IsVisitedFrom t root r → has_ssa u r ≡ has_ssa t r
   same_ssa r v = let h = holder r v in s.ssa h.0 r h.1
 
-  visited_on : (r : ℕ) → IsVisited t root r → IsVisited u root r
+  visited_on : (r : ℕ) → IsVisitedFrom t root r → IsVisitedFrom u root r
   visited_on r (Starts i) = Starts (subst (In r) (sym (s.regions root)) i)
-  visited_on r (Nested outer c k v l p i) = Nested outer c k (visited_on outer v) (subst (λ d. IsVisitedBlockIf d u outer c) (sym (same_ssa outer v)) (looked_on (has_ssa t outer) outer c l)) (s.placed k (s.others k r i) ∙ p) (subst (In r) (sym (s.regions k)) i)
+  visited_on r (Nested outer c k v l p i) = Nested outer c k (visited_on outer v) (subst (λ d. IsVisitedBlockFromIf d u outer c) (sym (same_ssa outer v)) (looked_on (has_ssa t outer) outer c l)) (s.placed k (s.others k r i) ∙ p) (subst (In r) (sym (s.regions k)) i)
 
   pub seen_on : (k : ℕ) → k ≢ b → IsSeen t root k → IsSeen u root k
   seen_on k ne x = record {

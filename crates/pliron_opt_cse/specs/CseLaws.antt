@@ -27,13 +27,13 @@ ChangingLaw m side_effects = (t : Tree) (op a b : ℕ) → IsTree t → IsTree (
 
 -- where an operation without regions and successors is erased, edges stay, and so does what dominates what, and what
 -- is seen
-pub record IsLeft (t u : Tree) (root b : ℕ) : Type 0 where
+pub record IsErasedAlone (t u : Tree) (root b : ℕ) : Type 0 where
   pub edges : EdgesAlike t u
   pub all_in_place : (x y : ℕ) → x ≢ b → y ≢ b → DominatesOperation t x y ↔ DominatesOperation u x y
   pub seen : (k : ℕ) → k ≢ b → IsSeen t root k ↔ IsSeen u root k
 
 abbrev pub StayingLaw : Type 0
-StayingLaw = (t : Tree) (root b : ℕ) → IsTree t → IsTree (after_erasing t b) → IsLive t b → IsSelfContained t b → EdgesLast t root → IsInside t root b → regions_of t b ≡ [] → successors_of t b ≡ [] → IsLeft t (after_erasing t b) root b
+StayingLaw = (t : Tree) (root b : ℕ) → IsTree t → IsTree (after_erasing t b) → IsLive t b → IsSelfContained t b → EdgesLast t root → IsInside t root b → regions_of t b ≡ [] → successors_of t b ≡ [] → IsErasedAlone t (after_erasing t b) root b
 
 -- in a well-defined root uses are behind definitions
 abbrev pub UsesLaw : Type 0

@@ -5,6 +5,7 @@ use Rattle.pliron_core.specs.declared.attrs.AttrObj.{AttrObj}
 use Rattle.pliron_core.specs.declared.attrs.AttrObj.TheVariants.{Int, Text}
 use Rattle.pliron_core.specs.declared.attrs.Head.{Head}
 use Rattle.pliron_core.specs.Tree.{Tree, head_of, operands_of, results_of, parent_of, block_parent_of, up_from}
+use Rattle.pliron_laws.specs.EdgeChecks.{region_around}
 
 -- a natural number in two of 64 bits
 abbrev pub size_words : ℕ → List ℕ
@@ -32,10 +33,6 @@ head_words head = head.kind ∷ flag_word head.ssa ∷ length head.attrs ∷ att
 abbrev pub head_words_of : Option Head → List ℕ
 head_words_of None = []
 head_words_of (Some head) = head_words head
-
--- the region that the operation is in
-abbrev pub region_around : Tree → ℕ → Option ℕ
-region_around t k = up_from (parent_of t k) (λ b. block_parent_of t b)
 
 -- the operands, or where there are none the region
 abbrev pub operand_words : List ℕ → Option ℕ → List ℕ

@@ -2,7 +2,8 @@
 ghost use Rattle.std.specs.Prelude.{◌≡◌, ◌++◌, ◌∷◌, [], pos, negsuc, ◌<ℤ◌, ◌≤ℤ◌, IfOk, OnOk, IsOkUnless, length};
 ghost use Rattle.std.specs.Option.{option_to_list};
 ghost use Rattle.pliron_core.specs.Tree.{IsLive, operands_of};
-ghost use Rattle.pliron_opt_cse.specs.Keys.{attr_words, attrs_words, head_words, int_words, key_words, operand_words, region_around, size_words};
+ghost use Rattle.pliron_opt_cse.specs.Keys.{attr_words, attrs_words, head_words, int_words, key_words, operand_words, size_words};
+ghost use Rattle.pliron_laws.specs.EdgeChecks.{region_around};
 
 use pliron_core::{AttrObj, Attrs, Context, Head, Operation, Ptr, Region};
 use pliron_laws::OptError;

@@ -4,7 +4,7 @@ ghost use Rattle.pliron_core.specs.Tree.{IsLive};
 ghost use Rattle.pliron_laws.specs.Linked.{IsWellLinked};
 ghost use Rattle.pliron_opt_cse.specs.Leaders.{leader_with};
 ghost use Rattle.pliron_opt_cse.specs.Left.{LeavesNoRedundancy, ReportsEquivalent};
-ghost use Rattle.pliron_opt_cse.specs.MergingSteps.{MayMerge, IsOnWay, IsOrdered, LeadsAt, LeadsOn, IsMergeable, MergesInPart, MergesOrStays, ReportsErased, status_after};
+ghost use Rattle.pliron_opt_cse.specs.MergingSteps.{MayMerge, IsMergingOnWay, AreOrderedOperations, LeadsAt, LeadsOn, IsEliminable, MergesInPart, MergesOrStays, ReportsMerging, status_after};
 ghost use Rattle.pliron_opt_cse.specs.Merges.{AreMergedSoFar, Pair, MergeInTurn};
 
 use crate::keys::{key_of, region_of_operation};
@@ -19,7 +19,7 @@ use std::alloc::Global;
 // Whether the operation may be erased, or replace another: it has no regions, successors or side effects.
 fn is_mergeable<D: Dialect>(op: Ptr<Operation>, ctx: &Context) -> bool
     requires { IsLive ctx.now.tree op }
-    ensures { IsTrue result ↔ IsMergeable D.side_effects ctx.now.tree op }
+    ensures { IsTrue result ↔ IsEliminable D.side_effects ctx.now.tree op }
 {
     if op.num_region(ctx) != 0 || op.num_successor(ctx) != 0 {
         return false;
@@ -124,7 +124,8 @@ fn merge_at<D: Dialect, R: Rewriter + Room>(
     rewriter: &mut R,
 ) -> Result<bool, OptError>
     requires place { place < length order.now.operations.items }
-    requires ordered { (root : ℕ) × IsOrdered ctx.old.tree root order.now.operations.items order.now.ends.items place }
+    requires ordered { (root : ℕ) × AreOrderedOperations ctx.old.tree root order.now.operations.items
+        order.now.ends.items place }
     ensures merged { IfOk result (λ merged. MergesOrStays D.side_effects ctx.old.tree ctx.new.tree
         order.now.operations.items order.now.ends.items place merged) }
     ensures leaders { IfOk result (λ merged. LeadsOn D.side_effects ctx.old.tree order.now.operations.items
@@ -167,11 +168,11 @@ pub fn merge_all<D: Dialect, R: Rewriter + Room>(
 ) -> Result<IRStatus, OptError>
     requires live { IsLive ctx.old.tree root }
     requires linked { IsWellLinked D.meaning ctx.old.tree root }
-    requires ordered { IsOrdered ctx.old.tree root order.now.operations.items order.now.ends.items 0 }
+    requires ordered { AreOrderedOperations ctx.old.tree root order.now.operations.items order.now.ends.items 0 }
     ensures merged { (xs : List Pair) × AreMergedSoFar D.side_effects root xs ctx.old.tree ctx.new.tree × OnOk result
         (MergeInTurn D.side_effects root xs ctx.old.tree ctx.new.tree) }
-    ensures way { IsOnWay D.meaning ctx.old.tree ctx.new.tree root }
-    ensures accurate { IfOk result (λ a. ReportsErased ctx.old.tree ctx.new.tree a) }
+    ensures way { IsMergingOnWay D.meaning ctx.old.tree ctx.new.tree root }
+    ensures accurate { IfOk result (λ a. ReportsMerging ctx.old.tree ctx.new.tree a) }
     ensures none { IfOk result (λ a. LeavesNoRedundancy D.side_effects ctx.old.tree ctx.new.tree root) }
     ensures status { IfOk result (λ a. ReportsEquivalent D.side_effects ctx.old.tree root a) }
     ensures memory { IsOkUnless result OptError.Memory }

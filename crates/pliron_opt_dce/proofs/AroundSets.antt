@@ -5,7 +5,7 @@ use Rattle.pliron_core.specs.Tree.{Tree, In, IsLive, IsInside, Directly, IsWithi
 use Rattle.pliron_core.specs.Invariant.{IsTree}
 use Rattle.pliron_core.proofs.ListLemmas.{In-left, In-right, In-cases}
 use Rattle.pliron_core.proofs.HoldingLemmas.{some_is, inside_up, within_inside, not_itself}
-use Rattle.pliron_opt_dce.specs.Worklist.{AreClosed, AddsParents}
+use Rattle.pliron_opt_dce.specs.Worklist.{AreClosedUnderNesting, AddsParents}
 
 -- the operation is there, or at the parent operation or around it
 abbrev pub IsThereOrUp : Tree → List ℕ → Option ℕ → ℕ → Type 0
@@ -18,7 +18,7 @@ pub record IsRising (t : Tree) (v : ℕ) (old ks : List ℕ) (o : Option ℕ) : 
   pub above : (k h : ℕ) → In k ks → o ≡ Some h → In k old ⊎ IsInside t h k
   pub rest : (k : ℕ) → IsDefinedInside t k v → IsThereOrUp t ks o k
 
-pub rising_starts : (t : Tree) (v : ℕ) (old : List ℕ) (o : Option ℕ) → AreClosed t old → ((k : ℕ) → IsDefinedInside t k v → (a : ℕ) × (o ≡ Some a) × IsWithin t k a) → IsRising t v old old o
+pub rising_starts : (t : Tree) (v : ℕ) (old : List ℕ) (o : Option ℕ) → AreClosedUnderNesting t old → ((k : ℕ) → IsDefinedInside t k v → (a : ℕ) × (o ≡ Some a) × IsWithin t k a) → IsRising t v old old o
 rising_starts t v old o closed around = record {
   kept = λ k i. i;
   closed = λ k a i l j. inl (closed k a i l j);
@@ -49,7 +49,7 @@ module _ (t : Tree) (w : IsTree t) (v : ℕ) (old : List ℕ) where
       there a (inr (h, e, q)) = over a (subst (IsWithin t a) (sym (some_is e)) q)
 
   -- where the parent operation is there already, so is all around it
-  module _ (closed : AreClosed t old) (ks : List ℕ) (op : ℕ) (live : IsLive t op) (i : In op ks) (r : IsRising t v old ks (Some op)) where
+  module _ (closed : AreClosedUnderNesting t old) (ks : List ℕ) (op : ℕ) (live : IsLive t op) (i : In op ks) (r : IsRising t v old ks (Some op)) where
     before : In op old
     before = ⊎_elim (λ x. x) (λ x. absurd (not_itself w.joined.rooted x)) (r.above op op i refl)
 
@@ -58,10 +58,10 @@ module _ (t : Tree) (w : IsTree t) (v : ℕ) (old : List ℕ) where
     there a (inr (h, e, inl s)) = subst (λ z. In z ks) (some_is e ∙ s) i
     there a (inr (h, e, inr j)) = r.kept a (closed op a before live (subst (IsInside t a) (sym (some_is e)) j))
 
-    pub rising_stops : AddsParents t v old ks × AreClosed t ks
+    pub rising_stops : AddsParents t v old ks × AreClosedUnderNesting t ks
     rising_stops = (record { kept = r.kept; around = λ k j. there k (r.rest k j) }, λ k a j l q. there a (r.closed k a j l q))
 
-  pub rising_ends : (ks : List ℕ) (o : Option ℕ) → o ≡ None → IsRising t v old ks o → AddsParents t v old ks × AreClosed t ks
+  pub rising_ends : (ks : List ℕ) (o : Option ℕ) → o ≡ None → IsRising t v old ks o → AddsParents t v old ks × AreClosedUnderNesting t ks
   rising_ends ks o none r = (record { kept = r.kept; around = λ k j. there k (r.rest k j) }, λ k a j l q. there a (r.closed k a j l q))
     where
       there : (a : ℕ) → IsThereOrUp t ks o a → In a ks

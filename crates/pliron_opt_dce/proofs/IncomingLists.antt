@@ -14,25 +14,25 @@ use Rattle.pliron_core.specs.Tree.{Tree, IsLive, head_of}
 use Rattle.pliron_core.proofs.HoldingLemmas.{some_is, some_of}
 use Rattle.pliron_core.proofs.TreeLemmas.{cases_lt}
 use Rattle.pliron_laws.specs.Datum.{Meaning}
-use Rattle.pliron_laws.specs.Tree.{shape_of}
+use Rattle.pliron_laws.specs.Tree.{shape_of, is_one_key}
 use Rattle.pliron_laws.specs.Answers.{AreForwarded}
 use Rattle.pliron_laws.proofs.Records.{operation_of, make_op}
 use Rattle.pliron_theory.proofs.ShortenedBranches.{length_picked}
 use Rattle.pliron_theory.specs.Dropping.{AreEdgesTo}
 use Rattle.pliron_opt_dce.specs.declared.incoming.IncomingEdge.{IncomingEdge}
-use Rattle.pliron_opt_dce.specs.Incoming.{edge_of, edges_of, count_along, width, BranchesLead, AreCounted, AreFalling, AreIncoming, AreKnown, is_one_key}
+use Rattle.pliron_opt_dce.specs.Incoming.{edge_of_incoming, edges_of, count_along, width, BranchesLead, AreCounted, AreFalling, AreIncoming, AreKnown}
 use Rattle.pliron_opt_dce.proofs.PlaceLists.{remove_none}
 
 -- an item of a list of edges
-pub edge_at : (es : List IncomingEdge) (i : ℕ) (e : Edge) → slice_get (edges_of es) i ≡ Some e → (x : IncomingEdge) × (slice_get es i ≡ Some x) × (edge_of x ≡ e)
+pub edge_at : (es : List IncomingEdge) (i : ℕ) (e : Edge) → slice_get (edges_of es) i ≡ Some e → (x : IncomingEdge) × (slice_get es i ≡ Some x) × (edge_of_incoming x ≡ e)
 edge_at es i e q = go (slice_get es i) refl
   where
-    go : (o : Option IncomingEdge) → slice_get es i ≡ o → (x : IncomingEdge) × (slice_get es i ≡ Some x) × (edge_of x ≡ e)
-    go None n = let f : None ≡ Some e = sym (slice_get-map edge_of es i ∙ ap (option_map edge_of) n) ∙ q in absurd (cc)
-    go (Some x) n = (x, n, some_is (sym (slice_get-map edge_of es i ∙ ap (option_map edge_of) n) ∙ q))
+    go : (o : Option IncomingEdge) → slice_get es i ≡ o → (x : IncomingEdge) × (slice_get es i ≡ Some x) × (edge_of_incoming x ≡ e)
+    go None n = let f : None ≡ Some e = sym (slice_get-map edge_of_incoming es i ∙ ap (option_map edge_of_incoming) n) ∙ q in absurd (cc)
+    go (Some x) n = (x, n, some_is (sym (slice_get-map edge_of_incoming es i ∙ ap (option_map edge_of_incoming) n) ∙ q))
 
-pub at_edge : (es : List IncomingEdge) (i : ℕ) (x : IncomingEdge) → slice_get es i ≡ Some x → slice_get (edges_of es) i ≡ Some (edge_of x)
-at_edge es i x q = slice_get-map edge_of es i ∙ ap (option_map edge_of) q
+pub at_edge : (es : List IncomingEdge) (i : ℕ) (x : IncomingEdge) → slice_get es i ≡ Some x → slice_get (edges_of es) i ≡ Some (edge_of_incoming x)
+at_edge es i x q = slice_get-map edge_of_incoming es i ∙ ap (option_map edge_of_incoming) q
 
 -- items are found in another order
 module _ {A : Type 0} (xs ys : List A) (p : IsPermutation xs ys) where
@@ -105,25 +105,25 @@ edges_permuted t block xs ys p to = record {
 -- edges sorted by their counts
 pub sorted_incoming : (m : Meaning) (t : Tree) (block : ℕ) (es fs : List IncomingEdge) → BranchesLead m t block → AreEdgesTo t block (edges_of es) → AreCounted m t es → IsPermutation es fs → AreFalling fs → AreIncoming m t block (edges_of fs)
 sorted_incoming m t block es fs branches to counted p falling = record {
-  complete = edges_permuted t block (edges_of es) (edges_of fs) (IsPermutation-map edge_of es fs p) to;
+  complete = edges_permuted t block (edges_of es) (edges_of fs) (IsPermutation-map edge_of_incoming es fs p) to;
   branches = branches;
   falling = λ i j e f l a b. at i j e f l (edge_at fs i e a) (edge_at fs j f b);
 }
   where
-    counted_too : (i : ℕ) (x : IncomingEdge) → slice_get fs i ≡ Some x → (width m t (edge_of x) ≡ x.count) × (x.count < 2 ^ 64)
+    counted_too : (i : ℕ) (x : IncomingEdge) → slice_get fs i ≡ Some x → (width m t (edge_of_incoming x) ≡ x.count) × (x.count < 2 ^ 64)
     counted_too i x q = let b = found fs es (IsPermutation-sym es fs p) i x q in counted b.0 x b.1
 
     less : (a b : ℕ) → a < 2 ^ 64 → b < 2 ^ 64 → 2 ^ 64 - 1 - a ≤ 2 ^ 64 - 1 - b → b ≤ a
     less a b la lb q = omega (arith, la, lb, q)
 
-    at : (i j : ℕ) (e f : Edge) → i < j → (x : IncomingEdge) × (slice_get fs i ≡ Some x) × (edge_of x ≡ e) → (y : IncomingEdge) × (slice_get fs j ≡ Some y) × (edge_of y ≡ f) → width m t f ≤ width m t e
+    at : (i j : ℕ) (e f : Edge) → i < j → (x : IncomingEdge) × (slice_get fs i ≡ Some x) × (edge_of_incoming x ≡ e) → (y : IncomingEdge) × (slice_get fs j ≡ Some y) × (edge_of_incoming y ≡ f) → width m t f ≤ width m t e
     at i j e f l (x, xi, xe) (y, yj, yf) =
         let cx = counted_too i x xi in
         let cy = counted_too j y yj in
         let le : i ≤ j = omega (arith, l) in
         let rises : 2 ^ 64 - 1 - x.count ≤ 2 ^ 64 - 1 - y.count = subst (λ z. 2 ^ 64 - 1 - z.count ≤ 2 ^ 64 - 1 - y.count) (get_or_from_slice_get fs i x x xi) (subst (λ z. 2 ^ 64 - 1 - (get_or fs i x).count ≤ 2 ^ 64 - 1 - z.count) (get_or_from_slice_get fs j y x yj) (falling i j x le (slice_get_within fs j y yj))) in
-        subst (λ z. width m t z ≤ width m t e) yf (subst (λ z. width m t (edge_of y) ≤ width m t z) xe
-        (subst (λ n. n ≤ width m t (edge_of x)) (sym cy.0) (subst (λ n. y.count ≤ n) (sym cx.0) (less x.count y.count cx.1 cy.1 rises))))
+        subst (λ z. width m t z ≤ width m t e) yf (subst (λ z. width m t (edge_of_incoming y) ≤ width m t z) xe
+        (subst (λ n. n ≤ width m t (edge_of_incoming x)) (sym cy.0) (subst (λ n. y.count ≤ n) (sym cx.0) (less x.count y.count cx.1 cy.1 rises))))
 
 -- one item less, where there is one at this place
 abbrev pub Loses : (place before after : ℕ) → Type 0
@@ -139,8 +139,8 @@ loses_alike i n k n' k' (inr a) (inl b) l = omega (arith, a.0, a.1, b.0, b.1, l)
 loses_alike i n k n' k' (inr a) (inr b) l = omega (arith, a.0, a.1, b.0, b.1, l)
 
 -- one edge more
-pub edges_more : (es : List IncomingEdge) (x : IncomingEdge) (uses : List Edge) (i : ℕ) → edges_of es ≡ take i uses → slice_get uses i ≡ Some (edge_of x) → edges_of (es ++ x ∷ []) ≡ take (i + 1) uses
-edges_more es x uses i e q = map-append edge_of es (x ∷ []) ∙ ap (λ z. z ++ edge_of x ∷ []) e ∙ ap (λ z. take i uses ++ z ∷ []) (sym (get_or_from_slice_get uses i (edge_of x) (edge_of x) q)) ∙ sym (take_more uses i (edge_of x) (slice_get_within uses i (edge_of x) q))
+pub edges_more : (es : List IncomingEdge) (x : IncomingEdge) (uses : List Edge) (i : ℕ) → edges_of es ≡ take i uses → slice_get uses i ≡ Some (edge_of_incoming x) → edges_of (es ++ x ∷ []) ≡ take (i + 1) uses
+edges_more es x uses i e q = map-append edge_of_incoming es (x ∷ []) ∙ ap (λ z. z ++ edge_of_incoming x ∷ []) e ∙ ap (λ z. take i uses ++ z ∷ []) (sym (get_or_from_slice_get uses i (edge_of_incoming x) (edge_of_incoming x) q)) ∙ sym (take_more uses i (edge_of_incoming x) (slice_get_within uses i (edge_of_incoming x) q))
 
 at_end : {A : Type 0} (xs : List A) (x y : A) (i : ℕ) → slice_get (xs ++ x ∷ []) i ≡ Some y → slice_get xs i ≡ Some y ⊎ (x ≡ y)
 at_end [] x y zero e = inr (some_is e)
@@ -148,8 +148,8 @@ at_end [] x y (suc i) e = absurd (cc)
 at_end (z ∷ xs) x y zero e = inl e
 at_end (z ∷ xs) x y (suc i) e = at_end xs x y i e
 
-pub counted_more : (m : Meaning) (t : Tree) (es : List IncomingEdge) (x : IncomingEdge) → AreCounted m t es → width m t (edge_of x) ≡ x.count → x.count < 2 ^ 64 → AreCounted m t (es ++ x ∷ [])
-counted_more m t es x old e l i y q = ⊎_elim (λ a. old i y a) (λ same. subst (λ z. (width m t (edge_of z) ≡ z.count) × (z.count < 2 ^ 64)) same (e, l)) (at_end es x y i q)
+pub counted_more : (m : Meaning) (t : Tree) (es : List IncomingEdge) (x : IncomingEdge) → AreCounted m t es → width m t (edge_of_incoming x) ≡ x.count → x.count < 2 ^ 64 → AreCounted m t (es ++ x ∷ [])
+counted_more m t es x old e l i y q = ⊎_elim (λ a. old i y a) (λ same. subst (λ z. (width m t (edge_of_incoming z) ≡ z.count) × (z.count < 2 ^ 64)) same (e, l)) (at_end es x y i q)
 
 -- how much an edge forwards
 pub width_counted : (m : Meaning) (t : Tree) (e : Edge) (values : List ℕ) → IsLive t e.user → AreForwarded m t e.user e.place values → width m t e ≡ length values

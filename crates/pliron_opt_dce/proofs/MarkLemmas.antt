@@ -4,8 +4,9 @@ use Rattle.std.proofs.lemmas.Bool.{cases_Bool}
 use Rattle.pliron_core.specs.Tree.{Tree}
 use Rattle.pliron_core.proofs.HoldingLemmas.{some_is}
 use Rattle.pliron_laws.specs.Datum.{Meaning}
-use Rattle.pliron_opt_dce.specs.Incoming.{is_one_key, BranchesLead}
+use Rattle.pliron_opt_dce.specs.Incoming.{BranchesLead}
 use Rattle.pliron_opt_dce.specs.Predecessors.{AreMarked}
+use Rattle.pliron_laws.specs.Tree.{is_one_key}
 
 -- one mark more
 pub marked_more : (m : Meaning) (t : Tree) (root : ℕ) (mark more : ℕ → Option Bool) (block : ℕ) (b : Bool) → ((q : ℕ) → more q ≡ cond (is_one_key block q) (Some b) (mark q)) → (IsTrue b ↔ BranchesLead m t block) → AreMarked m t root mark → AreMarked m t root more

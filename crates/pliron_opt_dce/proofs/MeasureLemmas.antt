@@ -3,7 +3,7 @@ use Rattle.std.proofs.Common.{◌≡◌, ◌⊎◌, inl, inr, ℕ, zero, suc, �
 use Rattle.pliron_core.specs.declared.attrs.Head.{Head}
 use Rattle.pliron_core.specs.declared.context.OperationEntry.{OperationEntry}
 use Rattle.pliron_core.specs.Tree.{Tree, IsLive, no_entry, arguments_of}
-use Rattle.pliron_opt_dce.specs.Measures.{one, count_live, total, things}
+use Rattle.pliron_opt_dce.specs.Measures.{one, count_live, total_length, things}
 
 one_most : (a b : Option Head) → (IsSome b → IsSome a) → one b ≤ one a
 one_most a None f = omega arith
@@ -39,7 +39,7 @@ count_less (x ∷ xs) (y ∷ ys) e f (suc k) s n =
     let rest = count_less xs ys (omega (arith, e)) (λ i. f (suc i)) k s n in
     omega (arith, here, rest)
 
-pub total_most : (xs ys : List (List ℕ)) → length ys ≡ length xs → ((i : ℕ) → length (slice_index_or ys i []) ≤ length (slice_index_or xs i [])) → total ys ≤ total xs
+pub total_most : (xs ys : List (List ℕ)) → length ys ≡ length xs → ((i : ℕ) → length (slice_index_or ys i []) ≤ length (slice_index_or xs i [])) → total_length ys ≤ total_length xs
 total_most [] [] e f = omega arith
 total_most [] (y ∷ ys) e f = absurd (omega (arith, e))
 total_most (x ∷ xs) [] e f = omega arith
@@ -48,7 +48,7 @@ total_most (x ∷ xs) (y ∷ ys) e f =
     let rest = total_most xs ys (omega (arith, e)) (λ i. f (suc i)) in
     omega (arith, here, rest)
 
-pub total_less : (xs ys : List (List ℕ)) → length ys ≡ length xs → ((i : ℕ) → length (slice_index_or ys i []) ≤ length (slice_index_or xs i [])) → (b : ℕ) → length (slice_index_or ys b []) < length (slice_index_or xs b []) → total ys + 1 ≤ total xs
+pub total_less : (xs ys : List (List ℕ)) → length ys ≡ length xs → ((i : ℕ) → length (slice_index_or ys i []) ≤ length (slice_index_or xs i [])) → (b : ℕ) → length (slice_index_or ys b []) < length (slice_index_or xs b []) → total_length ys + 1 ≤ total_length xs
 total_less [] ys e f b l = absurd (omega (arith, l))
 total_less (x ∷ xs) [] e f b l = absurd (omega (arith, e))
 total_less (x ∷ xs) (y ∷ ys) e f zero l =

@@ -14,7 +14,7 @@ use Rattle.pliron_opt_dce.specs.declared.worklist.DeadCandidate.{DeadCandidate}
 use Rattle.pliron_opt_dce.specs.Dead.{Item, Op, Arg, Use}
 use Rattle.pliron_opt_dce.specs.Erasing.{ErasesItem}
 use Rattle.pliron_opt_dce.specs.Readiness.{IsReady, IsReadyArgument, Among, AreRecorded, AreRevisited}
-use Rattle.pliron_opt_dce.specs.Worklist.{item_of, items_of, HasReady, AreClosed}
+use Rattle.pliron_opt_dce.specs.Worklist.{item_of, items_of, HasReady, AreClosedUnderNesting}
 use Rattle.pliron_opt_dce.proofs.Progress.{step, gone_unready}
 use Rattle.pliron_opt_dce.proofs.Pending.{ready_before}
 use Rattle.pliron_opt_dce.specs.Measures.{things}
@@ -31,7 +31,7 @@ module _ (m : Meaning) (can_fold : Head → Bool) (SameTests : Head → Head →
       (ready_before m side_effects removable t t' root w w' s.thins used noted (items_of new) revisited x rx)
 
   -- those around an operation that stands are as before
-  pub closed_after : (t t' : Tree) (root : ℕ) (x : Item) (ks : List ℕ) → IsTree t → IsTree t' → IsWellLinked m t root → IsReady m side_effects removable t root x → ErasesItem m shortened t t' x → AreClosed t ks → AreClosed t' ks
+  pub closed_after : (t t' : Tree) (root : ℕ) (x : Item) (ks : List ℕ) → IsTree t → IsTree t' → IsWellLinked m t root → IsReady m side_effects removable t root x → ErasesItem m shortened t t' x → AreClosedUnderNesting t ks → AreClosedUnderNesting t' ks
   closed_after t t' root x ks w w' linked r g closed k a i l j =
       let s = step m can_fold SameTests shortened law tests counts side_effects free removable without t t' root x w w' linked r g in
       ⊎_elim (λ e. subst (λ z. In z ks) e i) (λ q. closed k a i (s.thins.live_before k l) q) (s.thins.within_back a k (inr j))

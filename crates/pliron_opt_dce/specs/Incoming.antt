@@ -6,17 +6,17 @@ use Rattle.indexmap.specs.IndexMap.{get}
 use Rattle.pliron_core.specs.declared.uses.Use.{Use as Edge}
 use Rattle.pliron_core.specs.Tree.{Tree, In, HoldsBlock, successors_of}
 use Rattle.pliron_laws.specs.Datum.{Meaning}
-use Rattle.pliron_laws.specs.Tree.{Operation, op_at, shape_of}
+use Rattle.pliron_laws.specs.Tree.{Operation, op_at, shape_of, is_one_key}
 use Rattle.pliron_laws.specs.Answers.{HeadPasses, IsForwardedAt}
 use Rattle.pliron_theory.specs.Dropping.{AreEdgesTo}
 use Rattle.pliron_opt_dce.specs.declared.incoming.IncomingEdge.{IncomingEdge}
 use Rattle.pliron_opt_dce.specs.declared.incoming.Incoming.{Incoming}
 
-abbrev pub edge_of : IncomingEdge → Edge
-edge_of e = record { user = e.branch; place = e.place }
+abbrev pub edge_of_incoming : IncomingEdge → Edge
+edge_of_incoming e = record { user = e.branch; place = e.place }
 
 abbrev pub edges_of : List IncomingEdge → List Edge
-edges_of es = map edge_of es
+edges_of es = map edge_of_incoming es
 
 abbrev pub count_along : Meaning → Tree → ℕ → Option Operation → ℕ
 count_along m t place None = 0
@@ -36,13 +36,9 @@ pub record AreIncoming (m : Meaning) (t : Tree) (block : ℕ) (edges : List Edge
   pub branches : BranchesLead m t block
   pub falling : (i j : ℕ) (e f : Edge) → i < j → slice_get edges i ≡ Some e → slice_get edges j ≡ Some f → width m t f ≤ width m t e
 
--- two handles are equal
-abbrev pub is_one_key : ℕ → ℕ → Bool
-is_one_key x y = nat_eq x y && true
-
 -- the list of the block, if there is one
-abbrev pub list_of : Incoming → ℕ → Option (List IncomingEdge)
-list_of lists block = option_map (λ v. v.items) (get is_one_key lists.lists block)
+abbrev pub incoming_of : Incoming → ℕ → Option (List IncomingEdge)
+incoming_of lists block = option_map (λ v. v.items) (get is_one_key lists.lists block)
 
 -- each list is so, of a block that is inside the root
 abbrev pub AreKnown : Meaning → Tree → ℕ → (ℕ → Option (List IncomingEdge)) → Type 0
@@ -50,7 +46,7 @@ AreKnown m t root find = (block : ℕ) (edges : List IncomingEdge) → find bloc
 
 -- these edges are as counted
 abbrev pub AreCounted : Meaning → Tree → List IncomingEdge → Type 0
-AreCounted m t edges = (i : ℕ) (e : IncomingEdge) → slice_get edges i ≡ Some e → (width m t (edge_of e) ≡ e.count) × (e.count < 2 ^ 64)
+AreCounted m t edges = (i : ℕ) (e : IncomingEdge) → slice_get edges i ≡ Some e → (width m t (edge_of_incoming e) ≡ e.count) × (e.count < 2 ^ 64)
 
 -- those that forwarded most come first
 abbrev pub AreFalling : List IncomingEdge → Type 0

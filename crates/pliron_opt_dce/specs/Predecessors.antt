@@ -4,11 +4,12 @@ use Rattle.indexmap.specs.IndexMap.{get}
 use Rattle.pliron_core.specs.Tree.{Tree, HoldsBlock}
 use Rattle.pliron_laws.specs.Datum.{Meaning}
 use Rattle.pliron_opt_dce.specs.declared.predecessors.Predecessors.{Predecessors}
-use Rattle.pliron_opt_dce.specs.Incoming.{is_one_key, BranchesLead}
+use Rattle.pliron_opt_dce.specs.Incoming.{BranchesLead}
+use Rattle.pliron_laws.specs.Tree.{is_one_key}
 
 -- the mark of the block, if it has one
-abbrev pub mark_of : Predecessors → ℕ → Option Bool
-mark_of known block = get is_one_key known.marks block
+abbrev pub mark_of_block : Predecessors → ℕ → Option Bool
+mark_of_block known block = get is_one_key known.marks block
 
 -- each mark is right, of a block that is inside the root
 abbrev pub AreMarked : Meaning → Tree → ℕ → (ℕ → Option Bool) → Type 0

@@ -21,8 +21,8 @@ abbrev pub pending_candidates : Worklist → List DeadCandidate
 pending_candidates w = map (λ k. Operation k) w.around.ops.items ++ (w.later.items ++ w.round.items)
 
 -- with each of these operations that is live, those around it are among them
-abbrev pub AreClosed : Tree → List ℕ → Type 0
-AreClosed t ks = (k a : ℕ) → In k ks → IsLive t k → IsInside t a k → In a ks
+abbrev pub AreClosedUnderNesting : Tree → List ℕ → Type 0
+AreClosedUnderNesting t ks = (k a : ℕ) → In k ks → IsLive t k → IsInside t a k → In a ks
 
 -- each candidate that is ready is among these
 abbrev pub HasReady : Meaning → (Head → Option Bool) → (Head → ℕ → Bool → Option Bool) → Tree → ℕ → List DeadCandidate → Type 0

@@ -13,7 +13,7 @@
 ghost use Rattle.std.specs.Prelude.{◌≡◌, ℕ, None, Some, IfOk, OnOk, IsSome, IsOkUnless, IsPermutation};
 ghost use Rattle.pliron_core.specs.Tree.{IsBlock, HoldsBlock, uses_of};
 ghost use Rattle.pliron_laws.specs.Linked.{IsWellLinked};
-ghost use Rattle.pliron_opt_dce.specs.Incoming.{edges_of, list_of, AreCounted, AreIncoming, AreKnown, BranchesLead, AreFalling};
+ghost use Rattle.pliron_opt_dce.specs.Incoming.{edges_of, incoming_of, AreCounted, AreIncoming, AreKnown, BranchesLead, AreFalling};
 
 use crate::operand_indexing::{AllLosses, Indexing, index_chosen, settle_rows};
 use indexmap::IndexMap;
@@ -92,7 +92,7 @@ fn make_list<D: Dialect>(
 impl Incoming {
     // No block has a list.
     pub(crate) fn new(alloc: Global) -> Incoming
-        ensures { (block : ℕ) → list_of result block ≡ None }
+        ensures { (block : ℕ) → incoming_of result block ≡ None }
     {
         Incoming {
             lists: IndexMap::new(alloc),
@@ -110,9 +110,9 @@ impl Incoming {
     ) -> Result<bool, OptError>
         requires block { IsBlock ctx.now.tree block }
         requires branches { BranchesLead D.meaning ctx.now.tree block }
-        requires known { AreKnown D.meaning ctx.now.tree root (λ b. list_of self.old b) }
-        ensures known { OnOk result (AreKnown D.meaning ctx.now.tree root (λ b. list_of self.new b)) }
-        ensures there { OnOk result (IsSome (list_of self.new block)) }
+        requires known { AreKnown D.meaning ctx.now.tree root (λ b. incoming_of self.old b) }
+        ensures known { OnOk result (AreKnown D.meaning ctx.now.tree root (λ b. incoming_of self.new b)) }
+        ensures there { OnOk result (IsSome (incoming_of self.new block)) }
         ensures memory { IsOkUnless result OptError.Memory }
     {
         if self.lists.contains_key(&block) {
@@ -152,10 +152,10 @@ impl Incoming {
         requires block { IsBlock ctx.old.tree block }
         requires inside { HoldsBlock ctx.old.tree root block }
         requires branches { BranchesLead D.meaning ctx.old.tree block }
-        requires known { AreKnown D.meaning ctx.old.tree root (λ b. list_of self.old b) }
+        requires known { AreKnown D.meaning ctx.old.tree root (λ b. incoming_of self.old b) }
         ensures same { ctx.new ≡ ctx.old }
-        ensures known { OnOk result (AreKnown D.meaning ctx.old.tree root (λ b. list_of self.new b)) }
-        ensures there { OnOk result (IsSome (list_of self.new block)) }
+        ensures known { OnOk result (AreKnown D.meaning ctx.old.tree root (λ b. incoming_of self.new b)) }
+        ensures there { OnOk result (IsSome (incoming_of self.new block)) }
         ensures memory { IsOkUnless result OptError.Memory }
     {
         let is_first = self.make::<D>(alloc, block, root, ctx)?;
@@ -176,8 +176,8 @@ impl Incoming {
 
     // The list of the block.
     pub(crate) fn edges_to(&self, block: Ptr<BasicBlock>) -> &[IncomingEdge]
-        requires { IsSome (list_of self.now block) }
-        ensures { list_of self.now block ≡ Some result.now }
+        requires { IsSome (incoming_of self.now block) }
+        ensures { incoming_of self.now block ≡ Some result.now }
     {
         match self.lists.get(&block) {
             Some(list) => list,

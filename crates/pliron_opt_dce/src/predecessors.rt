@@ -8,7 +8,7 @@
 ghost use Rattle.std.specs.Prelude.{◌≡◌, ◌↔◌, ℕ, None, IfOk, OnOk, IsTrue};
 ghost use Rattle.pliron_core.specs.Tree.{IsBlock, HoldsBlock};
 ghost use Rattle.pliron_opt_dce.specs.Incoming.{BranchesLead};
-ghost use Rattle.pliron_opt_dce.specs.Predecessors.{mark_of, AreMarked};
+ghost use Rattle.pliron_opt_dce.specs.Predecessors.{mark_of_block, AreMarked};
 
 use indexmap::IndexMap;
 use pliron_core::{BasicBlock, Context, Operation, Ptr};
@@ -46,7 +46,7 @@ fn are_branches<D: Dialect>(block: Ptr<BasicBlock>, ctx: &Context) -> bool
 impl Predecessors {
     // No block is marked.
     fn empty(alloc: Global) -> Predecessors
-        ensures { (block : ℕ) → mark_of result block ≡ None }
+        ensures { (block : ℕ) → mark_of_block result block ≡ None }
     {
         Predecessors {
             marks: IndexMap::new(alloc),
@@ -60,7 +60,7 @@ impl Predecessors {
         root: Ptr<Operation>,
         ctx: &Context,
     ) -> Result<Predecessors, AllocError>
-        ensures { IfOk result (λ known. AreMarked D.meaning ctx.now.tree root (λ b. mark_of known b)) }
+        ensures { IfOk result (λ known. AreMarked D.meaning ctx.now.tree root (λ b. mark_of_block known b)) }
     {
         let mut known = Predecessors::empty(alloc);
         for block in blocks {
@@ -76,8 +76,8 @@ impl Predecessors {
         root: Ptr<Operation>,
         ctx: &Context,
     ) -> Result<(), AllocError>
-        requires { AreMarked D.meaning ctx.now.tree root (λ b. mark_of self.old b) }
-        ensures { OnOk result (AreMarked D.meaning ctx.now.tree root (λ b. mark_of self.new b)) }
+        requires { AreMarked D.meaning ctx.now.tree root (λ b. mark_of_block self.old b) }
+        ensures { OnOk result (AreMarked D.meaning ctx.now.tree root (λ b. mark_of_block self.new b)) }
     {
         if !block.is_live(ctx) {
             return Ok(());
@@ -96,7 +96,7 @@ impl Predecessors {
     ) -> bool
         requires block { IsBlock ctx.now.tree block }
         requires inside { HoldsBlock ctx.now.tree root block }
-        requires marked { AreMarked D.meaning ctx.now.tree root (λ b. mark_of self.now b) }
+        requires marked { AreMarked D.meaning ctx.now.tree root (λ b. mark_of_block self.now b) }
         ensures { IsTrue result ↔ BranchesLead D.meaning ctx.now.tree block }
     {
         if !self.marks.is_empty() && has_many(block, ctx) {

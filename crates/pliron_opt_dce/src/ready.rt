@@ -7,7 +7,7 @@ ghost use Rattle.std.specs.Prelude.{◌≡◌, ◌↔◌, Some, IsTrue};
 ghost use Rattle.pliron_core.specs.Tree.{IsLive, IsBlock, IsWithin, block_parent_operation_of};
 ghost use Rattle.pliron_laws.specs.Linked.{IsWellLinked};
 ghost use Rattle.pliron_opt_dce.specs.Dead.{IsHarmless, MayLose};
-ghost use Rattle.pliron_opt_dce.specs.Predecessors.{mark_of, AreMarked};
+ghost use Rattle.pliron_opt_dce.specs.Predecessors.{mark_of_block, AreMarked};
 ghost use Rattle.pliron_opt_dce.specs.Readiness.{IsReadyOperation, IsReadyArgument, HaveNoUse};
 
 use crate::predecessors::Predecessors;
@@ -106,7 +106,7 @@ pub(crate) fn is_ready_argument<D: Dialect>(
     root: Ptr<Operation>,
     ctx: &Context,
 ) -> bool
-    requires marked { AreMarked D.meaning ctx.now.tree root (λ b. mark_of predecessors.now b) }
+    requires marked { AreMarked D.meaning ctx.now.tree root (λ b. mark_of_block predecessors.now b) }
     ensures { IsTrue result ↔ IsReadyArgument D.meaning D.removable ctx.now.tree root value }
 {
     ctx.well_formed();

@@ -6,10 +6,10 @@ ghost use Rattle.pliron_laws.specs.Linked.{IsWellLinked};
 ghost use Rattle.pliron_theory.specs.Edges.{KeepsEdges, has_regions as is_with_regions};
 ghost use Rattle.pliron_opt_dce.specs.Dead.{Item};
 ghost use Rattle.pliron_opt_dce.specs.Readiness.{IsReady};
-ghost use Rattle.pliron_opt_dce.specs.Incoming.{list_of, AreKnown};
-ghost use Rattle.pliron_opt_dce.specs.Predecessors.{mark_of, AreMarked};
+ghost use Rattle.pliron_opt_dce.specs.Incoming.{incoming_of, AreKnown};
+ghost use Rattle.pliron_opt_dce.specs.Predecessors.{mark_of_block, AreMarked};
 ghost use Rattle.pliron_opt_dce.specs.Erasing.{ErasesItem, HasRegions, SomeHasRegions, IsSweptSoFar, LeavesNoDead, ReportsErased};
-ghost use Rattle.pliron_opt_dce.specs.Worklist.{item_of, pending_candidates, HasReady, AreClosed};
+ghost use Rattle.pliron_opt_dce.specs.Worklist.{item_of, pending_candidates, HasReady, AreClosedUnderNesting};
 
 use crate::erase::{erase_dead_argument, erase_dead_operation};
 use crate::incoming::Incoming;
@@ -56,13 +56,13 @@ fn erase_one<D: Dialect>(
     requires ready { IsReady D.meaning D.side_effects D.removable ctx.old.tree root (item_of next) }
     requires all { HasReady D.meaning D.side_effects D.removable ctx.old.tree root
         (pending_candidates state.old.worklist ++ next ∷ []) }
-    requires closed { AreClosed ctx.old.tree state.old.worklist.around.ops.items }
-    requires known { AreKnown D.meaning ctx.old.tree root (λ b. list_of state.old.incoming b) }
+    requires closed { AreClosedUnderNesting ctx.old.tree state.old.worklist.around.ops.items }
+    requires known { AreKnown D.meaning ctx.old.tree root (λ b. incoming_of state.old.incoming b) }
     ensures goes { OnOk result (ErasesItem D.meaning D.shortened ctx.old.tree ctx.new.tree (item_of next)) }
     ensures all { OnOk result (HasReady D.meaning D.side_effects D.removable ctx.new.tree root
         (pending_candidates state.new.worklist)) }
-    ensures closed { OnOk result (AreClosed ctx.new.tree state.new.worklist.around.ops.items) }
-    ensures known { OnOk result (AreKnown D.meaning ctx.new.tree root (λ b. list_of state.new.incoming b)) }
+    ensures closed { OnOk result (AreClosedUnderNesting ctx.new.tree state.new.worklist.around.ops.items) }
+    ensures known { OnOk result (AreKnown D.meaning ctx.new.tree root (λ b. incoming_of state.new.incoming b)) }
     ensures regions { IfOk result (λ had. IsTrue had ↔ HasRegions ctx.old.tree (item_of next)) }
     ensures refused { OnErr result ((ctx.new.tree ≡ ctx.old.tree) ⊎ ErasesItem D.meaning D.shortened ctx.old.tree
         ctx.new.tree (item_of next)) }
@@ -103,9 +103,9 @@ fn erase_all_dead<D: Dialect>(
     requires linked { IsWellLinked D.meaning ctx.old.tree root }
     requires all { HasReady D.meaning D.side_effects D.removable ctx.old.tree root
         (pending_candidates state.old.worklist) }
-    requires closed { AreClosed ctx.old.tree state.old.worklist.around.ops.items }
-    requires known { AreKnown D.meaning ctx.old.tree root (λ b. list_of state.old.incoming b) }
-    requires marked { AreMarked D.meaning ctx.old.tree root (λ b. mark_of predecessors.now b) }
+    requires closed { AreClosedUnderNesting ctx.old.tree state.old.worklist.around.ops.items }
+    requires known { AreKnown D.meaning ctx.old.tree root (λ b. incoming_of state.old.incoming b) }
+    requires marked { AreMarked D.meaning ctx.old.tree root (λ b. mark_of_block predecessors.now b) }
     ensures deleted { (deleted : List Item) × IsSweptSoFar D.meaning D.shortened D.side_effects D.removable ctx.old.tree
         ctx.new.tree root deleted × IfOk result (λ a. LeavesNoDead D.meaning D.side_effects D.removable ctx.old.tree
         ctx.new.tree root × ReportsErased deleted a.0 × (IsTrue a.1 ↔ SomeHasRegions ctx.old.tree deleted)) }
@@ -138,7 +138,7 @@ pub(crate) fn sweep<D: Dialect>(
     requires live { IsLive ctx.old.tree root }
     requires linked { IsWellLinked D.meaning ctx.old.tree root }
     requires all { HasReady D.meaning D.side_effects D.removable ctx.old.tree root candidates.items }
-    requires marked { AreMarked D.meaning ctx.old.tree root (λ b. mark_of predecessors.now b) }
+    requires marked { AreMarked D.meaning ctx.old.tree root (λ b. mark_of_block predecessors.now b) }
     ensures deleted { (deleted : List Item) × IsSweptSoFar D.meaning D.shortened D.side_effects D.removable ctx.old.tree
         ctx.new.tree root deleted × IfOk result (λ a. LeavesNoDead D.meaning D.side_effects D.removable ctx.old.tree
         ctx.new.tree root × ReportsErased deleted a.0 × (IsTrue a.1 ↔ SomeHasRegions ctx.old.tree deleted)) }

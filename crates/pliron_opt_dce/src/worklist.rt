@@ -15,9 +15,9 @@ ghost use Rattle.pliron_core.specs.Tree.{In, IsLive, IsDefined, definition_of};
 ghost use Rattle.pliron_laws.specs.Linked.{IsWellLinked};
 ghost use Rattle.pliron_opt_dce.specs.Dead.{Item, Op, Arg};
 ghost use Rattle.pliron_opt_dce.specs.Readiness.{IsReady, Among, AreRevisited};
-ghost use Rattle.pliron_opt_dce.specs.Predecessors.{mark_of, AreMarked};
+ghost use Rattle.pliron_opt_dce.specs.Predecessors.{mark_of_block, AreMarked};
 ghost use Rattle.pliron_opt_dce.specs.declared.worklist.DeadCandidate.TheVariants.{Operation as AnOperation};
-ghost use Rattle.pliron_opt_dce.specs.Worklist.{item_of, items_of, pending_candidates, HasReady, KeepsReady, AreClosed, AddsParents, IsAroundMaker};
+ghost use Rattle.pliron_opt_dce.specs.Worklist.{item_of, items_of, pending_candidates, HasReady, KeepsReady, AreClosedUnderNesting, AddsParents, IsAroundMaker};
 
 use crate::around::AroundSet;
 use crate::predecessors::Predecessors;
@@ -89,7 +89,7 @@ fn is_ready<D: Dialect>(
     ctx: &Context,
 ) -> bool
     requires linked { IsWellLinked D.meaning ctx.now.tree root }
-    requires marked { AreMarked D.meaning ctx.now.tree root (λ b. mark_of predecessors.now b) }
+    requires marked { AreMarked D.meaning ctx.now.tree root (λ b. mark_of_block predecessors.now b) }
     ensures { IsTrue result ↔ IsReady D.meaning D.side_effects D.removable ctx.now.tree root (item_of candidate.now) }
 {
     match *candidate {
@@ -108,7 +108,7 @@ fn next_in_round<D: Dialect>(
     ctx: &Context,
 ) -> Option<DeadCandidate>
     requires linked { IsWellLinked D.meaning ctx.now.tree root }
-    requires marked { AreMarked D.meaning ctx.now.tree root (λ b. mark_of predecessors.now b) }
+    requires marked { AreMarked D.meaning ctx.now.tree root (λ b. mark_of_block predecessors.now b) }
     ensures some { IfSome result (λ next. IsReady D.meaning D.side_effects D.removable ctx.now.tree root
         (item_of next)) }
     ensures kept { IfSome result (λ next. KeepsReady D.meaning D.side_effects D.removable ctx.now.tree root
@@ -145,7 +145,7 @@ fn push_ready<D: Dialect>(
     ctx: &Context,
 ) -> Result<(), AllocError>
     requires linked { IsWellLinked D.meaning ctx.now.tree root }
-    requires marked { AreMarked D.meaning ctx.now.tree root (λ b. mark_of predecessors.now b) }
+    requires marked { AreMarked D.meaning ctx.now.tree root (λ b. mark_of_block predecessors.now b) }
     ensures { OnOk result (KeepsReady D.meaning D.side_effects D.removable ctx.now.tree root
         (candidates.now ++ round.old.items) round.new.items) }
 {
@@ -165,7 +165,7 @@ fn begin_round<D: Dialect>(
     ctx: &Context,
 ) -> Result<(), AllocError>
     requires linked { IsWellLinked D.meaning ctx.now.tree root }
-    requires marked { AreMarked D.meaning ctx.now.tree root (λ b. mark_of predecessors.now b) }
+    requires marked { AreMarked D.meaning ctx.now.tree root (λ b. mark_of_block predecessors.now b) }
     ensures kept { OnOk result (KeepsReady D.meaning D.side_effects D.removable ctx.now.tree root
         (pending_candidates worklist.old) (pending_candidates worklist.new)) }
     ensures later { OnOk result (worklist.new.later.items ≡ []) }
@@ -193,7 +193,7 @@ fn next_of<D: Dialect>(
     ctx: &Context,
 ) -> Option<DeadCandidate>
     requires linked { IsWellLinked D.meaning ctx.now.tree root }
-    requires marked { AreMarked D.meaning ctx.now.tree root (λ b. mark_of predecessors.now b) }
+    requires marked { AreMarked D.meaning ctx.now.tree root (λ b. mark_of_block predecessors.now b) }
     ensures some { IfSome result (λ next. IsReady D.meaning D.side_effects D.removable ctx.now.tree root
         (item_of next)) }
     ensures kept { IfSome result (λ next. KeepsReady D.meaning D.side_effects D.removable ctx.now.tree root
@@ -260,16 +260,16 @@ pub(crate) fn next_ready<D: Dialect>(
     ctx: &Context,
 ) -> Result<Option<DeadCandidate>, AllocError>
     requires linked { IsWellLinked D.meaning ctx.now.tree root }
-    requires marked { AreMarked D.meaning ctx.now.tree root (λ b. mark_of predecessors.now b) }
+    requires marked { AreMarked D.meaning ctx.now.tree root (λ b. mark_of_block predecessors.now b) }
     requires all { HasReady D.meaning D.side_effects D.removable ctx.now.tree root (pending_candidates worklist.old) }
-    requires closed { AreClosed ctx.now.tree worklist.old.around.ops.items }
+    requires closed { AreClosedUnderNesting ctx.now.tree worklist.old.around.ops.items }
     ensures some { IfOk result (λ found. IfSome found (λ next. IsReady D.meaning D.side_effects D.removable ctx.now.tree
         root (item_of next))) }
     ensures all { IfOk result (λ found. IfSome found (λ next. HasReady D.meaning D.side_effects D.removable ctx.now.tree
         root (pending_candidates worklist.new ++ next ∷ []))) }
     ensures none { IfOk result (λ found. IfNone found ((x : Item) → IsReady D.meaning D.side_effects D.removable
         ctx.now.tree root x → ⊥)) }
-    ensures closed { OnOk result (AreClosed ctx.now.tree worklist.new.around.ops.items) }
+    ensures closed { OnOk result (AreClosedUnderNesting ctx.now.tree worklist.new.around.ops.items) }
 {
     if let Some(next) = next_of::<D>(worklist, predecessors, root, ctx) {
         return Ok(Some(next));
@@ -323,9 +323,9 @@ fn push_around(
 ) -> Result<(), AllocError>
     requires around { IsAroundMaker ctx.now.tree value first }
     requires live { IfSome first (λ op. IsLive ctx.now.tree op) }
-    requires closed { AreClosed ctx.now.tree around.old.ops.items }
+    requires closed { AreClosedUnderNesting ctx.now.tree around.old.ops.items }
     ensures adds_parents { OnOk result (AddsParents ctx.now.tree value around.old.ops.items around.new.ops.items) }
-    ensures closed { OnOk result (AreClosed ctx.now.tree around.new.ops.items) }
+    ensures closed { OnOk result (AreClosedUnderNesting ctx.now.tree around.new.ops.items) }
 {
     ctx.well_formed();
     let mut holder = first;
@@ -357,12 +357,12 @@ pub(crate) fn note(
     ctx: &Context,
 ) -> Result<(), AllocError>
     requires live { IsTrue are_live → (v : ℕ) → In v used.now → IsDefined ctx.now.tree v }
-    requires closed { AreClosed ctx.now.tree worklist.old.around.ops.items }
+    requires closed { AreClosedUnderNesting ctx.now.tree worklist.old.around.ops.items }
     ensures kept { OnOk result ((x : Item) → Among x (items_of (pending_candidates worklist.old)) → Among x
         (items_of (pending_candidates worklist.new))) }
     ensures revisited { OnOk result (AreRevisited ctx.now.tree used.now
         (items_of (pending_candidates worklist.new))) }
-    ensures closed { OnOk result (AreClosed ctx.now.tree worklist.new.around.ops.items) }
+    ensures closed { OnOk result (AreClosedUnderNesting ctx.now.tree worklist.new.around.ops.items) }
 {
     for value in used {
         if !is_noted(*value, are_live, ctx) {

@@ -29,14 +29,14 @@ use Rattle.pliron_opt_sccp.specs.Constraints.{ConstrainsEntries, SatisfiesAll}
 use Rattle.pliron_opt_sccp.specs.Visiting.{HasWay, IsGrounded, AreDetermined}
 use Rattle.pliron_opt_sccp.specs.declared.feasible_edges.FeasibleEdges.{FeasibleEdges}
 use Rattle.pliron_opt_sccp.specs.Feasible.{AreSurelyFeasible, KeepsFeasible}
-use Rattle.pliron_opt_sccp.specs.OperationVisits.{AreReactions, Forwarded, VisitsInTurnAndKeeps, IsPropagatedEagerly, WasVisited, IsNamed, IsOpenEdge, IsUseOf, VisitsOperation, VisitsInTurn, PopsValues}
+use Rattle.pliron_opt_sccp.specs.OperationVisits.{AreReactions, Forwarded, VisitsInTurnAndKeeps, IsPropagatedEagerly, WasVisited, IsNamedArgument, IsOpenEdge, IsUseOf, VisitsOperation, VisitsInTurn, PopsValues}
 use Rattle.pliron_opt_sccp.specs.OperationVisits.VisitsInTurnAndKeeps.{Nowhere, Onward}
 use Rattle.pliron_opt_sccp.specs.OperationVisits.VisitsInTurn.{Nothing, Then}
 use Rattle.pliron_opt_sccp.specs.Starting.{IsStarted}
 use Rattle.pliron_opt_sccp.specs.Searching.{TakesTurn, IsSearchOnTheWay}
 use Rattle.pliron_opt_sccp.specs.Searching.TakesTurn.{Block, Values}
 use Rattle.pliron_opt_sccp.specs.WorklistCounts.{AreWorklistsEmpty}
-use Rattle.pliron_opt_sccp.specs.Best.{is_visited, IsAbove, IsBest}
+use Rattle.pliron_opt_sccp.specs.Best.{is_visited, IsHigher, IsBest}
 use Rattle.pliron_opt_sccp.proofs.Accounting.{below_undetermined}
 use Rattle.pliron_opt_sccp.proofs.DistinctLists.{held_directly}
 use Rattle.pliron_opt_sccp.proofs.InsideLists.{holds_listed, argument_listed, made_listed, result_listed}
@@ -245,7 +245,7 @@ module _ (x : Says) (t : Tree) (root : ℕ) (w : IsTree t) (linked : IsWellLinke
           edge q place v r o is l at f clear =
               (closed.branches q f.edge f.block o (liveness q l) at f.branch (⊎_elim (λ none. (f.successor, λ folds. absurd (true≢false (sym folds ∙ none)))) (λ y. sure q f.block y.1 g closed f.edge o at f.successor) clear)).1 f.index v r f.is_argument (picked_in (x.meaning.forwarded (shape_of x.meaning t o) f.edge) o.operands f.index place r f.forwards (at_place q place r o is at))
 
-          named : (q place v r : ℕ) (o : Operation) → IsUseOf t r q place → WasVisited t u q → op_at t q ≡ Some o → IsNamed x t o place v → AtMost (g.lattice_value v) (g.lattice_value r)
+          named : (q place v r : ℕ) (o : Operation) → IsUseOf t r q place → WasVisited t u q → op_at t q ≡ Some o → IsNamedArgument x t o place v → AtMost (g.lattice_value v) (g.lattice_value r)
           named q place v r o is l at n =
               let below = (closed.entries q n.region n.key n.entry o (liveness q l) at n.in_place n.first).1 n.index v n.is_argument in
               subst (λ z. IsBelowNamed g.lattice_value g.lattice_value o.operands z v) n.names below r (at_place q place r o is at)
@@ -303,7 +303,7 @@ module _ (x : Says) (t : Tree) (root : ℕ) (w : IsTree t) (linked : IsWellLinke
     entered : ConstrainsEntries t root (lattice_values_of s)
     entered = (start.asks (lattice_values_of s)).0 start.applied.met
 
-    above_start : (g : LatticeValues) → AreClosed x t root g → IsAbove t root (lattice_values_of s) g
+    above_start : (g : LatticeValues) → AreClosed x t root g → IsHigher t root (lattice_values_of s) g
     above_start g closed =
         only_above t root g (lattice_values_of s) (start.applied.least (only_inside t root g)
         (only_below t root g (lattice_values_of start.before) (record { blocks = λ b r. absurd (true≢false (sym r ∙ start.unsearched.reached b)); facts = λ v i. inl (start.unsearched.inside v i) }))

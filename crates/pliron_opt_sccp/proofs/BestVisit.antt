@@ -28,7 +28,7 @@ use Rattle.pliron_opt_sccp.specs.Precise.{AreOwed}
 use Rattle.pliron_opt_sccp.specs.Visiting.{HasWay, IsGrounded, AreDetermined}
 use Rattle.pliron_opt_sccp.specs.Constraints.{SatisfiesAll}
 use Rattle.pliron_opt_sccp.specs.OperationVisits.{VisitsOperation}
-use Rattle.pliron_opt_sccp.specs.Best.{IsAbove}
+use Rattle.pliron_opt_sccp.specs.Best.{IsHigher}
 use Rattle.pliron_opt_sccp.proofs.Applied.{below_trans}
 use Rattle.pliron_opt_sccp.proofs.Settled.{met_still}
 use Rattle.pliron_opt_sccp.proofs.DistinctLists.{held_directly}
@@ -113,7 +113,7 @@ targets_of t k = successors_of t k ++ entries_of t k
 abbrev pub only_inside : Tree → ℕ → LatticeValues → LatticeValues
 only_inside t root g = record { is_executable = g.is_executable; lattice_value = λ v. if lists (values_inside t root) v then g.lattice_value v else NotAConstant }
 
-pub only_below : (t : Tree) (root : ℕ) (g f : LatticeValues) → IsAbove t root f g → AreAtMost (only_inside t root g) f
+pub only_below : (t : Tree) (root : ℕ) (g f : LatticeValues) → IsHigher t root f g → AreAtMost (only_inside t root g) f
 only_below t root g f above = record { is_executable = above.blocks; lattice_value = λ v. by v (lists (values_inside t root) v) refl }
   where
     by : (v : ℕ) (b : Bool) → lists (values_inside t root) v ≡ b → AtMost (if b then g.lattice_value v else NotAConstant) (f.lattice_value v)
@@ -127,14 +127,14 @@ only_lower t root g = record { is_executable = λ b r. r; lattice_value = λ v. 
     by v true = at_most_refl (g.lattice_value v)
     by v false = inr (inl refl)
 
-pub only_above : (t : Tree) (root : ℕ) (g f : LatticeValues) → AreAtMost (only_inside t root g) f → IsAbove t root f g
+pub only_above : (t : Tree) (root : ℕ) (g f : LatticeValues) → AreAtMost (only_inside t root g) f → IsHigher t root f g
 only_above t root g f below = record { blocks = below.is_executable; facts = λ v i. subst (λ b. AtMost (if b then g.lattice_value v else NotAConstant) (f.lattice_value v)) (in_lists (values_inside t root) v i) (below.lattice_value v) }
 
 -- what holds of the facts while operations are visited: f are those from before, and the blocks seen are those that
 -- were visited before and the one at hand
 pub record IsOn (x : Says) (t : Tree) (root : ℕ) (f : LatticeValues) (seen : ℕ → Bool) (now : LatticeValues) : Type 0 where
   pub below : AreAtMost now f
-  pub above : (g : LatticeValues) → AreClosed x t root g → IsAbove t root now g
+  pub above : (g : LatticeValues) → AreClosed x t root g → IsHigher t root now g
   pub ways : (b : ℕ) → IsTrue (now.is_executable b) → HasWay t seen b
   pub held : (b k : ℕ) → IsTrue (now.is_executable b) → block_parent_operation_of t b ≡ Some k → (k ≡ root) ⊎ ((c : ℕ) × (parent_of t k ≡ Some c) × IsTrue (seen c))
   pub arguments : (b v : ℕ) → IsTrue (now.is_executable b) → In v (arguments_of t b) → now.lattice_value v ≢ Undetermined
@@ -210,7 +210,7 @@ module _ (x : Says) (t : Tree) (root : ℕ) (w : IsTree t) (linked : IsWellLinke
       least : (g : LatticeValues) → AreAtMost g now → IsSatisfied x t now g k o → AreAtMost g new
       least g below m = visits.applied.least g (subst (λ z. AreAtMost g z) same below) ((asks g below).1 m)
 
-      above_still : (g : LatticeValues) → AreClosed x t root g → IsAbove t root new g
+      above_still : (g : LatticeValues) → AreClosed x t root g → IsHigher t root new g
       above_still g closed =
           only_above t root g new (least (only_inside t root g) (only_below t root g now (on.above g closed)) (met_still x t now g (only_inside t root g) k o (only_lower t root g) (meets_closed g closed)))
 

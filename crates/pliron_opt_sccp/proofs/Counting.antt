@@ -3,7 +3,7 @@ use Rattle.std.proofs.Common.{◌≡◌, inl, inr, ℕ, ◌+◌, ◌*◌, Bool, 
 use Rattle.std.specs.List.{flat_map}
 use Rattle.pliron_core.specs.Lists.{In, IsDistinct}
 use Rattle.pliron_theory.specs.LatticeValues.{LatticeValue, Undetermined, Constant, NotAConstant}
-use Rattle.pliron_opt_sccp.specs.Chain.{is_constant, varies}
+use Rattle.pliron_opt_sccp.specs.Chain.{is_constant_value, varies}
 use Rattle.pliron_theory.proofs.PutFacts.{instead, instead_it, instead_other}
 
 -- the sum of the weights of a list's items
@@ -58,27 +58,27 @@ pub counted_filter : (p : ℕ → Bool) (xs : List ℕ) → length (filter p xs)
 counted_filter p [] = refl
 counted_filter p (x ∷ xs) = length_kept p x xs ∙ ap (λ n. one_if (p x) + n) (counted_filter p xs)
 
-split_least : (f : LatticeValue) → one_if (is_constant f) + one_if (varies f) ≡ least f
+split_least : (f : LatticeValue) → one_if (is_constant_value f) + one_if (varies f) ≡ least f
 split_least Undetermined = refl
 split_least (Constant c) = refl
 split_least NotAConstant = refl
 
-split_most : (f : LatticeValue) → one_if (is_constant f) + 2 * one_if (varies f) ≡ most f
+split_most : (f : LatticeValue) → one_if (is_constant_value f) + 2 * one_if (varies f) ≡ most f
 split_most Undetermined = refl
 split_most (Constant c) = refl
 split_most NotAConstant = refl
 
-pub sum_least : (f : ℕ → LatticeValue) (xs : List ℕ) → length (filter (λ v. is_constant (f v)) xs) + length (filter (λ v. varies (f v)) xs) ≡ sum_of (λ v. least (f v)) xs
-sum_least f xs = ap₂ (λ a b. a + b) (counted_filter (λ v. is_constant (f v)) xs) (counted_filter (λ v. varies (f v)) xs) ∙ go xs
+pub sum_least : (f : ℕ → LatticeValue) (xs : List ℕ) → length (filter (λ v. is_constant_value (f v)) xs) + length (filter (λ v. varies (f v)) xs) ≡ sum_of (λ v. least (f v)) xs
+sum_least f xs = ap₂ (λ a b. a + b) (counted_filter (λ v. is_constant_value (f v)) xs) (counted_filter (λ v. varies (f v)) xs) ∙ go xs
   where
-    go : (xs : List ℕ) → sum_of (λ v. one_if (is_constant (f v))) xs + sum_of (λ v. one_if (varies (f v))) xs ≡ sum_of (λ v. least (f v)) xs
+    go : (xs : List ℕ) → sum_of (λ v. one_if (is_constant_value (f v))) xs + sum_of (λ v. one_if (varies (f v))) xs ≡ sum_of (λ v. least (f v)) xs
     go [] = refl
     go (x ∷ xs) = let e = go xs in let s = split_least (f x) in omega (arith, e, s)
 
-pub sum_most : (f : ℕ → LatticeValue) (xs : List ℕ) → length (filter (λ v. is_constant (f v)) xs) + 2 * length (filter (λ v. varies (f v)) xs) ≡ sum_of (λ v. most (f v)) xs
-sum_most f xs = ap₂ (λ a b. a + 2 * b) (counted_filter (λ v. is_constant (f v)) xs) (counted_filter (λ v. varies (f v)) xs) ∙ go xs
+pub sum_most : (f : ℕ → LatticeValue) (xs : List ℕ) → length (filter (λ v. is_constant_value (f v)) xs) + 2 * length (filter (λ v. varies (f v)) xs) ≡ sum_of (λ v. most (f v)) xs
+sum_most f xs = ap₂ (λ a b. a + 2 * b) (counted_filter (λ v. is_constant_value (f v)) xs) (counted_filter (λ v. varies (f v)) xs) ∙ go xs
   where
-    go : (xs : List ℕ) → sum_of (λ v. one_if (is_constant (f v))) xs + 2 * sum_of (λ v. one_if (varies (f v))) xs ≡ sum_of (λ v. most (f v)) xs
+    go : (xs : List ℕ) → sum_of (λ v. one_if (is_constant_value (f v))) xs + 2 * sum_of (λ v. one_if (varies (f v))) xs ≡ sum_of (λ v. most (f v)) xs
     go [] = refl
     go (x ∷ xs) = let e = go xs in let s = split_most (f x) in omega (arith, e, s)
 

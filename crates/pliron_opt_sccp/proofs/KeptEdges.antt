@@ -7,7 +7,8 @@ use Rattle.pliron_laws.proofs.Records.{op_shows}
 use Rattle.pliron_theory.specs.LatticeValues.{LatticeValues, Says, operand_constants}
 use Rattle.pliron_opt_sccp.specs.declared.feasible_edges.FeasibleEdges.{FeasibleEdges}
 use Rattle.pliron_opt_sccp.specs.Constraints.{AreFeasible}
-use Rattle.pliron_opt_sccp.specs.Feasible.{holds, is_one_key, leads, AreFound, KeepsAmong, KeepsFeasible}
+use Rattle.pliron_opt_sccp.specs.Feasible.{holds, leads, AreFound, KeepsAmong, KeepsFeasible}
+use Rattle.pliron_laws.specs.Tree.{is_one_key}
 use Rattle.pliron_opt_sccp.proofs.EdgesAsked.{may}
 
 -- one operation's blocks are kept

@@ -18,8 +18,8 @@ use Rattle.pliron_theory.specs.LatticeValues.{LatticeValues, Says, operand_const
 use Rattle.pliron_opt_sccp.specs.declared.rewrite.Fold.{Fold}
 use Rattle.pliron_opt_sccp.specs.declared.rewrite.Folds.{Folds}
 use Rattle.pliron_opt_sccp.specs.Chain.{is_reached, has_passing_head, both}
-use Rattle.pliron_opt_sccp.specs.RewriteSteps.{IsFold, AreEachFold}
-use Rattle.pliron_opt_sccp.specs.Listed.{is_folding, Each, alone_if, AddsFold, AreFolds}
+use Rattle.pliron_opt_sccp.specs.RewriteSteps.{IsConstantFold, AreEachFold}
+use Rattle.pliron_opt_sccp.specs.Listed.{is_folding, AllOf, alone_if, AddsFold, AreFolds}
 use Rattle.pliron_opt_sccp.proofs.Constrained.{handed_more}
 use Rattle.pliron_theory.proofs.Listing.{IsListing, listing_start, listing_step, listing_smaller, listing_end}
 
@@ -30,10 +30,10 @@ at_end [] x (suc i) y e = absurd (not_none e)
 at_end (z ∷ zs) x zero y e = inl e
 at_end (z ∷ zs) x (suc i) y e = at_end zs x i y e
 
-pub each_more : {A : Type 0} (P : A → Type 0) (old new : List A) (x : A) → new ≡ old ++ x ∷ [] → Each old P → P x → Each new P
+pub each_more : {A : Type 0} (P : A → Type 0) (old new : List A) (x : A) → new ≡ old ++ x ∷ [] → AllOf old P → P x → AllOf new P
 each_more P old new x e all one i y at = elim (at_end old x i y (ap (λ xs. slice_get xs i) (sym e) ∙ at)) [ inl h ↦ all i y h | inr s ↦ subst P (sym s) one ]
 
-pub each_none : {A : Type 0} (P : A → Type 0) (xs : List A) → xs ≡ [] → Each xs P
+pub each_none : {A : Type 0} (P : A → Type 0) (xs : List A) → xs ≡ [] → AllOf xs P
 each_none P xs e i x at = absurd (not_none (ap (λ ys. slice_get ys i) (sym e) ∙ at))
 
 filter_alone : (p : ℕ → Bool) (xs : List ℕ) → flat_map (λ k. alone_if (p k) k) xs ≡ filter p xs
@@ -84,7 +84,7 @@ module _ (x : Says) (t : Tree) (f : LatticeValues) (k : ℕ) where
   not_foldable h e no_fold = ap (λ o. both (has_passing_head x.can_fold o) (is_reached f (parent_of t k))) e ∙ ap (λ c. both c (is_reached f (parent_of t k))) no_fold
 
   module _ (old new : Folds) (fold : Fold) (more : List (Option AttrObj)) (longer : new.known.items ≡ old.known.items ++ more) (e : new.rows.items ≡ old.rows.items ++ fold ∷ []) where
-    fold_stays : (one : Fold) → IsFold x t f old.known.items one → IsFold x t f new.known.items one
+    fold_stays : (one : Fold) → IsConstantFold x t f old.known.items one → IsConstantFold x t f new.known.items one
     fold_stays one is = record {
       operation = is.operation;
       at = is.at;
@@ -98,7 +98,7 @@ module _ (x : Says) (t : Tree) (f : LatticeValues) (k : ℕ) where
     pub adds_fold : IsTrue (is_folding x.can_fold t f k) → fold.op ≡ k → fold.start ≡ length old.known.items → fold.end ≡ length new.known.items → more ≡ operand_constants f (operands_of t k) → AddsFold x t f k old new
     adds_fold folding same start end is = record {
       operations = ap (map (λ fold. fold.op)) e ∙ map_last old.rows.items ∙ ap (λ z. map (λ fold. fold.op) old.rows.items ++ z ∷ []) same ∙ ap (λ b. map (λ fold. fold.op) old.rows.items ++ alone_if b k) (sym folding);
-      each = λ all. each_more (IsFold x t f new.known.items) old.rows.items new.rows.items fold e (λ i one at. fold_stays one (all i one at)) (subst (IsFold x t f new.known.items) fold_is added);
+      each = λ all. each_more (IsConstantFold x t f new.known.items) old.rows.items new.rows.items fold e (λ i one at. fold_stays one (all i one at)) (subst (IsConstantFold x t f new.known.items) fold_is added);
     }
       where
         map_last : (xs : List Fold) → map (λ z. z.op) (xs ++ fold ∷ []) ≡ map (λ z. z.op) xs ++ fold.op ∷ []
@@ -115,7 +115,7 @@ module _ (x : Says) (t : Tree) (f : LatticeValues) (k : ℕ) where
         fold_is =
             ap (λ z. record { op = z; start = length old.known.items; end = length new.known.items }) (sym same) ∙ ap (λ z. record { op = fold.op; start = z; end = length new.known.items }) (sym start) ∙ ap (λ z. record { op = fold.op; start = fold.start; end = z }) (sym end)
 
-        added : IsFold x t f new.known.items there
+        added : IsConstantFold x t f new.known.items there
         added =
             let h = passing_head x.can_fold (head_of t k) parts.0 in
             record {
@@ -158,7 +158,7 @@ module _ (x : Says) (t : Tree) (root : ℕ) (f : LatticeValues) (w : IsTree t) w
   pub folds_start : (folds : Folds) (at : Option ℕ) → folds.rows.items ≡ [] → at ≡ next_in root (preorder t root) → IsFoldListing x t root f folds at
   folds_start folds at none e = record {
     listing = subst (λ z. IsListing (lists x t f) (contents t root) [] (map (λ fold. fold.op) z) at) (sym none) (listing_start (lists x t f) (contents t root) [] at (e ∙ next_in-first root root (contents t root) refl));
-    each = each_none (IsFold x t f folds.known.items) folds.rows.items none;
+    each = each_none (IsConstantFold x t f folds.known.items) folds.rows.items none;
   }
 
   pub folds_inside : (folds : Folds) (at : Option ℕ) (k : ℕ) → IsFoldListing x t root f folds at → at ≡ Some k → IsInside t root k

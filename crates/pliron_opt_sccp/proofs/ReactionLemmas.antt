@@ -19,7 +19,7 @@ use Rattle.pliron_opt_sccp.specs.LatticeCells.{Means}
 use Rattle.pliron_opt_sccp.specs.declared.lattice_tables.Tables.{Tables}
 use Rattle.pliron_opt_sccp.specs.declared.feasible_edges.FeasibleEdges.{FeasibleEdges}
 use Rattle.pliron_opt_sccp.specs.Constraints.{Adds, SatisfiesAll}
-use Rattle.pliron_opt_sccp.specs.OperationVisits.{AddsEach, AreReactions, ConstrainsEagerly, Forwarded, IsConstrainedAt, IsBehind, IsPropagatedEagerly, WasVisited, IsNamed, IsOpenEdge, IsUseOf, NamesNone, SchedulesUses, PopsUsers}
+use Rattle.pliron_opt_sccp.specs.OperationVisits.{AddsEach, AreReactions, ConstrainsEagerly, Forwarded, IsConstrainedAt, IsVisitOutdated, IsPropagatedEagerly, WasVisited, IsNamedArgument, IsOpenEdge, IsUseOf, NamesNone, SchedulesUses, PopsUsers}
 use Rattle.pliron_opt_sccp.proofs.Constrained.{adds_one}
 use Rattle.pliron_opt_sccp.specs.LatticeTables.{known_constants, lattice_value_in, is_numbered, value_worklist_len, is_executable, is_block_on_worklist, is_value_on_worklist, KeepsStamps, IsValueWorklistEmpty, SaysSame, PopsValue}
 use Rattle.pliron_opt_sccp.proofs.Stamps.{behind_same, kept_back, kept_both}
@@ -79,12 +79,12 @@ module _ (x : Says) (t : Tree) (edges : FeasibleEdges) where
       }
 
       -- it was visited since
-      pub use_ahead_of : (IsBehind t s op v → ⊥) → SchedulesUses x t s edges v IsIt users constraints users constraints
+      pub use_ahead_of : (IsVisitOutdated t s op v → ⊥) → SchedulesUses x t s edges v IsIt users constraints users constraints
       use_ahead_of none = record {
         kept = λ k i. i;
         more = λ now m. m;
         only = λ k i. inl i;
-        seen = λ k p o u b l at. absurd (none (subst (λ z. IsBehind t s z v) u.0 b));
+        seen = λ k p o u b l at. absurd (none (subst (λ z. IsVisitOutdated t s z v) u.0 b));
         owed = λ now m all. m;
       }
 
@@ -135,7 +135,7 @@ module _ (x : Says) (t : Tree) (edges : FeasibleEdges) where
           o = let h = some_of _ live in (_, make_op t op h.0 h.1)
 
       -- the argument that is named for it is asked, and then more
-      pub named_ahead : (constraints' : List Constraint) (argument : ℕ) (cell : LatticeCell) → IsLive t op → ((o : Operation) → op_at t op ≡ Some o → IsNamed x t o place argument) → Means (known_constants s) cell (lattice_value_in s v) → constraints' ≡ constraints ++ Lower argument cell ∷ [] → ConstrainsEagerly x t s edges op place v constraints constraints'
+      pub named_ahead : (constraints' : List Constraint) (argument : ℕ) (cell : LatticeCell) → IsLive t op → ((o : Operation) → op_at t op ≡ Some o → IsNamedArgument x t o place argument) → Means (known_constants s) cell (lattice_value_in s v) → constraints' ≡ constraints ++ Lower argument cell ∷ [] → ConstrainsEagerly x t s edges op place v constraints constraints'
       named_ahead constraints' argument cell live named said grown =
           let adds = adds_one (known_constants s) constraints constraints' (Lower argument cell) grown in
           let h = some_of _ live in
@@ -248,7 +248,7 @@ module _ (x : Says) (t : Tree) (edges : FeasibleEdges) where
   calls_more s v values users constraints users' constraints' c p = record {
     only = λ k i. ⊎_elim (λ j. let y = c.only k j in (y.0, (y.1.0, inr y.1.1))) (λ y. (y.0, (v, inl refl))) (p.only k i);
     seen = λ k place w o i is b l at. ⊎_elim
-        (λ e. subst (λ z. In k users' ⊎ IsConstrainedAt x t s constraints' o place z) (sym e) (p.seen k place o (subst (λ z. IsUseOf t z k place) e is) (subst (λ z. IsBehind t s k z) e b) l at))
+        (λ e. subst (λ z. In k users' ⊎ IsConstrainedAt x t s constraints' o place z) (sym e) (p.seen k place o (subst (λ z. IsUseOf t z k place) e is) (subst (λ z. IsVisitOutdated t s k z) e b) l at))
         (λ j. ⊎_elim (λ h. inl (p.kept k h)) (λ h. inr (asked_more s constraints constraints' o place w p.more h)) (c.seen k place w o j is b l at))
         i;
     owed = λ now all. p.owed now

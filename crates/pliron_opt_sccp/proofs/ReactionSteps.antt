@@ -17,7 +17,7 @@ use Rattle.pliron_opt_sccp.specs.WorklistCounts.{AreKnownThere, AreWorklistsEmpt
 use Rattle.pliron_opt_sccp.specs.Deferring.{IsDeferred}
 use Rattle.pliron_opt_sccp.specs.Constraints.{CanSatisfy, SatisfiesAll}
 use Rattle.pliron_opt_sccp.specs.Lowering.{IsApplied}
-use Rattle.pliron_opt_sccp.specs.OperationVisits.{AreReactions, AreTargetsNumbered, Forwarded, HasNumberedTargets, IsConstrainedAt, IsBehind, IsPropagatedEagerly, WasVisited, IsNamed, IsOpenEdge, PopsValues}
+use Rattle.pliron_opt_sccp.specs.OperationVisits.{AreReactions, AreTargetsNumbered, Forwarded, HasNumberedTargets, IsConstrainedAt, IsVisitOutdated, IsPropagatedEagerly, WasVisited, IsNamedArgument, IsOpenEdge, PopsValues}
 use Rattle.pliron_opt_sccp.specs.Settling.{IsSatisfied, AreAtMost, AreStarted}
 use Rattle.pliron_opt_sccp.proofs.Applied.{at_most_both, below_refl}
 use Rattle.pliron_opt_sccp.proofs.Stamps.{behind_same, told_calls}
@@ -42,12 +42,12 @@ can_call x t edges s values users constraints c = c.owed (lowest_lattice_values 
 module _ (x : Says) (t : Tree) (edges : FeasibleEdges) (values users : List ℕ) (constraints : List Constraint) (s u w : Tables) (k : PopsValues values s u) (c : AreReactions x t u edges values users constraints) (a : IsApplied (known_constants u) constraints u w) where
   -- an operation that was visited and is not visited again is settled
   module _ (stamped : StampsEachLowered u w) (j b : ℕ) (o : Operation) (at : op_at t j ≡ Some o) (l : WasVisited t u j) (rests : In j users → ⊥) (y : IsSettledIn x t s j o) where
-    reads : (v : ℕ) → In v o.operands → In v values × IsBehind t u j v → (place : ℕ) × (slice_get o.operands place ≡ Some v) × IsConstrainedAt x t u constraints o place v
+    reads : (v : ℕ) → In v o.operands → In v values × IsVisitOutdated t u j v → (place : ℕ) × (slice_get o.operands place ≡ Some v) × IsConstrainedAt x t u constraints o place v
     reads v i taken =
         let p = slice_in o.operands v i in
         (p.0, p.1, asks p.0 v taken p.1)
       where
-        asks : (place v : ℕ) → In v values × IsBehind t u j v → slice_get o.operands place ≡ Some v → IsConstrainedAt x t u constraints o place v
+        asks : (place v : ℕ) → In v values × IsVisitOutdated t u j v → slice_get o.operands place ≡ Some v → IsConstrainedAt x t u constraints o place v
         asks place v taken is = ⊎_elim (λ i. absurd (rests i)) (λ h. h) (c.seen j place v o taken.0 (ap (λ z. slice_get z place) (op_shows t j o at).operands ∙ is) taken.1 l at)
 
     falls_to : AreAtMost (lattice_values_of w) (lattice_values_of s)
@@ -59,10 +59,10 @@ module _ (x : Says) (t : Tree) (edges : FeasibleEdges) (values users : List ℕ)
     still : IsSatisfied x t y.seen (lattice_values_of w) j o
     still = met_still x t y.seen (lattice_values_of s) (lattice_values_of w) j o falls_to y.met
 
-    each : (v : ℕ) → In v o.operands → (lattice_value_in u v ≡ y.seen.lattice_value v) ⊎ (In v values × IsBehind t u j v)
+    each : (v : ℕ) → In v o.operands → (lattice_value_in u v ≡ y.seen.lattice_value v) ⊎ (In v values × IsVisitOutdated t u j v)
     each v i = ⊎_elim (λ e. inl (k.facts v ∙ e)) (λ q. inr ((k.waited v).0 q.0, behind_same t s u k.stamps j v q.1)) (y.same v i)
 
-    by_new : ((v : ℕ) × In v o.operands × (In v values × IsBehind t u j v)) → IsSettledIn x t w j o
+    by_new : ((v : ℕ) × In v o.operands × (In v values × IsVisitOutdated t u j v)) → IsSettledIn x t w j o
     by_new (v, i, taken) = record { seen = lattice_values_of u; met = met; same = λ q h. told_calls t u w a.lowered stamped.lowered j q }
       where
         first : IsConstrainedAt x t u constraints o (reads v i taken).0 v
@@ -92,7 +92,7 @@ module _ (x : Says) (t : Tree) (edges : FeasibleEdges) (values users : List ℕ)
           others = still.others;
         }
           where
-            asked_of : (place r : ℕ) → In r values × IsBehind t u j r → slice_get o.operands place ≡ Some r → (e d index q : ℕ) → IsTrue (x.meaning.is_branch o.head) → slice_get o.successors e ≡ Some d → slice_get (arguments_of t d) index ≡ Some q → slice_get (x.meaning.forwarded (shape_of x.meaning t o) e) index ≡ Some place → AtMost (lattice_value_in w q) (lattice_value_in u r)
+            asked_of : (place r : ℕ) → In r values × IsVisitOutdated t u j r → slice_get o.operands place ≡ Some r → (e d index q : ℕ) → IsTrue (x.meaning.is_branch o.head) → slice_get o.successors e ≡ Some d → slice_get (arguments_of t d) index ≡ Some q → slice_get (x.meaning.forwarded (shape_of x.meaning t o) e) index ≡ Some place → AtMost (lattice_value_in w q) (lattice_value_in u r)
             asked_of place r new is e d index q branch goes listed forwards = ⊎_elim
                 (λ z. absurd (rests z))
                 (λ h. h.below (lattice_values_of w) a.met q (record { branch = branch; edge = e; block = d; index = index; successor = goes; is_argument = listed; forwards = forwards }))
@@ -149,7 +149,7 @@ module _ (x : Says) (t : Tree) (edges : FeasibleEdges) (values users : List ℕ)
         clear
 
     -- and so does each region of it
-    entry_reached : (q place v : ℕ) (o : Operation) → WasVisited t u q → op_at t q ≡ Some o → (n : IsNamed x t o place v) → is_executable u n.entry ≡ true
+    entry_reached : (q place v : ℕ) (o : Operation) → WasVisited t u q → op_at t q ≡ Some o → (n : IsNamedArgument x t o place v) → is_executable u n.entry ≡ true
     entry_reached q place v o l at n = k.reached n.entry ∙ ((met_before q o l at).1.entries n.region n.key n.entry n.in_place n.first).0
 
     pub called_known : (tree : IsTree t) (root : ℕ) → AreKnownThere t root u → AreKnownThere t root w

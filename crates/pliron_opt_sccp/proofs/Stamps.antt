@@ -8,7 +8,7 @@ use Rattle.pliron_core.proofs.HoldingLemmas.{some_is, not_none}
 use Rattle.pliron_opt_sccp.specs.declared.lattice_tables.Tables.{Tables}
 use Rattle.pliron_opt_sccp.specs.LatticeTables.{lattice_value_in, lowered_stamp, visit_stamp, is_value_on_worklist, KeepsStamps, StampsLowered, StampsEachLowered, StampsVisit}
 use Rattle.pliron_opt_sccp.specs.Lowering.{ValuesAreLowered}
-use Rattle.pliron_opt_sccp.specs.OperationVisits.{stamp_of, CallsForVisit, IsBehind, IsStamped, StampsIt}
+use Rattle.pliron_opt_sccp.specs.OperationVisits.{stamp_of, CallsForVisit, IsVisitOutdated, IsStamped, StampsIt}
 
 pub kept_back : (s u : Tables) → KeepsStamps s u → KeepsStamps u s
 kept_back s u k = record { visit_stamps = λ f. sym (k.visit_stamps f); lowered = λ v. sym (k.lowered v) }
@@ -43,13 +43,13 @@ of_all s n all [] = omega arith
 of_all s n all (r ∷ rs) = all r
 
 module _ (t : Tree) where
-  pub behind_all : (s : Tables) (k v : ℕ) → ((f : ℕ) → visit_stamp s f ≤ lowered_stamp s v) → IsBehind t s k v
+  pub behind_all : (s : Tables) (k v : ℕ) → ((f : ℕ) → visit_stamp s f ≤ lowered_stamp s v) → IsVisitOutdated t s k v
   behind_all s k v all = of_all s (lowered_stamp s v) all (results_of t k)
 
-  pub behind_then : (s u : Tables) (k v : ℕ) → stamp_of u (results_of t k) ≡ stamp_of s (results_of t k) → lowered_stamp u v ≡ lowered_stamp s v → IsBehind t s k v → IsBehind t u k v
+  pub behind_then : (s u : Tables) (k v : ℕ) → stamp_of u (results_of t k) ≡ stamp_of s (results_of t k) → lowered_stamp u v ≡ lowered_stamp s v → IsVisitOutdated t s k v → IsVisitOutdated t u k v
   behind_then s u k v look fall b = no_earlier (stamp_of s (results_of t k)) (stamp_of u (results_of t k)) (lowered_stamp s v) (lowered_stamp u v) look fall b
 
-  pub behind_same : (s u : Tables) → KeepsStamps s u → (k v : ℕ) → IsBehind t s k v → IsBehind t u k v
+  pub behind_same : (s u : Tables) → KeepsStamps s u → (k v : ℕ) → IsVisitOutdated t s k v → IsVisitOutdated t u k v
   behind_same s u kept k v b = behind_then s u k v (of_same s u kept.visit_stamps (results_of t k)) (kept.lowered v) b
 
   -- what fell calls for every operation
@@ -65,7 +65,7 @@ module _ (t : Tree) where
   pub calls_still : (s u : Tables) → ValuesAreLowered s u → StampsLowered s u → (k v : ℕ) → stamp_of u (results_of t k) ≡ stamp_of s (results_of t k) → CallsForVisit t s k v → CallsForVisit t u k v
   calls_still s u f p k v look (w, b) = (f.values v w, by (p v))
     where
-      by : ((lattice_value_in u v ≡ lattice_value_in s v) × (lowered_stamp u v ≡ lowered_stamp s v)) ⊎ ((first : ℕ) → visit_stamp u first ≤ lowered_stamp u v) → IsBehind t u k v
+      by : ((lattice_value_in u v ≡ lattice_value_in s v) × (lowered_stamp u v ≡ lowered_stamp s v)) ⊎ ((first : ℕ) → visit_stamp u first ≤ lowered_stamp u v) → IsVisitOutdated t u k v
       by (inl same) = behind_then s u k v look same.1 b
       by (inr all) = behind_all u k v all
 
@@ -108,7 +108,7 @@ module _ (t : Tree) (w : IsTree t) (k first : ℕ) (here : slice_get (results_of
   }
 
 -- a greater stamp of the look than of the fall: it came later
-pub not_behind : (t : Tree) (s : Tables) (k first v : ℕ) → slice_get (results_of t k) 0 ≡ Some first → lowered_stamp s v < visit_stamp s first → IsBehind t s k v → ⊥
+pub not_behind : (t : Tree) (s : Tables) (k first v : ℕ) → slice_get (results_of t k) 0 ≡ Some first → lowered_stamp s v < visit_stamp s first → IsVisitOutdated t s k v → ⊥
 not_behind t s k first v at later b = by (results_of t k) refl
   where
     by : (rs : List ℕ) → results_of t k ≡ rs → ⊥

@@ -14,7 +14,7 @@ use Rattle.pliron_opt_sccp.specs.declared.rewrite.Replacements.{Replacements}
 use Rattle.pliron_theory.specs.LatticeValues.{LatticeValues, Says}
 use Rattle.pliron_theory.specs.Following.{Follows}
 use Rattle.pliron_opt_sccp.specs.RewriteSteps.{AreFoldSteps, AreArgumentSteps, IsFound, ReportsCreated, AreKnownArguments}
-use Rattle.pliron_opt_sccp.specs.Chain.{FoldsInTurn, FoldsPartly, KnownArgument, folding_operations, known_arguments, all_put, IsPartlyPut, IsRewritten, IsPartlyRewritten}
+use Rattle.pliron_opt_sccp.specs.Chain.{FoldsInTurn, FoldsPartly, KnownArgument, folding_operations, known_arguments, all_put, IsPartlyPut, IsRewrittenByConstants, IsPartlyRewritten}
 use Rattle.pliron_theory.proofs.FollowedFacts.{started}
 
 pub told_change : (t u : Tree) (status : IRStatus) → ReportsCreated status t u → ReportsChange (Some status) t u
@@ -42,5 +42,5 @@ module _ (x : Says) (can_fold : Head → Bool) (t : Tree) (root : ℕ) (f : Latt
       pub broken_putting : (u : Tree) → ((known : List KnownArgument) → AreKnownArguments t arguments known → IsPartlyPut accepts head known folded u) → IsPartlyRewritten can_fold accepts head outcome t root f u
       broken_putting u p = inr (folded, subst (λ ks. FoldsInTurn outcome t f ks t folded) (ops_are folds same) turns, p (known_arguments t root f) (stand_for arguments also))
 
-      pub all_rewritten : (u : Tree) → ((known : List KnownArgument) → AreKnownArguments t arguments known → u ≡ all_put accepts head known folded) → IsRewritten can_fold accepts head outcome t root f u
+      pub all_rewritten : (u : Tree) → ((known : List KnownArgument) → AreKnownArguments t arguments known → u ≡ all_put accepts head known folded) → IsRewrittenByConstants can_fold accepts head outcome t root f u
       all_rewritten u p = record { folded = folded; folds = subst (λ ks. FoldsInTurn outcome t f ks t folded) (ops_are folds same) turns; arguments = p (known_arguments t root f) (stand_for arguments also) }

@@ -12,7 +12,7 @@ abbrev pub is_visited : Tables → ℕ → Bool
 is_visited s b = if is_block_on_worklist s b then false else is_executable s b
 
 -- g has all executable blocks of f, and says of each value inside the root as much as f, or less
-pub record IsAbove (t : Tree) (root : ℕ) (f g : LatticeValues) : Type 0 where
+pub record IsHigher (t : Tree) (root : ℕ) (f g : LatticeValues) : Type 0 where
   pub blocks : (b : ℕ) → IsTrue (f.is_executable b) → IsTrue (g.is_executable b)
   pub facts : (v : ℕ) → In v (values_inside t root) → AtMost (g.lattice_value v) (f.lattice_value v)
 
@@ -21,4 +21,4 @@ pub record IsAbove (t : Tree) (root : ℕ) (f g : LatticeValues) : Type 0 where
 pub record IsBest (x : Says) (t : Tree) (root : ℕ) (s : Tables) : Type 0 where
   pub grounded : IsGrounded t root (lattice_values_of s) (is_visited s)
   pub ready : AreDetermined t (lattice_values_of s) (is_visited s)
-  pub above : (g : LatticeValues) → AreClosed x t root g → IsAbove t root (lattice_values_of s) g
+  pub above : (g : LatticeValues) → AreClosed x t root g → IsHigher t root (lattice_values_of s) g

@@ -70,7 +70,7 @@ all_put accepts head [] t = t
 all_put accepts head (a ∷ others) t = all_put accepts head others (if accepts a.attr then materialised_first t a.block a.value (head a.attr) else t)
 
 -- first the operations that fold, then the constant arguments of executable blocks, in pre-order
-pub record IsRewritten (can_fold : Head → Bool) (accepts : AttrObj → Bool) (head : AttrObj → Head) (outcome : Outcome) (t₀ : Tree) (root : ℕ) (f : LatticeValues) (t : Tree) : Type 0 where
+pub record IsRewrittenByConstants (can_fold : Head → Bool) (accepts : AttrObj → Bool) (head : AttrObj → Head) (outcome : Outcome) (t₀ : Tree) (root : ℕ) (f : LatticeValues) (t : Tree) : Type 0 where
   pub folded : Tree
   pub folds : FoldsInTurn outcome t₀ f (folding_operations can_fold t₀ root f) t₀ folded
   pub arguments : t ≡ all_put accepts head (known_arguments t₀ root f) folded
@@ -87,10 +87,10 @@ IsPartlyRewritten can_fold accepts head outcome t₀ root f t = FoldsPartly outc
 abbrev pub values_there : Tree → ℕ → LatticeValues → List ℕ
 values_there t root f = flat_map (λ b. arguments_of t b ++ flat_map (λ k. results_of t k) (body_of t b)) (reached_blocks t root f)
 
-abbrev pub is_constant : LatticeValue → Bool
-is_constant Undetermined = false
-is_constant (Constant c) = true
-is_constant NotAConstant = false
+abbrev pub is_constant_value : LatticeValue → Bool
+is_constant_value Undetermined = false
+is_constant_value (Constant c) = true
+is_constant_value NotAConstant = false
 
 abbrev pub varies : LatticeValue → Bool
 varies Undetermined = false

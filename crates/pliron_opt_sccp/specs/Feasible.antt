@@ -3,17 +3,13 @@ use Rattle.std.specs.Prelude.{◌≡◌, ◌⊎◌, ℕ, Bool, true, false, nat_
 use Rattle.std.specs.HashSet.{HashSet, contains}
 use Rattle.indexmap.specs.IndexMap.{get}
 use Rattle.pliron_core.specs.Tree.{Tree}
-use Rattle.pliron_laws.specs.Tree.{Operation, op_at}
+use Rattle.pliron_laws.specs.Tree.{Operation, op_at, is_one_key}
 use Rattle.pliron_theory.specs.LatticeValues.{LatticeValues, Says, AreClosed, IsFeasibleEdge}
 use Rattle.pliron_opt_sccp.specs.declared.feasible_edges.FeasibleEdges.{FeasibleEdges}
 
 abbrev pub holds : {S : Type 0} → Option (HashSet ℕ S) → ℕ → Bool
 holds None b = false
 holds (Some blocks) b = contains nat_eq blocks b
-
--- whether they are the same handle
-abbrev pub is_one_key : ℕ → ℕ → Bool
-is_one_key x y = nat_eq x y && true
 
 -- whether the block is kept as one that the operation may go to
 abbrev pub leads : FeasibleEdges → (k b : ℕ) → Bool

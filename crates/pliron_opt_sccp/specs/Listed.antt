@@ -13,8 +13,8 @@ abbrev pub is_folding : (Head → Bool) → Tree → LatticeValues → ℕ → B
 is_folding can_fold t f k = both (has_passing_head can_fold (head_of t k)) (is_reached f (parent_of t k))
 
 -- each item of the list is so
-abbrev pub Each : {A : Type 0} → List A → (A → Type 0) → Type 0
-Each {A} xs P = (i : ℕ) (x : A) → slice_get xs i ≡ Some x → P x
+abbrev pub AllOf : {A : Type 0} → List A → (A → Type 0) → Type 0
+AllOf {A} xs P = (i : ℕ) (x : A) → slice_get xs i ≡ Some x → P x
 
 -- the operation is in the list alone if it folds
 abbrev pub alone_if : Bool → ℕ → List ℕ
@@ -33,7 +33,7 @@ pub record AreFolds (x : Says) (t : Tree) (root : ℕ) (f : LatticeValues) (fold
 -- these arguments represent those that are known
 pub record AreArguments (t : Tree) (f : LatticeValues) (arguments : List ConstantArgument) (known : List KnownArgument) : Type 0 where
   pub stand : AreKnownArguments t arguments known
-  pub each : Each arguments (IsKnown t f)
+  pub each : AllOf arguments (IsKnown t f)
 
 -- the constant arguments of the block, if it is executable
 abbrev pub known_there : Tree → LatticeValues → ℕ → List KnownArgument

@@ -24,12 +24,12 @@ stamp_of s [] = 0
 stamp_of s (first ∷ more) = visit_stamp s first
 
 -- the stamps don't say that the operation was visited since the value was last lowered
-abbrev pub IsBehind : Tree → Tables → (k v : ℕ) → Type 0
-IsBehind t s k v = stamp_of s (results_of t k) ≤ lowered_stamp s v
+abbrev pub IsVisitOutdated : Tree → Tables → (k v : ℕ) → Type 0
+IsVisitOutdated t s k v = stamp_of s (results_of t k) ≤ lowered_stamp s v
 
 -- the value is on the worklist, and calls for a visit of the operation
 abbrev pub CallsForVisit : Tree → Tables → (k v : ℕ) → Type 0
-CallsForVisit t s k v = (is_value_on_worklist s v ≡ true) × IsBehind t s k v
+CallsForVisit t s k v = (is_value_on_worklist s v ≡ true) × IsVisitOutdated t s k v
 
 -- the visit of the operation may have got another stamp, and nothing else changed
 pub record StampsIt (t : Tree) (k : ℕ) (s s' : Tables) : Type 0 where
@@ -112,7 +112,7 @@ abbrev pub IsOpenEdge : Says → Tables → FeasibleEdges → Operation → (k b
 IsOpenEdge x s edges o k b = (x.can_fold_branch o.head ≡ false) ⊎ ((is_executable s b ≡ true) × (leads edges k b ≡ true))
 
 -- the operation names its operand at this place for the argument
-pub record IsNamed (x : Says) (t : Tree) (o : Operation) (place argument : ℕ) : Type 0 where
+pub record IsNamedArgument (x : Says) (t : Tree) (o : Operation) (place argument : ℕ) : Type 0 where
   pub region : ℕ
   pub key : ℕ
   pub entry : ℕ
@@ -125,7 +125,7 @@ pub record IsNamed (x : Says) (t : Tree) (o : Operation) (place argument : ℕ) 
 -- the argument receives the operand at this place of the operation k for sure: along an open edge, or since it
 -- is named for it
 abbrev pub IsPropagatedEagerly : Says → Tree → Tables → FeasibleEdges → Operation → (k place argument : ℕ) → Type 0
-IsPropagatedEagerly x t s edges o k place argument = ((f : Forwarded x t o place argument) × IsOpenEdge x s edges o k f.block) ⊎ IsNamed x t o place argument
+IsPropagatedEagerly x t s edges o k place argument = ((f : Forwarded x t o place argument) × IsOpenEdge x s edges o k f.block) ⊎ IsNamedArgument x t o place argument
 
 -- new constraints are at most on the arguments that receive the value v from this place of the operation for
 -- sure
@@ -160,7 +160,7 @@ pub record SchedulesUses (x : Says) (t : Tree) (s : Tables) (edges : FeasibleEdg
   pub kept : (k : ℕ) → In k users → In k users'
   pub more : (now : LatticeValues) → SatisfiesAll (known_constants s) now constraints' → SatisfiesAll (known_constants s) now constraints
   pub only : (k : ℕ) → In k users' → In k users ⊎ (WasVisited t s k × ((place : ℕ) × IsUse k place))
-  pub seen : (k place : ℕ) (o : Operation) → IsUse k place → IsBehind t s k v → WasVisited t s k → op_at t k ≡ Some o → In k users' ⊎ IsConstrainedAt x t s constraints' o place v
+  pub seen : (k place : ℕ) (o : Operation) → IsUse k place → IsVisitOutdated t s k v → WasVisited t s k → op_at t k ≡ Some o → In k users' ⊎ IsConstrainedAt x t s constraints' o place v
   pub owed : (now : LatticeValues) → SatisfiesAll (known_constants s) now constraints → ((k place a : ℕ) (o : Operation) → IsUse k place → WasVisited t s k → op_at t k ≡ Some o → IsPropagatedEagerly x t s edges o k place a → AtMost (now.lattice_value a) (lattice_value_in s v)) → SatisfiesAll (known_constants s) now constraints'
 
 -- the operation has the value at this place
@@ -170,7 +170,7 @@ IsUseOf t v k place = slice_get (operands_of t k) place ≡ Some v
 -- the reactions to these values: their uses are scheduled, and there are no other constraints
 pub record AreReactions (x : Says) (t : Tree) (s : Tables) (edges : FeasibleEdges) (values users : List ℕ) (constraints : List Constraint) : Type 0 where
   pub only : (k : ℕ) → In k users → WasVisited t s k × ((v : ℕ) × In v values)
-  pub seen : (k place v : ℕ) (o : Operation) → In v values → IsUseOf t v k place → IsBehind t s k v → WasVisited t s k → op_at t k ≡ Some o → In k users ⊎ IsConstrainedAt x t s constraints o place v
+  pub seen : (k place v : ℕ) (o : Operation) → In v values → IsUseOf t v k place → IsVisitOutdated t s k v → WasVisited t s k → op_at t k ≡ Some o → In k users ⊎ IsConstrainedAt x t s constraints o place v
   pub owed : (now : LatticeValues) → ((k place a v : ℕ) (o : Operation) → In v values → IsUseOf t v k place → WasVisited t s k → op_at t k ≡ Some o → IsPropagatedEagerly x t s edges o k place a → AtMost (now.lattice_value a) (lattice_value_in s v)) → SatisfiesAll (known_constants s) now constraints
 
 -- all values on the worklist were popped, so many, and these are the reactions to them

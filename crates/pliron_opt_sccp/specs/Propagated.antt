@@ -12,13 +12,13 @@ use Rattle.pliron_theory.specs.Change.{IsPassChange}
 use Rattle.pliron_theory.specs.Edges.{KeepsEdges}
 use Rattle.pliron_theory.specs.LatticeValues.{LatticeValues, Says, AreClosed, AreHeld}
 use Rattle.pliron_opt_sccp.specs.Precise.{AreMostPrecise, AreOwed}
-use Rattle.pliron_opt_sccp.specs.Chain.{IsRewritten, IsPartlyRewritten, reached_blocks, values_there, is_constant, varies}
+use Rattle.pliron_opt_sccp.specs.Chain.{IsRewrittenByConstants, IsPartlyRewritten, reached_blocks, values_there, is_constant_value, varies}
 
 -- with r executable blocks and, defined in these, c constants and n values that are not constant, the count is
 -- at least r + c + n and at most r + c + 2 n
 pub record CountsPops (t : Tree) (root : ℕ) (f : LatticeValues) (pops : ℕ) : Type 0 where
-  pub least : length (reached_blocks t root f) + length (filter (λ v. is_constant (f.lattice_value v)) (values_there t root f)) + length (filter (λ v. varies (f.lattice_value v)) (values_there t root f)) ≤ pops
-  pub most : pops ≤ length (reached_blocks t root f) + length (filter (λ v. is_constant (f.lattice_value v)) (values_there t root f)) + 2 * length (filter (λ v. varies (f.lattice_value v)) (values_there t root f))
+  pub least : length (reached_blocks t root f) + length (filter (λ v. is_constant_value (f.lattice_value v)) (values_there t root f)) + length (filter (λ v. varies (f.lattice_value v)) (values_there t root f)) ≤ pops
+  pub most : pops ≤ length (reached_blocks t root f) + length (filter (λ v. is_constant_value (f.lattice_value v)) (values_there t root f)) + 2 * length (filter (λ v. varies (f.lattice_value v)) (values_there t root f))
 
 -- closed lattice values of the first tree, the most precise ones where they are owed
 pub record AreFound (x : Says) (t : Tree) (root : ℕ) (f : LatticeValues) : Type 0 where
@@ -30,7 +30,7 @@ pub record AreFound (x : Says) (t : Tree) (root : ℕ) (f : LatticeValues) : Typ
 pub record IsPropagated (x : Says) (accepts : AttrObj → Bool) (head : AttrObj → Head) (outcome : Outcome) (t : Tree) (root : ℕ) (t' : Tree) (pops : ℕ) : Type 0 where
   pub facts : LatticeValues
   pub found : AreFound x t root facts
-  pub rewritten : IsRewritten x.can_fold accepts head outcome t root facts t'
+  pub rewritten : IsRewrittenByConstants x.can_fold accepts head outcome t root facts t'
   pub count : CountsPops t root facts pops
 
 -- the tree after allocation failure: as before, or one after a first part of these rewrites
@@ -38,9 +38,9 @@ abbrev pub IsPartlyPropagated : Says → (AttrObj → Bool) → (AttrObj → Hea
 IsPartlyPropagated x accepts head outcome t root t' = (t' ≡ t) ⊎ ((f : LatticeValues) × AreFound x t root f × IsPartlyRewritten x.can_fold accepts head outcome t root f t')
 
 -- what a call answers beside the count, and the count, which is 0 where it failed
-abbrev pub status_of : Result (IRStatus × ℕ) OptError → Result IRStatus OptError
-status_of (Ok answer) = Ok answer.0
-status_of (Err e) = Err e
+abbrev pub status_of_rewrite : Result (IRStatus × ℕ) OptError → Result IRStatus OptError
+status_of_rewrite (Ok answer) = Ok answer.0
+status_of_rewrite (Err e) = Err e
 
 abbrev pub pops_of : Result (IRStatus × ℕ) OptError → ℕ
 pops_of (Ok answer) = answer.1

@@ -29,7 +29,7 @@ pub record IsFoldStep (x : Says) (t₀ : Tree) (root : ℕ) (f₀ : LatticeValue
   pub known_is : known ≡ operand_constants f₀ operation.operands
 
 -- a fold of an operation that is in an executable block: its part of this list is what is known of the operands
-pub record IsFold (x : Says) (t : Tree) (f : LatticeValues) (known : List (Option AttrObj)) (fold : Fold) : Type 0 where
+pub record IsConstantFold (x : Says) (t : Tree) (f : LatticeValues) (known : List (Option AttrObj)) (fold : Fold) : Type 0 where
   pub operation : Operation
   pub at : op_at t fold.op ≡ Some operation
   pub liveness : IsInExecutableBlock t f fold.op
@@ -40,7 +40,7 @@ pub record IsFold (x : Says) (t : Tree) (f : LatticeValues) (known : List (Optio
 
 -- each of the folds is one
 abbrev pub AreEachFold : Says → Tree → LatticeValues → Folds → Type 0
-AreEachFold x t f folds = (i : ℕ) (fold : Fold) → slice_get folds.rows.items i ≡ Some fold → IsFold x t f folds.known.items fold
+AreEachFold x t f folds = (i : ℕ) (fold : Fold) → slice_get folds.rows.items i ≡ Some fold → IsConstantFold x t f folds.known.items fold
 
 -- these operations fold and are in executable blocks, in the first tree, with what is known of their operands
 pub record AreFoldSteps (x : Says) (t₀ : Tree) (root : ℕ) (f₀ : LatticeValues) (t : Tree) (folds : Folds) : Type 0 where

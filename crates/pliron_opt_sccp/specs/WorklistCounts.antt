@@ -4,7 +4,7 @@ use Rattle.pliron_core.specs.Tree.{Tree, In}
 use Rattle.pliron_theory.specs.LatticeValues.{Undetermined, NotAConstant}
 use Rattle.pliron_opt_sccp.specs.declared.lattice_tables.Tables.{Tables}
 use Rattle.pliron_opt_sccp.specs.LatticeTables.{is_numbered, lattice_value_in, is_executable, is_block_on_worklist, is_value_on_worklist}
-use Rattle.pliron_opt_sccp.specs.Chain.{blocks_inside, is_constant, varies}
+use Rattle.pliron_opt_sccp.specs.Chain.{blocks_inside, is_constant_value, varies}
 use Rattle.pliron_opt_sccp.specs.Inside.{block_values, values_inside}
 
 -- how many of these are so
@@ -17,7 +17,7 @@ abbrev pub executable_count : Tree → ℕ → Tables → ℕ
 executable_count t root s = count (λ b. is_executable s b) (blocks_inside t root)
 
 abbrev pub constant_count : Tree → ℕ → Tables → ℕ
-constant_count t root s = count (λ v. is_constant (lattice_value_in s v)) (values_inside t root)
+constant_count t root s = count (λ v. is_constant_value (lattice_value_in s v)) (values_inside t root)
 
 abbrev pub varying_count : Tree → ℕ → Tables → ℕ
 varying_count t root s = count (λ v. varies (lattice_value_in s v)) (values_inside t root)

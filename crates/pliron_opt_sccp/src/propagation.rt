@@ -2,7 +2,7 @@
 ghost use Rattle.std.specs.Prelude.{ℕ};
 ghost use Rattle.pliron_core.specs.Tree.{IsLive};
 ghost use Rattle.pliron_laws.specs.Linked.{IsWellLinked};
-ghost use Rattle.pliron_opt_sccp.specs.Propagated.{Propagates, pops_of, status_of};
+ghost use Rattle.pliron_opt_sccp.specs.Propagated.{Propagates, pops_of, status_of_rewrite};
 
 use crate::rewrite::rewrite;
 use crate::search::find;
@@ -21,7 +21,7 @@ fn propagate<D: Dialect, R: Rewriter + Room>(
     requires live { IsLive ctx.old.tree op }
     requires linked { IsWellLinked D.meaning ctx.old.tree op }
     ensures propagates { Propagates ⟦<D as HasFolding>⟧.folding D.accepts D.constant_head
-        D.ConstFoldInterface.outcome ctx.old.tree op ctx.new.tree (status_of result) (pops_of result) }
+        D.ConstFoldInterface.outcome ctx.old.tree op ctx.new.tree (status_of_rewrite result) (pops_of result) }
 {
     ctx.well_formed();
     let (found, pops) = find::<D>(alloc, op, ctx)?;
@@ -42,7 +42,7 @@ pub fn sccp_counted<D: Dialect>(
     requires live { IsLive ctx.old.tree op }
     requires linked { IsWellLinked D.meaning ctx.old.tree op }
     ensures propagates { Propagates ⟦<D as HasFolding>⟧.folding D.accepts D.constant_head
-        D.ConstFoldInterface.outcome ctx.old.tree op ctx.new.tree (status_of result) (pops_of result) }
+        D.ConstFoldInterface.outcome ctx.old.tree op ctx.new.tree (status_of_rewrite result) (pops_of result) }
 {
     let mut rewriter = IRRewriter::new();
     propagate::<D, IRRewriter>(alloc, op, ctx, &mut rewriter)

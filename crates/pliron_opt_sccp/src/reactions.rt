@@ -14,7 +14,7 @@ ghost use Rattle.pliron_laws.specs.declared.dialect.Interface.TheVariants.{Regio
 ghost use Rattle.pliron_theory.specs.LatticeValues.{AtMost};
 ghost use Rattle.pliron_opt_sccp.specs.Constraints.{Adds};
 ghost use Rattle.pliron_opt_sccp.specs.Feasible.{leads};
-ghost use Rattle.pliron_opt_sccp.specs.OperationVisits.{either, ConstrainsEagerly, IsBehind, IsReactionTo, WasVisited, IsNamed, IsUseOf, SchedulesUses};
+ghost use Rattle.pliron_opt_sccp.specs.OperationVisits.{either, ConstrainsEagerly, IsVisitOutdated, IsReactionTo, WasVisited, IsNamedArgument, IsUseOf, SchedulesUses};
 ghost use Rattle.pliron_opt_sccp.specs.LatticeTables.{lattice_value_in, known_constants, is_executable, lowered_stamp};
 
 use crate::constraints::Constraint;
@@ -148,7 +148,7 @@ fn named_argument<D: Dialect>(
 ) -> Option<Value>
     requires { IsLive ctx.now.tree op }
     ensures { IfSome result (λ a. (o : OperationOf) → op_at ctx.now.tree op ≡ Some o
-        → IsNamed ⟦<D as HasFolding>⟧.folding ctx.now.tree o place a) }
+        → IsNamedArgument ⟦<D as HasFolding>⟧.folding ctx.now.tree o place a) }
 {
     let EntryArgument { region, index, .. } = candidate;
     if region >= op.num_region(ctx) {
@@ -262,7 +262,7 @@ fn propagate_eagerly<D: Dialect>(
 fn was_visited_since_lowered(op: Ptr<Operation>, stamp: u64, ctx: &Context, tables: &Tables) -> bool
     requires { IsLive ctx.now.tree op }
     ensures { IsTrue result → (value : ℕ) → stamp ≡ lowered_stamp tables.now value
-        → IsBehind ctx.now.tree tables.now op value → ⊥ }
+        → IsVisitOutdated ctx.now.tree tables.now op value → ⊥ }
 {
     op.num_result(ctx) > 0 && stamp < tables.visit_stamp(op.get_result(ctx, 0))
 }

@@ -13,7 +13,7 @@ ghost use Rattle.pliron_theory.specs.Rewrites.{ReplacesArgument};
 ghost use Rattle.pliron_opt_sccp.specs.LatticeTables.{lattice_values_of};
 ghost use Rattle.pliron_opt_sccp.specs.Listed.{is_folding, AddsFold, AreFolds, AddsKnown, AreArguments};
 ghost use Rattle.pliron_opt_sccp.specs.RewriteSteps.{IsFoldStep, AreFoldSteps, ReportsCreated, IsArgumentStep, AreArgumentSteps, AreKnownArguments, IsFound};
-ghost use Rattle.pliron_opt_sccp.specs.Chain.{FoldsInTurn, FoldsPartly, KnownArgument, all_put, IsPartlyPut, IsRewritten, IsPartlyRewritten, known_arguments};
+ghost use Rattle.pliron_opt_sccp.specs.Chain.{FoldsInTurn, FoldsPartly, KnownArgument, all_put, IsPartlyPut, IsRewrittenByConstants, IsPartlyRewritten, known_arguments};
 
 use crate::constraints::{add_known, known_constant};
 use crate::inside::all_blocks;
@@ -332,8 +332,8 @@ pub fn rewrite<D: Dialect, R: Rewriter + Room>(
     requires found { (root : ℕ) × (f : LatticeValues) × IsFound ⟦<D as HasFolding>⟧.folding D.can_fold ctx.old.tree root
         f found.now }
     ensures rewritten { OnOk result ((root : ℕ) (f : LatticeValues) → IsFound ⟦<D as HasFolding>⟧.folding D.can_fold
-        ctx.old.tree root f found.now → IsRewritten D.can_fold D.accepts D.constant_head D.ConstFoldInterface.outcome
-        ctx.old.tree root f ctx.new.tree) }
+        ctx.old.tree root f found.now → IsRewrittenByConstants D.can_fold D.accepts D.constant_head
+        D.ConstFoldInterface.outcome ctx.old.tree root f ctx.new.tree) }
     ensures refused { OnErr result ((root : ℕ) (f : LatticeValues) → IsFound ⟦<D as HasFolding>⟧.folding D.can_fold
         ctx.old.tree root f found.now → IsPartlyRewritten D.can_fold D.accepts D.constant_head
         D.ConstFoldInterface.outcome ctx.old.tree root f ctx.new.tree) }

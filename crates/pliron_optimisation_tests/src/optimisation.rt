@@ -8,7 +8,7 @@ use pliron_opt_cfg::simplify_cfg;
 use pliron_opt_cse::{cse, cse_through};
 use pliron_opt_dce::dce;
 use pliron_opt_sccp::{sccp, sccp_through};
-use pliron_test_cases::listener::Counting;
+use pliron_test_cases::listener::CountingListener;
 use std::alloc::Global;
 use std::process::Abort;
 
@@ -38,7 +38,7 @@ impl Optimisation {
             Optimisation::CommonSubexpressions => cse::<Bench>(alloc, root, ctx),
             Optimisation::ControlFlow(Call::Simplify) => simplify_cfg::<Bench>(alloc, root, ctx),
             Optimisation::ControlFlow(call) => {
-                let mut rewriter = Counting::new();
+                let mut rewriter = CountingListener::new();
                 call_through(rt, alloc, root, ctx, call, &mut rewriter)
             }
             Optimisation::DeadCode => dce::<Bench>(alloc, root, ctx),
@@ -53,20 +53,20 @@ impl Optimisation {
         alloc: Global,
         ctx: &mut Context,
         root: Ptr<Operation>,
-        rewriter: &mut Counting,
+        rewriter: &mut CountingListener,
     ) -> Result<IRStatus, OptError> {
         assert!(rt; root.is_live(ctx));
         assert!(rt; is_well_linked::<Bench>(root, ctx));
         match self {
             Optimisation::Canonicalization => {
-                canonicalize_through::<Bench, Counting>(alloc, root, ctx, rewriter)
+                canonicalize_through::<Bench, CountingListener>(alloc, root, ctx, rewriter)
             }
             Optimisation::CommonSubexpressions => {
-                cse_through::<Bench, Counting>(alloc, root, ctx, rewriter)
+                cse_through::<Bench, CountingListener>(alloc, root, ctx, rewriter)
             }
             Optimisation::ControlFlow(call) => call_through(rt, alloc, root, ctx, call, rewriter),
             Optimisation::DeadCode => dce::<Bench>(alloc, root, ctx),
-            Optimisation::Propagation => sccp_through::<Bench, Counting>(
+            Optimisation::Propagation => sccp_through::<Bench, CountingListener>(
                 alloc, root, ctx, rewriter,
             ),
         }

@@ -3,7 +3,7 @@
 use crate::optimisation::{Optimisation, letter};
 use pliron_core::{Context, Operation, Ptr};
 use pliron_test_cases::cases::{Case, case_of, line, operation_at, read};
-use pliron_test_cases::listener::Counting;
+use pliron_test_cases::listener::CountingListener;
 use std::alloc::Global;
 use std::process::Abort;
 
@@ -58,7 +58,7 @@ fn answer_through(
     optimisation: Optimisation,
     name: &str,
 ) -> &'static str {
-    let mut rewriter = Counting::new();
+    let mut rewriter = CountingListener::new();
     let answer = letter(optimisation.run_through(rt, alloc, ctx, root, &mut rewriter));
     assert!(rt; rewriter.had_room(), "{name}");
     if answer != "R" && !matches!(optimisation, Optimisation::DeadCode) {

@@ -7,7 +7,8 @@ use Rattle.pliron_laws.specs.Datum.{Datum, Shape, Move, Leave}
 use Rattle.pliron_dialect.specs.Roles.{Role, Tables, KeepsTables, RoleFits, Interpretation, Constant, Opaque, Jumps, Leaves, Acts}
 use Rattle.pliron_role_runs.specs.Numbers.{is_whole_number}
 use Rattle.pliron_role_runs.specs.Plain.{any_counts, allows_plain, jump_fits}
-use Rattle.pliron_role_runs.specs.Visits.{once, visit_of, visit_fits, once_fits, ask_world, asks_fit}
+use Rattle.pliron_role_runs.specs.Visits.{visit_of, visit_fits, once_fits, ask_world, asks_fit}
+use Rattle.pliron_dialect_bench.specs.BenchMoves.{once}
 
 abbrev pub function_act : Shape → Datum → List Datum → Move
 function_act s memo input = once memo (visit_of 0 s input) (Leave input)

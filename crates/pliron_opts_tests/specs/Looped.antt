@@ -8,7 +8,8 @@ use Rattle.pliron_laws.specs.Laws.{CountsFit}
 use Rattle.pliron_dialect.specs.Roles.{Role, Tables, KeepsTables, RoleFits, Constant, Jumps, Leaves, Acts, Names}
 use Rattle.pliron_role_runs.specs.Numbers.{known_at, whole_number_of, is_whole_number, wrapped_sum}
 use Rattle.pliron_role_runs.specs.Plain.{computes, never_asked, any_counts, allows_plain, computes_fits, jump_fits}
-use Rattle.pliron_role_runs.specs.Visits.{once, fit_data, length-fitted, visit_of, visit_fits, visit_keeping, visit_keeping_fits, once_fits, ask_world, asks_fit, operands_from, counted_loop, counted_fits}
+use Rattle.pliron_role_runs.specs.Visits.{length-fit_with_zeros, visit_of, visit_fits, visit_keeping, visit_keeping_fits, once_fits, ask_world, asks_fit, operands_from, counted_loop, counted_fits}
+use Rattle.pliron_dialect_bench.specs.BenchMoves.{once, fit_with_zeros}
 
 abbrev pub function_takes : ℕ → ℕ → ℕ → Bool
 function_takes operands results regions = nat_eq operands 0 && nat_eq results 0 && nat_eq regions 1
@@ -20,7 +21,7 @@ function_act s memo input = once memo (visit_of 0 s input) (Leave input)
 -- gave. Its memo is how often it did
 abbrev pub next_of : Bool → Shape → ℤ → List Datum → Move
 next_of true s visits input = visit_keeping 0 s input (Number (wrapped_sum visits (pos 1)))
-next_of false s visits input = Give (fit_data s.results input)
+next_of false s visits input = Give (fit_with_zeros s.results input)
 
 abbrev pub twice_act : Shape → Datum → List Datum → Move
 twice_act s memo input = next_of (int_lt (whole_number_of memo) (pos 2)) s (whole_number_of memo) input
@@ -91,7 +92,7 @@ numbered Twice = refl
 
 next_fits : (b : Bool) (s : Shape) (visits : ℤ) (input : List Datum) → CountsFit false s (next_of b s visits input)
 next_fits true s visits input = visit_keeping_fits false 0 s input (Number (wrapped_sum visits (pos 1)))
-next_fits false s visits input = length-fitted s.results input
+next_fits false s visits input = length-fit_with_zeros s.results input
 
 fit : (k : LoopedKind) (s : Shape) → RoleFits (looped.allows k) (looped_role_of k) s
 fit Function s = λ h memo input. once_fits false s memo (visit_of 0 s input) (Leave input) (visit_fits false 0 s input) tt

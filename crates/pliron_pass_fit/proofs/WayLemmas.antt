@@ -9,23 +9,23 @@ use Rattle.pliron_core.specs.Changes.{HoldsRegion}
 use Rattle.pliron_core.specs.Invariant.{IsTree}
 use Rattle.pliron_core.proofs.WalkLemmas.{inside_trans, inside_step, inside_linear, not_inside-itself, children_apart}
 use Rattle.indexmap.specs.IndexSet.{insert_key}
-use Rattle.pliron_pass_fit.specs.Nesting.{AreHeld, IsWay, IsAround}
+use Rattle.pliron_pass_fit.specs.Nesting.{AreHeldInTurn, IsWay, IsAround}
 use Rattle.pliron_pass_fit.proofs.ContentsLemmas.{tested_in}
 
 -- what stands on the way holds what it leads to, and stands within the first
-pub held_within : (t : Tree) (top op : ℕ) (ks : List ℕ) → AreHeld t top ks op → IsWithin t top op
+pub held_within : (t : Tree) (top op : ℕ) (ks : List ℕ) → AreHeldInTurn t top ks op → IsWithin t top op
 held_within t top op [] e = inl e
 held_within t top op (k ∷ ks) h = elim (held_within t k op ks h.1) [
   | inl e ↦ inr (subst (IsInside t top) (sym e) (Directly h.0))
   | inr u ↦ inr (inside_trans t top k op (Directly h.0) u)
 ]
 
-pub on_way : (t : Tree) (top op x : ℕ) (ks : List ℕ) → AreHeld t top ks op → In x (top ∷ ks) → IsWithin t x op
+pub on_way : (t : Tree) (top op x : ℕ) (ks : List ℕ) → AreHeldInTurn t top ks op → In x (top ∷ ks) → IsWithin t x op
 on_way t top op x ks h (inl e) = subst (λ z. IsWithin t z op) (sym e) (held_within t top op ks h)
 on_way t top op x [] h (inr i) = absurd i
 on_way t top op x (k ∷ ks) h (inr i) = on_way t k op x ks h.1 i
 
-pub below_top : (t : Tree) (top op x : ℕ) (ks : List ℕ) → AreHeld t top ks op → In x (top ∷ ks) → IsWithin t top x
+pub below_top : (t : Tree) (top op x : ℕ) (ks : List ℕ) → AreHeldInTurn t top ks op → In x (top ∷ ks) → IsWithin t top x
 below_top t top op x ks h (inl e) = inl e
 below_top t top op x [] h (inr i) = absurd i
 below_top t top op x (k ∷ ks) h (inr i) = elim (below_top t k op x ks h.1 i) [
@@ -34,17 +34,17 @@ below_top t top op x (k ∷ ks) h (inr i) = elim (below_top t k op x ks h.1 i) [
 ]
 
 -- the way cut after one that stands on it, and one more
-pub cut_way : (t : Tree) (top op x i : ℕ) (ks : List ℕ) → AreHeld t top ks op → slice_get (top ∷ ks) i ≡ Some x → AreHeld t top (take i ks) x
+pub cut_way : (t : Tree) (top op x i : ℕ) (ks : List ℕ) → AreHeldInTurn t top ks op → slice_get (top ∷ ks) i ≡ Some x → AreHeldInTurn t top (take i ks) x
 cut_way t top op x zero ks h at = sym (same_Some top x at)
 cut_way t top op x (suc i) [] h at = absurd (cc)
 cut_way t top op x (suc i) (k ∷ ks) h at = (h.0, cut_way t k op x i ks h.1 at)
 
-pub way_more : (t : Tree) (top op x : ℕ) (ks : List ℕ) → AreHeld t top ks op → parent_operation_of t x ≡ Some op → AreHeld t top (ks ++ x ∷ []) x
+pub way_more : (t : Tree) (top op x : ℕ) (ks : List ℕ) → AreHeldInTurn t top ks op → parent_operation_of t x ≡ Some op → AreHeldInTurn t top (ks ++ x ∷ []) x
 way_more t top op x [] e up = (up ∙ ap Some e, refl)
 way_more t top op x (k ∷ ks) h up = (h.0, way_more t k op x ks h.1 up)
 
 -- the one after what stands on the way
-pub way_next : (t : Tree) (top op x i : ℕ) (ks : List ℕ) → AreHeld t top ks op → slice_get (top ∷ ks) i ≡ Some x
+pub way_next : (t : Tree) (top op x i : ℕ) (ks : List ℕ) → AreHeldInTurn t top ks op → slice_get (top ∷ ks) i ≡ Some x
     → ((slice_get ks i ≡ None) × (op ≡ x)) ⊎ ((y : ℕ) × (slice_get ks i ≡ Some y) × (parent_operation_of t y ≡ Some x) × IsWithin t y op)
 way_next t top op x zero [] e at = inl (refl, e ∙ same_Some top x at)
 way_next t top op x zero (k ∷ ks) h at = inr (k, refl, h.0 ∙ at, held_within t k op ks h.1)
@@ -60,7 +60,7 @@ module _ (t : Tree) (w : IsTree t) where
       inside_both (inr u) = inside_trans t b a b v u
 
   -- all that holds the operation within the first stands on the way
-  pub way_whole : (top op x : ℕ) (ks : List ℕ) → AreHeld t top ks op → IsWithin t top x → IsWithin t x op → In x (top ∷ ks)
+  pub way_whole : (top op x : ℕ) (ks : List ℕ) → AreHeldInTurn t top ks op → IsWithin t top x → IsWithin t x op → In x (top ∷ ks)
   way_whole top op x [] e (inl f) v = inl f
   way_whole top op x [] e (inr u) v = absurd (elim v [
     | inl f ↦ not_inside-itself t w top (subst (IsInside t top) (sym f ∙ e) u)

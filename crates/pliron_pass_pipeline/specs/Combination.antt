@@ -11,7 +11,7 @@ use Rattle.pliron_rewrite_rules.specs.declared.term.Term.{Term}
 use Rattle.pliron_rewrite_rules.specs.declared.view.View.{View}
 
 abbrev pub most_rewrites : ℕ
-most_rewrites = 16777216
+most_rewrites = 1048576
 
 -- what is reported of so many rewrites
 abbrev pub effect_of_count : ℕ → Effect

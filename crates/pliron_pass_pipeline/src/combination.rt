@@ -24,7 +24,7 @@ impl<D: Dialect> Rules<D> for NoRules {
 }
 
 /// How many rewrites a run of the pass makes at most.
-pub const MAX_REWRITES: usize = 16_777_216;
+pub const MAX_REWRITES: usize = 1_048_576;
 
 /// A set of rules of a dialect, applied.
 #[derive(Drop)]

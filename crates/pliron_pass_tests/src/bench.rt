@@ -5,7 +5,7 @@ use super::expect::expect_text;
 use super::lines::read;
 use pliron_core::{Context, IRStatus, Operation, Ptr};
 use pliron_pass::{AnalysisManager, BenchFactKind, BenchFacts, PassResult};
-use pliron_test_cases::cases::{Row, row_of};
+use pliron_test_cases::cases::{CaseRow, row_of};
 use std::alloc::Global;
 use std::process::Abort;
 
@@ -85,7 +85,7 @@ fn facts_in(
     ctx: &mut Context,
     analyses: &mut AnalysisManager<BenchFacts>,
 ) {
-    let Row { name, asked, want } = row_of(case).expect(rt, "a case");
+    let CaseRow { name, asked, want } = row_of(case).expect(rt, "a case");
     let root = read(rt, alloc, ctx, asked);
     analyses
         .compute_analysis(BenchFactKind::Total, root, ctx)

@@ -9,7 +9,7 @@ use pliron_core::{Context, Operation, Ptr};
 use pliron_dialect_bench::Bench;
 use pliron_opt_dce::dce;
 use pliron_pass::{AnalysisManager, OptError, Pass, PassManager, PassResult, Passes};
-use pliron_test_cases::cases::{Row, row_of};
+use pliron_test_cases::cases::{CaseRow, row_of};
 use pliron_text::print_text;
 use std::alloc::Global;
 use std::process::Abort;
@@ -116,7 +116,7 @@ fn swept_in(
 }
 
 fn check(rt: &impl Abort, alloc: Global, case: &str) {
-    let Row { name, asked, want } = row_of(case).expect(rt, "a case");
+    let CaseRow { name, asked, want } = row_of(case).expect(rt, "a case");
     let mut ctx = Context::new(alloc);
     let mut analyses = AnalysisManager::<Fact>::new(alloc);
     let said = swept_in(rt, alloc, asked, &mut ctx, &mut analyses);

@@ -4,7 +4,7 @@ use super::lines::read;
 use super::strict::Strict;
 use pliron_core::Context;
 use pliron_pass::{OptError, verify_operation};
-use pliron_test_cases::cases::{Row, row_of};
+use pliron_test_cases::cases::{CaseRow, row_of};
 use std::alloc::Global;
 use std::process::Abort;
 
@@ -33,7 +33,7 @@ a product in the second function -- mod { b0(): func { b0(): a = const 1; ret a 
     const 1; print c; ret m } } => code 3";
 
 fn check_in(rt: &impl Abort, alloc: Global, case: &str, ctx: &mut Context) {
-    let Row { name, asked, want } = row_of(case).expect(rt, "a case");
+    let CaseRow { name, asked, want } = row_of(case).expect(rt, "a case");
     let root = read(rt, alloc, ctx, asked);
     let said = match verify_operation::<Strict>(alloc, root, ctx) {
         Ok(()) => "fit",

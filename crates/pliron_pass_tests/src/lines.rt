@@ -13,7 +13,7 @@ use pliron_pass::{
     AnalysisManager, GuardedPass, NestedOpsPass, OpGuard, OptError, PMConfig, PassManager,
     PassResult, Passes, Repeat,
 };
-use pliron_test_cases::cases::{Row, row_of};
+use pliron_test_cases::cases::{CaseRow, row_of};
 use pliron_text::read_text;
 use std::alloc::Global;
 use std::process::Abort;
@@ -204,7 +204,7 @@ fn run_in(rt: &impl Abort, alloc: Global, shape: &str, words: &str, ctx: &mut Co
 }
 
 fn line_in(rt: &impl Abort, alloc: Global, ctx: &mut Context, case: &str) {
-    let Row { name, asked, want } = row_of(case).expect(rt, "a case");
+    let CaseRow { name, asked, want } = row_of(case).expect(rt, "a case");
     let (shape, words) = asked.split_once(" ").unwrap_or((asked, ""));
     let said = run_in(rt, alloc, shape, words, ctx);
     expect_text(rt, said.as_str(), want, name);

@@ -35,5 +35,5 @@ all_moved_last t (k ∷ ks) block = all_moved_last (moved_last t k block) ks blo
 abbrev pub after_joining : Tree → (a b jump : ℕ) → Tree
 after_joining t a b jump = block_erased (all_moved_last (after_erasing t jump) (body_of t b) a) b
 
-abbrev pub after_merging : Tree → (a b jump : ℕ) → List ℕ → Tree
-after_merging t a b jump values = after_joining (forwarded_uses t (arguments_of t b) values) a b jump
+abbrev pub after_block_merging : Tree → (a b jump : ℕ) → List ℕ → Tree
+after_block_merging t a b jump values = after_joining (forwarded_uses t (arguments_of t b) values) a b jump

@@ -25,9 +25,9 @@ use Rattle.pliron_theory.proofs.SweptRecords.{op_same, shape_swept}
 use Rattle.pliron_theory.proofs.SweptAgree.{swept_agree}
 use Rattle.pliron_theory.proofs.SweptStays.{admitted_same}
 use Rattle.pliron_rewrite_copies.specs.Copies.{IsUsedBeside}
-use Rattle.pliron_rewrite_copies.specs.Making.{AreMade, IsMadeWell, MakingBlocks}
+use Rattle.pliron_rewrite_copies.specs.Making.{AreMadeAnew, IsMadeWell, MakingBlocks}
 
-module _ (t u : Tree) (new new_block : ℕ → Bool) (w : IsTree t) (w' : IsTree u) (h : AreMade t u new new_block) where
+module _ (t u : Tree) (new new_block : ℕ → Bool) (w : IsTree t) (w' : IsTree u) (h : AreMadeAnew t u new new_block) where
   away : AreAway t new new_block
   away = gone_away t new new_block w h.absent
 
@@ -261,6 +261,6 @@ blocks_made = record {
   dominated = λ t u new new_block user v w w' h x q old. unreached t u new new_block w w' h user v x q old;
 }
   where
-    before : (t u : Tree) (new new_block : ℕ → Bool) → AreMade t u new new_block → (root : ℕ) → root < length t.operations → IsLive u root → (z : Bool) → new root ≡ z → IsLive t root
+    before : (t u : Tree) (new new_block : ℕ → Bool) → AreMadeAnew t u new new_block → (root : ℕ) → root < length t.operations → IsLive u root → (z : Bool) → new root ≡ z → IsLive t root
     before t u new new_block h root lt l true q = let le = h.fresh root q in absurd (omega (arith, lt, le))
     before t u new new_block h root lt l false q = subst (λ z. IsSome z.head) (sym (h.swept.rows root q)) l

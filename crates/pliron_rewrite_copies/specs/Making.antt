@@ -17,7 +17,7 @@ use Rattle.pliron_theory.specs.Sweeping.{IsSwept, AreNotLive}
 use Rattle.pliron_rewrite_copies.specs.Copies.{IsUsedBeside}
 
 -- t is u without the operations and blocks that were made; each of these operations is in such a block, or inside one
-pub record AreMade (t u : Tree) (new new_block : ℕ → Bool) : Type 0 where
+pub record AreMadeAnew (t u : Tree) (new new_block : ℕ → Bool) : Type 0 where
   pub swept : IsSwept u t new new_block
   pub absent : AreNotLive t new new_block
   pub in_blocks : (k b : ℕ) → parent_of u k ≡ Some b → new k ≡ true → new_block b ≡ true
@@ -34,7 +34,7 @@ pub record IsMadeWell (m : Meaning) (u : Tree) (root k : ℕ) : Type 0 where
   pub edges : (s : ℕ) → In s (successors_of u k) → IsInside u root k ⊎ HoldsBlock u root s → EndsBlock u k
 
 pub record MakingBlocks : Type 0 where
-  pub made : (m : Meaning) (t u : Tree) (new new_block : ℕ → Bool) → IsTree t → IsTree u → AreMade t u new new_block → length t.operations ≤ length u.operations → ((root : ℕ) → IsFit m t root → (k : ℕ) → new k ≡ true → IsMadeWell m u root k) → KeepsRuns m t u
+  pub made : (m : Meaning) (t u : Tree) (new new_block : ℕ → Bool) → IsTree t → IsTree u → AreMadeAnew t u new new_block → length t.operations ≤ length u.operations → ((root : ℕ) → IsFit m t root → (k : ℕ) → new k ≡ true → IsMadeWell m u root k) → KeepsRuns m t u
   -- no path comes to such a block in a region that was there, so what defines a value in the region dominates each use
   -- of it in the block
-  pub dominated : (t u : Tree) (new new_block : ℕ → Bool) (user v : ℕ) → IsTree t → IsTree u → AreMade t u new new_block → (x : IsUsedBeside u (λ b. 0) user v) → new_block x.block ≡ true → ((k : ℕ) → block_parent_operation_of u x.block ≡ Some k → new k ≡ false) → IsDominated u user v
+  pub dominated : (t u : Tree) (new new_block : ℕ → Bool) (user v : ℕ) → IsTree t → IsTree u → AreMadeAnew t u new new_block → (x : IsUsedBeside u (λ b. 0) user v) → new_block x.block ≡ true → ((k : ℕ) → block_parent_operation_of u x.block ≡ Some k → new k ≡ false) → IsDominated u user v

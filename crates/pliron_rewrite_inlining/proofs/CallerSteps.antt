@@ -116,7 +116,7 @@ module _ (m : Meaning) (c : CallingConvention) (t u : Tree) (x : InlinedCall) (s
   target_block : (k i b : ℕ) (o : Operation) → Stays k o → slice_get o.successors i ≡ Some b → IsBlock t b
   target_block k i b o s e = w.joined.successors k b (subst (In b) (sym s.successors) (in_slice o.successors i b e))
 
-  shape_same : (k : ℕ) (o : Operation) → Stays k o → shape_of m u o ≡ shape_of m t o
+  pub shape_same : (k : ℕ) (o : Operation) → Stays k o → shape_of m u o ≡ shape_of m t o
   unfolding shape_of
   shape_same k o s = same_shape refl refl refl refl
       (each (λ r. count_arguments (entry_block u r)) (λ r. count_arguments (entry_block t r)) o.regions (λ r i. let j = slice_in o.regions r i in counts_same _ _ (entry_alike k j.0 r o s j.1)))

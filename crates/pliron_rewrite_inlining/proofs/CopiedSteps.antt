@@ -7,7 +7,7 @@ use Rattle.pliron_laws.specs.Machine.{Environment, Waiting, State, trap, bind, d
 use Rattle.pliron_laws.proofs.Records.{block_of}
 use Rattle.pliron_theory.proofs.Lockstep.{EnvsTied, Waits}
 use Rattle.pliron_pass_linked.specs.Calls.{CallingConvention}
-use Rattle.pliron_rewrite_inlining.specs.Inlined.{InlinedCall, IsFresh, IsCopy, NeverGives, IsReturnReplaced, AreCopies, HasNewJump, IsCallInlined}
+use Rattle.pliron_rewrite_inlining.specs.Inlined.{InlinedCall, IsFreshKey, IsCopy, NeverGives, IsReturnReplaced, AreCopies, HasNewJump, IsCallInlined}
 use Rattle.pliron_rewrite_inlining.proofs.Seen.{NextInside}
 use Rattle.pliron_rewrite_inlining.proofs.Carried.{Carries, carries_one, carries_right, carries_reads}
 use Rattle.pliron_rewrite_inlining.proofs.CopiedShapes.{IsBlockAlike, HasOriginal, has_original, targets_alike, copy_at, original_block_at}
@@ -17,7 +17,7 @@ abbrev pub CallerData : Tree → InlinedCall → Environment → Environment →
 CallerData t x env env' = Carries (λ v. (v < length t.definitions) × (In v (results_of t x.call) → ⊥)) (λ v. v) env env'
 
 abbrev pub CopyData : Tree → InlinedCall → Environment → Environment → Type 0
-CopyData t x env env' = Carries (IsFresh t) x.originals.value env env'
+CopyData t x env env' = Carries (IsFreshKey t) x.originals.value env env'
 
 -- an operation that waits, which isn't the call
 abbrev pub WaitsAt : InlinedCall → List ℕ → List ℕ → Datum → Type 0
@@ -72,12 +72,12 @@ module _ (m : Meaning) (c : CallingConvention) (t u : Tree) (x : InlinedCall) (s
   abbrev pub Both : State → Environment → Environment → Type 0
   Both g env env' = CallerData t x g.environment env' × CopyData t x env env'
 
-  pub bound_alike : (g : State) (vs : List ℕ) → ((v : ℕ) → In v vs → IsFresh t v) → (ds : List Datum) (env env' : Environment) → Both g env env' → EnvsTied (Both g) (bind env (map x.originals.value vs) ds) (bind env' vs ds)
+  pub bound_alike : (g : State) (vs : List ℕ) → ((v : ℕ) → In v vs → IsFreshKey t v) → (ds : List Datum) (env env' : Environment) → Both g env env' → EnvsTied (Both g) (bind env (map x.originals.value vs) ds) (bind env' vs ds)
   bound_alike g [] fresh [] env env' b = b
   bound_alike g [] fresh (d ∷ ds) env env' b = tt
   bound_alike g (v ∷ vs) fresh [] env env' b = tt
   bound_alike g (v ∷ vs) fresh (d ∷ ds) env env' b = bound_alike g vs (λ w i. fresh w (inr i)) ds _ _ (
-    carries_right _ _ g.environment env' b.0 v d (λ p. let f : IsFresh t v = fresh v (inl refl) in let l : v < length t.definitions = p.0 in omega (arith, f, l)),
+    carries_right _ _ g.environment env' b.0 v d (λ p. let f : IsFreshKey t v = fresh v (inl refl) in let l : v < length t.definitions = p.0 in omega (arith, f, l)),
     carries_one _ _ env env' b.1 v d (λ w p s. h.apart w v p (fresh v (inl refl)) s),
   )
 
@@ -172,7 +172,7 @@ module _ (m : Meaning) (c : CallingConvention) (t u : Tree) (x : InlinedCall) (s
     pub reads : input_of s.environment vs s.answer ≡ Some input
     pub copy_reads : input_of s'.environment vs' s'.answer ≡ Some input
 
-  pub reads_alike : (g s s' : State) → InCopy g s s' → (vs : List ℕ) → ((v : ℕ) → In v vs → IsFresh t v) → (s.answer ≡ None → (ds : List Datum) × (data_of s.environment (map x.originals.value vs) ≡ Some ds)) → ReadsAlike s s' (map x.originals.value vs) vs
+  pub reads_alike : (g s s' : State) → InCopy g s s' → (vs : List ℕ) → ((v : ℕ) → In v vs → IsFreshKey t v) → (s.answer ≡ None → (ds : List Datum) × (data_of s.environment (map x.originals.value vs) ≡ Some ds)) → ReadsAlike s s' (map x.originals.value vs) vs
   reads_alike g s s' r vs fresh has = go s.answer refl
     where
       go : (a : Option (List Datum)) → s.answer ≡ a → ReadsAlike s s' (map x.originals.value vs) vs

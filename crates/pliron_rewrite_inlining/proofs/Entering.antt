@@ -11,7 +11,7 @@ use Rattle.pliron_laws.proofs.Records.{block_of, region_entry}
 use Rattle.pliron_theory.proofs.Alike.{data_long}
 use Rattle.pliron_theory.proofs.Lockstep.{Tied, EnvsTied}
 use Rattle.pliron_pass_linked.specs.Calls.{CallingConvention}
-use Rattle.pliron_rewrite_inlining.specs.Inlined.{InlinedCall, JumpsTo, IsBlockCopy, HasNewJump, IsCallInlined}
+use Rattle.pliron_rewrite_inlining.specs.Inlined.{InlinedCall, IsJumpTo, IsBlockCopy, HasNewJump, IsCallInlined}
 use Rattle.pliron_rewrite_inlining.proofs.Effects.{with_effects}
 use Rattle.pliron_rewrite_inlining.proofs.CopiedShapes.{live_op, live_op_at, copy_at, original_block_at}
 use Rattle.pliron_rewrite_inlining.proofs.CopiedSteps.{InCopy, Both, bound_alike, fresh_standing}
@@ -23,7 +23,7 @@ pub entered : (s : State) (b : Block) (ds : List Datum) (ws : List Waiting) (env
 entered s b ds ws env e = ap (begin s b.operations ws) e
 
 -- a jump that reads these data
-pub jumped : (m : Meaning) (t : Tree) (s : State) (k block : ℕ) (rest : List ℕ) → JumpsTo m t k block → s.rest ≡ k ∷ rest → s.memo ≡ Empty → s.answer ≡ None → (ds : List Datum) → data_of s.environment (operands_of t k) ≡ Some ds → (w : Waiting) (ws : List Waiting) → s.waiting ≡ w ∷ ws → step m t s ≡ enter s (block_at t block) ds s.waiting
+pub jumped : (m : Meaning) (t : Tree) (s : State) (k block : ℕ) (rest : List ℕ) → IsJumpTo m t k block → s.rest ≡ k ∷ rest → s.memo ≡ Empty → s.answer ≡ None → (ds : List Datum) → data_of s.environment (operands_of t k) ≡ Some ds → (w : Waiting) (ws : List Waiting) → s.waiting ≡ w ∷ ws → step m t s ≡ enter s (block_at t block) ds s.waiting
 unfolding step
 jumped m t s k block rest j e me ae ds de w ws we =
     ap (step_at m t s) e ∙ ap (turn m t s k rest) (live_op_at t k j.live) ∙ ap (move m t s (live_op t k j.live) k rest) (ap (input_of s.environment (operands_of t k)) ae ∙ de)

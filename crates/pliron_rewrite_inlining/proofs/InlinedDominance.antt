@@ -11,12 +11,12 @@ use Rattle.pliron_laws.specs.Datum.{Datum, Meaning}
 use Rattle.pliron_laws.specs.Paths.{Path}
 use Rattle.pliron_laws.specs.Root.{defining_block, HasPassed, IsDominated}
 use Rattle.pliron_pass_linked.specs.Calls.{CallingConvention}
-use Rattle.pliron_rewrite_copies.proofs.Maps.{from_map, map_append}
+use Rattle.pliron_rewrite_copies.proofs.Maps.{from_map, map_append, head_same, tail_same, not_empty}
 use Rattle.pliron_rewrite_inlining.specs.Inlined.{InlinedCall, HasNewJump, IsCallInlined}
 use Rattle.pliron_rewrite_inlining.proofs.InlinedWays.{ways_back, CopyWay, copy_ways}
 
 -- what stands before an operation that was there stood before it
-split_back : (x : InlinedCall) (xs ys done rest : List ℕ) (k : ℕ) → HasNewJump x xs ys → (k ≡ x.new → ⊥) → ys ≡ done ++ k ∷ rest → (rest' : List ℕ) × (xs ≡ done ++ k ∷ rest')
+pub split_back : (x : InlinedCall) (xs ys done rest : List ℕ) (k : ℕ) → HasNewJump x xs ys → (k ≡ x.new → ⊥) → ys ≡ done ++ k ∷ rest → (rest' : List ℕ) × (xs ≡ done ++ k ∷ rest')
 split_back x [] [] [] rest k j new e = absurd (nothing e)
   where
     nothing : [] ≡ k ∷ rest → ⊥
@@ -49,6 +49,20 @@ split_back x (a ∷ xs) (y ∷ ys) (d ∷ b ∷ done) rest k (inr j) new e = abs
     longer : [] ≡ b ∷ (done ++ k ∷ rest) → ⊥
     longer q = cc
 
+-- what stands before the new jump stood before the call
+pub new_split_back : (x : InlinedCall) (xs ys done rest : List ℕ) → HasNewJump x xs ys → (In x.new xs → ⊥) → ys ≡ done ++ x.new ∷ rest → (rest' : List ℕ) × (xs ≡ done ++ x.call ∷ rest')
+new_split_back x [] [] [] rest j out e = absurd (not_empty x.new rest e)
+new_split_back x [] [] (d ∷ done) rest j out e = absurd (not_empty d (done ++ x.new ∷ rest) e)
+new_split_back x [] (y ∷ ys) done rest j out e = absurd j
+new_split_back x (a ∷ xs) [] done rest j out e = absurd j
+new_split_back x (a ∷ xs) (y ∷ ys) [] rest (inl j) out e = absurd (out (inl (sym (head_same y x.new ys rest e) ∙ j.2)))
+new_split_back x (a ∷ xs) (y ∷ ys) (d ∷ done) rest (inl j) out e =
+    let r = new_split_back x xs ys done rest j.3 (λ i. out (inr i)) (tail_same y d ys (done ++ x.new ∷ rest) e) in
+    (r.0, ap₂ (λ z l. z ∷ l) (sym j.2 ∙ head_same y d ys (done ++ x.new ∷ rest) e) r.1)
+new_split_back x (a ∷ xs) (y ∷ ys) [] rest (inr j) out e = (xs, ap (λ z. z ∷ xs) j.0)
+new_split_back x (a ∷ xs) (y ∷ ys) (d ∷ []) rest (inr j) out e = absurd (not_empty x.new rest (sym j.3 ∙ tail_same y d ys (x.new ∷ rest) e))
+new_split_back x (a ∷ xs) (y ∷ ys) (d ∷ b ∷ done) rest (inr j) out e = absurd (not_empty b (done ++ x.new ∷ rest) (sym j.3 ∙ tail_same y d ys (b ∷ (done ++ x.new ∷ rest)) e))
+
 module _ (m : Meaning) (c : CallingConvention) (t u : Tree) (x : InlinedCall) (symbol : Datum) (w : IsTree t) (w' : IsTree u) (h : IsCallInlined m c t u x symbol) (a : ℕ) (holds : parent_of t x.call ≡ Some a) (target : block_parent_of t x.after ≡ block_parent_of t a) (apart : (b : ℕ) → x.copied b ≡ true → IsBlock t b → ⊥) where
   -- a value that is used elsewhere, as the call's results aren't, was passed where it is passed on a way that passes no less
   passed_after : (v : ℕ) (d : Option Def) → ((q i : ℕ) → d ≡ Some (Result q i) → parent_of u q ≡ parent_of t q) → (before passed done : List ℕ) (b : ℕ) → ((z : ℕ) → In z before → In z passed) → HasPassed t d before b done → HasPassed u d passed b done
@@ -56,11 +70,13 @@ module _ (m : Meaning) (c : CallingConvention) (t u : Tree) (x : InlinedCall) (s
   passed_after v (Some (Argument z i)) same before passed done b more p = ⊎_elim (λ e. inl e) (λ j. inr (more z j)) p
   passed_after v (Some (Result q i)) same before passed done b more p = ⊎_elim (λ j. inl j) (λ j. inr (j.0, same q i refl ∙ j.1, more j.0 j.2)) p
 
-  -- a use that was dominated is, where what is around it and what defines the value stand as before
-  pub still_dominated : (user v : ℕ) (y : IsDominated t user v) → IsWithin u y.around user → parent_of u y.around ≡ parent_of t y.around → (y.around ≡ x.new → ⊥) → definition_of u v ≡ definition_of t v
-      → ((q i : ℕ) → definition_of t v ≡ Some (Result q i) → parent_of u q ≡ parent_of t q) → IsDominated u user v
-  still_dominated user v y within stands old same_def same_parent = record {
-    around = y.around;
+  -- a use that was dominated is, where an operation is in the place of what was around it, behind what stood before that,
+  -- and what defines the value stands as before
+  pub still_dominated : (user user' v around : ℕ) (y : IsDominated t user v) → IsWithin u around user' → parent_of u around ≡ parent_of t y.around
+      → ((done rest : List ℕ) → body_of u y.block ≡ done ++ around ∷ rest → (rest' : List ℕ) × (body_of t y.block ≡ done ++ y.around ∷ rest'))
+      → definition_of u v ≡ definition_of t v → ((q i : ℕ) → definition_of t v ≡ Some (Result q i) → parent_of u q ≡ parent_of t q) → IsDominated u user' v
+  still_dominated user user' v around y within stands old same_def same_parent = record {
+    around = around;
     holds = within;
     block = y.block;
     region = y.region;
@@ -85,14 +101,14 @@ module _ (m : Meaning) (c : CallingConvention) (t u : Tree) (x : InlinedCall) (s
       first_before : (entry : ℕ) → first_of (layout_of u y.region) None ≡ Some entry → first_of (layout_of t y.region) None ≡ Some entry
       first_before entry e = let s = slot_is t y.region (w.joined.placed y.block y.region y.in_region) in sym (h.entries s.0.op y.region (in_slice (regions_of t s.0.op) s.0.index y.region s.2)) ∙ e
 
-      passes : (entry : ℕ) (passed done rest : List ℕ) → first_of (layout_of u y.region) None ≡ Some entry → Path u entry y.block passed → body_of u y.block ≡ done ++ y.around ∷ rest → HasPassed u (definition_of t v) passed y.block done
+      passes : (entry : ℕ) (passed done rest : List ℕ) → first_of (layout_of u y.region) None ≡ Some entry → Path u entry y.block passed → body_of u y.block ≡ done ++ around ∷ rest → HasPassed u (definition_of t v) passed y.block done
       passes entry passed done rest first way split = ⊎_elim
           (λ z. passed_after v (definition_of t v) same_parent z.1.before passed done y.block z.1.fewer (y.passes entry z.1.before done b.0 (first_before entry first) z.1.path b.1))
           (λ z. absurd (apart y.block z.0 here))
           (ways_back m c t u x symbol w w' h a holds target entry y.block passed (subst IsSome (sym (w.layouts.owned entry y.region (first_of-In entry (layout_of t y.region) (first_before entry first)))) refl) way)
         where
           b : (rest' : List ℕ) × (body_of t y.block ≡ done ++ y.around ∷ rest')
-          b = split_back x (body_of t y.block) (body_of u y.block) done rest y.around (h.bodies y.block here) old split
+          b = old done rest split
 
   -- a value of a copied block, and the one that it is a copy of
   pub data IsValueCopy (v : ℕ) : Type 0 where

@@ -12,21 +12,21 @@ use Rattle.pliron_pass_linked.specs.Calls.{CallingConvention}
 use Rattle.pliron_rewrite_copies.proofs.Maps.{in_map}
 use Rattle.pliron_rewrite_inlining.specs.Inlined.{InlinedCall, AreCopies, HasNewJump, IsCallInlined}
 
-body_same : (x : InlinedCall) (xs ys : List ℕ) → HasNewJump x xs ys → (In x.call xs → ⊥) → ys ≡ xs
+pub body_same : (x : InlinedCall) (xs ys : List ℕ) → HasNewJump x xs ys → (In x.call xs → ⊥) → ys ≡ xs
 body_same x [] [] j out = refl
 body_same x [] (y ∷ ys) j out = absurd j
 body_same x (k ∷ ks) [] j out = absurd j
 body_same x (k ∷ ks) (y ∷ ys) (inl j) out = ap₂ (λ a l. a ∷ l) j.2 (body_same x ks ys j.3 (λ i. out (inr i)))
 body_same x (k ∷ ks) (y ∷ ys) (inr j) out = absurd (out (inl (sym j.0)))
 
-last_new : (x : InlinedCall) (xs ys : List ℕ) → HasNewJump x xs ys → In x.call xs → (o : Option ℕ) → last_of o ys ≡ Some x.new
+pub last_new : (x : InlinedCall) (xs ys : List ℕ) → HasNewJump x xs ys → In x.call xs → (o : Option ℕ) → last_of o ys ≡ Some x.new
 last_new x [] ys j i o = absurd i
 last_new x (k ∷ ks) [] j i o = absurd j
 last_new x (k ∷ ks) (y ∷ ys) (inl j) (inl e) o = absurd (j.0 (sym e))
 last_new x (k ∷ ks) (y ∷ ys) (inl j) (inr i) o = last_new x ks ys j.3 i (Some y)
 last_new x (k ∷ ks) (y ∷ ys) (inr j) i o = ap (last_of (Some y)) j.3 ∙ ap Some j.2
 
-last_jump : (x : InlinedCall) (xs ys : List ℕ) → HasNewJump x xs ys → In x.call xs → (o : Option ℕ) → last_of o xs ≡ Some x.jump
+pub last_jump : (x : InlinedCall) (xs ys : List ℕ) → HasNewJump x xs ys → In x.call xs → (o : Option ℕ) → last_of o xs ≡ Some x.jump
 last_jump x [] ys j i o = absurd i
 last_jump x (k ∷ ks) [] j i o = absurd j
 last_jump x (k ∷ ks) (y ∷ ys) (inl j) (inl e) o = absurd (j.0 (sym e))
@@ -48,7 +48,7 @@ module _ (m : Meaning) (c : CallingConvention) (t u : Tree) (x : InlinedCall) (s
   block_a : IsBlock t a
   block_a = (w.joined.all_in_place x.call a holds).1
 
-  elsewhere : (b : ℕ) → (b ≡ a → ⊥) → In x.call (body_of t b) → ⊥
+  pub elsewhere : (b : ℕ) → (b ≡ a → ⊥) → In x.call (body_of t b) → ⊥
   elsewhere b ne i = ne (some_is (sym (w.bodies.owned x.call b i) ∙ holds))
 
   -- other blocks that were there lead where they led
@@ -64,7 +64,7 @@ module _ (m : Meaning) (c : CallingConvention) (t u : Tree) (x : InlinedCall) (s
           subst (λ o. In d (succs_from t o)) (sym e) (subst (In d) (h.successors k alive stays.0 stays.1) (subst (λ o. In d (succs_from u o)) e i))
 
   -- the block of the call leads to the copy of the entry, where it led behind the call
-  a_leads : (d : ℕ) → In d (succs_of u a) → d ≡ x.entry
+  pub a_leads : (d : ℕ) → In d (succs_of u a) → d ≡ x.entry
   a_leads d i = ⊎_elim (λ e. e) (λ z. absurd z) (subst (In d) (ap (succs_from u) (last_new x (body_of t a) (body_of u a) (h.bodies a block_a) in_a None) ∙ h.enters.leads) i)
 
   a_led : In x.after (succs_of t a)
@@ -93,7 +93,7 @@ module _ (m : Meaning) (c : CallingConvention) (t u : Tree) (x : InlinedCall) (s
   abbrev pub ReadsBack : ℕ → ℕ → List ℕ → Type 0
   ReadsBack entry b passed = (IsBlock t b × WayBack entry b passed) ⊎ ((x.copied b ≡ true) × WayBack entry a passed × In a passed)
 
-  is_block : (b d : ℕ) → In d (succs_of t b) → IsBlock t d
+  pub is_block : (b d : ℕ) → In d (succs_of t b) → IsBlock t d
   is_block b d i = go (last_of None (body_of t b)) i
     where
       go : (o : Option ℕ) → In d (succs_from t o) → IsBlock t d

@@ -15,3 +15,4 @@ pub mod Inlining
 pub mod KeepsLinkedBy
 pub mod InlinedWays
 pub mod InlinedDominance
+pub mod InlinedRoots

@@ -29,7 +29,7 @@ pub record InlinedCall : Type 0 where
   pub originals : Originals
 
 -- the operation goes at once to this block with its operands
-pub record JumpsTo (m : Meaning) (t : Tree) (k block : ℕ) : Type 0 where
+pub record IsJumpTo (m : Meaning) (t : Tree) (k block : ℕ) : Type 0 where
   pub live : IsLive t k
   pub leads : successors_of t k ≡ block ∷ []
   pub goes : (o : Operation) → op_at t k ≡ Some o → (ds : List Datum) → length ds ≡ length o.operands → m.act (shape_of m t o) Empty ds ≡ Goto 0 ds
@@ -58,8 +58,8 @@ pub record RunsItsRegion (m : Meaning) (t : Tree) (k region count : ℕ) : Type 
   pub leaves : (o : Operation) → op_at t k ≡ Some o → (ds results : List Datum) → m.act (shape_of m t o) (memo ds) results ≡ Leave results
 
 -- a value that the tree has given out no handle for
-abbrev pub IsFresh : Tree → ℕ → Type 0
-IsFresh t v = length t.definitions ≤ v
+abbrev pub IsFreshKey : Tree → ℕ → Type 0
+IsFreshKey t v = length t.definitions ≤ v
 
 -- the operation k of u is a copy of one of t without regions, which never leaves its function; it names values of the copy
 -- alone, and leads to blocks of the copy alone
@@ -68,8 +68,8 @@ pub record IsCopy (m : Meaning) (t u : Tree) (x : InlinedCall) (k : ℕ) : Type 
   pub same : IsCopiedOperation t u x.originals k
   pub childless : regions_of u k ≡ []
   pub leads : (b : ℕ) → In b (successors_of u k) → x.copied b ≡ true
-  pub operands : (v : ℕ) → In v (operands_of u k) → IsFresh t v
-  pub results : (v : ℕ) → In v (results_of u k) → IsFresh t v
+  pub operands : (v : ℕ) → In v (operands_of u k) → IsFreshKey t v
+  pub results : (v : ℕ) → In v (results_of u k) → IsFreshKey t v
   pub stays : (o : Operation) → op_at u k ≡ Some o → (memo : Datum) (input ds : List Datum) → m.act (shape_of m u o) memo input ≢ Leave ds
 
 -- it never gives results, behind which the block would end
@@ -79,10 +79,10 @@ NeverGives m u k = (o : Operation) → op_at u k ≡ Some o → (memo : Datum) (
 -- the operation k of u is in the place of a return: it jumps to the block behind the call with what that leaves with
 pub record IsReturnReplaced (m : Meaning) (t u : Tree) (x : InlinedCall) (k : ℕ) : Type 0 where
   pub returns : Returns m t (x.originals.operation k)
-  pub jumps : JumpsTo m u k x.after
+  pub jumps : IsJumpTo m u k x.after
   pub operands : operands_of t (x.originals.operation k) ≡ map x.originals.value (operands_of u k)
   pub count : length (operands_of u k) ≡ length (results_of t x.call)
-  pub fresh : (v : ℕ) → In v (operands_of u k) → IsFresh t v
+  pub fresh : (v : ℕ) → In v (operands_of u k) → IsFreshKey t v
 
 -- the operations at the end of a copied block: copies, of which the last doesn't give, or is in the place of a return
 abbrev pub AreCopies : Meaning → (t u : Tree) → InlinedCall → List ℕ → Type 0
@@ -97,7 +97,7 @@ pub record IsBlockCopy (m : Meaning) (t u : Tree) (x : InlinedCall) (b : ℕ) : 
   pub arguments : arguments_of t (x.originals.block b) ≡ map x.originals.value (arguments_of u b)
   pub body : body_of t (x.originals.block b) ≡ map x.originals.operation (body_of u b)
   pub operations : AreCopies m t u x (body_of u b)
-  pub fresh : (v : ℕ) → In v (arguments_of u b) → IsFresh t v
+  pub fresh : (v : ℕ) → In v (arguments_of u b) → IsFreshKey t v
 
 -- the operations of a block, where the call and the jump behind it, which end their block, became the new jump
 abbrev pub HasNewJump : InlinedCall → List ℕ → List ℕ → Type 0
@@ -111,7 +111,7 @@ pub record IsCallInlined (m : Meaning) (c : CallingConvention) (t u : Tree) (x :
   -- before: a call, and a jump with its results, which nothing else uses
   pub calls : CallsByName m c t x.call symbol
   pub plain : regions_of t x.call ≡ []
-  pub jumps : JumpsTo m t x.jump x.after
+  pub jumps : IsJumpTo m t x.jump x.after
   pub passes : operands_of t x.jump ≡ results_of t x.call
   pub used_there : (k v : ℕ) → In v (results_of t x.call) → In v (operands_of t k) → k ≡ x.jump
   pub fits : length (arguments_of t x.after) ≡ length (results_of t x.call)
@@ -120,12 +120,12 @@ pub record IsCallInlined (m : Meaning) (c : CallingConvention) (t u : Tree) (x :
   pub entry : first_of (layout_of t x.region) None ≡ Some (x.originals.block x.entry)
   pub takes : length (arguments_of t (x.originals.block x.entry)) ≡ length (operands_of t x.call)
   -- after: a jump to the copies
-  pub enters : JumpsTo m u x.new x.entry
+  pub enters : IsJumpTo m u x.new x.entry
   pub operands_passed : operands_of u x.new ≡ operands_of t x.call
   pub entry_copied : x.copied x.entry ≡ true
   pub copies : (b : ℕ) → x.copied b ≡ true → IsBlockCopy m t u x b
   -- two values of the copy have two originals
-  pub apart : (v w : ℕ) → IsFresh t v → IsFresh t w → x.originals.value v ≡ x.originals.value w → v ≡ w
+  pub apart : (v w : ℕ) → IsFreshKey t v → IsFreshKey t w → x.originals.value v ≡ x.originals.value w → v ≡ w
   -- all else is as before
   pub deleted : (head_of u x.call ≡ None) × (head_of u x.jump ≡ None)
   pub bodies : (b : ℕ) → IsBlock t b → HasNewJump x (body_of t b) (body_of u b)

@@ -1,2 +1,3 @@
 pub mod Inlined
 pub mod InliningLaws
+pub mod InlinedBeside

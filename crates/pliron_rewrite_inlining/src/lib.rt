@@ -6,6 +6,7 @@
 //! It knows linked runs and the laws of dialects, and no graph, no dialect and no optimisation.
 #![tactic(auto)]
 
+ghost use Rattle.pliron_rewrite_inlining.specs.InlinedBeside.{InlinedRootsLaw};
 ghost use Rattle.pliron_rewrite_inlining.specs.InliningLaws.{InliningKeepsLaw, InliningLaw, LinkedByLaws};
 
 /// A call may become a jump to a copy of its callee's blocks. In the place of each return the copy jumps to what
@@ -23,4 +24,10 @@ pub fn linked_runs_kept_by_name()
 /// Where a call is inlined and roots stay fit, linked runs are kept where its name stands for the callee.
 pub fn inlined_calls_keep_linked_runs()
     ensures { InliningKeepsLaw }
+{}
+
+/// Where a call is inlined beside itself and the callee is fit to run, each root that is fit stays so: what the copies
+/// use is dominated as in the callee, and all else as before.
+pub fn inlined_roots_stay_fit()
+    ensures { InlinedRootsLaw }
 {}

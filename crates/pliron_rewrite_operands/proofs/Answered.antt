@@ -36,7 +36,8 @@ use Rattle.pliron_rewrite_equals.proofs.Passing.{dominated_behind}
 use Rattle.pliron_laws.specs.declared.operand_folds.OpFoldResult.{OpFoldResult}
 use Rattle.pliron_laws.specs.declared.operand_folds.OpFoldResult.TheVariants.{Operand, Constant}
 use Rattle.pliron_laws.specs.OperandFolding.{AnswersOperands, AnswersOperand, AreSameData, datum_by}
-use Rattle.pliron_rewrite_operands.specs.Answers.{Folding, answer_in, is_harmless, is_constant_like, constant_made, known_by, known_operands, operand_answers, constant_answers, IsAnswered}
+use Rattle.pliron_rewrite_operands.specs.Answers.{Folding, is_constant_like, constant_made, known_by, known_of_operands, operand_answers, constant_answers, IsAnsweredFold}
+use Rattle.pliron_laws.specs.Answers.{answer_in, is_harmless}
 
 -- the laws of a dialect on which folding rests
 pub record AreLawful (x : Folding) : Type 0 where
@@ -158,12 +159,12 @@ shape_parts : (m : Meaning) (t : Tree) (o : Operation) → ((shape_of m t o).hea
 unfolding shape_of
 shape_parts m t o = (refl, refl, refl)
 
-module _ (x : Folding) (laws : AreLawful x) (t : Tree) (w : IsTree t) (k i old : ℕ) (next : successors_of t k ≡ []) (at : slice_get (results_of t k) i ≡ Some old) (operation : Operation) (liveness : op_at t k ≡ Some operation) (answer : OpFoldResult) (answered : IsAnswered x t operation i answer) where
+module _ (x : Folding) (laws : AreLawful x) (t : Tree) (w : IsTree t) (k i old : ℕ) (next : successors_of t k ≡ []) (at : slice_get (results_of t k) i ≡ Some old) (operation : Operation) (liveness : op_at t k ≡ Some operation) (answer : OpFoldResult) (answered : IsAnsweredFold x t operation i answer) where
   abbrev m : Meaning
   m = x.meaning
 
   abbrev known : List (Option AttrObj)
-  known = known_operands x t operation.operands
+  known = known_of_operands x t operation.operands
 
   made_old : definition_of t old ≡ Some (Result k i)
   made_old = w.joined.results k i old at

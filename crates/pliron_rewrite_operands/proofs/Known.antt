@@ -4,7 +4,7 @@ use Rattle.std.proofs.Common.{◌≡◌, ◌≢◌, ◌&&◌, ◌<◌, ◌≤◌
 use Rattle.pliron_core.specs.declared.attrs.AttrObj.{AttrObj}
 use Rattle.pliron_core.specs.Tree.{Tree, IsLive, definition_of, head_of, operands_of, regions_of, results_of}
 use Rattle.pliron_laws.specs.Tree.{Operation, op_at, shape_of}
-use Rattle.pliron_laws.specs.Answers.{HeadPasses, ReadsHead, ReadsShape}
+use Rattle.pliron_laws.specs.Answers.{HeadPasses, ReadsHead, ReadsShape, answer_in, is_harmless}
 use Rattle.pliron_laws.specs.Datum.{Head, Meaning}
 use Rattle.pliron_laws.specs.Folding.{Constants}
 use Rattle.pliron_laws.proofs.Records.{operation_of, make_op, op_shows}
@@ -15,7 +15,7 @@ use Rattle.pliron_laws.specs.declared.operand_folds.OpFoldResult.TheVariants.{Co
 use Rattle.pliron_laws.specs.OperandFolding.{OperandFolds, ReadsOperands}
 use Rattle.pliron_core.proofs.UsedLemmas.{length_map}
 use Rattle.std.specs.Option.{option_map}
-use Rattle.pliron_rewrite_operands.specs.Answers.{Folding, answer_in, is_harmless, is_constant_like, constant_made, known_by, known_operands, operand_answers, constant_answers}
+use Rattle.pliron_rewrite_operands.specs.Answers.{Folding, is_constant_like, constant_made, known_by, known_of_operands, operand_answers, constant_answers}
 
 -- the test by what is read of the operation
 pub like_told : (x : Folding) (t : Tree) (op : ℕ) (o : Operation) → op_at t op ≡ Some o → is_constant_like x o ≡ (nat_eq (length (operands_of t op)) 0 && (nat_eq (length (regions_of t op)) 0 && (nat_eq (length (results_of t op)) 1 && (x.can_fold o.head && is_harmless (x.side_effects o.head)))))
@@ -148,24 +148,24 @@ none_of_answers [] e = refl
 none_of_answers (a ∷ answers) e = grind arith
 
 -- answers by what is known of the operands
-pub operands_answered : (x : Folding) (t : Tree) (op : ℕ) (known : List (Option AttrObj)) (answers : List (Option OpFoldResult)) → known ≡ known_operands x t (operands_of t op) → ReadsOperands x.meaning x.operand_folds known t op answers → (o : Operation) → op_at t op ≡ Some o → answers ≡ operand_answers x t o
+pub operands_answered : (x : Folding) (t : Tree) (op : ℕ) (known : List (Option AttrObj)) (answers : List (Option OpFoldResult)) → known ≡ known_of_operands x t (operands_of t op) → ReadsOperands x.meaning x.operand_folds known t op answers → (o : Operation) → op_at t op ≡ Some o → answers ≡ operand_answers x t o
 operands_answered x t op known answers is reads o e =
     let s = op_shows t op o e in
-    reads o e ∙ ap (λ z. x.operand_folds (shape_of x.meaning t o) z o.operands) (is ∙ ap (known_operands x t) s.operands)
+    reads o e ∙ ap (λ z. x.operand_folds (shape_of x.meaning t o) z o.operands) (is ∙ ap (known_of_operands x t) s.operands)
 
-pub constants_answered : (x : Folding) (t : Tree) (op : ℕ) (known constants : List (Option AttrObj)) (answers : List (Option OpFoldResult)) → known ≡ known_operands x t (operands_of t op) → ReadsShape x.meaning (λ s. x.constants s known) t op constants → answers ≡ map (λ c. option_map Constant c) constants → (folds : Bool) → ReadsHead x.can_fold t op folds → IsTrue folds → (o : Operation) → op_at t op ≡ Some o → answers ≡ constant_answers x t o
+pub constants_answered : (x : Folding) (t : Tree) (op : ℕ) (known constants : List (Option AttrObj)) (answers : List (Option OpFoldResult)) → known ≡ known_of_operands x t (operands_of t op) → ReadsShape x.meaning (λ s. x.constants s known) t op constants → answers ≡ map (λ c. option_map Constant c) constants → (folds : Bool) → ReadsHead x.can_fold t op folds → IsTrue folds → (o : Operation) → op_at t op ≡ Some o → answers ≡ constant_answers x t o
 constants_answered x t op known constants answers is reads mapped folds reported passed o e =
     let s = op_shows t op o e in
-    mapped ∙ ap (map (λ c. option_map Constant c)) (reads o e ∙ ap (x.constants (shape_of x.meaning t o)) (is ∙ ap (known_operands x t) s.operands))
-    ∙ sym (ap (λ b. if b then map (λ c. option_map Constant c) (x.constants (shape_of x.meaning t o) (known_operands x t o.operands)) else []) (sym (reported o.head s.head) ∙ passed))
+    mapped ∙ ap (map (λ c. option_map Constant c)) (reads o e ∙ ap (x.constants (shape_of x.meaning t o)) (is ∙ ap (known_of_operands x t) s.operands))
+    ∙ sym (ap (λ b. if b then map (λ c. option_map Constant c) (x.constants (shape_of x.meaning t o) (known_of_operands x t o.operands)) else []) (sym (reported o.head s.head) ∙ passed))
 
 pub none_answered : (x : Folding) (t : Tree) (op : ℕ) (answers : List (Option OpFoldResult)) → answers ≡ [] → (folds : Bool) → ReadsHead x.can_fold t op folds → folds ≡ false → (o : Operation) → op_at t op ≡ Some o → answers ≡ constant_answers x t o
 none_answered x t op answers none folds reported unfolded o e =
     let s = op_shows t op o e in
-    none ∙ sym (ap (λ b. if b then map (λ c. option_map Constant c) (x.constants (shape_of x.meaning t o) (known_operands x t o.operands)) else []) (sym (reported o.head s.head) ∙ unfolded))
+    none ∙ sym (ap (λ b. if b then map (λ c. option_map Constant c) (x.constants (shape_of x.meaning t o) (known_of_operands x t o.operands)) else []) (sym (reported o.head s.head) ∙ unfolded))
 
 pub passes_head : (x : Folding) (t : Tree) (op : ℕ) (folds : Bool) → ReadsHead x.can_fold t op folds → IsTrue folds → HeadPasses x.can_fold t op
 passes_head x t op folds reported passed h at = sym (reported h at) ∙ passed
 
-pub known_long : (x : Folding) (t : Tree) (op : ℕ) (known : List (Option AttrObj)) → known ≡ known_operands x t (operands_of t op) → length known ≡ length (operands_of t op)
+pub known_long : (x : Folding) (t : Tree) (op : ℕ) (known : List (Option AttrObj)) → known ≡ known_of_operands x t (operands_of t op) → length known ≡ length (operands_of t op)
 known_long x t op known is = ap length is ∙ length_map (λ v. known_by x t (definition_of t v)) (operands_of t op)

@@ -24,7 +24,7 @@ use Rattle.pliron_theory.proofs.MaterialisedKeeps.{result_keeps}
 use Rattle.pliron_theory.proofs.PutInside.{result_inside}
 use Rattle.pliron_laws.specs.declared.operand_folds.OpFoldResult.{OpFoldResult}
 use Rattle.pliron_laws.specs.declared.operand_folds.OpFoldResult.TheVariants.{Operand, Constant}
-use Rattle.pliron_rewrite_operands.specs.Answers.{Folding, IsAnswered}
+use Rattle.pliron_rewrite_operands.specs.Answers.{Folding, IsAnsweredFold}
 use Rattle.pliron_rewrite_operands.specs.Answered.{HasAnswer, IsMade, NamesOperand, after_folding}
 use Rattle.pliron_rewrite_operands.specs.AnswerLaws.{AnswerLaws}
 use Rattle.pliron_rewrite_operands.proofs.Answered.{AreLawful, shape_admitted, operand_is, operand_keeps, constant_read}
@@ -47,7 +47,7 @@ module _ (x : Folding) (chosen : Head → Bool) where
     plain = laws.plain;
   }
 
-  answered_chosen : (t : Tree) (o : Operation) (i : ℕ) (answer : OpFoldResult) → IsAnswered x t o i answer → IsAnswered (with_chosen x chosen) t o i answer
+  answered_chosen : (t : Tree) (o : Operation) (i : ℕ) (answer : OpFoldResult) → IsAnsweredFold x t o i answer → IsAnsweredFold (with_chosen x chosen) t o i answer
   unfolding shape_of
   answered_chosen t o i answer answered = answered
 

@@ -6,7 +6,7 @@ use Rattle.pliron_laws.specs.Outcomes.{after_materialising}
 use Rattle.pliron_laws.specs.Tree.{Operation, op_at}
 use Rattle.pliron_laws.specs.declared.operand_folds.OpFoldResult.{OpFoldResult}
 use Rattle.pliron_laws.specs.declared.operand_folds.OpFoldResult.TheVariants.{Operand, Constant}
-use Rattle.pliron_rewrite_operands.specs.Answers.{Folding, IsAnswered}
+use Rattle.pliron_rewrite_operands.specs.Answers.{Folding, IsAnsweredFold}
 
 -- some operand of the operation is one of its results
 abbrev pub UsesItself : Tree → ℕ → Type 0
@@ -25,7 +25,7 @@ pub record HasAnswer (x : Folding) (t : Tree) (k i : ℕ) (answer : OpFoldResult
   pub liveness : op_at t k ≡ Some operation
   pub value : ℕ
   pub listed : slice_get (results_of t k) i ≡ Some value
-  pub answered : IsAnswered x t operation i answer
+  pub answered : IsAnsweredFold x t operation i answer
 
 -- the dialect can put the answer in the place of a result
 abbrev pub IsMade : Folding → OpFoldResult → Type 0

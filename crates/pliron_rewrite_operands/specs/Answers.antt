@@ -11,6 +11,7 @@ use Rattle.pliron_laws.specs.Tree.{Operation, op_at, shape_of}
 use Rattle.pliron_laws.specs.declared.operand_folds.OpFoldResult.{OpFoldResult}
 use Rattle.pliron_laws.specs.declared.operand_folds.OpFoldResult.TheVariants.{Constant}
 use Rattle.pliron_laws.specs.OperandFolding.{OperandFolds}
+use Rattle.pliron_laws.specs.Answers.{is_harmless, answer_in}
 
 -- what canonicalization asks of a dialect
 pub record Folding : Type 0 where
@@ -22,20 +23,9 @@ pub record Folding : Type 0 where
   pub constant_head : AttrObj → Head
   pub operand_folds : OperandFolds
 
--- whether the answer is that there are no side effects
-abbrev pub is_harmless : Option Bool → Bool
-is_harmless None = false
-is_harmless (Some true) = false
-is_harmless (Some false) = true
-
 -- whether the operation makes one value of nothing: it folds, and has no operands, regions and side effects
 abbrev pub is_constant_like : Folding → Operation → Bool
 is_constant_like x o = nat_eq (length o.operands) 0 && (nat_eq (length o.regions) 0 && (nat_eq (length o.results) 1 && (x.can_fold o.head && is_harmless (x.side_effects o.head))))
-
--- an answer for one result, where there is one for it
-abbrev pub answer_in : {A : Type 0} → Option (Option A) → Option A
-answer_in None = None
-answer_in (Some a) = a
 
 -- the constant that a constant-like operation folds to
 abbrev pub constant_made : Folding → Tree → Option Operation → Option AttrObj
@@ -48,17 +38,17 @@ known_by x t None = None
 known_by x t (Some (Argument block i)) = None
 known_by x t (Some (Result k i)) = constant_made x t (op_at t k)
 
-abbrev pub known_operands : Folding → Tree → List ℕ → List (Option AttrObj)
-known_operands x t operands = map (λ v. known_by x t (definition_of t v)) operands
+abbrev pub known_of_operands : Folding → Tree → List ℕ → List (Option AttrObj)
+known_of_operands x t operands = map (λ v. known_by x t (definition_of t v)) operands
 
 -- what the dialect answers of the results by what is known of the operands and by which of them are one value
 abbrev pub operand_answers : Folding → Tree → Operation → List (Option OpFoldResult)
-operand_answers x t o = x.operand_folds (shape_of x.meaning t o) (known_operands x t o.operands) o.operands
+operand_answers x t o = x.operand_folds (shape_of x.meaning t o) (known_of_operands x t o.operands) o.operands
 
 -- the constants that folding answers by what is known of the operands
 abbrev pub constant_answers : Folding → Tree → Operation → List (Option OpFoldResult)
-constant_answers x t o = if x.can_fold o.head then map (λ c. option_map Constant c) (x.constants (shape_of x.meaning t o) (known_operands x t o.operands)) else []
+constant_answers x t o = if x.can_fold o.head then map (λ c. option_map Constant c) (x.constants (shape_of x.meaning t o) (known_of_operands x t o.operands)) else []
 
 -- one of both answers this of the result at i
-abbrev pub IsAnswered : Folding → Tree → Operation → ℕ → OpFoldResult → Type 0
-IsAnswered x t o i answer = (slice_get (operand_answers x t o) i ≡ Some (Some answer)) ⊎ (slice_get (constant_answers x t o) i ≡ Some (Some answer))
+abbrev pub IsAnsweredFold : Folding → Tree → Operation → ℕ → OpFoldResult → Type 0
+IsAnsweredFold x t o i answer = (slice_get (operand_answers x t o) i ≡ Some (Some answer)) ⊎ (slice_get (constant_answers x t o) i ≡ Some (Some answer))

@@ -2,10 +2,10 @@
 ghost use Rattle.std.specs.Prelude.{◌≡◌, Option, Some, None, IfOk, IsOkUnless, map};
 ghost use Rattle.std.specs.Option.{option_map};
 ghost use Rattle.pliron_core.specs.Tree.{IsLive, IsDefined, definition_of, operands_of};
-ghost use Rattle.pliron_laws.specs.Answers.{HeadPasses};
+ghost use Rattle.pliron_laws.specs.Answers.{HeadPasses, is_harmless as is_harmless_answer};
 ghost use Rattle.pliron_laws.specs.Tree.{Operation as OperationAt, op_at};
 ghost use Rattle.pliron_laws.specs.declared.operand_folds.OpFoldResult.TheVariants.{Constant as ConstantAnswer};
-ghost use Rattle.pliron_rewrite_operands.specs.Answers.{is_harmless as is_harmless_answer, is_constant_like as is_constant_like_by, constant_made as constant_made_by, known_by, known_operands as known_operands_by, operand_answers as operand_answers_by, constant_answers as constant_answers_by};
+ghost use Rattle.pliron_rewrite_operands.specs.Answers.{is_constant_like as is_constant_like_by, constant_made as constant_made_by, known_by, known_of_operands as known_operands_by, operand_answers as operand_answers_by, constant_answers as constant_answers_by};
 
 use crate::folding::HasOperandFolding;
 use pliron_core::{AttrObj, Context, Def, Operation, Ptr, Value};

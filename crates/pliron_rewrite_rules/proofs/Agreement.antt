@@ -22,7 +22,7 @@ use Rattle.pliron_rewrite_rules.specs.declared.view.Leaf.TheVariants.{Unknown, K
 use Rattle.pliron_rewrite_rules.specs.declared.view.Operand.{Operand}
 use Rattle.pliron_rewrite_rules.specs.declared.view.Operand.TheVariants.{Plain, Made}
 use Rattle.pliron_rewrite_rules.specs.declared.view.View.{View}
-use Rattle.pliron_rewrite_rules.specs.Seen.{pure_only, pure_maker, constant_of, leaf_with, leaf_made, leaf_of, operand_with, operand_made, operand_of, view_of}
+use Rattle.pliron_rewrite_rules.specs.Seen.{pure_only, pure_maker, constant_of, leaf_with, leaf_made, leaf_of, operand_with, operand_made, operand_of, operation_view}
 use Rattle.pliron_rewrite_rules.specs.Views.{Each, result_datum, data_by, leaf_value, leaf_datum, operand_value, operand_datum, view_datum, LeafAgrees, OperandAgrees, Agrees, operand_values, shown_in}
 use Rattle.pliron_rewrite_rules.proofs.PureOperations.{IsLawful, IsSingle, PassesTest, pure_passes, single_datum, constant_datum}
 
@@ -106,7 +106,7 @@ module _ (x : RuleTables) (t u : Tree) (w : IsTree u) (ops : (k : ℕ) (o : Oper
     in_mapped (z ∷ vs) v (inl e) = inl (e ∙ leaf_of_value x t z)
     in_mapped (z ∷ vs) v (inr i) = inr (in_mapped vs v i)
 
-    pub shown_leaf : (v : ℕ) → In v (shown_in (view_of x t o)) → IsLeaf u old v
+    pub shown_leaf : (v : ℕ) → In v (shown_in (operation_view x t o)) → IsLeaf u old v
     shown_leaf v i =
         let r = in_shown o.operands v i in
         let read : In r.0 (operands_of u op) = subst (In r.0) (sym (op_shows u op o at).operands) r.1 in
@@ -173,7 +173,7 @@ module _ (x : RuleTables) (t u : Tree) (w : IsTree u) (ops : (k : ℕ) (o : Oper
         made (Some o) e = told o (maker_is v o (w.joined.operands j v i) e) (constant_of x t o) refl
 
     -- the view of the operation that makes the old value agrees, and the datum of that value is that of the view
-    pub view_agrees : (op : ℕ) (o : Operation) → IsSingle u op o old → x.side_effects o.head ≡ Some false → IsInSlice u old op → Agrees x.meaning env (view_of x t o) × ((d : Datum) × (env old ≡ Some d) × (view_datum x.meaning env (view_of x t o) ≡ Some d))
+    pub view_agrees : (op : ℕ) (o : Operation) → IsSingle u op o old → x.side_effects o.head ≡ Some false → IsInSlice u old op → Agrees x.meaning env (operation_view x t o) × ((d : Datum) × (env old ≡ Some d) × (view_datum x.meaning env (operation_view x t o) ≡ Some d))
     view_agrees op o p none s =
         let reads : (z : ℕ) → In z o.operands → In z (operands_of u op) = λ z y. subst (In z) (sym (op_shows u op o p.liveness).operands) y in
         let c = current op (pattern_of op old o (inl s) p none) in

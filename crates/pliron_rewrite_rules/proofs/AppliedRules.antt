@@ -17,7 +17,7 @@ use Rattle.pliron_rewrite_rules.specs.Rewriting.{with_atoms, atom_values, with_t
 use Rattle.pliron_rewrite_rules.specs.Applying.{rule_answer, answered_term, Applies}
 use Rattle.pliron_rewrite_rules.specs.Putting.{AreErasable}
 use Rattle.pliron_rewrite_rules.specs.RuleLaws.{RulesHold}
-use Rattle.pliron_rewrite_rules.specs.Seen.{is_pure, pure_only, view_of}
+use Rattle.pliron_rewrite_rules.specs.Seen.{is_pure_operation, pure_only, operation_view}
 use Rattle.pliron_rewrite_rules.specs.declared.view.View.{View}
 use Rattle.pliron_rewrite_rules.proofs.Growing.{grown_live, op_live}
 use Rattle.pliron_rewrite_rules.proofs.PureOperations.{IsLawful}
@@ -88,11 +88,11 @@ new_or_plain (Atomic (Constant c)) = inl tt
 new_or_plain (Make head atoms) = inl tt
 
 -- what the rules answer for an operation, by the test of purity
-module _ (x : RuleTables) (rules : View → Option Term) (t : Tree) (op : ℕ) (live : IsLive t op) (told : Bool) (tells : (o : Operation) → op_at t op ≡ Some o → told ≡ is_pure x o) where
+module _ (x : RuleTables) (rules : View → Option Term) (t : Tree) (op : ℕ) (live : IsLive t op) (told : Bool) (tells : (o : Operation) → op_at t op ≡ Some o → told ≡ is_pure_operation x o) where
   pub none_asked : told ≡ false → None ≡ answered_term x t rules op
   none_asked failed = sym (ap (rule_answer x t rules) (impure_none x t op live told tells failed))
 
-  pub asked_is : told ≡ true → (view : View) → ((o : Operation) → op_at t op ≡ Some o → view ≡ view_of x t o) → (answer : Option Term) → answer ≡ rules view → answer ≡ answered_term x t rules op
+  pub asked_is : told ≡ true → (view : View) → ((o : Operation) → op_at t op ≡ Some o → view ≡ operation_view x t o) → (answer : Option Term) → answer ≡ rules view → answer ≡ answered_term x t rules op
   asked_is passed view seen answer answered =
       let o = live_shown t op live in
       answered ∙ ap rules (seen o.0 o.1) ∙ sym (ap (rule_answer x t rules) (pure_some x t op live told tells passed o.0 o.1))
@@ -104,7 +104,7 @@ module _ (x : RuleTables) (rules : View → Option Term) (hold : RulesHold x.mea
     where
       go : (q : Option Operation) → pure_only x (op_at t op) ≡ q → rule_answer x t rules q ≡ Some term → IsRuleFor x t op a.old term
       go None pure e = absurd (not_none e)
-      go (Some o) pure e = record { placed = placed; operation = o; pure = pure; result = a.result; rule = hold (view_of x t o) term e }
+      go (Some o) pure e = record { placed = placed; operation = o; pure = pure; result = a.result; rule = hold (operation_view x t o) term e }
 
 -- the terms that apply, by what is asked in turn
 module _ (x : RuleTables) (rules : View → Option Term) (t : Tree) (op : ℕ) where

@@ -17,8 +17,9 @@ use Rattle.pliron_rewrite_equals.specs.Current.{IsCurrent}
 use Rattle.pliron_rewrite_rules.specs.Tables.{RuleTables}
 use Rattle.pliron_rewrite_rules.specs.Insertions.{pure_shape}
 use Rattle.pliron_rewrite_rules.proofs.Inserted.{shape_pure}
-use Rattle.pliron_rewrite_rules.specs.Seen.{is_harmless, answer_in, is_pure, pure_only, constant_of}
+use Rattle.pliron_rewrite_rules.specs.Seen.{is_pure_operation, pure_only, constant_of}
 use Rattle.pliron_rewrite_rules.specs.Views.{only_given, result_datum}
+use Rattle.pliron_laws.specs.Answers.{is_harmless, answer_in}
 
 -- what the rewrites of rules ask of a dialect
 pub record IsLawful (x : RuleTables) : Type 0 where
@@ -66,9 +67,9 @@ pure_passes x t k o e = go (op_at t k) refl e
   where
     go : (q : Option Operation) → op_at t k ≡ q → pure_only x q ≡ Some o → PassesTest x t k o
     go None at f = absurd (not_none f)
-    go (Some q) at f = tested (is_pure x q) refl f
+    go (Some q) at f = tested (is_pure_operation x q) refl f
       where
-        tested : (b : Bool) → is_pure x q ≡ b → (if b then Some q else None) ≡ Some o → PassesTest x t k o
+        tested : (b : Bool) → is_pure_operation x q ≡ b → (if b then Some q else None) ≡ Some o → PassesTest x t k o
         tested false n g = absurd (not_none g)
         tested true y g =
             let same : q ≡ o = some_is g in

@@ -35,7 +35,7 @@ use Rattle.pliron_rewrite_rules.specs.declared.term.Term.{Term}
 use Rattle.pliron_rewrite_rules.specs.declared.term.Term.TheVariants.{Atomic, Make}
 use Rattle.pliron_rewrite_rules.specs.Rewriting.{with_atoms, atom_values, with_term, term_value, after_rewriting}
 use Rattle.pliron_rewrite_rules.specs.RuleLaws.{IsPureHead, IsAccepted, IsRule}
-use Rattle.pliron_rewrite_rules.specs.Seen.{pure_only, view_of}
+use Rattle.pliron_rewrite_rules.specs.Seen.{pure_only, operation_view}
 use Rattle.pliron_rewrite_rules.specs.Views.{Each, result_datum, only_given, data_by, view_datum, atom_datum, term_datum, Agrees, shown_in, atom_names, named_in}
 use Rattle.pliron_rewrite_rules.proofs.Agreement.{shown_leaf, view_agrees}
 use Rattle.pliron_rewrite_rules.proofs.Growing.{IsGrown, IsBuilt, op_live, grown_refl, grown_live, grown_trans, grown_put, built_put, built_lifted, put_unused}
@@ -169,11 +169,11 @@ module _ (x : RuleTables) (laws : IsLawful x) (op : ℕ) where
       root_slice : IsInSlice u old op
       root_slice = Makes 0 (g.tree.joined.results op 0 old listed)
 
-      leaf_of_view : (v : ℕ) → In v (shown_in (view_of x t o)) → IsLeaf u old v
+      leaf_of_view : (v : ℕ) → In v (shown_in (operation_view x t o)) → IsLeaf u old v
       leaf_of_view v i = shown_leaf x t u g.tree g.ops g.defs op old o there.liveness root_slice v i
 
       -- the equation of the tree follows from that of the rule
-      equal_by : (term : Term) (new : ℕ) → IsRule x.meaning x.side_effects x.accepts (view_of x t o) term → ((env : Environment) → ((k : ℕ) → IsInPattern x.meaning x.side_effects u old new k → IsAdmitted x.meaning u k × IsCurrent x.meaning u env k) → (d : Datum) → term_datum x.meaning env term ≡ Some d → env new ≡ Some d) → AreEqual x.meaning x.side_effects u old new
+      equal_by : (term : Term) (new : ℕ) → IsRule x.meaning x.side_effects x.accepts (operation_view x t o) term → ((env : Environment) → ((k : ℕ) → IsInPattern x.meaning x.side_effects u old new k → IsAdmitted x.meaning u k × IsCurrent x.meaning u env k) → (d : Datum) → term_datum x.meaning env term ≡ Some d → env new ≡ Some d) → AreEqual x.meaning x.side_effects u old new
       equal_by term new rule has env current =
           let a = view_agrees x t u g.tree g.ops g.defs laws old new env current op o there harmless root_slice in
           a.1.1 ∙ sym (has env current a.1.0 (rule.equal env a.1.0 a.0 a.1.2))
@@ -191,7 +191,7 @@ module _ (x : RuleTables) (laws : IsLawful x) (op : ℕ) where
     here : IsGrown x.meaning op t t
     here = grown_refl x.meaning op t w placed
 
-    pub term_insertion : (head : Head) (atoms : List Atom) → IsRule x.meaning x.side_effects x.accepts (view_of x t o) (Make head atoms) → IsInsertion x.meaning (with_atoms x t op atoms) op head (atom_values x t op atoms)
+    pub term_insertion : (head : Head) (atoms : List Atom) → IsRule x.meaning x.side_effects x.accepts (operation_view x t o) (Make head atoms) → IsInsertion x.meaning (with_atoms x t op atoms) op head (atom_values x t op atoms)
     term_insertion head atoms rule =
         let u = with_atoms x t op atoms in
         let values = atom_values x t op atoms in
@@ -215,7 +215,7 @@ module _ (x : RuleTables) (laws : IsLawful x) (op : ℕ) where
             go false e = e
             go true e = let one = laws.alone (pure_shape head n) p.admitted e in absurd (omega (arith, one))
 
-    made_term : (head : Head) (atoms : List Atom) → IsRule x.meaning x.side_effects x.accepts (view_of x t o) (Make head atoms) → IsTermMade x op t (with_term x t op (Make head atoms)) head atoms (atom_values x t op atoms) (term_value x t op (Make head atoms))
+    made_term : (head : Head) (atoms : List Atom) → IsRule x.meaning x.side_effects x.accepts (operation_view x t o) (Make head atoms) → IsTermMade x op t (with_term x t op (Make head atoms)) head atoms (atom_values x t op atoms) (term_value x t op (Make head atoms))
     made_term head atoms rule =
         let m = x.meaning in
         let u = with_atoms x t op atoms in
@@ -248,12 +248,12 @@ module _ (x : RuleTables) (laws : IsLawful x) (op : ℕ) where
       alone_built : IsBuilt alone op (x.constant_head c) [] (next_value t)
       alone_built = built_put x.meaning laws.counts t op (x.constant_head c) [] (constant_insertion t c w placed accepted)
 
-    pub term_grows : (term : Term) → IsRule x.meaning x.side_effects x.accepts (view_of x t o) term → IsGrown x.meaning op t (with_term x t op term)
+    pub term_grows : (term : Term) → IsRule x.meaning x.side_effects x.accepts (operation_view x t o) term → IsGrown x.meaning op t (with_term x t op term)
     term_grows (Atomic (Named v)) rule = here
     term_grows (Atomic (Constant c)) rule = alone_grown c rule.buildable
     term_grows (Make head atoms) rule = (made_term head atoms rule).grown
 
-    pub term_keeps : (term : Term) → IsRule x.meaning x.side_effects x.accepts (view_of x t o) term → KeepsAllRuns x.meaning t (after_rewriting x t op old term)
+    pub term_keeps : (term : Term) → IsRule x.meaning x.side_effects x.accepts (operation_view x t o) term → KeepsAllRuns x.meaning t (after_rewriting x t op old term)
     term_keeps (Atomic (Named v)) rule = by_leaf t here v (leaf_of_view t here v (rule.shown v (inl refl))) (equal_by t here (Atomic (Named v)) v rule (λ env current d e. e))
     term_keeps (Atomic (Constant c)) rule =
         let u = alone c rule.buildable in
@@ -267,7 +267,7 @@ module _ (x : RuleTables) (laws : IsLawful x) (op : ℕ) where
         by_result u made.grown new made.built.before (equal_by u made.grown (Make head atoms) new rule (made_datum u head atoms (atom_values x t op atoms) new rule.buildable.0 made))
 
     -- which is what a pass may do
-    pub term_changes : (term : Term) → IsRule x.meaning x.side_effects x.accepts (view_of x t o) term → (root : ℕ) → IsLive t root → IsWellLinked x.meaning t root → IsInside t root op → IsWholeChange x.meaning t (after_rewriting x t op old term) root
+    pub term_changes : (term : Term) → IsRule x.meaning x.side_effects x.accepts (operation_view x t o) term → (root : ℕ) → IsLive t root → IsWellLinked x.meaning t root → IsInside t root op → IsWholeChange x.meaning t (after_rewriting x t op old term) root
     term_changes term rule root live linked inside =
         let u = with_term x t op term in
         let g = term_grows term rule in
@@ -281,16 +281,16 @@ module _ (x : RuleTables) (laws : IsLawful x) (op : ℕ) where
         }
 
     -- the value is defined there
-    pub term_defined : (term : Term) → IsRule x.meaning x.side_effects x.accepts (view_of x t o) term → IsDefined (with_term x t op term) (term_value x t op term)
+    pub term_defined : (term : Term) → IsRule x.meaning x.side_effects x.accepts (operation_view x t o) term → IsDefined (with_term x t op term) (term_value x t op term)
     term_defined (Atomic (Named v)) rule = let leaf = leaf_of_view t here v (rule.shown v (inl refl)) in w.joined.operands leaf.reader v leaf.reads
     term_defined (Atomic (Constant c)) rule = built_defined (alone c rule.buildable) (next_value t) (alone_grown c rule.buildable).tree (alone_built c rule.buildable).before
     term_defined (Make head atoms) rule = let made = made_term head atoms rule in built_defined (with_term x t op (Make head atoms)) (term_value x t op (Make head atoms)) made.grown.tree made.built.before
 
     -- a new one has no uses
-    pub term_unused : (term : Term) → IsRule x.meaning x.side_effects x.accepts (view_of x t o) term → IsNew term → (k : ℕ) → In (term_value x t op term) (operands_of (with_term x t op term) k) → ⊥
+    pub term_unused : (term : Term) → IsRule x.meaning x.side_effects x.accepts (operation_view x t o) term → IsNew term → (k : ℕ) → In (term_value x t op term) (operands_of (with_term x t op term) k) → ⊥
     term_unused (Atomic (Named v)) rule new k i = new
     term_unused (Atomic (Constant c)) rule new k i = put_unused x.meaning laws.counts t op (x.constant_head c) [] (constant_insertion t c w placed rule.buildable) k i
     term_unused (Make head atoms) rule new k i = put_unused x.meaning laws.counts (with_atoms x t op atoms) op head (atom_values x t op atoms) (term_insertion head atoms rule) k i
 
-    pub root_listed : (term : Term) → IsRule x.meaning x.side_effects x.accepts (view_of x t o) term → slice_get (results_of (with_term x t op term) op) 0 ≡ Some old
+    pub root_listed : (term : Term) → IsRule x.meaning x.side_effects x.accepts (operation_view x t o) term → slice_get (results_of (with_term x t op term) op) 0 ≡ Some old
     root_listed term rule = listed (with_term x t op term) (term_grows term rule)

@@ -6,7 +6,7 @@ use Rattle.pliron_core.specs.declared.attrs.AttrObj.{AttrObj}
 use Rattle.pliron_core.specs.Tree.{Tree, IsLive, head_of, operands_of, successors_of, results_of, regions_of}
 use Rattle.pliron_core.proofs.ArgumentLemmas.{take_more}
 use Rattle.pliron_core.proofs.HoldingLemmas.{some_is, some_of}
-use Rattle.pliron_laws.specs.Answers.{ReadsHead, ReadsShape}
+use Rattle.pliron_laws.specs.Answers.{ReadsHead, ReadsShape, is_harmless, answer_in}
 use Rattle.pliron_laws.specs.Datum.{Head, Meaning, Shape}
 use Rattle.pliron_laws.specs.Folding.{Constants, AnswersTrue, MakesConstants}
 use Rattle.pliron_laws.specs.Laws.{KeepsCounts, GivesAtOnce, ForwardsOperands}
@@ -19,7 +19,7 @@ use Rattle.pliron_rewrite_rules.specs.declared.view.Leaf.TheVariants.{Unknown, K
 use Rattle.pliron_rewrite_rules.specs.declared.view.Operand.{Operand}
 use Rattle.pliron_rewrite_rules.specs.declared.view.Operand.TheVariants.{Plain, Made}
 use Rattle.pliron_rewrite_rules.specs.declared.view.View.{View}
-use Rattle.pliron_rewrite_rules.specs.Seen.{is_harmless, answer_in, is_pure, pure_only, constant_of, leaf_with, leaf_made, leaf_of, operand_with, operand_made, operand_of, view_of}
+use Rattle.pliron_rewrite_rules.specs.Seen.{is_pure_operation, pure_only, constant_of, leaf_with, leaf_made, leaf_of, operand_with, operand_made, operand_of, operation_view}
 use Rattle.pliron_rewrite_rules.proofs.PureOperations.{IsLawful}
 
 -- the tables of a dialect
@@ -49,14 +49,14 @@ module _ (x : RuleTables) (t : Tree) (op : ℕ) (o : Operation) (at : op_at t op
   abbrev effects : Bool
   effects = is_harmless (x.side_effects o.head)
 
-  pub impure_results : length (results_of t op) ≢ 1 → false ≡ is_pure x o
+  pub impure_results : length (results_of t op) ≢ 1 → false ≡ is_pure_operation x o
   impure_results ne = sym (ap (λ b. b && (nat_eq (length o.successors) 0 && (nat_eq (length o.regions) 0 && effects))) (ne_eqb (length o.results) 1 (λ e. ne (ap length (op_shows t op o at).results ∙ e))))
 
   module _ (one : length (results_of t op) ≡ 1) where
     results_pass : nat_eq (length o.results) 1 ≡ true
     results_pass = eq-eqb (length o.results) 1 (sym (ap length (op_shows t op o at).results) ∙ one)
 
-    pub impure_successors : length (successors_of t op) ≢ 0 → false ≡ is_pure x o
+    pub impure_successors : length (successors_of t op) ≢ 0 → false ≡ is_pure_operation x o
     impure_successors ne =
         sym (ap (λ b. b && (nat_eq (length o.successors) 0 && (nat_eq (length o.regions) 0 && effects))) results_pass
         ∙ ap (λ b. b && (nat_eq (length o.regions) 0 && effects)) (ne_eqb (length o.successors) 0 (λ e. ne (ap length (op_shows t op o at).successors ∙ e))))
@@ -65,13 +65,13 @@ module _ (x : RuleTables) (t : Tree) (op : ℕ) (o : Operation) (at : op_at t op
       successors_pass : nat_eq (length o.successors) 0 ≡ true
       successors_pass = eq-eqb (length o.successors) 0 (sym (ap length (op_shows t op o at).successors) ∙ edgeless)
 
-      pub impure_regions : length (regions_of t op) ≢ 0 → false ≡ is_pure x o
+      pub impure_regions : length (regions_of t op) ≢ 0 → false ≡ is_pure_operation x o
       impure_regions ne =
           sym (ap (λ b. b && (nat_eq (length o.successors) 0 && (nat_eq (length o.regions) 0 && effects))) results_pass
           ∙ ap (λ b. b && (nat_eq (length o.regions) 0 && effects)) successors_pass
           ∙ ap (λ b. b && effects) (ne_eqb (length o.regions) 0 (λ e. ne (ap length (op_shows t op o at).regions ∙ e))))
 
-      pub pure_effects : length (regions_of t op) ≡ 0 → is_harmless (x.side_effects o.head) ≡ is_pure x o
+      pub pure_effects : length (regions_of t op) ≡ 0 → is_harmless (x.side_effects o.head) ≡ is_pure_operation x o
       pure_effects flat =
           sym (ap (λ b. b && (nat_eq (length o.successors) 0 && (nat_eq (length o.regions) 0 && effects))) results_pass
           ∙ ap (λ b. b && (nat_eq (length o.regions) 0 && effects)) successors_pass
@@ -105,7 +105,7 @@ none_first (a ∷ answers) e = grind arith
 pub live_shown : (t : Tree) (op : ℕ) → IsLive t op → (o : Operation) × (op_at t op ≡ Some o)
 live_shown t op l = let h = some_of (head_of t op) l in (operation_of t op h.0, make_op t op h.0 h.1)
 
-module _ (x : RuleTables) (t : Tree) (op : ℕ) (live : IsLive t op) (told : Bool) (tells : (o : Operation) → op_at t op ≡ Some o → told ≡ is_pure x o) where
+module _ (x : RuleTables) (t : Tree) (op : ℕ) (live : IsLive t op) (told : Bool) (tells : (o : Operation) → op_at t op ≡ Some o → told ≡ is_pure_operation x o) where
   pub impure_none : told ≡ false → pure_only x (op_at t op) ≡ None
   impure_none failed =
       let o = live_shown t op live in
@@ -149,5 +149,5 @@ module _ (x : RuleTables) (t : Tree) (op : ℕ) (o : Operation) (at : op_at t op
   pub through_is : (v : ℕ) (h copy : Head) (leaves : List Leaf) → head_of t op ≡ Some h → copy ≡ h → leaves ≡ map (leaf_of x t) (operands_of t op) → Made v copy leaves ≡ Made v o.head (map (leaf_of x t) o.operands)
   through_is v h copy leaves e is all = ap₂ (Made v) (same_head h copy e is) (all ∙ ap (map (leaf_of x t)) (op_shows t op o at).operands)
 
-  pub view_is : (h copy : Head) (operands : List Operand) → head_of t op ≡ Some h → copy ≡ h → operands ≡ map (operand_of x t) (operands_of t op) → (let z : View = record { head = copy; operands = operands } in z) ≡ view_of x t o
+  pub view_is : (h copy : Head) (operands : List Operand) → head_of t op ≡ Some h → copy ≡ h → operands ≡ map (operand_of x t) (operands_of t op) → (let z : View = record { head = copy; operands = operands } in z) ≡ operation_view x t o
   view_is h copy operands e is all = ap₂ (λ a b. let z : View = record { head = a; operands = b } in z) (same_head h copy e is) (all ∙ ap (map (operand_of x t)) (op_shows t op o at).operands)

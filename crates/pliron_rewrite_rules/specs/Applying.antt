@@ -13,12 +13,12 @@ use Rattle.pliron_rewrite_rules.specs.declared.term.Atom.TheVariants.{Named}
 use Rattle.pliron_rewrite_rules.specs.declared.term.Term.{Term}
 use Rattle.pliron_rewrite_rules.specs.declared.term.Term.TheVariants.{Atomic}
 use Rattle.pliron_rewrite_rules.specs.Rewriting.{term_value, after_rewriting}
-use Rattle.pliron_rewrite_rules.specs.Seen.{pure_only, view_of}
+use Rattle.pliron_rewrite_rules.specs.Seen.{pure_only, operation_view}
 
 -- the term that the rules answer for a pure operation
 abbrev pub rule_answer : RuleTables → Tree → (View → Option Term) → Option Operation → Option Term
 rule_answer x t rules None = None
-rule_answer x t rules (Some o) = rules (view_of x t o)
+rule_answer x t rules (Some o) = rules (operation_view x t o)
 
 abbrev pub answered_term : RuleTables → Tree → (View → Option Term) → ℕ → Option Term
 answered_term x t rules op = rule_answer x t rules (pure_only x (op_at t op))
@@ -32,9 +32,9 @@ pub record Applies (x : RuleTables) (rules : View → Option Term) (t : Tree) (o
   pub apart : term ≢ Atomic (Named old)
 
 -- an answer for the operation is a term that applies, where there is one
-abbrev pub IsAnswer : RuleTables → (View → Option Term) → Tree → ℕ → Option Term → Type 0
-IsAnswer x rules t op None = (term : Term) → Applies x rules t op term → ⊥
-IsAnswer x rules t op (Some term) = Applies x rules t op term
+abbrev pub IsRuleAnswer : RuleTables → (View → Option Term) → Tree → ℕ → Option Term → Type 0
+IsRuleAnswer x rules t op None = (term : Term) → Applies x rules t op term → ⊥
+IsRuleAnswer x rules t op (Some term) = Applies x rules t op term
 
 -- a term that applies is before the operation, and its value has the uses of the result; or none applies
 abbrev pub IsRewritten : RuleTables → (View → Option Term) → (t t' : Tree) → ℕ → Option ℕ → Type 0

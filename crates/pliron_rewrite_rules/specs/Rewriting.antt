@@ -15,7 +15,7 @@ use Rattle.pliron_rewrite_rules.specs.declared.term.Atom.TheVariants.{Named, Con
 use Rattle.pliron_rewrite_rules.specs.declared.term.Term.{Term}
 use Rattle.pliron_rewrite_rules.specs.declared.term.Term.TheVariants.{Atomic, Make}
 use Rattle.pliron_rewrite_rules.specs.RuleLaws.{IsRule}
-use Rattle.pliron_rewrite_rules.specs.Seen.{pure_only, view_of}
+use Rattle.pliron_rewrite_rules.specs.Seen.{pure_only, operation_view}
 
 -- where the atom is a constant, a new operation for it is just before op
 abbrev pub with_atom : RuleTables → Tree → ℕ → Atom → Tree
@@ -55,7 +55,7 @@ pub record IsRuleFor (x : RuleTables) (t : Tree) (op old : ℕ) (term : Term) : 
   pub operation : Operation
   pub pure : pure_only x (op_at t op) ≡ Some operation
   pub result : results_of t op ≡ old ∷ []
-  pub rule : IsRule x.meaning x.side_effects x.accepts (view_of x t operation) term
+  pub rule : IsRule x.meaning x.side_effects x.accepts (operation_view x t operation) term
 
 -- such a rewrite keeps the runs of all roots, and is what a pass may do
 pub record TermLaws (x : RuleTables) : Type 0 where

@@ -11,25 +11,15 @@ use Rattle.pliron_rewrite_rules.specs.declared.view.Leaf.TheVariants.{Unknown, K
 use Rattle.pliron_rewrite_rules.specs.declared.view.Operand.{Operand}
 use Rattle.pliron_rewrite_rules.specs.declared.view.Operand.TheVariants.{Plain, Made}
 use Rattle.pliron_rewrite_rules.specs.declared.view.View.{View}
-
--- whether the answer is that there are no side effects
-abbrev pub is_harmless : Option Bool → Bool
-is_harmless None = false
-is_harmless (Some true) = false
-is_harmless (Some false) = true
-
--- an answer for one result, where there is one for it
-abbrev pub answer_in : Option (Option AttrObj) → Option AttrObj
-answer_in None = None
-answer_in (Some a) = a
+use Rattle.pliron_laws.specs.Answers.{is_harmless, answer_in}
 
 -- whether the operation is pure: it has one result, neither successors nor regions, and no side effects
-abbrev pub is_pure : RuleTables → Operation → Bool
-is_pure x o = nat_eq (length o.results) 1 && (nat_eq (length o.successors) 0 && (nat_eq (length o.regions) 0 && is_harmless (x.side_effects o.head)))
+abbrev pub is_pure_operation : RuleTables → Operation → Bool
+is_pure_operation x o = nat_eq (length o.results) 1 && (nat_eq (length o.successors) 0 && (nat_eq (length o.regions) 0 && is_harmless (x.side_effects o.head)))
 
 abbrev pub pure_only : RuleTables → Option Operation → Option Operation
 pure_only x None = None
-pure_only x (Some o) = if is_pure x o then Some o else None
+pure_only x (Some o) = if is_pure_operation x o then Some o else None
 
 -- the pure operation that makes a value with this definition
 abbrev pub pure_maker : RuleTables → Tree → Option Def → Option Operation
@@ -66,5 +56,5 @@ abbrev pub operand_of : RuleTables → Tree → ℕ → Operand
 operand_of x t v = operand_made x t v (pure_maker x t (definition_of t v))
 
 -- the view of an operation
-abbrev pub view_of : RuleTables → Tree → Operation → View
-view_of x t o = record { head = o.head; operands = map (operand_of x t) o.operands }
+abbrev pub operation_view : RuleTables → Tree → Operation → View
+operation_view x t o = record { head = o.head; operands = map (operand_of x t) o.operands }

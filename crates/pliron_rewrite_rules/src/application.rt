@@ -6,7 +6,7 @@ ghost use Rattle.pliron_laws.specs.MaterialisedConstants.{IsRestored};
 ghost use Rattle.pliron_rewrite_rules.specs.declared.term.Term.TheVariants.{Atomic as AtomicTerm};
 ghost use Rattle.pliron_rewrite_rules.specs.declared.term.Atom.TheVariants.{Named as NamedAtom};
 ghost use Rattle.pliron_rewrite_rules.specs.Rewriting.{after_rewriting, term_value, IsRuleFor};
-ghost use Rattle.pliron_rewrite_rules.specs.Applying.{answered_term, Applies, IsAnswer, IsLocalChange, IsRewritten};
+ghost use Rattle.pliron_rewrite_rules.specs.Applying.{answered_term, Applies, IsRuleAnswer, IsLocalChange, IsRewritten};
 
 use crate::seeing::{is_pure, view_of};
 use crate::terms::put_term;
@@ -53,7 +53,8 @@ pub fn ask_rules<D: Dialect, L: Rules<D>>(
     ctx: &Context,
 ) -> Result<Option<Term>, OptError>
     requires { IsLive ctx.now.tree op }
-    ensures ok { IfOk result (λ answer. IsAnswer ⟦<D as HasRuleTables>⟧.rule_tables L.rules ctx.now.tree op answer) }
+    ensures ok { IfOk result (λ answer. IsRuleAnswer ⟦<D as HasRuleTables>⟧.rule_tables L.rules ctx.now.tree
+        op answer) }
     ensures memory { IsOkUnless result OptError.Memory }
 {
     ctx.well_formed();

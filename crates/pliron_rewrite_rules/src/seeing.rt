@@ -3,7 +3,8 @@ ghost use Rattle.std.specs.Prelude.{◌≡◌, Some, IfOk, IsOkUnless, map};
 ghost use Rattle.pliron_core.specs.Tree.{IsLive, IsDefined, operands_of};
 ghost use Rattle.pliron_laws.specs.Tree.{Operation as OperationAt, op_at};
 ghost use Rattle.pliron_rewrite_rules.specs.declared.view.Operand.TheVariants.{Made};
-ghost use Rattle.pliron_rewrite_rules.specs.Seen.{is_harmless as is_harmless_answer, is_pure as is_pure_by, pure_only, constant_of as constant_of_by, leaf_made as leaf_made_by, leaf_of as leaf_of_by, operand_made as operand_made_by, operand_of as operand_of_by, view_of as view_of_by};
+ghost use Rattle.pliron_rewrite_rules.specs.Seen.{is_pure_operation as is_pure_by, pure_only, constant_of as constant_of_by, leaf_made as leaf_made_by, leaf_of as leaf_of_by, operand_made as operand_made_by, operand_of as operand_of_by, operation_view as view_of_by};
+ghost use Rattle.pliron_laws.specs.Answers.{is_harmless as is_harmless_answer};
 
 use crate::tables::HasRuleTables;
 use crate::view::{Leaf, Leaves, Operand, Operands, View};

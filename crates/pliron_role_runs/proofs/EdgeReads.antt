@@ -2,7 +2,7 @@
 use Rattle.std.proofs.Common.{◌≡◌, inl, inr, ℕ, zero, suc, ◌+◌, ◌-◌, ◌<◌, ◌≤◌, min, List, [], ◌∷◌, Some, length, slice_get, take, drop, map, refl, ap, ap₂, sym, ◌∙◌, arith, add-one}
 use Rattle.std.proofs.lemmas.List.{drop-map, take-map, take_all}
 use Rattle.pliron_core.specs.declared.attrs.AttrObj.{AttrObj}
-use Rattle.pliron_dialect.specs.Counted.{start_of, count_of, counts_in, two_counts, start_next, count_at, count_past}
+use Rattle.pliron_dialect.specs.Counted.{start_of, count_of, edge_counts_in, two_counts, start_next, count_at, count_past}
 use Rattle.pliron_dialect.specs.Counts.{counted_by}
 use Rattle.pliron_evaluator.specs.declared.evaluator.values.Datum.{Datum as DatumValue}
 use Rattle.pliron_evaluator.specs.Evaluator.{datum_of_value}
@@ -10,23 +10,23 @@ use Rattle.pliron_evaluator.specs.Evaluator.{datum_of_value}
 min_zero : (m : ℕ) → 0 ≡ min 0 m
 min_zero m = omega arith
 
-pub count_there : (c i r most : ℕ) (attrs : List AttrObj) (a : AttrObj) → i < c → slice_get attrs i ≡ Some a → r ≡ min (counted_by a) most → r ≡ min (count_of (counts_in c attrs) i) most
+pub count_there : (c i r most : ℕ) (attrs : List AttrObj) (a : AttrObj) → i < c → slice_get attrs i ≡ Some a → r ≡ min (counted_by a) most → r ≡ min (count_of (edge_counts_in c attrs) i) most
 count_there c i r most attrs a lt at e = e ∙ ap (λ x. min x most) (sym (count_at c i attrs a lt at))
 
-pub none_behind : (c i most : ℕ) (attrs : List AttrObj) → c ≤ i → 0 ≡ min (count_of (counts_in c attrs) i) most
+pub none_behind : (c i most : ℕ) (attrs : List AttrObj) → c ≤ i → 0 ≡ min (count_of (edge_counts_in c attrs) i) most
 none_behind c i most attrs le = min_zero most ∙ ap (λ x. min x most) (sym (count_past c i attrs (inl le)))
 
-pub none_past : (c i most : ℕ) (attrs : List AttrObj) → length attrs ≤ i → 0 ≡ min (count_of (counts_in c attrs) i) most
+pub none_past : (c i most : ℕ) (attrs : List AttrObj) → length attrs ≤ i → 0 ≡ min (count_of (edge_counts_in c attrs) i) most
 none_past c i most attrs le = min_zero most ∙ ap (λ x. min x most) (sym (count_past c i attrs (inr le)))
 
 min_sum : (a b m : ℕ) → min (min a m + min b m) m ≡ min (a + b) m
 min_sum a b m = omega arith
 
 -- one more edge
-pub start_more : (c j most start count sum : ℕ) (attrs : List AttrObj) → start ≡ min (start_of (counts_in c attrs) j) most → count ≡ min (count_of (counts_in c attrs) j) most → sum ≡ min (start + count) most → sum ≡ min (start_of (counts_in c attrs) (j + 1)) most
+pub start_more : (c j most start count sum : ℕ) (attrs : List AttrObj) → start ≡ min (start_of (edge_counts_in c attrs) j) most → count ≡ min (count_of (edge_counts_in c attrs) j) most → sum ≡ min (start + count) most → sum ≡ min (start_of (edge_counts_in c attrs) (j + 1)) most
 start_more c j most start count sum attrs e f g =
-    g ∙ ap₂ (λ x y. min (x + y) most) e f ∙ min_sum (start_of (counts_in c attrs) j) (count_of (counts_in c attrs) j) most
-    ∙ ap (λ x. min x most) (sym (start_next (counts_in c attrs) j) ∙ ap (start_of (counts_in c attrs)) (sym (add-one j)))
+    g ∙ ap₂ (λ x y. min (x + y) most) e f ∙ min_sum (start_of (edge_counts_in c attrs) j) (count_of (edge_counts_in c attrs) j) most
+    ∙ ap (λ x. min x most) (sym (start_next (edge_counts_in c attrs) j) ∙ ap (start_of (edge_counts_in c attrs)) (sym (add-one j)))
 
 -- places beyond the end are none
 capped_drop : {A : Type 0} (s : ℕ) (xs : List A) → drop (min s (length xs)) xs ≡ drop s xs

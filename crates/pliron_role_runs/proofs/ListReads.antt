@@ -7,7 +7,8 @@ use Rattle.pliron_laws.specs.Datum.{Datum, Empty}
 use Rattle.pliron_dialect.specs.Roles.{nth_datum, fit_data as fit_with_nothing}
 use Rattle.pliron_evaluator.specs.declared.evaluator.values.Datum.{Datum as DatumValue}
 use Rattle.pliron_evaluator.specs.Evaluator.{datum_of_value}
-use Rattle.pliron_role_runs.specs.Visits.{fit_data, first_or_zero}
+use Rattle.pliron_role_runs.specs.Visits.{first_or_zero}
+use Rattle.pliron_dialect_bench.specs.BenchMoves.{fit_with_zeros}
 
 -- one more of what is read of a list
 one_more : {A B : Type 0} (f : A → B) (xs : List A) (i : ℕ) (x : A) (y : B) (ys after : List B) → i < length xs → get_or xs i x ≡ x → y ≡ f x → after ≡ ys ++ y ∷ [] → ys ≡ map f (take i xs) → after ≡ map f (take (i + 1) xs)
@@ -36,7 +37,7 @@ pub nothing_begins : (n : ℕ) (ds : List Datum) → fit_with_nothing (suc n) ds
 nothing_begins n [] = refl
 nothing_begins n (d ∷ ds) = refl
 
-pub zero_begins : (n : ℕ) (ds : List Datum) → fit_data (suc n) ds ≡ first_or_zero ds ∷ fit_data n (drop 1 ds)
+pub zero_begins : (n : ℕ) (ds : List Datum) → fit_with_zeros (suc n) ds ≡ first_or_zero ds ∷ fit_with_zeros n (drop 1 ds)
 zero_begins n [] = refl
 zero_begins n (d ∷ ds) = refl
 

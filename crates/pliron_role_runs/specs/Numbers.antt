@@ -5,6 +5,7 @@ use Rattle.pliron_core.specs.declared.attrs.AttrObj.{AttrObj}
 use Rattle.pliron_core.specs.declared.attrs.AttrObj.TheVariants.{Int, Text as Words}
 use Rattle.pliron_laws.specs.Datum.{Datum, Empty, Number, Text, Join}
 use Rattle.pliron_dialect.specs.Roles.{is_zero}
+use Rattle.pliron_dialect_bench.specs.BenchNumbers.{fits}
 
 -- a datum as a number: a number is brought into 64 signed bits, all else counts as 0
 abbrev pub whole_number_of : Datum → ℤ
@@ -12,11 +13,6 @@ whole_number_of (Number n) = int_wrap w64 n
 whole_number_of Empty = pos 0
 whole_number_of (Text s) = pos 0
 whole_number_of (Join a b) = pos 0
-
--- whether the number lies within 64 signed bits
-abbrev pub fits : ℤ → Bool
-fits (pos n) = nat_lt n (2 ^ 63)
-fits (negsuc n) = nat_lt n (2 ^ 63)
 
 -- whether the attribute is such a number
 abbrev pub is_whole_number : AttrObj → Bool

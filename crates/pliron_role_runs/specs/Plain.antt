@@ -15,6 +15,7 @@ use Rattle.pliron_dialect.specs.Identities.{no_identity}
 use Rattle.pliron_dialect.specs.Counted.{count_of, two_counts, first_edge_count, fewer_by}
 use Rattle.pliron_dialect.specs.Roles.{Role, Folds, Jumps, Chooses, Allows, Interpretation, form_of, Stays, AllStay, ResultFits, RoleFits}
 use Rattle.pliron_role_runs.specs.Numbers.{is_whole_number, are_known, where_known, edge_by_condition}
+use Rattle.pliron_dialect_bench.specs.Bench.{has_none, has_number, has_count}
 
 -- ---- roles
 
@@ -32,24 +33,6 @@ abbrev pub never_asked : Interpretation
 never_asked h ds = []
 
 -- ---- which operations there are
-
--- no attribute; one, a number within 64 signed bits; one, which counts some of the operands behind the first one
-abbrev pub has_none : List AttrObj → Bool
-has_none [] = true
-has_none (a ∷ attrs) = false
-
-abbrev pub has_number : List AttrObj → Bool
-has_number (a ∷ []) = is_whole_number a
-has_number _ = false
-
-abbrev pub is_count : AttrObj → ℕ → Bool
-is_count (Int (pos n)) operands = nat_lt n operands
-is_count (Int (negsuc n)) operands = false
-is_count (Words s) operands = false
-
-abbrev pub has_count : List AttrObj → ℕ → Bool
-has_count (a ∷ []) operands = is_count a operands
-has_count _ operands = false
 
 abbrev pub plain_attributes : Form → List AttrObj → ℕ → Bool
 plain_attributes ConstantForm attrs operands = has_number attrs

@@ -6,42 +6,26 @@ use Rattle.pliron_laws.specs.Datum.{Datum, Empty, Number, Text, Join, Shape, Mov
 use Rattle.pliron_laws.specs.Laws.{CountsFit}
 use Rattle.pliron_laws.specs.Acting.{Comes}
 use Rattle.pliron_laws.specs.Acting.Comes.{Begins, Answered, AnsweredByWorld}
-use Rattle.pliron_dialect.specs.Roles.{Role, Allows, NamesFit}
+use Rattle.pliron_dialect.specs.Roles.{Role, Allows, NamesFit, chain_of}
 use Rattle.pliron_role_runs.specs.Numbers.{whole_number_of, wrapped_sum, condition_of}
-
--- the memo after a first transition
-abbrev pub memo_when_done : Datum
-memo_when_done = Number (pos 1)
-
--- one transition first, the other one when it is done
-abbrev pub once : Datum → Move → Move → Move
-once Empty move after = move
-once (Number n) move after = after
-once (Text s) move after = after
-once (Join a b) move after = after
-
--- so many data: cut, or filled with 0
-abbrev pub fit_data : ℕ → List Datum → List Datum
-fit_data zero ds = []
-fit_data (suc n) [] = Number (pos 0) ∷ fit_data n []
-fit_data (suc n) (d ∷ ds) = d ∷ fit_data n ds
+pub use Rattle.pliron_dialect_bench.specs.BenchMoves.{fit_with_zeros, memo_when_done, once}
 
 -- the region with this index is visited with these values, as far as its entry has arguments, and this memo is kept
 abbrev pub visit_keeping : ℕ → Shape → List Datum → Datum → Move
-visit_keeping i s values memo = Visit i (fit_data (slice_index_or s.entry_arguments i 0) values) memo
+visit_keeping i s values memo = Visit i (fit_with_zeros (slice_index_or s.entry_arguments i 0) values) memo
 
 -- so it is, and the memo says no more than that it was
 abbrev pub visit_of : ℕ → Shape → List Datum → Move
 visit_of i s values = visit_keeping i s values memo_when_done
 
-pub length-fitted : (n : ℕ) (ds : List Datum) → length (fit_data n ds) ≡ n
-length-fitted zero ds = refl
-length-fitted (suc n) [] = ap suc (length-fitted n [])
-length-fitted (suc n) (d ∷ ds) = ap suc (length-fitted n ds)
+pub length-fit_with_zeros : (n : ℕ) (ds : List Datum) → length (fit_with_zeros n ds) ≡ n
+length-fit_with_zeros zero ds = refl
+length-fit_with_zeros (suc n) [] = ap suc (length-fit_with_zeros n [])
+length-fit_with_zeros (suc n) (d ∷ ds) = ap suc (length-fit_with_zeros n ds)
 
-entry_fits : (counts : List ℕ) (i : ℕ) (values : List Datum) (n : ℕ) → slice_get counts i ≡ Some n → length (fit_data (slice_index_or counts i 0) values) ≡ n
+entry_fits : (counts : List ℕ) (i : ℕ) (values : List Datum) (n : ℕ) → slice_get counts i ≡ Some n → length (fit_with_zeros (slice_index_or counts i 0) values) ≡ n
 entry_fits [] i values n e = grind arith
-entry_fits (c ∷ counts) zero values n e = length-fitted c values ∙ same_Some c n e
+entry_fits (c ∷ counts) zero values n e = length-fit_with_zeros c values ∙ same_Some c n e
 entry_fits (c ∷ counts) (suc i) values n e = entry_fits counts i values n e
 
 pub visit_keeping_fits : (b : Bool) (i : ℕ) (s : Shape) (values : List Datum) (memo : Datum) → CountsFit b s (visit_keeping i s values memo)
@@ -56,11 +40,6 @@ once_fits b s (Number n) move after x y = y
 once_fits b s (Text t) move after x y = y
 once_fits b s (Join d e) move after x y = y
 
--- data as one datum, and as data again
-abbrev pub chain_of : List Datum → Datum
-chain_of [] = Empty
-chain_of (d ∷ ds) = Join d (chain_of ds)
-
 abbrev pub data_of_chain : Datum → List Datum
 data_of_chain (Join d e) = d ∷ data_of_chain e
 data_of_chain Empty = []
@@ -71,10 +50,10 @@ data_of_chain (Text s) = []
 
 -- the world is asked by an effect that has this name and the operands; its answer is the first result, the others are 0
 abbrev pub ask_world : ℤ → Shape → Datum → List Datum → Move
-ask_world name s memo input = once memo (Emit (Join (Number name) (chain_of input)) memo_when_done) (Give (fit_data s.results input))
+ask_world name s memo input = once memo (Emit (Join (Number name) (chain_of input)) memo_when_done) (Give (fit_with_zeros s.results input))
 
 pub asks_fit : (name : ℤ) (s : Shape) (memo : Datum) (input : List Datum) → CountsFit false s (ask_world name s memo input)
-asks_fit name s memo input = once_fits false s memo (Emit (Join (Number name) (chain_of input)) memo_when_done) (Give (fit_data s.results input)) tt (length-fitted s.results input)
+asks_fit name s memo input = once_fits false s memo (Emit (Join (Number name) (chain_of input)) memo_when_done) (Give (fit_with_zeros s.results input)) tt (length-fit_with_zeros s.results input)
 
 -- ---- operations that pass the same operands at each visit
 
@@ -123,7 +102,7 @@ Turns = (operands : List Datum) (stage : Datum) (answer : List Datum) → Turn
 
 abbrev pub turn_move : ℕ → Shape → List Datum → Turn → Move
 turn_move place s operands (Again i others stage) = visit_keeping i s (drop place operands ++ others) (Join stage (chain_of operands))
-turn_move place s operands (Over results) = Give (fit_data s.results results)
+turn_move place s operands (Over results) = Give (fit_with_zeros s.results results)
 
 -- each visit passes the operands from this place on, and then what the turn says, cut or filled with 0
 abbrev pub turning : ℕ → Turns → Shape → Datum → List Datum → Move
@@ -155,7 +134,7 @@ data-of-chain (d ∷ ds) = ap (λ z. d ∷ z) (data-of-chain ds)
 
 turn_fits : (place : ℕ) (s : Shape) (operands : List Datum) (turn : Turn) → CountsFit false s (turn_move place s operands turn)
 turn_fits place s operands (Again i others stage) = visit_keeping_fits false i s (drop place operands ++ others) (Join stage (chain_of operands))
-turn_fits place s operands (Over results) = length-fitted s.results results
+turn_fits place s operands (Over results) = length-fit_with_zeros s.results results
 
 unnamed : {k : ℕ} → None ≡ Some k → ⊥
 unnamed e = cc
@@ -194,7 +173,7 @@ turn_quiet : (place : ℕ) (s : Shape) (operands : List Datum) (turn : Turn) (ef
 turn_quiet place s operands (Again j others stage) effect next e = no_effect e
 turn_quiet place s operands (Over results) effect next e = nor_effect e
 
-passed_at : (place n : ℕ) (xs others : List Datum) (j k : ℕ) (d : Datum) → place + j ≡ k → k < length xs → slice_get (fit_data n (drop place xs ++ others)) j ≡ Some d → slice_get xs k ≡ Some d
+passed_at : (place n : ℕ) (xs others : List Datum) (j k : ℕ) (d : Datum) → place + j ≡ k → k < length xs → slice_get (fit_with_zeros n (drop place xs ++ others)) j ≡ Some d → slice_get xs k ≡ Some d
 passed_at place n [] others j k d same lt e = absurd (omega (arith, lt))
 passed_at zero zero (x ∷ xs) others j k d same lt e = grind arith
 passed_at zero (suc n) (x ∷ xs) others zero zero d same lt e = e

@@ -1,7 +1,7 @@
 //! The values that an edge of a branch passes.
 ghost use Rattle.std.specs.Prelude.{◌≡◌, ◌+◌, ◌-◌, ◌≤◌, min, take, drop, length, map, IfOk};
 ghost use Rattle.pliron_evaluator.specs.Evaluator.{datum_of_value};
-ghost use Rattle.pliron_dialect.specs.Counted.{counts_in, start_of, count_of, counts_by, two_counts, values_of_edge, first_edge_count, counted_attributes};
+ghost use Rattle.pliron_dialect.specs.Counted.{edge_counts_in, start_of, count_of, counts_by, two_counts, values_of_edge, first_edge_count, counted_attributes};
 
 use crate::counts::Counts;
 use crate::own_moves::behind_first;
@@ -22,7 +22,7 @@ fn sum_up_to(a: usize, b: usize, most: usize) -> usize
 
 // How many operands the edge with this index forwards, of so many edges, at most so many.
 fn count_at(attrs: &Attrs, edges: usize, i: usize, most: usize) -> usize
-    ensures { result ≡ min (count_of (counts_in edges attrs.now) i) most }
+    ensures { result ≡ min (count_of (edge_counts_in edges attrs.now) i) most }
 {
     if i >= edges {
         return 0;
@@ -35,7 +35,7 @@ fn count_at(attrs: &Attrs, edges: usize, i: usize, most: usize) -> usize
 
 // How many operands the edges before this one forward, at most so many.
 fn start_at(attrs: &Attrs, edges: usize, i: usize, most: usize) -> usize
-    ensures { result ≡ min (start_of (counts_in edges attrs.now) i) most }
+    ensures { result ≡ min (start_of (edge_counts_in edges attrs.now) i) most }
 {
     let mut start = 0;
     for j in 0..i {
@@ -93,8 +93,8 @@ fn values_of_two<'a>(
 
 // Of these values those that an edge passes, where an attribute counts those of each edge.
 fn values_of_each<'a>(attrs: &Attrs, edges: usize, edge: usize, values: &'a [Datum]) -> &'a [Datum]
-    ensures { result.now ≡ take (count_of (counts_in edges attrs.now) edge)
-        (drop (start_of (counts_in edges attrs.now) edge) values.now) }
+    ensures { result.now ≡ take (count_of (edge_counts_in edges attrs.now) edge)
+        (drop (start_of (edge_counts_in edges attrs.now) edge) values.now) }
 {
     let start = start_at(attrs, edges, edge, values.len());
     let count = count_at(attrs, edges, edge, values.len());

@@ -2,9 +2,10 @@
 ghost use Rattle.std.specs.Prelude.{◌≡◌, None, slice_index_or};
 ghost use Rattle.std.specs.Int.{w64, int_wrap};
 ghost use Rattle.pliron_evaluator.specs.Evaluator.{datum_of_value};
-ghost use Rattle.pliron_role_runs.specs.Numbers.{whole_number_of, fits as is_within, is_whole_number as is_number_within, known_at as known_in};
+ghost use Rattle.pliron_role_runs.specs.Numbers.{whole_number_of, is_whole_number as is_number_within, known_at as known_in};
 ghost use Rattle.pliron_role_runs.specs.Numbers.{are_known as are_known_in, where_known as where_known_in, wrapped_sum as sum_of};
 ghost use Rattle.pliron_role_runs.specs.Numbers.{wrapped_product as product_of, less as less_of, edge_by_condition as edge_in};
+ghost use Rattle.pliron_dialect_bench.specs.BenchNumbers.{fits as is_within};
 
 use pliron_core::AttrObj;
 use pliron_evaluator::evaluator::Datum;

@@ -2,12 +2,13 @@
 ghost use Rattle.std.specs.Prelude.{◌≡◌, ◌++◌, pos, int_lt, map, drop, IfOk};
 ghost use Rattle.pliron_laws.specs.Datum.{Give, Leave};
 ghost use Rattle.pliron_evaluator.specs.Evaluator.{datum_of_value, move_of};
-ghost use Rattle.pliron_dialect.specs.Roles.{is_zero};
+ghost use Rattle.pliron_dialect.specs.Roles.{is_zero, chain_of as chain_in};
 ghost use Rattle.pliron_role_runs.specs.Numbers.{condition_of, edge_by_condition};
-ghost use Rattle.pliron_role_runs.specs.Visits.{once, fit_data, first_or_zero, visit_of, visit_keeping as visit_with, ask_world as ask_by};
-ghost use Rattle.pliron_role_runs.specs.Visits.{chain_of as chain_in, data_of_chain as data_in, kept_operands, stage_of, last_answer, turn_move};
+ghost use Rattle.pliron_role_runs.specs.Visits.{first_or_zero, visit_of, visit_keeping as visit_with, ask_world as ask_by};
+ghost use Rattle.pliron_role_runs.specs.Visits.{data_of_chain as data_in, kept_operands, stage_of, last_answer, turn_move};
 ghost use Rattle.pliron_role_runs.specs.Visits.{turns_left as left_of, again_if, counted_loop as counted_by};
 ghost use Rattle.pliron_role_runs.specs.OwnMoves.{shape_of_counts, turn_of};
+ghost use Rattle.pliron_dialect_bench.specs.BenchMoves.{once, fit_with_zeros};
 
 use crate::counts::Counts;
 use crate::data::all_copies;
@@ -60,7 +61,8 @@ pub fn datum_or_zero(alloc: Global, input: &[Datum], i: usize) -> Result<Datum, 
 
 // So many of the data: cut, or filled with 0.
 fn fitted_to(alloc: Global, count: usize, input: &[Datum]) -> Result<Vec<Datum>, AllocError>
-    ensures { IfOk result (λ values. map datum_of_value values.items ≡ fit_data count (map datum_of_value input.now)) }
+    ensures { IfOk result (λ values. map datum_of_value values.items ≡ fit_with_zeros count
+        (map datum_of_value input.now)) }
 {
     let mut data = Vec::new(alloc);
     for i in 0..count {
@@ -71,7 +73,8 @@ fn fitted_to(alloc: Global, count: usize, input: &[Datum]) -> Result<Vec<Datum>,
 
 /// Gives these values, as far as there are results. Errors: allocation failure. Cost: that of copies.
 pub fn give(alloc: Global, counts: &Counts, values: &[Datum]) -> Result<Move, AllocError>
-    ensures { IfOk result (λ next. move_of next ≡ Give (fit_data counts.now.results (map datum_of_value values.now))) }
+    ensures { IfOk result (λ next. move_of next ≡ Give (fit_with_zeros counts.now.results
+        (map datum_of_value values.now))) }
 {
     Ok(Move::Give(fitted_to(alloc, counts.results, values)?))
 }

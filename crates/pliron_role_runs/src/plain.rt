@@ -1,7 +1,7 @@
 //! Operations whose heads are marked and have no attribute but that of their form.
 ghost use Rattle.std.specs.Prelude.{◌≡◌};
-ghost use Rattle.pliron_role_runs.specs.Plain.{is_plain as is_plain_in, plain_attributes as fits_form, has_none as is_without};
-ghost use Rattle.pliron_role_runs.specs.Plain.{has_number as is_one_number, has_count as is_one_count, is_count as counts_below};
+ghost use Rattle.pliron_role_runs.specs.Plain.{is_plain as is_plain_in, plain_attributes as fits_form};
+ghost use Rattle.pliron_dialect_bench.specs.Bench.{has_none as is_without, has_number as is_one_number, has_count as is_one_count, is_count as counts_below};
 
 use crate::numbers::is_number;
 use pliron_core::{AttrObj, Attrs, Head};

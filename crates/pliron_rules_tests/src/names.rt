@@ -2,7 +2,8 @@
 use pliron_dialect_bench::Bench;
 use pliron_pass_linked::{linked_runs_agree, linked_runs_agree_on_inputs, linked_runs_kept};
 use pliron_rewrite_inlining::{
-    calls_are_inlined, inlined_calls_keep_linked_runs, linked_runs_kept_by_name,
+    calls_are_inlined, inlined_calls_keep_linked_runs, inlined_roots_stay_fit,
+    linked_runs_kept_by_name,
 };
 use pliron_rewrite_rules::{
     equal_values_replace_one_another, leaves_replace_results, operations_are_inserted,
@@ -17,6 +18,7 @@ fn laws_of_linked_runs(_rt: HostRuntime) {
     calls_are_inlined();
     linked_runs_kept_by_name();
     inlined_calls_keep_linked_runs();
+    inlined_roots_stay_fit();
 }
 
 #[test]

@@ -24,11 +24,11 @@ enum TextItem {
 
 /// What is yet to be written, the next one last.
 #[derive(Drop)]
-struct Waiting {
+struct WaitingValue {
     items: Vec<TextItem>,
 }
 
-impl Waiting {
+impl WaitingValue {
     // The operations come next, in order.
     fn push_operations(&mut self, operations: &[Ptr<Operation>]) -> Result<(), AllocError> {
         for op in operations.iter().rev() {
@@ -63,7 +63,7 @@ impl DefinitionOrder {
         alloc: Global,
         ctx: &Context,
         op: Ptr<Operation>,
-        waiting: &mut Waiting,
+        waiting: &mut WaitingValue,
     ) -> Result<(), AllocError> {
         if !op.is_live(ctx) {
             return Ok(());
@@ -89,7 +89,7 @@ impl DefinitionOrder {
         alloc: Global,
         ctx: &Context,
         block: Ptr<BasicBlock>,
-        waiting: &mut Waiting,
+        waiting: &mut WaitingValue,
     ) -> Result<(), AllocError> {
         if !block.is_live(ctx) {
             return Ok(());
@@ -106,7 +106,7 @@ impl DefinitionOrder {
         alloc: Global,
         ctx: &Context,
         item: TextItem,
-        waiting: &mut Waiting,
+        waiting: &mut WaitingValue,
     ) -> Result<(), AllocError> {
         match item {
             TextItem::Operation(op) => self.add_operation::<N>(alloc, ctx, op, waiting),
@@ -126,7 +126,7 @@ impl DefinitionOrder {
             regions: Vec::new(alloc),
         };
         order.functions.push(Vec::new(alloc))?;
-        let mut waiting = Waiting {
+        let mut waiting = WaitingValue {
             items: Vec::new(alloc),
         };
         waiting.items.push(TextItem::Operation(root))?;

@@ -13,12 +13,12 @@ module _ (reads : Reads) (prints : Prints) where
     pub printed : prints tree root answer
 
   -- what is written has the words of the answer, or of a text that is read as it, in the same order
-  pub data IsWritten (answer output : List ℕ) : Type 0 where
-    AsItIs : words_of output ≡ words_of answer → IsWritten answer output
-    ByNames : (text : List ℕ) → ReadsAs answer text → words_of output ≡ words_of text → IsWritten answer output
+  pub data IsAnswerWritten (answer output : List ℕ) : Type 0 where
+    AsItIs : words_of output ≡ words_of answer → IsAnswerWritten answer output
+    ByNames : (text : List ℕ) → ReadsAs answer text → words_of output ≡ words_of text → IsAnswerWritten answer output
 
   -- both texts read as trees whose operations are printed alike
-  pub record ReadAlike (answer text : List ℕ) : Type 0 where
+  pub record IsReadAlike (answer text : List ℕ) : Type 0 where
     pub printed : List ℕ
     pub of_answer : ReadsAs printed answer
     pub of_text : ReadsAs printed text
@@ -26,4 +26,4 @@ module _ (reads : Reads) (prints : Prints) where
   -- what is written has the words of the answer, or of a text that is read alike, in the same order
   pub data IsWrittenAlike (answer output : List ℕ) : Type 0 where
     Unchanged : words_of output ≡ words_of answer → IsWrittenAlike answer output
-    Renamed : (text : List ℕ) → ReadAlike answer text → words_of output ≡ words_of text → IsWrittenAlike answer output
+    Renamed : (text : List ℕ) → IsReadAlike answer text → words_of output ≡ words_of text → IsWrittenAlike answer output

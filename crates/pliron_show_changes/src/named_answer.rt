@@ -2,7 +2,7 @@
 ghost use Rattle.std.specs.Prelude.{◌≡◌, IfOk, IfSome, IsTrue, string_bytes};
 ghost use Rattle.pliron_core.specs.Writes.{no_tree};
 ghost use Rattle.pliron_show_places.specs.Layout.{words_of};
-ghost use Rattle.pliron_show_changes.specs.NamedAnswer.{IsWritten, IsWrittenAlike, ReadAlike, ReadsAs};
+ghost use Rattle.pliron_show_changes.specs.NamedAnswer.{IsAnswerWritten, IsWrittenAlike, IsReadAlike, ReadsAs};
 
 use pliron_core::Context;
 use pliron_driver::Notation;
@@ -61,7 +61,7 @@ pub fn write_named_answer<N: Shown>(
     named: Option<&str>,
     is_pretty: bool,
 ) -> Result<Vec<u8>, OptError>
-    ensures { IfOk result (λ output. IsWritten N.reads N.prints answer.now output.items) }
+    ensures { IfOk result (λ output. IsAnswerWritten N.reads N.prints answer.now output.items) }
 {
     if let Some(text) = named
         && reads_as::<N>(alloc, text, answer)?
@@ -98,7 +98,7 @@ fn printed_again<N: Notation>(alloc: Global, text: &str) -> Result<Option<Vec<u8
 // Whether both texts are read as operations that are printed alike.
 #[tactic(auto, using(crate::proofs::AnswerLemmas::read_alike))]
 fn reads_alike<N: Notation>(alloc: Global, answer: &str, text: &str) -> Result<bool, OptError>
-    ensures { IfOk result (λ is. IsTrue is → ReadAlike N.reads N.prints answer.now text.now) }
+    ensures { IfOk result (λ is. IsTrue is → IsReadAlike N.reads N.prints answer.now text.now) }
 {
     let Some(first) = printed_again::<N>(alloc, answer)? else {
         return Ok(false);

@@ -11,7 +11,7 @@ use Rattle.pliron_pass_fit.specs.Violation.{IsViolation}
 use Rattle.pliron_pass_fit.specs.declared.violation.Violation.{Violation}
 use Rattle.pliron_show_commands.specs.declared.checking.CheckOutcome.TheVariants.{Unfit}
 use Rattle.pliron_show_commands.specs.CheckOutcome.{IsChecked, IsTextOfParts, IsWholeText}
-use Rattle.pliron_show_commands.specs.Parts.{IsContainer, IsPart, AreFitParts, IsFitByParts, IsFitByParts.AsAWhole, IsFitByParts.InParts, IsFirstPart, IsAtFault, IsAtFault.Itself, IsAtFault.Inside}
+use Rattle.pliron_show_commands.specs.Parts.{IsContainer, IsReportedPart, AreFitParts, IsFitByParts, IsFitByParts.AsAWhole, IsFitByParts.InParts, IsFirstPart, IsAtFault, IsAtFault.Itself, IsAtFault.Inside}
 
 -- the regions of what is fit have dominance, so it is no container
 pub no_container : (m : Meaning) (t : Tree) (root : ℕ) → IsFit m t root → IsContainer t root → ⊥
@@ -30,10 +30,10 @@ module _ (m : Meaning) (t : Tree) (root : ℕ) where
   -- of the operations inside these are left, and each part among the others, which come before them, is fit
   pub record IsSearched (left : List ℕ) : Type 0 where
     pub inside : (k : ℕ) → In k left → IsInside t root k
-    pub others : (k : ℕ) → IsInside t root k → IsPart t k → In k left ⊎ IsFit m t k
+    pub others : (k : ℕ) → IsInside t root k → IsReportedPart t k → In k left ⊎ IsFit m t k
     pub gone : List ℕ
     pub parted : contents t root ≡ gone ++ left
-    pub fit : (k : ℕ) → In k gone → IsPart t k → IsFit m t k
+    pub fit : (k : ℕ) → In k gone → IsReportedPart t k → IsFit m t k
 
   pub search_begins : HasExactContents t root → IsSearched (contents t root)
   search_begins exactly = record { inside = λ k i. (exactly.exact k).0 i; others = λ k u p. inl ((exactly.exact k).1 u); gone = []; parted = refl; fit = λ k i p. absurd i }
@@ -42,22 +42,22 @@ module _ (m : Meaning) (t : Tree) (root : ℕ) where
   pub search_live : IsTree t → (k : ℕ) (left : List ℕ) → IsSearched (k ∷ left) → IsLive t k
   search_live tree k left so = inside_live t tree root k (so.inside k (inl refl))
 
-  pub search_continues : (k : ℕ) (left : List ℕ) → IsSearched (k ∷ left) → (IsPart t k → IsFit m t k) → IsSearched left
+  pub search_continues : (k : ℕ) (left : List ℕ) → IsSearched (k ∷ left) → (IsReportedPart t k → IsFit m t k) → IsSearched left
   search_continues k left so fit = record {
     inside = λ x i. so.inside x (inr i);
-    others = λ x u p. elim (so.others x u p) [ inl at ↦ elim at [ inl e ↦ inr (subst (IsFit m t) (sym e) (fit (subst (IsPart t) e p))) | inr i ↦ inl i ] | inr is ↦ inr is ];
+    others = λ x u p. elim (so.others x u p) [ inl at ↦ elim at [ inl e ↦ inr (subst (IsFit m t) (sym e) (fit (subst (IsReportedPart t) e p))) | inr i ↦ inl i ] | inr is ↦ inr is ];
     gone = so.gone ++ k ∷ [];
     parted = so.parted ∙ sym (append_assoc so.gone (k ∷ []) left);
     fit = fit_of so.gone so.fit;
   } where
-    fit_of : (gone : List ℕ) → ((x : ℕ) → In x gone → IsPart t x → IsFit m t x) → (x : ℕ) → In x (gone ++ k ∷ []) → IsPart t x → IsFit m t x
-    fit_of [] all x (inl e) p = subst (IsFit m t) (sym e) (fit (subst (IsPart t) e p))
+    fit_of : (gone : List ℕ) → ((x : ℕ) → In x gone → IsReportedPart t x → IsFit m t x) → (x : ℕ) → In x (gone ++ k ∷ []) → IsReportedPart t x → IsFit m t x
+    fit_of [] all x (inl e) p = subst (IsFit m t) (sym e) (fit (subst (IsReportedPart t) e p))
     fit_of [] all x (inr i) p = absurd i
     fit_of (y ∷ gone) all x (inl e) p = all x (inl e) p
     fit_of (y ∷ gone) all x (inr i) p = fit_of gone (λ z j q. all z (inr j) q) x i p
 
   -- the next one is the first part, if it is one
-  pub search_found : (k : ℕ) (left : List ℕ) → IsSearched (k ∷ left) → IsPart t k → IsFirstPart m t root k
+  pub search_found : (k : ℕ) (left : List ℕ) → IsSearched (k ∷ left) → IsReportedPart t k → IsFirstPart m t root k
   search_found k left so p = record { before = so.gone; after = left; place = so.parted; is_part = p; fit = so.fit }
 
   pub search_ends : IsSearched [] → AreFitParts m t root

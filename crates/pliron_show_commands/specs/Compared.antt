@@ -11,7 +11,7 @@ use Rattle.pliron_evaluator.specs.declared.evaluator.values.Datum.{Datum as Datu
 use Rattle.pliron_evaluator.specs.declared.evaluator.values.Sight.{Sight}
 use Rattle.pliron_evaluator.specs.declared.evaluator.values.Sight.TheVariants.{Ended, Trapped, Reached}
 use Rattle.pliron_driver.specs.Answered.{Reads}
-use Rattle.pliron_show_commands.specs.Outcomes.{Ends}
+use Rattle.pliron_show_commands.specs.Outcomes.{EndsEither}
 use Rattle.pliron_show.specs.Faults.{TextFaults}
 use Rattle.pliron_show_commands.specs.declared.comparing.Sights.{Sights}
 use Rattle.pliron_show_commands.specs.declared.outcome.Outcome.{Outcome}
@@ -23,18 +23,18 @@ is_cut_off (Trapped effects) = false
 is_cut_off (Reached effects) = true
 
 -- whether both runs ended or trapped, and the same is seen of them
-abbrev pub are_same : (Sight → Sight → Bool) → Sights → Bool
-are_same eq sights = if is_cut_off sights.before then false else if is_cut_off sights.after then false else eq sights.before sights.after
+abbrev pub are_same_sights : (Sight → Sight → Bool) → Sights → Bool
+are_same_sights eq sights = if is_cut_off sights.before then false else if is_cut_off sights.after then false else eq sights.before sights.after
 
 -- the effects that were seen, latest first
-abbrev pub effects_of : Sight → List DatumValue
-effects_of (Ended values effects) = effects.items
-effects_of (Trapped effects) = effects.items
-effects_of (Reached effects) = effects.items
+abbrev pub effects_of_sight : Sight → List DatumValue
+effects_of_sight (Ended values effects) = effects.items
+effects_of_sight (Trapped effects) = effects.items
+effects_of_sight (Reached effects) = effects.items
 
 -- whether the one run was cut off, and the other began with the effects that were seen of it
 abbrev pub is_start : (DatumValue → DatumValue → Bool) → (one other : Sight) → Bool
-is_start eq one other = if is_cut_off one then ends_with eq (effects_of other) (effects_of one) else false
+is_start eq one other = if is_cut_off one then ends_with eq (effects_of_sight other) (effects_of_sight one) else false
 
 -- whether a run was cut off, and nothing that was seen until then differs
 abbrev pub are_same_so_far : (DatumValue → DatumValue → Bool) → Sights → Bool
@@ -60,7 +60,7 @@ EndsWith line text = (first : List ℕ) × (text ≡ first ++ line)
 
 module _ (reads : Reads) (m : Meaning) (inputs world : List Datum) (steps : ℕ) where
   -- an operation was read of the text, the passes ran on it, and the sights are what is seen of a run of it before and of one after
-  pub record AreSeen (ran : ℕ → Tree → Tree → IRStatus → Type 0) (text : List ℕ) (sights : Sights) : Type 0 where
+  pub record AreSightsSeen (ran : ℕ → Tree → Tree → IRStatus → Type 0) (text : List ℕ) (sights : Sights) : Type 0 where
     pub before : Tree
     pub after : Tree
     pub root : ℕ
@@ -74,17 +74,17 @@ module _ (reads : Reads) (m : Meaning) (inputs world : List Datum) (steps : ℕ)
   -- the runs around the passes are the same, and it is written that they are
   pub record AreReportedSame (eq : Sight → Sight → Bool) (ran : ℕ → Tree → Tree → IRStatus → Type 0) (text output : List ℕ) : Type 0 where
     pub sights : Sights
-    pub seen_so : AreSeen ran text sights
-    pub same_sights : are_same eq sights ≡ true
+    pub seen_so : AreSightsSeen ran text sights
+    pub same_sights : are_same_sights eq sights ≡ true
     pub written : EndsWith same_line output
 
   -- they are not, and it is written that nothing differs so far exactly where a run was cut off and nothing does
   pub record AreReportedOther (eq : Sight → Sight → Bool) (same_datum : DatumValue → DatumValue → Bool) (ran : ℕ → Tree → Tree → IRStatus → Type 0) (text output : List ℕ) : Type 0 where
     pub sights : Sights
-    pub seen_so : AreSeen ran text sights
-    pub other_sights : are_same eq sights ≡ false
+    pub seen_so : AreSightsSeen ran text sights
+    pub other_sights : are_same_sights eq sights ≡ false
     pub written : EndsWith (other_line same_datum sights) output
 
   -- how comparing runs of a text around these passes ends
   abbrev pub EndsCompared : (faults : TextFaults) → (eq : Sight → Sight → Bool) → (same_datum : DatumValue → DatumValue → Bool) → (ran : ℕ → Tree → Tree → IRStatus → Type 0) → (text : List ℕ) → Outcome → Type 0
-  EndsCompared faults eq same_datum ran text o = Ends (faults text) (AreReportedSame eq ran text o.output.items) (AreReportedOther eq same_datum ran text o.output.items) o
+  EndsCompared faults eq same_datum ran text o = EndsEither (faults text) (AreReportedSame eq ran text o.output.items) (AreReportedOther eq same_datum ran text o.output.items) o

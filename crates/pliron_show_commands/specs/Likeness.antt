@@ -2,7 +2,7 @@
 use Rattle.std.specs.Prelude.{◌≡◌, ℕ, Bool, true, false, List}
 use Rattle.pliron_evaluator.specs.declared.evaluator.values.Datum.{Datum as DatumValue}
 use Rattle.pliron_evaluator.specs.declared.evaluator.values.Sight.{Sight}
-use Rattle.pliron_show_commands.specs.Compared.{are_same, are_same_so_far, EndsWith, same_line, so_far_line, different_line, other_line}
+use Rattle.pliron_show_commands.specs.Compared.{are_same_sights, are_same_so_far, EndsWith, same_line, so_far_line, different_line, other_line}
 use Rattle.pliron_show_commands.specs.declared.comparing.Likeness.{Likeness}
 use Rattle.pliron_show_commands.specs.declared.comparing.Likeness.TheVariants.{Same, SoFar, Different}
 use Rattle.pliron_show_commands.specs.declared.comparing.Sights.{Sights}
@@ -21,15 +21,15 @@ status_for Different = 3
 
 module _ (eq : Sight → Sight → Bool) (same_datum : DatumValue → DatumValue → Bool) (sights : Sights) where
   abbrev pub IsLikeness : Likeness → Type 0
-  IsLikeness Same = are_same eq sights ≡ true
-  IsLikeness SoFar = (are_same eq sights ≡ false) × (are_same_so_far same_datum sights ≡ true)
-  IsLikeness Different = (are_same eq sights ≡ false) × (are_same_so_far same_datum sights ≡ false)
+  IsLikeness Same = are_same_sights eq sights ≡ true
+  IsLikeness SoFar = (are_same_sights eq sights ≡ false) × (are_same_so_far same_datum sights ≡ true)
+  IsLikeness Different = (are_same_sights eq sights ≡ false) × (are_same_so_far same_datum sights ≡ false)
 
   abbrev pub IsReported : List ℕ → Type 0
-  IsReported output = (are_same eq sights ≡ true) × EndsWith same_line output
+  IsReported output = (are_same_sights eq sights ≡ true) × EndsWith same_line output
 
   abbrev pub IsReportedOther : List ℕ → Type 0
-  IsReportedOther output = (are_same eq sights ≡ false) × EndsWith (other_line same_datum sights) output
+  IsReportedOther output = (are_same_sights eq sights ≡ false) × EndsWith (other_line same_datum sights) output
 
   -- with 0 where they are the same, else with 3
   pub data EndsLike (o : Outcome) : Type 0 where

@@ -18,7 +18,7 @@ module _ (faults : Faults) where
     IsFaulty : o.status ≡ 2 → o.output.items ≡ [] → faults (string_bytes o.report) → EndsBadly o
 
   -- with 0 where this holds, with 3 where that does, or without an answer
-  pub data Ends (this that : Type 0) (o : Outcome) : Type 0 where
-    Says : this → o.status ≡ 0 → Ends this that o
-    Denies : that → o.status ≡ 3 → Ends this that o
-    Fails : EndsBadly o → Ends this that o
+  pub data EndsEither (this that : Type 0) (o : Outcome) : Type 0 where
+    Says : this → o.status ≡ 0 → EndsEither this that o
+    Denies : that → o.status ≡ 3 → EndsEither this that o
+    Fails : EndsBadly o → EndsEither this that o

@@ -16,7 +16,7 @@ IsInContainer t k = IsSomeAnd (parent_operation_of t k) (λ holder. IsContainer 
 
 -- runs begin at it by itself: it is directly inside a container and has regions, but isn't a container itself, as a
 -- `func`
-pub record IsPart (t : Tree) (k : ℕ) : Type 0 where
+pub record IsReportedPart (t : Tree) (k : ℕ) : Type 0 where
   pub held : IsInContainer t k
   pub regions : regions_of t k ≢ []
   pub entered : IsContainer t k → ⊥
@@ -24,7 +24,7 @@ pub record IsPart (t : Tree) (k : ℕ) : Type 0 where
 module _ (m : Meaning) (t : Tree) (root : ℕ) where
   -- each part inside the operation is fit to run
   abbrev pub AreFitParts : Type 0
-  AreFitParts = (k : ℕ) → IsInside t root k → IsPart t k → IsFit m t k
+  AreFitParts = (k : ℕ) → IsInside t root k → IsReportedPart t k → IsFit m t k
 
   -- the operation is fit to run, or it is a container and each part inside it is
   pub data IsFitByParts : Type 0 where
@@ -36,8 +36,8 @@ module _ (m : Meaning) (t : Tree) (root : ℕ) where
     pub before : List ℕ
     pub after : List ℕ
     pub place : contents t root ≡ before ++ part ∷ after
-    pub is_part : IsPart t part
-    pub fit : (k : ℕ) → In k before → IsPart t k → IsFit m t k
+    pub is_part : IsReportedPart t part
+    pub fit : (k : ℕ) → In k before → IsReportedPart t k → IsFit m t k
 
   -- what a fault is reported of: the operation itself, or for a container such a part
   pub data IsAtFault (op : ℕ) : Type 0 where

@@ -3,7 +3,7 @@ ghost use Rattle.std.specs.Prelude.{◌≡◌, [], IfOk, IfSome};
 ghost use Rattle.pliron_core.specs.Writes.{no_tree};
 ghost use Rattle.pliron_show_commands.specs.CheckOutcome.{IsChecked, IsReportedFit, IsUnfitText};
 ghost use Rattle.pliron_show_commands.specs.Findings.{IsFinding};
-ghost use Rattle.pliron_show_commands.specs.Outcomes.{Ends};
+ghost use Rattle.pliron_show_commands.specs.Outcomes.{EndsEither};
 
 use crate::failure::CommandFailure;
 use crate::one_by_one::{first_unfit, is_container};
@@ -119,7 +119,7 @@ fn fit_outcome(alloc: Global, line: &[u8]) -> Result<Outcome, AllocError>
 /// of `check_text`.
 #[tactic(auto, using(crate::proofs::CommandLemmas::says_whole, crate::proofs::CommandLemmas::says_parts, crate::proofs::CommandLemmas::says_unfit))]
 pub fn check<N: Shown>(alloc: Global, source: &Source) -> Result<Outcome, AllocError>
-    ensures { IfOk result (λ outcome. Ends (N.faults source.now.text.now)
+    ensures { IfOk result (λ outcome. EndsEither (N.faults source.now.text.now)
         (IsReportedFit N.reads N.D.meaning source.now.text.now outcome.output.items)
         (IsUnfitText N.reads N.D.meaning source.now.text.now × (outcome.output.items ≡ [])) outcome) }
 {

@@ -3,8 +3,8 @@ ghost use Rattle.std.specs.Prelude.{◌≡◌, map, IfOk, IfSome, string_bytes};
 ghost use Rattle.pliron_core.specs.Writes.{no_tree};
 ghost use Rattle.pliron_laws.specs.Datum.{Number as NumberOf};
 ghost use Rattle.pliron_driver.specs.Ran.{RunsAlone};
-ghost use Rattle.pliron_show_commands.specs.Asked.{EndsByPlan, EndsByWord};
-ghost use Rattle.pliron_show_commands.specs.Compared.{AreSeen, EndsCompared, EndsWith, are_same, are_same_so_far, effects_of, is_cut_off as was_cut_off, is_start as is_start_of};
+ghost use Rattle.pliron_show_commands.specs.Asked.{EndsByPlannedRuns, EndsByListWord};
+ghost use Rattle.pliron_show_commands.specs.Compared.{AreSightsSeen, EndsCompared, EndsWith, are_same_sights, are_same_so_far, effects_of_sight, is_cut_off as was_cut_off, is_start as is_start_of};
 ghost use Rattle.pliron_show_commands.specs.Likeness.{EndsLike, IsLikeness, last_line, status_for};
 
 use crate::failure::CommandFailure;
@@ -52,7 +52,7 @@ enum Likeness {
 
 // The effects of a run, latest first.
 fn effects(sight: &Sight) -> &[Datum]
-    ensures { result.now ≡ effects_of sight.now }
+    ensures { result.now ≡ effects_of_sight sight.now }
 {
     match sight {
         Sight::Ended(_, effects) | Sight::Trapped(effects) | Sight::Reached(effects) => effects,
@@ -72,7 +72,7 @@ fn is_cut_off(sight: &Sight) -> bool
 // Whether both runs ended or trapped, and the same is seen of them.
 #[tactic(auto, using(crate::proofs::CommandLemmas::cut_before, crate::proofs::CommandLemmas::cut_after, crate::proofs::CommandLemmas::compared_whole))]
 fn is_same(sights: &Sights) -> bool
-    ensures { result ≡ are_same ⟦<Sight as PartialEq>⟧.eq sights.now }
+    ensures { result ≡ are_same_sights ⟦<Sight as PartialEq>⟧.eq sights.now }
 {
     if is_cut_off(&sights.before) {
         return false;
@@ -132,8 +132,8 @@ pub fn compare_text<N: Runnable>(
     ctx: &mut Context,
 ) -> Result<Option<Sights>, OptError>
     requires { ctx.old.tree ≡ no_tree }
-    ensures { IfOk result (λ found. IfSome found (AreSeen N.reads N.D.meaning (map NumberOf options.now.inputs.now)
-        (map NumberOf options.now.world.now)
+    ensures { IfOk result (λ found. IfSome found (AreSightsSeen N.reads N.D.meaning
+        (map NumberOf options.now.inputs.now) (map NumberOf options.now.world.now)
         options.now.steps (RunsAlone ⟦<BenchFactKind as PartialEq>⟧.eq
         ⟦<InstrumentedPipeline<N, Timeless> as Pass>⟧.outcome pipeline.old) text.now)) }
 {
@@ -257,7 +257,7 @@ fn compare_by<N: Runnable>(
     options: &RunOptions,
     plan: &PipelineText,
 ) -> Result<Outcome, AllocError>
-    ensures { IfOk result (EndsByPlan ⟦<Instrumented<N, Timeless> as Pass>⟧.name
+    ensures { IfOk result (EndsByPlannedRuns ⟦<Instrumented<N, Timeless> as Pass>⟧.name
         (λ pipeline. EndsCompared N.reads N.D.meaning (map NumberOf options.now.inputs.now)
         (map NumberOf options.now.world.now) options.now.steps N.faults ⟦<Sight as PartialEq>⟧.eq
         ⟦<Datum as PartialEq>⟧.eq (RunsAlone ⟦<BenchFactKind as PartialEq>⟧.eq
@@ -284,7 +284,7 @@ pub fn compare<N: Runnable>(
     source: &Source,
     options: &CompareOptions,
 ) -> Result<Outcome, AllocError>
-    ensures { IfOk result (EndsByWord ⟦<Instrumented<N, Timeless> as Pass>⟧.name
+    ensures { IfOk result (EndsByListWord ⟦<Instrumented<N, Timeless> as Pass>⟧.name
         (λ pipeline. EndsCompared N.reads N.D.meaning (map NumberOf options.now.run.inputs.now)
         (map NumberOf options.now.run.world.now) options.now.run.steps N.faults ⟦<Sight as PartialEq>⟧.eq
         ⟦<Datum as PartialEq>⟧.eq (RunsAlone ⟦<BenchFactKind as PartialEq>⟧.eq

@@ -1,6 +1,6 @@
 //! The commands that draw.
 ghost use Rattle.std.specs.Prelude.{◌⊎◌, ⊤, IfOk};
-ghost use Rattle.pliron_show_commands.specs.Outcomes.{Ends};
+ghost use Rattle.pliron_show_commands.specs.Outcomes.{EndsEither};
 ghost use Rattle.pliron_show_commands.specs.Reports.{FaultsGraph, FaultsRegion};
 ghost use Rattle.pliron_show.specs.Faults.{faults_as_unreadable};
 ghost use Rattle.pliron_show_graphs.specs.Drawn.{IsFlowText};
@@ -25,7 +25,7 @@ pub fn draw_flow<N: Shown>(
     source: &Source,
     options: &FlowOptions,
 ) -> Result<Outcome, AllocError>
-    ensures { IfOk result (Ends (λ report. N.faults source.now.text.now report
+    ensures { IfOk result (EndsEither (λ report. N.faults source.now.text.now report
         ⊎ FaultsRegion options.now.region.now report) (IsFlowText N.reads source.now.text.now) ⊥) }
 {
     match text_flow::<N>(alloc, source.text, options) {
@@ -45,7 +45,8 @@ pub fn draw_flow<N: Shown>(
 /// component.
 #[tactic(auto, using(crate::proofs::EndingLemmas::text_fails, crate::proofs::EndingLemmas::other_fails))]
 pub fn draw_graph(alloc: Global, source: &Source) -> Result<Outcome, AllocError>
-    ensures { IfOk result (Ends (λ report. faults_as_unreadable source.now.text.now report ⊎ FaultsGraph report) ⊤ ⊥) }
+    ensures { IfOk result (EndsEither (λ report. faults_as_unreadable source.now.text.now report
+        ⊎ FaultsGraph report) ⊤ ⊥) }
 {
     match text_graph(alloc, source.text) {
         Ok(Some(picture)) => Ok(success_outcome(alloc, picture)),

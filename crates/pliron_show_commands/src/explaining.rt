@@ -1,6 +1,6 @@
 //! The command that explains what passes did.
 ghost use Rattle.std.specs.Prelude.{◌≡◌, ◌⊎◌, ⊤, length, IfOk, IfSome};
-ghost use Rattle.pliron_show_commands.specs.Outcomes.{Ends};
+ghost use Rattle.pliron_show_commands.specs.Outcomes.{EndsEither};
 ghost use Rattle.pliron_show_commands.specs.Reports.{FaultsWord};
 
 use crate::ending::success_outcome;
@@ -69,7 +69,7 @@ fn explain_by<N: Shown>(
     plan: &PipelineText,
     reports_missed: bool,
 ) -> Result<Outcome, AllocError>
-    ensures { IfOk result (Ends (λ report. N.faults source.now.text.now report ⊎ FaultsWord report) ⊤ ⊥) }
+    ensures { IfOk result (EndsEither (λ report. N.faults source.now.text.now report ⊎ FaultsWord report) ⊤ ⊥) }
 {
     let Some(list) = list_of(alloc, plan, reports_missed)? else {
         return no_passes_outcome(alloc);
@@ -103,7 +103,7 @@ pub fn explain<N: Shown>(
     source: &Source,
     options: &ExplainOptions,
 ) -> Result<Outcome, AllocError>
-    ensures { IfOk result (Ends (λ report. N.faults source.now.text.now report ⊎ FaultsWord report) ⊤ ⊥) }
+    ensures { IfOk result (EndsEither (λ report. N.faults source.now.text.now report ⊎ FaultsWord report) ⊤ ⊥) }
 {
     match PipelineText::read(alloc, options.pipeline) {
         Ok(plan) => explain_by::<N>(alloc, source, &plan, options.missed),

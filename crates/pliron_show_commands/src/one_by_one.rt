@@ -3,7 +3,7 @@ ghost use Rattle.std.specs.Prelude.{◌≡◌, ◌↔◌, None, IfOk, IfSome, Is
 ghost use Rattle.pliron_core.specs.Tree.{IsLive};
 ghost use Rattle.pliron_theory.specs.Keeps.{IsFit};
 ghost use Rattle.pliron_pass_fit.specs.Violation.{IsViolation};
-ghost use Rattle.pliron_show_commands.specs.Parts.{AreFitParts, IsContainer, IsFirstPart, IsFitByParts, IsInContainer, IsPart, IsAtFault};
+ghost use Rattle.pliron_show_commands.specs.Parts.{AreFitParts, IsContainer, IsFirstPart, IsFitByParts, IsInContainer, IsReportedPart, IsAtFault};
 
 use pliron_core::{Contents, Context, Operation, Ptr};
 use pliron_laws::{Dialect, OptError};
@@ -38,7 +38,7 @@ fn is_in_container(op: Ptr<Operation>, ctx: &Context) -> bool
 // Whether runs begin at the operation by itself, since it is in a container.
 fn is_part(op: Ptr<Operation>, ctx: &Context) -> bool
     requires { IsLive ctx.now.tree op }
-    ensures { IsTrue result ↔ IsPart ctx.now.tree op }
+    ensures { IsTrue result ↔ IsReportedPart ctx.now.tree op }
 {
     is_in_container(op, ctx) && op.num_region(ctx) != 0 && !is_container(op, ctx)
 }
@@ -50,9 +50,9 @@ fn part_violation<D: Dialect>(
     ctx: &Context,
 ) -> Result<Option<Violation>, OptError>
     requires { IsLive ctx.now.tree op }
-    ensures none { IfOk result (λ r. (r ≡ None) ↔ (IsPart ctx.now.tree op → IsFit D.meaning ctx.now.tree op)) }
+    ensures none { IfOk result (λ r. (r ≡ None) ↔ (IsReportedPart ctx.now.tree op → IsFit D.meaning ctx.now.tree op)) }
     ensures some { IfOk result (λ r. IfSome r (λ violation. IsViolation D.meaning ctx.now.tree op violation)) }
-    ensures part { IfOk result (λ r. IfSome r (λ violation. IsPart ctx.now.tree op)) }
+    ensures part { IfOk result (λ r. IfSome r (λ violation. IsReportedPart ctx.now.tree op)) }
 {
     if is_part(op, ctx) {
         find_violation::<D>(alloc, op, ctx)

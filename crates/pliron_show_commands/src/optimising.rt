@@ -1,7 +1,7 @@
 //! What passes make of texts.
 ghost use Rattle.std.specs.Prelude.{◌≡◌, map, IfOk, IfSome, string_bytes};
 ghost use Rattle.pliron_driver.specs.Ran.{RunsAlone};
-ghost use Rattle.pliron_show_commands.specs.Asked.{EndsByPlan, EndsByWord};
+ghost use Rattle.pliron_show_commands.specs.Asked.{EndsByPlannedRuns, EndsByListWord};
 ghost use Rattle.pliron_show_commands.specs.Outcomes.{EndsBadly, IsRefused};
 ghost use Rattle.pliron_show_commands.specs.Reports.{FaultsWord};
 ghost use Rattle.pliron_show_commands.specs.Optimised.{EndsOptimised, IsLaidOut};
@@ -187,7 +187,7 @@ fn opt_by<N: Shown, C: Progress + Copy + Drop>(
     clock: C,
     report: String,
 ) -> Result<Outcome, AllocError>
-    ensures { IfOk result (EndsByPlan ⟦<Instrumented<N, C> as Pass>⟧.name
+    ensures { IfOk result (EndsByPlannedRuns ⟦<Instrumented<N, C> as Pass>⟧.name
         (λ pipeline. EndsOptimised N.reads N.prints N.faults N.D.meaning
         (RunsAlone ⟦<BenchFactKind as PartialEq>⟧.eq ⟦<InstrumentedPipeline<N, C> as Pass>⟧.outcome pipeline)
         options.now.instrumentation.verifies source.now.text.now) plan.now.runs
@@ -208,7 +208,7 @@ pub(crate) fn opt_after<N: Shown, C: Progress + Copy + Drop>(
     clock: C,
     report: String,
 ) -> Result<Outcome, AllocError>
-    ensures { IfOk result (EndsByWord ⟦<Instrumented<N, C> as Pass>⟧.name
+    ensures { IfOk result (EndsByListWord ⟦<Instrumented<N, C> as Pass>⟧.name
         (λ pipeline. EndsOptimised N.reads N.prints N.faults N.D.meaning
         (RunsAlone ⟦<BenchFactKind as PartialEq>⟧.eq ⟦<InstrumentedPipeline<N, C> as Pass>⟧.outcome pipeline)
         options.now.instrumentation.verifies source.now.text.now) (N.faults source.now.text.now)
@@ -236,7 +236,7 @@ pub fn opt<N: Shown, C: Progress + Copy + Drop>(
     options: &OptOptions,
     clock: C,
 ) -> Result<Outcome, AllocError>
-    ensures { IfOk result (EndsByWord ⟦<Instrumented<N, C> as Pass>⟧.name
+    ensures { IfOk result (EndsByListWord ⟦<Instrumented<N, C> as Pass>⟧.name
         (λ pipeline. EndsOptimised N.reads N.prints N.faults N.D.meaning
         (RunsAlone ⟦<BenchFactKind as PartialEq>⟧.eq ⟦<InstrumentedPipeline<N, C> as Pass>⟧.outcome pipeline)
         options.now.instrumentation.verifies source.now.text.now) (N.faults source.now.text.now)

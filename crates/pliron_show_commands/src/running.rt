@@ -1,6 +1,6 @@
 //! Runs of texts.
 ghost use Rattle.std.specs.Prelude.{◌≡◌, ◌⊎◌, ⊤, IfOk};
-ghost use Rattle.pliron_show_commands.specs.Outcomes.{Ends};
+ghost use Rattle.pliron_show_commands.specs.Outcomes.{EndsEither};
 ghost use Rattle.pliron_show.specs.Faults.{faults_as_unreadable};
 
 use crate::failure::CommandFailure;
@@ -29,7 +29,7 @@ fn outcome_of_run(
     source: &Source,
     reported: Result<Option<RunReport>, OptError>,
 ) -> Result<Outcome, AllocError>
-    ensures { IfOk result (Ends (faults_as_unreadable source.now.text.now) ⊤ ⊤) }
+    ensures { IfOk result (EndsEither (faults_as_unreadable source.now.text.now) ⊤ ⊤) }
 {
     match reported {
         Ok(Some(reported)) => Ok(Outcome {
@@ -52,7 +52,7 @@ fn outcome_of_run(
 /// the steps or the world's answers are used up. With 1 and 2 nothing is to be written to the output. Errors:
 /// allocation failure for what is reported. Cost: reading, and that of `evaluate_noting`.
 pub fn run(alloc: Global, source: &Source, options: &RunOptions) -> Result<Outcome, AllocError>
-    ensures { IfOk result (Ends (faults_as_unreadable source.now.text.now) ⊤ ⊤) }
+    ensures { IfOk result (EndsEither (faults_as_unreadable source.now.text.now) ⊤ ⊤) }
 {
     let reported = run_text(alloc, source, options);
     outcome_of_run(alloc, source, reported)
@@ -68,7 +68,7 @@ pub fn run_streamed<S: EffectSink>(
     options: &RunOptions,
     sink: &mut S,
 ) -> Result<Outcome, AllocError>
-    ensures { IfOk result (Ends (faults_as_unreadable source.now.text.now) ⊤ ⊤) }
+    ensures { IfOk result (EndsEither (faults_as_unreadable source.now.text.now) ⊤ ⊤) }
 {
     let reported = run_text_streamed(alloc, source, options, sink);
     outcome_of_run(alloc, source, reported)

@@ -2,7 +2,7 @@
 ghost use Rattle.std.specs.Prelude.{◌≡◌, ◌⊎◌, IfOk, IsTrue};
 ghost use Rattle.pliron_core.specs.Writes.{no_tree};
 ghost use Rattle.pliron_driver.specs.Ran.{RunsAlone};
-ghost use Rattle.pliron_show_commands.specs.Asked.{EndsByWord};
+ghost use Rattle.pliron_show_commands.specs.Asked.{EndsByListWord};
 ghost use Rattle.pliron_show_commands.specs.CheckOutcome.{IsFitText, IsRejected};
 ghost use Rattle.pliron_show_commands.specs.Optimised.{EndsOptimised};
 
@@ -71,7 +71,7 @@ fn opt_if_fit<N: Shown, C: Progress + Copy + Drop>(
     options: &OptOptions,
     clock: C,
 ) -> Result<Outcome, AllocError>
-    ensures answer { IfOk result (λ outcome. EndsByWord ⟦<Instrumented<N, C> as Pass>⟧.name
+    ensures answer { IfOk result (λ outcome. EndsByListWord ⟦<Instrumented<N, C> as Pass>⟧.name
         (λ pipeline. EndsOptimised N.reads N.prints N.faults N.D.meaning
         (RunsAlone ⟦<BenchFactKind as PartialEq>⟧.eq ⟦<InstrumentedPipeline<N, C> as Pass>⟧.outcome pipeline)
         options.now.instrumentation.verifies source.now.text.now)
@@ -105,7 +105,7 @@ pub fn opt_with_check<N: Shown, C: Progress + Copy + Drop>(
     is_strict: bool,
     clock: C,
 ) -> Result<Outcome, AllocError>
-    ensures answer { IfOk result (λ outcome. EndsByWord ⟦<Instrumented<N, C> as Pass>⟧.name
+    ensures answer { IfOk result (λ outcome. EndsByListWord ⟦<Instrumented<N, C> as Pass>⟧.name
         (λ pipeline. EndsOptimised N.reads N.prints N.faults N.D.meaning
         (RunsAlone ⟦<BenchFactKind as PartialEq>⟧.eq ⟦<InstrumentedPipeline<N, C> as Pass>⟧.outcome pipeline)
         options.now.instrumentation.verifies source.now.text.now)

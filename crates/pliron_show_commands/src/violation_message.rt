@@ -1,7 +1,7 @@
 //! What is reported of a violation: the operand by its number and its name, where it is defined, and for an edge both
 //! counts.
 ghost use Rattle.std.specs.Prelude.{◌≡◌, codes, IfOk, string_bytes};
-ghost use Rattle.pliron_show_places.specs.Messages.{BeginsWith, heading};
+ghost use Rattle.pliron_show_places.specs.Messages.{HasBeginning, heading};
 ghost use Rattle.pliron_show_commands.specs.Reports.{TellsRefusal};
 
 use crate::live_use::LiveUse;
@@ -387,7 +387,7 @@ impl ViolationText<'_> {
         part: Option<TextPart>,
         words: &ViolationWords,
     ) -> Result<String, AllocError>
-        ensures { IfOk result (λ message. BeginsWith (string_bytes message) (heading severity.now
+        ensures { IfOk result (λ message. HasBeginning (string_bytes message) (heading severity.now
             words.now.message.now)) }
     {
         let mark = SourceMark {

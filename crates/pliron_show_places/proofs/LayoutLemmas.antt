@@ -1,23 +1,23 @@
 -- What a byte more is to the words of a text.
 use Rattle.std.proofs.Common.{◌≡◌, ◌<◌, ◌+◌, ◌∷◌, [], ◌++◌, ℕ, Bool, true, false, List, length, take, get_or, refl, sym, ◌∙◌, ap, subst, if◌then◌else◌, arith}
 use Rattle.std.proofs.lemmas.List.{append-nil, take_more}
-use Rattle.pliron_show_places.specs.Layout.{is_blank, is_mark, Words, no_words, unless_empty, all_words, after_blank, with_byte, with_bytes, words_of}
-use Rattle.pliron_show_places.specs.Laid.{laid_words, IsLaid, IsLaid.AllOf, IsLaid.ButBlank, LaysByte, LaysBlank}
+use Rattle.pliron_show_places.specs.Layout.{is_blank, is_notation_mark, Words, no_words, unless_empty, all_words, after_blank, words_with_byte, with_bytes, words_of}
+use Rattle.pliron_show_places.specs.Laid.{laid_words, IsLayoutOf, IsLayoutOf.AllOf, IsLayoutOf.ButBlank, LaysByte, LaysBlank}
 
 -- one byte more
-more_from : (words : Words) (text : List ℕ) (byte : ℕ) → with_bytes words (text ++ byte ∷ []) ≡ with_byte (with_bytes words text) byte
+more_from : (words : Words) (text : List ℕ) (byte : ℕ) → with_bytes words (text ++ byte ∷ []) ≡ words_with_byte (with_bytes words text) byte
 more_from words [] byte = refl
-more_from words (first ∷ text) byte = more_from (with_byte words first) text byte
+more_from words (first ∷ text) byte = more_from (words_with_byte words first) text byte
 
-pub byte_more : (text : List ℕ) (byte : ℕ) → laid_words (text ++ byte ∷ []) ≡ with_byte (laid_words text) byte
+pub byte_more : (text : List ℕ) (byte : ℕ) → laid_words (text ++ byte ∷ []) ≡ words_with_byte (laid_words text) byte
 byte_more text byte = more_from no_words text byte
 
 -- a second blank changes nothing
 pub blank_again : (words : Words) → after_blank (after_blank words) ≡ after_blank words
 blank_again words = ap (λ ended. record { ended = ended; last = [] }) (append-nil (all_words words))
 
-blank_read : (words : Words) (byte : ℕ) → is_blank byte ≡ true → with_byte words byte ≡ after_blank words
-blank_read words byte is = ap (λ b. if b then after_blank words else if is_mark byte then record { ended = all_words words ++ (byte ∷ []) ∷ []; last = [] } else record { ended = words.ended; last = words.last ++ byte ∷ [] }) is
+blank_read : (words : Words) (byte : ℕ) → is_blank byte ≡ true → words_with_byte words byte ≡ after_blank words
+blank_read words byte is = ap (λ b. if b then after_blank words else if is_notation_mark byte then record { ended = all_words words ++ (byte ∷ []) ∷ []; last = [] } else record { ended = words.ended; last = words.last ++ byte ∷ [] }) is
 
 -- a line is broken, and indented
 pub line_broken : (text : List ℕ) → laid_words (text ++ 10 ∷ []) ≡ after_blank (laid_words text)
@@ -27,7 +27,7 @@ pub indented : (text : List ℕ) (words : Words) → laid_words text ≡ after_b
 indented text words so = two_more no_words text ∙ blank_again (laid_words text) ∙ ap after_blank so ∙ blank_again words where
   two_more : (from : Words) (bytes : List ℕ) → with_bytes from (bytes ++ 32 ∷ 32 ∷ []) ≡ after_blank (after_blank (with_bytes from bytes))
   two_more from [] = refl
-  two_more from (first ∷ bytes) = two_more (with_byte from first) bytes
+  two_more from (first ∷ bytes) = two_more (words_with_byte from first) bytes
 
 -- an empty text has no words that a blank could part
 pub nothing_parted : (text : List ℕ) → text ≡ [] → laid_words text ≡ after_blank (laid_words text)
@@ -37,7 +37,7 @@ pub blank_taken : (text : List ℕ) (parts breaks : Bool) (byte : ℕ) → is_bl
 blank_taken text parts breaks byte is read (AllOf e laid none) = ButBlank refl (blank_read read byte is ∙ ap after_blank laid)
 blank_taken text parts breaks byte is read (ButBlank e laid) = ButBlank refl (blank_read read byte is ∙ ap after_blank laid ∙ blank_again (laid_words text))
 
-mark_last : (words : Words) (byte : ℕ) → is_mark byte ≡ true → (with_byte words byte).last ≡ []
+mark_last : (words : Words) (byte : ℕ) → is_notation_mark byte ≡ true → (words_with_byte words byte).last ≡ []
 mark_last words byte is = of_blank (is_blank byte) where
   marked : Words
   marked = record { ended = all_words words ++ (byte ∷ []) ∷ []; last = [] }
@@ -45,22 +45,22 @@ mark_last words byte is = of_blank (is_blank byte) where
   added : Words
   added = record { ended = words.ended; last = words.last ++ byte ∷ [] }
 
-  of_blank : (b : Bool) → (if b then after_blank words else if is_mark byte then marked else added).last ≡ []
+  of_blank : (b : Bool) → (if b then after_blank words else if is_notation_mark byte then marked else added).last ≡ []
   of_blank true = refl
   of_blank false = ap (λ m. (if m then marked else added).last) is
 
 -- a byte that is no blank is written
-pub byte_written : (text before after : List ℕ) (parts breaks parts' breaks' : Bool) (byte : ℕ) → LaysBlank text before parts breaks → after ≡ before ++ byte ∷ [] → parts' ≡ false → (breaks' ≡ true → is_mark byte ≡ true) → LaysByte text after parts breaks parts' breaks' byte
+pub byte_written : (text before after : List ℕ) (parts breaks parts' breaks' : Bool) (byte : ℕ) → LaysBlank text before parts breaks → after ≡ before ++ byte ∷ [] → parts' ≡ false → (breaks' ≡ true → is_notation_mark byte ≡ true) → LaysByte text after parts breaks parts' breaks' byte
 byte_written text before after parts breaks parts' breaks' byte laid is none mark read so =
-    AllOf none (ap (λ words. with_byte words byte) (sym (laid read so)) ∙ sym (byte_more before byte) ∙ ap laid_words (sym is)) (λ e. mark_last read byte (mark e))
+    AllOf none (ap (λ words. words_with_byte words byte) (sym (laid read so)) ∙ sym (byte_more before byte) ∙ ap laid_words (sym is)) (λ e. mark_last read byte (mark e))
 
 -- a closing brace is written on a line of its own
 pub brace_written : (text before after : List ℕ) (parts breaks parts' breaks' : Bool) → laid_words before ≡ after_blank (laid_words text) → after ≡ before ++ 125 ∷ [] → parts' ≡ false → LaysByte text after parts breaks parts' breaks' 125
 brace_written text before after parts breaks parts' breaks' broken is none read so =
-    AllOf none (closed read so ∙ ap (λ words. with_byte words 125) (sym broken) ∙ sym (byte_more before 125) ∙ ap laid_words (sym is)) (λ e. refl) where
-      closed : (read : Words) → IsLaid text parts breaks read → with_byte read 125 ≡ with_byte (after_blank (laid_words text)) 125
-      closed read (AllOf e laid last) = ap (λ words. with_byte words 125) laid ∙ ap (λ ended. record { ended = ended ++ (125 ∷ []) ∷ []; last = [] }) (sym (append-nil (all_words (laid_words text))))
-      closed read (ButBlank e laid) = ap (λ words. with_byte words 125) laid
+    AllOf none (closed read so ∙ ap (λ words. words_with_byte words 125) (sym broken) ∙ sym (byte_more before 125) ∙ ap laid_words (sym is)) (λ e. refl) where
+      closed : (read : Words) → IsLayoutOf text parts breaks read → words_with_byte read 125 ≡ words_with_byte (after_blank (laid_words text)) 125
+      closed read (AllOf e laid last) = ap (λ words. words_with_byte words 125) laid ∙ ap (λ ended. record { ended = ended ++ (125 ∷ []) ∷ []; last = [] }) (sym (append-nil (all_words (laid_words text))))
+      closed read (ButBlank e laid) = ap (λ words. words_with_byte words 125) laid
 
 -- the line is broken before what follows
 pub line_parted : (text more : List ℕ) (parts breaks : Bool) → breaks ≡ true → laid_words more ≡ after_blank (laid_words text) → LaysBlank text more parts breaks
@@ -88,17 +88,17 @@ none_parted text parts breaks none read (AllOf e laid last) = sym laid
 none_parted text parts breaks none read (ButBlank e laid) = nothing_parted text none ∙ sym laid
 
 -- nothing is read at first, and in the end all is laid out
-pub none_read : (parts breaks : Bool) → parts ≡ false → breaks ≡ false → IsLaid [] parts breaks no_words
+pub none_read : (parts breaks : Bool) → parts ≡ false → breaks ≡ false → IsLayoutOf [] parts breaks no_words
 none_read parts breaks none e = AllOf none refl (λ is. refl)
 
-pub all_laid : (laid : List ℕ) (parts breaks : Bool) (text : List ℕ) → IsLaid laid parts breaks (laid_words text) → words_of laid ≡ words_of text
+pub all_laid : (laid : List ℕ) (parts breaks : Bool) (text : List ℕ) → IsLayoutOf laid parts breaks (laid_words text) → words_of laid ≡ words_of text
 all_laid laid parts breaks text (AllOf e same last) = ap all_words (sym same)
 all_laid laid parts breaks text (ButBlank e same) = sym (append-nil (words_of laid)) ∙ ap all_words (sym same)
 
 -- what is laid out of so many bytes, and then of one more
-pub laid_more : (text : List ℕ) (i : ℕ) (before after : List ℕ) (parts breaks parts' breaks' : Bool) → i < length text → IsLaid before parts breaks (laid_words (take i text)) → LaysByte before after parts breaks parts' breaks' (get_or text i 0) → IsLaid after parts' breaks' (laid_words (take (i + 1) text))
+pub laid_more : (text : List ℕ) (i : ℕ) (before after : List ℕ) (parts breaks parts' breaks' : Bool) → i < length text → IsLayoutOf before parts breaks (laid_words (take i text)) → LaysByte before after parts breaks parts' breaks' (get_or text i 0) → IsLayoutOf after parts' breaks' (laid_words (take (i + 1) text))
 laid_more text i before after parts breaks parts' breaks' within so_far step =
-    subst (IsLaid after parts' breaks') (sym (byte_more (take i text) (get_or text i 0)) ∙ ap laid_words (sym (take_more text i 0 within))) (step (laid_words (take i text)) so_far)
+    subst (IsLayoutOf after parts' breaks') (sym (byte_more (take i text) (get_or text i 0)) ∙ ap laid_words (sym (take_more text i 0 within))) (step (laid_words (take i text)) so_far)
 
 -- an end of a line behind all of it parts nothing
 pub line_ended : (text : List ℕ) → words_of (text ++ 10 ∷ []) ≡ words_of text

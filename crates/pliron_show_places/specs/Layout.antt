@@ -6,8 +6,8 @@ abbrev pub is_blank : ℕ → Bool
 is_blank byte = (byte == 32) || ((byte == 10) || ((byte == 9) || (byte == 13)))
 
 -- a brace, a semicolon or a colon, which is a word of its own
-abbrev pub is_mark : ℕ → Bool
-is_mark byte = (byte == 123) || ((byte == 125) || ((byte == 59) || (byte == 58)))
+abbrev pub is_notation_mark : ℕ → Bool
+is_notation_mark byte = (byte == 123) || ((byte == 125) || ((byte == 59) || (byte == 58)))
 
 -- the words of a text that ended, and the one that goes on
 pub record Words : Type 0 where
@@ -29,12 +29,12 @@ abbrev pub after_blank : Words → Words
 after_blank words = record { ended = all_words words; last = [] }
 
 -- the words of a text with one byte more
-abbrev pub with_byte : Words → ℕ → Words
-with_byte words byte = if is_blank byte then after_blank words else if is_mark byte then record { ended = all_words words ++ (byte ∷ []) ∷ []; last = [] } else record { ended = words.ended; last = words.last ++ byte ∷ [] }
+abbrev pub words_with_byte : Words → ℕ → Words
+words_with_byte words byte = if is_blank byte then after_blank words else if is_notation_mark byte then record { ended = all_words words ++ (byte ∷ []) ∷ []; last = [] } else record { ended = words.ended; last = words.last ++ byte ∷ [] }
 
 abbrev pub with_bytes : Words → List ℕ → Words
 with_bytes words [] = words
-with_bytes words (byte ∷ more) = with_bytes (with_byte words byte) more
+with_bytes words (byte ∷ more) = with_bytes (words_with_byte words byte) more
 
 -- the words of a text, in order: what blanks and marks part, and the marks
 abbrev pub words_of : List ℕ → List (List ℕ)

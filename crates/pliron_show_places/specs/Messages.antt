@@ -6,5 +6,5 @@ abbrev pub heading : (severity wrong : List ℕ) → List ℕ
 heading severity wrong = severity ++ (codes ": " ++ (wrong ++ 10 ∷ []))
 
 -- the message begins with this text; what comes behind it is open
-abbrev pub BeginsWith : (message first : List ℕ) → Type 0
-BeginsWith message first = (rest : List ℕ) × (message ≡ first ++ rest)
+abbrev pub HasBeginning : (message first : List ℕ) → Type 0
+HasBeginning message first = (rest : List ℕ) × (message ≡ first ++ rest)

@@ -1,7 +1,7 @@
 //! Texts over several lines.
 ghost use Rattle.std.specs.Prelude.{◌≡◌, ◌++◌, ◌∷◌, [], true, false, IfOk, OnOk};
 ghost use Rattle.pliron_show_places.specs.Laid.{laid_words, LaysBlank, LaysByte};
-ghost use Rattle.pliron_show_places.specs.Layout.{after_blank, is_mark, words_of};
+ghost use Rattle.pliron_show_places.specs.Layout.{after_blank, is_notation_mark, words_of};
 
 use std::alloc::{AllocError, Global};
 
@@ -130,7 +130,7 @@ impl Layout {
     fn put(&mut self, byte: u8) -> Result<(), AllocError>
         ensures text { OnOk result (self.new.text.items ≡ self.old.text.items ++ byte ∷ []) }
         ensures parts { OnOk result (self.new.parts ≡ false) }
-        ensures breaks { OnOk result (self.new.breaks ≡ true → is_mark byte ≡ true) }
+        ensures breaks { OnOk result (self.new.breaks ≡ true → is_notation_mark byte ≡ true) }
     {
         self.text.push(byte)?;
         self.parts = false;

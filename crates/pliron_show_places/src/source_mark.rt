@@ -1,6 +1,6 @@
 //! Marks under a part of a text.
 ghost use Rattle.std.specs.Prelude.{◌≡◌, ◌+◌, ◌==◌, ◌≤◌, length, take, take_while, reverse, not, codes, IfOk, string_bytes};
-ghost use Rattle.pliron_show_places.specs.Messages.{BeginsWith, heading};
+ghost use Rattle.pliron_show_places.specs.Messages.{HasBeginning, heading};
 ghost use Rattle.pliron_show_places.specs.Position.{is_line_end, line_behind, column_behind};
 
 use std::alloc::{AllocError, Global};
@@ -122,7 +122,7 @@ fn push_times(text: &mut String, mark: &str, times: usize) -> Result<(), AllocEr
 ///
 /// Errors: allocation failure. Cost: linear in the text before the part, and in what is shown.
 pub fn mark_source(alloc: Global, text: &[u8], mark: &SourceMark) -> Result<String, AllocError>
-    ensures { IfOk result (λ reported. BeginsWith (string_bytes reported) (heading (codes "error")
+    ensures { IfOk result (λ reported. HasBeginning (string_bytes reported) (heading (codes "error")
         mark.now.message.now)) }
 {
     mark_source_as(alloc, "error", text, mark)
@@ -136,7 +136,7 @@ pub fn mark_source_as(
     text: &[u8],
     mark: &SourceMark,
 ) -> Result<String, AllocError>
-    ensures { IfOk result (λ reported. BeginsWith (string_bytes reported) (heading severity.now
+    ensures { IfOk result (λ reported. HasBeginning (string_bytes reported) (heading severity.now
         mark.now.message.now)) }
 {
     let mut reported = format!(in alloc; "{severity}: {}\n", mark.message)?;

@@ -11,7 +11,7 @@ use std::alloc::{AllocError, Global};
 
 /// A row of a table: a line `NAME -- ASKED => WANT`.
 #[derive(Clone, Copy)]
-pub struct Row<'t> {
+pub struct CaseRow<'t> {
     /// What a failure prints.
     pub name: &'t str,
     /// What is asked.
@@ -21,10 +21,10 @@ pub struct Row<'t> {
 }
 
 /// The row of a line, if it is one. Cost: linear in the line.
-pub fn row_of<'t>(line: &'t str) -> Option<Row<'t>> {
+pub fn row_of<'t>(line: &'t str) -> Option<CaseRow<'t>> {
     let (name, row) = line.split_once(" -- ")?;
     let (asked, want) = row.split_once(" =>")?;
-    Some(Row {
+    Some(CaseRow {
         name,
         asked,
         want: want.strip_prefix(' ').unwrap_or(want),

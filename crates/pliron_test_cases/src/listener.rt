@@ -10,7 +10,7 @@ use std::alloc::Global;
 
 /// Counts the changes of one whole rewrite.
 #[derive(Drop)]
-pub struct Counting {
+pub struct CountingListener {
     rewriter: IRRewriter,
     // So many changes more may come.
     room: usize,
@@ -20,10 +20,10 @@ pub struct Counting {
     changes: usize,
 }
 
-impl Counting {
+impl CountingListener {
     /// There is no room yet, and no insertion point. Cost: constant.
     pub fn new() -> Self {
-        Counting {
+        CountingListener {
             rewriter: IRRewriter::new(),
             room: 0,
             missing: 0,
@@ -52,7 +52,7 @@ impl Counting {
     }
 }
 
-impl Rewriter for Counting {
+impl Rewriter for CountingListener {
     ghost point = { λ c. point_of c.rewriter };
 
     fn insertion_point(&self) -> OpInsertionPoint {
@@ -103,7 +103,7 @@ impl Rewriter for Counting {
     }
 }
 
-impl Room for Counting {
+impl Room for CountingListener {
     fn room(&mut self, _alloc: Global, n: usize) -> Result<(), OptError> {
         self.room = n;
         Ok(())

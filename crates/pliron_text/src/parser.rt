@@ -33,7 +33,7 @@ impl Parent {
 
 /// A region that is open.
 #[derive(Clone, Copy, Drop)]
-struct OpenRegion {
+struct UnclosedRegion {
     parent: Parent,
     /// Its place among the regions of its parent.
     place: usize,
@@ -45,10 +45,10 @@ struct OpenRegion {
     block: Option<usize>,
 }
 
-impl OpenRegion {
+impl UnclosedRegion {
     // What is around the whole text.
     fn around(body: Body) -> Self {
-        OpenRegion {
+        UnclosedRegion {
             parent: Parent {
                 operation: None,
                 body,
@@ -101,9 +101,9 @@ struct Parser<'t, K> {
     values: Labels,
     blocks: Labels,
     /// The innermost open region, or what is around the whole text.
-    region: OpenRegion,
+    region: UnclosedRegion,
     /// What is around the whole text, and the open regions around the innermost one.
-    outer: Vec<OpenRegion>,
+    outer: Vec<UnclosedRegion>,
     /// Of each region in the order in which they were opened.
     places: Vec<RegionPlace>,
 }
@@ -118,7 +118,7 @@ pub fn parse<K: Grammar>(alloc: Global, text: &Tokens<K>) -> Result<Syntax, Stop
         syntax: Syntax::new(alloc),
         values: Labels::new(alloc, text.names)?,
         blocks: Labels::new(alloc, text.names)?,
-        region: OpenRegion::around(K::around()),
+        region: UnclosedRegion::around(K::around()),
         outer: Vec::new(alloc),
         places: Vec::new(alloc),
     };
@@ -222,7 +222,7 @@ impl<K: Grammar> Parser<'_, K> {
             self.region.scope
         };
         self.outer.push(self.region)?;
-        self.region = OpenRegion {
+        self.region = UnclosedRegion {
             parent,
             place,
             number,
@@ -237,7 +237,7 @@ impl<K: Grammar> Parser<'_, K> {
         if self.region.needs_block() && last == LastRead::RegionStart {
             return Err(self.cursor.stop_before(Expected::BlockOfRegion));
         }
-        let OpenRegion { parent, place, .. } = self.region;
+        let UnclosedRegion { parent, place, .. } = self.region;
         if let Some(region) = self.outer.pop() {
             self.region = region;
         }

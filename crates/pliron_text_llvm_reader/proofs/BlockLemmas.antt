@@ -5,7 +5,7 @@ use Rattle.std.proofs.lemmas.List.Sums.{take_while-cons}
 use Rattle.pliron_text_llvm_reader.specs.declared.blocks.LineRole.{LineRole}
 use Rattle.pliron_text_llvm_reader.specs.declared.blocks.LineRole.TheVariants.{Label, Plain, Terminator}
 use Rattle.pliron_text_llvm_reader.specs.declared.blocks.BlockLines.{BlockLines}
-use Rattle.pliron_text_llvm_reader.specs.Blocks.{is_plain, is_run, is_block, is_end, open_len, IsBlockAt, AreBlocks}
+use Rattle.pliron_text_llvm_reader.specs.Blocks.{is_plain_line, is_run, is_block, is_end, open_len, IsBlockAt, AreBlocks}
 
 pub end_within : (roles : List LineRole) (n : ℕ) → is_end (slice_get roles n) ≡ true → n < length roles
 end_within [] n h = cc
@@ -13,12 +13,12 @@ end_within (role ∷ roles) zero h = omega arith
 end_within (role ∷ roles) (suc n) h = let less = end_within roles n h in omega (arith, less)
 
 -- plain lines and the line behind them, where that ends the block
-run_ended : (roles : List LineRole) → is_end (slice_get roles (length (take_while is_plain roles))) ≡ true → is_run (take (suc (length (take_while is_plain roles))) roles) ≡ true
+run_ended : (roles : List LineRole) → is_end (slice_get roles (length (take_while is_plain_line roles))) ≡ true → is_run (take (suc (length (take_while is_plain_line roles))) roles) ≡ true
 run_ended [] h = cc
 run_ended (Label ∷ roles) h = cc
 run_ended (Plain ∷ roles) h =
-    let more : length (take_while is_plain (Plain ∷ roles)) ≡ suc (length (take_while is_plain roles)) = ap length (take_while-cons is_plain Plain roles) in
-    let ends : is_end (slice_get (Plain ∷ roles) (suc (length (take_while is_plain roles)))) ≡ true = subst (λ n. is_end (slice_get (Plain ∷ roles) n) ≡ true) more h in
+    let more : length (take_while is_plain_line (Plain ∷ roles)) ≡ suc (length (take_while is_plain_line roles)) = ap length (take_while-cons is_plain_line Plain roles) in
+    let ends : is_end (slice_get (Plain ∷ roles) (suc (length (take_while is_plain_line roles)))) ≡ true = subst (λ n. is_end (slice_get (Plain ∷ roles) n) ≡ true) more h in
     subst (λ n. is_run (take (suc n) (Plain ∷ roles)) ≡ true) (sym more) (run_ended roles ends)
 run_ended (Terminator ∷ roles) h = refl
 

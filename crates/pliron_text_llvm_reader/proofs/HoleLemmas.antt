@@ -3,7 +3,7 @@ use Rattle.std.proofs.Common.{◌≡◌, ℕ, ◌<◌, ◌≤◌, List, [], ◌�
 use Rattle.pliron_text_llvm_syntax.specs.declared.forms.Hole.{Hole}
 use Rattle.pliron_text_llvm_syntax.specs.Forms.{AreHoles}
 use Rattle.pliron_text_llvm_syntax.specs.declared.forms.HoleKind.{HoleKind}
-use Rattle.pliron_text_llvm_reader.specs.declared.cursor.Cursor.{Cursor}
+use Rattle.pliron_text_llvm_reader.specs.declared.cursor.StatementCursor.{StatementCursor}
 use Rattle.pliron_text_llvm_reader.specs.declared.rules.Role.{Role}
 use Rattle.pliron_text_llvm_reader.specs.declared.rules.Role.TheVariants.{Plain, Operand, More, Successor}
 use Rattle.pliron_text_llvm_syntax.specs.declared.forms.HoleKind.TheVariants.{Operand as OperandHole, Successor as SuccessorHole}
@@ -66,7 +66,7 @@ with_end_last end (first ∷ []) hole = refl
 with_end_last end (first ∷ next ∷ holes) hole = ap (λ xs. first ∷ xs) (with_end_last end (next ∷ holes) hole)
 
 -- what is taken at the place of a cursor is one more hole, or the end of the last one, or none
-pub holes_taken : (cursor : Cursor) (low end : ℕ) (role : Role) (holes : List Hole) → AreHolesBetween (text_of cursor) low cursor.end holes → cursor.end ≤ place_of cursor → place_of cursor < end → FitsRole cursor role
+pub holes_taken : (cursor : StatementCursor) (low end : ℕ) (role : Role) (holes : List Hole) → AreHolesBetween (text_of cursor) low cursor.end holes → cursor.end ≤ place_of cursor → place_of cursor < end → FitsRole cursor role
     → AreHolesBetween (text_of cursor) low end (holes_with role (place_of cursor) end holes)
 holes_taken cursor low end Plain holes h behind some fits = holes_wider (text_of cursor) low cursor.end end holes h (omega (arith, behind, some))
 holes_taken cursor low end Operand holes h behind some fits = holes_append (text_of cursor) low cursor.end holes (hole_between OperandHole (place_of cursor) end) h behind some tt

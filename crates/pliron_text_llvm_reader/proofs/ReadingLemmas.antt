@@ -4,59 +4,59 @@ use Rattle.std.specs.Prelude.{reverse}
 use Rattle.std.proofs.lemmas.List.{reverse-append, drop_all}
 use Rattle.std.specs.Prelude.{Some}
 use Rattle.pliron_text_llvm_syntax.specs.declared.forms.Hole.{Hole}
-use Rattle.pliron_text_llvm_syntax.specs.declared.tokens.Token.{Token}
+use Rattle.pliron_text_llvm_syntax.specs.declared.tokens.LlvmToken.{LlvmToken}
 use Rattle.pliron_text_llvm_reader.specs.declared.rules.Taking.{Taking}
 use Rattle.pliron_text_llvm_reader.specs.declared.table.Reads.{Reads}
-use Rattle.pliron_text_llvm_reader.specs.declared.table.Step.{Step}
+use Rattle.pliron_text_llvm_reader.specs.declared.table.GrammarStep.{GrammarStep}
 use Rattle.pliron_text_llvm_reader.specs.Cursors.{first_start}
-use Rattle.pliron_text_llvm_reader.specs.Grammar.{move_of, with_last}
-use Rattle.pliron_text_llvm_reader.specs.Grammar.Move.{Skipped, Taken}
-use Rattle.pliron_text_llvm_reader.specs.Readings.{behind_taken, end_of_taken, holes_with, Leads, Skips, IsNextTaking}
-use Rattle.pliron_text_llvm_reader.specs.Readings.Leads.{Nowhere, Past, Onward}
+use Rattle.pliron_text_llvm_reader.specs.Grammar.{move_of_step, with_last}
+use Rattle.pliron_text_llvm_reader.specs.Grammar.GrammarMove.{Skipped, Taken}
+use Rattle.pliron_text_llvm_reader.specs.Readings.{behind_taken, end_of_taken, holes_with, LeadsBySteps, Skips, IsNextTaking}
+use Rattle.pliron_text_llvm_reader.specs.Readings.LeadsBySteps.{Nowhere, Past, Onward}
 
 -- no step was pushed yet
-pub pushed_none : (steps before : List Step) (left : ℕ) → left ≡ length before → reverse steps ≡ drop left before ++ reverse steps
+pub pushed_none : (steps before : List GrammarStep) (left : ℕ) → left ≡ length before → reverse steps ≡ drop left before ++ reverse steps
 pushed_none steps before left e = ap (λ xs. xs ++ reverse steps) (sym (drop_all left before (omega (arith, e))))
 
 -- a step more was pushed, the one before those that were
-pub pushed_next : (steps now after before : List Step) (left : ℕ) (step d : Step) → reverse now ≡ drop (left + 1) before ++ reverse steps → left < length before → step ≡ get_or before left d → after ≡ now ++ step ∷ [] → reverse after ≡ drop left before ++ reverse steps
+pub pushed_next : (steps now after before : List GrammarStep) (left : ℕ) (step d : GrammarStep) → reverse now ≡ drop (left + 1) before ++ reverse steps → left < length before → step ≡ get_or before left d → after ≡ now ++ step ∷ [] → reverse after ≡ drop left before ++ reverse steps
 pushed_next steps now after before left step d e less here grown =
     let ahead : drop left before ≡ step ∷ drop (left + 1) before = rw (add-one, drop-cons before left d) (ap (λ s. s ∷ drop (suc left) before) (sym here)) in
     ap reverse grown ∙ reverse-append now (step ∷ []) ∙ ap (λ xs. step ∷ xs) e ∙ ap (λ xs. xs ++ reverse steps) (sym ahead)
 
-pub pushed_last : (steps after : List Step) (last : Step) → after ≡ steps ++ last ∷ [] → reverse after ≡ last ∷ reverse steps
+pub pushed_last : (steps after : List GrammarStep) (last : GrammarStep) → after ≡ steps ++ last ∷ [] → reverse after ≡ last ∷ reverse steps
 pushed_last steps after last e = ap reverse e ∙ reverse-append steps (last ∷ [])
 
-pub with_last_append : (steps : List Step) (last : Step) (rest : List Step) → with_last steps (Some last) ++ rest ≡ steps ++ last ∷ rest
+pub with_last_append : (steps : List GrammarStep) (last : GrammarStep) (rest : List GrammarStep) → with_last steps (Some last) ++ rest ≡ steps ++ last ∷ rest
 with_last_append steps last rest = append_assoc steps (last ∷ []) rest
 
 -- one way behind another
-pub leads_on : {text : List ℕ} {reads : Reads} {steps next : List Step} {tokens left : List Token} {holes found : List Hole} {last : List Step} {rest : List Token} {all : List Hole}
-    → Leads text reads steps tokens holes next left found → Leads text reads next left found last rest all → Leads text reads steps tokens holes last rest all
+pub leads_on : {text : List ℕ} {reads : Reads} {steps next : List GrammarStep} {tokens left : List LlvmToken} {holes found : List Hole} {last : List GrammarStep} {rest : List LlvmToken} {all : List Hole}
+    → LeadsBySteps text reads steps tokens holes next left found → LeadsBySteps text reads next left found last rest all → LeadsBySteps text reads steps tokens holes last rest all
 leads_on before Nowhere = before
 leads_on before (Past step behind move) = Past step (leads_on before behind) move
 leads_on before (Onward step amount role steps behind move) = Onward step amount role steps (leads_on before behind) move
 
 -- one step of which nothing is there
-pub skips_step : (text : List ℕ) (reads : Reads) (steps : List Step) (tokens : List Token) (step : Step) (more left : List Step) → Skips text reads steps tokens left → left ≡ step ∷ more → move_of text reads step tokens ≡ Some Skipped
+pub skips_step : (text : List ℕ) (reads : Reads) (steps : List GrammarStep) (tokens : List LlvmToken) (step : GrammarStep) (more left : List GrammarStep) → Skips text reads steps tokens left → left ≡ step ∷ more → move_of_step text reads step tokens ≡ Some Skipped
     → Skips text reads steps tokens more
-skips_step text reads steps tokens step more left skips e move holes = Past step (subst (λ xs. Leads text reads steps tokens holes xs tokens holes) e (skips holes)) move
+skips_step text reads steps tokens step more left skips e move holes = Past step (subst (λ xs. LeadsBySteps text reads steps tokens holes xs tokens holes) e (skips holes)) move
 
-pub skips_none : (text : List ℕ) (reads : Reads) (steps : List Step) (tokens : List Token) → Skips text reads steps tokens steps
+pub skips_none : (text : List ℕ) (reads : Reads) (steps : List GrammarStep) (tokens : List LlvmToken) → Skips text reads steps tokens steps
 skips_none text reads steps tokens holes = Nowhere
 
 -- the last step that was pushed is the first
-pub popped : (steps left : List Step) (step : Step) → steps ≡ left ++ step ∷ [] → reverse steps ≡ step ∷ reverse left
+pub popped : (steps left : List GrammarStep) (step : GrammarStep) → steps ≡ left ++ step ∷ [] → reverse steps ≡ step ∷ reverse left
 popped steps left step e = pushed_last left steps step e
 
 -- no step is left
-pub emptied : (steps : List Step) → length steps ≡ 0 → reverse steps ≡ []
+pub emptied : (steps : List GrammarStep) → length steps ≡ 0 → reverse steps ≡ []
 emptied [] none = refl
 emptied (step ∷ steps) none = absurd (omega (arith, none))
 
 -- up to a step for which something is taken
-pub skips_to : (text : List ℕ) (reads : Reads) (steps : List Step) (tokens : List Token) (step : Step) (more left : List Step) (taking : Taking) → Skips text reads steps tokens left → left ≡ step ∷ more
-    → move_of text reads step tokens ≡ Some (Taken taking.amount taking.role (with_last taking.behind.now taking.last)) → IsNextTaking text reads steps tokens taking more
+pub skips_to : (text : List ℕ) (reads : Reads) (steps : List GrammarStep) (tokens : List LlvmToken) (step : GrammarStep) (more left : List GrammarStep) (taking : Taking) → Skips text reads steps tokens left → left ≡ step ∷ more
+    → move_of_step text reads step tokens ≡ Some (Taken taking.amount taking.role (with_last taking.behind.now taking.last)) → IsNextTaking text reads steps tokens taking more
 skips_to text reads steps tokens step more left taking skips e move = record {
   step = step;
   skips = subst (λ xs. Skips text reads steps tokens xs) e skips;
@@ -64,25 +64,25 @@ skips_to text reads steps tokens step more left taking skips e move = record {
 }
 
 -- nothing was taken yet
-pub leads_none : (text : List ℕ) (reads : Reads) (steps : List Step) (tokens : List Token) (holes : List Hole) → holes ≡ [] → Leads text reads steps tokens [] steps tokens holes
-leads_none text reads steps tokens holes e = subst (Leads text reads steps tokens [] steps tokens) (sym e) Nowhere
+pub leads_none : (text : List ℕ) (reads : Reads) (steps : List GrammarStep) (tokens : List LlvmToken) (holes : List Hole) → holes ≡ [] → LeadsBySteps text reads steps tokens [] steps tokens holes
+leads_none text reads steps tokens holes e = subst (LeadsBySteps text reads steps tokens [] steps tokens) (sym e) Nowhere
 
 -- no step is left
-pub leads_end : (text : List ℕ) (reads : Reads) (steps : List Step) (tokens : List Token) (next : List Step) (left : List Token) (found : List Hole) → Leads text reads steps tokens [] next left found → Skips text reads next left []
-    → Leads text reads steps tokens [] [] left found
+pub leads_end : (text : List ℕ) (reads : Reads) (steps : List GrammarStep) (tokens : List LlvmToken) (next : List GrammarStep) (left : List LlvmToken) (found : List Hole) → LeadsBySteps text reads steps tokens [] next left found → Skips text reads next left []
+    → LeadsBySteps text reads steps tokens [] [] left found
 leads_end text reads steps tokens next left found before skips = leads_on before (skips found)
 
 -- what is taken for the next step
-pub leads_taken : (text : List ℕ) (reads : Reads) (steps : List Step) (tokens : List Token) (next : List Step) (left : List Token) (found : List Hole) (taking : Taking) (more after : List Step) (rest : List Token) (all : List Hole) (place end : ℕ)
-    → Leads text reads steps tokens [] next left found → IsNextTaking text reads next left taking more → after ≡ with_last taking.behind.now taking.last ++ more → rest ≡ behind_taken taking.amount left
-    → all ≡ holes_with taking.role place end found → place ≡ first_start left (length text) → end ≡ end_of_taken taking.amount left → Leads text reads steps tokens [] after rest all
+pub leads_taken : (text : List ℕ) (reads : Reads) (steps : List GrammarStep) (tokens : List LlvmToken) (next : List GrammarStep) (left : List LlvmToken) (found : List Hole) (taking : Taking) (more after : List GrammarStep) (rest : List LlvmToken) (all : List Hole) (place end : ℕ)
+    → LeadsBySteps text reads steps tokens [] next left found → IsNextTaking text reads next left taking more → after ≡ with_last taking.behind.now taking.last ++ more → rest ≡ behind_taken taking.amount left
+    → all ≡ holes_with taking.role place end found → place ≡ first_start left (length text) → end ≡ end_of_taken taking.amount left → LeadsBySteps text reads steps tokens [] after rest all
 leads_taken text reads steps tokens next left found taking more after rest all place end before found_next steps_are rest_is all_are place_is end_is =
-    let whole : Leads text reads steps tokens [] (with_last taking.behind.now taking.last ++ more) (behind_taken taking.amount left) (holes_with taking.role (first_start left (length text)) (end_of_taken taking.amount left) found) =
+    let whole : LeadsBySteps text reads steps tokens [] (with_last taking.behind.now taking.last ++ more) (behind_taken taking.amount left) (holes_with taking.role (first_start left (length text)) (end_of_taken taking.amount left) found) =
     Onward found_next.step taking.amount taking.role (with_last taking.behind.now taking.last) (leads_on before (found_next.skips found)) found_next.move in
     let holes_are : all ≡ holes_with taking.role (first_start left (length text)) (end_of_taken taking.amount left) found = all_are ∙ ap (λ p. holes_with taking.role p end found) place_is ∙ ap (λ e. holes_with taking.role (first_start left (length text)) e found) end_is in
-    subst (λ hs. Leads text reads steps tokens [] after rest hs) (sym holes_are)
-    (subst (λ ts. Leads text reads steps tokens [] after ts (holes_with taking.role (first_start left (length text)) (end_of_taken taking.amount left) found)) (sym rest_is)
-    (subst (λ ss. Leads text reads steps tokens [] ss (behind_taken taking.amount left) (holes_with taking.role (first_start left (length text)) (end_of_taken taking.amount left) found)) (sym steps_are) whole))
+    subst (λ hs. LeadsBySteps text reads steps tokens [] after rest hs) (sym holes_are)
+    (subst (λ ts. LeadsBySteps text reads steps tokens [] after ts (holes_with taking.role (first_start left (length text)) (end_of_taken taking.amount left) found)) (sym rest_is)
+    (subst (λ ss. LeadsBySteps text reads steps tokens [] ss (behind_taken taking.amount left) (holes_with taking.role (first_start left (length text)) (end_of_taken taking.amount left) found)) (sym steps_are) whole))
 
 -- what takes steps one after another
 pub ruleset reading_steps = (leads_none, leads_taken, leads_end)

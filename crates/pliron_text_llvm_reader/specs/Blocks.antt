@@ -6,9 +6,9 @@ use Rattle.pliron_text_llvm_reader.specs.declared.blocks.BlockLines.{BlockLines}
 use Rattle.pliron_text_llvm_reader.specs.declared.blocks.BlockFault.{BlockFault}
 use Rattle.pliron_text_llvm_reader.specs.declared.blocks.BlockFault.TheVariants.{NoBlock, NoTerminator, NoMemory}
 
-abbrev pub is_plain : LineRole → Bool
-is_plain Plain = true
-is_plain _ = false
+abbrev pub is_plain_line : LineRole → Bool
+is_plain_line Plain = true
+is_plain_line _ = false
 
 -- plain lines, and a last one that ends the block
 abbrev pub is_run : List LineRole → Bool
@@ -28,8 +28,8 @@ is_end _ = false
 
 -- how many lines are before the end of the first block: a label or none, and plain lines
 abbrev pub open_len : List LineRole → ℕ
-open_len (Label ∷ roles) = suc (length (take_while is_plain roles))
-open_len roles = length (take_while is_plain roles)
+open_len (Label ∷ roles) = suc (length (take_while is_plain_line roles))
+open_len roles = length (take_while is_plain_line roles)
 
 -- the first so many lines are a block
 abbrev pub IsBlockAt : List LineRole → ℕ → Type 0

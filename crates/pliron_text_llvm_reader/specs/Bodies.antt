@@ -1,8 +1,8 @@
 -- Lines of a body.
 use Rattle.std.specs.Prelude.{◌≡◌, ℕ, List, [], ◌∷◌, ◌++◌, length, take, if◌then◌else◌}
-use Rattle.pliron_text_llvm_syntax.specs.declared.lines.Line.{Line}
-use Rattle.pliron_text_llvm_syntax.specs.declared.lines.Line.TheVariants.{Label as LabelText, Statement as StatementText}
-use Rattle.pliron_text_llvm_syntax.specs.declared.tokens.Span.{Span}
+use Rattle.pliron_text_llvm_syntax.specs.declared.lines.LineText.{LineText}
+use Rattle.pliron_text_llvm_syntax.specs.declared.lines.LineText.TheVariants.{Label as LabelText, Statement as StatementText}
+use Rattle.pliron_text_llvm_syntax.specs.declared.tokens.ByteSpan.{ByteSpan}
 use Rattle.pliron_text_llvm_reader.specs.declared.blocks.LineRole.{LineRole}
 use Rattle.pliron_text_llvm_reader.specs.declared.blocks.LineRole.TheVariants.{Label as LabelRole, Plain, Terminator}
 use Rattle.pliron_text_llvm_reader.specs.declared.body.BodyLine.{BodyLine}
@@ -10,19 +10,19 @@ use Rattle.pliron_text_llvm_reader.specs.declared.body.BodyLine.TheVariants.{Lab
 use Rattle.pliron_text_llvm_reader.specs.declared.body.BodyStatement.{BodyStatement}
 use Rattle.pliron_text_llvm_reader.specs.declared.body.BodyStop.{BodyStop}
 use Rattle.pliron_text_llvm_reader.specs.declared.body.BodyStop.TheVariants.{Kept as KeptAt, Broken as BrokenText}
-use Rattle.pliron_text_llvm_reader.specs.declared.stop.Stop.{Stop}
-use Rattle.pliron_text_llvm_reader.specs.declared.stop.Stop.TheVariants.{Kept, Broken}
+use Rattle.pliron_text_llvm_reader.specs.declared.stop.StatementStop.{StatementStop}
+use Rattle.pliron_text_llvm_reader.specs.declared.stop.StatementStop.TheVariants.{Kept, Broken}
 use Rattle.pliron_text_llvm_syntax.specs.declared.forms.Hole.{Hole}
-use Rattle.pliron_text_llvm_reader.specs.Rows.{IsRowOf}
+use Rattle.pliron_text_llvm_reader.specs.Rows.{IsStatementRow}
 use Rattle.pliron_text_llvm_reader.specs.Statements.{IsStatementOf}
 
 -- where a line is
-abbrev pub span_of_body_line : BodyLine → Span
+abbrev pub span_of_body_line : BodyLine → ByteSpan
 span_of_body_line (Label span) = span
 span_of_body_line (Statement line) = line.span
 
 -- the line that was read
-abbrev pub line_of : BodyLine → Line
+abbrev pub line_of : BodyLine → LineText
 line_of (Label span) = LabelText span
 line_of (Statement line) = StatementText line.span
 
@@ -32,11 +32,11 @@ role_of_line (Label span) = LabelRole
 role_of_line (Statement line) = if line.statement.row.is_terminator then Terminator else Plain
 
 -- a statement of the text that is this span
-abbrev pub IsStatementLine : List ℕ → Span → BodyStatement → Type 0
+abbrev pub IsStatementLine : List ℕ → ByteSpan → BodyStatement → Type 0
 IsStatementLine text span line = (line.span ≡ span) × IsStatementOf (take span.end text) span.start line.statement
 
 -- what stops a statement stops the body at its place
-abbrev pub stop_at : ℕ → Stop → BodyStop
+abbrev pub stop_at : ℕ → StatementStop → BodyStop
 stop_at place (Kept reason) = KeptAt place reason
 stop_at place (Broken fault) = BrokenText fault
 
@@ -46,7 +46,7 @@ pub record AddsRow (text : List ℕ) (line : BodyStatement) (before after : List
   pub added : after ≡ before ++ own
   pub first : line.first_hole ≡ length before
   pub last : line.end_hole ≡ length after
-  pub row : IsRowOf (take line.span.end text) line.span.start line.statement own
+  pub row : IsStatementRow (take line.span.end text) line.span.start line.statement own
 
 -- a label has no operands and successors
 abbrev pub AddsLine : List ℕ → BodyLine → List Hole → List Hole → Type 0

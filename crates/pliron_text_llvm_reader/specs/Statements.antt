@@ -1,24 +1,24 @@
 -- Statements.
 use Rattle.std.specs.Prelude.{◌≡◌, ℕ, ◌<◌, ◌≤◌, Bool, false, true, List, [], ◌∷◌, length, Some, IfSome, ⊤, codes}
 use Rattle.pliron_text_llvm_syntax.specs.Tokens.{bytes_of_span}
-use Rattle.pliron_text_llvm_syntax.specs.declared.tokens.Span.{Span}
+use Rattle.pliron_text_llvm_syntax.specs.declared.tokens.ByteSpan.{ByteSpan}
 use Rattle.pliron_text_llvm_reader.specs.declared.statement.Statement.{Statement}
 use Rattle.pliron_text_llvm_reader.specs.declared.table.Gives.{Gives}
 use Rattle.pliron_text_llvm_reader.specs.declared.table.Gives.TheVariants.{Always, Never, UnlessVoid}
-use Rattle.pliron_text_llvm_reader.specs.declared.table.Row.{Row}
+use Rattle.pliron_text_llvm_reader.specs.declared.table.OpcodeRow.{OpcodeRow}
 use Rattle.pliron_text_llvm_reader.specs.Holes.{IsLocalAt}
 use Rattle.pliron_text_llvm_reader.specs.Table.{row_named}
-use Rattle.pliron_text_llvm_reader.specs.Words.{is_named}
+use Rattle.pliron_text_llvm_reader.specs.Words.{is_one_of}
 
 abbrev pub funclet_opcodes : List (List ℕ)
 funclet_opcodes =
     codes "cleanuppad" ∷ codes "catchpad" ∷ codes "catchswitch" ∷ codes "cleanupret" ∷ codes "catchret" ∷ []
 
 abbrev pub is_funclet : List ℕ → Bool
-is_funclet opcode = is_named funclet_opcodes opcode
+is_funclet opcode = is_one_of funclet_opcodes opcode
 
 -- a local name between these bytes
-abbrev pub IsNameBetween : List ℕ → ℕ → ℕ → Span → Type 0
+abbrev pub IsNameBetween : List ℕ → ℕ → ℕ → ByteSpan → Type 0
 IsNameBetween text start end name =
     IsLocalAt text name.start × (start ≤ name.start) × (name.start < name.end) × (name.end ≤ end)
 
@@ -29,7 +29,7 @@ MayGive Never gives = gives ≡ false
 MayGive UnlessVoid gives = ⊤
 
 -- a word of the text that has this row in the table
-abbrev pub IsOpcodeOf : List ℕ → Span → Row → Type 0
+abbrev pub IsOpcodeOf : List ℕ → ByteSpan → OpcodeRow → Type 0
 IsOpcodeOf text opcode row =
     (opcode.start < opcode.end) × (opcode.end ≤ length text) × (row_named (bytes_of_span text opcode) ≡ Some row)
 

@@ -1,18 +1,18 @@
 -- The table of opcodes.
 use Rattle.std.specs.Prelude.{◌||◌, ℕ, Bool, false, true, List, [], ◌∷◌, Option, Some, None, if◌then◌else◌, codes, bytes_eq}
-use Rattle.pliron_text_llvm_reader.specs.declared.table.Row.{Row}
-use Rattle.pliron_text_llvm_reader.specs.declared.table.Layout.{Layout}
-use Rattle.pliron_text_llvm_reader.specs.declared.table.Layout.TheVariants.{Binary, Values, Cast, Access, Allocation, Fence, Variadic, Pad, Phi, Call, Invoke, CallBranch, Return, Resume, Nothing, Branch, Switch, Indirect, Record}
-use Rattle.pliron_text_llvm_reader.specs.declared.table.Step.{Step}
-use Rattle.pliron_text_llvm_reader.specs.declared.table.Step.TheVariants.{Flags, TypeName, Value, TypedValue, MoreTypedValues, Comma, To, Unwind, Label, Labels, Cases, Entries, Arguments, CallAttributes, Clauses, Branch as BranchStep, ReturnValue, Rest}
+use Rattle.pliron_text_llvm_reader.specs.declared.table.OpcodeRow.{OpcodeRow}
+use Rattle.pliron_text_llvm_reader.specs.declared.table.StatementLayout.{StatementLayout}
+use Rattle.pliron_text_llvm_reader.specs.declared.table.StatementLayout.TheVariants.{Binary, Values, Cast, Access, Allocation, Fence, Variadic, Pad, Phi, Call, Invoke, CallBranch, Return, Resume, Nothing, Branch, Switch, Indirect, Record}
+use Rattle.pliron_text_llvm_reader.specs.declared.table.GrammarStep.{GrammarStep}
+use Rattle.pliron_text_llvm_reader.specs.declared.table.GrammarStep.TheVariants.{Flags, TypeName, Value, TypedValue, MoreTypedValues, Comma, To, Unwind, Label, Labels, Cases, Entries, Arguments, CallAttributes, Clauses, Branch as BranchStep, ReturnValue, Rest}
 use Rattle.pliron_text_llvm_reader.specs.declared.table.Gives.TheVariants.{Always, Never, UnlessVoid}
 use Rattle.pliron_text_llvm_reader.specs.declared.table.Reads.{Reads}
 use Rattle.pliron_text_llvm_reader.specs.declared.table.Reads.TheVariants.{Constants, Locals}
-use Rattle.pliron_text_llvm_reader.specs.Words.{is_named}
+use Rattle.pliron_text_llvm_reader.specs.Words.{is_one_of}
 
 -- ---- what stands behind an opcode
 
-abbrev pub steps_of : Layout → List Step
+abbrev pub steps_of : StatementLayout → List GrammarStep
 steps_of Binary = Flags ∷ TypeName ∷ Value ∷ Comma ∷ Value ∷ Rest ∷ []
 steps_of Values = Flags ∷ TypedValue ∷ MoreTypedValues ∷ Rest ∷ []
 steps_of Cast = Flags ∷ TypeName ∷ Value ∷ To ∷ TypeName ∷ Rest ∷ []
@@ -37,16 +37,16 @@ steps_of Record = Arguments ∷ []
 
 -- ---- rows
 
-abbrev pub value_row : Layout → Reads → Row
+abbrev pub value_row : StatementLayout → Reads → OpcodeRow
 value_row layout reads = record { layout = layout; reads = reads; gives = Always; is_terminator = false }
 
-abbrev pub effect_row : Layout → Row
+abbrev pub effect_row : StatementLayout → OpcodeRow
 effect_row layout = record { layout = layout; reads = Locals; gives = Never; is_terminator = false }
 
-abbrev pub terminator_row : Layout → Reads → Row
+abbrev pub terminator_row : StatementLayout → Reads → OpcodeRow
 terminator_row layout reads = record { layout = layout; reads = reads; gives = Never; is_terminator = true }
 
-abbrev pub call_row : Layout → Bool → Row
+abbrev pub call_row : StatementLayout → Bool → OpcodeRow
 call_row layout is_terminator = record { layout = layout; reads = Locals; gives = UnlessVoid; is_terminator = is_terminator }
 
 -- ---- opcodes with the same behind them
@@ -82,20 +82,20 @@ records =
 -- ---- the table
 
 -- what a statement gives follows from its operands
-abbrev pub row_by_constants : List ℕ → Option Row
+abbrev pub row_by_constants : List ℕ → Option OpcodeRow
 row_by_constants opcode =
-    if is_named integer_operators opcode then Some (value_row Binary Constants)
-    else if is_named integer_casts opcode then Some (value_row Cast Constants)
+    if is_one_of integer_operators opcode then Some (value_row Binary Constants)
+    else if is_one_of integer_casts opcode then Some (value_row Cast Constants)
     else if bytes_eq opcode (codes "select") then Some (value_row Values Constants)
     else if bytes_eq opcode (codes "phi") then Some (value_row Phi Constants)
     else None
 
 -- others that give a value
-abbrev pub row_of_value : List ℕ → Option Row
+abbrev pub row_of_value : List ℕ → Option OpcodeRow
 row_of_value opcode =
-    if is_named float_operators opcode then Some (value_row Binary Locals)
-    else if is_named other_casts opcode then Some (value_row Cast Locals)
-    else if is_named element_opcodes opcode then Some (value_row Values Locals)
+    if is_one_of float_operators opcode then Some (value_row Binary Locals)
+    else if is_one_of other_casts opcode then Some (value_row Cast Locals)
+    else if is_one_of element_opcodes opcode then Some (value_row Values Locals)
     else if bytes_eq opcode (codes "load") || bytes_eq opcode (codes "getelementptr") then Some (value_row Access Locals)
     else if bytes_eq opcode (codes "alloca") then Some (value_row Allocation Locals)
     else if bytes_eq opcode (codes "va_arg") then Some (value_row Variadic Locals)
@@ -103,7 +103,7 @@ row_of_value opcode =
     else None
 
 -- what ends a block
-abbrev pub row_of_end : List ℕ → Option Row
+abbrev pub row_of_end : List ℕ → Option OpcodeRow
 row_of_end opcode =
     if bytes_eq opcode (codes "ret") then Some (terminator_row Return Constants)
     else if bytes_eq opcode (codes "br") then Some (terminator_row Branch Constants)
@@ -116,19 +116,19 @@ row_of_end opcode =
     else None
 
 -- others
-abbrev pub row_of_effect : List ℕ → Option Row
+abbrev pub row_of_effect : List ℕ → Option OpcodeRow
 row_of_effect opcode =
-    if is_named call_opcodes opcode then Some (call_row Call false)
-    else if is_named records opcode then Some (effect_row Record)
+    if is_one_of call_opcodes opcode then Some (call_row Call false)
+    else if is_one_of records opcode then Some (effect_row Record)
     else if bytes_eq opcode (codes "store") then Some (effect_row Values)
     else if bytes_eq opcode (codes "fence") then Some (effect_row Fence)
     else None
 
-abbrev pub first_row : Option Row → Option Row → Option Row
+abbrev pub first_row : Option OpcodeRow → Option OpcodeRow → Option OpcodeRow
 first_row None other = other
 first_row (Some row) other = Some row
 
 -- the row of an opcode
-abbrev pub row_named : List ℕ → Option Row
+abbrev pub row_named : List ℕ → Option OpcodeRow
 row_named opcode =
     first_row (row_by_constants opcode) (first_row (row_of_value opcode) (first_row (row_of_end opcode) (row_of_effect opcode)))

@@ -2,11 +2,12 @@
 use Rattle.std.specs.Prelude.{◌==◌, ◌&&◌, ◌||◌, ℕ, Bool, false, not, nat_eq, List, [], ◌∷◌, length, codes, bytes_eq}
 use Rattle.std.specs.List.{list_all, starts_with}
 use Rattle.std.specs.Char.{is_ascii_digit}
+use Rattle.pliron_text_llvm_syntax.specs.Lexing.{begins_with_digit}
 
 -- one of the words is the name
-abbrev pub is_named : List (List ℕ) → List ℕ → Bool
-is_named [] name = false
-is_named (known ∷ names) name = bytes_eq name known || is_named names name
+abbrev pub is_one_of : List (List ℕ) → List ℕ → Bool
+is_one_of [] name = false
+is_one_of (known ∷ names) name = bytes_eq name known || is_one_of names name
 
 -- ---- types
 
@@ -21,13 +22,9 @@ type_words =
     codes "ppc_fp128" ∷ codes "x86_amx" ∷ codes "ptr" ∷ codes "label" ∷ codes "token" ∷ codes "metadata" ∷ codes "target" ∷ []
 
 abbrev pub is_type_word : List ℕ → Bool
-is_type_word word = is_integer_type word || is_named type_words word
+is_type_word word = is_integer_type word || is_one_of type_words word
 
 -- ---- values
-
-abbrev pub begins_with_digit : List ℕ → Bool
-begins_with_digit [] = false
-begins_with_digit (first ∷ rest) = is_ascii_digit first
 
 -- `-` or `+`
 abbrev pub is_sign : ℕ → Bool
@@ -38,17 +35,17 @@ abbrev pub is_prefix : ℕ → Bool
 is_prefix byte = byte == 117 || byte == 115 || byte == 102
 
 -- a digit first, or behind a sign; or `0x` behind `u`, `s` or `f`
-abbrev pub is_number : List ℕ → Bool
-is_number [] = false
-is_number (first ∷ rest) =
+abbrev pub is_number_word : List ℕ → Bool
+is_number_word [] = false
+is_number_word (first ∷ rest) =
     is_ascii_digit first || (is_sign first && begins_with_digit rest) || (is_prefix first && starts_with nat_eq rest (codes "0x"))
 
 abbrev pub constant_words : List (List ℕ)
 constant_words =
     codes "true" ∷ codes "false" ∷ codes "null" ∷ codes "none" ∷ codes "undef" ∷ codes "poison" ∷ codes "zeroinitializer" ∷ []
 
-abbrev pub is_constant : List ℕ → Bool
-is_constant word = is_number word || is_named constant_words word
+abbrev pub is_constant_word : List ℕ → Bool
+is_constant_word word = is_number_word word || is_one_of constant_words word
 
 -- casts, addresses, and pointers with a signature
 abbrev pub address_words : List (List ℕ)
@@ -63,7 +60,7 @@ operation_words =
 
 -- a constant expression
 abbrev pub is_expression : List ℕ → Bool
-is_expression word = is_named address_words word || is_named operation_words word
+is_expression word = is_one_of address_words word || is_one_of operation_words word
 
 abbrev pub reference_words : List (List ℕ)
 reference_words = codes "dso_local_equivalent" ∷ codes "no_cfi" ∷ []
@@ -73,4 +70,4 @@ assembly_words = codes "asm" ∷ []
 
 abbrev pub is_value_word : List ℕ → Bool
 is_value_word word =
-    is_constant word || is_expression word || is_named reference_words word || is_named assembly_words word
+    is_constant_word word || is_expression word || is_one_of reference_words word || is_one_of assembly_words word

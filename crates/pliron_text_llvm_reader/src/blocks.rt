@@ -1,6 +1,6 @@
 //! Blocks of a body, by what its lines are for.
 ghost use Rattle.std.specs.Prelude.{◌≡◌, ◌≤◌, [], length, drop, take_while, slice_get, IfOk, IfErr, OnOk};
-ghost use Rattle.pliron_text_llvm_reader.specs.Blocks.{is_plain, is_end, open_len, IsBlockAt, IsOpenAt, AreBlocks, IsBlockFault};
+ghost use Rattle.pliron_text_llvm_reader.specs.Blocks.{is_plain_line, is_end, open_len, IsBlockAt, IsOpenAt, AreBlocks, IsBlockFault};
 ghost use Rattle.pliron_text_llvm_reader.specs.declared.blocks.BlockFault.TheVariants.{NoMemory};
 
 use std::alloc::{AllocError, AllocFailed};
@@ -56,14 +56,14 @@ impl<T: Drop> From<AllocFailed<T>> for BlockFault {
 
 // Whether the line neither begins nor ends a block.
 fn is_plain(role: LineRole) -> bool
-    ensures { result ≡ is_plain role }
+    ensures { result ≡ is_plain_line role }
 {
     matches!(role, LineRole::Plain)
 }
 
 // How many plain lines come first.
 fn plain_len(roles: &[LineRole]) -> usize
-    ensures exact { result ≡ length (take_while is_plain roles.now) }
+    ensures exact { result ≡ length (take_while is_plain_line roles.now) }
     ensures within { result ≤ length roles.now }
 {
     roles.iter().take_while(|role| is_plain(**role)).count()

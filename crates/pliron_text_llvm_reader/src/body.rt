@@ -1,22 +1,22 @@
 //! Bodies of functions: statements with their operands and successors, and the blocks that they are in.
 ghost use Rattle.std.specs.Prelude.{◌≡◌, ◌≤◌, ◌++◌, length, map, take, IfOk, OnOk};
-ghost use Rattle.pliron_text_llvm_syntax.specs.Lines.{span_of_line, AreLines};
-ghost use Rattle.pliron_text_llvm_syntax.specs.declared.fault.Fault.TheVariants.{NoMemory};
+ghost use Rattle.pliron_text_llvm_syntax.specs.Lines.{span_of_line, AreLines, AreGaps};
+ghost use Rattle.pliron_text_llvm_syntax.specs.declared.fault.LlvmFault.TheVariants.{NoMemory};
 ghost use Rattle.pliron_text_llvm_reader.specs.declared.body.BodyStop.TheVariants.{Broken};
 ghost use Rattle.pliron_text_llvm_reader.specs.Blocks.{AreBlocks};
 ghost use Rattle.pliron_text_llvm_reader.specs.Bodies.{role_of_line, span_of_body_line, line_of, stop_at, IsStatementLine, AddsRow, AddsLine, AreRows};
 
 use crate::blocks::{BlockFault, BlockLines, LineRole, split_blocks};
 use crate::statement::{Statement, StatementRoom, read_statement};
-use crate::stop::{Reason, Stop};
-use pliron_text_llvm_syntax::{Fault, Hole, Line, Span, split_lines};
+use crate::stop::{KeptReason, StatementStop};
+use pliron_text_llvm_syntax::{ByteSpan, Hole, LineText, LlvmFault, split_lines};
 use std::alloc::{AllocError, AllocFailed, Global};
 
 /// A statement of a body.
 #[doc(hidden)]
 #[derive(Clone, Copy, Debug, Drop, PartialEq, Eq)]
 pub struct BodyStatement {
-    pub span: Span,
+    pub span: ByteSpan,
     pub statement: Statement,
     /// The number of its first hole.
     pub first_hole: usize,
@@ -29,14 +29,14 @@ pub struct BodyStatement {
 #[derive(Clone, Copy, Debug, Drop, PartialEq, Eq)]
 pub enum BodyLine {
     /// The label of a block, with its `:`.
-    Label(Span),
+    Label(ByteSpan),
     Statement(BodyStatement),
 }
 
 /// A body that was read.
 #[doc(hidden)]
 #[derive(Debug, Drop)]
-pub struct Body {
+pub struct FunctionBody {
     pub lines: Vec<BodyLine>,
     /// The operands and successors of all statements, in their order.
     pub holes: Vec<Hole>,
@@ -49,9 +49,9 @@ pub struct Body {
 #[derive(Clone, Copy, Debug, Drop, PartialEq, Eq)]
 pub enum BodyStop {
     /// The statement at this byte isn't in the table.
-    Kept(usize, Reason),
+    Kept(usize, KeptReason),
     /// The text is broken, or memory lacks.
-    Broken(Fault),
+    Broken(LlvmFault),
     /// Before this byte a block was expected.
     NoBlock(usize),
     /// At this byte a statement was expected that ends the block.
@@ -59,10 +59,10 @@ pub enum BodyStop {
 }
 
 /// A fault of the text is reported as such.
-impl From<Fault> for BodyStop {
+impl From<LlvmFault> for BodyStop {
     ghost from_gives = { λ fault e. e ≡ Broken fault };
 
-    fn from(fault: Fault) -> BodyStop {
+    fn from(fault: LlvmFault) -> BodyStop {
         BodyStop::Broken(fault)
     }
 }
@@ -72,7 +72,7 @@ impl From<AllocError> for BodyStop {
     ghost from_gives = { λ _ e. e ≡ Broken NoMemory };
 
     fn from(_refused: AllocError) -> BodyStop {
-        BodyStop::Broken(Fault::NoMemory)
+        BodyStop::Broken(LlvmFault::NoMemory)
     }
 }
 
@@ -81,7 +81,7 @@ impl<T: Drop> From<AllocFailed<T>> for BodyStop {
     ghost from_gives = { λ _ e. e ≡ Broken NoMemory };
 
     fn from(_refused: AllocFailed<T>) -> BodyStop {
-        BodyStop::Broken(Fault::NoMemory)
+        BodyStop::Broken(LlvmFault::NoMemory)
     }
 }
 
@@ -94,7 +94,7 @@ struct LineRoom {
 
 impl BodyLine {
     /// Where it is in the text. Cost: constant.
-    pub fn span(&self) -> Span
+    pub fn span(&self) -> ByteSpan
         ensures { result ≡ span_of_body_line self.now }
     {
         match self {
@@ -116,12 +116,12 @@ impl BodyLine {
 }
 
 // What stops reading the statement at this byte.
-fn stop_at(place: usize, stop: Stop) -> BodyStop
+fn stop_at(place: usize, stop: StatementStop) -> BodyStop
     ensures { result ≡ stop_at place stop }
 {
     match stop {
-        Stop::Kept(reason) => BodyStop::Kept(place, reason),
-        Stop::Broken(fault) => BodyStop::Broken(fault),
+        StatementStop::Kept(reason) => BodyStop::Kept(place, reason),
+        StatementStop::Broken(fault) => BodyStop::Broken(fault),
     }
 }
 
@@ -136,7 +136,7 @@ fn text_before(text: &[u8], end: usize) -> &[u8]
 // Reads the statement, and adds its operands and successors.
 fn read_body_statement(
     text: &[u8],
-    span: Span,
+    span: ByteSpan,
     room: &mut LineRoom,
     holes: &mut Vec<Hole>,
 ) -> Result<BodyStatement, BodyStop>
@@ -163,7 +163,7 @@ fn read_body_statement(
 // Reads the line, and adds the operands and successors of its statement.
 fn read_line(
     text: &[u8],
-    line: Line,
+    line: LineText,
     room: &mut LineRoom,
     holes: &mut Vec<Hole>,
 ) -> Result<BodyLine, BodyStop>
@@ -173,8 +173,8 @@ fn read_line(
     ensures adds { IfOk result (λ read. AddsLine text.now read holes.old.items holes.new.items) }
 {
     match line {
-        Line::Label(span) => Ok(BodyLine::Label(span)),
-        Line::Statement(span) => {
+        LineText::Label(span) => Ok(BodyLine::Label(span)),
+        LineText::Statement(span) => {
             let statement = read_body_statement(text, span, room, holes)?;
             Ok(BodyLine::Statement(statement))
         }
@@ -185,9 +185,9 @@ fn read_line(
 #[tactic(auto, using(crate::proofs::BodyLemmas::line_ordered, crate::proofs::BodyLemmas::line_within, crate::proofs::BodyLemmas::lines_read, crate::proofs::BodyLemmas::rows_grown))]
 fn read_lines(
     text: &[u8],
-    lines: &[Line],
+    lines: &[LineText],
     room: &mut LineRoom,
-    body: &mut Body,
+    body: &mut FunctionBody,
 ) -> Result<(), BodyStop>
     requires lines { AreLines 0 (length text.now) lines.now }
     requires rows { AreRows text.now body.old.lines.items body.old.holes.items }
@@ -220,21 +220,23 @@ fn block_stop(lines: &[BodyLine], end: usize, fault: BlockFault) -> BodyStop {
         BlockFault::NoTerminator(line) => {
             BodyStop::NoTerminator(lines.get(line).map_or(end, |line| line.span().start))
         }
-        BlockFault::NoMemory => BodyStop::Broken(Fault::NoMemory),
+        BlockFault::NoMemory => BodyStop::Broken(LlvmFault::NoMemory),
     }
 }
 
 /// Reads what is between the brackets of a body: its lines, with the operands and successors of its statements, and its
-/// blocks, which are the lines.
+/// blocks, which are the lines. Outside the lines are only blanks and comments.
 ///
 /// Asks that it is in the text. Errors: a statement that isn't in the table, and so keeps its function as it is written;
 /// a token or a bracket is broken; there is no block, or a block without an end; allocation failure. Cost: linear in it.
 #[doc(hidden)]
-#[tactic(auto, using(crate::proofs::BodyLemmas::lines_lower, crate::proofs::BodyLemmas::lines_within, crate::proofs::BodyLemmas::blocks_read, crate::proofs::BodyLemmas::rows_none))]
-pub fn read_body(alloc: Global, text: &[u8], inside: Span) -> Result<Body, BodyStop>
+#[tactic(auto, using(crate::proofs::BodyLemmas::lines_lower, crate::proofs::BodyLemmas::lines_within, crate::proofs::BodyLemmas::gaps_within, crate::proofs::BodyLemmas::blocks_read, crate::proofs::BodyLemmas::rows_none))]
+pub fn read_body(alloc: Global, text: &[u8], inside: ByteSpan) -> Result<FunctionBody, BodyStop>
     requires ordered { inside.start ≤ inside.end }
     requires within { inside.end ≤ length text.now }
     ensures lines { IfOk result (λ body. AreLines inside.start inside.end (map line_of body.lines.items)) }
+    ensures gaps { IfOk result (λ body.
+        AreGaps (take inside.end text.now) inside.start inside.end (map line_of body.lines.items)) }
     ensures rows { IfOk result (λ body. AreRows (take inside.end text.now) body.lines.items body.holes.items) }
     ensures blocks { IfOk result (λ body.
         AreBlocks (map role_of_line body.lines.items) 0 (length body.lines.items) body.blocks.items) }
@@ -242,7 +244,7 @@ pub fn read_body(alloc: Global, text: &[u8], inside: Span) -> Result<Body, BodyS
     let before = text_before(text, inside.end);
     let mut lines = Vec::new(alloc);
     split_lines(before, inside.start, &mut Vec::new(alloc), &mut lines)?;
-    let mut body = Body {
+    let mut body = FunctionBody {
         lines: Vec::with_capacity(alloc, lines.len())?,
         holes: Vec::new(alloc),
         blocks: Vec::new(alloc),

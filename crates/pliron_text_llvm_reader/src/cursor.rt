@@ -5,21 +5,21 @@ ghost use Rattle.std.specs.Prelude.{length};
 ghost use Rattle.pliron_text_llvm_reader.specs.TokenLists.{AreTokens, AreTokens-prop};
 
 use crate::words::{is_type_word, is_value_word};
-use pliron_text_llvm_syntax::{Bracket, Span, Token, TokenKind, bytes_of};
+use pliron_text_llvm_syntax::{Bracket, ByteSpan, LlvmToken, TokenKind, bytes_of};
 
 /// What is left of a statement.
 #[doc(hidden)]
 #[derive(Clone, Copy)]
-pub struct Cursor<'t> {
+pub struct StatementCursor<'t> {
     text: &'t [u8],
     /// The tokens that are left.
-    tokens: &'t [Token],
+    tokens: &'t [LlvmToken],
     /// Where the last token ended that was taken.
     end: usize,
     ghost order: { AreTokens end (length text.now) tokens.now } by { AreTokens-prop end (length text.now) tokens.now },
 }
 
-impl<'t> Cursor<'t> {
+impl<'t> StatementCursor<'t> {
     ghost use Rattle.std.specs.Prelude.{◌≡◌, ◌<◌, ◌≤◌, [], drop, slice_get, Some, IsSome};
     ghost use Rattle.std.specs.Bool.{OnTrue, OnFalse};
     ghost use Rattle.pliron_text_llvm_syntax.specs.Tokens.{bytes_of_span};
@@ -27,17 +27,17 @@ impl<'t> Cursor<'t> {
     ghost use Rattle.pliron_text_llvm_reader.specs.Cursors.{is_any, is_byte, is_word, is_text, is_open, is_open_round, is_open_square, is_close_round};
     ghost use Rattle.pliron_text_llvm_reader.specs.Cursors.{is_close_square, is_word_next, is_mark_next, is_name_next, is_type_next};
     ghost use Rattle.pliron_text_llvm_reader.specs.Cursors.{is_suffix_next, is_flag_next, is_attribute_next, is_call_attribute_next};
-    ghost use Rattle.pliron_text_llvm_reader.specs.Cursors.{depth_behind, behind_tree, end_of_tree, span_between, HasNext, IsForward, HasTaken};
+    ghost use Rattle.pliron_text_llvm_reader.specs.Cursors.{depth_behind, behind_tree, end_of_tree, span_between, HasNext, MovesForward, HasTaken};
 
     /// All of these tokens are left, from this byte on. Asks that they are tokens of the text from there on, in their
     /// order. Cost: constant.
-    pub fn new(text: &'t [u8], tokens: &'t [Token], start: usize) -> Self
+    pub fn new(text: &'t [u8], tokens: &'t [LlvmToken], start: usize) -> Self
         requires { AreTokens start (length text.now) tokens.now }
         ensures text { text_of result ≡ text.now }
         ensures tokens { tokens_of result ≡ tokens.now }
         ensures end { result.end ≡ start }
     {
-        Cursor {
+        StatementCursor {
             text,
             tokens,
             end: start,
@@ -45,13 +45,13 @@ impl<'t> Cursor<'t> {
     }
 
     // These tokens are left behind this byte.
-    fn behind(&self, tokens: &'t [Token], end: usize) -> Self
+    fn behind(&self, tokens: &'t [LlvmToken], end: usize) -> Self
         requires { AreTokens end (length (text_of self.now)) tokens.now }
         ensures text { text_of result ≡ text_of self.now }
         ensures tokens { tokens_of result ≡ tokens.now }
         ensures end { result.end ≡ end }
     {
-        Cursor {
+        StatementCursor {
             text: self.text,
             tokens,
             end,
@@ -116,10 +116,10 @@ impl<'t> Cursor<'t> {
     }
 
     /// What was taken since this place. Cost: constant.
-    pub fn since(&self, start: usize) -> Span
+    pub fn since(&self, start: usize) -> ByteSpan
         ensures { result ≡ span_between start self.now.end }
     {
-        Span {
+        ByteSpan {
             start,
             end: self.end,
         }
@@ -128,7 +128,7 @@ impl<'t> Cursor<'t> {
     /// Takes the next one alone, if one is left. Cost: constant.
     #[tactic(auto, using(crate::proofs::CursorLemmas::end_place, crate::proofs::CursorLemmas::first_place, crate::proofs::CursorLemmas::first_some, crate::proofs::CursorLemmas::first_within, crate::proofs::CursorLemmas::first_text, crate::proofs::CursorLemmas::first_ends))]
     pub fn skip_token(&mut self)
-        ensures forward { IsForward self.old self.new }
+        ensures forward { MovesForward self.old self.new }
         ensures taken { HasNext self.old → HasTaken self.old self.new }
         ensures tokens { tokens_of self.new ≡ drop 1 (tokens_of self.old) }
         ensures end { self.new.end ≡ first_end (tokens_of self.old) self.old.end }
@@ -158,7 +158,7 @@ impl<'t> Cursor<'t> {
     /// Takes the next one, and where it opens a bracket all up to the end of the bracket. Cost: linear in it.
     #[tactic(auto, using(crate::proofs::CursorLemmas::bracket_steps))]
     pub fn skip_tree(&mut self)
-        ensures forward { IsForward self.old self.new }
+        ensures forward { MovesForward self.old self.new }
         ensures taken { HasNext self.old → HasTaken self.old self.new }
         ensures tokens { tokens_of self.new ≡ behind_tree (tokens_of self.old) }
         ensures end { self.new.end ≡ end_of_tree self.old.end (tokens_of self.old) }

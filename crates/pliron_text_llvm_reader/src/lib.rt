@@ -14,7 +14,8 @@ mod tokens;
 mod words;
 
 pub use blocks::{BlockFault, BlockLines, LineRole, split_blocks};
-pub use body::{Body, BodyLine, BodyStatement, BodyStop, read_body};
+pub use body::{BodyLine, BodyStatement, BodyStop, FunctionBody, read_body};
 pub use statement::{Statement, StatementRoom, read_statement};
-pub use stop::{Reason, Stop};
-pub use table::{Gives, Layout, ListStep, Piece, Reads, Row, Step};
+pub use stop::{KeptReason, StatementStop};
+pub use table::{Gives, GrammarStep, ListStep, OpcodeRow, Piece, Reads, StatementLayout};
+pub use tokens::push_tokens;

@@ -6,14 +6,14 @@ ghost use Rattle.std.specs.Bool.{OnTrue};
 ghost use Rattle.std.specs.Option.{option_or};
 ghost use Rattle.pliron_text_llvm_reader.specs.Cursors.{text_of, tokens_of, first_kind, first_bytes, is_word, is_open_square};
 ghost use Rattle.pliron_text_llvm_reader.specs.Cursors.{is_close_square, is_mark_next, is_name_next, is_word_next, is_type_next, HasNext};
-ghost use Rattle.pliron_text_llvm_reader.specs.Words.{is_constant as is_constant_word};
+ghost use Rattle.pliron_text_llvm_reader.specs.Words.{is_constant_word};
 ghost use Rattle.pliron_text_llvm_reader.specs.Grammar.{taking, token, tree, if_next, or_nothing, role_of_constant, role_of_more};
 ghost use Rattle.pliron_text_llvm_reader.specs.Grammar.{word_value_move, value_move, expression_move, attribute_move, metadata_move, typed_value_move};
-ghost use Rattle.pliron_text_llvm_reader.specs.Grammar.{arguments_move, call_attributes_move, clauses_move, rest_move, piece_move, list_move, move_of, said_by, with_last, Fits, FitsRole};
+ghost use Rattle.pliron_text_llvm_reader.specs.Grammar.{arguments_move, call_attributes_move, clauses_move, rest_move, piece_move, list_move, move_of_step, said_by, with_last, FitsRule, FitsRole};
 ghost use Rattle.pliron_text_llvm_reader.specs.declared.rules.Amount.TheVariants.{OneToken};
 
-use crate::cursor::Cursor;
-use crate::table::{ListStep, Piece, Reads, Step};
+use crate::cursor::StatementCursor;
+use crate::table::{GrammarStep, ListStep, Piece, Reads};
 use crate::words::{is_assembly, is_constant, is_expression, is_reference};
 
 /// How much is taken.
@@ -43,8 +43,8 @@ pub enum Role {
 pub struct Taking {
     pub amount: Amount,
     pub role: Role,
-    pub behind: &'static [Step],
-    pub last: Option<Step>,
+    pub behind: &'static [GrammarStep],
+    pub last: Option<GrammarStep>,
 }
 
 /// What is done for a step.
@@ -56,43 +56,48 @@ pub enum Rule {
     Take(Taking),
 }
 
-static FLAG: [Step; 3] = [
-    Step::Part(Piece::PairValue),
-    Step::Part(Piece::RoundBracket),
-    Step::Flags,
+static FLAG: [GrammarStep; 3] = [
+    GrammarStep::Part(Piece::PairValue),
+    GrammarStep::Part(Piece::RoundBracket),
+    GrammarStep::Flags,
 ];
 
-static CASE: [Step; 5] = [
-    Step::Part(Piece::Suffixes),
-    Step::InList(ListStep::CaseValue),
-    Step::Comma,
-    Step::Label,
-    Step::InList(ListStep::CasesInside),
+static CASE: [GrammarStep; 5] = [
+    GrammarStep::Part(Piece::Suffixes),
+    GrammarStep::InList(ListStep::CaseValue),
+    GrammarStep::Comma,
+    GrammarStep::Label,
+    GrammarStep::InList(ListStep::CasesInside),
 ];
 
-static ENTRY: [Step; 5] = [
-    Step::Value,
-    Step::Comma,
-    Step::Block,
-    Step::InList(ListStep::EntryEnd),
-    Step::InList(ListStep::MoreEntries),
+static ENTRY: [GrammarStep; 5] = [
+    GrammarStep::Value,
+    GrammarStep::Comma,
+    GrammarStep::Block,
+    GrammarStep::InList(ListStep::EntryEnd),
+    GrammarStep::InList(ListStep::MoreEntries),
 ];
 
-impl Cursor<'_> {
+impl StatementCursor<'_> {
     // A token is taken, where it is next; then come these steps.
-    fn token_if(&self, is_next: bool, behind: &'static [Step]) -> Option<Rule>
+    fn token_if(&self, is_next: bool, behind: &'static [GrammarStep]) -> Option<Rule>
         requires { OnTrue is_next (HasNext self.now) }
         ensures says { said_by result ≡ if_next is_next (token behind.now) }
-        ensures fits { IfSome result (λ rule. Fits self.now rule) }
+        ensures fits { IfSome result (λ rule. FitsRule self.now rule) }
     {
         self.token_then(is_next, behind, None)
     }
 
     // A token is taken, where it is next; then come these steps, and the last one, if there is one.
-    fn token_then(&self, is_next: bool, behind: &'static [Step], last: Option<Step>) -> Option<Rule>
+    fn token_then(
+        &self,
+        is_next: bool,
+        behind: &'static [GrammarStep],
+        last: Option<GrammarStep>,
+    ) -> Option<Rule>
         requires { OnTrue is_next (HasNext self.now) }
         ensures says { said_by result ≡ if_next is_next (token (with_last behind.now last)) }
-        ensures fits { IfSome result (λ rule. Fits self.now rule) }
+        ensures fits { IfSome result (λ rule. FitsRule self.now rule) }
     {
         if is_next {
             Some(Rule::Take(Taking {
@@ -107,10 +112,15 @@ impl Cursor<'_> {
     }
 
     // A token or a bracket is taken, where it is next; then come these steps, and the last one, if there is one.
-    fn tree_then(&self, is_next: bool, behind: &'static [Step], last: Option<Step>) -> Option<Rule>
+    fn tree_then(
+        &self,
+        is_next: bool,
+        behind: &'static [GrammarStep],
+        last: Option<GrammarStep>,
+    ) -> Option<Rule>
         requires { OnTrue is_next (HasNext self.now) }
         ensures says { said_by result ≡ if_next is_next (tree (with_last behind.now last)) }
-        ensures fits { IfSome result (λ rule. Fits self.now rule) }
+        ensures fits { IfSome result (λ rule. FitsRule self.now rule) }
     {
         if is_next {
             Some(Rule::Take(Taking {
@@ -125,19 +135,19 @@ impl Cursor<'_> {
     }
 
     // A token or a bracket is taken, where it is next; then come these steps.
-    fn tree_if(&self, is_next: bool, behind: &'static [Step]) -> Option<Rule>
+    fn tree_if(&self, is_next: bool, behind: &'static [GrammarStep]) -> Option<Rule>
         requires { OnTrue is_next (HasNext self.now) }
         ensures says { said_by result ≡ if_next is_next (tree behind.now) }
-        ensures fits { IfSome result (λ rule. Fits self.now rule) }
+        ensures fits { IfSome result (λ rule. FitsRule self.now rule) }
     {
         self.tree_then(is_next, behind, None)
     }
 
     // What the rule says, or nothing is taken.
     fn or_nothing(&self, rule: Option<Rule>) -> Option<Rule>
-        requires { IfSome rule (λ rule. Fits self.now rule) }
+        requires { IfSome rule (λ rule. FitsRule self.now rule) }
         ensures says { said_by result ≡ or_nothing (said_by rule) }
-        ensures fits { IfSome result (λ rule. Fits self.now rule) }
+        ensures fits { IfSome result (λ rule. FitsRule self.now rule) }
     {
         match rule {
             Some(rule) => Some(rule),
@@ -147,10 +157,10 @@ impl Cursor<'_> {
 
     // What the first rule says, or what the other one says.
     fn first(&self, rule: Option<Rule>, other: Option<Rule>) -> Option<Rule>
-        requires rule { IfSome rule (λ rule. Fits self.now rule) }
-        requires other { IfSome other (λ rule. Fits self.now rule) }
+        requires rule { IfSome rule (λ rule. FitsRule self.now rule) }
+        requires other { IfSome other (λ rule. FitsRule self.now rule) }
         ensures says { said_by result ≡ option_or (said_by rule) (said_by other) }
-        ensures fits { IfSome result (λ rule. Fits self.now rule) }
+        ensures fits { IfSome result (λ rule. FitsRule self.now rule) }
     {
         match rule {
             Some(rule) => Some(rule),
@@ -164,12 +174,12 @@ impl Cursor<'_> {
         is_next: bool,
         amount: Amount,
         role: Role,
-        behind: &'static [Step],
+        behind: &'static [GrammarStep],
     ) -> Option<Rule>
         requires next { OnTrue is_next (HasNext self.now) }
         requires role { OnTrue is_next (FitsRole self.now role) }
         ensures says { said_by result ≡ if_next is_next (taking amount role behind.now) }
-        ensures fits { IfSome result (λ rule. Fits self.now rule) }
+        ensures fits { IfSome result (λ rule. FitsRule self.now rule) }
     {
         if is_next {
             Some(Rule::Take(Taking {
@@ -189,11 +199,11 @@ impl Cursor<'_> {
         is_next: bool,
         amount: Amount,
         reads: Reads,
-        behind: &'static [Step],
+        behind: &'static [GrammarStep],
     ) -> Option<Rule>
         requires { OnTrue is_next (HasNext self.now) }
         ensures says { said_by result ≡ if_next is_next (taking amount (role_of_constant reads) behind.now) }
-        ensures fits { IfSome result (λ rule. Fits self.now rule) }
+        ensures fits { IfSome result (λ rule. FitsRule self.now rule) }
     {
         match reads {
             Reads::Constants => self.role_if(is_next, amount, Role::Operand, behind),
@@ -205,7 +215,7 @@ impl Cursor<'_> {
     fn more_if(&self, is_next: bool, amount: Amount, reads: Reads) -> Option<Rule>
         requires { OnTrue is_next (HasNext self.now) }
         ensures says { said_by result ≡ if_next is_next (taking amount (role_of_more reads) []) }
-        ensures fits { IfSome result (λ rule. Fits self.now rule) }
+        ensures fits { IfSome result (λ rule. FitsRule self.now rule) }
     {
         match reads {
             Reads::Constants => self.role_if(is_next, amount, Role::More, &[]),
@@ -217,7 +227,7 @@ impl Cursor<'_> {
     fn local_if(&self, role: Role) -> Option<Rule>
         ensures name { said_by result
             ≡ if_next (is_name_next (text_of self.now) (tokens_of self.now) 37) (taking OneToken role []) }
-        ensures fits { IfSome result (λ rule. Fits self.now rule) }
+        ensures fits { IfSome result (λ rule. FitsRule self.now rule) }
     {
         self.role_if(self.at_name(b'%'), Amount::OneToken, role, &[])
     }
@@ -227,7 +237,7 @@ impl Cursor<'_> {
         requires { HasNext self.now }
         ensures says { said_by result
             ≡ word_value_move (first_bytes (text_of self.now) (tokens_of self.now)) (role_of_constant reads) }
-        ensures fits { IfSome result (λ rule. Fits self.now rule) }
+        ensures fits { IfSome result (λ rule. FitsRule self.now rule) }
     {
         let word = self.bytes();
         if is_expression(word) {
@@ -235,21 +245,21 @@ impl Cursor<'_> {
                 true,
                 Amount::OneToken,
                 reads,
-                &[Step::Part(Piece::Expression)],
+                &[GrammarStep::Part(Piece::Expression)],
             )
         } else if is_assembly(word) {
             self.constant_if(
                 true,
                 Amount::OneToken,
                 reads,
-                &[Step::Part(Piece::Assembly)],
+                &[GrammarStep::Part(Piece::Assembly)],
             )
         } else if is_reference(word) {
             self.constant_if(
                 true,
                 Amount::OneToken,
                 reads,
-                &[Step::Part(Piece::Reference)],
+                &[GrammarStep::Part(Piece::Reference)],
             )
         } else {
             self.constant_if(is_constant(word), Amount::OneToken, reads, &[])
@@ -259,7 +269,7 @@ impl Cursor<'_> {
     // A value is taken.
     fn value(&self, reads: Reads) -> Option<Rule>
         ensures says { said_by result ≡ value_move (text_of self.now) reads (tokens_of self.now) }
-        ensures fits { IfSome result (λ rule. Fits self.now rule) }
+        ensures fits { IfSome result (λ rule. FitsRule self.now rule) }
     {
         if self.at_name(b'%') {
             self.local_if(Role::Operand)
@@ -277,18 +287,18 @@ impl Cursor<'_> {
     // A piece of a constant expression is taken.
     fn expression(&self, reads: Reads) -> Option<Rule>
         ensures says { said_by result ≡ expression_move (text_of self.now) reads (tokens_of self.now) }
-        ensures fits { IfSome result (λ rule. Fits self.now rule) }
+        ensures fits { IfSome result (λ rule. FitsRule self.now rule) }
     {
         if self.at_word(b"inrange") {
             self.token_if(
                 true,
                 &[
-                    Step::Part(Piece::RoundBracket),
-                    Step::Part(Piece::Expression),
+                    GrammarStep::Part(Piece::RoundBracket),
+                    GrammarStep::Part(Piece::Expression),
                 ],
             )
         } else if self.at_any_word() {
-            self.token_if(true, &[Step::Part(Piece::Expression)])
+            self.token_if(true, &[GrammarStep::Part(Piece::Expression)])
         } else {
             self.more_if(self.at_open_round(), Amount::OneTree, reads)
         }
@@ -297,60 +307,60 @@ impl Cursor<'_> {
     // An attribute between a type and its value is taken, or nothing.
     fn attribute(&self) -> Option<Rule>
         ensures says { said_by result ≡ attribute_move (text_of self.now) (tokens_of self.now) }
-        ensures fits { IfSome result (λ rule. Fits self.now rule) }
+        ensures fits { IfSome result (λ rule. FitsRule self.now rule) }
     {
         if self.at_word(b"align") {
             self.token_if(
                 true,
                 &[
-                    Step::Part(Piece::AlignNumber),
-                    Step::Part(Piece::Attributes),
+                    GrammarStep::Part(Piece::AlignNumber),
+                    GrammarStep::Part(Piece::Attributes),
                 ],
             )
         } else {
             self.or_nothing(self.token_if(
                 self.at_attribute(),
                 &[
-                    Step::Part(Piece::PairValue),
-                    Step::Part(Piece::RoundBracket),
-                    Step::Part(Piece::Attributes),
+                    GrammarStep::Part(Piece::PairValue),
+                    GrammarStep::Part(Piece::RoundBracket),
+                    GrammarStep::Part(Piece::Attributes),
                 ],
             ))
         }
     }
 
     // Metadata is taken: a name, with a bracket or none, a list of values, or `!` and a string or a bracket.
-    fn metadata(&self, last: Option<Step>) -> Option<Rule>
+    fn metadata(&self, last: Option<GrammarStep>) -> Option<Rule>
         ensures says { said_by result ≡ metadata_move (text_of self.now) last (tokens_of self.now) }
-        ensures fits { IfSome result (λ rule. Fits self.now rule) }
+        ensures fits { IfSome result (λ rule. FitsRule self.now rule) }
     {
         if self.at_mark(b'!') {
-            self.token_then(true, &[Step::Part(Piece::Tree)], last)
+            self.token_then(true, &[GrammarStep::Part(Piece::Tree)], last)
         } else if !self.at_name(b'!') {
             None
         } else if self.bytes() == b"!DIArgList".as_slice() {
-            self.token_then(true, &[Step::Arguments], last)
+            self.token_then(true, &[GrammarStep::Arguments], last)
         } else {
-            self.token_then(true, &[Step::Part(Piece::RoundBracket)], last)
+            self.token_then(true, &[GrammarStep::Part(Piece::RoundBracket)], last)
         }
     }
 
     // A type is taken, attributes and a value behind it, or metadata; then the last step, if there is one.
-    fn typed_value(&self, last: Option<Step>) -> Option<Rule>
+    fn typed_value(&self, last: Option<GrammarStep>) -> Option<Rule>
         ensures says { said_by result ≡ typed_value_move (text_of self.now) last (tokens_of self.now) }
-        ensures fits { IfSome result (λ rule. Fits self.now rule) }
+        ensures fits { IfSome result (λ rule. FitsRule self.now rule) }
     {
         if self.at_word(b"metadata") {
-            return self.token_then(true, &[Step::TypedValue], last);
+            return self.token_then(true, &[GrammarStep::TypedValue], last);
         }
         self.first(
             self.metadata(last),
             self.tree_then(
                 self.at_type(),
                 &[
-                    Step::Part(Piece::Suffixes),
-                    Step::Part(Piece::Attributes),
-                    Step::Value,
+                    GrammarStep::Part(Piece::Suffixes),
+                    GrammarStep::Part(Piece::Attributes),
+                    GrammarStep::Value,
                 ],
                 last,
             ),
@@ -360,36 +370,36 @@ impl Cursor<'_> {
     // An argument is taken, or the end of the arguments.
     fn argument(&self) -> Option<Rule>
         ensures says { said_by result ≡ arguments_move (text_of self.now) (tokens_of self.now) }
-        ensures fits { IfSome result (λ rule. Fits self.now rule) }
+        ensures fits { IfSome result (λ rule. FitsRule self.now rule) }
     {
         if self.at_close_round() {
             self.token_if(true, &[])
         } else if self.at_word(b"...") {
-            self.token_if(true, &[Step::InList(ListStep::ArgumentsBehind)])
+            self.token_if(true, &[GrammarStep::InList(ListStep::ArgumentsBehind)])
         } else {
-            self.typed_value(Some(Step::InList(ListStep::ArgumentsBehind)))
+            self.typed_value(Some(GrammarStep::InList(ListStep::ArgumentsBehind)))
         }
     }
 
     // A clause of a landing pad is taken, or nothing.
     fn clause(&self) -> Option<Rule>
         ensures says { said_by result ≡ clauses_move (text_of self.now) (tokens_of self.now) }
-        ensures fits { IfSome result (λ rule. Fits self.now rule) }
+        ensures fits { IfSome result (λ rule. FitsRule self.now rule) }
     {
         if self.at_word(b"cleanup") {
-            return self.token_if(true, &[Step::Clauses]);
+            return self.token_if(true, &[GrammarStep::Clauses]);
         }
         let is_clause = self.at_word(b"catch") || self.at_word(b"filter");
-        self.or_nothing(self.token_if(is_clause, &[Step::TypedValue, Step::Clauses]))
+        self.or_nothing(self.token_if(is_clause, &[GrammarStep::TypedValue, GrammarStep::Clauses]))
     }
 
     // Whatever else is next is taken.
     fn rest(&self) -> Option<Rule>
         ensures says { said_by result ≡ rest_move (text_of self.now) (tokens_of self.now) }
-        ensures fits { IfSome result (λ rule. Fits self.now rule) }
+        ensures fits { IfSome result (λ rule. FitsRule self.now rule) }
     {
         if self.at_any() {
-            self.tree_if(!self.at_name(b'%'), &[Step::Rest])
+            self.tree_if(!self.at_name(b'%'), &[GrammarStep::Rest])
         } else {
             self.or_nothing(None)
         }
@@ -425,15 +435,18 @@ impl Cursor<'_> {
     // An attribute of a call is taken, the beginning of its bundles, or nothing.
     fn call_attribute(&self) -> Option<Rule>
         ensures says { said_by result ≡ call_attributes_move (text_of self.now) (tokens_of self.now) }
-        ensures fits { IfSome result (λ rule. Fits self.now rule) }
+        ensures fits { IfSome result (λ rule. FitsRule self.now rule) }
     {
         let attribute = self.tree_if(
             self.at_call_attribute(),
-            &[Step::Part(Piece::PairValue), Step::CallAttributes],
+            &[
+                GrammarStep::Part(Piece::PairValue),
+                GrammarStep::CallAttributes,
+            ],
         );
         let bundles = self.token_if(
             self.at_open_square(),
-            &[Step::InList(ListStep::BundlesInside)],
+            &[GrammarStep::InList(ListStep::BundlesInside)],
         );
         self.first(attribute, self.or_nothing(bundles))
     }
@@ -441,25 +454,25 @@ impl Cursor<'_> {
     // The end of a list in square brackets is taken.
     fn square_end(&self) -> Option<Rule>
         ensures says { said_by result ≡ if_next (is_close_square (first_kind (tokens_of self.now))) (token []) }
-        ensures fits { IfSome result (λ rule. Fits self.now rule) }
+        ensures fits { IfSome result (λ rule. FitsRule self.now rule) }
     {
         self.token_if(self.at_close_square(), &[])
     }
 
     // A comma is taken; then come these steps.
-    fn comma_then(&self, behind: &'static [Step]) -> Option<Rule>
+    fn comma_then(&self, behind: &'static [GrammarStep]) -> Option<Rule>
         ensures says { said_by result
             ≡ if_next (is_mark_next (text_of self.now) (tokens_of self.now) 44) (token behind.now) }
-        ensures fits { IfSome result (λ rule. Fits self.now rule) }
+        ensures fits { IfSome result (λ rule. FitsRule self.now rule) }
     {
         self.token_if(self.at_mark(b','), behind)
     }
 
     // This word is taken; then come these steps.
-    fn word_then(&self, word: &[u8], behind: &'static [Step]) -> Option<Rule>
+    fn word_then(&self, word: &[u8], behind: &'static [GrammarStep]) -> Option<Rule>
         ensures says { said_by result
             ≡ if_next (is_word_next (text_of self.now) (tokens_of self.now) word.now) (token behind.now) }
-        ensures fits { IfSome result (λ rule. Fits self.now rule) }
+        ensures fits { IfSome result (λ rule. FitsRule self.now rule) }
     {
         self.token_if(self.at_word(word), behind)
     }
@@ -467,18 +480,18 @@ impl Cursor<'_> {
     // What a piece of a type or a value takes.
     fn piece_rule(&self, piece: Piece, reads: Reads) -> Option<Rule>
         ensures says { said_by result ≡ piece_move (text_of self.now) reads piece (tokens_of self.now) }
-        ensures fits { IfSome result (λ rule. Fits self.now rule) }
+        ensures fits { IfSome result (λ rule. FitsRule self.now rule) }
     {
         match piece {
             Piece::PairValue => self.or_nothing(self.token_if(
                 self.at_mark(b'='),
-                &[Step::Part(Piece::Tree)],
+                &[GrammarStep::Part(Piece::Tree)],
             )),
             Piece::RoundBracket => self.or_nothing(self.tree_if(self.at_open_round(), &[])),
             Piece::Tree => self.tree_if(self.at_any(), &[]),
             Piece::Suffixes => self.or_nothing(self.tree_if(
                 self.at_suffix(),
-                &[Step::Part(Piece::Suffixes)],
+                &[GrammarStep::Part(Piece::Suffixes)],
             )),
             Piece::Attributes => self.attribute(),
             Piece::AlignNumber => self.first(
@@ -487,10 +500,10 @@ impl Cursor<'_> {
             ),
             Piece::Expression => self.expression(reads),
             Piece::Assembly => self.first(
-                self.token_if(self.at_any_word(), &[Step::Part(Piece::Assembly)]),
+                self.token_if(self.at_any_word(), &[GrammarStep::Part(Piece::Assembly)]),
                 self.token_if(
                     self.at_text(),
-                    &[Step::Comma, Step::Part(Piece::AssemblyText)],
+                    &[GrammarStep::Comma, GrammarStep::Part(Piece::AssemblyText)],
                 ),
             ),
             Piece::AssemblyText => self.more_if(self.at_text(), Amount::OneToken, reads),
@@ -501,19 +514,22 @@ impl Cursor<'_> {
     // What a step inside the brackets of a list takes.
     fn list_rule(&self, step: ListStep) -> Option<Rule>
         ensures says { said_by result ≡ list_move (text_of self.now) step (tokens_of self.now) }
-        ensures fits { IfSome result (λ rule. Fits self.now rule) }
+        ensures fits { IfSome result (λ rule. FitsRule self.now rule) }
     {
         match step {
             ListStep::LabelsInside => self.first(
                 self.square_end(),
                 self.word_then(
                     b"label",
-                    &[Step::Block, Step::InList(ListStep::LabelsBehind)],
+                    &[
+                        GrammarStep::Block,
+                        GrammarStep::InList(ListStep::LabelsBehind),
+                    ],
                 ),
             ),
             ListStep::LabelsBehind => self.first(
                 self.square_end(),
-                self.comma_then(&[Step::InList(ListStep::LabelsInside)]),
+                self.comma_then(&[GrammarStep::InList(ListStep::LabelsInside)]),
             ),
             ListStep::CasesInside => self.first(
                 self.square_end(),
@@ -523,70 +539,83 @@ impl Cursor<'_> {
             ListStep::EntryEnd => self.square_end(),
             ListStep::MoreEntries => self.or_nothing(self.token_if(
                 self.at_more_entries(),
-                &[Step::Entries],
+                &[GrammarStep::Entries],
             )),
             ListStep::ArgumentsInside => self.argument(),
             ListStep::ArgumentsBehind => self.first(
                 self.token_if(self.at_close_round(), &[]),
-                self.comma_then(&[Step::InList(ListStep::ArgumentsInside)]),
+                self.comma_then(&[GrammarStep::InList(ListStep::ArgumentsInside)]),
             ),
             ListStep::BundlesInside => self.first(
                 self.square_end(),
                 self.token_if(
                     self.at_text(),
-                    &[Step::Arguments, Step::InList(ListStep::BundlesBehind)],
+                    &[
+                        GrammarStep::Arguments,
+                        GrammarStep::InList(ListStep::BundlesBehind),
+                    ],
                 ),
             ),
             ListStep::BundlesBehind => self.first(
                 self.square_end(),
-                self.comma_then(&[Step::InList(ListStep::BundlesInside)]),
+                self.comma_then(&[GrammarStep::InList(ListStep::BundlesInside)]),
             ),
         }
     }
 
     /// What the step takes of what is left; none, where something else is next. Cost: that of the next word.
-    pub fn rule(&self, step: Step, reads: Reads) -> Option<Rule>
-        ensures says { said_by result ≡ move_of (text_of self.now) reads step (tokens_of self.now) }
-        ensures fits { IfSome result (λ rule. Fits self.now rule) }
+    pub fn rule(&self, step: GrammarStep, reads: Reads) -> Option<Rule>
+        ensures says { said_by result ≡ move_of_step (text_of self.now) reads step (tokens_of self.now) }
+        ensures fits { IfSome result (λ rule. FitsRule self.now rule) }
     {
         match step {
-            Step::Flags => self.or_nothing(self.token_if(self.at_flag(), &FLAG)),
-            Step::TypeName => self.tree_if(self.at_type(), &[Step::Part(Piece::Suffixes)]),
-            Step::Value => self.value(reads),
-            Step::TypedValue => self.typed_value(None),
-            Step::MoreTypedValues => self.or_nothing(self.token_if(
+            GrammarStep::Flags => self.or_nothing(self.token_if(self.at_flag(), &FLAG)),
+            GrammarStep::TypeName => self.tree_if(
+                self.at_type(),
+                &[GrammarStep::Part(Piece::Suffixes)],
+            ),
+            GrammarStep::Value => self.value(reads),
+            GrammarStep::TypedValue => self.typed_value(None),
+            GrammarStep::MoreTypedValues => self.or_nothing(self.token_if(
                 self.at_more_values(),
-                &[Step::TypedValue, Step::MoreTypedValues],
+                &[GrammarStep::TypedValue, GrammarStep::MoreTypedValues],
             )),
-            Step::Comma => self.comma_then(&[]),
-            Step::To => self.word_then(b"to", &[]),
-            Step::Unwind => self.word_then(b"unwind", &[]),
-            Step::Label => self.word_then(b"label", &[Step::Block]),
-            Step::Block => self.local_if(Role::Successor),
-            Step::Labels => self.token_if(
+            GrammarStep::Comma => self.comma_then(&[]),
+            GrammarStep::To => self.word_then(b"to", &[]),
+            GrammarStep::Unwind => self.word_then(b"unwind", &[]),
+            GrammarStep::Label => self.word_then(b"label", &[GrammarStep::Block]),
+            GrammarStep::Block => self.local_if(Role::Successor),
+            GrammarStep::Labels => self.token_if(
                 self.at_open_square(),
-                &[Step::InList(ListStep::LabelsInside)],
+                &[GrammarStep::InList(ListStep::LabelsInside)],
             ),
-            Step::Cases => self.token_if(
+            GrammarStep::Cases => self.token_if(
                 self.at_open_square(),
-                &[Step::InList(ListStep::CasesInside)],
+                &[GrammarStep::InList(ListStep::CasesInside)],
             ),
-            Step::Entries => self.token_if(self.at_open_square(), &ENTRY),
-            Step::Arguments => self.token_if(
+            GrammarStep::Entries => self.token_if(self.at_open_square(), &ENTRY),
+            GrammarStep::Arguments => self.token_if(
                 self.at_open_round(),
-                &[Step::InList(ListStep::ArgumentsInside)],
+                &[GrammarStep::InList(ListStep::ArgumentsInside)],
             ),
-            Step::CallAttributes => self.call_attribute(),
-            Step::Clauses => self.clause(),
-            Step::Branch => self.first(
-                self.word_then(b"label", &[Step::Block]),
-                self.typed_value(Some(Step::BranchLabels)),
+            GrammarStep::CallAttributes => self.call_attribute(),
+            GrammarStep::Clauses => self.clause(),
+            GrammarStep::Branch => self.first(
+                self.word_then(b"label", &[GrammarStep::Block]),
+                self.typed_value(Some(GrammarStep::BranchLabels)),
             ),
-            Step::BranchLabels => self.comma_then(&[Step::Label, Step::Comma, Step::Label]),
-            Step::ReturnValue => self.first(self.word_then(b"void", &[]), self.typed_value(None)),
-            Step::Rest => self.rest(),
-            Step::Part(piece) => self.piece_rule(piece, reads),
-            Step::InList(step) => self.list_rule(step),
+            GrammarStep::BranchLabels => self.comma_then(&[
+                GrammarStep::Label,
+                GrammarStep::Comma,
+                GrammarStep::Label,
+            ]),
+            GrammarStep::ReturnValue => self.first(
+                self.word_then(b"void", &[]),
+                self.typed_value(None),
+            ),
+            GrammarStep::Rest => self.rest(),
+            GrammarStep::Part(piece) => self.piece_rule(piece, reads),
+            GrammarStep::InList(step) => self.list_rule(step),
         }
     }
 }

@@ -4,19 +4,19 @@
 ghost use Rattle.std.specs.Prelude.{◌≡◌, ◌≤◌, [], drop, length, Some, IfOk, IfErr, IfSome, OnOk};
 ghost use Rattle.pliron_text_llvm_syntax.specs.Forms.{AreHoles};
 ghost use Rattle.pliron_text_llvm_reader.specs.TokenLists.{AreTokens};
-ghost use Rattle.pliron_text_llvm_reader.specs.Cursors.{text_of, tokens_of, place_of, first_bytes, IsForward};
+ghost use Rattle.pliron_text_llvm_reader.specs.Cursors.{text_of, tokens_of, place_of, first_bytes, MovesForward};
 ghost use Rattle.pliron_text_llvm_reader.specs.Holes.{AreHolesBetween};
 ghost use Rattle.pliron_text_llvm_reader.specs.Statements.{is_funclet, IsNameBetween, IsOpcodeOf, IsStatementOf, MayGive};
-ghost use Rattle.pliron_text_llvm_reader.specs.Rows.{result_name, behind_name, first_span, IsGiven, GivesBy, HasHoles, IsReadAs, IsRowOf};
+ghost use Rattle.pliron_text_llvm_reader.specs.Rows.{result_name, behind_name, first_span, IsGiven, GivesBy, HasHoles, AreTokensRead, IsStatementRow};
 ghost use Rattle.pliron_text_llvm_reader.specs.Table.{row_named as row_named_in};
 ghost use Rattle.pliron_text_llvm_reader.specs.Stops.{IsUnread, IsStopIn};
 
-use crate::cursor::Cursor;
+use crate::cursor::StatementCursor;
 use crate::steps::push_steps;
-use crate::stop::{Reason, Stop, unless};
-use crate::table::{Gives, Reads, Row, Step, row_named};
+use crate::stop::{KeptReason, StatementStop, unless};
+use crate::table::{Gives, GrammarStep, OpcodeRow, Reads, row_named};
 use crate::tokens::push_tokens;
-use pliron_text_llvm_syntax::{Hole, Span, Token};
+use pliron_text_llvm_syntax::{ByteSpan, Hole, LlvmToken};
 use std::alloc::Global;
 
 /// A statement, but for its operands and successors.
@@ -24,11 +24,11 @@ use std::alloc::Global;
 #[derive(Clone, Copy, Debug, Drop, PartialEq, Eq)]
 pub struct Statement {
     /// The name of its result, where the text says one.
-    pub name: Option<Span>,
+    pub name: Option<ByteSpan>,
     /// Its first word.
-    pub opcode: Span,
+    pub opcode: ByteSpan,
     /// What the table says of its opcode.
-    pub row: Row,
+    pub row: OpcodeRow,
     /// Whether it gives a value.
     pub gives: bool,
 }
@@ -36,8 +36,8 @@ pub struct Statement {
 /// A word that the table has.
 #[derive(Clone, Copy)]
 struct Opcode {
-    span: Span,
-    row: Row,
+    span: ByteSpan,
+    row: OpcodeRow,
 }
 
 // Whether the opcode is of a funclet.
@@ -52,14 +52,14 @@ fn is_funclet(opcode: &[u8]) -> bool
 }
 
 // The row of the opcode.
-fn row_of(opcode: &[u8]) -> Result<Row, Stop>
+fn row_of(opcode: &[u8]) -> Result<OpcodeRow, StatementStop>
     ensures row { IfOk result (λ row. row_named_in opcode.now ≡ Some row) }
     ensures stop { IfErr result (λ stop. IsUnread stop) }
 {
     match row_named(opcode) {
         Some(row) => Ok(row),
-        None if is_funclet(opcode) => Err(Stop::Kept(Reason::Funclet)),
-        None => Err(Stop::Kept(Reason::Opcode)),
+        None if is_funclet(opcode) => Err(StatementStop::Kept(KeptReason::Funclet)),
+        None => Err(StatementStop::Kept(KeptReason::Opcode)),
     }
 }
 
@@ -67,14 +67,14 @@ fn row_of(opcode: &[u8]) -> Result<Row, Stop>
 #[doc(hidden)]
 #[derive(Drop)]
 pub struct StatementRoom {
-    tokens: Vec<Token>,
-    steps: Vec<Step>,
+    tokens: Vec<LlvmToken>,
+    steps: Vec<GrammarStep>,
 }
 
-impl Cursor<'_> {
+impl StatementCursor<'_> {
     // Takes the name of the result and the `=`, if they are next.
-    fn result_name(&mut self) -> Option<Span>
-        ensures forward { IsForward self.old self.new }
+    fn result_name(&mut self) -> Option<ByteSpan>
+        ensures forward { MovesForward self.old self.new }
         ensures exact { result ≡ result_name (text_of self.old) (tokens_of self.old) }
         ensures tokens { tokens_of self.new ≡ behind_name (text_of self.old) (tokens_of self.old) }
         ensures name { IfSome result (λ name. IsNameBetween (text_of self.old) self.old.end self.new.end name) }
@@ -91,8 +91,8 @@ impl Cursor<'_> {
 
     // Takes the opcode.
     #[tactic(auto, using(crate::proofs::CursorLemmas::end_within, crate::proofs::CursorLemmas::end_place, crate::proofs::StatementLemmas::opcode_read))]
-    fn opcode(&mut self) -> Result<Opcode, Stop>
-        ensures forward { IsForward self.old self.new }
+    fn opcode(&mut self) -> Result<Opcode, StatementStop>
+        ensures forward { MovesForward self.old self.new }
         ensures opcode { IfOk result (λ opcode. IsOpcodeOf (text_of self.old) opcode.span opcode.row) }
         ensures row { IfOk result (λ opcode.
             row_named_in (first_bytes (text_of self.old) (tokens_of self.old)) ≡ Some opcode.row) }
@@ -103,7 +103,7 @@ impl Cursor<'_> {
         ensures stop { IfErr result (λ stop. IsUnread stop) }
     {
         if !self.at_any() {
-            return Err(Stop::Kept(Reason::Opcode));
+            return Err(StatementStop::Kept(KeptReason::Opcode));
         }
         let start = self.place();
         let row = row_of(self.bytes())?;
@@ -118,14 +118,14 @@ impl Cursor<'_> {
     fn is_given(
         &self,
         reads: Reads,
-        steps: &mut Vec<Step>,
+        steps: &mut Vec<GrammarStep>,
         holes: &mut Vec<Hole>,
-    ) -> Result<bool, Stop>
+    ) -> Result<bool, StatementStop>
         ensures given { IfOk result (λ gives. IsGiven (text_of self.now) reads (tokens_of self.now) gives) }
         ensures stop { IfErr result (λ stop. IsUnread stop) }
     {
         steps.clear();
-        push_steps(&[Step::Flags], steps)?;
+        push_steps(&[GrammarStep::Flags], steps)?;
         holes.clear();
         let mut ahead = *self;
         ahead.read_steps(reads, steps, holes)?;
@@ -133,7 +133,12 @@ impl Cursor<'_> {
     }
 
     // Whether what is behind an opcode gives a value.
-    fn gives(&self, row: Row, steps: &mut Vec<Step>, holes: &mut Vec<Hole>) -> Result<bool, Stop>
+    fn gives(
+        &self,
+        row: OpcodeRow,
+        steps: &mut Vec<GrammarStep>,
+        holes: &mut Vec<Hole>,
+    ) -> Result<bool, StatementStop>
         ensures gives { IfOk result (λ gives. GivesBy (text_of self.now) (tokens_of self.now) row gives) }
         ensures may { IfOk result (λ gives. MayGive row.gives gives) }
         ensures stop { IfErr result (λ stop. IsUnread stop) }
@@ -148,11 +153,11 @@ impl Cursor<'_> {
     // Takes what the row says, and leaves its holes; then nothing is left.
     fn read_row(
         &mut self,
-        row: Row,
-        steps: &mut Vec<Step>,
+        row: OpcodeRow,
+        steps: &mut Vec<GrammarStep>,
         holes: &mut Vec<Hole>,
-    ) -> Result<(), Stop>
-        ensures forward { IsForward self.old self.new }
+    ) -> Result<(), StatementStop>
+        ensures forward { MovesForward self.old self.new }
         ensures row { OnOk result (HasHoles (text_of self.old) row (tokens_of self.old) holes.new.items) }
         ensures holes { OnOk result
             (AreHolesBetween (text_of self.old) self.old.end (length (text_of self.old)) holes.new.items) }
@@ -162,7 +167,7 @@ impl Cursor<'_> {
         push_steps(row.layout.steps(), steps)?;
         holes.clear();
         self.read_steps(row.reads, steps, holes)?;
-        unless(!self.at_any(), Reason::Rest)
+        unless(!self.at_any(), KeptReason::Rest)
     }
 }
 
@@ -180,18 +185,18 @@ impl StatementRoom {
 fn read_tokens(
     text: &[u8],
     start: usize,
-    tokens: &[Token],
-    steps: &mut Vec<Step>,
+    tokens: &[LlvmToken],
+    steps: &mut Vec<GrammarStep>,
     holes: &mut Vec<Hole>,
-) -> Result<Statement, Stop>
+) -> Result<Statement, StatementStop>
     requires tokens { AreTokens start (length text.now) tokens.now }
     ensures statement { IfOk result (λ statement. IsStatementOf text.now start statement) }
-    ensures read { IfOk result (λ statement. IsReadAs text.now tokens.now statement holes.new.items) }
+    ensures read { IfOk result (λ statement. AreTokensRead text.now tokens.now statement holes.new.items) }
     ensures holes { IfOk result (λ statement.
         AreHolesBetween text.now statement.opcode.end (length text.now) holes.new.items) }
     ensures stop { IfErr result (λ stop. IsUnread stop) }
 {
-    let mut cursor = Cursor::new(text, tokens, start);
+    let mut cursor = StatementCursor::new(text, tokens, start);
     let name = cursor.result_name();
     let opcode = cursor.opcode()?;
     let gives = cursor.gives(opcode.row, steps, holes)?;
@@ -208,8 +213,8 @@ fn read_tokens(
 /// operands and successors, in order, all behind its opcode: local values, constants where what the statement gives
 /// follows from its operands, and blocks. `room` is room for what is read.
 ///
-/// Asks that the byte is in the text, or its end. Errors: an opcode that the table doesn't have, or something that the
-/// opcode doesn't have behind it; a token is broken; allocation failure. Cost: linear in the statement.
+/// Asks that the byte is in the text, or its end. Errors: `Kept`, where the table doesn't have the opcode, or where
+/// something else is behind it than its row says; a token is broken; allocation failure. Cost: linear in the statement.
 #[doc(hidden)]
 #[tactic(auto, using(crate::proofs::HoleLemmas::holes_whole, crate::proofs::StopLemmas::stop_unread, crate::proofs::StopLemmas::stop_fault))]
 pub fn read_statement(
@@ -217,10 +222,10 @@ pub fn read_statement(
     start: usize,
     room: &mut StatementRoom,
     holes: &mut Vec<Hole>,
-) -> Result<Statement, Stop>
+) -> Result<Statement, StatementStop>
     requires { start ≤ length text.now }
     ensures statement { IfOk result (λ statement. IsStatementOf text.now start statement) }
-    ensures row { IfOk result (λ statement. IsRowOf text.now start statement holes.new.items) }
+    ensures row { IfOk result (λ statement. IsStatementRow text.now start statement holes.new.items) }
     ensures between { IfOk result (λ statement.
         AreHolesBetween text.now statement.opcode.end (length text.now) holes.new.items) }
     ensures holes { OnOk result (AreHoles text.now 0 holes.new.items) }

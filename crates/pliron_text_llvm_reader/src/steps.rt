@@ -2,65 +2,69 @@
 #![tactic(auto, using(crate::proofs::CursorLemmas::end_within, crate::proofs::CursorLemmas::end_place, crate::proofs::CursorLemmas::next_some, crate::proofs::StopLemmas::unread_memory))]
 
 ghost use Rattle.std.specs.Prelude.{◌≡◌, ◌∷◌, ◌++◌, [], reverse, OnOk, IfOk, IfErr, IfSome, IfNone};
-ghost use Rattle.pliron_text_llvm_reader.specs.Cursors.{text_of, tokens_of, place_of, HasNext, IsForward, HasTaken};
+ghost use Rattle.pliron_text_llvm_reader.specs.Cursors.{text_of, tokens_of, place_of, HasNext, MovesForward, HasTaken};
 ghost use Rattle.pliron_text_llvm_reader.specs.Grammar.{with_last, FitsTaking};
 ghost use Rattle.pliron_text_llvm_reader.specs.Holes.{AreHolesBetween, hole_between};
-ghost use Rattle.pliron_text_llvm_reader.specs.Readings.{behind_taken, end_of_taken, holes_with, with_end, Skips, IsNextTaking, Leads};
+ghost use Rattle.pliron_text_llvm_reader.specs.Readings.{behind_taken, end_of_taken, holes_with, with_end, Skips, IsNextTaking, LeadsBySteps};
 ghost use Rattle.pliron_text_llvm_reader.specs.Stops.{IsUnread};
 
-use crate::cursor::Cursor;
+use crate::cursor::StatementCursor;
 use crate::rules::{Amount, Role, Rule, Taking};
-use crate::stop::{Reason, Stop};
-use crate::table::{ListStep, Piece, Reads, Step};
+use crate::stop::{KeptReason, StatementStop};
+use crate::table::{GrammarStep, ListStep, Piece, Reads};
 use pliron_text_llvm_syntax::{Hole, HoleKind};
 
 impl Piece {
     // Why a statement is kept that has something else here.
-    fn reason(self) -> Reason {
+    fn reason(self) -> KeptReason {
         match self {
-            Piece::Attributes | Piece::Suffixes => Reason::Type,
-            _ => Reason::Value,
+            Piece::Attributes | Piece::Suffixes => KeptReason::Type,
+            _ => KeptReason::Value,
         }
     }
 }
 
 impl ListStep {
     // Why a statement is kept that has something else here.
-    fn reason(self) -> Reason {
+    fn reason(self) -> KeptReason {
         match self {
-            ListStep::LabelsInside | ListStep::LabelsBehind => Reason::Label,
-            ListStep::CasesInside => Reason::Type,
-            ListStep::CaseValue => Reason::Value,
-            ListStep::EntryEnd | ListStep::MoreEntries => Reason::Entry,
-            _ => Reason::Arguments,
+            ListStep::LabelsInside | ListStep::LabelsBehind => KeptReason::Label,
+            ListStep::CasesInside => KeptReason::Type,
+            ListStep::CaseValue => KeptReason::Value,
+            ListStep::EntryEnd | ListStep::MoreEntries => KeptReason::Entry,
+            _ => KeptReason::Arguments,
         }
     }
 }
 
-impl Step {
+impl GrammarStep {
     // Why a statement is kept that has something else here.
-    fn reason(self) -> Reason {
+    fn reason(self) -> KeptReason {
         match self {
-            Step::Flags | Step::TypeName | Step::TypedValue | Step::MoreTypedValues => Reason::Type,
-            Step::Value => Reason::Value,
-            Step::Comma | Step::BranchLabels => Reason::Comma,
-            Step::To => Reason::To,
-            Step::Unwind => Reason::Unwind,
-            Step::Label | Step::Block => Reason::Label,
-            Step::Labels | Step::Cases => Reason::Labels,
-            Step::Entries => Reason::Entry,
-            Step::Arguments | Step::CallAttributes => Reason::Arguments,
-            Step::Clauses | Step::Branch | Step::ReturnValue => Reason::Type,
-            Step::Rest => Reason::Local,
-            Step::Part(piece) => piece.reason(),
-            Step::InList(step) => step.reason(),
+            GrammarStep::Flags
+            | GrammarStep::TypeName
+            | GrammarStep::TypedValue
+            | GrammarStep::MoreTypedValues => KeptReason::Type,
+            GrammarStep::Value => KeptReason::Value,
+            GrammarStep::Comma | GrammarStep::BranchLabels => KeptReason::Comma,
+            GrammarStep::To => KeptReason::To,
+            GrammarStep::Unwind => KeptReason::Unwind,
+            GrammarStep::Label | GrammarStep::Block => KeptReason::Label,
+            GrammarStep::Labels | GrammarStep::Cases => KeptReason::Labels,
+            GrammarStep::Entries => KeptReason::Entry,
+            GrammarStep::Arguments | GrammarStep::CallAttributes => KeptReason::Arguments,
+            GrammarStep::Clauses | GrammarStep::Branch | GrammarStep::ReturnValue =>
+                KeptReason::Type,
+            GrammarStep::Rest => KeptReason::Local,
+            GrammarStep::Part(piece) => piece.reason(),
+            GrammarStep::InList(step) => step.reason(),
         }
     }
 }
 
 // The last hole ends at this byte.
 #[tactic(auto, using(crate::proofs::HoleLemmas::with_end_last, crate::proofs::StopLemmas::unread_memory))]
-fn lengthen(end: usize, holes: &mut Vec<Hole>) -> Result<(), Stop>
+fn lengthen(end: usize, holes: &mut Vec<Hole>) -> Result<(), StatementStop>
     ensures ok { OnOk result (holes.new.items ≡ with_end end holes.old.items) }
     ensures stop { IfErr result (λ stop. IsUnread stop) }
 {
@@ -73,7 +77,7 @@ fn lengthen(end: usize, holes: &mut Vec<Hole>) -> Result<(), Stop>
 
 /// These steps come next, before those that came next. Errors: allocation failure. Cost: linear in them.
 #[tactic(auto, using(crate::proofs::ReadingLemmas::pushed_none, crate::proofs::ReadingLemmas::pushed_next, crate::proofs::StopLemmas::unread_memory))]
-pub fn push_steps(before: &[Step], steps: &mut Vec<Step>) -> Result<(), Stop>
+pub fn push_steps(before: &[GrammarStep], steps: &mut Vec<GrammarStep>) -> Result<(), StatementStop>
     ensures ok { OnOk result (reverse steps.new.items ≡ before.now ++ reverse steps.old.items) }
     ensures stop { IfErr result (λ stop. IsUnread stop) }
 {
@@ -88,7 +92,7 @@ pub fn push_steps(before: &[Step], steps: &mut Vec<Step>) -> Result<(), Stop>
 impl Taking {
     // What comes in place of its step comes next.
     #[tactic(auto, using(crate::proofs::ReadingLemmas::with_last_append, crate::proofs::ReadingLemmas::pushed_last, crate::proofs::StopLemmas::unread_memory))]
-    fn push_behind(&self, steps: &mut Vec<Step>) -> Result<(), Stop>
+    fn push_behind(&self, steps: &mut Vec<GrammarStep>) -> Result<(), StatementStop>
         ensures ok { OnOk result (reverse steps.new.items
             ≡ with_last self.now.behind.now self.now.last ++ reverse steps.old.items) }
         ensures stop { IfErr result (λ stop. IsUnread stop) }
@@ -100,9 +104,14 @@ impl Taking {
     }
 }
 
-impl Cursor<'_> {
+impl StatementCursor<'_> {
     // Adds what was taken since this place as a hole.
-    fn push_hole(&self, kind: HoleKind, start: usize, holes: &mut Vec<Hole>) -> Result<(), Stop>
+    fn push_hole(
+        &self,
+        kind: HoleKind,
+        start: usize,
+        holes: &mut Vec<Hole>,
+    ) -> Result<(), StatementStop>
         ensures ok { OnOk result (holes.new.items ≡ holes.old.items ++ hole_between kind start self.now.end ∷ []) }
         ensures stop { IfErr result (λ stop. IsUnread stop) }
     {
@@ -114,7 +123,7 @@ impl Cursor<'_> {
     }
 
     // Adds what was taken since this place as what it is for the statement.
-    fn note(&self, role: Role, start: usize, holes: &mut Vec<Hole>) -> Result<(), Stop>
+    fn note(&self, role: Role, start: usize, holes: &mut Vec<Hole>) -> Result<(), StatementStop>
         ensures ok { OnOk result (holes.new.items ≡ holes_with role start self.now.end holes.old.items) }
         ensures stop { IfErr result (λ stop. IsUnread stop) }
     {
@@ -128,7 +137,7 @@ impl Cursor<'_> {
 
     // Takes so much.
     fn take(&mut self, amount: Amount)
-        ensures forward { IsForward self.old self.new }
+        ensures forward { MovesForward self.old self.new }
         ensures taken { HasNext self.old → HasTaken self.old self.new }
         ensures tokens { tokens_of self.new ≡ behind_taken amount (tokens_of self.old) }
         ensures end { HasNext self.old → self.new.end ≡ end_of_taken amount (tokens_of self.old) }
@@ -140,9 +149,9 @@ impl Cursor<'_> {
     }
 
     // Takes what the rule says, and adds it as what it is for the statement.
-    fn apply(&mut self, taking: &Taking, holes: &mut Vec<Hole>) -> Result<(), Stop>
+    fn apply(&mut self, taking: &Taking, holes: &mut Vec<Hole>) -> Result<(), StatementStop>
         requires { FitsTaking self.old taking.now }
-        ensures forward { IsForward self.old self.new }
+        ensures forward { MovesForward self.old self.new }
         ensures taken { HasTaken self.old self.new }
         ensures tokens { tokens_of self.new ≡ behind_taken taking.now.amount (tokens_of self.old) }
         ensures holes { OnOk result (holes.new.items
@@ -157,7 +166,11 @@ impl Cursor<'_> {
 
     // What is taken next; none, where no step is left. Steps of which nothing is there are left out.
     #[tactic(auto, using(crate::proofs::ReadingLemmas::skips_none, crate::proofs::ReadingLemmas::skips_step, crate::proofs::ReadingLemmas::skips_to, crate::proofs::ReadingLemmas::popped))]
-    fn next_taking(&self, reads: Reads, steps: &mut Vec<Step>) -> Result<Option<Taking>, Stop>
+    fn next_taking(
+        &self,
+        reads: Reads,
+        steps: &mut Vec<GrammarStep>,
+    ) -> Result<Option<Taking>, StatementStop>
         ensures next { IfOk result (λ found. IfSome found (λ taking. IsNextTaking (text_of self.now) reads
             (reverse steps.old.items) (tokens_of self.now) taking (reverse steps.new.items))) }
         ensures fits { IfOk result (λ found. IfSome found (λ taking. FitsTaking self.now taking)) }
@@ -167,7 +180,7 @@ impl Cursor<'_> {
     {
         while let Some(step) = steps.pop() {
             let Some(rule) = self.rule(step, reads) else {
-                return Err(Stop::Kept(step.reason()));
+                return Err(StatementStop::Kept(step.reason()));
             };
             match rule {
                 Rule::Take(taking) => return Ok(Some(taking)),
@@ -183,13 +196,13 @@ impl Cursor<'_> {
     pub fn read_steps(
         &mut self,
         reads: Reads,
-        steps: &mut Vec<Step>,
+        steps: &mut Vec<GrammarStep>,
         holes: &mut Vec<Hole>,
-    ) -> Result<(), Stop>
+    ) -> Result<(), StatementStop>
         requires { holes.old.items ≡ [] }
-        ensures forward { IsForward self.old self.new }
-        ensures leads { OnOk result (Leads (text_of self.old) reads (reverse steps.old.items) (tokens_of self.old) []
-            [] (tokens_of self.new) holes.new.items) }
+        ensures forward { MovesForward self.old self.new }
+        ensures leads { OnOk result (LeadsBySteps (text_of self.old) reads (reverse steps.old.items)
+            (tokens_of self.old) [] [] (tokens_of self.new) holes.new.items) }
         ensures holes { OnOk result (AreHolesBetween (text_of self.old) self.old.end self.new.end holes.new.items) }
         ensures stop { IfErr result (λ stop. IsUnread stop) }
     {

@@ -1,6 +1,6 @@
 //! What each opcode has behind it.
 ghost use Rattle.std.specs.Prelude.{◌≡◌};
-ghost use Rattle.pliron_text_llvm_reader.specs.Words.{is_named};
+ghost use Rattle.pliron_text_llvm_reader.specs.Words.{is_one_of};
 ghost use Rattle.pliron_text_llvm_reader.specs.Table.{integer_operators, integer_casts, float_operators, other_casts};
 ghost use Rattle.pliron_text_llvm_reader.specs.Table.{element_opcodes, call_opcodes, records, value_row, effect_row};
 ghost use Rattle.pliron_text_llvm_reader.specs.Table.{terminator_row, call_row, row_by_constants, row_of_value, row_of_end};
@@ -62,7 +62,7 @@ pub enum ListStep {
 /// What is read next of a statement.
 #[doc(hidden)]
 #[derive(Clone, Copy, Debug, Drop, PartialEq, Eq)]
-pub enum Step {
+pub enum GrammarStep {
     /// Words, with the brackets behind them, and strings, up to a type.
     Flags,
     /// A type.
@@ -119,7 +119,7 @@ pub enum Gives {
 /// What stands behind an opcode.
 #[doc(hidden)]
 #[derive(Clone, Copy, Debug, Drop, PartialEq, Eq)]
-pub enum Layout {
+pub enum StatementLayout {
     Binary,
     Values,
     Cast,
@@ -144,152 +144,171 @@ pub enum Layout {
 /// A row of the table of opcodes.
 #[doc(hidden)]
 #[derive(Clone, Copy, Debug, Drop, PartialEq, Eq)]
-pub struct Row {
-    pub layout: Layout,
+pub struct OpcodeRow {
+    pub layout: StatementLayout,
     pub reads: Reads,
     pub gives: Gives,
     /// Whether the statement ends a block.
     pub is_terminator: bool,
 }
 
-static BINARY: [Step; 6] = [
-    Step::Flags,
-    Step::TypeName,
-    Step::Value,
-    Step::Comma,
-    Step::Value,
-    Step::Rest,
+static BINARY: [GrammarStep; 6] = [
+    GrammarStep::Flags,
+    GrammarStep::TypeName,
+    GrammarStep::Value,
+    GrammarStep::Comma,
+    GrammarStep::Value,
+    GrammarStep::Rest,
 ];
 
-static VALUES: [Step; 4] = [
-    Step::Flags,
-    Step::TypedValue,
-    Step::MoreTypedValues,
-    Step::Rest,
+static VALUES: [GrammarStep; 4] = [
+    GrammarStep::Flags,
+    GrammarStep::TypedValue,
+    GrammarStep::MoreTypedValues,
+    GrammarStep::Rest,
 ];
 
-static CAST: [Step; 6] = [
-    Step::Flags,
-    Step::TypeName,
-    Step::Value,
-    Step::To,
-    Step::TypeName,
-    Step::Rest,
+static CAST: [GrammarStep; 6] = [
+    GrammarStep::Flags,
+    GrammarStep::TypeName,
+    GrammarStep::Value,
+    GrammarStep::To,
+    GrammarStep::TypeName,
+    GrammarStep::Rest,
 ];
 
-static ACCESS: [Step; 6] = [
-    Step::Flags,
-    Step::TypeName,
-    Step::Comma,
-    Step::TypedValue,
-    Step::MoreTypedValues,
-    Step::Rest,
+static ACCESS: [GrammarStep; 6] = [
+    GrammarStep::Flags,
+    GrammarStep::TypeName,
+    GrammarStep::Comma,
+    GrammarStep::TypedValue,
+    GrammarStep::MoreTypedValues,
+    GrammarStep::Rest,
 ];
 
-static ALLOCATION: [Step; 4] = [
-    Step::Flags,
-    Step::TypeName,
-    Step::MoreTypedValues,
-    Step::Rest,
+static ALLOCATION: [GrammarStep; 4] = [
+    GrammarStep::Flags,
+    GrammarStep::TypeName,
+    GrammarStep::MoreTypedValues,
+    GrammarStep::Rest,
 ];
 
-static FENCE: [Step; 2] = [Step::Flags, Step::Rest];
+static FENCE: [GrammarStep; 2] = [GrammarStep::Flags, GrammarStep::Rest];
 
-static VARIADIC: [Step; 4] = [Step::TypedValue, Step::Comma, Step::TypeName, Step::Rest];
-
-static PAD: [Step; 3] = [Step::TypeName, Step::Clauses, Step::Rest];
-
-static PHI: [Step; 4] = [Step::Flags, Step::TypeName, Step::Entries, Step::Rest];
-
-static CALL: [Step; 6] = [
-    Step::Flags,
-    Step::TypeName,
-    Step::Value,
-    Step::Arguments,
-    Step::CallAttributes,
-    Step::Rest,
+static VARIADIC: [GrammarStep; 4] = [
+    GrammarStep::TypedValue,
+    GrammarStep::Comma,
+    GrammarStep::TypeName,
+    GrammarStep::Rest,
 ];
 
-static INVOKE: [Step; 10] = [
-    Step::Flags,
-    Step::TypeName,
-    Step::Value,
-    Step::Arguments,
-    Step::CallAttributes,
-    Step::To,
-    Step::Label,
-    Step::Unwind,
-    Step::Label,
-    Step::Rest,
+static PAD: [GrammarStep; 3] = [
+    GrammarStep::TypeName,
+    GrammarStep::Clauses,
+    GrammarStep::Rest,
 ];
 
-static CALL_BRANCH: [Step; 9] = [
-    Step::Flags,
-    Step::TypeName,
-    Step::Value,
-    Step::Arguments,
-    Step::CallAttributes,
-    Step::To,
-    Step::Label,
-    Step::Labels,
-    Step::Rest,
+static PHI: [GrammarStep; 4] = [
+    GrammarStep::Flags,
+    GrammarStep::TypeName,
+    GrammarStep::Entries,
+    GrammarStep::Rest,
 ];
 
-static RETURN: [Step; 2] = [Step::ReturnValue, Step::Rest];
-
-static RESUME: [Step; 2] = [Step::TypedValue, Step::Rest];
-
-static NOTHING: [Step; 1] = [Step::Rest];
-
-static BRANCH: [Step; 2] = [Step::Branch, Step::Rest];
-
-static SWITCH: [Step; 5] = [
-    Step::TypedValue,
-    Step::Comma,
-    Step::Label,
-    Step::Cases,
-    Step::Rest,
+static CALL: [GrammarStep; 6] = [
+    GrammarStep::Flags,
+    GrammarStep::TypeName,
+    GrammarStep::Value,
+    GrammarStep::Arguments,
+    GrammarStep::CallAttributes,
+    GrammarStep::Rest,
 ];
 
-static INDIRECT: [Step; 4] = [Step::TypedValue, Step::Comma, Step::Labels, Step::Rest];
+static INVOKE: [GrammarStep; 10] = [
+    GrammarStep::Flags,
+    GrammarStep::TypeName,
+    GrammarStep::Value,
+    GrammarStep::Arguments,
+    GrammarStep::CallAttributes,
+    GrammarStep::To,
+    GrammarStep::Label,
+    GrammarStep::Unwind,
+    GrammarStep::Label,
+    GrammarStep::Rest,
+];
 
-static RECORD: [Step; 1] = [Step::Arguments];
+static CALL_BRANCH: [GrammarStep; 9] = [
+    GrammarStep::Flags,
+    GrammarStep::TypeName,
+    GrammarStep::Value,
+    GrammarStep::Arguments,
+    GrammarStep::CallAttributes,
+    GrammarStep::To,
+    GrammarStep::Label,
+    GrammarStep::Labels,
+    GrammarStep::Rest,
+];
 
-impl Layout {
+static RETURN: [GrammarStep; 2] = [GrammarStep::ReturnValue, GrammarStep::Rest];
+
+static RESUME: [GrammarStep; 2] = [GrammarStep::TypedValue, GrammarStep::Rest];
+
+static NOTHING: [GrammarStep; 1] = [GrammarStep::Rest];
+
+static BRANCH: [GrammarStep; 2] = [GrammarStep::Branch, GrammarStep::Rest];
+
+static SWITCH: [GrammarStep; 5] = [
+    GrammarStep::TypedValue,
+    GrammarStep::Comma,
+    GrammarStep::Label,
+    GrammarStep::Cases,
+    GrammarStep::Rest,
+];
+
+static INDIRECT: [GrammarStep; 4] = [
+    GrammarStep::TypedValue,
+    GrammarStep::Comma,
+    GrammarStep::Labels,
+    GrammarStep::Rest,
+];
+
+static RECORD: [GrammarStep; 1] = [GrammarStep::Arguments];
+
+impl StatementLayout {
     /// What is read one after another. Cost: constant.
-    pub fn steps(self) -> &'static [Step]
+    pub fn steps(self) -> &'static [GrammarStep]
         ensures { result.now ≡ steps_of self }
     {
         match self {
-            Layout::Binary => &BINARY,
-            Layout::Values => &VALUES,
-            Layout::Cast => &CAST,
-            Layout::Access => &ACCESS,
-            Layout::Allocation => &ALLOCATION,
-            Layout::Fence => &FENCE,
-            Layout::Variadic => &VARIADIC,
-            Layout::Pad => &PAD,
-            Layout::Phi => &PHI,
-            Layout::Call => &CALL,
-            Layout::Invoke => &INVOKE,
-            Layout::CallBranch => &CALL_BRANCH,
-            Layout::Return => &RETURN,
-            Layout::Resume => &RESUME,
-            Layout::Nothing => &NOTHING,
-            Layout::Branch => &BRANCH,
-            Layout::Switch => &SWITCH,
-            Layout::Indirect => &INDIRECT,
-            Layout::Record => &RECORD,
+            StatementLayout::Binary => &BINARY,
+            StatementLayout::Values => &VALUES,
+            StatementLayout::Cast => &CAST,
+            StatementLayout::Access => &ACCESS,
+            StatementLayout::Allocation => &ALLOCATION,
+            StatementLayout::Fence => &FENCE,
+            StatementLayout::Variadic => &VARIADIC,
+            StatementLayout::Pad => &PAD,
+            StatementLayout::Phi => &PHI,
+            StatementLayout::Call => &CALL,
+            StatementLayout::Invoke => &INVOKE,
+            StatementLayout::CallBranch => &CALL_BRANCH,
+            StatementLayout::Return => &RETURN,
+            StatementLayout::Resume => &RESUME,
+            StatementLayout::Nothing => &NOTHING,
+            StatementLayout::Branch => &BRANCH,
+            StatementLayout::Switch => &SWITCH,
+            StatementLayout::Indirect => &INDIRECT,
+            StatementLayout::Record => &RECORD,
         }
     }
 }
 
-impl Row {
+impl OpcodeRow {
     // What gives a value always, and reads constants or not.
-    fn value(layout: Layout, reads: Reads) -> Self
+    fn value(layout: StatementLayout, reads: Reads) -> Self
         ensures { result ≡ value_row layout reads }
     {
-        Row {
+        OpcodeRow {
             layout,
             reads,
             gives: Gives::Always,
@@ -298,10 +317,10 @@ impl Row {
     }
 
     // What gives nothing.
-    fn effect(layout: Layout) -> Self
+    fn effect(layout: StatementLayout) -> Self
         ensures { result ≡ effect_row layout }
     {
-        Row {
+        OpcodeRow {
             layout,
             reads: Reads::Locals,
             gives: Gives::Never,
@@ -310,10 +329,10 @@ impl Row {
     }
 
     // What ends a block, and gives nothing.
-    fn terminator(layout: Layout, reads: Reads) -> Self
+    fn terminator(layout: StatementLayout, reads: Reads) -> Self
         ensures { result ≡ terminator_row layout reads }
     {
-        Row {
+        OpcodeRow {
             layout,
             reads,
             gives: Gives::Never,
@@ -322,10 +341,10 @@ impl Row {
     }
 
     // A call, which ends a block or not.
-    fn call(layout: Layout, is_terminator: bool) -> Self
+    fn call(layout: StatementLayout, is_terminator: bool) -> Self
         ensures { result ≡ call_row layout is_terminator }
     {
-        Row {
+        OpcodeRow {
             layout,
             reads: Reads::Locals,
             gives: Gives::UnlessVoid,
@@ -335,7 +354,7 @@ impl Row {
 }
 
 fn is_integer_operator(opcode: &[u8]) -> bool
-    ensures { result ≡ is_named integer_operators opcode.now }
+    ensures { result ≡ is_one_of integer_operators opcode.now }
 {
     opcode == b"add".as_slice()
         || opcode == b"sub".as_slice()
@@ -354,7 +373,7 @@ fn is_integer_operator(opcode: &[u8]) -> bool
 }
 
 fn is_integer_cast(opcode: &[u8]) -> bool
-    ensures { result ≡ is_named integer_casts opcode.now }
+    ensures { result ≡ is_one_of integer_casts opcode.now }
 {
     opcode == b"trunc".as_slice()
         || opcode == b"zext".as_slice()
@@ -363,7 +382,7 @@ fn is_integer_cast(opcode: &[u8]) -> bool
 }
 
 fn is_float_operator(opcode: &[u8]) -> bool
-    ensures { result ≡ is_named float_operators opcode.now }
+    ensures { result ≡ is_one_of float_operators opcode.now }
 {
     opcode == b"fadd".as_slice()
         || opcode == b"fsub".as_slice()
@@ -374,7 +393,7 @@ fn is_float_operator(opcode: &[u8]) -> bool
 }
 
 fn is_other_cast(opcode: &[u8]) -> bool
-    ensures { result ≡ is_named other_casts opcode.now }
+    ensures { result ≡ is_one_of other_casts opcode.now }
 {
     opcode == b"fptrunc".as_slice()
         || opcode == b"fpext".as_slice()
@@ -389,7 +408,7 @@ fn is_other_cast(opcode: &[u8]) -> bool
 }
 
 fn is_of_elements(opcode: &[u8]) -> bool
-    ensures { result ≡ is_named element_opcodes opcode.now }
+    ensures { result ≡ is_one_of element_opcodes opcode.now }
 {
     opcode == b"fneg".as_slice()
         || opcode == b"freeze".as_slice()
@@ -403,7 +422,7 @@ fn is_of_elements(opcode: &[u8]) -> bool
 }
 
 fn is_call(opcode: &[u8]) -> bool
-    ensures { result ≡ is_named call_opcodes opcode.now }
+    ensures { result ≡ is_one_of call_opcodes opcode.now }
 {
     opcode == b"call".as_slice()
         || opcode == b"tail".as_slice()
@@ -412,7 +431,7 @@ fn is_call(opcode: &[u8]) -> bool
 }
 
 fn is_record(opcode: &[u8]) -> bool
-    ensures { result ≡ is_named records opcode.now }
+    ensures { result ≡ is_one_of records opcode.now }
 {
     opcode == b"#dbg_value".as_slice()
         || opcode == b"#dbg_declare".as_slice()
@@ -422,82 +441,82 @@ fn is_record(opcode: &[u8]) -> bool
 }
 
 // The row of a statement whose result follows from its operands.
-fn row_by_constants(opcode: &[u8]) -> Option<Row>
+fn row_by_constants(opcode: &[u8]) -> Option<OpcodeRow>
     ensures { result ≡ row_by_constants opcode.now }
 {
     if is_integer_operator(opcode) {
-        Some(Row::value(Layout::Binary, Reads::Constants))
+        Some(OpcodeRow::value(StatementLayout::Binary, Reads::Constants))
     } else if is_integer_cast(opcode) {
-        Some(Row::value(Layout::Cast, Reads::Constants))
+        Some(OpcodeRow::value(StatementLayout::Cast, Reads::Constants))
     } else if opcode == b"select".as_slice() {
-        Some(Row::value(Layout::Values, Reads::Constants))
+        Some(OpcodeRow::value(StatementLayout::Values, Reads::Constants))
     } else if opcode == b"phi".as_slice() {
-        Some(Row::value(Layout::Phi, Reads::Constants))
+        Some(OpcodeRow::value(StatementLayout::Phi, Reads::Constants))
     } else {
         None
     }
 }
 
 // The row of another statement that gives a value.
-fn row_of_value(opcode: &[u8]) -> Option<Row>
+fn row_of_value(opcode: &[u8]) -> Option<OpcodeRow>
     ensures { result ≡ row_of_value opcode.now }
 {
     if is_float_operator(opcode) {
-        Some(Row::value(Layout::Binary, Reads::Locals))
+        Some(OpcodeRow::value(StatementLayout::Binary, Reads::Locals))
     } else if is_other_cast(opcode) {
-        Some(Row::value(Layout::Cast, Reads::Locals))
+        Some(OpcodeRow::value(StatementLayout::Cast, Reads::Locals))
     } else if is_of_elements(opcode) {
-        Some(Row::value(Layout::Values, Reads::Locals))
+        Some(OpcodeRow::value(StatementLayout::Values, Reads::Locals))
     } else if opcode == b"load".as_slice() || opcode == b"getelementptr".as_slice() {
-        Some(Row::value(Layout::Access, Reads::Locals))
+        Some(OpcodeRow::value(StatementLayout::Access, Reads::Locals))
     } else if opcode == b"alloca".as_slice() {
-        Some(Row::value(Layout::Allocation, Reads::Locals))
+        Some(OpcodeRow::value(StatementLayout::Allocation, Reads::Locals))
     } else if opcode == b"va_arg".as_slice() {
-        Some(Row::value(Layout::Variadic, Reads::Locals))
+        Some(OpcodeRow::value(StatementLayout::Variadic, Reads::Locals))
     } else if opcode == b"landingpad".as_slice() {
-        Some(Row::value(Layout::Pad, Reads::Locals))
+        Some(OpcodeRow::value(StatementLayout::Pad, Reads::Locals))
     } else {
         None
     }
 }
 
 // The row of a statement that ends a block.
-fn row_of_end(opcode: &[u8]) -> Option<Row>
+fn row_of_end(opcode: &[u8]) -> Option<OpcodeRow>
     ensures { result ≡ row_of_end opcode.now }
 {
     if opcode == b"ret".as_slice() {
-        Some(Row::terminator(Layout::Return, Reads::Constants))
+        Some(OpcodeRow::terminator(StatementLayout::Return, Reads::Constants))
     } else if opcode == b"br".as_slice() {
-        Some(Row::terminator(Layout::Branch, Reads::Constants))
+        Some(OpcodeRow::terminator(StatementLayout::Branch, Reads::Constants))
     } else if opcode == b"switch".as_slice() {
-        Some(Row::terminator(Layout::Switch, Reads::Constants))
+        Some(OpcodeRow::terminator(StatementLayout::Switch, Reads::Constants))
     } else if opcode == b"resume".as_slice() {
-        Some(Row::terminator(Layout::Resume, Reads::Locals))
+        Some(OpcodeRow::terminator(StatementLayout::Resume, Reads::Locals))
     } else if opcode == b"unreachable".as_slice() {
-        Some(Row::terminator(Layout::Nothing, Reads::Locals))
+        Some(OpcodeRow::terminator(StatementLayout::Nothing, Reads::Locals))
     } else if opcode == b"indirectbr".as_slice() {
-        Some(Row::terminator(Layout::Indirect, Reads::Locals))
+        Some(OpcodeRow::terminator(StatementLayout::Indirect, Reads::Locals))
     } else if opcode == b"invoke".as_slice() {
-        Some(Row::call(Layout::Invoke, true))
+        Some(OpcodeRow::call(StatementLayout::Invoke, true))
     } else if opcode == b"callbr".as_slice() {
-        Some(Row::call(Layout::CallBranch, true))
+        Some(OpcodeRow::call(StatementLayout::CallBranch, true))
     } else {
         None
     }
 }
 
 // The row of another statement.
-fn row_of_effect(opcode: &[u8]) -> Option<Row>
+fn row_of_effect(opcode: &[u8]) -> Option<OpcodeRow>
     ensures { result ≡ row_of_effect opcode.now }
 {
     if is_call(opcode) {
-        Some(Row::call(Layout::Call, false))
+        Some(OpcodeRow::call(StatementLayout::Call, false))
     } else if is_record(opcode) {
-        Some(Row::effect(Layout::Record))
+        Some(OpcodeRow::effect(StatementLayout::Record))
     } else if opcode == b"store".as_slice() {
-        Some(Row::effect(Layout::Values))
+        Some(OpcodeRow::effect(StatementLayout::Values))
     } else if opcode == b"fence".as_slice() {
-        Some(Row::effect(Layout::Fence))
+        Some(OpcodeRow::effect(StatementLayout::Fence))
     } else {
         None
     }
@@ -505,7 +524,7 @@ fn row_of_effect(opcode: &[u8]) -> Option<Row>
 
 /// The row of this opcode, if it has one. Cost: linear in the opcodes.
 #[doc(hidden)]
-pub fn row_named(opcode: &[u8]) -> Option<Row>
+pub fn row_named(opcode: &[u8]) -> Option<OpcodeRow>
     ensures { result ≡ row_named opcode.now }
 {
     if let Some(row) = row_by_constants(opcode) {

@@ -2,8 +2,9 @@
 ghost use Rattle.std.specs.Prelude.{◌≡◌};
 ghost use Rattle.std.specs.List.{list_all};
 ghost use Rattle.std.specs.Char.{is_ascii_digit};
-ghost use Rattle.pliron_text_llvm_reader.specs.Words.{is_integer_type, is_named, type_words, is_type_word, constant_words};
-ghost use Rattle.pliron_text_llvm_reader.specs.Words.{begins_with_digit, is_number, is_constant, address_words, operation_words, is_expression};
+ghost use Rattle.pliron_text_llvm_syntax.specs.Lexing.{begins_with_digit};
+ghost use Rattle.pliron_text_llvm_reader.specs.Words.{is_integer_type, is_one_of, type_words, is_type_word, constant_words};
+ghost use Rattle.pliron_text_llvm_reader.specs.Words.{is_number_word, is_constant_word, address_words, operation_words, is_expression};
 ghost use Rattle.pliron_text_llvm_reader.specs.Words.{reference_words, assembly_words, is_value_word, is_sign, is_prefix};
 
 // Whether all of the text are digits.
@@ -27,7 +28,7 @@ fn is_integer_type(word: &[u8]) -> bool
 
 // Whether the word is a type that isn't an integer.
 fn is_other_type(word: &[u8]) -> bool
-    ensures { result ≡ is_named type_words word.now }
+    ensures { result ≡ is_one_of type_words word.now }
 {
     word == b"void".as_slice()
         || word == b"half".as_slice()
@@ -79,7 +80,7 @@ fn is_prefix(byte: u8) -> bool
 
 // Whether the word is a number.
 fn is_number(word: &[u8]) -> bool
-    ensures { result ≡ is_number word.now }
+    ensures { result ≡ is_number_word word.now }
 {
     match word {
         [first, rest @ ..] => {
@@ -93,7 +94,7 @@ fn is_number(word: &[u8]) -> bool
 
 // Whether the word is a constant that isn't a number.
 fn is_other_constant(word: &[u8]) -> bool
-    ensures { result ≡ is_named constant_words word.now }
+    ensures { result ≡ is_one_of constant_words word.now }
 {
     word == b"true".as_slice()
         || word == b"false".as_slice()
@@ -107,14 +108,14 @@ fn is_other_constant(word: &[u8]) -> bool
 /// Whether the word is a constant by itself. Cost: constant.
 #[doc(hidden)]
 pub fn is_constant(word: &[u8]) -> bool
-    ensures { result ≡ is_constant word.now }
+    ensures { result ≡ is_constant_word word.now }
 {
     is_number(word) || is_other_constant(word)
 }
 
 // Whether the word begins a cast, an address, or a pointer with a signature.
 fn is_address(word: &[u8]) -> bool
-    ensures { result ≡ is_named address_words word.now }
+    ensures { result ≡ is_one_of address_words word.now }
 {
     word == b"getelementptr".as_slice()
         || word == b"ptrtoint".as_slice()
@@ -129,7 +130,7 @@ fn is_address(word: &[u8]) -> bool
 
 // Whether the word begins an operation on constants that gives no address.
 fn is_operation(word: &[u8]) -> bool
-    ensures { result ≡ is_named operation_words word.now }
+    ensures { result ≡ is_one_of operation_words word.now }
 {
     word == b"add".as_slice()
         || word == b"sub".as_slice()
@@ -155,7 +156,7 @@ pub fn is_expression(word: &[u8]) -> bool
 /// Whether the word begins a value that is a name behind it. Cost: constant.
 #[doc(hidden)]
 pub fn is_reference(word: &[u8]) -> bool
-    ensures { result ≡ is_named reference_words word.now }
+    ensures { result ≡ is_one_of reference_words word.now }
 {
     word == b"dso_local_equivalent".as_slice() || word == b"no_cfi".as_slice()
 }
@@ -163,7 +164,7 @@ pub fn is_reference(word: &[u8]) -> bool
 /// Whether the word begins inline assembly. Cost: constant.
 #[doc(hidden)]
 pub fn is_assembly(word: &[u8]) -> bool
-    ensures { result ≡ is_named assembly_words word.now }
+    ensures { result ≡ is_one_of assembly_words word.now }
 {
     word == b"asm".as_slice()
 }

@@ -8,37 +8,37 @@ use Rattle.std.proofs.lemmas.List.Sums.{sum_by-cons, sum_by-append, sum_by-take-
 use Rattle.pliron_text_llvm_syntax.specs.declared.forms.Hole.{Hole}
 use Rattle.pliron_text_llvm_syntax.specs.declared.forms.HoleKind.{HoleKind}
 use Rattle.pliron_text_llvm_syntax.specs.declared.forms.HoleKind.TheVariants.{Operand, Successor}
-use Rattle.pliron_text_llvm_syntax.specs.Forms.{is_mark, mark_of_kind, bytes_of_hole, AreHoles, form_behind, text_of_form}
+use Rattle.pliron_text_llvm_syntax.specs.Forms.{is_hole_byte, mark_of_kind, bytes_of_hole, AreHoles, form_behind, text_of_form}
 
-count-cons : (x : ℕ) (xs : List ℕ) → count_by is_mark (x ∷ xs) ≡ cond (is_mark x) 1 0 + count_by is_mark xs
-count-cons x xs = sum_by-cons (λ byte. cond (is_mark byte) 1 0) x xs
+count-cons : (x : ℕ) (xs : List ℕ) → count_by is_hole_byte (x ∷ xs) ≡ cond (is_hole_byte x) 1 0 + count_by is_hole_byte xs
+count-cons x xs = sum_by-cons (λ byte. cond (is_hole_byte byte) 1 0) x xs
 
-count-append : (xs ys : List ℕ) → count_by is_mark (xs ++ ys) ≡ count_by is_mark xs + count_by is_mark ys
-count-append xs ys = sum_by-append (λ byte. cond (is_mark byte) 1 0) xs ys
+count-append : (xs ys : List ℕ) → count_by is_hole_byte (xs ++ ys) ≡ count_by is_hole_byte xs + count_by is_hole_byte ys
+count-append xs ys = sum_by-append (λ byte. cond (is_hole_byte byte) 1 0) xs ys
 
-count-drop : (i : ℕ) (xs : List ℕ) → count_by is_mark xs ≡ 0 → count_by is_mark (drop i xs) ≡ 0
-count-drop i xs h = omega (arith, h, sum_by-take-drop (λ byte. cond (is_mark byte) 1 0) xs i)
+count-drop : (i : ℕ) (xs : List ℕ) → count_by is_hole_byte xs ≡ 0 → count_by is_hole_byte (drop i xs) ≡ 0
+count-drop i xs h = omega (arith, h, sum_by-take-drop (λ byte. cond (is_hole_byte byte) 1 0) xs i)
 
-count-take : (i : ℕ) (xs : List ℕ) → count_by is_mark xs ≡ 0 → count_by is_mark (take i xs) ≡ 0
-count-take i xs h = omega (arith, h, sum_by-take-drop (λ byte. cond (is_mark byte) 1 0) xs i)
+count-take : (i : ℕ) (xs : List ℕ) → count_by is_hole_byte xs ≡ 0 → count_by is_hole_byte (take i xs) ≡ 0
+count-take i xs h = omega (arith, h, sum_by-take-drop (λ byte. cond (is_hole_byte byte) 1 0) xs i)
 
 -- what is no mark
-head-plain : (x : ℕ) (xs : List ℕ) → count_by is_mark (x ∷ xs) ≡ 0 → is_mark x ≡ false
-head-plain x xs h = elim (cases_Bool (is_mark x)) [
-  | inl marked ↦ absurd (let one : ◌≡◌ {A = ℕ} (cond (is_mark x) 1 0) 1 = cond-true (is_mark x) 1 0 marked in omega (arith, h, count-cons x xs, one))
+head-plain : (x : ℕ) (xs : List ℕ) → count_by is_hole_byte (x ∷ xs) ≡ 0 → is_hole_byte x ≡ false
+head-plain x xs h = elim (cases_Bool (is_hole_byte x)) [
+  | inl marked ↦ absurd (let one : ◌≡◌ {A = ℕ} (cond (is_hole_byte x) 1 0) 1 = cond-true (is_hole_byte x) 1 0 marked in omega (arith, h, count-cons x xs, one))
   | inr plain ↦ plain
 ]
 
-tail-plain : (x : ℕ) (xs : List ℕ) → count_by is_mark (x ∷ xs) ≡ 0 → count_by is_mark xs ≡ 0
+tail-plain : (x : ℕ) (xs : List ℕ) → count_by is_hole_byte (x ∷ xs) ≡ 0 → count_by is_hole_byte xs ≡ 0
 tail-plain x xs h = omega (arith, h, count-cons x xs)
 
-fill-plain : (x : ℕ) (form : List ℕ) (texts : List (List ℕ)) → is_mark x ≡ false → text_of_form (x ∷ form) texts ≡ x ∷ text_of_form form texts
-fill-plain x form texts h = cond-false (is_mark x) (get_or texts 0 [] ++ text_of_form form (drop 1 texts)) (x ∷ text_of_form form texts) h
+fill-plain : (x : ℕ) (form : List ℕ) (texts : List (List ℕ)) → is_hole_byte x ≡ false → text_of_form (x ∷ form) texts ≡ x ∷ text_of_form form texts
+fill-plain x form texts h = cond-false (is_hole_byte x) (get_or texts 0 [] ++ text_of_form form (drop 1 texts)) (x ∷ text_of_form form texts) h
 
-fill-next : (x : ℕ) (form : List ℕ) (texts : List (List ℕ)) → is_mark x ≡ true → text_of_form (x ∷ form) texts ≡ get_or texts 0 [] ++ text_of_form form (drop 1 texts)
-fill-next x form texts h = cond-true (is_mark x) (get_or texts 0 [] ++ text_of_form form (drop 1 texts)) (x ∷ text_of_form form texts) h
+fill-next : (x : ℕ) (form : List ℕ) (texts : List (List ℕ)) → is_hole_byte x ≡ true → text_of_form (x ∷ form) texts ≡ get_or texts 0 [] ++ text_of_form form (drop 1 texts)
+fill-next x form texts h = cond-true (is_hole_byte x) (get_or texts 0 [] ++ text_of_form form (drop 1 texts)) (x ∷ text_of_form form texts) h
 
-fill-copy : (xs form : List ℕ) (texts : List (List ℕ)) → count_by is_mark xs ≡ 0 → text_of_form (xs ++ form) texts ≡ xs ++ text_of_form form texts
+fill-copy : (xs form : List ℕ) (texts : List (List ℕ)) → count_by is_hole_byte xs ≡ 0 → text_of_form (xs ++ form) texts ≡ xs ++ text_of_form form texts
 fill-copy [] form texts h = refl
 fill-copy (x ∷ xs) form texts h = fill-plain x (xs ++ form) texts (head-plain x xs h) ∙ ap (λ rest. x ∷ rest) (fill-copy xs form texts (tail-plain x xs h))
 
@@ -46,11 +46,11 @@ fill-mark : (kind : HoleKind) (form text : List ℕ) (texts : List (List ℕ)) �
 fill-mark Operand form text texts = refl
 fill-mark Successor form text texts = refl
 
-count-mark : (kind : HoleKind) (form : List ℕ) → count_by is_mark (mark_of_kind kind ∷ form) ≡ 1 + count_by is_mark form
+count-mark : (kind : HoleKind) (form : List ℕ) → count_by is_hole_byte (mark_of_kind kind ∷ form) ≡ 1 + count_by is_hole_byte form
 count-mark Operand form = count-cons 0 form
 count-mark Successor form = count-cons 1 form
 
-pub form_whole : (text : List ℕ) (at : ℕ) (holes : List Hole) → count_by is_mark text ≡ 0 → AreHoles text at holes → text_of_form (form_behind text at holes) (map (bytes_of_hole text) holes) ≡ drop at text
+pub form_whole : (text : List ℕ) (at : ℕ) (holes : List Hole) → count_by is_hole_byte text ≡ 0 → AreHoles text at holes → text_of_form (form_behind text at holes) (map (bytes_of_hole text) holes) ≡ drop at text
 form_whole text at [] plain h = ap (λ form. text_of_form form []) (sym (append-nil (drop at text))) ∙ fill-copy (drop at text) [] [] (count-drop at text plain) ∙ append-nil (drop at text)
 form_whole text at (hole ∷ holes) plain h =
     let before = slice_range text at hole.span.start in
@@ -62,7 +62,7 @@ form_whole text at (hole ∷ holes) plain h =
     ∙ sym (drop_split text hole.span.start hole.span.end h.1))
     ∙ sym (drop_split text at hole.span.start h.0)
 
-pub form_marks : (text : List ℕ) (at : ℕ) (holes : List Hole) → count_by is_mark text ≡ 0 → count_by is_mark (form_behind text at holes) ≡ length holes
+pub form_marks : (text : List ℕ) (at : ℕ) (holes : List Hole) → count_by is_hole_byte text ≡ 0 → count_by is_hole_byte (form_behind text at holes) ≡ length holes
 form_marks text at [] plain = count-drop at text plain
 form_marks text at (hole ∷ holes) plain =
     omega (
@@ -109,12 +109,12 @@ first_left next texts = get_or-drop next texts 0 [] ∙ ap (λ n. get_or texts n
 
 -- what one byte of a form stands for
 pub fill_step : (form : List ℕ) (i : ℕ) (texts : List (List ℕ)) (next : ℕ) (out whole : List ℕ) → i < length form → out ++ text_of_form (drop i form) (drop next texts) ≡ whole
-    → (out ++ cond (is_mark (get_or form i 0)) (get_or texts next []) (get_or form i 0 ∷ [])) ++ text_of_form (drop (i + 1) form) (drop (next + cond (is_mark (get_or form i 0)) 1 0) texts) ≡ whole
+    → (out ++ cond (is_hole_byte (get_or form i 0)) (get_or texts next []) (get_or form i 0 ∷ [])) ++ text_of_form (drop (i + 1) form) (drop (next + cond (is_hole_byte (get_or form i 0)) 1 0) texts) ≡ whole
 fill_step form i texts next out whole less h =
     let x = get_or form i 0 in
     let rest = drop (i + 1) form in
     let left : out ++ text_of_form (x ∷ rest) (drop next texts) ≡ whole = ap (λ bytes. out ++ text_of_form bytes (drop next texts)) (sym (drop_more form i 0 less)) ∙ h in
-    elim (cases_Bool (is_mark x)) [
+    elim (cases_Bool (is_hole_byte x)) [
       | inl marked ↦
           subst (λ b. (out ++ cond b (get_or texts next []) (x ∷ [])) ++ text_of_form rest (drop (next + cond b 1 0) texts) ≡ whole) (sym marked)
           (append_assoc out (get_or texts next []) (text_of_form rest (drop (next + 1) texts))
@@ -165,24 +165,24 @@ cut_end text form behind last whole holes at i past so behind-is last-is =
     ∙ sym (ap (λ rest. form ++ form_behind text at rest) (drop_all i holes past))
     ∙ so
 
-pub cut_whole : (text form : List ℕ) (holes : List Hole) → form ≡ form_behind text 0 holes → AreHoles text 0 holes → count_by is_mark text ≡ 0 → text_of_form form (map (bytes_of_hole text) holes) ≡ text
+pub cut_whole : (text form : List ℕ) (holes : List Hole) → form ≡ form_behind text 0 holes → AreHoles text 0 holes → count_by is_hole_byte text ≡ 0 → text_of_form form (map (bytes_of_hole text) holes) ≡ text
 cut_whole text form holes e h plain = ap (λ bytes. text_of_form bytes (map (bytes_of_hole text) holes)) e ∙ form_whole text 0 holes plain h
 
-pub cut_marks : (text form : List ℕ) (holes : List Hole) → form ≡ form_behind text 0 holes → count_by is_mark text ≡ 0 → count_by is_mark form ≡ length holes
-cut_marks text form holes e plain = ap (λ bytes. count_by is_mark bytes) e ∙ form_marks text 0 holes plain
+pub cut_marks : (text form : List ℕ) (holes : List Hole) → form ≡ form_behind text 0 holes → count_by is_hole_byte text ≡ 0 → count_by is_hole_byte form ≡ length holes
+cut_marks text form holes e plain = ap (λ bytes. count_by is_hole_byte bytes) e ∙ form_marks text 0 holes plain
 
 -- a byte more was filled
 pub fill_put : (form : List ℕ) (texts : List (List ℕ)) (out some piece after whole : List ℕ) (i next count : ℕ) → i < length form → next ≤ i → out ++ text_of_form (drop i form) (drop next texts) ≡ whole
-    → some ≡ get_or texts next [] → piece ≡ cond (is_mark (get_or form i 0)) some (get_or form i 0 ∷ []) → after ≡ out ++ piece → count ≡ cond (is_mark (get_or form i 0)) 1 0
+    → some ≡ get_or texts next [] → piece ≡ cond (is_hole_byte (get_or form i 0)) some (get_or form i 0 ∷ []) → after ≡ out ++ piece → count ≡ cond (is_hole_byte (get_or form i 0)) 1 0
     → (next + count ≤ i + 1) × (after ++ text_of_form (drop (i + 1) form) (drop (next + count) texts) ≡ whole)
 fill_put form texts out some piece after whole i next count less le so some-is piece-is after-is count-is =
     let x = get_or form i 0 in
-    let few : count ≤ 1 = elim (cases_Bool (is_mark x)) [
-      | inl marked ↦ (let one : ◌≡◌ {A = ℕ} (cond (is_mark x) 1 0) 1 = cond-true (is_mark x) 1 0 marked in omega (arith, count-is, one))
-      | inr plain ↦ (let none : ◌≡◌ {A = ℕ} (cond (is_mark x) 1 0) 0 = cond-false (is_mark x) 1 0 plain in omega (arith, count-is, none))
+    let few : count ≤ 1 = elim (cases_Bool (is_hole_byte x)) [
+      | inl marked ↦ (let one : ◌≡◌ {A = ℕ} (cond (is_hole_byte x) 1 0) 1 = cond-true (is_hole_byte x) 1 0 marked in omega (arith, count-is, one))
+      | inr plain ↦ (let none : ◌≡◌ {A = ℕ} (cond (is_hole_byte x) 1 0) 0 = cond-false (is_hole_byte x) 1 0 plain in omega (arith, count-is, none))
     ] in
-    let e : after ≡ out ++ cond (is_mark x) (get_or texts next []) (x ∷ []) = after-is ∙ ap (λ bytes. out ++ bytes) (piece-is ∙ ap (λ bytes. cond (is_mark x) bytes (x ∷ [])) some-is) in (
+    let e : after ≡ out ++ cond (is_hole_byte x) (get_or texts next []) (x ∷ []) = after-is ∙ ap (λ bytes. out ++ bytes) (piece-is ∙ ap (λ bytes. cond (is_hole_byte x) bytes (x ∷ [])) some-is) in (
       omega (arith, few, le),
       subst (λ n. after ++ text_of_form (drop (i + 1) form) (drop (next + n) texts) ≡ whole) (sym count-is)
-          (ap (λ bytes. bytes ++ text_of_form (drop (i + 1) form) (drop (next + cond (is_mark x) 1 0) texts)) e ∙ fill_step form i texts next out whole less so),
+          (ap (λ bytes. bytes ++ text_of_form (drop (i + 1) form) (drop (next + cond (is_hole_byte x) 1 0) texts)) e ∙ fill_step form i texts next out whole less so),
     )

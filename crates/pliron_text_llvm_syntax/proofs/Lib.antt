@@ -1,5 +1,6 @@
 pub mod PartLemmas
 pub mod FormLemmas
+pub mod BlankLemmas
 pub mod LineLemmas
 pub mod FaultLemmas
 pub mod LexLemmas

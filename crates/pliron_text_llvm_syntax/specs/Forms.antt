@@ -6,8 +6,8 @@ use Rattle.pliron_text_llvm_syntax.specs.declared.forms.HoleKind.TheVariants.{Op
 use Rattle.pliron_text_llvm_syntax.specs.Tokens.{bytes_of_span}
 
 -- 0 stands for an operand, 1 for a successor
-abbrev pub is_mark : ℕ → Bool
-is_mark byte = nat_lt byte 2
+abbrev pub is_hole_byte : ℕ → Bool
+is_hole_byte byte = nat_lt byte 2
 
 abbrev pub mark_of_kind : HoleKind → ℕ
 mark_of_kind Operand = 0
@@ -32,5 +32,5 @@ form_behind text at (hole ∷ holes) =
 abbrev pub text_of_form : List ℕ → List (List ℕ) → List ℕ
 text_of_form [] texts = []
 text_of_form (byte ∷ form) texts =
-    if is_mark byte then slice_index_or texts 0 [] ++ text_of_form form (drop 1 texts)
+    if is_hole_byte byte then slice_index_or texts 0 [] ++ text_of_form form (drop 1 texts)
     else byte ∷ text_of_form form texts

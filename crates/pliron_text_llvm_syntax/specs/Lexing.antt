@@ -1,13 +1,13 @@
 -- The token that a text begins with.
-use Rattle.std.specs.Prelude.{◌==◌, ◌&&◌, ◌||◌, ◌≡◌, ◌+◌, ◌-◌, ℕ, suc, Bool, false, not, nat_lt, List, [], ◌∷◌, length, take, drop, take_while, slice_get, Option, Some, None, unwrap_or, if◌then◌else◌}
+use Rattle.std.specs.Prelude.{◌==◌, ◌&&◌, ◌||◌, ◌≡◌, ◌+◌, ◌-◌, ℕ, suc, Bool, false, true, not, nat_lt, List, [], ◌∷◌, length, take, drop, take_while, slice_get, Option, Some, None, unwrap_or, if◌then◌else◌}
 use Rattle.std.specs.Option.{option_map, option_or}
 use Rattle.std.specs.Char.{is_ascii_digit}
 use Rattle.pliron_text_llvm_syntax.specs.declared.tokens.Bracket.TheVariants.{Round, Square, Brace, Angle}
 use Rattle.pliron_text_llvm_syntax.specs.declared.tokens.First.{First}
-use Rattle.pliron_text_llvm_syntax.specs.declared.tokens.Token.{Token}
+use Rattle.pliron_text_llvm_syntax.specs.declared.tokens.LlvmToken.{LlvmToken}
 use Rattle.pliron_text_llvm_syntax.specs.declared.tokens.TokenKind.{TokenKind}
 use Rattle.pliron_text_llvm_syntax.specs.declared.tokens.TokenKind.TheVariants.{Trivia, Word, Label, Name, Text, Open, Close, Mark}
-use Rattle.pliron_text_llvm_syntax.specs.Tokens.{is_blank, is_line_end, is_word_byte}
+use Rattle.pliron_text_llvm_syntax.specs.Tokens.{is_blank_byte, is_end_of_line, is_word_byte}
 
 abbrev pub first_with : TokenKind → ℕ → First
 first_with kind len = record { kind = kind; len = len }
@@ -23,10 +23,10 @@ abbrev pub word_len : List ℕ → ℕ
 word_len text = length (take_while is_word_byte text)
 
 abbrev pub blank_len : List ℕ → ℕ
-blank_len text = length (take_while is_blank text)
+blank_len text = length (take_while is_blank_byte text)
 
 abbrev pub line_len : List ℕ → ℕ
-line_len text = length (take_while (λ byte. not (is_line_end byte)) text)
+line_len text = length (take_while (λ byte. not (is_end_of_line byte)) text)
 
 -- what is before the next `"`
 abbrev pub quoted_len : List ℕ → ℕ
@@ -86,15 +86,15 @@ with_colon text kind len =
     if is_byte_at (slice_get text len) 58 then first_with Label (len + 1) else first_with kind len
 
 -- a string with `c` before it
-abbrev pub first_bytes : List ℕ → Option First
-first_bytes [] = None
-first_bytes (first ∷ behind) = if first == 99 then option_map (λ len. first_with Text (len + 1)) (string_len behind) else None
+abbrev pub first_byte_string : List ℕ → Option First
+first_byte_string [] = None
+first_byte_string (first ∷ behind) = if first == 99 then option_map (λ len. first_with Text (len + 1)) (string_len behind) else None
 
 abbrev pub first_plain_word : List ℕ → Option First
 first_plain_word text = if whole_word_len text == 0 then None else Some (with_colon text Word (whole_word_len text))
 
 abbrev pub first_word : List ℕ → Option First
-first_word text = option_or (first_bytes text) (first_plain_word text)
+first_word text = option_or (first_byte_string text) (first_plain_word text)
 
 abbrev pub first_string : List ℕ → Option First
 first_string text = option_map (with_colon text Text) (string_len text)
@@ -125,8 +125,8 @@ first_name text first len =
     else Some (first_with Name (len + 1))
 
 -- a number with a `+`
-abbrev pub first_number : List ℕ → Option First
-first_number behind = if whole_word_len behind == 0 then None else Some (first_with Word (whole_word_len behind + 1))
+abbrev pub first_signed_number : List ℕ → Option First
+first_signed_number behind = if whole_word_len behind == 0 then None else Some (first_with Word (whole_word_len behind + 1))
 
 abbrev pub kind_of_open : ℕ → Option TokenKind
 kind_of_open byte =
@@ -145,13 +145,13 @@ kind_of_close byte =
     else None
 
 -- one of `= , * | :`
-abbrev pub is_mark : ℕ → Bool
-is_mark byte = byte == 61 || byte == 44 || byte == 42 || byte == 124 || byte == 58
+abbrev pub is_mark_byte : ℕ → Bool
+is_mark_byte byte = byte == 61 || byte == 44 || byte == 42 || byte == 124 || byte == 58
 
 -- what the byte is by itself
 abbrev pub kind_of_byte : ℕ → Option TokenKind
 kind_of_byte byte =
-    option_or (kind_of_open byte) (option_or (kind_of_close byte) (if is_mark byte then Some Mark else None))
+    option_or (kind_of_open byte) (option_or (kind_of_close byte) (if is_mark_byte byte then Some Mark else None))
 
 -- one of `% @ $ ! # ^`
 abbrev pub is_sign_of_name : ℕ → Bool
@@ -160,12 +160,12 @@ is_sign_of_name byte = byte == 37 || byte == 64 || byte == 36 || byte == 33 || b
 -- the token that begins with this byte
 abbrev pub longer_token : ℕ → List ℕ → Option First
 longer_token first behind =
-    if is_blank first then Some (first_with Trivia (blank_len (first ∷ behind)))
+    if is_blank_byte first then Some (first_with Trivia (blank_len (first ∷ behind)))
     else if first == 59 then Some (first_with Trivia (line_len (first ∷ behind)))
     else if first == 47 then first_comment (first ∷ behind)
     else if first == 34 then first_string (first ∷ behind)
     else if is_sign_of_name first then first_name (first ∷ behind) first (name_len first behind)
-    else if first == 43 then first_number behind
+    else if first == 43 then first_signed_number behind
     else first_word (first ∷ behind)
 
 -- the token that the text begins with, if one does
@@ -175,6 +175,24 @@ first_token (first ∷ behind) =
     option_or (option_map (λ kind. first_with kind 1) (kind_of_byte first)) (longer_token first behind)
 
 -- the token that the text has at this byte
-abbrev pub IsLexedAt : List ℕ → ℕ → Token → Type 0
+abbrev pub IsLexedAt : List ℕ → ℕ → LlvmToken → Type 0
 IsLexedAt text at token =
     (token.span.start ≡ at) × (first_token (drop at text) ≡ Some (first_with token.kind (token.span.end - at)))
+
+-- ---- what stands between tokens
+
+-- blanks or a comment
+abbrev pub is_trivia : TokenKind → Bool
+is_trivia Trivia = true
+is_trivia _ = false
+
+-- from `start` up to a byte there are blanks and comments alone
+pub data AreBlanks (text : List ℕ) (start : ℕ) : ℕ → Type 0 where
+  Nothing : AreBlanks text start start
+  More : {at : ℕ} (token : LlvmToken)
+      → AreBlanks text start at → IsLexedAt text at token → is_trivia token.kind ≡ true → AreBlanks text start token.span.end
+
+-- where a token begins; where there is none, the end
+abbrev pub start_of_token : Option LlvmToken → ℕ → ℕ
+start_of_token None end = end
+start_of_token (Some token) end = token.span.start

@@ -1,23 +1,31 @@
 //! Brackets with all that is in them.
 ghost use Rattle.std.specs.Prelude.{◌≡◌, ◌<◌, ◌≤◌, length, IfOk, IfErr, IfSome};
 ghost use Rattle.pliron_text_llvm_syntax.specs.Tokens.{IsTokenAt, IsTokenBehind, IsFaultIn};
+ghost use Rattle.pliron_text_llvm_syntax.specs.Lexing.{is_trivia, start_of_token, AreBlanks};
 
-use crate::fault::{Expected, Fault};
-use crate::tokens::{Bracket, Span, Token, TokenKind, token_at};
+use crate::fault::{ExpectedSyntax, LlvmFault};
+use crate::tokens::{Bracket, ByteSpan, LlvmToken, TokenKind, token_at};
+
+// Whether the token is blanks or a comment.
+fn is_trivia(kind: TokenKind) -> bool
+    ensures { result ≡ is_trivia kind }
+{
+    matches!(kind, TokenKind::Trivia)
+}
 
 // What has to close the bracket.
-fn closing(bracket: Bracket) -> Expected {
+fn closing(bracket: Bracket) -> ExpectedSyntax {
     match bracket {
-        Bracket::Round => Expected::CloseRound,
-        Bracket::Square => Expected::CloseSquare,
-        Bracket::Brace => Expected::CloseBrace,
-        Bracket::Angle => Expected::CloseAngle,
+        Bracket::Round => ExpectedSyntax::CloseRound,
+        Bracket::Square => ExpectedSyntax::CloseSquare,
+        Bracket::Brace => ExpectedSyntax::CloseBrace,
+        Bracket::Angle => ExpectedSyntax::CloseAngle,
     }
 }
 
 // Opens or closes a bracket, if the token does.
 #[tactic(auto, using(crate::proofs::FaultLemmas::fault_memory))]
-fn take(text: &[u8], token: &Token, open: &mut Vec<Bracket>) -> Result<(), Fault>
+fn take(text: &[u8], token: &LlvmToken, open: &mut Vec<Bracket>) -> Result<(), LlvmFault>
     requires { token.now.span.start ≤ length text.now }
     ensures { IfErr result (λ fault. IsFaultIn text.now fault) }
 {
@@ -26,8 +34,8 @@ fn take(text: &[u8], token: &Token, open: &mut Vec<Bracket>) -> Result<(), Fault
         TokenKind::Close(bracket) => {
             let last = open.pop();
             if last != Some(bracket) {
-                let expected = last.map_or(Expected::Opening, closing);
-                return Err(Fault::Expected(token.span.start, expected));
+                let expected = last.map_or(ExpectedSyntax::Opening, closing);
+                return Err(LlvmFault::Expected(token.span.start, expected));
             }
         }
         _ => {}
@@ -36,7 +44,7 @@ fn take(text: &[u8], token: &Token, open: &mut Vec<Bracket>) -> Result<(), Fault
 }
 
 // The end of the brackets that are open at this byte.
-fn bracket_end(text: &[u8], at: usize, open: &mut Vec<Bracket>) -> Result<usize, Fault>
+fn bracket_end(text: &[u8], at: usize, open: &mut Vec<Bracket>) -> Result<usize, LlvmFault>
     requires { at ≤ length text.now }
     ensures end { IfOk result (λ end. (at ≤ end) × (end ≤ length text.now)) }
     ensures fault { IfErr result (λ fault. IsFaultIn text.now fault) }
@@ -48,9 +56,26 @@ fn bracket_end(text: &[u8], at: usize, open: &mut Vec<Bracket>) -> Result<usize,
         end = token.span.end;
     }
     match open.last() {
-        Some(bracket) => Err(Fault::Expected(text.len(), closing(*bracket))),
+        Some(bracket) => Err(LlvmFault::Expected(text.len(), closing(*bracket))),
         None => Ok(end),
     }
+}
+
+// The token, and where it opens a bracket all up to the end of the bracket.
+fn tree_of(text: &[u8], token: &LlvmToken, open: &mut Vec<Bracket>) -> Result<LlvmToken, LlvmFault>
+    requires { IsTokenAt text.now token.now.span.start token.now }
+    ensures token { IfOk result (λ tree. IsTokenAt text.now token.now.span.start tree) }
+    ensures fault { IfErr result (λ fault. IsFaultIn text.now fault) }
+{
+    open.clear();
+    take(text, token, open)?;
+    Ok(LlvmToken {
+        kind: token.kind,
+        span: ByteSpan {
+            start: token.span.start,
+            end: bracket_end(text, token.span.end, open)?,
+        },
+    })
 }
 
 /// The token at this byte; where it opens a bracket, all up to the end of the bracket.
@@ -58,37 +83,40 @@ fn bracket_end(text: &[u8], at: usize, open: &mut Vec<Bracket>) -> Result<usize,
 /// Asks that the byte is in the text; `open` is room for the brackets in one another. Errors: there is no token, or a bracket closes nothing or isn't closed; allocation failure. Cost:
 /// linear in it.
 #[doc(hidden)]
-pub fn token_tree_at(text: &[u8], at: usize, open: &mut Vec<Bracket>) -> Result<Token, Fault>
+pub fn token_tree_at(
+    text: &[u8],
+    at: usize,
+    open: &mut Vec<Bracket>,
+) -> Result<LlvmToken, LlvmFault>
     requires { at < length text.now }
     ensures token { IfOk result (λ token. IsTokenAt text.now at token) }
     ensures fault { IfErr result (λ fault. IsFaultIn text.now fault) }
 {
     let token = token_at(text, at)?;
-    open.clear();
-    take(text, &token, open)?;
-    Ok(Token {
-        kind: token.kind,
-        span: Span {
-            start: at,
-            end: bracket_end(text, token.span.end, open)?,
-        },
-    })
+    tree_of(text, &token, open)
 }
 
-/// The token from this byte on that isn't blanks or a comment, with all that is in it; none at the end.
+/// The token from this byte on that isn't blanks or a comment, with all that is in it; none at the end. Only blanks and
+/// comments are before it.
 ///
 /// Asks that the byte is in the text, or its end. Errors: as `token_tree_at`. Cost: linear in it and what is before it.
 #[doc(hidden)]
-pub fn next_tree(text: &[u8], at: usize, open: &mut Vec<Bracket>) -> Result<Option<Token>, Fault>
+#[tactic(auto, using(crate::proofs::BlankLemmas::blanks_more, crate::proofs::BlankLemmas::blanks_here, crate::proofs::BlankLemmas::blanks_end, crate::proofs::BlankLemmas::blanks_none))]
+pub fn next_tree(
+    text: &[u8],
+    at: usize,
+    open: &mut Vec<Bracket>,
+) -> Result<Option<LlvmToken>, LlvmFault>
     requires { at ≤ length text.now }
     ensures token { IfOk result (λ next. IfSome next (λ token. IsTokenBehind text.now at token)) }
+    ensures blanks { IfOk result (λ next. AreBlanks text.now at (start_of_token next (length text.now))) }
     ensures fault { IfErr result (λ fault. IsFaultIn text.now fault) }
 {
     let mut end = at;
     while end < text.len() {
-        let token = token_tree_at(text, end, open)?;
-        if token.kind != TokenKind::Trivia {
-            return Ok(Some(token));
+        let token = token_at(text, end)?;
+        if !is_trivia(token.kind) {
+            return Ok(Some(tree_of(text, &token, open)?));
         }
         end = token.span.end;
     }

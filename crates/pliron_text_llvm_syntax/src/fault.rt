@@ -1,6 +1,6 @@
 //! What stops reading.
 ghost use Rattle.std.specs.Prelude.{◌≡◌};
-ghost use Rattle.pliron_text_llvm_syntax.specs.declared.fault.Fault.TheVariants.{NoMemory};
+ghost use Rattle.pliron_text_llvm_syntax.specs.declared.fault.LlvmFault.TheVariants.{NoMemory};
 
 use std::alloc::{AllocError, AllocFailed};
 use thiserror::Error;
@@ -8,7 +8,7 @@ use thiserror::Error;
 /// What was expected where a text leaves the grammar.
 #[doc(hidden)]
 #[derive(Clone, Copy, Debug, Drop, PartialEq, Eq, Error)]
-pub enum Expected {
+pub enum ExpectedSyntax {
     #[error("a word of LLVM IR")]
     Word,
     #[error("a string that ends")]
@@ -31,26 +31,26 @@ pub enum Expected {
 
 /// What stops reading.
 #[derive(Clone, Copy, Debug, Drop, PartialEq, Eq)]
-pub enum Fault {
+pub enum LlvmFault {
     /// At this byte this was expected.
-    Expected(usize, Expected),
+    Expected(usize, ExpectedSyntax),
     NoMemory,
 }
 
 /// A failed allocation is reported as `NoMemory`.
-impl From<AllocError> for Fault {
+impl From<AllocError> for LlvmFault {
     ghost from_gives = { λ _ e. e ≡ NoMemory };
 
-    fn from(_refused: AllocError) -> Fault {
-        Fault::NoMemory
+    fn from(_refused: AllocError) -> LlvmFault {
+        LlvmFault::NoMemory
     }
 }
 
 /// A failed growth of a collection is reported as `NoMemory`, and the value that was not stored is dropped.
-impl<T: Drop> From<AllocFailed<T>> for Fault {
+impl<T: Drop> From<AllocFailed<T>> for LlvmFault {
     ghost from_gives = { λ _ e. e ≡ NoMemory };
 
-    fn from(_refused: AllocFailed<T>) -> Fault {
-        Fault::NoMemory
+    fn from(_refused: AllocFailed<T>) -> LlvmFault {
+        LlvmFault::NoMemory
     }
 }

@@ -1,8 +1,8 @@
 //! Forms: texts of statements with marks where operands and successors stand.
 ghost use Rattle.std.specs.Prelude.{◌≡◌, ◌≤◌, ◌∷◌, [], if◌then◌else◌, slice_index_or, length, map, count_by, IfOk, IsTrue};
-ghost use Rattle.pliron_text_llvm_syntax.specs.Forms.{is_mark, mark_of_kind, form_behind, text_of_form, AreHoles, bytes_of_hole};
+ghost use Rattle.pliron_text_llvm_syntax.specs.Forms.{is_hole_byte, mark_of_kind, form_behind, text_of_form, AreHoles, bytes_of_hole};
 
-use crate::tokens::{Span, bytes_of};
+use crate::tokens::{ByteSpan, bytes_of};
 use std::alloc::{AllocError, Global};
 use std::slice;
 
@@ -31,13 +31,13 @@ impl HoleKind {
 #[derive(Clone, Copy, Debug, Drop, PartialEq, Eq)]
 pub struct Hole {
     pub kind: HoleKind,
-    pub span: Span,
+    pub span: ByteSpan,
 }
 
 /// Whether the byte stands for an operand or a successor in a form. Cost: constant.
 #[doc(hidden)]
 pub fn is_mark(byte: u8) -> bool
-    ensures { result ≡ is_mark byte }
+    ensures { result ≡ is_hole_byte byte }
 {
     byte < 2
 }
@@ -45,7 +45,7 @@ pub fn is_mark(byte: u8) -> bool
 /// How many marks the text has. Cost: linear in it.
 #[doc(hidden)]
 pub fn num_mark(text: &[u8]) -> usize
-    ensures { result ≡ count_by is_mark text.now }
+    ensures { result ≡ count_by is_hole_byte text.now }
 {
     text.iter().filter(|byte| is_mark(**byte)).count()
 }
@@ -73,15 +73,15 @@ pub fn are_holes(text: &[u8], holes: &[Hole]) -> bool
 pub fn cut(alloc: Global, text: &[u8], holes: &[Hole]) -> Result<Vec<u8>, AllocError>
     requires { AreHoles text.now 0 holes.now }
     ensures form { IfOk result (λ form. form.items ≡ form_behind text.now 0 holes.now) }
-    ensures whole { IfOk result (λ form. count_by is_mark text.now ≡ 0
+    ensures whole { IfOk result (λ form. count_by is_hole_byte text.now ≡ 0
         → text_of_form form.items (map (bytes_of_hole text.now) holes.now) ≡ text.now) }
-    ensures marks { IfOk result (λ form. count_by is_mark text.now ≡ 0
-        → count_by is_mark form.items ≡ length holes.now) }
+    ensures marks { IfOk result (λ form. count_by is_hole_byte text.now ≡ 0
+        → count_by is_hole_byte form.items ≡ length holes.now) }
 {
     let mut form = Vec::with_capacity(alloc, text.len())?;
     let mut at = 0;
     for hole in holes {
-        let plain = Span {
+        let plain = ByteSpan {
             start: at,
             end: hole.span.start,
         };
@@ -90,7 +90,7 @@ pub fn cut(alloc: Global, text: &[u8], holes: &[Hole]) -> Result<Vec<u8>, AllocE
         form.push(hole.kind.mark())?;
         at = hole.span.end;
     }
-    let rest = Span {
+    let rest = ByteSpan {
         start: at,
         end: text.len(),
     };
@@ -101,7 +101,7 @@ pub fn cut(alloc: Global, text: &[u8], holes: &[Hole]) -> Result<Vec<u8>, AllocE
 
 // How many texts the byte of a form stands for.
 fn num_text(byte: u8) -> usize
-    ensures exact { result ≡ (if is_mark byte then 1 else 0) }
+    ensures exact { result ≡ (if is_hole_byte byte then 1 else 0) }
     ensures few { result ≤ 1 }
 {
     if is_mark(byte) { 1 } else { 0 }
@@ -109,7 +109,7 @@ fn num_text(byte: u8) -> usize
 
 // What the byte of a form stands for: this text, where it is a mark, and else itself.
 fn piece<'t>(byte: &'t u8, text: &'t [u8]) -> &'t [u8]
-    ensures { result.now ≡ (if is_mark byte.now then text.now else byte.now ∷ []) }
+    ensures { result.now ≡ (if is_hole_byte byte.now then text.now else byte.now ∷ []) }
 {
     if is_mark(*byte) {
         text

@@ -4,26 +4,26 @@ ghost use Rattle.pliron_text_llvm_syntax.specs.Tokens.{IsTokenAt, IsFaultIn};
 ghost use Rattle.pliron_text_llvm_syntax.specs.Functions.{IsFunctionAt};
 
 use crate::brackets::{next_tree, token_tree_at};
-use crate::fault::{Expected, Fault};
-use crate::tokens::{Bracket, Span, Token, TokenKind, bytes_of, token_at};
+use crate::fault::{ExpectedSyntax, LlvmFault};
+use crate::tokens::{Bracket, ByteSpan, LlvmToken, TokenKind, bytes_of, token_at};
 
 /// A function with a body, and what its text has.
 #[doc(hidden)]
 #[derive(Clone, Copy, Debug, Drop, PartialEq, Eq)]
 pub struct FunctionText {
     /// From `define` to the `}` of its body.
-    pub span: Span,
+    pub span: ByteSpan,
     /// Its name, with the `@`.
-    pub name: Span,
+    pub name: ByteSpan,
     /// The parameters, with their brackets.
-    pub parameters: Span,
+    pub parameters: ByteSpan,
     /// The body, with its brackets.
-    pub body: Span,
+    pub body: ByteSpan,
 }
 
 /// What a header says next.
 #[derive(Clone, Copy, PartialEq, Eq)]
-enum Next {
+enum HeaderNext {
     /// Attributes, or the body.
     Body,
     /// The type behind `prefix`, `prologue` or `personality`.
@@ -32,32 +32,34 @@ enum Next {
     Constant,
 }
 
-impl Next {
+impl HeaderNext {
     // What is next behind the token.
-    fn behind(self, kind: TokenKind, bytes: &[u8]) -> Next {
+    fn behind(self, kind: TokenKind, bytes: &[u8]) -> HeaderNext {
         match (self, kind) {
-            (Next::Body, TokenKind::Word) => match bytes {
-                b"prefix" | b"prologue" | b"personality" => Next::Type,
-                _ => Next::Body,
+            (HeaderNext::Body, TokenKind::Word) => match bytes {
+                b"prefix" | b"prologue" | b"personality" => HeaderNext::Type,
+                _ => HeaderNext::Body,
             },
-            (Next::Type, _) => Next::Constant,
-            (Next::Constant, TokenKind::Mark | TokenKind::Open(Bracket::Round)) => Next::Constant,
-            (Next::Constant, TokenKind::Word) if bytes == b"addrspace".as_slice() => Next::Constant,
-            _ => Next::Body,
+            (HeaderNext::Type, _) => HeaderNext::Constant,
+            (HeaderNext::Constant, TokenKind::Mark | TokenKind::Open(Bracket::Round)) =>
+                HeaderNext::Constant,
+            (HeaderNext::Constant, TokenKind::Word) if bytes == b"addrspace".as_slice() =>
+                HeaderNext::Constant,
+            _ => HeaderNext::Body,
         }
     }
 }
 
 /// Whether the token is the word `define`. Asks that it is a token of the text. Cost: constant.
 #[doc(hidden)]
-pub fn is_define(text: &[u8], token: &Token) -> bool
+pub fn is_define(text: &[u8], token: &LlvmToken) -> bool
     requires { IsTokenAt text.now token.now.span.start token.now }
 {
     token.kind == TokenKind::Word && bytes_of(text, token.span) == b"define".as_slice()
 }
 
 // The name of the function whose header goes on here.
-fn name_from(text: &[u8], at: usize, open: &mut Vec<Bracket>) -> Result<Span, Fault>
+fn name_from(text: &[u8], at: usize, open: &mut Vec<Bracket>) -> Result<ByteSpan, LlvmFault>
     requires { at ≤ length text.now }
     ensures name { IfOk result (λ name. (at ≤ name.start) × (name.start < name.end) × (name.end ≤ length text.now)) }
     ensures fault { IfErr result (λ fault. IsFaultIn text.now fault) }
@@ -73,11 +75,11 @@ fn name_from(text: &[u8], at: usize, open: &mut Vec<Bracket>) -> Result<Span, Fa
         }
         end = token.span.end;
     }
-    Err(Fault::Expected(end, Expected::Body))
+    Err(LlvmFault::Expected(end, ExpectedSyntax::Body))
 }
 
 // The parameters of the function whose header goes on here.
-fn parameters_from(text: &[u8], at: usize, open: &mut Vec<Bracket>) -> Result<Span, Fault>
+fn parameters_from(text: &[u8], at: usize, open: &mut Vec<Bracket>) -> Result<ByteSpan, LlvmFault>
     requires { at ≤ length text.now }
     ensures parameters { IfOk result (λ parameters.
         (at ≤ parameters.start) × (parameters.start < parameters.end) × (parameters.end ≤ length text.now)) }
@@ -85,22 +87,22 @@ fn parameters_from(text: &[u8], at: usize, open: &mut Vec<Bracket>) -> Result<Sp
 {
     match next_tree(text, at, open)? {
         Some(token) if token.kind == TokenKind::Open(Bracket::Round) => Ok(token.span),
-        Some(token) => Err(Fault::Expected(token.span.start, Expected::OpenRound)),
-        None => Err(Fault::Expected(text.len(), Expected::OpenRound)),
+        Some(token) => Err(LlvmFault::Expected(token.span.start, ExpectedSyntax::OpenRound)),
+        None => Err(LlvmFault::Expected(text.len(), ExpectedSyntax::OpenRound)),
     }
 }
 
 // The body of the function whose header goes on here.
-fn body_from(text: &[u8], at: usize, open: &mut Vec<Bracket>) -> Result<Span, Fault>
+fn body_from(text: &[u8], at: usize, open: &mut Vec<Bracket>) -> Result<ByteSpan, LlvmFault>
     requires { at ≤ length text.now }
     ensures body { IfOk result (λ body. (at ≤ body.start) × (body.start < body.end) × (body.end ≤ length text.now)) }
     ensures fault { IfErr result (λ fault. IsFaultIn text.now fault) }
 {
     let mut end = at;
-    let mut next = Next::Body;
+    let mut next = HeaderNext::Body;
     while end < text.len() {
         let token = token_tree_at(text, end, open)?;
-        if next == Next::Body && token.kind == TokenKind::Open(Bracket::Brace) {
+        if next == HeaderNext::Body && token.kind == TokenKind::Open(Bracket::Brace) {
             return Ok(token.span);
         }
         if is_define(text, &token) {
@@ -111,7 +113,7 @@ fn body_from(text: &[u8], at: usize, open: &mut Vec<Bracket>) -> Result<Span, Fa
         }
         end = token.span.end;
     }
-    Err(Fault::Expected(end, Expected::Body))
+    Err(LlvmFault::Expected(end, ExpectedSyntax::Body))
 }
 
 /// The function whose `define` is at this byte. The name is the first one with `@` outside brackets; the body is the
@@ -120,7 +122,11 @@ fn body_from(text: &[u8], at: usize, open: &mut Vec<Bracket>) -> Result<Span, Fa
 /// Asks that the byte is in the text; `open` is room for the brackets in one another. Errors: no name, no parameters behind it, no body; a token or a
 /// bracket is broken; allocation failure. Cost: linear in the function.
 #[doc(hidden)]
-pub fn function_at(text: &[u8], at: usize, open: &mut Vec<Bracket>) -> Result<FunctionText, Fault>
+pub fn function_at(
+    text: &[u8],
+    at: usize,
+    open: &mut Vec<Bracket>,
+) -> Result<FunctionText, LlvmFault>
     requires { at < length text.now }
     ensures function { IfOk result (λ function. IsFunctionAt text.now at function) }
     ensures fault { IfErr result (λ fault. IsFaultIn text.now fault) }
@@ -130,7 +136,7 @@ pub fn function_at(text: &[u8], at: usize, open: &mut Vec<Bracket>) -> Result<Fu
     let parameters = parameters_from(text, name.end, open)?;
     let body = body_from(text, parameters.end, open)?;
     Ok(FunctionText {
-        span: Span {
+        span: ByteSpan {
             start: at,
             end: body.end,
         },

@@ -11,9 +11,11 @@ mod parts;
 mod tokens;
 
 pub use brackets::token_tree_at;
-pub use fault::{Expected, Fault};
+pub use fault::{ExpectedSyntax, LlvmFault};
 pub use forms::{Hole, HoleKind, are_holes, cut, fill, is_mark, num_mark};
 pub use functions::{FunctionText, function_at};
-pub use lines::{Line, split_lines};
-pub use parts::{Part, join_parts, split_text};
-pub use tokens::{Bracket, Span, Token, TokenKind, bytes_of, is_blank, is_word_byte, token_at};
+pub use lines::{LineText, split_lines};
+pub use parts::{ModulePart, join_parts, split_text};
+pub use tokens::{
+    Bracket, ByteSpan, LlvmToken, TokenKind, bytes_of, is_blank, is_word_byte, token_at,
+};

@@ -1,20 +1,20 @@
 //! Labels and statements of a function's body.
 ghost use Rattle.std.specs.Prelude.{◌≡◌, ◌<◌, ◌≤◌, [], length, IfOk, IfErr, IfSome};
 ghost use Rattle.pliron_text_llvm_syntax.specs.Tokens.{IsTokenBehind, IsFaultIn};
-ghost use Rattle.pliron_text_llvm_syntax.specs.Lines.{span_of_line, AreLines};
+ghost use Rattle.pliron_text_llvm_syntax.specs.Lines.{span_of_line, AreLines, AreGaps};
 
 use crate::brackets::{next_tree, token_tree_at};
-use crate::fault::Fault;
-use crate::tokens::{Bracket, Span, Token, TokenKind, bytes_of};
+use crate::fault::LlvmFault;
+use crate::tokens::{Bracket, ByteSpan, LlvmToken, TokenKind, bytes_of};
 
 /// A line of a body.
 #[doc(hidden)]
 #[derive(Clone, Copy, Debug, Drop, PartialEq, Eq)]
-pub enum Line {
+pub enum LineText {
     /// The label of a block, with its `:`.
-    Label(Span),
+    Label(ByteSpan),
     /// An instruction or a debug record, with the name of its result.
-    Statement(Span),
+    Statement(ByteSpan),
 }
 
 /// Words with which statements begin.
@@ -36,14 +36,18 @@ fn is_opening(word: &[u8]) -> bool {
 }
 
 // Whether the token begins with this byte and is a name.
-fn is_name(text: &[u8], token: &Token, sign: u8) -> bool
+fn is_name(text: &[u8], token: &LlvmToken, sign: u8) -> bool
     requires { IsTokenBehind text.now 0 token.now }
 {
     token.kind == TokenKind::Name && text[token.span.start] == sign
 }
 
 // Whether an `=` is next, and where it ends.
-fn end_of_equals(text: &[u8], at: usize, open: &mut Vec<Bracket>) -> Result<Option<usize>, Fault>
+fn end_of_equals(
+    text: &[u8],
+    at: usize,
+    open: &mut Vec<Bracket>,
+) -> Result<Option<usize>, LlvmFault>
     requires { at ≤ length text.now }
     ensures end { IfOk result (λ found. IfSome found (λ end. (at < end) × (end ≤ length text.now))) }
     ensures fault { IfErr result (λ fault. IsFaultIn text.now fault) }
@@ -57,7 +61,11 @@ fn end_of_equals(text: &[u8], at: usize, open: &mut Vec<Bracket>) -> Result<Opti
 }
 
 // Where the opcode ends of the statement that the token begins: the token, or what is behind it and an `=`.
-fn end_of_opcode(text: &[u8], first: &Token, open: &mut Vec<Bracket>) -> Result<usize, Fault>
+fn end_of_opcode(
+    text: &[u8],
+    first: &LlvmToken,
+    open: &mut Vec<Bracket>,
+) -> Result<usize, LlvmFault>
     requires { IsTokenBehind text.now 0 first.now }
     ensures end { IfOk result (λ end. (first.now.span.end ≤ end) × (end ≤ length text.now)) }
     ensures fault { IfErr result (λ fault. IsFaultIn text.now fault) }
@@ -78,9 +86,9 @@ fn end_of_opcode(text: &[u8], first: &Token, open: &mut Vec<Bracket>) -> Result<
 fn is_next_line(
     text: &[u8],
     end: usize,
-    token: &Token,
+    token: &LlvmToken,
     open: &mut Vec<Bracket>,
-) -> Result<bool, Fault>
+) -> Result<bool, LlvmFault>
     requires { IsTokenBehind text.now end token.now }
     ensures { IfErr result (λ fault. IsFaultIn text.now fault) }
 {
@@ -99,7 +107,11 @@ fn is_next_line(
 }
 
 // Where the statement ends that has this opcode.
-fn end_of_statement(text: &[u8], opcode_end: usize, open: &mut Vec<Bracket>) -> Result<usize, Fault>
+fn end_of_statement(
+    text: &[u8],
+    opcode_end: usize,
+    open: &mut Vec<Bracket>,
+) -> Result<usize, LlvmFault>
     requires { opcode_end ≤ length text.now }
     ensures end { IfOk result (λ end. (opcode_end ≤ end) × (end ≤ length text.now)) }
     ensures fault { IfErr result (λ fault. IsFaultIn text.now fault) }
@@ -121,7 +133,7 @@ fn end_of_statement(text: &[u8], opcode_end: usize, open: &mut Vec<Bracket>) -> 
 }
 
 // The line that the token begins.
-fn line_of(text: &[u8], first: &Token, open: &mut Vec<Bracket>) -> Result<Line, Fault>
+fn line_of(text: &[u8], first: &LlvmToken, open: &mut Vec<Bracket>) -> Result<LineText, LlvmFault>
     requires { IsTokenBehind text.now 0 first.now }
     ensures line { IfOk result (λ line. ((span_of_line line).start ≡ first.now.span.start)
         × ((span_of_line line).start < (span_of_line line).end)
@@ -129,49 +141,50 @@ fn line_of(text: &[u8], first: &Token, open: &mut Vec<Bracket>) -> Result<Line, 
     ensures fault { IfErr result (λ fault. IsFaultIn text.now fault) }
 {
     if first.kind == TokenKind::Label {
-        return Ok(Line::Label(first.span));
+        return Ok(LineText::Label(first.span));
     }
     let opcode_end = end_of_opcode(text, first, open)?;
-    Ok(Line::Statement(Span {
+    Ok(LineText::Statement(ByteSpan {
         start: first.span.start,
         end: end_of_statement(text, opcode_end, open)?,
     }))
 }
 
-impl Line {
+impl LineText {
     /// Where it is in the text. Cost: constant.
-    pub fn span(&self) -> Span
+    pub fn span(&self) -> ByteSpan
         ensures { result ≡ span_of_line self.now }
     {
         match self {
-            Line::Label(span) | Line::Statement(span) => *span,
+            LineText::Label(span) | LineText::Statement(span) => *span,
         }
     }
 }
 
-/// Adds the lines of the text from this byte on to none: labels and statements, in their order. A statement ends
-/// before a label, a debug record, the name of a local value and `=`, or a word at the beginning of a line with which
-/// statements begin.
+/// Adds the lines of the text from this byte on to none: labels and statements, in their order, with only blanks and
+/// comments between them, before the first and behind the last. A statement ends before a label, a debug record, the name
+/// of a local value and `=`, or a word at the beginning of a line with which statements begin.
 ///
 /// Asks that the byte is in the text, or its end; `open` is room for the brackets in one another. Errors: a token or a bracket is broken; allocation failure. Cost:
 /// linear in the text.
 #[doc(hidden)]
-#[tactic(auto, using(crate::proofs::LineLemmas::lines_append, crate::proofs::LineLemmas::lines_wider, crate::proofs::LineLemmas::lines_none, crate::proofs::FaultLemmas::fault_memory))]
+#[tactic(auto, using(crate::proofs::LineLemmas::line_steps, crate::proofs::FaultLemmas::fault_memory))]
 pub fn split_lines(
     text: &[u8],
     start: usize,
     open: &mut Vec<Bracket>,
-    lines: &mut Vec<Line>,
-) -> Result<(), Fault>
+    lines: &mut Vec<LineText>,
+) -> Result<(), LlvmFault>
     requires start { start ≤ length text.now }
     requires empty { lines.old.items ≡ [] }
     ensures lines { IfOk result (λ _. AreLines start (length text.now) lines.new.items) }
+    ensures gaps { IfOk result (λ _. AreGaps text.now start (length text.now) lines.new.items) }
     ensures fault { IfErr result (λ fault. IsFaultIn text.now fault) }
 {
     let mut at = start;
     while at < text.len() {
         let Some(first) = next_tree(text, at, open)? else {
-            break;
+            return Ok(());
         };
         let line = line_of(text, &first, open)?;
         lines.push(line)?;

@@ -4,33 +4,33 @@ ghost use Rattle.pliron_text_llvm_syntax.specs.Tokens.{IsFaultIn};
 ghost use Rattle.pliron_text_llvm_syntax.specs.Parts.{span_of_part, bytes_of_parts, AreConsecutive, IsPartAt};
 
 use crate::brackets::token_tree_at;
-use crate::fault::Fault;
+use crate::fault::LlvmFault;
 use crate::functions::{FunctionText, function_at, is_define};
-use crate::tokens::{Bracket, Span, bytes_of};
+use crate::tokens::{Bracket, ByteSpan, bytes_of};
 use std::alloc::{AllocError, Global};
 
 /// A part of a module.
 #[derive(Clone, Copy, Debug, Drop, PartialEq, Eq)]
-pub enum Part {
+pub enum ModulePart {
     /// Text before, between or behind functions.
-    Raw(Span),
+    Raw(ByteSpan),
     Function(FunctionText),
 }
 
-impl Part {
+impl ModulePart {
     /// Where it is in the text. Cost: constant.
-    pub fn span(&self) -> Span
+    pub fn span(&self) -> ByteSpan
         ensures { result ≡ span_of_part self.now }
     {
         match self {
-            Part::Raw(span) => *span,
-            Part::Function(function) => function.span,
+            ModulePart::Raw(span) => *span,
+            ModulePart::Function(function) => function.span,
         }
     }
 }
 
 // Where the next function begins, or the end of the text.
-fn raw_end(text: &[u8], at: usize, open: &mut Vec<Bracket>) -> Result<usize, Fault>
+fn raw_end(text: &[u8], at: usize, open: &mut Vec<Bracket>) -> Result<usize, LlvmFault>
     requires { at ≤ length text.now }
     ensures end { IfOk result (λ end. (at ≤ end) × (end ≤ length text.now)) }
     ensures fault { IfErr result (λ fault. IsFaultIn text.now fault) }
@@ -47,22 +47,26 @@ fn raw_end(text: &[u8], at: usize, open: &mut Vec<Bracket>) -> Result<usize, Fau
 }
 
 // The part that begins at this byte.
-fn part_at(text: &[u8], at: usize, open: &mut Vec<Bracket>) -> Result<Part, Fault>
+fn part_at(text: &[u8], at: usize, open: &mut Vec<Bracket>) -> Result<ModulePart, LlvmFault>
     requires { at < length text.now }
     ensures part { IfOk result (λ part. IsPartAt text.now at part) }
     ensures fault { IfErr result (λ fault. IsFaultIn text.now fault) }
 {
     let end = raw_end(text, at, open)?;
     if at < end {
-        Ok(Part::Raw(Span { start: at, end }))
+        Ok(ModulePart::Raw(ByteSpan { start: at, end }))
     } else {
-        Ok(Part::Function(function_at(text, at, open)?))
+        Ok(ModulePart::Function(function_at(text, at, open)?))
     }
 }
 
 // Adds the parts of the text to none.
 #[tactic(auto, using(crate::proofs::PartLemmas::consecutive_append, crate::proofs::PartLemmas::consecutive_none, crate::proofs::PartLemmas::consecutive_end, crate::proofs::FaultLemmas::fault_memory))]
-fn split_into(text: &[u8], open: &mut Vec<Bracket>, parts: &mut Vec<Part>) -> Result<(), Fault>
+fn split_into(
+    text: &[u8],
+    open: &mut Vec<Bracket>,
+    parts: &mut Vec<ModulePart>,
+) -> Result<(), LlvmFault>
     requires { parts.old.items ≡ [] }
     ensures parts { IfOk result (λ _. AreConsecutive 0 (length text.now) parts.new.items) }
     ensures fault { IfErr result (λ fault. IsFaultIn text.now fault) }
@@ -83,7 +87,7 @@ fn split_into(text: &[u8], open: &mut Vec<Bracket>, parts: &mut Vec<Part>) -> Re
 /// function without a name, parameters or a body; allocation failure. Cost: linear in the text, with a byte for each
 /// bracket in one another.
 #[tactic(auto, using(crate::proofs::PartLemmas::consecutive_bytes))]
-pub fn split_text(alloc: Global, text: &[u8]) -> Result<Vec<Part>, Fault>
+pub fn split_text(alloc: Global, text: &[u8]) -> Result<Vec<ModulePart>, LlvmFault>
     ensures consecutive { IfOk result (λ parts. AreConsecutive 0 (length text.now) parts.items) }
     ensures text { IfOk result (λ parts. bytes_of_parts text.now parts.items ≡ text.now) }
     ensures fault { IfErr result (λ fault. IsFaultIn text.now fault) }
@@ -98,7 +102,7 @@ pub fn split_text(alloc: Global, text: &[u8]) -> Result<Vec<Part>, Fault>
 
 /// The bytes of the parts in their order: the text. Asks that they are those of the text. Errors: allocation failure. Cost: linear in the text.
 #[tactic(auto, using(crate::proofs::PartLemmas::consecutive_bytes, crate::proofs::PartLemmas::consecutive_step, crate::proofs::PartLemmas::consecutive_le, crate::proofs::PartLemmas::joined_step, crate::proofs::PartLemmas::joined_all))]
-pub fn join_parts(alloc: Global, text: &[u8], parts: &[Part]) -> Result<Vec<u8>, AllocError>
+pub fn join_parts(alloc: Global, text: &[u8], parts: &[ModulePart]) -> Result<Vec<u8>, AllocError>
     requires { AreConsecutive 0 (length text.now) parts.now }
     ensures parts { IfOk result (λ joined. joined.items ≡ bytes_of_parts text.now parts.now) }
     ensures text { IfOk result (λ joined. joined.items ≡ text.now) }

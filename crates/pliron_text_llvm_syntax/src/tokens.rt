@@ -1,18 +1,18 @@
 //! Tokens of LLVM's textual IR.
 ghost use Rattle.std.specs.Prelude.{◌≡◌, ◌<◌, ◌≤◌, ◌+◌, ◌∷◌, length, drop, Some, None, IfOk, IfErr, IfSome};
-ghost use Rattle.pliron_text_llvm_syntax.specs.Tokens.{bytes_of_span, is_word_byte, is_blank, is_line_end, IsFirst, IsTokenAt, IsFaultIn};
+ghost use Rattle.pliron_text_llvm_syntax.specs.Tokens.{bytes_of_span, is_word_byte, is_blank_byte, is_end_of_line, IsFirstToken, IsTokenAt, IsFaultIn};
 ghost use Rattle.pliron_text_llvm_syntax.specs.Lexing.{word_len, blank_len, line_len, quoted_len, string_len, closing_len, comment_len};
 ghost use Rattle.pliron_text_llvm_syntax.specs.Lexing.{begins_with_digit, begins_number, is_exponent, is_before_sign, whole_word_len};
-ghost use Rattle.pliron_text_llvm_syntax.specs.Lexing.{is_byte_at, with_colon, first_bytes, first_plain_word, first_word, first_string};
-ghost use Rattle.pliron_text_llvm_syntax.specs.Lexing.{first_comment, metadata_name_len, name_len, first_name, first_number, kind_of_open};
-ghost use Rattle.pliron_text_llvm_syntax.specs.Lexing.{kind_of_close, is_mark, kind_of_byte, is_sign_of_name, longer_token, first_token, IsLexedAt};
+ghost use Rattle.pliron_text_llvm_syntax.specs.Lexing.{is_byte_at, with_colon, first_byte_string, first_plain_word, first_word, first_string};
+ghost use Rattle.pliron_text_llvm_syntax.specs.Lexing.{first_comment, metadata_name_len, name_len, first_name, first_signed_number, kind_of_open};
+ghost use Rattle.pliron_text_llvm_syntax.specs.Lexing.{kind_of_close, is_mark_byte, kind_of_byte, is_sign_of_name, longer_token, first_token, IsLexedAt};
 
-use crate::fault::{Expected, Fault};
+use crate::fault::{ExpectedSyntax, LlvmFault};
 
 /// Some of the text: from the first byte on, up to the end, which is not in it.
 #[doc(hidden)]
 #[derive(Clone, Copy, Debug, Drop, PartialEq, Eq)]
-pub struct Span {
+pub struct ByteSpan {
     pub start: usize,
     pub end: usize,
 }
@@ -50,9 +50,9 @@ pub enum TokenKind {
 /// A token, and where it is.
 #[doc(hidden)]
 #[derive(Clone, Copy, Debug, Drop, PartialEq, Eq)]
-pub struct Token {
+pub struct LlvmToken {
     pub kind: TokenKind,
-    pub span: Span,
+    pub span: ByteSpan,
 }
 
 /// What a text begins with.
@@ -65,7 +65,7 @@ struct First {
 /// Whether the byte is between tokens. Cost: constant.
 #[doc(hidden)]
 pub fn is_blank(byte: u8) -> bool
-    ensures { result ≡ is_blank byte }
+    ensures { result ≡ is_blank_byte byte }
 {
     byte == b' ' || byte == b'\t' || byte == b'\n' || byte == b'\r' || byte == 0
 }
@@ -80,7 +80,7 @@ pub fn is_word_byte(byte: u8) -> bool
 
 // Whether a comment to the end of the line ends before the byte.
 fn is_line_end(byte: u8) -> bool
-    ensures { result ≡ is_line_end byte }
+    ensures { result ≡ is_end_of_line byte }
 {
     byte == b'\n' || byte == b'\r'
 }
@@ -239,7 +239,7 @@ fn with_colon(text: &[u8], kind: TokenKind, len: usize) -> First
     requires some { 0 < len }
     requires within { len ≤ length text.now }
     ensures exact { result ≡ with_colon text.now kind len }
-    ensures first { IsFirst text.now result }
+    ensures first { IsFirstToken text.now result }
 {
     if is_byte_at(text.get(len).copied(), b':') {
         First::new(TokenKind::Label, len + 1)
@@ -250,8 +250,8 @@ fn with_colon(text: &[u8], kind: TokenKind, len: usize) -> First
 
 // The string with `c` before it that the text begins with.
 fn first_bytes(text: &[u8]) -> Option<First>
-    ensures exact { result ≡ first_bytes text.now }
-    ensures first { IfSome result (λ first. IsFirst text.now first) }
+    ensures exact { result ≡ first_byte_string text.now }
+    ensures first { IfSome result (λ first. IsFirstToken text.now first) }
 {
     let [b'c', behind @ ..] = text else {
         return None;
@@ -265,7 +265,7 @@ fn first_bytes(text: &[u8]) -> Option<First>
 // The word or the label that the text begins with.
 fn first_plain_word(text: &[u8]) -> Option<First>
     ensures exact { result ≡ first_plain_word text.now }
-    ensures first { IfSome result (λ first. IsFirst text.now first) }
+    ensures first { IfSome result (λ first. IsFirstToken text.now first) }
 {
     let len = whole_word_len(text);
     if len == 0 {
@@ -278,7 +278,7 @@ fn first_plain_word(text: &[u8]) -> Option<First>
 // The word, the string with `c` before it, or the label that the text begins with.
 fn first_word(text: &[u8]) -> Option<First>
     ensures exact { result ≡ first_word text.now }
-    ensures first { IfSome result (λ first. IsFirst text.now first) }
+    ensures first { IfSome result (λ first. IsFirstToken text.now first) }
 {
     match first_bytes(text) {
         Some(first) => Some(first),
@@ -289,7 +289,7 @@ fn first_word(text: &[u8]) -> Option<First>
 // The string or the label that the text begins with.
 fn first_string(text: &[u8]) -> Option<First>
     ensures exact { result ≡ first_string text.now }
-    ensures first { IfSome result (λ first. IsFirst text.now first) }
+    ensures first { IfSome result (λ first. IsFirstToken text.now first) }
 {
     match string_len(text) {
         Some(len) => Some(with_colon(text, TokenKind::Text, len)),
@@ -300,7 +300,7 @@ fn first_string(text: &[u8]) -> Option<First>
 // The comment that the text begins with.
 fn first_comment(text: &[u8]) -> Option<First>
     ensures exact { result ≡ first_comment text.now }
-    ensures first { IfSome result (λ first. IsFirst text.now first) }
+    ensures first { IfSome result (λ first. IsFirstToken text.now first) }
 {
     match comment_len(text) {
         Some(len) => Some(First::new(TokenKind::Trivia, len)),
@@ -340,7 +340,7 @@ fn name_len(first: u8, behind: &[u8]) -> usize
 fn first_name(text: &[u8], first: u8, len: usize) -> Option<First>
     requires { len < length text.now }
     ensures exact { result ≡ first_name text.now first len }
-    ensures first { IfSome result (λ first. IsFirst text.now first) }
+    ensures first { IfSome result (λ first. IsFirstToken text.now first) }
 {
     if len == 0 {
         if first == b'!' {
@@ -357,7 +357,7 @@ fn first_name(text: &[u8], first: u8, len: usize) -> Option<First>
 
 // The number with a `+` that has this behind it.
 fn first_number(behind: &[u8]) -> Option<First>
-    ensures exact { result ≡ first_number behind.now }
+    ensures exact { result ≡ first_signed_number behind.now }
     ensures first { IfSome result (λ first. (0 < first.len) × (first.len ≤ length behind.now + 1)) }
 {
     let len = whole_word_len(behind);
@@ -396,7 +396,7 @@ fn kind_of_close(byte: u8) -> Option<TokenKind>
 
 // Whether the byte is a mark.
 fn is_mark(byte: u8) -> bool
-    ensures { result ≡ is_mark byte }
+    ensures { result ≡ is_mark_byte byte }
 {
     byte == b'=' || byte == b',' || byte == b'*' || byte == b'|' || byte == b':'
 }
@@ -427,7 +427,7 @@ fn is_sign_of_name(byte: u8) -> bool
 fn longer_token(text: &[u8], first: u8, behind: &[u8]) -> Option<First>
     requires { text.now ≡ first ∷ behind.now }
     ensures exact { result ≡ longer_token first behind.now }
-    ensures first { IfSome result (λ first. IsFirst text.now first) }
+    ensures first { IfSome result (λ first. IsFirstToken text.now first) }
 {
     if is_blank(first) {
         Some(First::new(TokenKind::Trivia, blank_len(text)))
@@ -449,7 +449,7 @@ fn longer_token(text: &[u8], first: u8, behind: &[u8]) -> Option<First>
 // The token that the text begins with.
 fn first_token(text: &[u8]) -> Option<First>
     ensures exact { result ≡ first_token text.now }
-    ensures first { IfSome result (λ first. IsFirst text.now first) }
+    ensures first { IfSome result (λ first. IsFirstToken text.now first) }
 {
     let [first, behind @ ..] = text else {
         return None;
@@ -462,7 +462,7 @@ fn first_token(text: &[u8]) -> Option<First>
 
 /// The bytes of the span. Asks that it is in the text. Cost: constant.
 #[doc(hidden)]
-pub fn bytes_of(text: &[u8], span: Span) -> &[u8]
+pub fn bytes_of(text: &[u8], span: ByteSpan) -> &[u8]
     requires ordered { span.start ≤ span.end }
     requires within { span.end ≤ length text.now }
     ensures { result.now ≡ bytes_of_span text.now span }
@@ -471,18 +471,18 @@ pub fn bytes_of(text: &[u8], span: Span) -> &[u8]
 }
 
 // What is expected where no token begins with this byte.
-fn expected_at(byte: u8) -> Expected {
+fn expected_at(byte: u8) -> ExpectedSyntax {
     if byte == b'"' {
-        Expected::Text
+        ExpectedSyntax::Text
     } else {
-        Expected::Word
+        ExpectedSyntax::Word
     }
 }
 
 /// The token at this byte: blanks and comments are tokens too. Asks that the byte is in the text. Errors: none begins there, or its string doesn't end.
 /// Cost: linear in it.
 #[doc(hidden)]
-pub fn token_at(text: &[u8], at: usize) -> Result<Token, Fault>
+pub fn token_at(text: &[u8], at: usize) -> Result<LlvmToken, LlvmFault>
     requires { at < length text.now }
     ensures lexed { IfOk result (λ token. IsLexedAt text.now at token) }
     ensures token { IfOk result (λ token. IsTokenAt text.now at token) }
@@ -490,13 +490,13 @@ pub fn token_at(text: &[u8], at: usize) -> Result<Token, Fault>
     ensures fault { IfErr result (λ fault. IsFaultIn text.now fault) }
 {
     match first_token(&text[at..]) {
-        Some(First { kind, len }) => Ok(Token {
+        Some(First { kind, len }) => Ok(LlvmToken {
             kind,
-            span: Span {
+            span: ByteSpan {
                 start: at,
                 end: at + len,
             },
         }),
-        None => Err(Fault::Expected(at, expected_at(text[at]))),
+        None => Err(LlvmFault::Expected(at, expected_at(text[at]))),
     }
 }

@@ -11,11 +11,11 @@ use Rattle.pliron_text_mlir_reader.specs.declared.owned.OwnedProperty.TheVariant
 use Rattle.pliron_text_mlir_reader.specs.declared.taken.Entries.{Entries}
 use Rattle.pliron_text_mlir_reader.specs.Taken.{flags_owned}
 use Rattle.pliron_core.specs.declared.attrs.Head.{Head}
-use Rattle.pliron_dialect_mlir.specs.Heads.{plain_head}
+use Rattle.pliron_dialect_mlir.specs.Heads.{plain_class_head}
 use Rattle.pliron_dialect_mlir.specs.declared.kind.Class.TheVariants.{Fork}
 use Rattle.pliron_text_mlir_syntax.specs.declared.fault.Fault.{Fault}
 use Rattle.pliron_text_mlir_reader.specs.declared.taken.OperationShape.{OperationShape}
-use Rattle.pliron_text_mlir_reader.specs.Said.{Said, without_quotes, counts_edges, value_in, predicate_in, overflow_said, overflow_listed, counts_said, fits, fitting}
+use Rattle.pliron_text_mlir_reader.specs.Said.{Said, without_quotes, counts_edges, value_in, predicate_in, overflow_said, overflow_listed, counts_said, fit_shape, fitting}
 use Rattle.pliron_text_mlir_syntax.specs.declared.sheet.Sheet.{Sheet}
 use Rattle.pliron_text_mlir_reader.specs.TakenHeads.{Forms, SaysForm, IsBranchHead, IsSwitchHead}
 use Rattle.pliron_text_mlir_reader.specs.SaidOf.{value_text, entry_text, entry_behind, without_counts}
@@ -61,18 +61,18 @@ and_false false y = refl
 differ : (m n : ℕ) → n < m → nat_eq m n ≡ false
 differ m n h = grind (arith, nat_tests)
 
-pub fits_never : (s : OperationShape) (counts : List ℕ) → s.operands < 18446744073709551616 → 18446744073709551616 ≤ sum counts → fits s counts ≡ false
+pub fits_never : (s : OperationShape) (counts : List ℕ) → s.operands < 18446744073709551616 → 18446744073709551616 ≤ sum counts → fit_shape s counts ≡ false
 fits_never s counts few many =
     let e : nat_eq (1 + sum counts) s.operands ≡ false = differ (1 + sum counts) s.operands (omega arith) in
     rw e (and_false _ _)
 
 -- where the edges take no counts that fit, a branch is a fork
-pub branch_forks : (sheet : Sheet) (s : OperationShape) (said : Said) (forms : Forms) (r : Result Head Fault) → fitting s (counts_said false said) ≡ None → IfOk r (λ head. SaysForm sheet forms.form (plain_head Fork) head)
+pub branch_forks : (sheet : Sheet) (s : OperationShape) (said : Said) (forms : Forms) (r : Result Head Fault) → fitting s (counts_said false said) ≡ None → IfOk r (λ head. SaysForm sheet forms.form (plain_class_head Fork) head)
     → IfOk r (λ head. IsBranchHead sheet s said forms head)
 branch_forks sheet s said forms (Ok head) none is = rw none is
 branch_forks sheet s said forms (Err fault) none is = is
 
-pub switch_forks : (sheet : Sheet) (s : OperationShape) (said : Said) (forms : Forms) (r : Result Head Fault) → fitting s (counts_said true said) ≡ None → IfOk r (λ head. SaysForm sheet forms.form (plain_head Fork) head)
+pub switch_forks : (sheet : Sheet) (s : OperationShape) (said : Said) (forms : Forms) (r : Result Head Fault) → fitting s (counts_said true said) ≡ None → IfOk r (λ head. SaysForm sheet forms.form (plain_class_head Fork) head)
     → IfOk r (λ head. IsSwitchHead sheet s said forms head)
 switch_forks sheet s said forms (Ok head) none is = rw none is
 switch_forks sheet s said forms (Err fault) none is = is

@@ -12,7 +12,7 @@ use Rattle.pliron_text_mlir_reader.specs.Said.{Said}
 use Rattle.pliron_text_mlir_reader.specs.Taken.{class_taken}
 use Rattle.pliron_text_mlir_reader.specs.declared.owned.OwnedProperty.{OwnedProperty}
 use Rattle.pliron_text_mlir_syntax.specs.declared.fault.Fault.{Fault}
-use Rattle.pliron_text_mlir_reader.specs.TakenHeads.{Forms, IsConstantHead, IsBranchHead, IsSwitchHead, IsOtherHead, IsHeadOf, IsKnownAs, IsKeptAs, IsTaken, IsTakenFor}
+use Rattle.pliron_text_mlir_reader.specs.TakenHeads.{Forms, IsConstantHead, IsBranchHead, IsSwitchHead, IsOtherHead, IsHeadOf, IsKnownAs, IsKeptAs, IsTakenHead, IsTakenFor}
 
 taken_for : (sheet : Sheet) (known : KnownName) (s : OperationShape) (said : Said) (forms : Forms) (head : Head) → known ≡ known_in_quotes forms.form.name → IsKnownAs sheet known s said forms head
     → IsTakenFor sheet s said forms head
@@ -52,8 +52,8 @@ other_taken_so sheet class owned s said forms (Ok head) no_constant no_branch no
 other_taken_so sheet class owned s said forms (Err fault) no_constant no_branch no_switch is = is
 
 pub taken_by_text : (sheet : Sheet) (s : OperationShape) (said : Said) (forms : Forms) (head : Head) → s.from ≡ width_written said.operand → s.to ≡ width_written said.result
-    → IsTakenFor sheet s said forms head → ∥ IsTaken head ∥₁
+    → IsTakenFor sheet s said forms head → ∥ IsTakenHead head ∥₁
 taken_by_text sheet s said forms head from to is = ∣ inl (sheet, s, said, forms, from, to, is) ∣₁
 
-pub taken_as_kept : (sheet : Sheet) (text : List ℕ) (head : Head) → IsKeptAs sheet text head → ∥ IsTaken head ∥₁
+pub taken_as_kept : (sheet : Sheet) (text : List ℕ) (head : Head) → IsKeptAs sheet text head → ∥ IsTakenHead head ∥₁
 taken_as_kept sheet text head is = ∣ inr (sheet, text, is) ∣₁

@@ -2,10 +2,7 @@
 use Rattle.std.specs.Prelude.{◌||◌, ℕ, Bool, false, List, [], ◌∷◌, if◌then◌else◌, codes, bytes_eq}
 use Rattle.pliron_text_mlir_reader.specs.declared.owned.OwnedProperty.{OwnedProperty}
 use Rattle.pliron_text_mlir_reader.specs.declared.owned.OwnedProperty.TheVariants.{Nothing, Value, Zero, Predicate, LlvmOverflow, ArithOverflow, Exact, Disjoint, NonNegative, Edges}
-
-abbrev pub is_named : List (List ℕ) → List ℕ → Bool
-is_named [] name = false
-is_named (known ∷ names) name = bytes_eq name known || is_named names name
+use Rattle.pliron_dialect_mlir.specs.Names.{is_named}
 
 abbrev pub value_owners : List (List ℕ)
 value_owners = codes "llvm.mlir.constant" ∷ codes "arith.constant" ∷ []

@@ -35,13 +35,13 @@ abbrev pub value_in : (name : List ℕ) → List (List ℕ × List ℕ) → Opti
 value_in name [] = None
 value_in name (entry ∷ entries) = if bytes_eq entry.0 name then Some entry.1 else value_in name entries
 
-abbrev pub either : Option (List ℕ) → Option (List ℕ) → Option (List ℕ)
-either None other = other
-either (Some value) other = Some value
+abbrev pub either_text : Option (List ℕ) → Option (List ℕ) → Option (List ℕ)
+either_text None other = other
+either_text (Some value) other = Some value
 
 -- the property list's, and where that lacks it the attribute dictionary's
 abbrev pub value_of : (name : List ℕ) → Said → Option (List ℕ)
-value_of name said = either (value_in name said.properties) (value_in name said.attributes)
+value_of name said = either_text (value_in name said.properties) (value_in name said.attributes)
 
 -- ---- flags
 
@@ -98,8 +98,8 @@ value_bits width said = option_and_then (bits_typed width said.result) (option_a
 abbrev pub counts_edges : List ℕ → Bool
 counts_edges name = bytes_eq name (codes "operandSegmentSizes") || bytes_eq name (codes "case_operand_segments")
 
-abbrev pub counts_in : (name : List ℕ) → Said → Option (List ℕ)
-counts_in name said = counts_written (unwrap_or (value_of name said) [])
+abbrev pub said_counts : (name : List ℕ) → Said → Option (List ℕ)
+said_counts name said = counts_written (unwrap_or (value_of name said) [])
 
 abbrev pub cases_spread : (segments cases : Option (List ℕ)) → Option (List ℕ)
 cases_spread None cases = None
@@ -110,16 +110,16 @@ cases_spread (Some segments) (Some cases) = spread_of segments true cases
 abbrev pub counts_said : (is_switch : Bool) → Said → Option (List ℕ)
 counts_said is_switch said =
     if is_some (value_of (codes "operand_segment_sizes") said) then None
-    else if is_switch then cases_spread (counts_in (codes "operandSegmentSizes") said) (counts_in (codes "case_operand_segments") said)
-    else option_and_then (λ segments. spread_of segments false []) (counts_in (codes "operandSegmentSizes") said)
+    else if is_switch then cases_spread (said_counts (codes "operandSegmentSizes") said) (said_counts (codes "case_operand_segments") said)
+    else option_and_then (λ segments. spread_of segments false []) (said_counts (codes "operandSegmentSizes") said)
 
 -- so many operands of each edge: there are as many edges, and these are all operands but the first; more than 1,024
 -- edges have none
-abbrev pub fits : OperationShape → (counts : List ℕ) → Bool
-fits s counts = not (nat_lt 1024 (length counts) && nat_lt 0 (sum counts)) && (nat_eq (length counts) s.successors && nat_eq (1 + sum counts) s.operands)
+abbrev pub fit_shape : OperationShape → (counts : List ℕ) → Bool
+fit_shape s counts = not (nat_lt 1024 (length counts) && nat_lt 0 (sum counts)) && (nat_eq (length counts) s.successors && nat_eq (1 + sum counts) s.operands)
 
 abbrev pub fitting : OperationShape → Option (List ℕ) → Option (List ℕ)
-fitting s counts = option_and_then (λ counts. if fits s counts then Some counts else None) counts
+fitting s counts = option_and_then (λ counts. if fit_shape s counts then Some counts else None) counts
 
 -- the width and the cases of a switch, neither where they aren't understood
 abbrev pub cases_of : (width : ℕ) → Option (List ℕ) → ℕ × List ℕ

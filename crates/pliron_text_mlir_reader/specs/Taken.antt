@@ -10,7 +10,7 @@ use Rattle.pliron_bits.specs.Operators.{predicate_of_number}
 use Rattle.pliron_dialect_mlir.specs.declared.kind.Class.{Class}
 use Rattle.pliron_dialect_mlir.specs.declared.kind.Class.TheVariants.{Constant, Select, Opaque, Jump, Branch, Switch, Leave, Unreachable, Effect, Regions, Root, Module, Fork, Compare, Cast as CastClass, Binary}
 use Rattle.pliron_dialect_mlir.specs.ClassNumbers.{number_of_class}
-use Rattle.pliron_dialect_mlir.specs.Heads.{plain_head, binary_head, compare_head, cast_head, branch_head}
+use Rattle.pliron_dialect_mlir.specs.Heads.{plain_class_head, binary_head, compare_head, cast_head, branch_head}
 use Rattle.pliron_text_mlir_syntax.specs.declared.numbers.SignedNumber.{SignedNumber}
 use Rattle.pliron_text_mlir_reader.specs.declared.owned.OwnedProperty.{OwnedProperty}
 use Rattle.pliron_text_mlir_reader.specs.declared.owned.OwnedProperty.TheVariants.{Value, Zero, LlvmOverflow, ArithOverflow, Exact, Disjoint, NonNegative}
@@ -21,8 +21,8 @@ use Rattle.pliron_text_mlir_reader.specs.declared.taken.Entries.{Entries}
 -- ---- the class
 
 -- so many operands and results, no successors and no regions
-abbrev pub computes : (operands results : ℕ) → OperationShape → Bool
-computes operands results s = nat_eq s.operands operands && (nat_eq s.results results && (nat_eq s.successors 0 && nat_eq s.regions 0))
+abbrev pub is_computation : (operands results : ℕ) → OperationShape → Bool
+is_computation operands results s = nat_eq s.operands operands && (nat_eq s.results results && (nat_eq s.successors 0 && nat_eq s.regions 0))
 
 -- no results and no regions
 abbrev pub only_ends : OperationShape → Bool
@@ -34,11 +34,11 @@ only_holds s = nat_eq s.operands 0 && (nat_eq s.results 0 && (nat_eq s.successor
 
 -- an operation of the class has such a shape
 abbrev pub has_shape : Class → OperationShape → Bool
-has_shape Constant s = computes 0 1 s
-has_shape (Binary operator) s = computes 2 1 s
-has_shape Compare s = computes 2 1 s
-has_shape (CastClass cast) s = computes 1 1 s
-has_shape Select s = computes 3 1 s
+has_shape Constant s = is_computation 0 1 s
+has_shape (Binary operator) s = is_computation 2 1 s
+has_shape Compare s = is_computation 2 1 s
+has_shape (CastClass cast) s = is_computation 1 1 s
+has_shape Select s = is_computation 3 1 s
 has_shape Opaque s = nat_eq s.successors 0 && nat_eq s.regions 0
 has_shape Effect s = nat_eq s.successors 0 && nat_eq s.regions 0
 has_shape Leave s = only_ends s && nat_eq s.successors 0
@@ -83,12 +83,12 @@ wrapping None = promise false false false
 wrapping (Some overflow) = record { no_signed_wrap = overflow.signed; no_unsigned_wrap = overflow.unsigned; exact = false; disjoint = false; nonnegative = false }
 
 -- the property list's, and where that lacks it the attribute dictionary's
-abbrev pub first_of : Option Overflow → Option Overflow → Option Overflow
-first_of (Some overflow) other = Some overflow
-first_of None other = other
+abbrev pub first_overflow : Option Overflow → Option Overflow → Option Overflow
+first_overflow (Some overflow) other = Some overflow
+first_overflow None other = other
 
 abbrev pub overflow_in : Entries → Entries → Option Overflow
-overflow_in properties attributes = first_of properties.overflow attributes.overflow
+overflow_in properties attributes = first_overflow properties.overflow attributes.overflow
 
 -- the flags of an operation are those that it owns, in either list; `overflowFlags` of `llvm` are a property alone
 abbrev pub flags_owned : OwnedProperty → Entries → Entries → Flags
@@ -119,19 +119,19 @@ spread_of _ is_switch cases = None
 
 abbrev pub comparison_taken : Option Predicate → (width form : ℕ) → Head
 comparison_taken (Some predicate) width form = compare_head width predicate form
-comparison_taken None width form = plain_head Opaque form
+comparison_taken None width form = plain_class_head Opaque form
 
 -- the head of an operation of the class, but for constants, branches and switches
 abbrev pub head_taken : Class → OperationShape → Flags → Option Predicate → (form : ℕ) → Head
 head_taken (Binary operator) s flags predicate form = binary_head operator s.from flags form
 head_taken (CastClass cast) s flags predicate form = cast_head cast s.from s.to flags form
 head_taken Compare s flags predicate form = comparison_taken predicate s.from form
-head_taken class s flags predicate form = plain_head class form
+head_taken class s flags predicate form = plain_class_head class form
 
 -- the head of a branch: its first edge is that of a true condition
 abbrev pub branch_taken : (counts : List ℕ) → (form : ℕ) → Head
 branch_taken (on_true ∷ on_false ∷ []) form = branch_head on_true on_false form
-branch_taken _ form = plain_head Fork form
+branch_taken _ form = plain_class_head Fork form
 
 -- what an operation of the class is where its properties aren't understood
 abbrev pub not_understood : Class → Class

@@ -4,11 +4,11 @@ use Rattle.pliron_core.specs.declared.attrs.Head.{Head}
 use Rattle.pliron_dialect_mlir.specs.declared.kind.Class.{Class}
 use Rattle.pliron_dialect_mlir.specs.declared.kind.Class.TheVariants.{Constant, Opaque, Branch, Switch, Effect, Fork}
 use Rattle.pliron_dialect_mlir.specs.Data.{number, other_constant}
-use Rattle.pliron_dialect_mlir.specs.Heads.{constant_head, plain_head, switch_head}
+use Rattle.pliron_dialect_mlir.specs.Heads.{constant_head, plain_class_head, switch_head}
 use Rattle.pliron_text_mlir_syntax.specs.declared.sheet.Sheet.{Sheet}
 use Rattle.pliron_text_mlir_syntax.specs.declared.sheet.OperationForm.{OperationForm}
 use Rattle.pliron_text_mlir_syntax.specs.Numbers.{width_written}
-use Rattle.pliron_text_mlir_syntax.specs.Sheets.{text_at, form_at, WrittenForm, IsFormOf}
+use Rattle.pliron_text_mlir_syntax.specs.Sheets.{text_at, sheet_form, WrittenForm, IsFormOf}
 use Rattle.pliron_text_mlir_reader.specs.Known.{known_in_quotes}
 use Rattle.pliron_text_mlir_reader.specs.Said.{Said, flags_said, predicate_in, value_bits, counts_said, fitting, cases_said}
 use Rattle.pliron_text_mlir_reader.specs.Taken.{class_taken, bits_owned, head_taken, branch_taken}
@@ -42,7 +42,7 @@ is_long written = nat_lt 256 (length (unwrap_or written.properties []))
 
 -- a long one is opaque
 abbrev pub IsOtherConstant : Sheet → WrittenForm → Head → Type 0
-IsOtherConstant sheet written head = MatchBool (is_long written) (SaysForm sheet written (plain_head Opaque) head) (IsDatumHead sheet written head)
+IsOtherConstant sheet written head = MatchBool (is_long written) (SaysForm sheet written (plain_class_head Opaque) head) (IsDatumHead sheet written head)
 
 -- an integer says the bits that it owns, and their width
 abbrev pub IsConstantHead : Sheet → OwnedProperty → (width : ℕ) → Said → WrittenForm → Head → Type 0
@@ -52,12 +52,12 @@ IsConstantHead sheet owned width said written head =
 -- a branch says how many operands each edge takes; where its text doesn't, it is a fork
 abbrev pub IsBranchHead : Sheet → OperationShape → Said → Forms → Head → Type 0
 IsBranchHead sheet s said forms head =
-    MatchOption (fitting s (counts_said false said)) (SaysForm sheet forms.form (plain_head Fork) head) (λ counts. SaysForm sheet forms.branch_form (branch_taken counts) head)
+    MatchOption (fitting s (counts_said false said)) (SaysForm sheet forms.form (plain_class_head Fork) head) (λ counts. SaysForm sheet forms.branch_form (branch_taken counts) head)
 
 -- a switch says its cases too
 abbrev pub IsSwitchHead : Sheet → OperationShape → Said → Forms → Head → Type 0
 IsSwitchHead sheet s said forms head =
-    MatchOption (fitting s (counts_said true said)) (SaysForm sheet forms.form (plain_head Fork) head)
+    MatchOption (fitting s (counts_said true said)) (SaysForm sheet forms.form (plain_class_head Fork) head)
     (λ counts. SaysForm sheet forms.branch_form (switch_head counts (cases_said s said).0 (cases_said s said).1) head)
 
 -- any other operation has the flags and the predicate that it owns
@@ -84,14 +84,14 @@ IsTakenFor sheet s said forms head = IsKnownAs sheet (known_in_quotes forms.form
 
 -- the number is that of the form of an operation that is kept as this text
 abbrev pub IsFormOfKept : Sheet → (number : ℕ) → (text : List ℕ) → Type 0
-IsFormOfKept sheet number text = (form : OperationForm) × (form_at sheet number ≡ Some form) × (text_at sheet form.name ≡ Some text) × (form.is_whole ≡ true)
+IsFormOfKept sheet number text = (form : OperationForm) × (sheet_form sheet number ≡ Some form) × (text_at sheet form.name ≡ Some text) × (form.is_whole ≡ true)
 
 -- an effect whose form is this text
 abbrev pub IsKeptAs : Sheet → (text : List ℕ) → Head → Type 0
-IsKeptAs sheet text head = (form : ℕ) × IsFormOfKept sheet form text × (head ≡ plain_head Effect form)
+IsKeptAs sheet text head = (form : ℕ) × IsFormOfKept sheet form text × (head ≡ plain_class_head Effect form)
 
 -- some operation, with the widths of its types, is taken for one with this head; or it is kept as it is written
-abbrev pub IsTaken : Head → Type 0
-IsTaken head =
+abbrev pub IsTakenHead : Head → Type 0
+IsTakenHead head =
     ((sheet : Sheet) × (s : OperationShape) × (said : Said) × (forms : Forms) × (s.from ≡ width_written said.operand) × (s.to ≡ width_written said.result) × IsTakenFor sheet s said forms head)
     ⊎ ((sheet : Sheet) × (text : List ℕ) × IsKeptAs sheet text head)

@@ -1,7 +1,7 @@
 //! The head of an operation: its class, what the class reads of it, and its form.
 ghost use Rattle.std.specs.Prelude.{◌≡◌, ◌≤◌, ◌<◌, ◌^◌, ℕ, List, [], true, false, None, Some, length, map, sum, set, codes, bytes_eq, unwrap_or, option_map, option_and_then, IfOk, OnOk, MatchOption, SomeIff};
 ghost use Rattle.std.specs.List.{slice_split, list_any};
-ghost use Rattle.pliron_dialect_mlir.specs.Heads.{plain_head as plain_head_of};
+ghost use Rattle.pliron_dialect_mlir.specs.Heads.{plain_class_head as plain_head_of};
 ghost use Rattle.pliron_dialect_mlir.specs.declared.kind.Class.TheVariants.{Constant, Branch, Switch, Fork};
 ghost use Rattle.pliron_text_mlir_syntax.specs.Numbers.{without_blanks, is_comma, typed_written, width_written};
 ghost use Rattle.pliron_text_mlir_reader.specs.Taken.{class_taken as class_taken_of, HasClass};
@@ -10,7 +10,7 @@ ghost use Rattle.pliron_text_mlir_syntax.specs.Spans.{bytes_in};
 ghost use Rattle.pliron_text_mlir_reader.specs.SaidOf.{said_of, value_text as value_text_of, entry_text, form_written, with_lists as with_lists_of, branch_form_written, forms_of, entry_behind, without_counts as without_counts_of};
 ghost use Rattle.pliron_text_mlir_reader.specs.Said.{counts_edges as counts_edges_of, value_in as value_named, value_of as value_of_said, lists_word as lists_word_in};
 ghost use Rattle.pliron_text_mlir_reader.specs.Said.{overflow_listed as overflow_listed_in, overflow_numbered as overflow_numbered_by, overflow_said as overflow_said_in, entries_in, flags_said, predicate_in, value_bits as value_bits_said};
-ghost use Rattle.pliron_text_mlir_reader.specs.Said.{counts_in, cases_spread, counts_said, fits as fits_in, fitting, cases_said};
+ghost use Rattle.pliron_text_mlir_reader.specs.Said.{said_counts, cases_spread, counts_said, fit_shape as fits_in, fitting, cases_said};
 ghost use Rattle.pliron_text_mlir_reader.specs.TakenHeads.{SaysForm, is_long as is_long_of, IsConstantHead, IsDatumHead, IsOtherConstant, IsBranchHead, IsSwitchHead, IsOtherHead, IsTakenFor};
 
 use crate::known::without_quotes;
@@ -374,8 +374,8 @@ impl<'t> Reader<'t> {
     // Those of a switch with these segments.
     fn switch_counts(&self, segments: &[usize]) -> Result<Option<Vec<usize>>, Fault>
         ensures { IfOk result (λ found. MatchOption found
-            (cases_spread (Some segments.now) (counts_in (codes "case_operand_segments") (said_of self.now)) ≡ None)
-            (λ counts. cases_spread (Some segments.now) (counts_in (codes "case_operand_segments") (said_of self.now))
+            (cases_spread (Some segments.now) (said_counts (codes "case_operand_segments") (said_of self.now)) ≡ None)
+            (λ counts. cases_spread (Some segments.now) (said_counts (codes "case_operand_segments") (said_of self.now))
             ≡ Some counts.items)) }
     {
         match array_of(self.alloc, self.value_or_empty(SEGMENTS[1]))? {

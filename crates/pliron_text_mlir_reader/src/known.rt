@@ -1,7 +1,7 @@
 //! What is known of operations by their names.
 ghost use Rattle.std.specs.Prelude.{◌≡◌, IfOk};
 ghost use Rattle.pliron_text_mlir_reader.specs.Said.{without_quotes as without_quotes_of};
-ghost use Rattle.pliron_text_mlir_reader.specs.Known.{known_of, known_in_quotes, AreKnown};
+ghost use Rattle.pliron_text_mlir_reader.specs.Known.{known_name, known_in_quotes, AreKnownNames};
 
 use crate::owned::{OwnedProperty, owned_by};
 use pliron_dialect_mlir::{Class, class_named};
@@ -24,7 +24,7 @@ pub struct KnownNames {
     names: Texts,
     /// By the numbers of names.
     known: Vec<KnownName>,
-    ghost known_so: { AreKnown names known.items },
+    ghost known_so: { AreKnownNames names known.items },
 }
 
 /// The part without quotes. Cost: constant.
@@ -39,7 +39,7 @@ pub fn without_quotes(name: &[u8]) -> &[u8]
 
 // What is known of this name, without quotes.
 fn look_up(name: &[u8]) -> KnownName
-    ensures { result ≡ known_of name.now }
+    ensures { result ≡ known_name name.now }
 {
     KnownName {
         class: class_named(name),

@@ -1,6 +1,7 @@
 //! The properties that operations own, by their names, as far as passes read them.
 ghost use Rattle.std.specs.Prelude.{◌≡◌};
-ghost use Rattle.pliron_text_mlir_reader.specs.Owners.{is_named, owned_named, value_owners, predicate_owners, llvm_overflow_owners, arith_overflow_owners, exact_owners, edges_owners};
+ghost use Rattle.pliron_text_mlir_reader.specs.Owners.{owned_named, value_owners, predicate_owners, llvm_overflow_owners, arith_overflow_owners, exact_owners, edges_owners};
+ghost use Rattle.pliron_dialect_mlir.specs.Names.{is_named};
 
 /// What is read of the properties of an operation. Every other entry of its property list and attribute dictionary is
 /// text alone.

@@ -1,5 +1,5 @@
 //! Heads of operations as a text has them.
-ghost use Rattle.pliron_text_mlir_reader.specs.TakenHeads.{IsTaken};
+ghost use Rattle.pliron_text_mlir_reader.specs.TakenHeads.{IsTakenHead};
 
 use pliron_core::Head;
 
@@ -9,5 +9,5 @@ use pliron_core::Head;
 pub struct TakenHead {
     pub head: Head,
     /// By the name and the shape of some operation; or the operation is kept as it is written.
-    pub ghost taken: { ∥ IsTaken head ∥₁ },
+    pub ghost taken: { ∥ IsTakenHead head ∥₁ },
 }

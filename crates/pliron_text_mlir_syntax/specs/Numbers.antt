@@ -133,14 +133,14 @@ bits_written width number =
 abbrev pub numbers_written : List ℕ → Option (List SignedNumber)
 numbers_written text = if nat_eq (length (without_blanks text)) 0 then Some [] else all_of (map signed_written (slice_split is_comma text))
 
-abbrev pub count_of : SignedNumber → Option ℕ
-count_of number = if number.is_negative then None else Some number.magnitude
+abbrev pub count_of_number : SignedNumber → Option ℕ
+count_of_number number = if number.is_negative then None else Some number.magnitude
 
 -- the counts of `i32: 1, 0`, and of `i32`
 abbrev pub counts_inside : List ℕ → Option (List ℕ)
 counts_inside inner =
     if nat_lt (position_or_len is_colon inner) (length inner)
-    then option_and_then (λ numbers. all_of (map count_of numbers)) (numbers_written (after_first is_colon inner))
+    then option_and_then (λ numbers. all_of (map count_of_number numbers)) (numbers_written (after_first is_colon inner))
     else Some []
 
 -- those of `array<i32: 1, 0>`

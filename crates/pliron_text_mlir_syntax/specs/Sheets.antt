@@ -17,12 +17,12 @@ KeepsTexts old new = (number : ℕ) (text : List ℕ) → text_in old number ≡
 abbrev pub text_at : Sheet → ℕ → Option (List ℕ)
 text_at sheet number = text_in sheet.texts number
 
-abbrev pub form_at : Sheet → ℕ → Option OperationForm
-form_at sheet number = slice_get sheet.forms.keys number
+abbrev pub sheet_form : Sheet → ℕ → Option OperationForm
+sheet_form sheet number = slice_get sheet.forms.keys number
 
 -- a number that has a text or a form keeps it
 abbrev pub KeepsNumbers : Sheet → Sheet → Type 0
-KeepsNumbers old new = KeepsTexts old.texts new.texts × ((number : ℕ) (form : OperationForm) → form_at old number ≡ Some form → form_at new number ≡ Some form)
+KeepsNumbers old new = KeepsTexts old.texts new.texts × ((number : ℕ) (form : OperationForm) → sheet_form old number ≡ Some form → sheet_form new number ≡ Some form)
 
 -- ---- forms
 
@@ -57,4 +57,4 @@ HasTexts sheet form written =
 
 -- the number is that of a form with these texts
 abbrev pub IsFormOf : Sheet → (number : ℕ) → WrittenForm → Type 0
-IsFormOf sheet number written = (form : OperationForm) × (form_at sheet number ≡ Some form) × HasTexts sheet form written
+IsFormOf sheet number written = (form : OperationForm) × (sheet_form sheet number ≡ Some form) × HasTexts sheet form written

@@ -2,7 +2,7 @@
 ghost use Rattle.std.specs.Prelude.{◌≡◌, ◌+◌, ◌≤◌, Bool, true, false, nat_lt, length, map, replicate, codes, option_map, option_and_then, if◌then◌else◌, IfOk, MatchOption};
 ghost use Rattle.std.specs.List.{position_or_len, before_first, after_first, slice_split};
 ghost use Rattle.pliron_text_mlir_syntax.specs.Numbers.{without_blanks, between as between_texts, is_colon, is_comma, with_digit as with_digit_of, digits_written, signed_as, magnitude_written, signed_in, signed_written, unsaid_type as unsaid_type_of, typed_written};
-ghost use Rattle.pliron_text_mlir_syntax.specs.Numbers.{integer_width as integer_width_of, width_written, largest as largest_of, bits_written, all_of, count_of, numbers_written, counts_inside, counts_written};
+ghost use Rattle.pliron_text_mlir_syntax.specs.Numbers.{integer_width as integer_width_of, width_written, largest as largest_of, bits_written, all_of, count_of_number, numbers_written, counts_inside, counts_written};
 ghost use Rattle.pliron_text_mlir_syntax.specs.Numbers.{low_first as low_first_of, with_byte as with_byte_of, element_in, elements_in, elements_written, before_last_colon as before_last_colon_of, dense_written};
 
 use std::alloc::{AllocError, Global};
@@ -261,8 +261,8 @@ fn numbers_in(alloc: Global, text: &[u8]) -> Result<Option<Vec<SignedNumber>>, A
 // The numbers as counts.
 #[tactic(auto, using(crate::proofs::NumberLemmas::reads_none, crate::proofs::NumberLemmas::reads_more, crate::proofs::NumberLemmas::reads_fail, crate::proofs::NumberLemmas::reads_all))]
 fn counts_of(alloc: Global, numbers: &[SignedNumber]) -> Result<Option<Vec<usize>>, AllocError>
-    ensures { IfOk result (λ found. MatchOption found (all_of (map count_of numbers.now) ≡ None)
-        (λ counts. all_of (map count_of numbers.now) ≡ Some counts.items)) }
+    ensures { IfOk result (λ found. MatchOption found (all_of (map count_of_number numbers.now) ≡ None)
+        (λ counts. all_of (map count_of_number numbers.now) ≡ Some counts.items)) }
 {
     let mut counts = Vec::new(alloc);
     for number in numbers {

@@ -104,7 +104,7 @@ pub struct Sheet {
 }
 
 impl Sheet {
-    ghost use Rattle.pliron_text_mlir_syntax.specs.Sheets.{text_at, form_at, KeepsNumbers};
+    ghost use Rattle.pliron_text_mlir_syntax.specs.Sheets.{text_at, sheet_form, KeepsNumbers};
     ghost use Rattle.pliron_text_mlir_syntax.specs.Sheets.{HasList, HasTexts, IsFormOf, texts_written, option_now};
 
     /// An empty one. Takes no memory. Cost: constant.
@@ -177,7 +177,7 @@ impl Sheet {
 
     /// The number of a form. Others keep theirs. Errors: allocation failure. Cost: constant.
     pub fn form_number(&mut self, form: OperationForm) -> Result<usize, AllocError>
-        ensures numbered { IfOk result (λ number. form_at self.new number ≡ Some form) }
+        ensures numbered { IfOk result (λ number. sheet_form self.new number ≡ Some form) }
         ensures kept { KeepsNumbers self.old self.new }
     {
         let (number, _) = self.forms.insert_full(form)?;
@@ -186,7 +186,7 @@ impl Sheet {
 
     /// The form of this number, if there is one. Cost: constant.
     pub fn form(&self, number: usize) -> Option<OperationForm>
-        ensures { result ≡ form_at self.now number }
+        ensures { result ≡ sheet_form self.now number }
     {
         self.forms.get_index(number).copied()
     }

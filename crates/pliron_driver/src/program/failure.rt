@@ -1,6 +1,6 @@
 //! Why a program ends without an answer.
 ghost use Rattle.std.specs.Prelude.{◌≡◌};
-ghost use Rattle.pliron_driver.specs.Ending.{status_of};
+ghost use Rattle.pliron_driver.specs.Ending.{exit_status};
 
 use pliron_laws::OptError;
 use std::alloc::AllocError;
@@ -38,7 +38,7 @@ impl Failure {
     /// Writes a line that says why, and answers the status; of words that ask for nothing it says how
     /// `program` is used. A failed write is ignored. Cost: writing the line.
     pub fn report<E: Write>(self, program: &str, errors: &mut E) -> u8
-        ensures { result ≡ status_of self }
+        ensures { result ≡ exit_status self }
     {
         let _ = match self {
             Failure::Arguments => writeln!(errors, "usage: {program} LIST, or {program} graph"),

@@ -8,8 +8,8 @@ ghost use Rattle.pliron_laws.specs.Answers.{ReadsHead};
 ghost use Rattle.pliron_dialect.specs.Counted.{first_edge_count as first_count_of, two_counts, values_of_edge};
 ghost use Rattle.pliron_dialect.specs.Roles.{act_of, numbers_of, number_of as number_in, first_number as first_number_in, first_attribute, fit_data as fit_or_empty_of, give_or_trap};
 ghost use Rattle.pliron_dialect_bench.specs.Bench.{kind_of};
-ghost use Rattle.pliron_dialect_bench.specs.BenchNumbers.{known_at as known_of, known_sum as known_sum_of, known_product as known_product_of, known_quotient as known_quotient_of};
-ghost use Rattle.pliron_dialect_bench.specs.BenchMoves.{bench, bench_role, bench_value, datum_at, memo_when_done, once, fit_data, read_word, print_word, edge_taken as edge_taken_by};
+ghost use Rattle.pliron_dialect_bench.specs.BenchNumbers.{wrapped_known_at as known_of, known_sum as known_sum_of, known_product as known_product_of, known_quotient as known_quotient_of};
+ghost use Rattle.pliron_dialect_bench.specs.BenchMoves.{bench, bench_role, bench_value, datum_at, memo_when_done, once, fit_with_zeros, read_word, print_word, edge_taken as edge_taken_by};
 ghost use Rattle.pliron_evaluator.specs.Evaluator.{datum_of_value, move_of};
 
 use crate::evaluator::shapes::{num_entry_argument, num_target_argument};
@@ -89,7 +89,8 @@ fn one_number(alloc: Global, number: i64) -> Result<Vec<Datum>, AllocError>
 
 // So many data, cut or filled with 0.
 fn fit_data(alloc: Global, count: usize, input: &[Datum]) -> Result<Vec<Datum>, AllocError>
-    ensures { IfOk result (λ values. map datum_of_value values.items ≡ fit_data count (map datum_of_value input.now)) }
+    ensures { IfOk result (λ values. map datum_of_value values.items ≡ fit_with_zeros count
+        (map datum_of_value input.now)) }
 {
     let mut data = Vec::new(alloc);
     for i in 0..count {
@@ -124,7 +125,7 @@ fn memo_when_done() -> Datum
 
 // The first region is visited.
 fn visit(alloc: Global, count: usize, input: &[Datum]) -> Result<Move, AllocError>
-    ensures { IfOk result (λ next. move_of next ≡ Visit 0 (fit_data count (map datum_of_value input.now))
+    ensures { IfOk result (λ next. move_of next ≡ Visit 0 (fit_with_zeros count (map datum_of_value input.now))
         memo_when_done) }
 {
     let values = fit_data(alloc, count, input)?;
@@ -133,7 +134,7 @@ fn visit(alloc: Global, count: usize, input: &[Datum]) -> Result<Move, AllocErro
 
 fn func_move(alloc: Global, memo: &Datum, count: usize, input: &[Datum]) -> Result<Move, AllocError>
     ensures { IfOk result (λ next. move_of next ≡ once (datum_of_value memo.now)
-        (Visit 0 (fit_data count (map datum_of_value input.now)) memo_when_done)
+        (Visit 0 (fit_with_zeros count (map datum_of_value input.now)) memo_when_done)
         (Leave (map datum_of_value input.now))) }
 {
     match memo {
@@ -149,7 +150,7 @@ fn scope_move(
     input: &[Datum],
 ) -> Result<Move, AllocError>
     ensures { IfOk result (λ next. move_of next ≡ once (datum_of_value memo.now)
-        (Visit 0 (fit_data count (map datum_of_value input.now)) memo_when_done) (Give [])) }
+        (Visit 0 (fit_with_zeros count (map datum_of_value input.now)) memo_when_done) (Give [])) }
 {
     match memo {
         Datum::Empty => visit(alloc, count, input),

@@ -4,8 +4,9 @@ ghost use Rattle.pliron_core.specs.Tree.{IsLive, regions_of};
 ghost use Rattle.pliron_laws.specs.Tree.{entry_block, count_arguments};
 ghost use Rattle.pliron_laws.specs.Datum.{datum_of as content_of};
 ghost use Rattle.pliron_laws.specs.Answers.{ReadsHead};
-ghost use Rattle.pliron_evaluator.specs.Tiny.{first_attribute, first_datum, fitted_or_empty, memo_when_begun, has_begun, between, ask_move, scope_move, visit_with, both_move, twice_move};
+ghost use Rattle.pliron_evaluator.specs.Tiny.{first_attribute, fitted_or_empty, memo_when_begun, has_begun, kept_between, ask_move, scope_move, visit_with, both_move, twice_move};
 ghost use Rattle.pliron_evaluator.specs.Evaluator.{datum_of_value, move_of};
+ghost use Rattle.pliron_dialect.specs.Roles.{first_datum};
 
 use crate::evaluator::shapes::num_entry_argument;
 use crate::evaluator::values::{Datum, Evaluate, Move, all_copies, one};
@@ -101,7 +102,7 @@ fn scope_move(
 
 // The memo between two visits.
 fn between(alloc: Global, kept: Datum) -> Result<Datum, AllocError>
-    ensures { IfOk result (λ memo. datum_of_value memo ≡ between (datum_of_value kept)) }
+    ensures { IfOk result (λ memo. datum_of_value memo ≡ kept_between (datum_of_value kept)) }
 {
     Datum::join(alloc, kept, Datum::Empty)
 }

@@ -14,7 +14,7 @@ use pliron_opt_cfg::{
     remove_blocks_inside_region,
 };
 use pliron_test_cases::cases::read;
-use pliron_test_cases::listener::Counting;
+use pliron_test_cases::listener::CountingListener;
 use std::alloc::Global;
 use std::process::Abort;
 
@@ -48,7 +48,7 @@ fn in_region(
     holder: Ptr<Operation>,
     ctx: &mut Context,
     call: Call,
-    rewriter: &mut Counting,
+    rewriter: &mut CountingListener,
 ) -> Result<IRStatus, OptError>
     requires live { IsLive ctx.old.tree holder }
     requires linked { IsWellLinked bench ctx.old.tree holder }
@@ -59,9 +59,9 @@ fn in_region(
     assert!(rt; region.get_parent_op(ctx) == holder);
     match call {
         Call::Remove => {
-            remove_blocks_inside_region::<Bench, Counting>(alloc, region, ctx, rewriter)
+            remove_blocks_inside_region::<Bench, CountingListener>(alloc, region, ctx, rewriter)
         }
-        Call::Merge => merge_inside_region::<Bench, Counting>(alloc, region, ctx, rewriter),
+        Call::Merge => merge_inside_region::<Bench, CountingListener>(alloc, region, ctx, rewriter),
     }
 }
 
@@ -72,7 +72,7 @@ fn in_block(
     held: &HeldBlock,
     ctx: &mut Context,
     call: Call,
-    rewriter: &mut Counting,
+    rewriter: &mut CountingListener,
 ) -> Result<IRStatus, OptError>
     requires live { IsLive ctx.old.tree held.now.holder }
     requires linked { IsWellLinked bench ctx.old.tree held.now.holder }
@@ -85,8 +85,10 @@ fn in_block(
     assert!(rt; block.get_parent_region(ctx) == Some(region));
     assert!(rt; region.get_parent_op(ctx) == holder);
     match call {
-        Call::Remove => remove_blocks_inside_block::<Bench, Counting>(alloc, block, ctx, rewriter),
-        Call::Merge => merge_inside_block::<Bench, Counting>(alloc, block, ctx, rewriter),
+        Call::Remove => remove_blocks_inside_block::<Bench, CountingListener>(
+            alloc, block, ctx, rewriter,
+        ),
+        Call::Merge => merge_inside_block::<Bench, CountingListener>(alloc, block, ctx, rewriter),
     }
 }
 
@@ -107,7 +109,7 @@ fn answer(
     ctx: &mut Context,
     call: Call,
 ) -> Option<IRStatus> {
-    let mut rewriter = Counting::new();
+    let mut rewriter = CountingListener::new();
     let reported = match target {
         Target::Region(holder) => {
             assert_callable(rt, *holder, ctx);

@@ -12,7 +12,7 @@ use pliron_pass::{AnalysisManager, BenchFacts};
 use pliron_pass_fit::{RunError, run_checked};
 use pliron_pass_pipeline::PassStep;
 use pliron_test_cases::cases::read;
-use pliron_test_cases::listener::Counting;
+use pliron_test_cases::listener::CountingListener;
 use std::alloc::Global;
 use std::process::Abort;
 
@@ -81,18 +81,28 @@ fn answer(
 ) -> Result<IRStatus, OptError> {
     assert!(rt; root.is_live(ctx));
     assert!(rt; is_well_linked::<Bench>(root, ctx));
-    let mut rewriter = Counting::new();
+    let mut rewriter = CountingListener::new();
     let reported = match call {
         Call::Propagate => sccp::<Bench>(alloc, root, ctx),
         Call::PropagateCounted => {
             let (status, _) = sccp_counted::<Bench>(alloc, root, ctx)?;
             Ok(status)
         }
-        Call::PropagateThrough => sccp_through::<Bench, Counting>(alloc, root, ctx, &mut rewriter),
+        Call::PropagateThrough => sccp_through::<Bench, CountingListener>(
+            alloc,
+            root,
+            ctx,
+            &mut rewriter,
+        ),
         Call::Eliminate => dce::<Bench>(alloc, root, ctx),
-        Call::Fold => fold_branches::<Bench, Counting>(alloc, root, ctx, &mut rewriter),
-        Call::Remove => remove_blocks_inside_op::<Bench, Counting>(alloc, root, ctx, &mut rewriter),
-        Call::Merge => merge_inside_op::<Bench, Counting>(alloc, root, ctx, &mut rewriter),
+        Call::Fold => fold_branches::<Bench, CountingListener>(alloc, root, ctx, &mut rewriter),
+        Call::Remove => remove_blocks_inside_op::<Bench, CountingListener>(
+            alloc,
+            root,
+            ctx,
+            &mut rewriter,
+        ),
+        Call::Merge => merge_inside_op::<Bench, CountingListener>(alloc, root, ctx, &mut rewriter),
         Call::Simplify => simplify_cfg::<Bench>(alloc, root, ctx),
         Call::Checked(name) => run_pass(rt, alloc, root, ctx, name),
     };

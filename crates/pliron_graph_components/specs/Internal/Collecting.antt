@@ -35,7 +35,7 @@ module _ {N : Type 0} (g : Digraph N) where
     pub leads : (x : N) → Contains g.nodes x → (HasMember added x ↔ LeadsOutside old x root)
 
   -- and they are the nodes of c
-  pub record IsTaken (eq : N → N → Bool) (pre : List N) (root : N) (old new : List N) (c : Scc N) : Type 0 where
+  pub record IsTakenOff (eq : N → N → Bool) (pre : List N) (root : N) (old new : List N) (c : Scc N) : Type 0 where
     pub collects : Collects eq root old new
     pub same : (x : N) → (Contains c.nodes.items x ↔ HasMember collects.added x)
     pub descends : Descends (number_in eq pre) c.nodes.items

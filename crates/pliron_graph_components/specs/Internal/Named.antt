@@ -6,14 +6,14 @@ use Rattle.pliron_graph_components.specs.Internal.Collecting.{AreNumberedCompone
 use Rattle.pliron_graph_components.specs.declared.components.Scc.{Scc}
 
 -- d has the nodes whose numbers c has
-pub record IsNamed {N : Type 0} (nodes : List N) (c : Scc ℕ) (d : Scc N) : Type 0 where
+pub record IsNamedComponent {N : Type 0} (nodes : List N) (c : Scc ℕ) (d : Scc N) : Type 0 where
   pub members : map Some d.nodes.items ≡ map (λ k. slice_get nodes k) c.nodes.items
   pub cyclic : d.is_cyclic ≡ c.is_cyclic
 
 -- and so has each of ds what its counterpart has
 pub record AreNamed {N : Type 0} (nodes : List N) (cs : List (Scc ℕ)) (ds : List (Scc N)) : Type 0 where
   pub same_count : length ds ≡ length cs
-  pub each : (i : ℕ) (c : Scc ℕ) (d : Scc N) → slice_get cs i ≡ Some c → slice_get ds i ≡ Some d → IsNamed nodes c d
+  pub each : (i : ℕ) (c : Scc ℕ) (d : Scc N) → slice_get cs i ≡ Some c → slice_get ds i ≡ Some d → IsNamedComponent nodes c d
 
 -- the components of a graph by adjacency lists, by nodes that have its numbers
 pub record AreNamedComponents {N : Type 0} (lists : Adjacency) (nodes : List N) (ds : List (Scc N)) : Type 0 where

@@ -18,15 +18,15 @@ postorder (grow v c s) = postorder c ++ (v ∷ postorder s)
 
 module _ {N : Type 0} (eq : N → N → Bool) (g : Digraph N) where
   -- f is what a search finds from the roots, in order, once the seen nodes are known
-  pub data Grows : List N → List N → Forest N → Type 0 where
-    done : {seen : List N} → Grows seen [] leaf
-    skip : {seen : List N} {v : N} {vs : List N} {f : Forest N} → list_any (eq v) seen ≡ true → Grows seen vs f → Grows seen (v ∷ vs) f
+  pub data ForestGrows : List N → List N → Forest N → Type 0 where
+    done : {seen : List N} → ForestGrows seen [] leaf
+    skip : {seen : List N} {v : N} {vs : List N} {f : Forest N} → list_any (eq v) seen ≡ true → ForestGrows seen vs f → ForestGrows seen (v ∷ vs) f
     visit : {seen : List N} {v : N} {vs : List N} {c s : Forest N} → list_any (eq v) seen ≡ false
-        → Grows (seen ++ v ∷ []) (g.succ v) c → Grows ((seen ++ v ∷ []) ++ forest_preorder c) vs s → Grows seen (v ∷ vs) (grow v c s)
+        → ForestGrows (seen ++ v ∷ []) (g.succ v) c → ForestGrows ((seen ++ v ∷ []) ++ forest_preorder c) vs s → ForestGrows seen (v ∷ vs) (grow v c s)
 
   -- a search from the roots took the seen nodes and the finished nodes from p and q to p' and q'
   pub record Grew (roots p q p' q' : List N) : Type 0 where
     pub forest : Forest N
-    pub grows : Grows p roots forest
+    pub grows : ForestGrows p roots forest
     pub pre_is : p' ≡ p ++ forest_preorder forest
     pub post_is : q' ≡ q ++ postorder forest

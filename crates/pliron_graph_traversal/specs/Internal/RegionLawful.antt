@@ -36,8 +36,8 @@ first_in (x ∷ xs) = keys_have (x ∷ xs) x (inl refl)
 pub led : (t : Tree) (b a : ℕ) → leads_to t b a ≡ true → In b (succs_of t a)
 led t b a e = let q = any_at (succs_of t a) b e in in_slice (succs_of t a) q.0 b q.1
 
-pub leads : (t : Tree) (b a : ℕ) → In b (succs_of t a) → leads_to t b a ≡ true
-leads t b a i = let q = in_at (succs_of t a) b i in at_any (succs_of t a) b q.0 q.1
+pub leads_to_target : (t : Tree) (b a : ℕ) → In b (succs_of t a) → leads_to t b a ≡ true
+leads_to_target t b a i = let q = in_at (succs_of t a) b i in at_any (succs_of t a) b q.0 q.1
 
 module _ (eq : ℕ → ℕ → Bool) (same : (x y : ℕ) → eq x y ≡ true → x ≡ y) where
   apart : (x : ℕ) (ys : List ℕ) → (In x ys → ⊥) → AllByRecursion (λ y. eq x y ≡ false) ys
@@ -89,7 +89,7 @@ module _ (t : Tree) (r : ℕ) (h : IsLawfulRegion t r) where
   leads_from : (u v : ℕ) → Contains (layout_of t r) u → Contains (layout_of t r) v → Contains (succs_of t u) v → Contains (preds_of t v) u
   leads_from u v a c s =
       let here : In u (blocks_in t (block_parent_of t v)) = subst (λ xs. In u xs) (sym (preds_among v c)) (in_keys (layout_of t r) u a) in
-      keys_have (preds_of t v) u (In-filtered (λ z. leads_to t v z) (blocks_in t (block_parent_of t v)) u here (leads t v u (in_keys (succs_of t u) v s)))
+      keys_have (preds_of t v) u (In-filtered (λ z. leads_to t v z) (blocks_in t (block_parent_of t v)) u here (leads_to_target t v u (in_keys (succs_of t u) v s)))
 
   pub region_lawful : (eq : ℕ → ℕ → Bool) → ((x y : ℕ) → eq x y ≡ true → x ≡ y) → IsLawful eq (graph_of_region t r)
   region_lawful eq same = record {

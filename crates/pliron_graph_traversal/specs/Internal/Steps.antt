@@ -26,7 +26,7 @@ module _ {N : Type 0} (eq : N → N → Bool) (g : Digraph N) where
   unfoldable pub work : List (N × ℕ) → List N → ℕ
   work es seen = sum_by (weight seen) g.nodes + sum_by stacked es
 
-  pub record IsStep (es : List (N × ℕ)) (p q : List N) (es' : List (N × ℕ)) (p' q' : List N) : Type 0 where
+  pub record IsWalkStep (es : List (N × ℕ)) (p q : List N) (es' : List (N × ℕ)) (p' q' : List N) : Type 0 where
     -- whatever the rest of the search answers is the answer from before the step
     pub rest : (pe qe : List N) → Unwinds es' p' q' pe qe → Unwinds es p q pe qe
     pub descends : work es' p' < work es p

@@ -1,7 +1,7 @@
 -- The walks of a search by its forest, which contracts inside the crate cite.
 use Rattle.std.specs.Prelude.{◌≡◌, ℕ, Bool, List, [], ◌∷◌, ◌++◌, Some, map, slice_get}
 use Rattle.pliron_graph_traversal.specs.Digraph.{Digraph}
-use Rattle.pliron_graph_traversal.specs.Internal.Forest.{Forest, leaf, grow, forest_preorder, postorder, Grows}
+use Rattle.pliron_graph_traversal.specs.Internal.Forest.{Forest, leaf, grow, forest_preorder, postorder, ForestGrows}
 
 -- the nodes of each tree in the order in which the search left them
 abbrev pub trees : {N : Type 0} → Forest N → List (List N)
@@ -11,7 +11,7 @@ trees (grow r c s) = (postorder c ++ r ∷ []) ∷ trees s
 -- the search from xs came to the seen nodes in order, and gave the walks
 pub record Walked {N : Type 0} (eq : N → N → Bool) (g : Digraph N) (xs seen : List N) (walks : List (List N)) : Type 0 where
   pub forest : Forest N
-  pub grows : Grows eq g [] xs forest
+  pub grows : ForestGrows eq g [] xs forest
   pub seen_is : seen ≡ forest_preorder forest
   pub walks_are : walks ≡ trees forest
 

@@ -6,7 +6,7 @@ use pliron_dialect_bench::Bench;
 use pliron_rewrite_arguments::finding::find_one_value;
 use pliron_rewrite_arguments::rewrites::replace_argument_by_value;
 use pliron_test_cases::cases::{block_of, line, number, read};
-use pliron_test_cases::listener::Counting;
+use pliron_test_cases::listener::CountingListener;
 use std::alloc::Global;
 use std::process::Abort;
 
@@ -21,8 +21,8 @@ fn replaced(
     assert!(rt; block.is_live(ctx));
     assert!(rt; index < block.num_argument(ctx));
     let value = find_one_value::<Bench>(alloc, block, index, ctx).expect(rt, "memory")?;
-    let mut rewriter = Counting::new();
-    replace_argument_by_value::<Bench, Counting>(
+    let mut rewriter = CountingListener::new();
+    replace_argument_by_value::<Bench, CountingListener>(
         alloc,
         block,
         index,

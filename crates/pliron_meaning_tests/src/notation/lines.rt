@@ -1,6 +1,6 @@
 //! Texts and the lines that they are printed as.
 use super::check_printed;
-use pliron_test_cases::cases::{Row, row_of};
+use pliron_test_cases::cases::{CaseRow, row_of};
 
 /// Blanks, ends of lines as `|`, and names.
 static LAYOUTS: &str = "\
@@ -201,7 +201,7 @@ fn texts_and_their_lines(rt: HostRuntime) {
     let alloc = rt.alloc();
     for table in [LAYOUTS, KINDS, JUMPS, BRANCHES, REGIONS, CROWDED] {
         for case in table.lines() {
-            let Row { name, asked, want } = row_of(case).expect(&rt, "a case");
+            let CaseRow { name, asked, want } = row_of(case).expect(&rt, "a case");
             check_printed(&rt, alloc, name, asked, want);
             check_printed(&rt, alloc, name, want, want);
         }

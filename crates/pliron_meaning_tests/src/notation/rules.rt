@@ -1,7 +1,7 @@
 //! Each rule of the grammar broken, and beside it kept: to the left of ` => ` an unreadable text, to its right
 //! one that is read. `|` stands for the end of a line.
 use super::printed_line;
-use pliron_test_cases::cases::{Row, row_of};
+use pliron_test_cases::cases::{CaseRow, row_of};
 use std::alloc::Global;
 use std::process::Abort;
 
@@ -225,7 +225,7 @@ no number -- func { b0(): a = const } => func { b0(): a = const 0 }
 a name for a number -- func { b0(a): b = const a } => func { b0(a): b = const 0 }";
 
 fn check_rule(rt: &impl Abort, alloc: Global, case: &str) {
-    let Row {
+    let CaseRow {
         name,
         asked: broken,
         want: kept,

@@ -6,12 +6,12 @@ use Rattle.pliron_core.specs.Tree.{Tree, In, arguments_of}
 use Rattle.pliron_core.specs.Invariant.{IsTree}
 use Rattle.pliron_laws.specs.Datum.{Meaning}
 use Rattle.pliron_rewrite_blocks.specs.Joining.{JoinsWell}
-use Rattle.pliron_rewrite_blocks.specs.Pairs.{IsMergeable, forwarded_uses, after_merging}
+use Rattle.pliron_rewrite_blocks.specs.Pairs.{IsMergeable, forwarded_uses, after_block_merging}
 
 -- mergeable pairs whose first blocks are among these were merged; each tree on the way is one
 pub data MergesAmong (m : Meaning) (blocks : List ℕ) (t : Tree) : Tree → Type 0 where
   Nothing : MergesAmong m blocks t t
-  Then : {u : Tree} (a b jump : ℕ) (values : List ℕ) → MergesAmong m blocks t u → In a blocks → IsMergeable m u a b jump values → IsTree (after_merging u a b jump values) → JoinsWell m (forwarded_uses u (arguments_of u b) values) a b jump → MergesAmong m blocks t (after_merging u a b jump values)
+  Then : {u : Tree} (a b jump : ℕ) (values : List ℕ) → MergesAmong m blocks t u → In a blocks → IsMergeable m u a b jump values → IsTree (after_block_merging u a b jump values) → JoinsWell m (forwarded_uses u (arguments_of u b) values) a b jump → MergesAmong m blocks t (after_block_merging u a b jump values)
 
 -- the uses of the first n arguments of one pair's second block were replaced
 pub record IsHalfMergedAmong (m : Meaning) (blocks : List ℕ) (u t' : Tree) : Type 0 where

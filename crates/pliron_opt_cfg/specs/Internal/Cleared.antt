@@ -11,12 +11,12 @@ use Rattle.pliron_opt_cfg.specs.Visited.{Start, IsCutOff, IsUnreachable}
 use Rattle.pliron_opt_cfg.specs.Visits.{AreVisits}
 use Rattle.pliron_opt_cfg.specs.declared.removal.scope.RemovalScope.{RemovalScope}
 use Rattle.pliron_opt_cfg.specs.Removed.{RemovesSome, IsWithout}
-use Rattle.pliron_opt_cfg.specs.Internal.Scopes.{start_of, IsScopeLive, IsHolder}
+use Rattle.pliron_opt_cfg.specs.Internal.Scopes.{start_of_scope, IsScopeLive, IsHolder}
 
 -- the status after one more part of the work
-abbrev pub status_after : (more status : IRStatus) → IRStatus
-status_after Changed status = Changed
-status_after Unchanged status = status
+abbrev pub status_after_more : (more status : IRStatus) → IRStatus
+status_after_more Changed status = Changed
+status_after_more Unchanged status = status
 
 abbrev pub ReportsLoss : Start → (t u : Tree) → IRStatus → Type 0
 ReportsLoss start t u Changed = (b : ℕ) × IsUnreachable start t b
@@ -31,12 +31,12 @@ pub record AreCleared (m : Meaning) (t u : Tree) (scope : RemovalScope) (root : 
   pub liveness : IsScopeLive u scope
   pub holder : IsHolder u scope root
   pub first : IsTree t
-  pub some : RemovesSome (start_of scope) t u
-  pub without : IsWithout t u (Went (start_of scope) t u)
-  pub were : (b : ℕ) → IsUnreachable (start_of scope) u b → IsUnreachable (start_of scope) t b
-  pub visits : AreVisits u (start_of scope u) rs ks
+  pub some : RemovesSome (start_of_scope scope) t u
+  pub without : IsWithout t u (Went (start_of_scope scope) t u)
+  pub were : (b : ℕ) → IsUnreachable (start_of_scope scope) u b → IsUnreachable (start_of_scope scope) t b
+  pub visits : AreVisits u (start_of_scope scope u) rs ks
   pub change : IsWholeChange m t u root
   pub links : KeepsLinks m t u
   pub among : (r : ℕ) → In r left → In r rs
   pub cleared : (r : ℕ) → In r rs → In r left ⊎ ((b : ℕ) → IsCutOff u r b → ⊥)
-  pub accurate : ReportsLoss (start_of scope) t u status
+  pub accurate : ReportsLoss (start_of_scope scope) t u status

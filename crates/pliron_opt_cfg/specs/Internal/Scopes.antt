@@ -6,10 +6,10 @@ use Rattle.pliron_opt_cfg.specs.declared.removal.scope.RemovalScope.{RemovalScop
 use Rattle.pliron_opt_cfg.specs.declared.removal.scope.RemovalScope.TheVariants.{Operation, Block, Region}
 
 -- where it starts
-abbrev pub start_of : RemovalScope → Start
-start_of (Operation op) = OfOperation op
-start_of (Block block) = OfBlock block
-start_of (Region region) = OfRegion region
+abbrev pub start_of_scope : RemovalScope → Start
+start_of_scope (Operation op) = OfOperation op
+start_of_scope (Block block) = OfBlock block
+start_of_scope (Region region) = OfRegion region
 
 -- what it visits is live
 abbrev pub IsScopeLive : Tree → RemovalScope → Type 0

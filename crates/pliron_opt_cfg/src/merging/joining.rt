@@ -2,7 +2,7 @@
 ghost use Rattle.std.specs.Prelude.{◌≡◌, ℕ, Some, OnOk, OnErr, length, take, IsOkUnless};
 ghost use Rattle.pliron_core.specs.Tree.{IsBlock, arguments_of, block_parent_operation_of, block_parent_of, body_of};
 ghost use Rattle.pliron_laws.specs.Linked.{IsWellLinked};
-ghost use Rattle.pliron_rewrite_blocks.specs.Pairs.{IsMergeable, all_moved_last, forwarded_uses, after_joining, after_merging};
+ghost use Rattle.pliron_rewrite_blocks.specs.Pairs.{IsMergeable, all_moved_last, forwarded_uses, after_joining, after_block_merging};
 ghost use Rattle.pliron_rewrite_blocks.specs.Joining.{JoinsWell};
 ghost use Rattle.pliron_opt_cfg.specs.Internal.MergeSteps.{IsReadyToJoin};
 
@@ -104,7 +104,8 @@ pub(crate) fn merge_pair<D: Dialect, R: Rewriter + Room>(
         pair.now.values.items }
     requires linked { (holder : ℕ) → block_parent_operation_of ctx.old.tree pair.now.first ≡ Some holder
         → IsWellLinked D.meaning ctx.old.tree holder }
-    ensures ok { OnOk result (ctx.new.tree ≡ after_merging ctx.old.tree pair.now.first pair.now.second pair.now.jump
+    ensures ok { OnOk result (ctx.new.tree ≡ after_block_merging ctx.old.tree pair.now.first pair.now.second
+        pair.now.jump
         pair.now.values.items) }
     ensures well { OnOk result (JoinsWell D.meaning (forwarded_uses ctx.old.tree
         (arguments_of ctx.old.tree pair.now.second) pair.now.values.items) pair.now.first pair.now.second

@@ -10,7 +10,7 @@ use pliron_opt_cfg::{
     fold_branches, merge_inside_block, merge_inside_op, merge_inside_region,
     remove_blocks_inside_block, remove_blocks_inside_op, remove_blocks_inside_region,
 };
-use pliron_test_cases::listener::Counting;
+use pliron_test_cases::listener::CountingListener;
 use std::alloc::Global;
 use std::process::Abort;
 
@@ -56,7 +56,7 @@ fn call_on_region(
     root: Ptr<Operation>,
     ctx: &mut Context,
     is_removal: bool,
-    rewriter: &mut Counting,
+    rewriter: &mut CountingListener,
 ) -> Result<IRStatus, OptError>
     requires live { IsLive ctx.old.tree root }
     requires linked { IsWellLinked bench ctx.old.tree root }
@@ -70,9 +70,9 @@ fn call_on_region(
         return Ok(IRStatus::Unchanged);
     }
     if is_removal {
-        remove_blocks_inside_region::<Bench, Counting>(alloc, region, ctx, rewriter)
+        remove_blocks_inside_region::<Bench, CountingListener>(alloc, region, ctx, rewriter)
     } else {
-        merge_inside_region::<Bench, Counting>(alloc, region, ctx, rewriter)
+        merge_inside_region::<Bench, CountingListener>(alloc, region, ctx, rewriter)
     }
 }
 
@@ -82,7 +82,7 @@ fn call_on_block(
     root: Ptr<Operation>,
     ctx: &mut Context,
     is_removal: bool,
-    rewriter: &mut Counting,
+    rewriter: &mut CountingListener,
 ) -> Result<IRStatus, OptError>
     requires live { IsLive ctx.old.tree root }
     requires linked { IsWellLinked bench ctx.old.tree root }
@@ -99,9 +99,9 @@ fn call_on_block(
         return Ok(IRStatus::Unchanged);
     }
     if is_removal {
-        remove_blocks_inside_block::<Bench, Counting>(alloc, block, ctx, rewriter)
+        remove_blocks_inside_block::<Bench, CountingListener>(alloc, block, ctx, rewriter)
     } else {
-        merge_inside_block::<Bench, Counting>(alloc, block, ctx, rewriter)
+        merge_inside_block::<Bench, CountingListener>(alloc, block, ctx, rewriter)
     }
 }
 
@@ -111,18 +111,18 @@ fn simplify_through(
     alloc: Global,
     root: Ptr<Operation>,
     ctx: &mut Context,
-    rewriter: &mut Counting,
+    rewriter: &mut CountingListener,
 ) -> Result<IRStatus, OptError>
     requires live { IsLive ctx.old.tree root }
     requires linked { IsWellLinked bench ctx.old.tree root }
 {
     ctx.well_formed();
-    let folding = fold_branches::<Bench, Counting>(alloc, root, ctx, rewriter);
+    let folding = fold_branches::<Bench, CountingListener>(alloc, root, ctx, rewriter);
     assert!(rt; folding.is_ok());
     let mut status = folding?;
     ctx.well_formed();
-    status |= remove_blocks_inside_op::<Bench, Counting>(alloc, root, ctx, rewriter)?;
-    status |= merge_inside_op::<Bench, Counting>(alloc, root, ctx, rewriter)?;
+    status |= remove_blocks_inside_op::<Bench, CountingListener>(alloc, root, ctx, rewriter)?;
+    status |= merge_inside_op::<Bench, CountingListener>(alloc, root, ctx, rewriter)?;
     Ok(status)
 }
 
@@ -133,17 +133,19 @@ pub fn call_through(
     root: Ptr<Operation>,
     ctx: &mut Context,
     call: Call,
-    rewriter: &mut Counting,
+    rewriter: &mut CountingListener,
 ) -> Result<IRStatus, OptError>
     requires live { IsLive ctx.old.tree root }
     requires linked { IsWellLinked bench ctx.old.tree root }
 {
     match call {
-        Call::Fold => fold_branches::<Bench, Counting>(alloc, root, ctx, rewriter),
-        Call::Merge => merge_inside_op::<Bench, Counting>(alloc, root, ctx, rewriter),
+        Call::Fold => fold_branches::<Bench, CountingListener>(alloc, root, ctx, rewriter),
+        Call::Merge => merge_inside_op::<Bench, CountingListener>(alloc, root, ctx, rewriter),
         Call::MergeBlock => call_on_block(alloc, root, ctx, false, rewriter),
         Call::MergeRegion => call_on_region(alloc, root, ctx, false, rewriter),
-        Call::Remove => remove_blocks_inside_op::<Bench, Counting>(alloc, root, ctx, rewriter),
+        Call::Remove => remove_blocks_inside_op::<Bench, CountingListener>(
+            alloc, root, ctx, rewriter,
+        ),
         Call::RemoveBlock => call_on_block(alloc, root, ctx, true, rewriter),
         Call::RemoveRegion => call_on_region(alloc, root, ctx, true, rewriter),
         Call::Simplify => simplify_through(rt, alloc, root, ctx, rewriter),

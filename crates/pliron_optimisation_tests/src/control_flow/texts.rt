@@ -7,7 +7,7 @@ use crate::texts::{Asked, check, check_all};
 use pliron_core::{Context, IRStatus};
 use pliron_laws::OptError;
 use pliron_test_cases::cases::{Case, case_of, read};
-use pliron_test_cases::listener::Counting;
+use pliron_test_cases::listener::CountingListener;
 use std::alloc::Global;
 use std::process::Abort;
 
@@ -63,7 +63,7 @@ fn defined_texts(rt: HostRuntime) {
 
 fn room_in(rt: &impl Abort, alloc: Global, ctx: &mut Context, case: &Case) {
     let root = read(alloc, ctx, case.text).expect(rt, "a readable text");
-    let mut rewriter = Counting::new();
+    let mut rewriter = CountingListener::new();
     let answer = SIMPLIFICATION
         .optimisation
         .run_through(rt, alloc, ctx, root, &mut rewriter);

@@ -5,7 +5,7 @@ ghost use Rattle.std.specs.Prelude.{◌<◌};
 
 use super::texts::DEAD_CODE;
 use crate::texts::check;
-use pliron_test_cases::cases::{Case, Row, row_of};
+use pliron_test_cases::cases::{Case, CaseRow, row_of};
 use std::alloc::Global;
 use std::process::Abort;
 
@@ -105,7 +105,7 @@ fn fill_case(rt: &impl Abort, alloc: Global, case: &str, half: usize) -> String
 fn check_filled(rt: &impl Abort, alloc: Global, case: &str, half: usize)
     requires { half < 256 }
 {
-    let Row { name, asked, want } = row_of(case).expect(rt, "a case");
+    let CaseRow { name, asked, want } = row_of(case).expect(rt, "a case");
     let text = fill_case(rt, alloc, asked, half);
     let case = Case {
         name,

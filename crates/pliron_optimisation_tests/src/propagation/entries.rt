@@ -10,7 +10,7 @@ use crate::texts::expect_text;
 use pliron_core::{AttrObj, Context, Def, Operation, Ptr, Value};
 use pliron_evaluator::evaluator::{Datum, Sight, evaluate};
 use pliron_evaluator::{Tiny, TinyKind};
-use pliron_test_cases::cases::{Row, fields, row_of};
+use pliron_test_cases::cases::{CaseRow, fields, row_of};
 use pliron_test_cases::trees::{TestTree, make};
 use std::alloc::Global;
 use std::process::Abort;
@@ -176,7 +176,7 @@ fn propagated(
 }
 
 fn case_in(rt: &impl Abort, alloc: Global, ctx: &mut Context, case: &str) {
-    let Row { name, asked, want } = row_of(case).expect(rt, "a case");
+    let CaseRow { name, asked, want } = row_of(case).expect(rt, "a case");
     let (index, steps) = fields(asked).expect(rt, "a number");
     let mut made = TestTree::new(alloc);
     make(alloc, ctx, &mut made, steps).expect(rt, "a tree");

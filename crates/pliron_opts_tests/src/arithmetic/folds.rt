@@ -7,7 +7,7 @@ use pliron_core::{AttrObj, Context, IRRewriter, Operation, Ptr, Rewriter};
 use pliron_dialect_arithmetic::{Arithmetic, ArithmeticKind};
 use pliron_laws::reads::all_operations;
 use pliron_laws::{BranchOpFoldInterface, ConstFoldInterface, is_well_linked};
-use pliron_test_cases::cases::{Row, all_known, number, row_of};
+use pliron_test_cases::cases::{CaseRow, all_known, number, row_of};
 use pliron_text::print_operation;
 use std::alloc::Global;
 use std::process::Abort;
@@ -101,7 +101,7 @@ fn folded_in(rt: &impl Abort, alloc: Global, ctx: &mut Context, case: &str) -> S
 }
 
 fn check(rt: &impl Abort, alloc: Global, line: &str) {
-    let Row { name, asked, want } = row_of(line).expect(rt, "a case");
+    let CaseRow { name, asked, want } = row_of(line).expect(rt, "a case");
     let mut ctx = Context::new(alloc);
     let text = folded_in(rt, alloc, &mut ctx, asked);
     expect_text(rt, text.as_str(), want, name);

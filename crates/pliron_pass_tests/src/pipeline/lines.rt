@@ -10,7 +10,7 @@ use crate::expect::expect_text;
 use pliron_core::{Context, IRStatus, Operation, Ptr};
 use pliron_pass::{AnalysisManager, BenchFactKind, BenchFacts, OptError, PMConfig};
 use pliron_pass_pipeline::run_pipeline;
-use pliron_test_cases::cases::{Row, read, row_of};
+use pliron_test_cases::cases::{CaseRow, read, row_of};
 use pliron_text::print_text;
 use std::alloc::Global;
 use std::process::Abort;
@@ -267,7 +267,7 @@ fn run_case(
 }
 
 fn check(rt: &impl Abort, alloc: Global, line: &str) {
-    let Row { name, asked, want } = row_of(line).expect(rt, "a case");
+    let CaseRow { name, asked, want } = row_of(line).expect(rt, "a case");
     let mut ctx = Context::new(alloc);
     let mut analyses = AnalysisManager::<BenchFacts>::new(alloc);
     let said = run_case(rt, alloc, asked, &mut ctx, &mut analyses);

@@ -1,14 +1,14 @@
 use Rattle.std.proofs.Common.{◌≡◌, ◌∙◌, sym, ap, length, subst}
 use Rattle.std.proofs.lemmas.Result.{IfOk-weaker}
-use Rattle.pliron_graph_order.specs.Numbering.{numbers_of}
-use Rattle.pliron_graph_order.specs.Preorder.{AreAtPlaces, HavePlaces, ListsInPlace}
+use Rattle.pliron_graph_order.specs.Numbering.{tables_of}
+use Rattle.pliron_graph_order.specs.Preorder.{AreAtPlaces, HaveIndices, ListsInPlace}
 use Rattle.pliron_graph_dominance.specs.TreeIntervals.{GivesAbove, AreIntervals}
 use Rattle.pliron_graph_order.proofs.PreorderLemmas.{have_places, order_made, distinct_keys}
 use Rattle.pliron_graph_order.proofs.preorder.in_preorder.Goals as goal
 
 pub list_by_place-requires-clause-placed : goal.list_by_place-requires-clause-placed
 list_by_place-requires-clause-placed c =
-    let n = numbers_of c.args.numbering.now in
+    let n = tables_of c.args.numbering.now in
     let p = c.in_ok-places.places in
     let gives : GivesAbove n.parents p = rw (sym c.deref.ensures.value) c.in_ok-places.ensures.gives in
     let intervals : AreIntervals n.parents p = rw (sym c.deref.ensures.value) c.in_ok-places.ensures.intervals in
@@ -17,7 +17,7 @@ list_by_place-requires-clause-placed c =
 
 pub returns-clause-order : goal.returns-clause-order
 returns-clause-order c =
-    let n = numbers_of c.args.numbering.now in
+    let n = tables_of c.args.numbering.now in
     let p = c.in_ok-places.places in
     let gives : GivesAbove n.parents p = rw (sym c.deref.ensures.value) c.in_ok-places.ensures.gives in
     let intervals : AreIntervals n.parents p = rw (sym c.deref.ensures.value) c.in_ok-places.ensures.intervals in

@@ -1,7 +1,7 @@
 use Rattle.std.proofs.Common.{◌≡◌, ◌≤◌, ◌∙◌, ◌+◌, ◌++◌, ◌∷◌, [], take, length, IsSome, sym, ap, subst, refl, arith}
 use Rattle.std.proofs.lemmas.List.{take_all}
 use Rattle.pliron_core.specs.Tree.{In, body_of}
-use Rattle.pliron_graph_order.specs.Numbering.{numbers_of, IsLeft, AreTaken}
+use Rattle.pliron_graph_order.specs.Numbering.{tables_of, IsLeftAt, AreTaken}
 use Rattle.pliron_graph_order.proofs.NumberLemmas.{grows_none, take_item, item_split, item_here}
 use Rattle.pliron_graph_order.proofs.StepLemmas.{entered_left, step_waits, block_step, IsBlockStep}
 use Rattle.pliron_graph_order.proofs.SeenLemmas.{reached_in}
@@ -15,7 +15,7 @@ all_operations-requires c =
 pub loop-op-init : goal.loop-op-init
 loop-op-init c =
     let e = c.requires.entered in
-    let n = numbers_of c.args.numbering.now in
+    let n = tables_of c.args.numbering.now in
     record {
       numbered = c.requires.numbered;
       grows = grows_none n;
@@ -36,7 +36,7 @@ add_regions-requires-clause-waits c =
     let e = c.requires.entered in
     let same : c.deref-op-items.result.now ≡ body_of t c.args.block = c.deref-op-items.ensures.value ∙ c.in_ok-ops.ensures in
     let split = item_split c.deref-op-items.result.now c.loop-op.op-index c.op-item.result c.loop-op-test.true c.op-item.is in
-    step_waits t c.well_formed-2.ensures.tree (numbers_of c.args.numbering.now) (numbers_of c.loop-op.numbering) (numbers_of c.loop-op.numbering) (numbers_of c.loop-op.numbering) e.0 c.args.block c.args.above c.loop-op.now e.1 c.loop-op.invariant.grows
+    step_waits t c.well_formed-2.ensures.tree (tables_of c.args.numbering.now) (tables_of c.loop-op.numbering) (tables_of c.loop-op.numbering) (tables_of c.loop-op.numbering) e.0 c.args.block c.args.above c.loop-op.now e.1 c.loop-op.invariant.grows
     (take c.loop-op.op-index c.deref-op-items.result.now) split.0 c.op-item.result (sym same ∙ split.1) c.loop-op.invariant.numbered c.loop-op.invariant.left
 
 pub loop-op-preserved : goal.loop-op-preserved
@@ -46,16 +46,16 @@ loop-op-preserved c =
     let items = c.deref-op-items.result.now in
     let i = c.loop-op.op-index in
     let x = c.op-item.result in
-    let new = numbers_of c.add_operation.new.self in
+    let new = tables_of c.add_operation.new.self in
     let same : items ≡ body_of t c.args.block = c.deref-op-items.ensures.value ∙ c.in_ok-ops.ensures in
     let split = item_split items i x c.loop-op-test.true c.op-item.is in
     let next : take (i + 1) items ≡ take i items ++ x ∷ [] = take_item items i x c.loop-op-test.true c.op-item.is in
-    let s = block_step t c.well_formed-2.ensures.tree (numbers_of c.args.numbering.now) (numbers_of c.loop-op.numbering) (numbers_of c.add_regions.new.numbering) new e.0 c.args.block c.args.above c.loop-op.now e.1 c.loop-op.invariant.grows
+    let s = block_step t c.well_formed-2.ensures.tree (tables_of c.args.numbering.now) (tables_of c.loop-op.numbering) (tables_of c.add_regions.new.numbering) new e.0 c.args.block c.args.above c.loop-op.now e.1 c.loop-op.invariant.grows
     (take i items) split.0 x (sym same ∙ split.1) c.loop-op.invariant.numbered c.loop-op.invariant.left c.in_ok-add_regions.ensures.grows c.in_ok-add_regions.ensures.numbered c.in_ok-add_regions.ensures.all c.in_ok-now.now c.in_ok-now.ensures.added c.loop-op.invariant.taken in
     record {
       numbered = s.numbered;
       grows = s.grows;
-      left = subst (λ z. IsLeft t new c.args.block z c.in_ok-now.now) (sym next) s.left;
+      left = subst (λ z. IsLeftAt t new c.args.block z c.in_ok-now.now) (sym next) s.left;
       taken = subst (AreTaken t new) (sym next) s.taken;
     }
 
@@ -65,4 +65,4 @@ returns-clause-taken c =
     let items = c.deref-op-items.result.now in
     let same : items ≡ body_of t c.args.block = c.deref-op-items.ensures.value ∙ c.in_ok-ops.ensures in
     let all : length items ≤ c.loop-op.op-index = omega (arith, c.loop-op-test.false) in
-    subst (AreTaken t (numbers_of c.loop-op.numbering)) (take_all c.loop-op.op-index items all ∙ same) c.loop-op.invariant.taken
+    subst (AreTaken t (tables_of c.loop-op.numbering)) (take_all c.loop-op.op-index items all ∙ same) c.loop-op.invariant.taken

@@ -3,16 +3,16 @@ use Rattle.std.proofs.lemmas.List.{take_all}
 use Rattle.pliron_core.specs.Tree.{In, regions_of}
 use Rattle.pliron_core.proofs.HoldingLemmas.{in_slice}
 use Rattle.pliron_core.proofs.ListLemmas.{In-cases}
-use Rattle.pliron_graph_order.specs.Numbering.{numbers_of}
+use Rattle.pliron_graph_order.specs.Numbering.{tables_of}
 use Rattle.pliron_graph_order.proofs.NumberLemmas.{waiting_on, region_grows, region_numbering, regions_kept, grows_both, take_next}
 use Rattle.pliron_graph_order.proofs.walk.add_regions.Goals as goal
 
 pub loop-i-preserved : goal.loop-i-preserved
 loop-i-preserved c =
     let t = c.args.ctx.now.tree in
-    let first = numbers_of c.args.numbering.now in
-    let old = numbers_of c.loop-i.numbering in
-    let new = numbers_of c.add_region.new.self in
+    let first = tables_of c.args.numbering.now in
+    let old = tables_of c.loop-i.numbering in
+    let new = tables_of c.add_region.new.self in
     let r = c.get_region.result in
     let here : In r (regions_of t c.args.op) = in_slice (regions_of t c.args.op) c.loop-i.i r c.get_region.ensures.region in
     let waits = waiting_on t first old c.loop-i.invariant.grows c.requires.numbered.counted c.requires.numbered.parents r c.args.above (c.requires.waits r here) in

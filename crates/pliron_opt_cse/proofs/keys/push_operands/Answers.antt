@@ -1,5 +1,5 @@
 use Rattle.pliron_core.specs.Tree.{operands_of}
-use Rattle.pliron_opt_cse.specs.Keys.{region_around}
+use Rattle.pliron_laws.specs.EdgeChecks.{region_around}
 use Rattle.pliron_opt_cse.proofs.KeyLemmas.{some_operand_words, no_operand_words}
 use Rattle.pliron_opt_cse.proofs.keys.push_operands.Goals as goal
 

@@ -2,7 +2,7 @@ use Rattle.std.proofs.Common.{◌≡◌, ◌<◌, [], length, slice_get, sym, ap
 use Rattle.std.proofs.lemmas.List.{length-map}
 use Rattle.pliron_core.specs.Tree.{uses_of}
 use Rattle.pliron_opt_dce.specs.Readiness.{AreRecorded}
-use Rattle.pliron_opt_dce.specs.Incoming.{edge_of, edges_of, HavePlaces}
+use Rattle.pliron_opt_dce.specs.Incoming.{edge_of_incoming, edges_of, HavePlaces}
 use Rattle.pliron_opt_dce.proofs.TakeLemmas.{edge_live, are_of_branches, lost_block, lost_arguments, lost_no_uses, noted, have_places, argument_at, told_if_some}
 use Rattle.pliron_opt_dce.proofs.erase.erase_dead_argument.Goals as goal
 
@@ -14,7 +14,7 @@ lose_operands-requires-clause-branches g c =
 pub lose_operands-requires-clause-count : goal.lose_operands-requires-clause-count
 lose_operands-requires-clause-count g c =
     let l = c.in_ok-used.ensures.used.within in
-    let long = length-map c.args.edges.now (λ e. edge_of e) in
+    let long = length-map c.args.edges.now (λ e. edge_of_incoming e) in
     let n = c.len.ensures in
     omega (arith, l, long, n)
 

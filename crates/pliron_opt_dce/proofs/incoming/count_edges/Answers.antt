@@ -4,7 +4,7 @@ use Rattle.std.proofs.lemmas.Option.{slice_get_within}
 use Rattle.pliron_core.specs.Tree.{successors_of, uses_of}
 use Rattle.pliron_core.proofs.HoldingLemmas.{in_slice}
 use Rattle.pliron_opt_dce.specs.declared.incoming.IncomingEdge.{IncomingEdge}
-use Rattle.pliron_opt_dce.specs.Incoming.{edge_of, edges_of, width, AreCounted}
+use Rattle.pliron_opt_dce.specs.Incoming.{edge_of_incoming, edges_of, width, AreCounted}
 use Rattle.pliron_opt_dce.proofs.IncomingLists.{edges_more, counted_more, width_counted}
 use Rattle.pliron_opt_dce.proofs.incoming.count_edges.Goals as goal
 
@@ -21,7 +21,7 @@ loop-i-preserved g c =
     let x : IncomingEdge = record { branch = c.get_use-branch.result.0; place = c.get_use-branch.result.1; count = c.len-count.result } in
     let same = c.in_ok-push.ensures.items in
     let long : length c.in_ok-successor_operands.field-0.items ≡ c.len-count.result = (let n = c.len-count.ensures in omega (arith, n)) in
-    let many : width m t (edge_of x) ≡ c.len-count.result = width_counted m t (edge_of x) c.in_ok-successor_operands.field-0.items c.get_use-branch.ensures.liveness c.in_ok-successor_operands.ensures.ok ∙ long in
+    let many : width m t (edge_of_incoming x) ≡ c.len-count.result = width_counted m t (edge_of_incoming x) c.in_ok-successor_operands.field-0.items c.get_use-branch.ensures.liveness c.in_ok-successor_operands.ensures.ok ∙ long in
     let small : c.len-count.result < 2 ^ 64 = omega arith in
     record {
       edges = ap edges_of same ∙ edges_more c.loop-i.edges.items x (uses_of c.args.ctx.now.block_uses c.args.block) c.loop-i.i c.loop-i.invariant.edges c.get_use-branch.ensures.listed;

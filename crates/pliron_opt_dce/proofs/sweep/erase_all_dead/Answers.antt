@@ -3,7 +3,7 @@ use Rattle.pliron_opt_dce.specs.Dead.{Item}
 use Rattle.pliron_opt_dce.specs.Erasing.{IsSweptSoFar, LeavesNoDead, ReportsErased, SomeHasRegions}
 use Rattle.pliron_opt_dce.specs.Readiness.{IsReady}
 use Rattle.pliron_opt_dce.specs.Worklist.{item_of}
-use Rattle.pliron_opt_dce.specs.Predecessors.{mark_of}
+use Rattle.pliron_opt_dce.specs.Predecessors.{mark_of_block}
 use Rattle.pliron_opt_dce.proofs.IncomingLemmas.{marked_after}
 use Rattle.pliron_opt_dce.proofs.SweepLemmas.{step_less}
 use Rattle.pliron_opt_dce.proofs.Progress.{on_the_way, one_more, at_the_end, tells_more, edges_more, regions_more}
@@ -34,7 +34,7 @@ loop-next-preserved g c =
       all = c.in_ok-had.ensures.all;
       closed = c.in_ok-had.ensures.closed;
       known = c.in_ok-had.ensures.known;
-      marked = marked_after _ _ _ _ g.met.D.Dialect.forwards_operands (λ h h' s. s.branch) g.met.D.Dialect.keeps_counts g.D.SideEffects.side_effects g.met.D.Dialect.gives_at_once g.D.BlockArgRemoval.removable c.loop-next.ctx.tree c.erase_one-taken.new.ctx.tree c.args.root (item_of c.in-Some.next) (λ b. mark_of c.args.predecessors.now b) c.well_formed-in-Some.ensures.tree c.well_formed-in-Some-2.ensures.tree (way.1.linked c.args.root c.requires.linked way.1.liveness) ready c.in_ok-had.ensures.goes c.loop-next.invariant.marked;
+      marked = marked_after _ _ _ _ g.met.D.Dialect.forwards_operands (λ h h' s. s.branch) g.met.D.Dialect.keeps_counts g.D.SideEffects.side_effects g.met.D.Dialect.gives_at_once g.D.BlockArgRemoval.removable c.loop-next.ctx.tree c.erase_one-taken.new.ctx.tree c.args.root (item_of c.in-Some.next) (λ b. mark_of_block c.args.predecessors.now b) c.well_formed-in-Some.ensures.tree c.well_formed-in-Some-2.ensures.tree (way.1.linked c.args.root c.requires.linked way.1.liveness) ready c.in_ok-had.ensures.goes c.loop-next.invariant.marked;
     }
 
 pub returns-clause-deleted : goal.returns-clause-deleted

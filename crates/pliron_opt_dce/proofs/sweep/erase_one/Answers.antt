@@ -5,7 +5,7 @@ use Rattle.pliron_opt_dce.specs.declared.worklist.DeadCandidate.TheVariants.{Ope
 use Rattle.pliron_opt_dce.specs.Dead.{Op, Arg}
 use Rattle.pliron_opt_dce.specs.Readiness.{IsReady, AreRecorded}
 use Rattle.pliron_opt_dce.specs.Erasing.{ErasesItem, Removes}
-use Rattle.pliron_opt_dce.specs.Incoming.{list_of, edges_of, AreIncoming}
+use Rattle.pliron_opt_dce.specs.Incoming.{incoming_of, edges_of, AreIncoming}
 use Rattle.pliron_opt_dce.proofs.IncomingLemmas.{known_after, ready_branches}
 use Rattle.pliron_opt_dce.specs.Worklist.{item_of, pending_candidates, HasReady}
 use Rattle.pliron_laws.proofs.FoldLemmas.{on_err}
@@ -81,12 +81,12 @@ returns-in_ok-note-in-Argument-def-clause-known g c =
     let r = subst (λ z. IsReady g.D.HasMeaning.meaning g.D.SideEffects.side_effects g.D.BlockArgRemoval.removable c.args.ctx.now.tree c.args.root (item_of z)) c.in-Argument.is c.requires.ready in
     let at = argument_listed g.D.HasMeaning.meaning g.D.BlockArgRemoval.removable c.args.ctx.now.tree c.args.root c.in-Argument.value c.in-Argument-def.block c.in-Argument-def.index c.well_formed-2.ensures.tree r c.in-Argument-def.ensures.definition in
     let deleted = subst (λ z. Removes g.D.HasMeaning.meaning g.D.Dialect.shortened z.tree c.erase_dead_argument.new.ctx.tree c.in-Argument.value) c.add.ensures.same (c.in_ok-lost-in-Argument-def.ensures.deleted c.in-Argument.value (subst (λ z. slice_get (arguments_of z.tree c.in-Argument-def.block) c.in-Argument-def.index ≡ Some c.in-Argument.value) (sym c.add.ensures.same) at)) in
-    known_after _ _ _ _ g.met.D.Dialect.forwards_operands (λ h h' s. s.branch) g.met.D.Dialect.keeps_counts g.D.SideEffects.side_effects g.met.D.Dialect.gives_at_once g.D.BlockArgRemoval.removable c.args.ctx.now.tree c.erase_dead_argument.new.ctx.tree c.args.root (Arg c.in-Argument.value) (λ b. list_of c.add.new.self b) c.well_formed-2.ensures.tree c.well_formed-in-Argument-def.ensures.tree c.requires.linked r deleted c.in_ok-add-in-Argument-def.ensures.known
+    known_after _ _ _ _ g.met.D.Dialect.forwards_operands (λ h h' s. s.branch) g.met.D.Dialect.keeps_counts g.D.SideEffects.side_effects g.met.D.Dialect.gives_at_once g.D.BlockArgRemoval.removable c.args.ctx.now.tree c.erase_dead_argument.new.ctx.tree c.args.root (Arg c.in-Argument.value) (λ b. incoming_of c.add.new.self b) c.well_formed-2.ensures.tree c.well_formed-in-Argument-def.ensures.tree c.requires.linked r deleted c.in_ok-add-in-Argument-def.ensures.known
 
 pub returns-in_ok-note-in-Operation-clause-known : goal.returns-in_ok-note-in-Operation-clause-known
 returns-in_ok-note-in-Operation-clause-known g c =
     let r = subst (λ z. IsReady g.D.HasMeaning.meaning g.D.SideEffects.side_effects g.D.BlockArgRemoval.removable c.args.ctx.now.tree c.args.root (item_of z)) c.in-Operation.is c.requires.ready in
-    known_after _ _ _ _ g.met.D.Dialect.forwards_operands (λ h h' s. s.branch) g.met.D.Dialect.keeps_counts g.D.SideEffects.side_effects g.met.D.Dialect.gives_at_once g.D.BlockArgRemoval.removable c.args.ctx.now.tree c.erase_dead_operation.new.ctx.tree c.args.root (Op c.in-Operation.op) (λ b. list_of c.args.state.now.incoming b) c.well_formed-2.ensures.tree c.well_formed-in-Operation.ensures.tree c.requires.linked r (op_live g.D.HasMeaning.meaning g.D.SideEffects.side_effects c.args.ctx.now.tree c.args.root c.in-Operation.op c.well_formed-2.ensures.tree c.requires.linked g.met.D.Dialect.keeps_counts g.D.BlockArgRemoval.removable g.met.D.Dialect.gives_at_once r, c.in_ok-erase_dead_operation-in-Operation.ensures.deleted) c.requires.known
+    known_after _ _ _ _ g.met.D.Dialect.forwards_operands (λ h h' s. s.branch) g.met.D.Dialect.keeps_counts g.D.SideEffects.side_effects g.met.D.Dialect.gives_at_once g.D.BlockArgRemoval.removable c.args.ctx.now.tree c.erase_dead_operation.new.ctx.tree c.args.root (Op c.in-Operation.op) (λ b. incoming_of c.args.state.now.incoming b) c.well_formed-2.ensures.tree c.well_formed-in-Operation.ensures.tree c.requires.linked r (op_live g.D.HasMeaning.meaning g.D.SideEffects.side_effects c.args.ctx.now.tree c.args.root c.in-Operation.op c.well_formed-2.ensures.tree c.requires.linked g.met.D.Dialect.keeps_counts g.D.BlockArgRemoval.removable g.met.D.Dialect.gives_at_once r, c.in_ok-erase_dead_operation-in-Operation.ensures.deleted) c.requires.known
 
 pub add-requires-clause-inside : goal.add-requires-clause-inside
 add-requires-clause-inside g c =

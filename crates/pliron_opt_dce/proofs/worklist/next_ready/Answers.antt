@@ -1,5 +1,5 @@
 use Rattle.std.proofs.Common.{◌≡◌, [], ◌∙◌, ap, sym, subst}
-use Rattle.pliron_opt_dce.specs.Worklist.{pending_candidates, HasReady, AreClosed}
+use Rattle.pliron_opt_dce.specs.Worklist.{pending_candidates, HasReady, AreClosedUnderNesting}
 use Rattle.pliron_opt_dce.proofs.WorkLemmas.{next_of_all, none_of_all, none_waits}
 use Rattle.pliron_opt_dce.proofs.worklist.next_ready.Goals as goal
 
@@ -7,13 +7,13 @@ pub returns-in-Some-clause-all : goal.returns-in-Some-clause-all
 returns-in-Some-clause-all g c = λ x r. c.in-Some.ensures.kept x r (c.requires.all x r)
 
 pub returns-in-Some-clause-closed : goal.returns-in-Some-clause-closed
-returns-in-Some-clause-closed g c = subst (λ z. AreClosed c.args.ctx.now.tree z.ops.items) (sym c.next_of.ensures.around) c.requires.closed
+returns-in-Some-clause-closed g c = subst (λ z. AreClosedUnderNesting c.args.ctx.now.tree z.ops.items) (sym c.next_of.ensures.around) c.requires.closed
 
 pub returns-in-Some-next_of-clause-all : goal.returns-in-Some-next_of-clause-all
 returns-in-Some-next_of-clause-all g c = λ x r. c.in-Some-next_of.ensures.kept x r (c.in_ok-begin_round.ensures.kept x r (c.in_default.ensures.none x r (c.requires.all x r)))
 
 pub returns-in-Some-next_of-clause-closed : goal.returns-in-Some-next_of-clause-closed
-returns-in-Some-next_of-clause-closed g c = subst (λ z. AreClosed c.args.ctx.now.tree z) (sym (ap (λ z. z.ops.items) c.next_of-2.ensures.around ∙ c.in_ok-begin_round.ensures.around ∙ ap (λ z. z.ops.items) c.next_of.ensures.around)) c.requires.closed
+returns-in-Some-next_of-clause-closed g c = subst (λ z. AreClosedUnderNesting c.args.ctx.now.tree z) (sym (ap (λ z. z.ops.items) c.next_of-2.ensures.around ∙ c.in_ok-begin_round.ensures.around ∙ ap (λ z. z.ops.items) c.next_of.ensures.around)) c.requires.closed
 
 pub returns-clause-all : goal.returns-clause-all
 returns-clause-all g c =
@@ -31,4 +31,4 @@ returns-clause-none g c =
     (none_waits c.next_of-3.result c.next_of-3.new.worklist around later c.next_of-3.ensures.empty)
 
 pub returns-clause-closed : goal.returns-clause-closed
-returns-clause-closed g c = subst (λ z. AreClosed c.args.ctx.now.tree z) (sym (ap (λ z. z.ops.items) c.next_of-3.ensures.around ∙ c.in_ok-begin_around.ensures.around)) (λ k a i l j. absurd i)
+returns-clause-closed g c = subst (λ z. AreClosedUnderNesting c.args.ctx.now.tree z) (sym (ap (λ z. z.ops.items) c.next_of-3.ensures.around ∙ c.in_ok-begin_around.ensures.around)) (λ k a i l j. absurd i)

@@ -4,7 +4,7 @@ use Rattle.pliron_core.proofs.HoldingLemmas.{in_slice}
 use Rattle.pliron_laws.proofs.AnswerLemmas.{refuted}
 use Rattle.pliron_opt_dce.specs.Dead.{Item, Op}
 use Rattle.pliron_opt_dce.specs.Readiness.{Among}
-use Rattle.pliron_opt_dce.specs.Worklist.{items_of, pending_candidates, AreClosed}
+use Rattle.pliron_opt_dce.specs.Worklist.{items_of, pending_candidates, AreClosedUnderNesting}
 use Rattle.pliron_core.specs.Changes.{IsDefinedInside}
 use Rattle.pliron_opt_dce.specs.declared.worklist.DeadCandidate.TheVariants.{Operation}
 use Rattle.pliron_opt_dce.proofs.WorkLemmas.{among_left, among_set, among_more, looked_more, looked_past}
@@ -36,7 +36,7 @@ pub revisit_definer-requires : goal.revisit_definer-requires
 revisit_definer-requires c = c.is_noted.ensures.0 c.if-not-is_noted.false
 
 pub push_around-requires-clause-closed : goal.push_around-requires-clause-closed
-push_around-requires-clause-closed c = subst (λ z. AreClosed c.args.ctx.now.tree z) (sym c.in_ok-holder.ensures.keys) c.loop-value.invariant.closed
+push_around-requires-clause-closed c = subst (λ z. AreClosedUnderNesting c.args.ctx.now.tree z) (sym c.in_ok-holder.ensures.keys) c.loop-value.invariant.closed
 
 pub is_noted-requires : goal.is_noted-requires
 is_noted-requires c =

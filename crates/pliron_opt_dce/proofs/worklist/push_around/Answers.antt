@@ -3,7 +3,7 @@ use Rattle.std.specs.Option.{option_map_or}
 use Rattle.pliron_core.specs.Tree.{In, IsLive}
 use Rattle.pliron_core.specs.Walks.{contents}
 use Rattle.pliron_core.proofs.WalkStepLemmas.{up_smaller}
-use Rattle.pliron_opt_dce.specs.Worklist.{AreClosed, AddsParents}
+use Rattle.pliron_opt_dce.specs.Worklist.{AreClosedUnderNesting, AddsParents}
 use Rattle.pliron_opt_dce.proofs.AroundSets.{IsRising, rising_starts, rising_more, rising_stops, rising_ends}
 use Rattle.pliron_opt_dce.proofs.WorkLemmas.{some_told}
 use Rattle.pliron_opt_dce.proofs.worklist.push_around.Goals as goal
@@ -14,7 +14,7 @@ loop-holder-init c = record {
   rising = rising_starts c.args.ctx.now.tree c.args.value c.args.around.now.ops.items c.args.first c.requires.closed c.requires.around;
 }
 
-stops : (c : goal.Then-not-branch) → AddsParents c.args.ctx.now.tree c.args.value c.args.around.now.ops.items c.add.new.self.ops.items × AreClosed c.args.ctx.now.tree c.add.new.self.ops.items
+stops : (c : goal.Then-not-branch) → AddsParents c.args.ctx.now.tree c.args.value c.args.around.now.ops.items c.add.new.self.ops.items × AreClosedUnderNesting c.args.ctx.now.tree c.add.new.self.ops.items
 stops c =
     let there = c.in_ok-add.ensures.there c.if-not-branch.true in
     let t = c.args.ctx.now.tree in

@@ -1,6 +1,6 @@
 use Rattle.std.proofs.Common.{rules, ◌≡◌, Ok, Err, ap, sym, ◌∙◌}
 use Rattle.pliron_theory.specs.LatticeValues.{Says}
-use Rattle.pliron_opt_sccp.specs.Propagated.{status_of}
+use Rattle.pliron_opt_sccp.specs.Propagated.{status_of_rewrite}
 use Rattle.pliron_opt_sccp.proofs.FoundChange.{status_propagates}
 use Rattle.pliron_opt_sccp.proofs.propagation.sccp_through.Goals as goal
 

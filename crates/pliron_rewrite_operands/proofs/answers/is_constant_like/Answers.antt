@@ -1,6 +1,7 @@
 use Rattle.std.proofs.Common.{◌∙◌, ap, sym, arith}
 use Rattle.pliron_laws.proofs.ShapeLemmas.{head_at}
-use Rattle.pliron_rewrite_operands.specs.Answers.{Folding, is_harmless}
+use Rattle.pliron_rewrite_operands.specs.Answers.{Folding}
+use Rattle.pliron_laws.specs.Answers.{is_harmless}
 use Rattle.pliron_rewrite_operands.proofs.Known.{folding, operands_unlike, regions_unlike, results_unlike, folds_unlike, folds_alike}
 use Rattle.pliron_rewrite_operands.proofs.answers.is_constant_like.Goals as goal
 use Rattle.pliron_rewrite_operands.proofs.answers.is_constant_like.Goals.{then-num_operand-ne0-via-then-num_operand-ne0, then-num_operand-ne0-via-else-num_operand-ne0+then-num_region-ne0, then-num_operand-ne0-via-else-num_operand-ne0+else-num_region-ne0+then-num_result-ne1}

@@ -3,7 +3,7 @@ use Rattle.std.proofs.lemmas.Option.{slice_get_read}
 use Rattle.pliron_core.specs.Tree.{operands_of}
 use Rattle.pliron_laws.proofs.ShapeLemmas.{head_at}
 use Rattle.pliron_rewrite_rules.specs.Tables.{RuleTables}
-use Rattle.pliron_rewrite_rules.specs.Seen.{answer_in}
+use Rattle.pliron_laws.specs.Answers.{answer_in}
 use Rattle.pliron_rewrite_rules.proofs.ShownLemmas.{tables, constant_unless, constant_unfolded, constant_is, none_first}
 use Rattle.pliron_rewrite_rules.proofs.seeing.constant_of.Goals as goal
 

@@ -1,7 +1,7 @@
 use Rattle.std.proofs.Common.{◌∙◌, ap, arith}
 use Rattle.pliron_laws.proofs.ShapeLemmas.{head_at}
 use Rattle.pliron_rewrite_rules.specs.Tables.{RuleTables}
-use Rattle.pliron_rewrite_rules.specs.Seen.{is_harmless}
+use Rattle.pliron_laws.specs.Answers.{is_harmless}
 use Rattle.pliron_rewrite_rules.proofs.ShownLemmas.{tables, impure_results, impure_successors, impure_regions, pure_effects}
 use Rattle.pliron_rewrite_rules.proofs.seeing.is_pure.Goals as goal
 

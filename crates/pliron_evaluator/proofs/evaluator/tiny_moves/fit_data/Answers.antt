@@ -1,5 +1,6 @@
 use Rattle.std.proofs.Common.{refl, sym, ◌∙◌}
-use Rattle.pliron_evaluator.specs.Tiny.{first_datum, fitted_or_empty}
+use Rattle.pliron_evaluator.specs.Tiny.{fitted_or_empty}
+use Rattle.pliron_dialect.specs.Roles.{first_datum}
 use Rattle.pliron_evaluator.proofs.EvaluatorLemmas.{tiny_begins, fitted_more, fitted_done}
 use Rattle.pliron_evaluator.proofs.evaluator.tiny_moves.fit_data.Goals as goal
 

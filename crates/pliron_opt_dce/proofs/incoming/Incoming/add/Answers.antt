@@ -1,7 +1,7 @@
 use Rattle.std.proofs.Common.{sym, ap, ◌∙◌}
 use Rattle.std.specs.Option.{option_map}
+use Rattle.pliron_laws.specs.Tree.{is_one_key}
 use Rattle.indexmap.specs.IndexMap.{get}
-use Rattle.pliron_opt_dce.specs.Incoming.{is_one_key}
 use Rattle.pliron_opt_dce.proofs.incoming.Incoming.add.Goals as goal
 
 pub returns-clause-known : goal.returns-clause-known

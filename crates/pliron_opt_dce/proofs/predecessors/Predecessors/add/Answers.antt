@@ -1,5 +1,5 @@
 use Rattle.indexmap.specs.IndexMap.{get}
-use Rattle.pliron_opt_dce.specs.Incoming.{is_one_key}
+use Rattle.pliron_laws.specs.Tree.{is_one_key}
 use Rattle.pliron_opt_dce.proofs.MarkLemmas.{marked_more}
 use Rattle.pliron_opt_dce.proofs.predecessors.Predecessors.add.Goals as goal
 

@@ -1,6 +1,6 @@
 use Rattle.std.proofs.Common.{Some, cond, ap, ◌∙◌}
+use Rattle.pliron_laws.specs.Tree.{is_one_key}
 use Rattle.indexmap.specs.IndexMap.{get}
-use Rattle.pliron_opt_sccp.specs.Feasible.{is_one_key}
 use Rattle.pliron_opt_sccp.proofs.KeptEdges.{kept_one}
 use Rattle.pliron_opt_sccp.proofs.feasible_edges.FeasibleEdges.keep.Goals as goal
 

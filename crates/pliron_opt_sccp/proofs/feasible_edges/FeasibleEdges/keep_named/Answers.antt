@@ -1,6 +1,7 @@
 use Rattle.std.proofs.Common.{ap}
 use Rattle.indexmap.specs.IndexMap.{get}
-use Rattle.pliron_opt_sccp.specs.Feasible.{holds, is_one_key}
+use Rattle.pliron_opt_sccp.specs.Feasible.{holds}
+use Rattle.pliron_laws.specs.Tree.{is_one_key}
 use Rattle.pliron_opt_sccp.proofs.feasible_edges.FeasibleEdges.keep_named.Goals as goal
 
 pub returns-clause-ok : goal.returns-clause-ok

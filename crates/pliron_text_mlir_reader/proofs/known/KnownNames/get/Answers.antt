@@ -1,6 +1,6 @@
 use Rattle.std.proofs.Common.{◌≡◌, length, Some, slice_get, refl, ap, ◌∙◌, subst, arith}
 use Rattle.std.proofs.lemmas.Option.{slice_get_read}
-use Rattle.pliron_text_mlir_reader.specs.Known.{known_of}
+use Rattle.pliron_text_mlir_reader.specs.Known.{known_name}
 use Rattle.pliron_text_mlir_reader.proofs.KnownLemmas.{known_kept, known_found, known_pushed}
 use Rattle.pliron_text_mlir_reader.proofs.known.KnownNames.get.Goals as goal
 
@@ -21,7 +21,7 @@ pub invariant_of-self-then-number-len : goal.invariant_of-self-then-number-len
 invariant_of-self-then-number-len c =
     let s = c.args.self.now in
     let last : c.in_ok-number.number ≡ length s.known.items = omega (arith, c.if-number-len.true, c.len.ensures) in
-    let added = c.look_up-found.ensures ∙ ap known_of c.without_quotes.ensures in
+    let added = c.look_up-found.ensures ∙ ap known_name c.without_quotes.ensures in
     record { known_so = known_pushed s.names c.number.new.self s.known.items c.push.new.self.items c.look_up-found.result c.args.name.now c.in_ok-number.number _ c.number.ensures.kept s.known_so c.in_ok-number.ensures.numbered last added c.push.ensures.items }
 
 pub invariant_of-self-else-number-len : goal.invariant_of-self-else-number-len

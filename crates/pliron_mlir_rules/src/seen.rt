@@ -1,0 +1,139 @@
+//! What is seen of operands.
+ghost use Rattle.std.specs.Prelude.{◌≡◌, ◌≤◌, ◌<◌, ◌^◌, IfSome};
+ghost use Rattle.pliron_rewrite_rules.specs.Views.{leaf_value as leaf_value_by, operand_value as operand_value_by};
+ghost use Rattle.pliron_dialect_mlir.specs.Data.{bits_of_width};
+ghost use Rattle.pliron_mlir_rules.specs.MlirRules.{constant_bits as constant_bits_by, known_bits as known_bits_by};
+ghost use Rattle.pliron_mlir_rules.specs.MlirRules.{is_plain_cast as is_plain_cast_by, leaf_bits as leaf_bits_by};
+ghost use Rattle.pliron_mlir_rules.specs.MlirRules.{source_leaf as source_leaf_by, source_of as source_of_by};
+ghost use Rattle.pliron_mlir_rules.specs.MlirRules.{wraps_freely as wraps_freely_by};
+
+use pliron_bits::{Cast, Flags};
+use pliron_core::{AttrObj, Value};
+use pliron_dialect_mlir::{Conversion, bits_at, counted_bits};
+use pliron_rewrite_rules::{Leaf, Operand};
+
+// A value that is cast, and its width.
+#[derive(Clone, Copy)]
+pub(crate) struct CastSource {
+    pub(crate) value: Value,
+    pub(crate) width: u32,
+}
+
+// The bits of the constant, where it is an integer of this width.
+fn constant_bits(width: u32, constant: &AttrObj) -> Option<u64>
+    ensures same { result ≡ constant_bits_by width constant.now }
+    ensures below { IfSome result (λ bits. bits < 2 ^ bits_of_width width) }
+    ensures width { IfSome result (λ bits. (1 ≤ width) × (width ≤ 65)) }
+{
+    match constant {
+        AttrObj::Int(datum) => bits_at(width, *datum),
+        AttrObj::Text(_) => None,
+    }
+}
+
+// The bits of the integer of this width that the leaf is known to be.
+pub(crate) fn leaf_bits(width: u32, leaf: &Leaf) -> Option<u64>
+    ensures same { result ≡ leaf_bits_by width leaf.now }
+    ensures below { IfSome result (λ bits. bits < 2 ^ bits_of_width width) }
+    ensures width { IfSome result (λ bits. (1 ≤ width) × (width ≤ 65)) }
+{
+    match leaf {
+        Leaf::Unknown(_) => None,
+        Leaf::Known(_, constant) => constant_bits(width, constant),
+    }
+}
+
+// The bits of the integer of this width that the operand is known to be.
+pub(crate) fn known_bits(width: u32, operand: &Operand) -> Option<u64>
+    ensures same { result ≡ known_bits_by width operand.now }
+    ensures below { IfSome result (λ bits. bits < 2 ^ bits_of_width width) }
+    ensures width { IfSome result (λ bits. (1 ≤ width) × (width ≤ 65)) }
+{
+    match operand {
+        Operand::Plain(leaf) => leaf_bits(width, leaf),
+        Operand::Made(_, _, _) => None,
+    }
+}
+
+// The value of the leaf.
+pub(crate) fn leaf_value(leaf: &Leaf) -> Value
+    ensures { result ≡ leaf_value_by leaf.now }
+{
+    match leaf {
+        Leaf::Unknown(value) => *value,
+        Leaf::Known(value, _) => *value,
+    }
+}
+
+// The value of the operand.
+pub(crate) fn operand_value(operand: &Operand) -> Value
+    ensures { result ≡ operand_value_by operand.now }
+{
+    match operand {
+        Operand::Plain(leaf) => leaf_value(leaf),
+        Operand::Made(value, _, _) => *value,
+    }
+}
+
+// Whether sums may wrap, and truncations lose any bits.
+pub(crate) fn wraps_freely(flags: Flags) -> bool
+    ensures { result ≡ wraps_freely_by flags }
+{
+    !flags.no_signed_wrap && !flags.no_unsigned_wrap
+}
+
+// Whether the cast has more bits, or fewer, as its name says, and promises nothing.
+pub(crate) fn is_plain_cast(cast: Cast, conversion: Conversion) -> bool
+    ensures { result ≡ is_plain_cast_by cast conversion }
+{
+    let from = counted_bits(conversion.width);
+    let to = counted_bits(conversion.to);
+    match cast {
+        Cast::ZeroExtend => from < to && !conversion.flags.nonnegative,
+        Cast::SignExtend => from < to,
+        Cast::Truncate => to < from && wraps_freely(conversion.flags),
+    }
+}
+
+// The value that an operation with this head and these operands casts to this width.
+fn source_leaf(
+    cast: Cast,
+    to: u32,
+    conversion: Option<Conversion>,
+    leaves: &[Leaf],
+) -> Option<CastSource>
+    requires { IfSome conversion (λ c. c.width ≤ 65) }
+    ensures same { result ≡ source_leaf_by cast to conversion leaves.now }
+    ensures small { IfSome result (λ s. s.width ≤ 65) }
+{
+    let [leaf] = leaves else {
+        return None;
+    };
+    let Some(conversion) = conversion else {
+        return None;
+    };
+    if conversion.to == to && is_plain_cast(cast, conversion) {
+        Some(CastSource {
+            value: leaf_value(leaf),
+            width: conversion.width,
+        })
+    } else {
+        None
+    }
+}
+
+// The value that the operand casts to this width.
+pub(crate) fn source_of(cast: Cast, to: u32, operand: &Operand) -> Option<CastSource>
+    ensures same { result ≡ source_of_by cast to operand.now }
+    ensures small { IfSome result (λ s. s.width ≤ 65) }
+{
+    match operand {
+        Operand::Plain(_) => None,
+        Operand::Made(_, head, leaves) => source_leaf(
+            cast,
+            to,
+            Conversion::of_head(cast, head),
+            leaves.as_slice(),
+        ),
+    }
+}

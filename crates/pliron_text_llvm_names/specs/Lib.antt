@@ -1,0 +1,5 @@
+pub mod Names
+pub mod Tables
+pub mod Definitions
+pub mod Naming
+pub mod Uses
