@@ -1,7 +1,8 @@
 //! Operations inside a function, which no command reads alone: what they name is defined around them, and no run begins
 //! there.
 use pliron_show_commands::{
-    Outcome, Position, Source, SourceMark, TextRange, mark_source, operation_range, position_of,
+    LineAndColumn, Outcome, Source, SourceMark, TextRange, mark_source, operation_range,
+    position_of,
 };
 use std::alloc::{AllocError, Global};
 
@@ -87,17 +88,17 @@ pub fn inner_failure(
 }
 
 // The place that a line of an explanation begins with, if it does.
-fn place_of_line(line: &str) -> Option<Position> {
+fn place_of_line(line: &str) -> Option<LineAndColumn> {
     let (place, _) = line.split_once(' ')?;
     let (line, column) = place.split_once(':')?;
-    Some(Position {
+    Some(LineAndColumn {
         line: line.parse::<usize>().ok()?,
         column: column.parse::<usize>().ok()?,
     })
 }
 
 // Whether the one place comes before the other.
-fn is_before(place: Position, other: Position) -> bool {
+fn is_before(place: LineAndColumn, other: LineAndColumn) -> bool {
     place.line < other.line || (place.line == other.line && place.column < other.column)
 }
 

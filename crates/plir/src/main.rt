@@ -23,8 +23,8 @@ use output::{write_answer, write_file, write_lines, write_report};
 use pipeline::{pipeline_and_file, without_blanks};
 use pliron_show_commands::{
     BenchNotation, CompareOptions, EffectSink, ExplainOptions, FlowOptions, MessageForm, Outcome,
-    RunOptions, Shown, Source, TextRange, check, compare, draw_flow, draw_graph, explain, in_form,
-    run, run_streamed, unfit_warning,
+    RunOptions, ShownNotation, Source, TextRange, check, compare, draw_flow, draw_graph, explain,
+    in_form, run, run_streamed, unfit_warning,
 };
 use pliron_show_mlir::MlirNotation;
 use std::alloc::{AllocError, Global};
@@ -97,7 +97,7 @@ fn output_file<'a>(matches: &ArgMatches<'a>) -> Option<&'a str> {
 }
 
 // Draws the region that the words ask for, of the operation at this path of the text.
-fn draw_as_asked<N: Shown>(
+fn draw_as_asked<N: ShownNotation>(
     alloc: Global,
     source: &Source,
     matches: &ArgMatches,
@@ -119,7 +119,7 @@ fn draw_as_asked<N: Shown>(
 }
 
 // Explains what the passes did, and warns of a text that isn't fit to run.
-fn explain_as_asked<N: Shown>(
+fn explain_as_asked<N: ShownNotation>(
     alloc: Global,
     source: &Source,
     matches: &ArgMatches,
@@ -199,7 +199,7 @@ fn input_failure(alloc: Global, report: String) -> Outcome {
 }
 
 // What a command of each notation makes of its input.
-fn outcome_in<N: Shown>(
+fn outcome_in<N: ShownNotation>(
     rt: &HostRuntime,
     command: &str,
     matches: &ArgMatches,

@@ -7,8 +7,8 @@ use pliron_show_changes::{
     StageOptions, StageReport, run_stages, write_named_answer, write_renamed_answer,
 };
 use pliron_show_commands::{
-    InstrumentationOptions, OptOptions, Outcome, PipelineText, PlanError, Progress, Shown, Source,
-    opt_with_check,
+    InstrumentationOptions, OptOptions, Outcome, PipelineText, PlanError, Progress, ShownNotation,
+    Source, opt_with_check,
 };
 use std::alloc::{AllocError, Global};
 use std::cell::Cell;
@@ -104,7 +104,7 @@ fn words<'a>(alloc: Global, matches: &ArgMatches<'a>, id: &str) -> io::Result<Ve
 }
 
 // Runs these passes on the text.
-fn opt_instrumented<'w, N: Shown>(
+fn opt_instrumented<'w, N: ShownNotation>(
     rt: &HostRuntime,
     source: &Source,
     matches: &ArgMatches,
@@ -131,7 +131,7 @@ fn opt_instrumented<'w, N: Shown>(
 
 // Runs these passes one by one, and reports what the words ask for between them; `None` for words or a text that can't
 // be used.
-fn stages<N: Shown>(
+fn stages<N: ShownNotation>(
     rt: &HostRuntime,
     text: &[u8],
     matches: &ArgMatches,
@@ -162,7 +162,7 @@ fn stages<N: Shown>(
 }
 
 // The outcome with the reports of single passes before the rest; where asked for, the answer keeps the text's names.
-fn join_stages<N: Shown>(
+fn join_stages<N: ShownNotation>(
     alloc: Global,
     whole: Outcome,
     staged: StageReport,
@@ -219,7 +219,7 @@ fn pipeline_of(alloc: Global, matches: &ArgMatches, word: &str) -> io::Result<St
 ///
 /// Errors: allocation failure. Cost: that of `opt_with_check`, and where names are kept or trees reported that of
 /// `run_stages`.
-pub fn opt_as_asked<N: Shown>(
+pub fn opt_as_asked<N: ShownNotation>(
     rt: &HostRuntime,
     source: &Source,
     matches: &ArgMatches,

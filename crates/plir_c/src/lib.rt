@@ -17,7 +17,7 @@ ghost use Rattle.pliron_driver_buffers.specs.Modules.{IsWord, OptimisesModule};
 use pliron_bench_rules::BenchRules;
 use pliron_dialect_bench::Bench;
 use pliron_dialect_mlir::{AnyMeaning, Mlir};
-use pliron_driver::{Closed, PassPipeline};
+use pliron_driver::{ClosedNotation, PassPipeline};
 use pliron_driver_buffers::{
     BenchNotation, CallFailure, ModulePass, ModulePipeline, Place, describe_graph_into,
     find_fault_into, find_module_fault_into, optimise_into, optimise_module_into,
@@ -32,7 +32,7 @@ const VERSION: u32 = 2;
 
 /// The notation of texts: proofs here have what a text says only from reading that very text, and what is printed only
 /// from printing.
-type Text = Closed<BenchNotation>;
+type Text = ClosedNotation<BenchNotation>;
 
 /// The notation of modules, in the same way.
 type Form = ClosedForm;

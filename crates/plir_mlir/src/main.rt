@@ -17,7 +17,7 @@ mod target;
 use clap::{ArgMatches, Error};
 use command::parse_arguments;
 use pliron_dialect_mlir::{AnyMeaning, Mlir};
-use pliron_driver_instrument::{Instrumented, InstrumentedPipeline, Progress};
+use pliron_driver_instrument::{InstrumentedPipeline, InstrumentedStep, Progress};
 use pliron_driver_mlir::{ClosedForm, MAX_TEXT, ModuleOptions, Request, run_on};
 use pliron_laws::HasMeaning;
 use pliron_pass::{BenchFactKind, Pass};
@@ -77,7 +77,7 @@ fn run_to<'r, R: Read>(
     input: &mut R,
     file: Option<&str>,
 ) -> u8
-    ensures { EndsOnStreams (λ text. EndsByWord ⟦<Instrumented<Form, ProcessClock<'r>> as Pass>⟧.name
+    ensures { EndsOnStreams (λ text. EndsByWord ⟦<InstrumentedStep<Form, ProcessClock<'r>> as Pass>⟧.name
         (λ pipeline. EndsWithModule (closed_reads (ReadsModule ⟦<Mlir<AnyMeaning> as HasMeaning>⟧.meaning))
         (closed_prints PrintsKinds) ⟦<Mlir<AnyMeaning> as HasMeaning>⟧.meaning (RunsAlone
         ⟦<BenchFactKind as PartialEq>⟧.eq ⟦<InstrumentedPipeline<Form, ProcessClock<'r>> as Pass>⟧.outcome pipeline)

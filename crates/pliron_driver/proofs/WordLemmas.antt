@@ -5,7 +5,8 @@ use Rattle.std.specs.List.{slice_split}
 use Rattle.std.specs.Fmt.{decimal}
 use Rattle.std.specs.Str.Pattern.{FindsTextPrefix, StripsPrefix}
 use Rattle.std.proofs.lemmas.Bool.{false≢true}
-use Rattle.pliron_driver.specs.Plans.{BeginsWith, IsNameList, IsPlan, nested_prefix, repeat_prefix}
+use Rattle.pliron_text.specs.Beginnings.{BeginsWith}
+use Rattle.pliron_driver.specs.Plans.{IsNameList, IsPlan, nested_prefix, repeat_prefix}
 use Rattle.pliron_driver.specs.PipelineTexts.{Counts, Counts.Once, Counts.ByColon, Counts.InBrackets, Nests, Nests.Itself, Nests.EachByColon, Nests.EachInBrackets, Plans}
 
 pub behind : (start text rest : List ℕ) → StripsPrefix (FindsTextPrefix start) text rest → text ≡ start ++ rest

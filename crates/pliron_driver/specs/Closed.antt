@@ -11,7 +11,7 @@ closed_reads reads text tree root = reads text tree root
 pub closed_prints : Prints → Prints
 closed_prints prints tree root text = prints tree root text
 
--- for the impl of `Closed` alone
+-- for the impl of `ClosedNotation` alone
 pub read_closed : (reads : Reads) (text : List ℕ) (tree : Tree) (root : ℕ) → reads text tree root → closed_reads reads text tree root
 unfolding closed_reads
 read_closed reads text tree root is = is

@@ -2,7 +2,7 @@
 use Rattle.std.specs.Prelude.{◌≡◌, ◌≤◌, ◌==◌, ℕ, Bool, true, false, List, ◌++◌, Option, Some, None, IsTrue, codes}
 use Rattle.std.specs.List.{slice_split}
 use Rattle.std.specs.Fmt.{decimal}
-use Rattle.pliron_driver.specs.Plans.{BeginsWith}
+use Rattle.pliron_text.specs.Beginnings.{BeginsWith}
 use Rattle.pliron_driver.specs.declared.program.pipeline_text.Words.{Words}
 use Rattle.pliron_driver.specs.declared.program.pipeline_text.Words.TheVariants.{OfProgram, All}
 

@@ -1,10 +1,8 @@
 -- Which words ask for a pass pipeline.
 use Rattle.std.specs.Prelude.{◌≡◌, ◌≤◌, ◌==◌, ◌↔◌, ℕ, Bool, List, [], ◌++◌, Option, Some, None, IfSome, IsSome, IsTrue, codes, if◌then◌else◌}
 use Rattle.std.specs.List.{slice_split}
+use Rattle.pliron_text.specs.Beginnings.{BeginsWith}
 use Rattle.std.specs.Fmt.{decimal}
-
-abbrev pub BeginsWith : (text start : List ℕ) → Type 0
-BeginsWith text start = (rest : List ℕ) × (text ≡ start ++ rest)
 
 abbrev pub repeat_prefix : Option ℕ → List ℕ
 repeat_prefix None = []

@@ -9,7 +9,7 @@ mod observer;
 
 pub use answer::{OptimisedText, optimise, optimise_text, run_alone};
 pub use build::{PlainPasses, StepFactory, build_pipeline, passes_of};
-pub use closed::Closed;
+pub use closed::ClosedNotation;
 pub use command::{Command, read_command, read_pipeline};
 pub use notation::{BenchNotation, Document, KindNotation, Notation, TextFailure};
-pub use observer::{Observer, Unobserved};
+pub use observer::{NoObserver, Observer};

@@ -19,9 +19,9 @@ mod host;
 mod program;
 
 pub use driver::{
-    BenchNotation, Closed, Document, KindNotation, Notation, Observer, OptimisedText, PlainPasses,
-    StepFactory, TextFailure, Unobserved, build_pipeline, optimise, optimise_text, passes_of,
-    read_pipeline, run_alone,
+    BenchNotation, ClosedNotation, Document, KindNotation, NoObserver, Notation, Observer,
+    OptimisedText, PlainPasses, StepFactory, TextFailure, build_pipeline, optimise, optimise_text,
+    passes_of, read_pipeline, run_alone,
 };
 use driver::{Command, read_command};
 pub use graph::describe_graph;
@@ -133,5 +133,7 @@ pub fn plir_run<R: Read, W: Write, E: Write>(
         (map string_bytes args.now) (R.remaining input.old))
         (W.contents output.old) (W.contents output.new) result }
 {
-    run_optimiser::<Closed<BenchNotation>, R, W, E>(alloc, "plir_opt", args, input, output, errors)
+    run_optimiser::<ClosedNotation<BenchNotation>, R, W, E>(
+        alloc, "plir_opt", args, input, output, errors,
+    )
 }

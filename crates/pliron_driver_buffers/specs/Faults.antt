@@ -1,6 +1,6 @@
 -- What is said of a text outside the notation.
 use Rattle.std.specs.Prelude.{◌≡◌, ◌+◌, ◌≤◌, ◌⊎◌, ℕ, List, length, take}
-use Rattle.pliron_show_places.specs.Position.{line_behind, column_behind}
+use Rattle.pliron_text_positions.specs.LineAndColumn.{line_behind, column_behind}
 use Rattle.pliron_driver_buffers.specs.declared.fault.Place.{Place}
 
 abbrev pub no_place : Place

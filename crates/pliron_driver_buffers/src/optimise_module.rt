@@ -10,10 +10,10 @@ ghost use Rattle.pliron_driver_mlir.specs.Outcomes.{AsksFor};
 use crate::buffer::{put, put_nothing};
 use crate::status::{CallFailure, Status};
 use pliron_core::IRStatus;
-use pliron_driver::{OptimisedText, TextFailure, Unobserved, optimise, passes_of};
+use pliron_driver::{NoObserver, OptimisedText, TextFailure, optimise, passes_of};
 use pliron_driver_instrument::{
-    InstrumentationOptions, Instrumented, InstrumentedPipeline, PipelineText, PlanError, Timeless,
-    instrumented_pipeline, is_short,
+    InstrumentationOptions, InstrumentedPipeline, InstrumentedStep, PipelineText, PlanError,
+    Timeless, instrumented_pipeline, is_short,
 };
 use pliron_driver_mlir::{ModuleNotation, read_plan};
 use pliron_pass::{BenchFactKind, Pass};
@@ -23,7 +23,7 @@ use std::alloc::Global;
 pub const MAX_MODULE: usize = 268_435_456;
 
 /// A pass on modules of a notation, whose time nobody asks for.
-pub type ModulePass<N> = Instrumented<N, Timeless>;
+pub type ModulePass<N> = InstrumentedStep<N, Timeless>;
 
 /// Passes that a word asks for.
 pub type ModulePipeline<N> = InstrumentedPipeline<N, Timeless>;
@@ -77,8 +77,8 @@ fn answer_of<N: ModuleNotation>(
     if text.len() > MAX_MODULE {
         return Err(CallFailure::Text);
     }
-    let mut nothing = Unobserved;
-    match optimise::<N, ModulePass<N>, Unobserved>(alloc, pipeline, text, &mut nothing) {
+    let mut nothing = NoObserver;
+    match optimise::<N, ModulePass<N>, NoObserver>(alloc, pipeline, text, &mut nothing) {
         // Memory was refused for what is noted of a pass: with that `plir_mlir` gives no answer either.
         Ok(_) if is_short(passes_of(pipeline)) => Err(CallFailure::Memory),
         Ok(made) => Ok(made),

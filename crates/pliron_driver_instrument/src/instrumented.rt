@@ -27,7 +27,7 @@ pub struct Instrumentation {
 
 /// One of the passes, which notes what is seen of its runs. It does to trees and caches what the pass does.
 #[derive(Drop)]
-pub struct Instrumented<N: Notation, C: Progress + Drop> {
+pub struct InstrumentedStep<N: Notation, C: Progress + Drop> {
     step: PassStep<N::D, BenchFacts, N::Rules>,
     instrumentation: Instrumentation,
     clock: C,
@@ -52,7 +52,7 @@ fn nanos<C: Clock>(clock: &C) -> u128 {
     }
 }
 
-impl<N: Notation, C: Progress + Drop> Instrumented<N, C> {
+impl<N: Notation, C: Progress + Drop> InstrumentedStep<N, C> {
     /// The pass, of which nothing was noted. Cost: constant.
     pub fn new(
         alloc: Global,
@@ -62,7 +62,7 @@ impl<N: Notation, C: Progress + Drop> Instrumented<N, C> {
     ) -> Self
         ensures { result.step ≡ step }
     {
-        Instrumented {
+        InstrumentedStep {
             step,
             instrumentation,
             clock,
@@ -147,7 +147,7 @@ impl<N: Notation, C: Progress + Drop> Instrumented<N, C> {
     }
 }
 
-impl<N: Notation, C: Progress + Drop> Pass for Instrumented<N, C> {
+impl<N: Notation, C: Progress + Drop> Pass for InstrumentedStep<N, C> {
     type D = N::D;
 
     type E = BenchFacts;
@@ -198,16 +198,16 @@ impl<N: Notation, C: Progress + Drop> Pass for Instrumented<N, C> {
     }
 }
 
-impl<N: Notation, C: Progress + Drop> Step for Instrumented<N, C> {
+impl<N: Notation, C: Progress + Drop> Step for InstrumentedStep<N, C> {
     ghost accurate = { record { same = λ p q op s s' a runs. optimisation_same _ _ _ op s s' a runs.1 } };
 }
 
 /// Whether verifying found something after a run of one of the passes. Cost: linear in the runs.
-pub fn has_fault<N: Notation, C: Progress + Drop>(passes: &[Instrumented<N, C>]) -> bool {
+pub fn has_fault<N: Notation, C: Progress + Drop>(passes: &[InstrumentedStep<N, C>]) -> bool {
     passes.iter().any(|pass| pass.records.notes.iter().any(|note| note.fault.is_some()))
 }
 
 /// Whether something is missing in what was noted of the passes, since memory was refused. Cost: linear in the passes.
-pub fn is_short<N: Notation, C: Progress + Drop>(passes: &[Instrumented<N, C>]) -> bool {
+pub fn is_short<N: Notation, C: Progress + Drop>(passes: &[InstrumentedStep<N, C>]) -> bool {
     passes.iter().any(|pass| pass.records.is_short)
 }

@@ -12,7 +12,7 @@ mod run_records;
 
 pub use comparison::{ContentsComparison, RewriteCounts};
 pub use contents_count::ContentsCount;
-pub use instrumented::{Instrumentation, Instrumented, has_fault, is_short};
+pub use instrumented::{Instrumentation, InstrumentedStep, has_fault, is_short};
 pub use pipeline::{InstrumentationOptions, InstrumentedPipeline, instrumented_pipeline};
 pub use pliron_driver::{PipelineText, PlanError, WordFault};
 pub use progress::{Progress, Timeless};

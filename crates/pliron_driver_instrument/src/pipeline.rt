@@ -2,7 +2,7 @@
 ghost use Rattle.std.specs.Prelude.{◌≡◌, map, IfOk, IfSome};
 ghost use Rattle.pliron_pass_pipeline.specs.Pipelines.{IsPipelineOf};
 
-use crate::instrumented::{Instrumentation, Instrumented};
+use crate::instrumented::{Instrumentation, InstrumentedStep};
 use crate::progress::Progress;
 use pliron_driver::{Notation, PipelineText, StepFactory, build_pipeline};
 use pliron_pass::Pass;
@@ -11,7 +11,7 @@ use std::alloc::{AllocError, Global};
 use std::marker::PhantomData;
 
 /// A pipeline of instrumented passes.
-pub type InstrumentedPipeline<N, C> = Pipeline<Instrumented<N, C>>;
+pub type InstrumentedPipeline<N, C> = Pipeline<InstrumentedStep<N, C>>;
 
 /// What the options ask to be recorded around each run of a pass.
 #[derive(Clone, Copy)]
@@ -56,13 +56,13 @@ struct InstrumentedPasses<'w, N, C> {
 }
 
 impl<N: Notation, C: Progress + Copy + Drop> StepFactory for InstrumentedPasses<'_, N, C> {
-    type S = Instrumented<N, C>;
+    type S = InstrumentedStep<N, C>;
 
-    fn step(&self, alloc: Global, name: &str) -> Option<Instrumented<N, C>> {
+    fn step(&self, alloc: Global, name: &str) -> Option<InstrumentedStep<N, C>> {
         match PassStep::from_name(name) {
             Some(step) => {
                 let instrumentation = self.options.instrumentation(name);
-                Some(Instrumented::new(alloc, step, instrumentation, self.clock))
+                Some(InstrumentedStep::new(alloc, step, instrumentation, self.clock))
             }
             None => None,
         }
@@ -78,7 +78,7 @@ pub fn instrumented_pipeline<N: Notation, C: Progress + Copy + Drop>(
     options: &InstrumentationOptions,
     clock: C,
 ) -> Result<Option<InstrumentedPipeline<N, C>>, AllocError>
-    ensures { IfOk result (λ found. IfSome found (λ pipeline. IsPipelineOf ⟦<Instrumented<N, C> as Pass>⟧.name
+    ensures { IfOk result (λ found. IfSome found (λ pipeline. IsPipelineOf ⟦<InstrumentedStep<N, C> as Pass>⟧.name
         text.now.runs text.now.nested (map (λ name. name.now) text.now.names.items) pipeline)) }
 {
     let passes = InstrumentedPasses {

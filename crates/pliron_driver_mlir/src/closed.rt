@@ -7,7 +7,7 @@ use crate::failure::{ModuleFailure, ModuleFault};
 use crate::notation::{GenericForm, ModuleDocument};
 use pliron_core::Context;
 use pliron_dialect_mlir::{AnyMeaning, Mlir};
-use pliron_driver::{Closed, Notation};
+use pliron_driver::{ClosedNotation, Notation};
 use pliron_laws::{HasMeaning, OptError};
 use pliron_mlir_rules::MlirRules;
 use pliron_text_mlir_reader::Sheet;
@@ -18,7 +18,7 @@ use std::marker::PhantomData;
 type MlirForm = GenericForm<Mlir<AnyMeaning>>;
 
 /// The generic form of MLIR under [`AnyMeaning`], closed to proofs: the notation of the programs. It has a name of its
-/// own, since a clause on [`Closed`] at that notation is more than a check has steps for.
+/// own, since a clause on [`ClosedNotation`] at that notation is more than a check has steps for.
 pub struct ClosedForm(PhantomData<Sheet>);
 
 impl Notation for ClosedForm {
@@ -39,7 +39,7 @@ impl Notation for ClosedForm {
         text: &[u8],
         ctx: &mut Context,
     ) -> Result<ModuleDocument, ModuleFailure> {
-        Closed::<MlirForm>::read_document(alloc, text, ctx)
+        ClosedNotation::<MlirForm>::read_document(alloc, text, ctx)
     }
 
     fn print_document(
@@ -47,10 +47,10 @@ impl Notation for ClosedForm {
         document: &ModuleDocument,
         ctx: &Context,
     ) -> Result<Vec<u8>, OptError> {
-        Closed::<MlirForm>::print_document(alloc, document, ctx)
+        ClosedNotation::<MlirForm>::print_document(alloc, document, ctx)
     }
 
     fn empty_sheet(alloc: Global) -> Sheet {
-        Closed::<MlirForm>::empty_sheet(alloc)
+        ClosedNotation::<MlirForm>::empty_sheet(alloc)
     }
 }

@@ -12,8 +12,8 @@ use crate::tally::write_tallies;
 use pliron_core::IRStatus;
 use pliron_driver::{OptimisedText, TextFailure, optimise, passes_of};
 use pliron_driver_instrument::{
-    InstrumentationOptions, Instrumented, InstrumentedPipeline, PipelineText, Progress, WordFault,
-    has_fault, instrumented_pipeline, is_short,
+    InstrumentationOptions, InstrumentedPipeline, InstrumentedStep, PipelineText, Progress,
+    WordFault, has_fault, instrumented_pipeline, is_short,
 };
 use pliron_laws::OptError;
 use pliron_pass::{BenchFactKind, Pass};
@@ -127,7 +127,7 @@ fn run_pipeline<N: ModuleNotation, C: Progress + Copy + Drop>(
         pipeline.old) source.now.text.now) }
 {
     let mut observer = ModuleObserver::new(*options);
-    let made = optimise::<N, Instrumented<N, C>, ModuleObserver>(
+    let made = optimise::<N, InstrumentedStep<N, C>, ModuleObserver>(
         alloc,
         pipeline,
         source.text,
@@ -165,7 +165,7 @@ pub fn run_passes<N: ModuleNotation, C: Progress + Copy + Drop>(
     plan: &PipelineText,
     clock: C,
 ) -> Result<ModuleOutcome, AllocError>
-    ensures { IfOk result (EndsByPlan ⟦<Instrumented<N, C> as Pass>⟧.name
+    ensures { IfOk result (EndsByPlan ⟦<InstrumentedStep<N, C> as Pass>⟧.name
         (λ pipeline. EndsWithModule N.reads N.prints N.D.meaning
         (RunsAlone ⟦<BenchFactKind as PartialEq>⟧.eq ⟦<InstrumentedPipeline<N, C> as Pass>⟧.outcome
         pipeline) source.now.text.now) plan.now.runs plan.now.nested (map (λ name. name.now) plan.now.names.items)) }

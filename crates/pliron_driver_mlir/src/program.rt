@@ -13,7 +13,7 @@ use crate::outcome::{
 use crate::plans::read_plan;
 use pliron_driver::write_bytes;
 use pliron_driver_instrument::{
-    Instrumented, InstrumentedPipeline, PipelineText, PlanError, Progress,
+    InstrumentedPipeline, InstrumentedStep, PipelineText, PlanError, Progress,
 };
 use pliron_pass::{BenchFactKind, Pass};
 use std::alloc::{AllocError, Global};
@@ -43,7 +43,7 @@ fn run_plan<N: ModuleNotation, E: Write, C: Progress + Copy + Drop>(
     errors: &mut E,
     clock: C,
 ) -> Result<ModuleOutcome, AllocError>
-    ensures { IfOk result (EndsByPlan ⟦<Instrumented<N, C> as Pass>⟧.name
+    ensures { IfOk result (EndsByPlan ⟦<InstrumentedStep<N, C> as Pass>⟧.name
         (λ pipeline. EndsWithModule N.reads N.prints N.D.meaning (RunsAlone ⟦<BenchFactKind as PartialEq>⟧.eq
         ⟦<InstrumentedPipeline<N, C> as Pass>⟧.outcome pipeline) source.now.text.now)
         plan.now.runs plan.now.nested (map (λ name. name.now) plan.now.names.items)) }
@@ -64,7 +64,7 @@ fn run_word<N: ModuleNotation, E: Write, C: Progress + Copy + Drop>(
     errors: &mut E,
     clock: C,
 ) -> Result<ModuleOutcome, AllocError>
-    ensures { IfOk result (EndsByWord ⟦<Instrumented<N, C> as Pass>⟧.name
+    ensures { IfOk result (EndsByWord ⟦<InstrumentedStep<N, C> as Pass>⟧.name
         (λ pipeline. EndsWithModule N.reads N.prints N.D.meaning (RunsAlone ⟦<BenchFactKind as PartialEq>⟧.eq
         ⟦<InstrumentedPipeline<N, C> as Pass>⟧.outcome pipeline) text.now)
         request.now.pipeline.now) }
@@ -100,7 +100,7 @@ fn outcome_of_input<N: ModuleNotation, R: Read, E: Write, C: Progress + Copy + D
     errors: &mut E,
     clock: C,
 ) -> Result<ModuleOutcome, AllocError>
-    ensures { IfOk result (IsOfInput (λ text. EndsByWord ⟦<Instrumented<N, C> as Pass>⟧.name
+    ensures { IfOk result (IsOfInput (λ text. EndsByWord ⟦<InstrumentedStep<N, C> as Pass>⟧.name
         (λ pipeline. EndsWithModule N.reads N.prints N.D.meaning (RunsAlone ⟦<BenchFactKind as PartialEq>⟧.eq
         ⟦<InstrumentedPipeline<N, C> as Pass>⟧.outcome pipeline) text) request.now.pipeline.now)
         (R.remaining input.old)) }
@@ -166,7 +166,7 @@ pub fn run_on<N: ModuleNotation, R: Read, W: Write, E: Write, C: Progress + Copy
     errors: &mut E,
     clock: C,
 ) -> u8
-    ensures { EndsOnStreams (λ text. EndsByWord ⟦<Instrumented<N, C> as Pass>⟧.name
+    ensures { EndsOnStreams (λ text. EndsByWord ⟦<InstrumentedStep<N, C> as Pass>⟧.name
         (λ pipeline. EndsWithModule N.reads N.prints N.D.meaning (RunsAlone ⟦<BenchFactKind as PartialEq>⟧.eq
         ⟦<InstrumentedPipeline<N, C> as Pass>⟧.outcome pipeline) text) request.now.pipeline.now)
         (R.remaining input.old) (W.contents output.old) (W.contents output.new) result }

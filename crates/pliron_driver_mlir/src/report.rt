@@ -1,13 +1,13 @@
 //! What is reported about the runs of passes: what verifying found after each, counts, and times.
 use crate::module_observer::ModuleOptions;
 use pliron_driver::Notation;
-use pliron_driver_instrument::{ContentsCount, Instrumented, Progress, RoundRecord};
+use pliron_driver_instrument::{ContentsCount, InstrumentedStep, Progress, RoundRecord};
 use std::alloc::{AllocError, Global};
 
 // Writes what verifying found after the runs of a pass, and answers after how many it found nothing.
 fn write_faults_of<N: Notation, C: Progress + Drop>(
     report: &mut String,
-    pass: &Instrumented<N, C>,
+    pass: &InstrumentedStep<N, C>,
 ) -> Result<usize, AllocError> {
     let mut right: usize = 0;
     let name = pass.pass_name();
@@ -29,7 +29,7 @@ fn write_faults_of<N: Notation, C: Progress + Drop>(
 // Writes what verifying found after each run, and after how many it found nothing.
 fn write_faults<N: Notation, C: Progress + Drop>(
     report: &mut String,
-    passes: &[Instrumented<N, C>],
+    passes: &[InstrumentedStep<N, C>],
 ) -> Result<(), AllocError> {
     let mut right: usize = 0;
     let mut runs: usize = 0;
@@ -76,7 +76,7 @@ fn write_round(
 // Writes what was live before and after each pass, round by round, and what it made and erased.
 fn write_counts<N: Notation, C: Progress + Drop>(
     report: &mut String,
-    passes: &[Instrumented<N, C>],
+    passes: &[InstrumentedStep<N, C>],
 ) -> Result<(), AllocError> {
     report.push_str("round pass                  operations   blocks arguments    edges\n")?;
     for pass in passes {
@@ -101,7 +101,7 @@ fn runs_and_nanos(rows: &[RoundRecord]) -> (usize, u128) {
 // Writes how often each pass ran, and its time in milliseconds.
 fn write_times<N: Notation, C: Progress + Drop>(
     report: &mut String,
-    passes: &[Instrumented<N, C>],
+    passes: &[InstrumentedStep<N, C>],
 ) -> Result<(), AllocError> {
     report.push_str("pass             runs milliseconds\n")?;
     for pass in passes {
@@ -118,7 +118,7 @@ fn write_times<N: Notation, C: Progress + Drop>(
 /// Errors: allocation failure. Cost: linear in the report.
 pub fn report_of<N: Notation, C: Progress + Drop>(
     alloc: Global,
-    passes: &[Instrumented<N, C>],
+    passes: &[InstrumentedStep<N, C>],
     options: &ModuleOptions,
 ) -> Result<String, AllocError> {
     let mut report = String::new(alloc);

@@ -1,6 +1,6 @@
 //! Names of values and blocks: `#` stands before a number, and `=` before a text.
 use pliron_text_llvm_names::{
-    Defined, LocalDefinition, LocalName, NameFault, bytes_in, label_name, local_name,
+    DefinitionKind, LocalDefinition, LocalName, NameFault, bytes_in, label_name, local_name,
     name_definitions, resolve_uses,
 };
 use pliron_text_llvm_syntax::{ByteSpan, Hole, HoleKind};
@@ -77,11 +77,11 @@ fn names_definitions(rt: HostRuntime) {
     };
     let unnamed = |what| LocalDefinition { what, name: None };
     let definitions = [
-        named(Defined::Argument(0), 0, 2),
-        unnamed(Defined::Argument(1)),
-        named(Defined::Block(0), 3, 5),
-        named(Defined::Result(1), 6, 8),
-        unnamed(Defined::Result(2)),
+        named(DefinitionKind::Argument(0), 0, 2),
+        unnamed(DefinitionKind::Argument(1)),
+        named(DefinitionKind::Block(0), 3, 5),
+        named(DefinitionKind::Result(1), 6, 8),
+        unnamed(DefinitionKind::Result(2)),
     ];
     let table = name_definitions(rt.alloc(), text, &definitions)
         .ok()

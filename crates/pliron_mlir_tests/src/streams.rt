@@ -1,14 +1,14 @@
 //! The program over an output that fails. `|` stands for the end of a line.
 use crate::lines::in_one_line;
 use pliron_dialect_mlir::{AnyMeaning, Mlir};
-use pliron_driver::Closed;
+use pliron_driver::ClosedNotation;
 use pliron_driver_instrument::Timeless;
 use pliron_driver_mlir::{GenericForm, ModuleOptions, Request, run_on};
 use std::alloc::Global;
 use std::io::{self, ErrorKind, Write};
 use std::process::Abort;
 
-type Form = Closed<GenericForm<Mlir<AnyMeaning>>>;
+type Form = ClosedNotation<GenericForm<Mlir<AnyMeaning>>>;
 
 /// Takes so many bytes, and then fails as a pipe that nobody reads any more.
 #[derive(Drop)]

@@ -32,7 +32,7 @@ pub enum Ending {
 
 /// What a call of `combine` did.
 #[derive(Clone, Copy, Debug, PartialEq, Eq)]
-pub struct Combined {
+pub struct CombineOutcome {
     /// How many rewrites were made.
     pub count: usize,
     /// How it ended.
@@ -61,7 +61,7 @@ pub fn combine<D: Dialect, L: Rules<D>>(
     op: Ptr<Operation>,
     limit: usize,
     ctx: &mut Context,
-) -> Result<Combined, OptError>
+) -> Result<CombineOutcome, OptError>
     requires live { IsLive ctx.old.tree op }
     requires linked { IsWellLinked D.meaning ctx.old.tree op }
     ensures change { IsWholeChange D.meaning ctx.old.tree ctx.new.tree op }
@@ -91,7 +91,7 @@ pub fn combine_through<D: Dialect, L: Rules<D>, R: Rewriter + Room>(
     limit: usize,
     ctx: &mut Context,
     rewriter: &mut R,
-) -> Result<Combined, OptError>
+) -> Result<CombineOutcome, OptError>
     requires live { IsLive ctx.old.tree op }
     requires linked { IsWellLinked D.meaning ctx.old.tree op }
     ensures change { IsWholeChange D.meaning ctx.old.tree ctx.new.tree op }
@@ -111,14 +111,14 @@ pub fn combine_through<D: Dialect, L: Rules<D>, R: Rewriter + Room>(
     while left > 0 {
         let rest = sweep_in_rounds::<D, L, R>(alloc, op, left, ctx, rewriter)?;
         if rest == left {
-            return Ok(Combined {
+            return Ok(CombineOutcome {
                 count: limit - left,
                 ending: Ending::Finished,
             });
         }
         left = rest;
     }
-    Ok(Combined {
+    Ok(CombineOutcome {
         count: limit,
         ending: Ending::LimitReached,
     })

@@ -1,5 +1,5 @@
 //! Runs of texts before and after an optimisation, compared by the evaluator.
-use crate::texts::{Asked, case_behind};
+use crate::texts::{OptimisationCall, case_behind};
 use pliron_core::Context;
 use pliron_test_cases::cases::{Case, read};
 use pliron_test_cases::runs::{are_kept, sights};
@@ -12,7 +12,13 @@ const BEFORE: usize = 100;
 /// What makes constants takes more of them, so that a run that ended before ends within these.
 const AFTER: usize = 500;
 
-fn compare_in(rt: &impl Abort, alloc: Global, ctx: &mut Context, asked: Asked, case: &Case) {
+fn compare_in(
+    rt: &impl Abort,
+    alloc: Global,
+    ctx: &mut Context,
+    asked: OptimisationCall,
+    case: &Case,
+) {
     let name = case.name;
     let root = read(alloc, ctx, case.text).expect(rt, "a readable text");
     let before = sights(alloc, ctx, root, BEFORE).expect(rt, "memory");
@@ -22,13 +28,13 @@ fn compare_in(rt: &impl Abort, alloc: Global, ctx: &mut Context, asked: Asked, c
     assert!(rt; are_kept(&before, &after), "{name}");
 }
 
-fn compare(rt: &impl Abort, alloc: Global, asked: Asked, case: &Case) {
+fn compare(rt: &impl Abort, alloc: Global, asked: OptimisationCall, case: &Case) {
     let mut ctx = Context::new(alloc);
     compare_in(rt, alloc, &mut ctx, asked, case)
 }
 
 // The optimisation of each text keeps its runs.
-pub fn keep_runs(rt: &impl Abort, alloc: Global, asked: Asked, cases: &str) {
+pub fn keep_runs(rt: &impl Abort, alloc: Global, asked: OptimisationCall, cases: &str) {
     for row in cases.lines() {
         compare(rt, alloc, asked, &case_behind(rt, row, asked.words));
     }

@@ -9,7 +9,7 @@ use std::process::Abort;
 
 /// What is asked of each text of a table.
 #[derive(Clone, Copy)]
-pub struct Asked {
+pub struct OptimisationCall {
     pub optimisation: Optimisation,
     /// The operation of the text that it is called on, as `operation_at` names it.
     pub place: &'static str,
@@ -71,7 +71,7 @@ fn check_in(
     rt: &impl Abort,
     alloc: Global,
     ctx: &mut Context,
-    asked: Asked,
+    asked: OptimisationCall,
     case: &Case,
     is_through: bool,
 ) {
@@ -93,7 +93,7 @@ fn check_in(
 }
 
 // What is asked of the text is as the case says.
-pub fn check(rt: &impl Abort, alloc: Global, asked: Asked, case: &Case) {
+pub fn check(rt: &impl Abort, alloc: Global, asked: OptimisationCall, case: &Case) {
     for is_through in [false, true] {
         let mut ctx = Context::new(alloc);
         check_in(rt, alloc, &mut ctx, asked, case, is_through);
@@ -101,7 +101,7 @@ pub fn check(rt: &impl Abort, alloc: Global, asked: Asked, case: &Case) {
 }
 
 // What is asked of each text is as its case says.
-pub fn check_all(rt: &impl Abort, alloc: Global, asked: Asked, cases: &str) {
+pub fn check_all(rt: &impl Abort, alloc: Global, asked: OptimisationCall, cases: &str) {
     for row in cases.lines() {
         check(rt, alloc, asked, &case_behind(rt, row, asked.words));
     }

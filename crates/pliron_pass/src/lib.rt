@@ -35,4 +35,4 @@ pub use pliron_laws::OptError;
 pub use repeat::Repeat;
 pub use result::PassResult;
 pub use run::{ManagedPass, PassManager};
-pub use verify::{Verified, verify_operation};
+pub use verify::{HasVerification, verify_operation};

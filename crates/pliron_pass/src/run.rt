@@ -14,7 +14,7 @@ use crate::kinds::AnalysisKind;
 use crate::manager::AnalysisManager;
 use crate::pass::Pass;
 use crate::result::PassResult;
-use crate::verify::{Verified, verify_operation};
+use crate::verify::{HasVerification, verify_operation};
 use pliron_core::{Context, IRStatus, Operation, Ptr};
 use pliron_laws::{Dialect, OptError};
 use std::alloc::Global;
@@ -28,7 +28,7 @@ fn verify_if<D: Dialect>(
     ctx: &Context,
 ) -> Result<(), OptError>
     requires { IsLive ctx.now.tree op }
-    ensures { IsVerified ⟦<D as Verified>⟧.verifies fault wanted ctx.now.tree op result }
+    ensures { IsVerified ⟦<D as HasVerification>⟧.verifies fault wanted ctx.now.tree op result }
 {
     if !wanted {
         return Ok(());
@@ -53,7 +53,7 @@ fn run_plain<P: Pass>(
     ensures change { IsPassChange P.D.meaning ctx.old.tree ctx.new.tree op }
     ensures fresh { IfOk result (λ a. FreshAfter P.E.Kind.eq P.E.kind P.E.holds ctx.old.tree analyses.old.cache.entries
         ctx.new.tree analyses.new.cache.entries a) }
-    ensures outcome { RunsPlain P.name P.outcome ⟦<P::D as Verified>⟧.verifies pass.old pass.new op
+    ensures outcome { RunsPlain P.name P.outcome ⟦<P::D as HasVerification>⟧.verifies pass.old pass.new op
         (stage ctx.old analyses.old) (stage ctx.new analyses.new) result }
 {
     let plan = analyses.pm_data.plan(pass.name());
@@ -74,7 +74,7 @@ pub trait ManagedPass: Pass {
 }
 
 impl<P: Pass> ManagedPass for P {
-    ghost runs = { RunsPass P.name P.outcome ⟦<P::D as Verified>⟧.verifies P.is_pass_manager };
+    ghost runs = { RunsPass P.name P.outcome ⟦<P::D as HasVerification>⟧.verifies P.is_pass_manager };
 }
 
 /// Runs passes by the configuration.

@@ -12,7 +12,7 @@ use pliron_laws::{
 use std::alloc::Global;
 
 /// What verifying operations of a dialect may answer. Each dialect has it; contracts alone speak of it.
-pub trait Verified {
+pub trait HasVerification {
     // what the check of an interface may answer for an operation; those of branches and terminators have none
     ghost verdict: { Verdict };
 
@@ -20,7 +20,7 @@ pub trait Verified {
     ghost verifies: { Verifying };
 }
 
-impl<D: Dialect> Verified for D {
+impl<D: Dialect> HasVerification for D {
     ghost verdict = { verdict_by D.SideEffects.verdict D.BlockArgRemoval.verdict D.ConstFoldInterface.verdict
         D.BranchOpFoldInterface.verdict D.RegionBranchOpInterface.verdict };
 
@@ -36,7 +36,7 @@ fn check<D: Dialect>(
     ctx: &Context,
 ) -> Result<(), OptError>
     requires { IsLive ctx.now.tree op }
-    ensures { ⟦<D as Verified>⟧.verdict interface ctx.now.tree op result }
+    ensures { ⟦<D as HasVerification>⟧.verdict interface ctx.now.tree op result }
 {
     match interface {
         Interface::SideEffects => <D as SideEffects>::verify(alloc, op, ctx),
@@ -56,8 +56,9 @@ fn verify_one<D: Dialect>(
     ctx: &Context,
 ) -> Result<(), OptError>
     requires { IsLive ctx.now.tree op }
-    ensures ok { OnOk result (PassesOne D.has_interface ⟦<D as Verified>⟧.verdict ctx.now.tree op interface) }
-    ensures err { IfErr result (λ e. FailsOne D.has_interface ⟦<D as Verified>⟧.verdict ctx.now.tree op interface e) }
+    ensures ok { OnOk result (PassesOne D.has_interface ⟦<D as HasVerification>⟧.verdict ctx.now.tree op interface) }
+    ensures err { IfErr result (λ e. FailsOne D.has_interface ⟦<D as HasVerification>⟧.verdict
+        ctx.now.tree op interface e) }
 {
     if D::implements(op, ctx, interface) {
         check::<D>(interface, alloc, op, ctx)
@@ -69,8 +70,8 @@ fn verify_one<D: Dialect>(
 // The checks of an operation.
 fn verify_each<D: Dialect>(alloc: Global, op: Ptr<Operation>, ctx: &Context) -> Result<(), OptError>
     requires { IsLive ctx.now.tree op }
-    ensures ok { OnOk result (Passes D.has_interface ⟦<D as Verified>⟧.verdict ctx.now.tree op) }
-    ensures err { IfErr result (λ e. Fails D.has_interface ⟦<D as Verified>⟧.verdict ctx.now.tree op e) }
+    ensures ok { OnOk result (Passes D.has_interface ⟦<D as HasVerification>⟧.verdict ctx.now.tree op) }
+    ensures err { IfErr result (λ e. Fails D.has_interface ⟦<D as HasVerification>⟧.verdict ctx.now.tree op e) }
 {
     verify_one::<D>(Interface::SideEffects, alloc, op, ctx)?;
     verify_one::<D>(Interface::BlockArgRemoval, alloc, op, ctx)?;
@@ -91,7 +92,7 @@ pub fn verify_operation<D: Dialect>(
     ctx: &Context,
 ) -> Result<(), OptError>
     requires { IsLive ctx.now.tree op }
-    ensures { ⟦<D as Verified>⟧.verifies ctx.now.tree op result }
+    ensures { ⟦<D as HasVerification>⟧.verifies ctx.now.tree op result }
 {
     ctx.well_formed();
     let mut at = Some(op);

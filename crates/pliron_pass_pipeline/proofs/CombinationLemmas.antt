@@ -5,7 +5,7 @@ use Rattle.pliron_core.specs.Changes.{IsSameTree}
 use Rattle.pliron_core.specs.declared.attrs.IRStatus.TheVariants.{Changed, Unchanged}
 use Rattle.pliron_core.proofs.SameTreeLemmas.{same_refl}
 use Rattle.pliron_opt_combine.specs.Rewrites.{Rewrite, RewriteInTurn, AreRewritten, HasRewrites}
-use Rattle.pliron_opt_combine.specs.declared.Combined.{Combined}
+use Rattle.pliron_opt_combine.specs.declared.CombineOutcome.{CombineOutcome}
 use Rattle.pliron_opt_combine.specs.declared.Ending.{Ending}
 use Rattle.pliron_opt_combine.specs.declared.Ending.TheVariants.{Finished, LimitReached}
 use Rattle.pliron_rewrite_rules.specs.Tables.{RuleTables}
@@ -16,7 +16,7 @@ use Rattle.pliron_pass_pipeline.specs.Combination.{AppliesRules, IsCombined, eff
 use Rattle.pliron_pass_pipeline.specs.Optimising.{IsAccurateAnswer}
 
 -- what is made of the tree
-pub applied : (x : RuleTables) (rules : View → Option Term) (root : ℕ) (t u : Tree) (c : Combined) (rs : List Rewrite) → RewriteInTurn x rules root rs t u → c.count ≡ length rs → (c.ending ≡ Finished → HasRewrites x rules u root → ⊥) → (c.ending ≡ LimitReached → c.count ≡ most_rewrites) → IsCombined x rules root t u (effect_of_count c.count)
+pub applied : (x : RuleTables) (rules : View → Option Term) (root : ℕ) (t u : Tree) (c : CombineOutcome) (rs : List Rewrite) → RewriteInTurn x rules root rs t u → c.count ≡ length rs → (c.ending ≡ Finished → HasRewrites x rules u root → ⊥) → (c.ending ≡ LimitReached → c.count ≡ most_rewrites) → IsCombined x rules root t u (effect_of_count c.count)
 applied x rules root t u c rs turn e none limit = record { rewrites = rs; in_turn = turn; reported = ap effect_of_count e; finished = go c.ending refl }
   where
     go : (ending : Ending) → c.ending ≡ ending → (length rs ≡ most_rewrites) ⊎ (HasRewrites x rules u root → ⊥)

@@ -3,7 +3,7 @@ use pliron_bench_rules::BenchRules;
 use pliron_core::{Context, Operation, Ptr};
 use pliron_dialect_bench::Bench;
 use pliron_laws::{OptError, is_well_linked};
-use pliron_opt_combine::{Combined, Ending, combine};
+use pliron_opt_combine::{CombineOutcome, Ending, combine};
 use pliron_test_cases::cases::{Case, case_of, line, read};
 use pliron_test_cases::runs::{are_kept, sights};
 use std::alloc::Global;
@@ -61,7 +61,7 @@ static FORBIDDEN: &str = "\
 a value by itself -- 0L func { b0(x): a = add x x; ret a } => func { b0(v0): v1 = add v0 v0; ret v1 }";
 
 // How the outcome is written, as in the tables.
-fn word(alloc: Global, outcome: Combined) -> Result<String, OptError> {
+fn word(alloc: Global, outcome: CombineOutcome) -> Result<String, OptError> {
     let letter = match outcome.ending {
         Ending::Finished => 'F',
         Ending::LimitReached => 'L',
@@ -76,7 +76,7 @@ fn run(
     ctx: &mut Context,
     root: Ptr<Operation>,
     limit: usize,
-) -> Combined {
+) -> CombineOutcome {
     assert!(rt; root.is_live(ctx));
     assert!(rt; is_well_linked::<Bench>(root, ctx));
     combine::<Bench, BenchRules>(alloc, root, limit, ctx).expect(rt, "memory")

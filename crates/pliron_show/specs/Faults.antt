@@ -1,6 +1,7 @@
 -- What is reported of texts that are outside a notation.
 use Rattle.std.specs.Prelude.{ℕ, List, codes}
-use Rattle.pliron_show_places.specs.Messages.{HasBeginning, heading}
+use Rattle.pliron_text.specs.Beginnings.{BeginsWith}
+use Rattle.pliron_show_places.specs.Messages.{heading}
 
 -- which reports say what is wrong; and which do so of a text
 abbrev pub Faults : Type 1
@@ -15,4 +16,4 @@ error_line wrong = heading (codes "error") wrong
 
 -- it says of a text that it is unreadable; where and why is open
 abbrev pub faults_as_unreadable : TextFaults
-faults_as_unreadable text report = HasBeginning report (error_line (codes "unreadable text"))
+faults_as_unreadable text report = BeginsWith report (error_line (codes "unreadable text"))

@@ -2,7 +2,7 @@
 ghost use Rattle.pliron_show.specs.Faults.{faults_as_unreadable};
 
 use crate::renaming::{LETTERS, print_renamed};
-use crate::shown::{NameScopes, NameSource, NewNames, Runnable, Shown};
+use crate::shown::{NameScopes, NameSource, NewNames, Runnable, ShownNotation};
 use pliron_core::{Context, Operation, Ptr};
 use pliron_dialect_bench::BenchKind;
 use pliron_dialect_bench::tables::kind_at;
@@ -21,7 +21,7 @@ impl NameScopes for BenchNotation {
     }
 }
 
-impl Shown for BenchNotation {
+impl ShownNotation for BenchNotation {
     ghost faults = { faults_as_unreadable };
 
     fn fault_message(alloc: Global, source: &Source) -> Result<Option<String>, OptError> {

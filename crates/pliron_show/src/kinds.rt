@@ -3,7 +3,7 @@ ghost use Rattle.pliron_core.specs.Tree.{IsLive};
 ghost use Rattle.pliron_show.specs.Faults.{faults_as_unreadable};
 
 use crate::renaming::{LETTERS, print_renamed};
-use crate::shown::{NameScopes, NameSource, NewNames, Shown};
+use crate::shown::{NameScopes, NameSource, NewNames, ShownNotation};
 use pliron_core::{Context, Operation, Ptr};
 use pliron_dialect::{Form, Roles};
 use pliron_driver::{Document, KindNotation};
@@ -28,7 +28,7 @@ impl<K: Grammar> NameScopes for KindNotation<K> {
     }
 }
 
-impl<K: Grammar> Shown for KindNotation<K> {
+impl<K: Grammar> ShownNotation for KindNotation<K> {
     ghost faults = { faults_as_unreadable };
 
     fn fault_message(alloc: Global, source: &Source) -> Result<Option<String>, OptError> {

@@ -15,4 +15,4 @@ mod shown;
 pub use definition_order::DefinitionOrder;
 pub use part_names::{name_of_head, number_in_pack, push_value_name};
 pub use reading::read_shown;
-pub use shown::{NameScopes, NameSource, NewNames, Runnable, Shown};
+pub use shown::{NameScopes, NameSource, NewNames, Runnable, ShownNotation};

@@ -38,7 +38,7 @@ pub trait NameScopes {
 }
 
 /// A notation whose texts and trees are shown to people.
-pub trait Shown: Notation + NameScopes {
+pub trait ShownNotation: Notation + NameScopes {
     // the report says what is wrong with the text
     ghost faults: { TextFaults };
 
@@ -99,7 +99,7 @@ pub trait Shown: Notation + NameScopes {
 }
 
 /// A notation whose operations are run for people, on numbers.
-pub trait Runnable: Shown {
+pub trait Runnable: ShownNotation {
     /// What is seen of a run of the operation. Errors: allocation failure. Cost: that of the run.
     fn run_sight(
         alloc: Global,

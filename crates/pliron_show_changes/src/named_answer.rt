@@ -7,7 +7,7 @@ ghost use Rattle.pliron_show_changes.specs.NamedAnswer.{IsAnswerWritten, IsWritt
 use pliron_core::Context;
 use pliron_driver::Notation;
 use pliron_laws::OptError;
-use pliron_show::{Shown, read_shown};
+use pliron_show::{ShownNotation, read_shown};
 use std::alloc::{AllocError, Global};
 
 // Whether the text is read as an operation that is printed as this answer, in this empty context.
@@ -40,7 +40,11 @@ fn reads_as<N: Notation>(alloc: Global, text: &str, answer: &str) -> Result<bool
 }
 
 // The text, over several lines or as it is.
-fn lay_out<N: Shown>(alloc: Global, text: &str, is_pretty: bool) -> Result<Vec<u8>, AllocError>
+fn lay_out<N: ShownNotation>(
+    alloc: Global,
+    text: &str,
+    is_pretty: bool,
+) -> Result<Vec<u8>, AllocError>
     ensures { IfOk result (λ output. words_of output.items ≡ words_of text.now) }
 {
     if is_pretty {
@@ -55,7 +59,7 @@ fn lay_out<N: Shown>(alloc: Global, text: &str, is_pretty: bool) -> Result<Vec<u
 ///
 /// Errors: allocation failure. Cost: reading and printing.
 #[tactic(auto, using(crate::proofs::AnswerLemmas::as_it_is, crate::proofs::AnswerLemmas::by_names))]
-pub fn write_named_answer<N: Shown>(
+pub fn write_named_answer<N: ShownNotation>(
     alloc: Global,
     answer: &str,
     named: Option<&str>,
@@ -117,7 +121,7 @@ fn reads_alike<N: Notation>(alloc: Global, answer: &str, text: &str) -> Result<b
 ///
 /// Errors: allocation failure. Cost: reading and printing both.
 #[tactic(auto, using(crate::proofs::AnswerLemmas::unchanged, crate::proofs::AnswerLemmas::renamed))]
-pub fn write_renamed_answer<N: Shown>(
+pub fn write_renamed_answer<N: ShownNotation>(
     alloc: Global,
     answer: &str,
     named: Option<&str>,

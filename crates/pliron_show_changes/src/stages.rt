@@ -13,7 +13,7 @@ use pliron_driver_instrument::PipelineText;
 use pliron_laws::{OptError, is_well_linked};
 use pliron_pass::{AnalysisManager, BenchFacts};
 use pliron_pass_pipeline::{PassStep, run_pipeline};
-use pliron_show::{DefinitionOrder, Shown, read_shown};
+use pliron_show::{DefinitionOrder, ShownNotation, read_shown};
 use std::alloc::{AllocError, Global};
 use std::marker::PhantomData;
 
@@ -44,7 +44,7 @@ pub struct StageReport {
 
 /// Passes that are run one by one on the operation of a text.
 #[derive(Drop)]
-struct Stages<'s, N: Shown> {
+struct Stages<'s, N: ShownNotation> {
     alloc: Global,
     of: PhantomData<N>,
     options: &'s StageOptions<'s>,
@@ -83,7 +83,7 @@ fn text_of(alloc: Global, printed: &[u8]) -> Result<String, AllocError> {
     String::from_str(alloc, std::str::from_utf8(printed).unwrap_or(""))
 }
 
-impl<N: Shown> Stages<'_, N> {
+impl<N: ShownNotation> Stages<'_, N> {
     // The operation as it is written on one line. Asks that it is live.
     fn print(&mut self, op: Ptr<Operation>, ctx: &Context) -> Result<String, OptError>
         requires { IsLive ctx.now.tree op }
@@ -300,7 +300,7 @@ impl<N: Shown> Stages<'_, N> {
 }
 
 // Runs the passes on the operation that was read from the text, which has these parts.
-fn stage_operation<N: Shown>(
+fn stage_operation<N: ShownNotation>(
     alloc: Global,
     text: &[u8],
     plan: &PipelineText,
@@ -334,7 +334,7 @@ fn stage_operation<N: Shown>(
 }
 
 // The same for a text, in this empty context.
-fn run_stages_in<N: Shown>(
+fn run_stages_in<N: ShownNotation>(
     alloc: Global,
     text: &[u8],
     plan: &PipelineText,
@@ -357,7 +357,7 @@ fn run_stages_in<N: Shown>(
 ///
 /// Errors: allocation failure. Cost: reading, the passes, for each run that is reported or named a step for all that is
 /// live, and what `changed_lines` costs.
-pub fn run_stages<N: Shown>(
+pub fn run_stages<N: ShownNotation>(
     alloc: Global,
     text: &[u8],
     plan: &PipelineText,

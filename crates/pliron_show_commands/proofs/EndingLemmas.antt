@@ -1,17 +1,18 @@
 -- How commands end without an answer, and what is reported of it.
 use Rattle.std.specs.Prelude.{string_bytes}
 use Rattle.std.proofs.Common.{◌≡◌, ◌⊎◌, inl, inr, ℕ, List, [], ◌++◌, Result, Ok, Err, IfOk, codes, sym, ap, subst, ◌∙◌, append_assoc, append-nil}
-use Rattle.pliron_show_places.specs.Messages.{HasBeginning, heading}
+use Rattle.pliron_text.specs.Beginnings.{BeginsWith}
+use Rattle.pliron_show_places.specs.Messages.{heading}
 use Rattle.pliron_show_commands.specs.declared.outcome.Outcome.{Outcome}
 use Rattle.pliron_show_commands.specs.Outcomes.{IsRefused, EndsBadly, EndsBadly.Refuses, EndsBadly.IsFaulty, EndsEither, EndsEither.Fails}
 use Rattle.pliron_show_commands.specs.Reports.{FaultsRegion, TellsRefusal}
 use Rattle.pliron_show.specs.Faults.{Faults}
 
 -- how reports begin
-pub whole_line : (first report : List ℕ) → report ≡ first → HasBeginning report first
+pub whole_line : (first report : List ℕ) → report ≡ first → BeginsWith report first
 whole_line first report e = ([], e ∙ sym (append-nil first))
 
-pub begins_still : (first start rest report : List ℕ) → HasBeginning start first → report ≡ start ++ rest → HasBeginning report first
+pub begins_still : (first start rest report : List ℕ) → BeginsWith start first → report ≡ start ++ rest → BeginsWith report first
 begins_still first start rest report begins e = (begins.0 ++ rest, e ∙ ap (λ x. x ++ rest) begins.1 ∙ append_assoc first begins.0 rest)
 
 pub region_first : (path start rest report : List ℕ) → start ≡ codes "error: no region `" ++ (path ++ codes "`\n") → report ≡ start ++ rest → FaultsRegion path report
@@ -41,7 +42,7 @@ told_behind before report whole told e = (
 pub told_between : (before told between after report : List ℕ) → TellsRefusal told → between ≡ before ++ told → report ≡ between ++ after → TellsRefusal report
 told_between before told between after report is e f = told_still between after report (told_behind before told between is e) f
 
-pub told_use : (wrong report : List ℕ) → wrong ≡ codes "refused: a value of an unreachable block is used" → HasBeginning report (heading (codes "error") wrong) → TellsRefusal report
+pub told_use : (wrong report : List ℕ) → wrong ≡ codes "refused: a value of an unreachable block is used" → BeginsWith report (heading (codes "error") wrong) → TellsRefusal report
 told_use wrong report is begins = (
   [],
   codes "a value of an unreachable block is used\n" ++ begins.0,

@@ -13,7 +13,7 @@ use pliron_core::{Context, Operation, Ptr};
 use pliron_driver::Notation;
 use pliron_laws::OptError;
 use pliron_pass_fit::Violation;
-use pliron_show::Shown;
+use pliron_show::ShownNotation;
 use pliron_show_places::Source;
 use std::alloc::{AllocError, Global};
 
@@ -68,7 +68,7 @@ pub(crate) enum Finding {
 
 // What is reported of the operation of a text; `None` for an unreadable one. Errors: allocation failure. Cost: that of
 // `check_text`.
-pub(crate) fn find_message<N: Shown>(
+pub(crate) fn find_message<N: ShownNotation>(
     alloc: Global,
     source: &Source,
 ) -> Result<Option<Finding>, OptError>
@@ -80,7 +80,7 @@ pub(crate) fn find_message<N: Shown>(
 
 // The same in this context.
 #[tactic(auto, using(crate::proofs::CommandLemmas::whole_when, crate::proofs::CommandLemmas::parts_when, crate::proofs::CommandLemmas::unfit_when))]
-fn find_message_in<N: Shown>(
+fn find_message_in<N: ShownNotation>(
     alloc: Global,
     source: &Source,
     ctx: &mut Context,
@@ -118,7 +118,7 @@ fn fit_outcome(alloc: Global, line: &[u8]) -> Result<Outcome, AllocError>
 /// With all but 0 nothing is to be written to the output. Errors: allocation failure for what is reported. Cost: that
 /// of `check_text`.
 #[tactic(auto, using(crate::proofs::CommandLemmas::says_whole, crate::proofs::CommandLemmas::says_parts, crate::proofs::CommandLemmas::says_unfit))]
-pub fn check<N: Shown>(alloc: Global, source: &Source) -> Result<Outcome, AllocError>
+pub fn check<N: ShownNotation>(alloc: Global, source: &Source) -> Result<Outcome, AllocError>
     ensures { IfOk result (λ outcome. EndsEither (N.faults source.now.text.now)
         (IsReportedFit N.reads N.D.meaning source.now.text.now outcome.output.items)
         (IsUnfitText N.reads N.D.meaning source.now.text.now × (outcome.output.items ≡ [])) outcome) }

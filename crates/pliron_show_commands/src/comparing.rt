@@ -14,8 +14,8 @@ use crate::refusal::refused_outcome;
 use pliron_core::Context;
 use pliron_driver::run_alone;
 use pliron_driver_instrument::{
-    InstrumentationOptions, Instrumented, InstrumentedPipeline, PipelineText, PlanError, Timeless,
-    instrumented_pipeline,
+    InstrumentationOptions, InstrumentedPipeline, InstrumentedStep, PipelineText, PlanError,
+    Timeless, instrumented_pipeline,
 };
 use pliron_evaluator::evaluator::{Datum, Sight};
 use pliron_laws::OptError;
@@ -257,7 +257,7 @@ fn compare_by<N: Runnable>(
     options: &RunOptions,
     plan: &PipelineText,
 ) -> Result<Outcome, AllocError>
-    ensures { IfOk result (EndsByPlannedRuns ⟦<Instrumented<N, Timeless> as Pass>⟧.name
+    ensures { IfOk result (EndsByPlannedRuns ⟦<InstrumentedStep<N, Timeless> as Pass>⟧.name
         (λ pipeline. EndsCompared N.reads N.D.meaning (map NumberOf options.now.inputs.now)
         (map NumberOf options.now.world.now) options.now.steps N.faults ⟦<Sight as PartialEq>⟧.eq
         ⟦<Datum as PartialEq>⟧.eq (RunsAlone ⟦<BenchFactKind as PartialEq>⟧.eq
@@ -284,7 +284,7 @@ pub fn compare<N: Runnable>(
     source: &Source,
     options: &CompareOptions,
 ) -> Result<Outcome, AllocError>
-    ensures { IfOk result (EndsByListWord ⟦<Instrumented<N, Timeless> as Pass>⟧.name
+    ensures { IfOk result (EndsByListWord ⟦<InstrumentedStep<N, Timeless> as Pass>⟧.name
         (λ pipeline. EndsCompared N.reads N.D.meaning (map NumberOf options.now.run.inputs.now)
         (map NumberOf options.now.run.world.now) options.now.run.steps N.faults ⟦<Sight as PartialEq>⟧.eq
         ⟦<Datum as PartialEq>⟧.eq (RunsAlone ⟦<BenchFactKind as PartialEq>⟧.eq

@@ -9,7 +9,7 @@ use crate::ending::{graph_outcome, region_outcome, success_outcome};
 use crate::outcome::failure_outcome;
 use crate::{CommandFailure, Outcome, Source};
 use pliron_driver::BenchNotation;
-use pliron_show::Shown;
+use pliron_show::ShownNotation;
 use pliron_show_graphs::{Drawing, FlowOptions, text_flow, text_graph};
 use std::alloc::{AllocError, Global};
 
@@ -20,7 +20,7 @@ use std::alloc::{AllocError, Global};
 /// nothing is to be written to the output. Errors: allocation failure for what is reported. Cost: reading, and that of
 /// `graph_rows`.
 #[tactic(auto, using(crate::proofs::EndingLemmas::text_fails, crate::proofs::EndingLemmas::other_fails))]
-pub fn draw_flow<N: Shown>(
+pub fn draw_flow<N: ShownNotation>(
     alloc: Global,
     source: &Source,
     options: &FlowOptions,

@@ -10,7 +10,7 @@ use crate::{CommandFailure, Outcome, Source, misspelling_outcome};
 use pliron_driver_instrument::{PipelineText, PlanError};
 use pliron_laws::OptError;
 use pliron_pass_pipeline::PassName;
-use pliron_show::Shown;
+use pliron_show::ShownNotation;
 use pliron_show_graphs::{PassList, explain_changes};
 use std::alloc::{AllocError, Global};
 
@@ -63,7 +63,7 @@ fn list_of(
 
 // Explains what the passes that the plan asks for did.
 #[tactic(auto, using(crate::proofs::EndingLemmas::text_fails, crate::proofs::EndingLemmas::other_fails, crate::proofs::CommandLemmas::refused_so))]
-fn explain_by<N: Shown>(
+fn explain_by<N: ShownNotation>(
     alloc: Global,
     source: &Source,
     plan: &PipelineText,
@@ -98,7 +98,7 @@ pub struct ExplainOptions<'w> {
 /// With 1 and 2 nothing is to be written to the output. Errors: allocation failure for what is reported. Cost: that of
 /// `explain_changes`.
 #[tactic(auto, using(crate::proofs::EndingLemmas::text_fails, crate::proofs::EndingLemmas::other_fails))]
-pub fn explain<N: Shown>(
+pub fn explain<N: ShownNotation>(
     alloc: Global,
     source: &Source,
     options: &ExplainOptions,

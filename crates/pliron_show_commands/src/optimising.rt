@@ -12,14 +12,14 @@ use crate::outcome::{
 };
 use crate::refusal::refused_outcome;
 use crate::report::{ReportOptions, refused_note, report_of};
-use pliron_driver::{TextFailure, Unobserved, optimise, passes_of};
+use pliron_driver::{NoObserver, TextFailure, optimise, passes_of};
 use pliron_driver_instrument::{
-    InstrumentationOptions, Instrumented, InstrumentedPipeline, PipelineText, PlanError, Progress,
-    WordFault, has_fault, instrumented_pipeline, is_short,
+    InstrumentationOptions, InstrumentedPipeline, InstrumentedStep, PipelineText, PlanError,
+    Progress, WordFault, has_fault, instrumented_pipeline, is_short,
 };
 use pliron_laws::OptError;
 use pliron_pass::{BenchFactKind, Pass};
-use pliron_show::Shown;
+use pliron_show::ShownNotation;
 use pliron_show_places::{Source, SourceMark, mark_source};
 use std::alloc::{AllocError, Global};
 
@@ -65,7 +65,7 @@ pub fn misspelling_outcome(
 }
 
 // The text with each operation on a line of its own, or as it is.
-fn break_lines<N: Shown>(
+fn break_lines<N: ShownNotation>(
     alloc: Global,
     printed: Vec<u8>,
     is_pretty: bool,
@@ -81,7 +81,7 @@ fn break_lines<N: Shown>(
 
 // The same, with the end of a line behind it, unless it has one.
 #[tactic(auto, using(crate::proofs::CommandLemmas::ended))]
-fn lay_out<N: Shown>(
+fn lay_out<N: ShownNotation>(
     alloc: Global,
     printed: Vec<u8>,
     is_pretty: bool,
@@ -106,13 +106,13 @@ fn report_options(options: &OptOptions) -> ReportOptions {
 }
 
 // The outcome where memory or the passes were refused: what was noted, why, and in which pass.
-fn refusal_outcome<N: Shown, C: Progress + Drop>(
+fn refusal_outcome<N: ShownNotation, C: Progress + Drop>(
     alloc: Global,
     mut report: String,
     source: &Source,
     error: OptError,
     plan: &PipelineText,
-    passes: &[Instrumented<N, C>],
+    passes: &[InstrumentedStep<N, C>],
 ) -> Result<Outcome, AllocError>
     ensures { IfOk result IsRefused }
 {
@@ -129,7 +129,7 @@ fn refusal_outcome<N: Shown, C: Progress + Drop>(
 
 // What these passes, which are the plan's, make of the text; the report begins with this one.
 #[tactic(auto, using(crate::proofs::CommandLemmas::is_made, crate::proofs::CommandLemmas::refused_so))]
-fn opt_with<N: Shown, C: Progress + Copy + Drop>(
+fn opt_with<N: ShownNotation, C: Progress + Copy + Drop>(
     alloc: Global,
     source: &Source,
     options: &OptOptions,
@@ -142,8 +142,8 @@ fn opt_with<N: Shown, C: Progress + Copy + Drop>(
         options.now.instrumentation.verifies
         source.now.text.now) }
 {
-    let mut nothing = Unobserved;
-    let made = optimise::<N, Instrumented<N, C>, Unobserved>(
+    let mut nothing = NoObserver;
+    let made = optimise::<N, InstrumentedStep<N, C>, NoObserver>(
         alloc,
         pipeline,
         source.text,
@@ -179,7 +179,7 @@ fn opt_with<N: Shown, C: Progress + Copy + Drop>(
 
 // What the passes that the plan asks for make of the text; the report begins with this one.
 #[tactic(auto, using(crate::proofs::CommandLemmas::is_planned, crate::proofs::CommandLemmas::no_passes))]
-fn opt_by<N: Shown, C: Progress + Copy + Drop>(
+fn opt_by<N: ShownNotation, C: Progress + Copy + Drop>(
     alloc: Global,
     source: &Source,
     options: &OptOptions,
@@ -187,7 +187,7 @@ fn opt_by<N: Shown, C: Progress + Copy + Drop>(
     clock: C,
     report: String,
 ) -> Result<Outcome, AllocError>
-    ensures { IfOk result (EndsByPlannedRuns ⟦<Instrumented<N, C> as Pass>⟧.name
+    ensures { IfOk result (EndsByPlannedRuns ⟦<InstrumentedStep<N, C> as Pass>⟧.name
         (λ pipeline. EndsOptimised N.reads N.prints N.faults N.D.meaning
         (RunsAlone ⟦<BenchFactKind as PartialEq>⟧.eq ⟦<InstrumentedPipeline<N, C> as Pass>⟧.outcome pipeline)
         options.now.instrumentation.verifies source.now.text.now) plan.now.runs
@@ -201,14 +201,14 @@ fn opt_by<N: Shown, C: Progress + Copy + Drop>(
 
 // What the passes that the word asks for make of the text; the report begins with this one.
 #[tactic(auto, using(crate::proofs::CommandLemmas::is_asked, crate::proofs::CommandLemmas::no_plan, crate::proofs::CommandLemmas::no_text))]
-pub(crate) fn opt_after<N: Shown, C: Progress + Copy + Drop>(
+pub(crate) fn opt_after<N: ShownNotation, C: Progress + Copy + Drop>(
     alloc: Global,
     source: &Source,
     options: &OptOptions,
     clock: C,
     report: String,
 ) -> Result<Outcome, AllocError>
-    ensures { IfOk result (EndsByListWord ⟦<Instrumented<N, C> as Pass>⟧.name
+    ensures { IfOk result (EndsByListWord ⟦<InstrumentedStep<N, C> as Pass>⟧.name
         (λ pipeline. EndsOptimised N.reads N.prints N.faults N.D.meaning
         (RunsAlone ⟦<BenchFactKind as PartialEq>⟧.eq ⟦<InstrumentedPipeline<N, C> as Pass>⟧.outcome pipeline)
         options.now.instrumentation.verifies source.now.text.now) (N.faults source.now.text.now)
@@ -230,13 +230,13 @@ pub(crate) fn opt_after<N: Shown, C: Progress + Copy + Drop>(
 /// Statuses: 0; 1 where memory or the passes were refused; 2 for a word that asks for no passes or an unreadable text;
 /// 3 where verifying found something. With all but 0 nothing is to be written to the output. Errors: allocation failure
 /// for what is reported. Cost: reading, the passes, what is recorded, and printing.
-pub fn opt<N: Shown, C: Progress + Copy + Drop>(
+pub fn opt<N: ShownNotation, C: Progress + Copy + Drop>(
     alloc: Global,
     source: &Source,
     options: &OptOptions,
     clock: C,
 ) -> Result<Outcome, AllocError>
-    ensures { IfOk result (EndsByListWord ⟦<Instrumented<N, C> as Pass>⟧.name
+    ensures { IfOk result (EndsByListWord ⟦<InstrumentedStep<N, C> as Pass>⟧.name
         (λ pipeline. EndsOptimised N.reads N.prints N.faults N.D.meaning
         (RunsAlone ⟦<BenchFactKind as PartialEq>⟧.eq ⟦<InstrumentedPipeline<N, C> as Pass>⟧.outcome pipeline)
         options.now.instrumentation.verifies source.now.text.now) (N.faults source.now.text.now)

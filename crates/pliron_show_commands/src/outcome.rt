@@ -5,7 +5,7 @@ ghost use Rattle.pliron_show_commands.specs.Reports.{FaultsWord, TellsRefusal};
 
 use crate::failure::CommandFailure;
 use pliron_laws::OptError;
-use pliron_show::Shown;
+use pliron_show::ShownNotation;
 use pliron_show_places::Source;
 use std::alloc::{AllocError, Global};
 
@@ -72,7 +72,7 @@ pub(crate) fn refused_by(alloc: Global, error: OptError) -> Result<Outcome, Allo
 ///
 /// Statuses: 2 for a text with a fault, else 1. Errors: allocation failure. Cost: that of reading the text.
 #[tactic(auto, using(crate::proofs::EndingLemmas::faulty, crate::proofs::EndingLemmas::refused_badly))]
-pub fn failure_outcome<N: Shown>(
+pub fn failure_outcome<N: ShownNotation>(
     alloc: Global,
     failure: CommandFailure,
     source: &Source,

@@ -14,12 +14,12 @@ use pliron_driver_instrument::{
     InstrumentationOptions, PipelineText, Timeless, instrumented_pipeline,
 };
 use pliron_laws::OptError;
-use pliron_show::Shown;
+use pliron_show::ShownNotation;
 use pliron_show_places::Source;
 use std::alloc::{AllocError, Global};
 
 // What is reported of the plan's passes on the text, in this empty context.
-fn refusal_message_in<N: Shown>(
+fn refusal_message_in<N: ShownNotation>(
     alloc: Global,
     source: &Source,
     plan: &PipelineText,
@@ -55,7 +55,7 @@ fn refusal_message_in<N: Shown>(
 // run once more, so that passes that aren't refused pay nothing for it.
 //
 // Errors: those of the passes; allocation failure. Cost: reading, the passes, and that of `find_live_use`.
-fn refusal_message<N: Shown>(
+fn refusal_message<N: ShownNotation>(
     alloc: Global,
     source: &Source,
     plan: &PipelineText,
@@ -70,7 +70,7 @@ fn refusal_message<N: Shown>(
 /// value of an unreachable block is used, the use, the definition and the pass.
 ///
 /// Errors: allocation failure. Cost: that of reading the text, and of the passes where such a value is used.
-pub(crate) fn refused_outcome<N: Shown>(
+pub(crate) fn refused_outcome<N: ShownNotation>(
     alloc: Global,
     source: &Source,
     error: OptError,

@@ -2,7 +2,7 @@
 use crate::statistics::write_statistics;
 use pliron_core::IRStatus;
 use pliron_driver::Notation;
-use pliron_driver_instrument::{Instrumented, Progress, RoundRecord, RunNote};
+use pliron_driver_instrument::{InstrumentedStep, Progress, RoundRecord, RunNote};
 use pliron_show_places::pretty;
 use std::alloc::{AllocError, Global};
 
@@ -28,7 +28,7 @@ struct NamedNote<'n> {
 // The notes of all passes, in the order of the runs.
 fn notes_in_order<'s, N: Notation, C: Progress + Drop>(
     alloc: Global,
-    passes: &'s [Instrumented<N, C>],
+    passes: &'s [InstrumentedStep<N, C>],
 ) -> Result<Vec<NamedNote<'s>>, AllocError> {
     let mut notes = Vec::new(alloc);
     for pass in passes {
@@ -138,7 +138,7 @@ fn write_time(
 // Writes the time of each pass, with its share of the time of all.
 fn write_times<N: Notation, C: Progress + Drop>(
     report: &mut String,
-    passes: &[Instrumented<N, C>],
+    passes: &[InstrumentedStep<N, C>],
 ) -> Result<(), AllocError> {
     let mut whole: u128 = 0;
     let mut all: usize = 0;
@@ -161,7 +161,7 @@ fn write_times<N: Notation, C: Progress + Drop>(
 /// Which pass was refused; empty, if none was. Errors: allocation failure. Cost: linear in the passes.
 pub fn refused_note<N: Notation, C: Progress + Drop>(
     alloc: Global,
-    passes: &[Instrumented<N, C>],
+    passes: &[InstrumentedStep<N, C>],
 ) -> Result<String, AllocError> {
     let mut note = String::new(alloc);
     for pass in passes {
@@ -177,7 +177,7 @@ pub fn refused_note<N: Notation, C: Progress + Drop>(
 /// Errors: allocation failure. Cost: n log n for n runs of which something is noted, and linear in what is reported.
 pub fn report_of<N: Notation, C: Progress + Drop>(
     alloc: Global,
-    passes: &[Instrumented<N, C>],
+    passes: &[InstrumentedStep<N, C>],
     wanted: &ReportOptions,
 ) -> Result<String, AllocError> {
     let mut report = String::new(alloc);

@@ -1,7 +1,7 @@
 //! What is reported of the work of passes: how much there was before and after each, and what each rewrote.
 use crate::table::Table;
 use pliron_driver::Notation;
-use pliron_driver_instrument::{Instrumented, Progress, RoundRecord};
+use pliron_driver_instrument::{InstrumentedStep, Progress, RoundRecord};
 use std::alloc::{AllocError, Global};
 
 /// What one pass did in one round.
@@ -41,7 +41,7 @@ static REWRITTEN: [&str; 8] = [
 ];
 
 // How many rounds the passes made over their operations.
-fn rounds<N: Notation, C: Progress + Drop>(passes: &[Instrumented<N, C>]) -> usize {
+fn rounds<N: Notation, C: Progress + Drop>(passes: &[InstrumentedStep<N, C>]) -> usize {
     match passes.first() {
         Some(pass) => pass.run_record().rows.len(),
         None => 0,
@@ -51,7 +51,7 @@ fn rounds<N: Notation, C: Progress + Drop>(passes: &[Instrumented<N, C>]) -> usi
 // What each pass did, round by round.
 fn work_in_order<'s, N: Notation, C: Progress + Drop>(
     alloc: Global,
-    passes: &'s [Instrumented<N, C>],
+    passes: &'s [InstrumentedStep<N, C>],
 ) -> Result<Vec<PassWork<'s>>, AllocError> {
     let mut works = Vec::new(alloc);
     for i in 0..rounds(passes) {
@@ -125,7 +125,7 @@ fn rewrite_row(alloc: Global, work: &PassWork) -> Result<Vec<String>, AllocError
 pub fn write_statistics<N: Notation, C: Progress + Drop>(
     alloc: Global,
     report: &mut String,
-    passes: &[Instrumented<N, C>],
+    passes: &[InstrumentedStep<N, C>],
 ) -> Result<(), AllocError> {
     let works = work_in_order(alloc, passes)?;
     let mut counts = Table::new(alloc);

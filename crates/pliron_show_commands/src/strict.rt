@@ -13,10 +13,10 @@ use crate::optimising::{OptOptions, opt, opt_after};
 use crate::outcome::{Outcome, failure_outcome};
 use crate::violation_message::violation_message;
 use pliron_core::Context;
-use pliron_driver_instrument::{Instrumented, InstrumentedPipeline, Progress};
+use pliron_driver_instrument::{InstrumentedPipeline, InstrumentedStep, Progress};
 use pliron_laws::OptError;
 use pliron_pass::{BenchFactKind, Pass};
-use pliron_show::Shown;
+use pliron_show::ShownNotation;
 use pliron_show_places::Source;
 use std::alloc::{AllocError, Global};
 
@@ -34,7 +34,7 @@ fn severity_of(verifies: bool) -> &'static str {
 /// nothing does, and for an unreadable text. With `verifies` it says that this was so in the input already.
 ///
 /// Errors: allocation failure. Cost: that of `check`.
-pub fn unfit_warning<N: Shown>(
+pub fn unfit_warning<N: ShownNotation>(
     alloc: Global,
     source: &Source,
     verifies: bool,
@@ -44,7 +44,7 @@ pub fn unfit_warning<N: Shown>(
 }
 
 // The same, where the context is empty.
-fn warning_in<N: Shown>(
+fn warning_in<N: ShownNotation>(
     alloc: Global,
     source: &Source,
     verifies: bool,
@@ -65,13 +65,13 @@ fn warning_in<N: Shown>(
 
 // Runs the passes where the text's operation is fit to run.
 #[tactic(auto, using(crate::proofs::StrictLemmas::anyway, crate::proofs::StrictLemmas::whole_fit, crate::proofs::StrictLemmas::parts_fit))]
-fn opt_if_fit<N: Shown, C: Progress + Copy + Drop>(
+fn opt_if_fit<N: ShownNotation, C: Progress + Copy + Drop>(
     alloc: Global,
     source: &Source,
     options: &OptOptions,
     clock: C,
 ) -> Result<Outcome, AllocError>
-    ensures answer { IfOk result (λ outcome. EndsByListWord ⟦<Instrumented<N, C> as Pass>⟧.name
+    ensures answer { IfOk result (λ outcome. EndsByListWord ⟦<InstrumentedStep<N, C> as Pass>⟧.name
         (λ pipeline. EndsOptimised N.reads N.prints N.faults N.D.meaning
         (RunsAlone ⟦<BenchFactKind as PartialEq>⟧.eq ⟦<InstrumentedPipeline<N, C> as Pass>⟧.outcome pipeline)
         options.now.instrumentation.verifies source.now.text.now)
@@ -98,14 +98,14 @@ fn opt_if_fit<N: Shown, C: Progress + Copy + Drop>(
 ///
 /// Statuses: those of `opt`; with `is_strict` 3 where the operation isn't fit to run. With all but 0 nothing is to be
 /// written to the output. Errors: allocation failure for what is reported. Cost: that of `check` and that of `opt`.
-pub fn opt_with_check<N: Shown, C: Progress + Copy + Drop>(
+pub fn opt_with_check<N: ShownNotation, C: Progress + Copy + Drop>(
     alloc: Global,
     source: &Source,
     options: &OptOptions,
     is_strict: bool,
     clock: C,
 ) -> Result<Outcome, AllocError>
-    ensures answer { IfOk result (λ outcome. EndsByListWord ⟦<Instrumented<N, C> as Pass>⟧.name
+    ensures answer { IfOk result (λ outcome. EndsByListWord ⟦<InstrumentedStep<N, C> as Pass>⟧.name
         (λ pipeline. EndsOptimised N.reads N.prints N.faults N.D.meaning
         (RunsAlone ⟦<BenchFactKind as PartialEq>⟧.eq ⟦<InstrumentedPipeline<N, C> as Pass>⟧.outcome pipeline)
         options.now.instrumentation.verifies source.now.text.now)

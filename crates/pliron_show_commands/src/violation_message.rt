@@ -1,14 +1,15 @@
 //! What is reported of a violation: the operand by its number and its name, where it is defined, and for an edge both
 //! counts.
 ghost use Rattle.std.specs.Prelude.{◌≡◌, codes, IfOk, string_bytes};
-ghost use Rattle.pliron_show_places.specs.Messages.{HasBeginning, heading};
+ghost use Rattle.pliron_text.specs.Beginnings.{BeginsWith};
+ghost use Rattle.pliron_show_places.specs.Messages.{heading};
 ghost use Rattle.pliron_show_commands.specs.Reports.{TellsRefusal};
 
 use crate::live_use::LiveUse;
 use pliron_core::{BasicBlock, Context, Def, Operation, Ptr, Region, Value};
 use pliron_laws::{Dialect, OptError};
 use pliron_pass_fit::Violation;
-use pliron_show::{Shown, push_value_name};
+use pliron_show::{ShownNotation, push_value_name};
 use pliron_show_places::{Source, SourceMark, TextPart, TextParts, mark_source_as};
 use std::alloc::{AllocError, Global};
 
@@ -387,7 +388,7 @@ impl ViolationText<'_> {
         part: Option<TextPart>,
         words: &ViolationWords,
     ) -> Result<String, AllocError>
-        ensures { IfOk result (λ message. HasBeginning (string_bytes message) (heading severity.now
+        ensures { IfOk result (λ message. BeginsWith (string_bytes message) (heading severity.now
             words.now.message.now)) }
     {
         let mark = SourceMark {
@@ -408,7 +409,7 @@ impl ViolationText<'_> {
 /// severity, the operation with a mark under it, what helps, and where the operand is defined or the block begins.
 ///
 /// Errors: allocation failure. Cost: linear in the text, and the depth of the operation.
-pub fn violation_message<N: Shown>(
+pub fn violation_message<N: ShownNotation>(
     alloc: Global,
     severity: &str,
     source: &Source,
@@ -432,7 +433,7 @@ pub fn violation_message<N: Shown>(
 /// has, the definition alone.
 ///
 /// Errors: allocation failure. Cost: linear in the text.
-pub(crate) fn live_use_message<N: Shown>(
+pub(crate) fn live_use_message<N: ShownNotation>(
     alloc: Global,
     source: &Source,
     found: &LiveUse,

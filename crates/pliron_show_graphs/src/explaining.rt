@@ -18,7 +18,7 @@ use pliron_opt_dce::dce;
 use pliron_opt_sccp::sccp;
 use pliron_pass_pipeline::{MAX_REWRITES, PassName};
 use pliron_rewrite_rules::Rules;
-use pliron_show::{Shown, read_shown};
+use pliron_show::{ShownNotation, read_shown};
 use pliron_show_places::TextParts;
 use std::alloc::{AllocError, Global};
 use std::marker::PhantomData;
@@ -81,7 +81,7 @@ fn make_rewrite<D: Dialect, L: Rules<D>>(
 
 /// A text that is explained.
 #[derive(Drop)]
-struct Explaining<'e, N: Shown> {
+struct Explaining<'e, N: ShownNotation> {
     alloc: Global,
     of: PhantomData<N>,
     text: &'e [u8],
@@ -94,7 +94,7 @@ struct Explaining<'e, N: Shown> {
     lines: String,
 }
 
-impl<N: Shown> Explaining<'_, N> {
+impl<N: ShownNotation> Explaining<'_, N> {
     // Writes a line for each reason.
     fn push_reasons(&mut self, pass: PassName, reasons: &Reasons<N>) -> Result<(), AllocError> {
         for reason in &reasons.reasons {
@@ -221,7 +221,7 @@ fn subjects(
 }
 
 // What the list did to the text, in this empty context; `None` for an unreadable text.
-fn explain_in<N: Shown>(
+fn explain_in<N: ShownNotation>(
     alloc: Global,
     text: &[u8],
     list: &PassList,
@@ -270,7 +270,7 @@ fn explain_in<N: Shown>(
 /// Each pass is made of its own calls, the tree before each call is compared with the tree after it, and the reason is
 /// what that call does. Errors: allocation failure, and those of the passes. Cost: reading, and for each pass its own
 /// cost and a step for all that is live.
-pub fn explain_changes<N: Shown>(
+pub fn explain_changes<N: ShownNotation>(
     alloc: Global,
     text: &[u8],
     list: &PassList,

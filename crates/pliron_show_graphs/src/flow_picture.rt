@@ -8,7 +8,7 @@ use crate::graph_row::{GraphRow, graph_rows};
 use pliron_core::{BasicBlock, Context, Operation, Ptr, Region};
 use pliron_laws::OptError;
 use pliron_laws::reads::all_operations;
-use pliron_show::{Shown, name_of_head};
+use pliron_show::{ShownNotation, name_of_head};
 use pliron_show_places::{TextParts, push_on_one_line};
 use std::alloc::{AllocError, Global};
 use std::marker::PhantomData;
@@ -151,7 +151,7 @@ struct FlowPicture<'p, N> {
     frames: u64,
 }
 
-impl<N: Shown> FlowPicture<'_, N> {
+impl<N: ShownNotation> FlowPicture<'_, N> {
     // The label of an operation: its words, and the paths to its regions. `path` leads to the operation.
     fn push_operation(
         &mut self,
@@ -400,7 +400,7 @@ fn title_of(title: &str) -> [Attribute<'_>; 3] {
 /// The picture of a region of the text's operation. Asks that the region is live, and that edges are last in the
 /// operation that holds it (`edges_last` tests it). Errors: allocation failure. Cost: linear in the text, and that of
 /// `graph_rows` for each region that is drawn.
-pub fn flow_picture<N: Shown>(
+pub fn flow_picture<N: ShownNotation>(
     alloc: Global,
     text: &[u8],
     ctx: &Context,

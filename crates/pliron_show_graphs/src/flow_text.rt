@@ -9,7 +9,7 @@ use crate::flow_picture::{FlowOptions, flow_picture};
 use crate::region_path::region_at;
 use pliron_core::{Context, Ptr, Region};
 use pliron_laws::{OptError, edges_last};
-use pliron_show::Shown;
+use pliron_show::ShownNotation;
 use std::alloc::Global;
 
 /// The result of drawing a text.
@@ -33,7 +33,7 @@ pub(crate) fn may_be_read(ctx: &Context, region: Ptr<Region>) -> bool
 }
 
 // The picture of the region that is asked for, in this empty context.
-fn flow_in<N: Shown>(
+fn flow_in<N: ShownNotation>(
     alloc: Global,
     text: &[u8],
     options: &FlowOptions,
@@ -61,7 +61,7 @@ fn flow_in<N: Shown>(
 /// regions inside in frames, and a title.
 ///
 /// Errors: allocation failure. Cost: reading, and that of `graph_rows`.
-pub fn text_flow<N: Shown>(
+pub fn text_flow<N: ShownNotation>(
     alloc: Global,
     text: &[u8],
     options: &FlowOptions,

@@ -5,7 +5,7 @@ use crate::pass_list::PassList;
 use pliron_core::{Contents, Context, Def, Operation, Ptr, Value};
 use pliron_laws::{ConstFoldInterface, SideEffects};
 use pliron_pass_pipeline::PassName;
-use pliron_show::{Shown, push_value_name};
+use pliron_show::{ShownNotation, push_value_name};
 use pliron_show_places::{TextParts, push_on_one_line};
 use std::alloc::{AllocError, Global};
 use std::marker::PhantomData;
@@ -30,14 +30,14 @@ struct MissedKind {
 
 /// What is reported of what stayed.
 #[derive(Drop)]
-struct MissedReport<'m, N: Shown> {
+struct MissedReport<'m, N: ShownNotation> {
     alloc: Global,
     of: PhantomData<N>,
     reported: &'m MissedText<'m, N::Sheet>,
 }
 
 // Whether an operation makes the value as a constant.
-fn is_constant<N: Shown>(
+fn is_constant<N: ShownNotation>(
     alloc: Global,
     ctx: &Context,
     value: Value,
@@ -53,7 +53,7 @@ fn is_constant<N: Shown>(
 }
 
 // The first operand that no operation makes as a constant, among the first so many.
-fn unknown_operand<N: Shown>(
+fn unknown_operand<N: ShownNotation>(
     alloc: Global,
     ctx: &Context,
     op: Ptr<Operation>,
@@ -78,7 +78,7 @@ fn is_fork(ctx: &Context, op: Ptr<Operation>) -> bool
 }
 
 // Whether the operation may have side effects, as the dialect says.
-fn has_effects<N: Shown>(ctx: &Context, op: Ptr<Operation>) -> bool
+fn has_effects<N: ShownNotation>(ctx: &Context, op: Ptr<Operation>) -> bool
     requires { IsLive ctx.now.tree op }
 {
     N::D::has_side_effects(op, ctx) == Some(true)
@@ -97,7 +97,7 @@ fn is_used(ctx: &Context, op: Ptr<Operation>) -> bool
     false
 }
 
-impl<N: Shown> MissedReport<'_, N> {
+impl<N: ShownNotation> MissedReport<'_, N> {
     // Whether the list has the pass.
     fn has(&self, pass: PassName) -> bool {
         self.reported.list.passes.iter().any(|other| *other == pass)
@@ -228,7 +228,7 @@ impl<N: Shown> MissedReport<'_, N> {
 /// Adds a line with place and reason for each operation of the text inside the root that the list's passes left alone
 /// though they change operations of its kind; nothing where the root isn't live. Errors: allocation failure. Cost:
 /// linear in what is live.
-pub fn push_missed<N: Shown>(
+pub fn push_missed<N: ShownNotation>(
     alloc: Global,
     reported: &MissedText<N::Sheet>,
     root: Ptr<Operation>,

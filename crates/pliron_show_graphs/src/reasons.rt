@@ -3,7 +3,7 @@ ghost use Rattle.pliron_core.specs.Tree.{IsBlock, IsDefined, IsLive};
 
 use crate::tree_state::{BlockSnapshot, OperationState, TreeState};
 use pliron_core::{BasicBlock, Context, Def, Operation, Ptr, Value};
-use pliron_show::{Shown, name_of_head, push_value_name};
+use pliron_show::{ShownNotation, name_of_head, push_value_name};
 use pliron_show_places::{TextPart, TextParts, push_on_one_line};
 use std::alloc::{AllocError, Global};
 use std::collections::{HashMap, HashSet};
@@ -43,7 +43,7 @@ const SHOWN: usize = 60;
 
 /// What is reported of a rewrite, so far.
 #[derive(Drop)]
-pub struct Reasons<'t, N: Shown> {
+pub struct Reasons<'t, N: ShownNotation> {
     alloc: Global,
     of: PhantomData<N>,
     text: &'t [u8],
@@ -62,7 +62,7 @@ pub struct Reasons<'t, N: Shown> {
 }
 
 // The constant that the value is, as people read it, where an operation makes it.
-fn constant_made<N: Shown>(
+fn constant_made<N: ShownNotation>(
     alloc: Global,
     ctx: &Context,
     value: Value,
@@ -93,7 +93,7 @@ fn part_phrases(why: &mut String) -> Result<(), AllocError> {
     why.push_str(if why.is_empty() { "" } else { ", " })
 }
 
-impl<'t, N: Shown> Reasons<'t, N> {
+impl<'t, N: ShownNotation> Reasons<'t, N> {
     /// No reasons so far, for a text with these words and this sheet. Cost: constant.
     pub fn new(
         alloc: Global,
@@ -185,7 +185,7 @@ impl<'t, N: Shown> Reasons<'t, N> {
     }
 }
 
-impl<N: Shown> Reasons<'_, N> {
+impl<N: ShownNotation> Reasons<'_, N> {
     // Notes the constants that operands of the operation name now.
     fn note_constants(&mut self, ctx: &Context, state: &OperationState) -> Result<(), AllocError>
         requires { IsLive ctx.now.tree state.now.op }

@@ -12,7 +12,7 @@ use pliron_dialect_mlir::{Class, class_of_head};
 use pliron_driver::{Notation, TextFailure};
 use pliron_driver_mlir::{ModuleDocument, ModuleFault};
 use pliron_laws::OptError;
-use pliron_show::{NameScopes, NameSource, NewNames, Shown};
+use pliron_show::{NameScopes, NameSource, NewNames, ShownNotation};
 use pliron_show_places::{Source, SourceMark, TextParts, mark_source};
 use pliron_text_mlir_printer::{Naming, print_module_named};
 use pliron_text_mlir_syntax::Sheet;
@@ -73,7 +73,7 @@ impl NameScopes for MlirNotation {
     }
 }
 
-impl Shown for MlirNotation {
+impl ShownNotation for MlirNotation {
     ghost faults = { faults_as_unreadable };
 
     fn fault_message(alloc: Global, source: &Source) -> Result<Option<String>, OptError> {

@@ -1,7 +1,8 @@
 //! What is reported of texts outside the notation.
 ghost use Rattle.std.specs.Prelude.{codes, IfOk, IfSome, IsOkUnless, string_bytes};
 ghost use Rattle.pliron_laws.specs.declared.fault.OptError.TheVariants.{Memory};
-ghost use Rattle.pliron_show_places.specs.Messages.{HasBeginning, heading};
+ghost use Rattle.pliron_text.specs.Beginnings.{BeginsWith};
+ghost use Rattle.pliron_show_places.specs.Messages.{heading};
 
 use crate::fault_label::{FaultLabel, bench_label_of, label_of};
 use crate::source_mark::{SourceMark, mark_source};
@@ -16,7 +17,7 @@ fn message_with(
     text: &[u8],
     label: &FaultLabel,
 ) -> Result<String, AllocError>
-    ensures { IfOk result (λ message. HasBeginning (string_bytes message) (heading (codes "error")
+    ensures { IfOk result (λ message. BeginsWith (string_bytes message) (heading (codes "error")
         (codes "unreadable text"))) }
 {
     let mark = SourceMark {
@@ -34,7 +35,7 @@ fn message_with(
 ///
 /// Errors: allocation failure. Cost: that of reading.
 pub fn text_fault(alloc: Global, name: &str, text: &[u8]) -> Result<Option<String>, OptError>
-    ensures heading { IfOk result (λ found. IfSome found (λ message. HasBeginning (string_bytes message)
+    ensures heading { IfOk result (λ found. IfSome found (λ message. BeginsWith (string_bytes message)
         (heading (codes "error") (codes "unreadable text")))) }
     ensures memory { IsOkUnless result OptError.Memory }
 {
@@ -53,7 +54,7 @@ pub fn kind_fault<K: Grammar>(
     name: &str,
     text: &[u8],
 ) -> Result<Option<String>, OptError>
-    ensures heading { IfOk result (λ found. IfSome found (λ message. HasBeginning (string_bytes message)
+    ensures heading { IfOk result (λ found. IfSome found (λ message. BeginsWith (string_bytes message)
         (heading (codes "error") (codes "unreadable text")))) }
     ensures memory { IsOkUnless result OptError.Memory }
 {

@@ -1,12 +1,12 @@
 //! What is said under the place where a text leaves the notation: all that fits there, and the word that was meant.
 use crate::kind_words::{kind_word, meant_bench_kind, meant_kind};
-use crate::source_mark::position_of;
 use crate::text_tokens::{
     bytes_of, definition_before, first_token, is_followed_by, is_head, open_brace, token_before,
     token_behind,
 };
 use pliron_dialect_bench::BenchKind;
-use pliron_text::{Count, Expected, Grammar, Span, Tail, TextFault};
+use pliron_text::{Count, ExpectedItem, Grammar, Span, Tail, TextFault};
+use pliron_text_positions::position_of;
 use std::alloc::{AllocError, Global};
 
 /// A place of a text, and what is said there.
@@ -183,19 +183,19 @@ fn push_stray(place: FaultPlace, reported: &mut String) -> Result<(), AllocError
 }
 
 // What fits where a kind of `Bench` was expected.
-fn fitting_kinds(place: FaultPlace, expected: Expected) -> Option<&'static str> {
+fn fitting_kinds(place: FaultPlace, expected: ExpectedItem) -> Option<&'static str> {
     match expected {
-        Expected::KindWithoutResults => Some(
+        ExpectedItem::KindWithoutResults => Some(
             "a kind of operations with no results: `print`, `sink`, `scope`, `box`, `br`, `cbr`, `fork` or `ret`",
         ),
-        Expected::KindWithOneResult => Some(
+        ExpectedItem::KindWithOneResult => Some(
             "a kind of operations with one result: `const`, `add`, `mul`, `div` or `read`",
         ),
-        Expected::KindWithTwoResults => Some("a kind of operations with two results: `pair`"),
-        Expected::Kind if place.is_behind(b"=") => Some(
+        ExpectedItem::KindWithTwoResults => Some("a kind of operations with two results: `pair`"),
+        ExpectedItem::Kind if place.is_behind(b"=") => Some(
             "a kind of operations with results: `const`, `add`, `mul`, `div`, `read` or `pair`",
         ),
-        Expected::Kind => Some("an operation or a block"),
+        ExpectedItem::Kind => Some("an operation or a block"),
         _ => None,
     }
 }
@@ -211,14 +211,14 @@ fn operand_ends<K: Grammar>(place: FaultPlace, kind: K) -> Option<&'static str> 
 }
 
 // What fits where a list may go on or end, or a region begin.
-fn list_ends<K: Grammar>(place: FaultPlace, expected: Expected) -> Option<&'static str> {
-    if expected == Expected::Value && place.opens_list() {
+fn list_ends<K: Grammar>(place: FaultPlace, expected: ExpectedItem) -> Option<&'static str> {
+    if expected == ExpectedItem::Value && place.opens_list() {
         return Some("the name of a value or `)`");
     }
     let kind = place.kind::<K>()?;
     match (expected, kind.tail()) {
-        (Expected::SemicolonOrEnd, Tail::AnyOperands) => operand_ends(place, kind),
-        (Expected::OpenBrace, Tail::AnyOperands) => Some("the name of a value or `{`"),
+        (ExpectedItem::SemicolonOrEnd, Tail::AnyOperands) => operand_ends(place, kind),
+        (ExpectedItem::OpenBrace, Tail::AnyOperands) => Some("the name of a value or `{`"),
         _ => None,
     }
 }
@@ -227,7 +227,7 @@ fn list_ends<K: Grammar>(place: FaultPlace, expected: Expected) -> Option<&'stat
 fn push_fitting<K: Grammar>(
     alloc: Global,
     place: FaultPlace,
-    expected: Expected,
+    expected: ExpectedItem,
     reported: &mut String,
 ) -> Result<(), AllocError> {
     match list_ends::<K>(place, expected) {
@@ -237,14 +237,14 @@ fn push_fitting<K: Grammar>(
 }
 
 // What else may be said of a token where another was expected.
-fn hint_of(place: FaultPlace, expected: Expected) -> &'static str {
+fn hint_of(place: FaultPlace, expected: ExpectedItem) -> &'static str {
     match (expected, place.bytes()) {
-        (Expected::End, b"}") => "; this `}` closes nothing",
-        (Expected::BlockOfRegion | Expected::BlockOrEnd, _)
+        (ExpectedItem::End, b"}") => "; this `}` closes nothing",
+        (ExpectedItem::BlockOfRegion | ExpectedItem::BlockOrEnd, _)
             if is_followed_by(place.text, place.span, b"=") => {
             ": operations stand in blocks, as `b0(): ..`"
         }
-        (Expected::KindWithOneResult, b"func" | b"mod") => "; this one has none",
+        (ExpectedItem::KindWithOneResult, b"func" | b"mod") => "; this one has none",
         _ => "",
     }
 }
@@ -253,7 +253,7 @@ fn hint_of(place: FaultPlace, expected: Expected) -> &'static str {
 // value that is defined again. Errors: allocation failure. Cost: linear in the text before the place.
 fn push_origin(
     place: FaultPlace,
-    expected: Expected,
+    expected: ExpectedItem,
     reported: &mut String,
 ) -> Result<(), AllocError> {
     if place.bytes().is_empty()
@@ -266,12 +266,15 @@ fn push_origin(
             at.line, at.column
         );
     }
-    let begins_names: &[u8] = if expected == Expected::NewValue {
+    let begins_names: &[u8] = if expected == ExpectedItem::NewValue {
         b"func"
     } else {
         b""
     };
-    if matches!(expected, Expected::NewValue | Expected::NewValueOfText)
+    if matches!(
+        expected,
+        ExpectedItem::NewValue | ExpectedItem::NewValueOfText
+    )
         && let Some(first) = definition_before(place.text, place.span, begins_names)
     {
         let at = position_of(place.text, first.start);
@@ -284,9 +287,9 @@ fn push_origin(
 fn kind_label(
     alloc: Global,
     place: FaultPlace,
-    expected: Expected,
+    expected: ExpectedItem,
 ) -> Result<Option<FaultLabel>, AllocError> {
-    let is_root = expected == Expected::Root;
+    let is_root = expected == ExpectedItem::Root;
     let Some(word) = meant_bench_kind(place.bytes(), is_root) else {
         return Ok(None);
     };
@@ -326,24 +329,24 @@ fn result_label<K: Grammar>(
 }
 
 // Whether a block's name may be what is wrong where this was expected.
-fn may_be_block(expected: Expected) -> bool {
+fn may_be_block(expected: ExpectedItem) -> bool {
     matches!(
         expected,
-        Expected::BlockOfRegion
-            | Expected::BlockOrEnd
-            | Expected::OperationOrBlock
-            | Expected::OperationOrEnd
-            | Expected::Block
-            | Expected::NewBlock
-            | Expected::BlockAfterBranch
-            | Expected::TopKind
-            | Expected::InnerKind
-            | Expected::CommaOrEquals
-            | Expected::Equals
-            | Expected::Value
-            | Expected::SemicolonOrEnd
-            | Expected::Number
-            | Expected::OpenBrace
+        ExpectedItem::BlockOfRegion
+            | ExpectedItem::BlockOrEnd
+            | ExpectedItem::OperationOrBlock
+            | ExpectedItem::OperationOrEnd
+            | ExpectedItem::Block
+            | ExpectedItem::NewBlock
+            | ExpectedItem::BlockAfterBranch
+            | ExpectedItem::TopKind
+            | ExpectedItem::InnerKind
+            | ExpectedItem::CommaOrEquals
+            | ExpectedItem::Equals
+            | ExpectedItem::Value
+            | ExpectedItem::SemicolonOrEnd
+            | ExpectedItem::Number
+            | ExpectedItem::OpenBrace
     )
 }
 
@@ -351,7 +354,7 @@ fn may_be_block(expected: Expected) -> bool {
 fn telling_label<K: Grammar>(
     alloc: Global,
     place: FaultPlace,
-    expected: Expected,
+    expected: ExpectedItem,
 ) -> Result<Option<FaultLabel>, AllocError> {
     if may_be_block(expected)
         && let Some(label) = place.block_label::<K>(alloc)?
@@ -359,9 +362,9 @@ fn telling_label<K: Grammar>(
         return Ok(Some(label));
     }
     match expected {
-        Expected::Block => place.reserved_label::<K>(alloc, "the name of a block"),
-        Expected::Value => value_label::<K>(alloc, place),
-        Expected::KindWithoutResults => result_label::<K>(alloc, place),
+        ExpectedItem::Block => place.reserved_label::<K>(alloc, "the name of a block"),
+        ExpectedItem::Value => value_label::<K>(alloc, place),
+        ExpectedItem::KindWithoutResults => result_label::<K>(alloc, place),
         _ => Ok(None),
     }
 }
@@ -370,11 +373,11 @@ fn telling_label<K: Grammar>(
 fn meant_bench_label(
     alloc: Global,
     place: FaultPlace,
-    expected: Expected,
+    expected: ExpectedItem,
 ) -> Result<Option<FaultLabel>, AllocError> {
     match expected {
-        Expected::CommaOrEquals | Expected::Equals => place.first_word_label(alloc),
-        Expected::Kind | Expected::Root => kind_label(alloc, place, expected),
+        ExpectedItem::CommaOrEquals | ExpectedItem::Equals => place.first_word_label(alloc),
+        ExpectedItem::Kind | ExpectedItem::Root => kind_label(alloc, place, expected),
         _ => Ok(None),
     }
 }
@@ -383,11 +386,11 @@ fn meant_bench_label(
 fn meant_label<K: Grammar>(
     alloc: Global,
     place: FaultPlace,
-    expected: Expected,
+    expected: ExpectedItem,
 ) -> Result<Option<FaultLabel>, AllocError> {
     let span = match expected {
-        Expected::CommaOrEquals | Expected::Equals => place.first().unwrap_or(place.span),
-        Expected::Kind => place.span,
+        ExpectedItem::CommaOrEquals | ExpectedItem::Equals => place.first().unwrap_or(place.span),
+        ExpectedItem::Kind => place.span,
         _ => return Ok(None),
     };
     match meant_kind::<K>(bytes_of(place.text, span)) {
@@ -400,11 +403,11 @@ fn meant_label<K: Grammar>(
 fn fitting_label<K: Grammar>(
     alloc: Global,
     place: FaultPlace,
-    expected: Expected,
+    expected: ExpectedItem,
     kinds: Option<&'static str>,
 ) -> Result<FaultLabel, AllocError> {
     let mut reported = String::new(alloc);
-    if expected == Expected::Token {
+    if expected == ExpectedItem::Token {
         push_stray(place, &mut reported)?;
     } else {
         reported.push_str("expected ")?;

@@ -1,43 +1,13 @@
 //! Marks under a part of a text.
 ghost use Rattle.std.specs.Prelude.{◌≡◌, ◌+◌, ◌==◌, ◌≤◌, length, take, take_while, reverse, not, codes, IfOk, string_bytes};
-ghost use Rattle.pliron_show_places.specs.Messages.{HasBeginning, heading};
-ghost use Rattle.pliron_show_places.specs.Position.{is_line_end, line_behind, column_behind};
+ghost use Rattle.pliron_text.specs.Beginnings.{BeginsWith};
+ghost use Rattle.pliron_show_places.specs.Messages.{heading};
 
+use pliron_text_positions::position_of;
 use std::alloc::{AllocError, Global};
 
 /// How many bytes of a line are shown at most before what is marked, and behind it.
 const AROUND: usize = 50;
-
-/// Where a byte of a text is, counted from 1, columns by bytes.
-#[derive(Clone, Copy)]
-pub struct Position {
-    pub line: usize,
-    pub column: usize,
-}
-
-// How many bytes are behind the last end of a line.
-fn last_line_len(text: &[u8]) -> usize
-    ensures { result ≡ length (take_while (λ byte. not (is_line_end byte)) (reverse text.now)) }
-{
-    let mut len = 0;
-    for byte in text {
-        len = if *byte == b'\n' { 0 } else { len + 1 };
-    }
-    len
-}
-
-/// Where the byte after so many is. Cost: linear in these.
-pub fn position_of(text: &[u8], start: usize) -> Position
-    ensures line { result.line ≡ line_behind (take start text.now) }
-    ensures column { result.column ≡ column_behind (take start text.now) }
-{
-    let before = &text[..start.min(text.len())];
-    let line_ends = before.iter().filter(|byte| **byte == b'\n').count();
-    Position {
-        line: 1 + line_ends,
-        column: 1 + last_line_len(before),
-    }
-}
 
 /// A text, and where it is from.
 #[derive(Clone, Copy)]
@@ -122,7 +92,7 @@ fn push_times(text: &mut String, mark: &str, times: usize) -> Result<(), AllocEr
 ///
 /// Errors: allocation failure. Cost: linear in the text before the part, and in what is shown.
 pub fn mark_source(alloc: Global, text: &[u8], mark: &SourceMark) -> Result<String, AllocError>
-    ensures { IfOk result (λ reported. HasBeginning (string_bytes reported) (heading (codes "error")
+    ensures { IfOk result (λ reported. BeginsWith (string_bytes reported) (heading (codes "error")
         mark.now.message.now)) }
 {
     mark_source_as(alloc, "error", text, mark)
@@ -136,7 +106,7 @@ pub fn mark_source_as(
     text: &[u8],
     mark: &SourceMark,
 ) -> Result<String, AllocError>
-    ensures { IfOk result (λ reported. HasBeginning (string_bytes reported) (heading severity.now
+    ensures { IfOk result (λ reported. BeginsWith (string_bytes reported) (heading severity.now
         mark.now.message.now)) }
 {
     let mut reported = format!(in alloc; "{severity}: {}\n", mark.message)?;

@@ -1,4 +1,5 @@
-pub mod Notation
+pub mod Beginnings
 pub mod Building
 pub mod Laid
+pub mod Notation
 pub mod Printing

@@ -1,5 +1,5 @@
 //! Tokens, taken one by one.
-use crate::expected::Expected;
+use crate::expected::ExpectedItem;
 use crate::stop::Stop;
 use crate::tokens::{Name, Token};
 use crate::word_table::Word;
@@ -24,12 +24,12 @@ impl<'t, K: Word> Cursor<'t, K> {
     }
 
     /// Something other than the next token was expected. Cost: constant.
-    pub fn stop(&self, expected: Expected) -> Stop {
+    pub fn stop(&self, expected: ExpectedItem) -> Stop {
         Stop::at(self.taken, expected)
     }
 
     /// Something other than the token that was taken last was expected. Cost: constant.
-    pub fn stop_before(&self, expected: Expected) -> Stop {
+    pub fn stop_before(&self, expected: ExpectedItem) -> Stop {
         Stop::at(self.last(), expected)
     }
 
@@ -68,7 +68,7 @@ impl<'t, K: Word> Cursor<'t, K> {
     }
 
     /// Takes the given token. Errors: `Unreadable` where another one or none is left. Cost: constant.
-    pub fn expect(&mut self, token: Token<K>, expected: Expected) -> Result<(), Stop> {
+    pub fn expect(&mut self, token: Token<K>, expected: ExpectedItem) -> Result<(), Stop> {
         if self.accept(token) {
             Ok(())
         } else {
@@ -77,7 +77,7 @@ impl<'t, K: Word> Cursor<'t, K> {
     }
 
     /// Takes a name. Errors: `Unreadable` where none comes next. Cost: constant.
-    pub fn name(&mut self, expected: Expected) -> Result<Name, Stop> {
+    pub fn name(&mut self, expected: ExpectedItem) -> Result<Name, Stop> {
         match self.accept_name() {
             Some(name) => Ok(name),
             None => Err(self.stop(expected)),
@@ -91,12 +91,12 @@ impl<'t, K: Word> Cursor<'t, K> {
                 self.skip();
                 Ok(number)
             }
-            _ => Err(self.stop(Expected::Number)),
+            _ => Err(self.stop(ExpectedItem::Number)),
         }
     }
 
     /// Takes a kind. Errors: `Unreadable` where none comes next. Cost: constant.
-    pub fn kind(&mut self, expected: Expected) -> Result<K, Stop> {
+    pub fn kind(&mut self, expected: ExpectedItem) -> Result<K, Stop> {
         match self.peek() {
             Some(Token::Kind(kind)) => {
                 self.skip();

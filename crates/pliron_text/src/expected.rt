@@ -3,7 +3,7 @@ use thiserror::Error;
 
 /// What was expected where a text leaves the notation.
 #[derive(Clone, Copy, Debug, Drop, PartialEq, Eq, Error)]
-pub enum Expected {
+pub enum ExpectedItem {
     #[error("a word, a number or one of `{{ }} ( ) , : ; =`")]
     Token,
     #[error("a number from -2^63 to 2^63 - 1, without leading zeros")]
@@ -82,5 +82,5 @@ pub enum Expected {
 #[derive(Clone, Copy, Debug, Drop, PartialEq, Eq)]
 pub struct SyntaxFault {
     pub token: usize,
-    pub expected: Expected,
+    pub expected: ExpectedItem,
 }

@@ -20,7 +20,7 @@ pub mod tokens;
 mod word_table;
 
 pub use bench::{find_text_fault, print_text, read_text};
-pub use expected::{Expected, SyntaxFault};
+pub use expected::{ExpectedItem, SyntaxFault};
 pub use grammar::{Body, Count, Grammar, Tail};
 pub use printer::{number_of, print_operation};
 pub use reader::{TextFault, find_fault, read_operation};

@@ -1,6 +1,6 @@
 //! From tokens to syntax.
 use crate::cursor::Cursor;
-use crate::expected::Expected;
+use crate::expected::ExpectedItem;
 use crate::grammar::{Body, Count, Grammar, Tail};
 use crate::labels::{Label, Labels};
 use crate::stop::Stop;
@@ -150,17 +150,17 @@ impl<K: Grammar> Parser<'_, K> {
         if self.outer.is_empty() && self.cursor.len() == 0 {
             Ok(())
         } else {
-            Err(self.cursor.stop(Expected::End))
+            Err(self.cursor.stop(ExpectedItem::End))
         }
     }
 
     // Reads the kind of a whole text that stands at the top.
     fn top_kind(&mut self) -> Result<K, Stop> {
-        let kind = self.cursor.kind(Expected::Root)?;
+        let kind = self.cursor.kind(ExpectedItem::Root)?;
         if kind.is_top() {
             Ok(kind)
         } else {
-            Err(self.cursor.stop_before(Expected::Root))
+            Err(self.cursor.stop_before(ExpectedItem::Root))
         }
     }
 
@@ -180,15 +180,15 @@ impl<K: Grammar> Parser<'_, K> {
     }
 
     // What was expected next in the region, after this and with a semicolon or without one.
-    fn expectation(&self, place: LastRead, is_parted: bool) -> Expected {
+    fn expectation(&self, place: LastRead, is_parted: bool) -> ExpectedItem {
         match (place, is_parted) {
-            (LastRead::RegionStart, _) if self.region.needs_block() => Expected::BlockOfRegion,
-            (LastRead::RegionStart, _) => Expected::BlockOrEnd,
-            (LastRead::BlockStart, false) => Expected::OperationOrEnd,
-            (LastRead::BlockStart, true) => Expected::Block,
-            (LastRead::Branch, true) => Expected::BlockAfterBranch,
-            (_, false) => Expected::SemicolonOrEnd,
-            (_, true) => Expected::OperationOrBlock,
+            (LastRead::RegionStart, _) if self.region.needs_block() => ExpectedItem::BlockOfRegion,
+            (LastRead::RegionStart, _) => ExpectedItem::BlockOrEnd,
+            (LastRead::BlockStart, false) => ExpectedItem::OperationOrEnd,
+            (LastRead::BlockStart, true) => ExpectedItem::Block,
+            (LastRead::Branch, true) => ExpectedItem::BlockAfterBranch,
+            (_, false) => ExpectedItem::SemicolonOrEnd,
+            (_, true) => ExpectedItem::OperationOrBlock,
         }
     }
 
@@ -209,9 +209,10 @@ impl<K: Grammar> Parser<'_, K> {
     // Opens the region at this place of an operation.
     fn open_region(&mut self, parent: Parent, place: usize) -> Result<(), Stop> {
         if self.outer.len() >= MAX_DEPTH {
-            return Err(self.cursor.stop_before(Expected::FewerRegions));
+            return Err(self.cursor.stop_before(ExpectedItem::FewerRegions));
         }
-        self.cursor.expect(Token::OpenBrace, Expected::OpenBrace)?;
+        self.cursor
+            .expect(Token::OpenBrace, ExpectedItem::OpenBrace)?;
         let number = self.places.len();
         let operation = parent.operation;
         self.places.push(RegionPlace { operation, place })?;
@@ -235,7 +236,7 @@ impl<K: Grammar> Parser<'_, K> {
     // Ends the region, and opens the next one of the same operation, if there is one. The brace is taken.
     fn close_region(&mut self, last: LastRead) -> Result<LastRead, Stop> {
         if self.region.needs_block() && last == LastRead::RegionStart {
-            return Err(self.cursor.stop_before(Expected::BlockOfRegion));
+            return Err(self.cursor.stop_before(ExpectedItem::BlockOfRegion));
         }
         let UnclosedRegion { parent, place, .. } = self.region;
         if let Some(region) = self.outer.pop() {
@@ -246,16 +247,17 @@ impl<K: Grammar> Parser<'_, K> {
 
     // Reads the head of a block.
     fn block(&mut self) -> Result<LastRead, Stop> {
-        let name = self.cursor.name(Expected::Block)?;
+        let name = self.cursor.name(ExpectedItem::Block)?;
         let number = self.syntax.blocks.len();
         let scope = self.region.number;
         let token = self.cursor.last();
         if !self.blocks.define(Label { scope, name }, number, token)? {
-            return Err(Stop::at(token, Expected::NewBlock));
+            return Err(Stop::at(token, ExpectedItem::NewBlock));
         }
-        self.cursor.expect(Token::OpenRound, Expected::OpenRound)?;
+        self.cursor
+            .expect(Token::OpenRound, ExpectedItem::OpenRound)?;
         let arguments = self.arguments()?;
-        self.cursor.expect(Token::Colon, Expected::Colon)?;
+        self.cursor.expect(Token::Colon, ExpectedItem::Colon)?;
         self.syntax.steps.push(SyntaxStep::Block(number))?;
         self.syntax.blocks.push(BlockText {
             region: scope,
@@ -273,17 +275,17 @@ impl<K: Grammar> Parser<'_, K> {
             return Ok(0);
         }
         if self.region.is_module() {
-            return Err(self.cursor.stop(Expected::NoArguments));
+            return Err(self.cursor.stop(ExpectedItem::NoArguments));
         }
         // Each turn takes a token.
         for _ in 0..self.cursor.len() {
-            let name = self.cursor.name(Expected::Value)?;
+            let name = self.cursor.name(ExpectedItem::Value)?;
             self.define(name)?;
             if self.is_list_end()? {
                 return Ok(self.syntax.values.saturating_sub(first));
             }
         }
-        Err(self.cursor.stop(Expected::Value))
+        Err(self.cursor.stop(ExpectedItem::Value))
     }
 
     // Reads what follows a member of a list in brackets, and answers whether it is the closing one.
@@ -292,7 +294,7 @@ impl<K: Grammar> Parser<'_, K> {
             return Ok(true);
         }
         self.cursor
-            .expect(Token::Comma, Expected::CommaOrCloseRound)?;
+            .expect(Token::Comma, ExpectedItem::CommaOrCloseRound)?;
         Ok(false)
     }
 
@@ -343,7 +345,7 @@ impl<K: Grammar> Parser<'_, K> {
     // Adds an operation to the last block of the region, and answers its number.
     fn add_operation(&mut self, mut text: OperationText) -> Result<usize, Stop> {
         let Some(block) = self.region.block else {
-            return Err(self.cursor.stop_before(Expected::BlockOfRegion));
+            return Err(self.cursor.stop_before(ExpectedItem::BlockOfRegion));
         };
         text.block = block;
         let number = self.syntax.add_operation(text)?;
@@ -358,13 +360,13 @@ impl<K: Grammar> Parser<'_, K> {
     #[inline(always)]
     fn kind(&mut self) -> Result<(K, usize), Stop> {
         let count = self.results()?;
-        let kind = self.cursor.kind(Expected::Kind)?;
+        let kind = self.cursor.kind(ExpectedItem::Kind)?;
         let in_module = self.region.is_module();
         if kind.is_top() != in_module {
             let expected = if in_module {
-                Expected::TopKind
+                ExpectedItem::TopKind
             } else {
-                Expected::InnerKind
+                ExpectedItem::InnerKind
             };
             return Err(self.cursor.stop_before(expected));
         }
@@ -387,11 +389,12 @@ impl<K: Grammar> Parser<'_, K> {
             if self.cursor.accept(Token::Equals) {
                 return Ok(count);
             }
-            self.cursor.expect(Token::Comma, Expected::CommaOrEquals)?;
-            let name = self.cursor.name(Expected::Value)?;
+            self.cursor
+                .expect(Token::Comma, ExpectedItem::CommaOrEquals)?;
+            let name = self.cursor.name(ExpectedItem::Value)?;
             self.define(name)?;
         }
-        self.cursor.expect(Token::Equals, Expected::Equals)?;
+        self.cursor.expect(Token::Equals, ExpectedItem::Equals)?;
         Ok(K::most_results())
     }
 
@@ -423,7 +426,7 @@ impl<K: Grammar> Parser<'_, K> {
     // Reads an operand.
     #[inline(always)]
     fn operand(&mut self, text: &mut OperationText) -> Result<(), Stop> {
-        let name = self.cursor.name(Expected::Value)?;
+        let name = self.cursor.name(ExpectedItem::Value)?;
         self.add_operand(name, text)
     }
 
@@ -451,7 +454,7 @@ impl<K: Grammar> Parser<'_, K> {
 
     // Reads a successor.
     fn successor(&mut self, text: &mut OperationText) -> Result<(), Stop> {
-        let name = self.cursor.name(Expected::Block)?;
+        let name = self.cursor.name(ExpectedItem::Block)?;
         let scope = self.region.number;
         let mention = self.cursor.last();
         let place = self.blocks.place(Label { scope, name }, mention)?;
@@ -462,7 +465,8 @@ impl<K: Grammar> Parser<'_, K> {
     // Reads a successor and what is forwarded to it.
     fn edge(&mut self, text: &mut OperationText) -> Result<(), Stop> {
         self.successor(text)?;
-        self.cursor.expect(Token::OpenRound, Expected::OpenRound)?;
+        self.cursor
+            .expect(Token::OpenRound, ExpectedItem::OpenRound)?;
         if self.cursor.accept(Token::CloseRound) {
             return Ok(());
         }
@@ -473,7 +477,7 @@ impl<K: Grammar> Parser<'_, K> {
                 return Ok(());
             }
         }
-        Err(self.cursor.stop(Expected::Value))
+        Err(self.cursor.stop(ExpectedItem::Value))
     }
 
     // Reads a condition and two edges.
@@ -490,10 +494,10 @@ impl<K: Grammar> Parser<'_, K> {
         match (self.values.first_undefined(), self.blocks.first_undefined()) {
             (None, None) => {}
             (Some(value), Some(block)) if block < value => {
-                return Err(Stop::at(block, Expected::DefinedBlock));
+                return Err(Stop::at(block, ExpectedItem::DefinedBlock));
             }
             (Some(value), _) => return Err(Stop::at(value, defined_value::<K>())),
-            (None, Some(block)) => return Err(Stop::at(block, Expected::DefinedBlock)),
+            (None, Some(block)) => return Err(Stop::at(block, ExpectedItem::DefinedBlock)),
         }
         self.values
             .resolve(self.syntax.root.operands.as_mut_slice());
@@ -531,27 +535,27 @@ impl<K: Grammar> Parser<'_, K> {
 }
 
 // What was expected in place of a kind behind so many results, which it doesn't have.
-fn kind_with(results: usize) -> Expected {
+fn kind_with(results: usize) -> ExpectedItem {
     match results {
-        0 => Expected::KindWithoutResults,
-        1 => Expected::KindWithOneResult,
-        2 => Expected::KindWithTwoResults,
-        _ => Expected::KindWithMoreResults,
+        0 => ExpectedItem::KindWithoutResults,
+        1 => ExpectedItem::KindWithOneResult,
+        2 => ExpectedItem::KindWithTwoResults,
+        _ => ExpectedItem::KindWithMoreResults,
     }
 }
 
 // What was expected in place of a value's name that was defined before.
-fn new_value<K: Grammar>() -> Expected {
+fn new_value<K: Grammar>() -> ExpectedItem {
     match K::around() {
-        Body::Module => Expected::NewValue,
-        _ => Expected::NewValueOfText,
+        Body::Module => ExpectedItem::NewValue,
+        _ => ExpectedItem::NewValueOfText,
     }
 }
 
 // What was expected in place of a value's name that is never defined.
-fn defined_value<K: Grammar>() -> Expected {
+fn defined_value<K: Grammar>() -> ExpectedItem {
     match K::around() {
-        Body::Module => Expected::DefinedValue,
-        _ => Expected::DefinedValueOfText,
+        Body::Module => ExpectedItem::DefinedValue,
+        _ => ExpectedItem::DefinedValueOfText,
     }
 }

@@ -9,7 +9,7 @@ ghost use Rattle.pliron_text.specs.Notation.{IsAdmittedSyntax, IsSoundSyntax};
 
 use crate::admission::first_not_admitted;
 use crate::build::build;
-use crate::expected::{Expected, SyntaxFault};
+use crate::expected::{ExpectedItem, SyntaxFault};
 use crate::grammar::Grammar;
 use crate::parser::parse;
 use crate::stop::Stop;
@@ -25,7 +25,7 @@ use std::alloc::Global;
 #[derive(Clone, Copy, Debug, Drop, PartialEq, Eq)]
 pub struct TextFault {
     pub span: Span,
-    pub expected: Expected,
+    pub expected: ExpectedItem,
 }
 
 /// Reads a text of the dialect of these kinds and builds its operation, which is in no block and is well linked.
@@ -92,11 +92,11 @@ fn buildable<K: Grammar>(alloc: Global, syntax: Syntax, text: &Tokens<K>) -> Res
         (allows_at K.tables)) syntax) }
 {
     if !syntax.is_sound() {
-        return Err(Stop::at(0, Expected::Tree));
+        return Err(Stop::at(0, ExpectedItem::Tree));
     }
     match first_not_admitted::<K>(alloc, &syntax)? {
         None => Ok(syntax),
-        Some(number) => Err(Stop::at(text.place_of_kind(number), Expected::AdmittedOperation)),
+        Some(number) => Err(Stop::at(text.place_of_kind(number), ExpectedItem::AdmittedOperation)),
     }
 }
 

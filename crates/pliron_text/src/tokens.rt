@@ -1,8 +1,8 @@
 //! From bytes to tokens.
 ghost use Rattle.std.specs.Prelude.{◌≡◌, ◌+◌, ◌<◌, ◌≤◌, length, IfOk};
 
-use crate::expected::{Expected, SyntaxFault};
-use crate::word_table::{Word, WordTable, Written, is_letter};
+use crate::expected::{ExpectedItem, SyntaxFault};
+use crate::word_table::{Word, WordTable, WrittenWord, is_letter};
 use std::alloc::{AllocError, Global};
 
 /// A name, by its number among the names of the text.
@@ -33,12 +33,12 @@ enum Lexeme<K> {
     Blank,
     Token(Token<K>),
     /// No token, where this was expected.
-    Strange(Expected),
+    Strange(ExpectedItem),
 }
 
 impl<K> Lexeme<K> {
     // The token, if it is one, and else what was expected there.
-    fn of(token: Option<Token<K>>, expected: Expected) -> Self {
+    fn of(token: Option<Token<K>>, expected: ExpectedItem) -> Self {
         match token {
             Some(token) => Lexeme::Token(token),
             None => Lexeme::Strange(expected),
@@ -127,22 +127,22 @@ fn first_lexeme<'t, K: Word>(
     match LexemeForm::of(text[0]) {
         LexemeForm::Blank => Ok((Lexeme::Blank, &text[1..])),
         LexemeForm::Word => {
-            let written = Written::first_of(text);
+            let written = WrittenWord::first_of(text);
             let after = &text[written.word.len()..];
             let token = words.token(written)?;
-            Ok((Lexeme::of(token, Expected::ShortWord), after))
+            Ok((Lexeme::of(token, ExpectedItem::ShortWord), after))
         }
         LexemeForm::Number => {
             let (lexeme, after) = text.split_at(number_len(text));
             let lexeme = match number_of(lexeme) {
                 Some(number) => Lexeme::Token(Token::Number(number)),
-                None => Lexeme::Strange(Expected::Number),
+                None => Lexeme::Strange(ExpectedItem::Number),
             };
             Ok((lexeme, after))
         }
         LexemeForm::Mark => {
             let token = token_of_byte(text[0]);
-            Ok((Lexeme::of(token, Expected::Token), &text[1..]))
+            Ok((Lexeme::of(token, ExpectedItem::Token), &text[1..]))
         }
     }
 }
@@ -216,7 +216,7 @@ fn lexeme_len(text: &[u8]) -> usize
     ensures within { result ≤ length text.now }
 {
     match LexemeForm::of(text[0]) {
-        LexemeForm::Word => Written::first_of(text).word.len(),
+        LexemeForm::Word => WrittenWord::first_of(text).word.len(),
         LexemeForm::Number => number_len(text),
         LexemeForm::Blank | LexemeForm::Mark => 1,
     }

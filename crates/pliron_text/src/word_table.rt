@@ -28,12 +28,12 @@ const KEYED: usize = 9;
 
 /// A word of a text, with a key that is the same for the same words.
 #[derive(Clone, Copy)]
-pub struct Written<'t> {
+pub struct WrittenWord<'t> {
     pub word: &'t [u8],
     pub key: usize,
 }
 
-impl<'t> Written<'t> {
+impl<'t> WrittenWord<'t> {
     /// The word that a text begins with: its first byte, whatever that is, and the letters, digits and `_`
     /// behind it.
     ///
@@ -49,14 +49,14 @@ impl<'t> Written<'t> {
             key = key.rotate_left(7) ^ usize::from(text[len]);
             len += 1;
         }
-        Written {
+        WrittenWord {
             word: &text[..len],
             key,
         }
     }
 
     // Whether the other is the same word. Cost: constant for words of a few bytes, and else their length.
-    fn is(self, other: Written<'_>) -> bool {
+    fn is(self, other: WrittenWord<'_>) -> bool {
         self.key == other.key
             && self.word.len() == other.word.len()
             && (self.word.len() <= KEYED || is_same(self.word, other.word))
@@ -93,7 +93,7 @@ enum WordPlace<K> {
 /// A word that was met.
 #[derive(Clone, Copy)]
 struct WordEntry<'t, K> {
-    written: Written<'t>,
+    written: WrittenWord<'t>,
     token: Token<K>,
 }
 
@@ -135,7 +135,7 @@ impl<'t, K: Word> WordTable<'t, K> {
 
     /// The token of a word, or `None` where the word is too long for a name. Errors: allocation failure. Cost: a
     /// few comparisons with words, and a look-up in a tree where these find neither the word nor a free slot.
-    pub fn token(&mut self, written: Written<'t>) -> Result<Option<Token<K>>, AllocError> {
+    pub fn token(&mut self, written: WrittenWord<'t>) -> Result<Option<Token<K>>, AllocError> {
         let first = self.first_slot(written);
         match self.entry_of(first) {
             Some(entry) if entry.written.is(written) => Ok(Some(entry.token)),
@@ -144,7 +144,7 @@ impl<'t, K: Word> WordTable<'t, K> {
     }
 
     // The slot of the word's key.
-    fn first_slot(&self, written: Written<'t>) -> usize {
+    fn first_slot(&self, written: WrittenWord<'t>) -> usize {
         let hash = written.key.wrapping_mul(0x9e37_79b9_7f4a_7c15);
         hash.wrapping_shr(self.spare_bits)
     }
@@ -160,7 +160,7 @@ impl<'t, K: Word> WordTable<'t, K> {
     fn token_from(
         &mut self,
         first: usize,
-        written: Written<'t>,
+        written: WrittenWord<'t>,
     ) -> Result<Option<Token<K>>, AllocError> {
         match self.place(first, written) {
             WordPlace::Met(token) => Ok(Some(token)),
@@ -170,7 +170,7 @@ impl<'t, K: Word> WordTable<'t, K> {
     }
 
     // Where a word is, or may be put, in its slots from the first on.
-    fn place(&self, first: usize, written: Written<'t>) -> WordPlace<K> {
+    fn place(&self, first: usize, written: WrittenWord<'t>) -> WordPlace<K> {
         for slot in first..first.saturating_add(TRIES) {
             match self.slots.get(slot) {
                 Some(0) => return WordPlace::Free(slot),
@@ -186,7 +186,11 @@ impl<'t, K: Word> WordTable<'t, K> {
     }
 
     // The token of a word that wasn't met, for which this slot is free.
-    fn put(&mut self, slot: usize, written: Written<'t>) -> Result<Option<Token<K>>, AllocError> {
+    fn put(
+        &mut self,
+        slot: usize,
+        written: WrittenWord<'t>,
+    ) -> Result<Option<Token<K>>, AllocError> {
         let Some(token) = self.new_token(written.word) else {
             return Ok(None);
         };

@@ -1,15 +1,15 @@
 -- What definitions of a function are called.
 use Rattle.std.specs.Prelude.{◌≡◌, ◌≤◌, ℕ, suc, Bool, true, false, List, [], ◌∷◌, slice_get, Option, Some, None, ⊤, if◌then◌else◌}
 use Rattle.pliron_text_llvm_syntax.specs.declared.tokens.ByteSpan.{ByteSpan}
-use Rattle.pliron_text_llvm_names.specs.declared.definitions.Defined.{Defined}
-use Rattle.pliron_text_llvm_names.specs.declared.definitions.Defined.TheVariants.{Argument, Block, Result}
+use Rattle.pliron_text_llvm_names.specs.declared.definitions.DefinitionKind.{DefinitionKind}
+use Rattle.pliron_text_llvm_names.specs.declared.definitions.DefinitionKind.TheVariants.{Argument, Block, Result}
 use Rattle.pliron_text_llvm_names.specs.declared.definitions.LocalDefinition.{LocalDefinition}
 use Rattle.pliron_text_llvm_names.specs.declared.definitions.NamingFault.{NamingFault}
 use Rattle.pliron_text_llvm_names.specs.declared.definitions.NamingFault.TheVariants.{Unread, Taken, Falls, Numberless, NoMemory}
 use Rattle.pliron_text_llvm_names.specs.Names.{NameKey, key_of_local, key_of_label}
 use Rattle.pliron_text_llvm_names.specs.Names.NameKey.{Number, Text}
 
-abbrev pub is_block_kind : Defined → Bool
+abbrev pub is_block_kind : DefinitionKind → Bool
 is_block_kind (Argument number) = false
 is_block_kind (Block line) = true
 is_block_kind (Result line) = false

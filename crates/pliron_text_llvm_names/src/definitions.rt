@@ -16,7 +16,7 @@ use std::alloc::{AllocError, Global};
 /// What is defined.
 #[doc(hidden)]
 #[derive(Clone, Copy, Debug, Drop, PartialEq, Eq)]
-pub enum Defined {
+pub enum DefinitionKind {
     /// The parameter of this number.
     Argument(usize),
     /// The block that begins with the line of this number.
@@ -29,7 +29,7 @@ pub enum Defined {
 #[doc(hidden)]
 #[derive(Clone, Copy, Debug, Drop, PartialEq, Eq)]
 pub struct LocalDefinition {
-    pub what: Defined,
+    pub what: DefinitionKind,
     /// Its name with the `%`, of a block its label with the `:`, where the text has one.
     pub name: Option<ByteSpan>,
 }
@@ -63,7 +63,7 @@ impl LocalDefinition {
     pub fn is_block(&self) -> bool
         ensures { result ≡ defines_block self.now }
     {
-        matches!(self.what, Defined::Block(_))
+        matches!(self.what, DefinitionKind::Block(_))
     }
 }
 

@@ -7,7 +7,7 @@ mod names;
 mod table;
 mod uses;
 
-pub use definitions::{Defined, LocalDefinition, NamingFault, name_definitions};
+pub use definitions::{DefinitionKind, LocalDefinition, NamingFault, name_definitions};
 pub use names::{LocalName, NameFault, bytes_in, label_name, local_name};
 pub use table::LocalNameTable;
 pub use uses::{UseFault, resolve_uses};

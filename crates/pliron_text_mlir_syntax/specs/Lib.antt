@@ -1,4 +1,3 @@
-pub mod LineAndColumn
 pub mod Numbers
 pub mod Spans
 pub mod Sheets

@@ -6,7 +6,6 @@ mod cursor;
 mod fault;
 mod names;
 mod numbers;
-mod positions;
 mod raw;
 mod sheet;
 mod syntax;
@@ -19,7 +18,7 @@ pub use numbers::{
     SignedNumber, array_of, bits_of, dense_of, number_of, trim_blanks, typed_number_of,
     width_of_type,
 };
-pub use positions::{LineAndColumn, position_of};
+pub use pliron_text_positions::{LineAndColumn, position_of};
 pub use sheet::{FormTexts, OperationForm, Sheet};
 pub use syntax::{BlockSyntax, MAX_DEPTH, ModuleSyntax, OperationSyntax};
 pub use texts::Texts;

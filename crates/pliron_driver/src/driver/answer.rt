@@ -10,7 +10,7 @@ ghost use Rattle.pliron_driver.specs.Answered.{IsOptimised, status_line};
 ghost use Rattle.pliron_driver.specs.Ran.{RunsAlone};
 
 use super::notation::{Notation, TextFailure};
-use super::observer::{Observer, Unobserved};
+use super::observer::{NoObserver, Observer};
 use pliron_core::{Context, IRStatus, Operation, Ptr};
 use pliron_laws::OptError;
 use pliron_pass::{AnalysisManager, BenchFactKind, BenchFacts, Pass};
@@ -112,8 +112,8 @@ pub fn optimise_text<N: Notation>(
         (RunsAlone ⟦<BenchFactKind as PartialEq>⟧.eq ⟦<PassPipeline<N::D, BenchFacts, N::Rules> as Pass>⟧.outcome
         pipeline) text.now answer.items)) }
 {
-    let mut nothing = Unobserved;
-    match optimise::<N, PassStep<N::D, BenchFacts, N::Rules>, Unobserved>(
+    let mut nothing = NoObserver;
+    match optimise::<N, PassStep<N::D, BenchFacts, N::Rules>, NoObserver>(
         alloc,
         &mut pipeline,
         text,

@@ -11,9 +11,9 @@ use std::marker::PhantomData;
 /// is printed of a tree only from printing that tree.
 ///
 /// A notation of which it is open what its texts say would else allow any text in the place of the one that was given.
-pub struct Closed<N>(PhantomData<N>);
+pub struct ClosedNotation<N>(PhantomData<N>);
 
-impl<N: Notation> Notation for Closed<N> {
+impl<N: Notation> Notation for ClosedNotation<N> {
     type D = N::D;
 
     type Rules = N::Rules;

@@ -38,6 +38,6 @@ pub trait Observer<N: Notation> {
 
 /// Looks at nothing.
 #[derive(Clone, Copy, Debug, Drop)]
-pub struct Unobserved;
+pub struct NoObserver;
 
-impl<N: Notation> Observer<N> for Unobserved {}
+impl<N: Notation> Observer<N> for NoObserver {}

@@ -3,7 +3,8 @@ ghost use Rattle.std.specs.Prelude.{◌≡◌, ◌≤◌, ◌==◌, ◌++◌, �
 ghost use Rattle.std.specs.List.{slice_split};
 ghost use Rattle.std.specs.Fmt.{decimal};
 ghost use Rattle.pliron_pass_pipeline.specs.PassNames.{IsNoPass};
-ghost use Rattle.pliron_driver.specs.Plans.{BeginsWith, IsPlan};
+ghost use Rattle.pliron_text.specs.Beginnings.{BeginsWith};
+ghost use Rattle.pliron_driver.specs.Plans.{IsPlan};
 ghost use Rattle.pliron_driver.specs.PipelineTexts.{Counts, Nests, Plans, has_brackets};
 
 use pliron_pass_pipeline::PassName;

@@ -3,10 +3,10 @@ use super::cases::ROWS;
 use super::random::RANDOM;
 use crate::optimisation::Optimisation;
 use crate::runs::keep_runs;
-use crate::texts::{Asked, check_all};
+use crate::texts::{OptimisationCall, check_all};
 
 /// Nothing is left for a second call.
-const CANONICALIZATION: Asked = Asked {
+const CANONICALIZATION: OptimisationCall = OptimisationCall {
     optimisation: Optimisation::Canonicalization,
     place: "root",
     words: 0,
@@ -31,7 +31,7 @@ fn random_texts(rt: HostRuntime) {
 
 #[test]
 fn a_nested_root(rt: HostRuntime) {
-    let asked = Asked {
+    let asked = OptimisationCall {
         place: "1",
         ..CANONICALIZATION
     };

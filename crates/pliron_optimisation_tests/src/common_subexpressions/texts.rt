@@ -3,10 +3,10 @@ use super::cases::{BACKWARDS, ROWS};
 use super::random::RANDOM;
 use crate::optimisation::Optimisation;
 use crate::runs::keep_runs;
-use crate::texts::{Asked, check_all};
+use crate::texts::{OptimisationCall, check_all};
 
 /// Nothing is left for a second call.
-const COMMON_SUBEXPRESSIONS: Asked = Asked {
+const COMMON_SUBEXPRESSIONS: OptimisationCall = OptimisationCall {
     optimisation: Optimisation::CommonSubexpressions,
     place: "root",
     words: 0,
@@ -26,7 +26,7 @@ fn rows(rt: HostRuntime) {
 
 #[test]
 fn uses_before_definitions(rt: HostRuntime) {
-    let asked = Asked {
+    let asked = OptimisationCall {
         is_settled: false,
         ..COMMON_SUBEXPRESSIONS
     };
@@ -40,7 +40,7 @@ fn random_texts(rt: HostRuntime) {
 
 #[test]
 fn a_nested_root(rt: HostRuntime) {
-    let asked = Asked {
+    let asked = OptimisationCall {
         place: "0",
         ..COMMON_SUBEXPRESSIONS
     };

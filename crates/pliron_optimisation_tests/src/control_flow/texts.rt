@@ -3,7 +3,7 @@ use super::calls::Call;
 use super::cases::{DEFINED, HOSTILE, ORDERS, ROWS};
 use crate::optimisation::Optimisation;
 use crate::runs::keep_runs;
-use crate::texts::{Asked, check, check_all};
+use crate::texts::{OptimisationCall, check, check_all};
 use pliron_core::{Context, IRStatus};
 use pliron_laws::OptError;
 use pliron_test_cases::cases::{Case, case_of, read};
@@ -12,7 +12,7 @@ use std::alloc::Global;
 use std::process::Abort;
 
 /// The whole. A second call may find more to fold.
-const SIMPLIFICATION: Asked = Asked {
+const SIMPLIFICATION: OptimisationCall = OptimisationCall {
     optimisation: Optimisation::ControlFlow(Call::Simplify),
     place: "root",
     words: 0,
@@ -28,7 +28,7 @@ fn called(row: &str) -> Option<(Call, Case<'_>)> {
 
 fn check_call(rt: &impl Abort, alloc: Global, row: &str) {
     let (call, case) = called(row).expect(rt, "a case with its call");
-    let asked = Asked {
+    let asked = OptimisationCall {
         optimisation: Optimisation::ControlFlow(call),
         ..SIMPLIFICATION
     };

@@ -5,10 +5,10 @@ use super::hostile::HOSTILE;
 use super::short::SHORT;
 use crate::optimisation::Optimisation;
 use crate::runs::keep_runs;
-use crate::texts::{Asked, check_all};
+use crate::texts::{OptimisationCall, check_all};
 
 /// Nothing is left for a second call.
-pub const DEAD_CODE: Asked = Asked {
+pub const DEAD_CODE: OptimisationCall = OptimisationCall {
     optimisation: Optimisation::DeadCode,
     place: "root",
     words: 0,
@@ -47,7 +47,7 @@ fn edges_that_forward_too_few(rt: HostRuntime) {
 
 #[test]
 fn a_nested_root(rt: HostRuntime) {
-    let asked = Asked {
+    let asked = OptimisationCall {
         place: "1",
         ..DEAD_CODE
     };

@@ -4,13 +4,13 @@ use super::counts::{COUNTS_BEFORE, count};
 use super::random_cases::MADE;
 use crate::optimisation::Optimisation;
 use crate::runs::keep_runs;
-use crate::texts::{Asked, check_all, expect_text};
+use crate::texts::{OptimisationCall, check_all, expect_text};
 use pliron_test_cases::cases::{Case, case_of, number};
 use std::alloc::Global;
 use std::process::Abort;
 
 /// What a folded operation answers gets one more constant from a second call.
-const PROPAGATION: Asked = Asked {
+const PROPAGATION: OptimisationCall = OptimisationCall {
     optimisation: Optimisation::Propagation,
     place: "root",
     words: 0,
@@ -101,7 +101,7 @@ fn hostile_texts(rt: HostRuntime) {
 
 #[test]
 fn each_change_has_room(rt: HostRuntime) {
-    let asked = Asked {
+    let asked = OptimisationCall {
         words: COUNTS_BEFORE,
         ..PROPAGATION
     };
@@ -141,7 +141,7 @@ a scope in a scope -- C func { b0(): k = const 4; scope k { b0(p): a = const 1; 
 // Only what is inside the root is rewritten.
 #[test]
 fn nested_roots(rt: HostRuntime) {
-    let asked = Asked {
+    let asked = OptimisationCall {
         place: "1",
         ..PROPAGATION
     };
@@ -150,7 +150,7 @@ fn nested_roots(rt: HostRuntime) {
 
 #[test]
 fn runs_are_kept(rt: HostRuntime) {
-    let asked = Asked {
+    let asked = OptimisationCall {
         words: COUNTS_BEFORE,
         ..PROPAGATION
     };

@@ -1,4 +1,4 @@
--- Where a byte of a text is.
+-- The line and column of a byte of a text.
 use Rattle.std.specs.Prelude.{◌==◌, ◌+◌, ℕ, Bool, List, length, reverse, take_while, count_by, not}
 
 abbrev pub is_line_end : ℕ → Bool
@@ -8,7 +8,7 @@ is_line_end byte = byte == 10
 abbrev pub line_behind : List ℕ → ℕ
 line_behind before = 1 + count_by is_line_end before
 
--- its column, counted from 1: how many bytes there are from the last end of a line before it, or the text's start, up
--- to it
+-- its column, counted from 1: one more than the number of bytes between it and the last end of a line before it, or the
+-- text's start
 abbrev pub column_behind : List ℕ → ℕ
 column_behind before = 1 + length (take_while (λ byte. not (is_line_end byte)) (reverse before))

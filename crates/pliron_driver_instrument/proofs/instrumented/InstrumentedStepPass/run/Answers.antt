@@ -1,6 +1,6 @@
 use Rattle.std.proofs.Common.{◌≡◌, ap, ◌∙◌}
-use Rattle.pliron_driver_instrument.proofs.instrumented.InstrumentedPass.run.Goals as goal
-use Rattle.pliron_driver_instrument.proofs.instrumented.InstrumentedPass.run.Goals.{in-Ok+then-is_err, in-Ok+else-is_err, in-Err}
+use Rattle.pliron_driver_instrument.proofs.instrumented.InstrumentedStepPass.run.Goals as goal
+use Rattle.pliron_driver_instrument.proofs.instrumented.InstrumentedStepPass.run.Goals.{in-Ok+then-is_err, in-Ok+else-is_err, in-Err}
 
 -- what is noted leaves the pass as its run left it
 step_left : (g : _) (c : goal.Joined-before g) → c.match-answer.self.step ≡ c.run-answer.new.self
