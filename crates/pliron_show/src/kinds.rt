@@ -7,10 +7,11 @@ use crate::run_report::{RunOptions, evaluated_sight};
 use crate::shown::{NameScopes, NameSource, NewNames, Runnable, ShownNotation};
 use crate::trap_reason::TrapReason;
 use pliron_core::{Context, Operation, Ptr};
-use pliron_dialect::{Form, Roles};
+use pliron_dialect::{ByRoles, Form, Roles};
 use pliron_driver::{Document, KindNotation};
 use pliron_evaluator::evaluator::{Datum, Notes, Sight};
 use pliron_laws::OptError;
+use pliron_rewrite_rules::Rules;
 use pliron_role_runs::{Interprets, RunByRoles};
 use pliron_show_places::{Source, TextParts, forwarded_names, kind_fault, parts_of, pretty};
 use pliron_text::{Grammar, number_of};
@@ -26,13 +27,13 @@ fn form_of<K: Roles>(op: Ptr<Operation>, ctx: &Context) -> Option<Form>
     }
 }
 
-impl<K: Grammar> NameScopes for KindNotation<K> {
+impl<K: Grammar, L: Rules<ByRoles<K>>> NameScopes for KindNotation<K, L> {
     fn begins_names(_op: Ptr<Operation>, _ctx: &Context) -> bool {
         false
     }
 }
 
-impl<K: Grammar> ShownNotation for KindNotation<K> {
+impl<K: Grammar, L: Rules<ByRoles<K>>> ShownNotation for KindNotation<K, L> {
     ghost faults = { faults_as_unreadable };
 
     fn fault_message(alloc: Global, source: &Source) -> Result<Option<String>, OptError> {
@@ -102,7 +103,7 @@ impl<K: Grammar> ShownNotation for KindNotation<K> {
     }
 }
 
-impl<K: Grammar + Interprets> Runnable for KindNotation<K> {
+impl<K: Grammar + Interprets, L: Rules<ByRoles<K>>> Runnable for KindNotation<K, L> {
     fn run_sight(
         alloc: Global,
         root: Ptr<Operation>,
