@@ -17,9 +17,6 @@ use pliron_opt_cse::cse;
 use pliron_text::{print_text, read_text};
 use std::alloc::Global;
 
-// So often rules are applied. Where values of a malformed text are made of themselves, some rules never come to an end.
-static MAX_REWRITES: usize = 4_096;
-
 /// One of the calls.
 #[derive(Clone, Copy, Debug, Drop, PartialEq, Eq)]
 pub enum Call {
@@ -45,11 +42,13 @@ struct Change {
     is_finished: bool,
 }
 
-// What the call says of the tree.
+// What the call says of the tree. Rules are applied at most so often as the limit says: where values of an ill-defined
+// text are made of themselves, some never come to an end.
 fn apply_call(
     alloc: Global,
     call: Call,
     root: Ptr<Operation>,
+    limit: usize,
     ctx: &mut Context,
 ) -> Result<Change, OptError>
     requires live { IsLive ctx.old.tree root }
@@ -62,7 +61,7 @@ fn apply_call(
         Call::Cse => cse::<Bench>(alloc, root, ctx)?,
         Call::Canonicalize => canonicalize::<Bench>(alloc, root, ctx)?,
         Call::Combine => {
-            let combined = combine::<Bench, BenchRules>(alloc, root, MAX_REWRITES, ctx)?;
+            let combined = combine::<Bench, BenchRules>(alloc, root, limit, ctx)?;
             return Ok(Change {
                 is_changed: combined.count != 0,
                 is_finished: combined.ending == Ending::Finished,
@@ -88,9 +87,11 @@ fn call_twice_in(
         return Ok(None);
     };
     let before = print_text(alloc, root, ctx)?;
-    let change = apply_call(alloc, call, root, ctx)?;
+    // each operation takes some bytes
+    let limit = text.len();
+    let change = apply_call(alloc, call, root, limit, ctx)?;
     let after = print_text(alloc, root, ctx)?;
-    let is_changed_again = apply_call(alloc, call, root, ctx)?.is_changed;
+    let is_changed_again = apply_call(alloc, call, root, limit, ctx)?.is_changed;
     Ok(Some(Left {
         before,
         after,

@@ -20,6 +20,16 @@ the inner sum has another user -- 1F func { b0(x): c = const 3; v = add x c; d =
 a chain, in order -- 2F func { b0(x): o = const 1; a = add x o; b = add a o; c = add b o; ret c } => func { b0(v0): v1 = \
     const 1; v2 = add v0 v1; v3 = const 2; v4 = add v0 v3; v5 = add v2 v1; v6 = const 3; v7 = add v0 v6; v8 = add v4 v1; \
     ret v7 }
+a chain of five -- 4F func { b0(x): o = const 1; a = add x o; b = add a o; c = add b o; d = add c o; e = add d o; ret e } => func { \
+    b0(v0): v1 = const 1; v2 = add v0 v1; v3 = const 2; v4 = add v0 v3; v5 = add v2 v1; v6 = const 3; v7 = add v0 v6; v8 = add \
+    v4 v1; v9 = const 4; v10 = add v0 v9; v11 = add v7 v1; v12 = const 5; v13 = add v0 v12; v14 = add v10 v1; ret v13 }
+numbers that make zero -- 1F func { b0(x): o = const 1; m = const -1; a = add x o; b = add a m; ret b } => func { b0(v0): v1 = \
+    const 1; v2 = const -1; v3 = add v0 v1; v4 = const 0; v5 = add v0 v4; v6 = add v3 v2; ret v5 }
+an answer of the world is looked through no further -- 0F func { b0(): z = const 0; r = read; a = add r z; ret a } => func { \
+    b0(): v0 = const 0; v1 = read; v2 = add v1 v0; ret v2 }
+one rule after the other, at a user -- 2F func { b0(x): o = const 1; a = add x o; t = const 2; b = add a t; c = add b b; ret c } \
+    => func { b0(v0): v1 = const 1; v2 = add v0 v1; v3 = const 2; v4 = const 3; v5 = add v0 v4; v6 = add v2 v3; v7 = const 2; \
+    v8 = mul v5 v7; v9 = add v5 v5; ret v8 }
 a value by itself -- 1F func { b0(x): a = add x x; ret a } => func { b0(v0): v1 = const 2; v2 = mul v0 v1; v3 = add v0 v0; \
     ret v2 }
 a sum by itself -- 1F func { b0(x): o = const 1; a = add x o; b = add a a; ret b } => func { b0(v0): v1 = const 1; v2 = add \
