@@ -1,9 +1,10 @@
 # Installs the programs and the library for C, and packs the sources.
 #
-#     make install PREFIX=/usr/local     programs, manual pages, completions, the header, both libraries, a file for pkg-config
+#     make install PREFIX=/usr/local     programs, rachonpas-cc, manual pages, completions, header, both libraries, a file for pkg-config
 #     make install-programs, make install-library     a part of it
 #     make dist                          rachonpas-VERSION.tar.gz, which builds with the Rattle kit alone
 #     make check                         the gate, .ci/run
+#     make help                          this text, as make alone
 #
 # Programs that `rt ci` or `rt run` has proved and built from the sources that stand here are installed; else an unproved build of them, which takes
 # a minute or a few for each. PREFIX/share/doc/rachonpas/BUILT says which is which, and an unproved program says so whenever it runs. The library
@@ -16,7 +17,7 @@ AT := $(DESTDIR)$(PREFIX)
 LIBEXEC := $(AT)/libexec/rachonpas
 DOC := $(AT)/share/doc/rachonpas
 
-all:
+all help:
 	@sed -n 's/^# \{0,1\}//p' Makefile
 
 install: install-programs
@@ -57,4 +58,4 @@ dist:
 check:
 	.ci/run
 
-.PHONY: all install install-programs install-library dist check
+.PHONY: all help install install-programs install-library dist check

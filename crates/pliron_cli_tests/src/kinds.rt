@@ -5,7 +5,8 @@ use pliron_dialect_arithmetic::ArithmeticKind;
 use pliron_driver::KindNotation;
 use pliron_driver_instrument::Timeless;
 use pliron_show_commands::{
-    ExplainOptions, FlowOptions, Outcome, Source, check, draw_flow, explain, opt,
+    CompareOptions, ExplainOptions, FlowOptions, Outcome, RunOptions, Source, check, compare,
+    draw_flow, explain, opt, run,
 };
 use std::alloc::{AllocError, Global};
 use std::process::Abort;
@@ -45,6 +46,12 @@ check  => funtion { } => 2 error: unreadable text| --> text:1:1|  |\
 explain sccp => function { b0(): a = lit 2; b = lit 3; s = add a b; return s } => 0 1:40 s = add a b: folded to 5 by its operands (sccp)|\
 1:53 return s: takes 5 for s (sccp)|
 explain dce => function { b0(x): a = lit 2; return x } => 0 1:19 a = lit 2: unused (dce)|
+run  => function { b0(): a = lit 2; b = lit 3; s = add a b; return s } => 0 ended with 5|
+run  => function { b0(): x = lit 3; o = lit -1; r, s = while x x { t(u, v): w = add u o; return w v }; return r } => 0 ended with 3|
+run  => function { b0(): jump b1(); b1(): jump b1() } => 3 made no further move: steps or the world's answers were used up|\
+note: the run was cut off| --> text:1:35|  |\
+|1 | function { b0(): jump b1(); b1(): jump b1() }|  |                                   ^^^^^^^^^ the 100 moves that it may make were made|
+compare sccp,dce => function { b0(): a = lit 2; b = lit 3; s = add a b; return s } => 0 ended with 5|the same before and after|
 opt sccp,dce => function { b0(): a = lit 2; b = lit 3; s = add a b; return s } => 0 function { b0(): v0 = lit 5; return v0 }|
 dot 0 => function { b0(c, x): branch c t(x) f(); t(p): return p; f(): return c } => 0 digraph flow {|  \
 node [shape=\"box\", fontname=\"monospace\"];|  \
@@ -57,6 +64,14 @@ edge [fontname=\"monospace\"];|  \
 dot 1 => function { b0(): a = lit 2; return a } => 2 error: no region `1`|\
 help: `0.2.0` is region 0 of operation 2 of region 0 of the text's operation|";
 
+/// A run without inputs, in a world without answers.
+const WITHOUT_INPUTS: RunOptions<'static> = RunOptions {
+    inputs: &[],
+    world: &[],
+    steps: 100,
+    trace: false,
+};
+
 // What the command answers.
 fn outcome_of(alloc: Global, words: &str, source: &Source) -> Result<Outcome, AllocError> {
     let (command, word) = words.split_once(' ').unwrap_or((words, ""));
@@ -68,6 +83,14 @@ fn outcome_of(alloc: Global, words: &str, source: &Source) -> Result<Outcome, Al
                 missed: false,
             };
             explain::<Arithmetic>(alloc, source, &options)
+        }
+        "run" => run::<Arithmetic>(alloc, source, &WITHOUT_INPUTS),
+        "compare" => {
+            let options = CompareOptions {
+                run: WITHOUT_INPUTS,
+                pipeline: word,
+            };
+            compare::<Arithmetic>(alloc, source, &options)
         }
         "opt" => opt::<Arithmetic, Timeless>(alloc, source, &plain(word), Timeless),
         _ => {

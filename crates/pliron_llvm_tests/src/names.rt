@@ -68,6 +68,26 @@ fn takes_bytes_of_spans(rt: HostRuntime) {
     assert!(rt; bytes == b"fi".as_slice());
 }
 
+// What the holes of the text name, among these definitions.
+fn targets_in(
+    rt: &impl Abort,
+    alloc: Global,
+    text: &[u8],
+    definitions: &[LocalDefinition],
+    holes: &[Hole],
+) -> Vec<Option<usize>> {
+    let mut targets = Vec::new(alloc);
+    match name_definitions(alloc, text, definitions) {
+        Ok(table) => {
+            resolve_uses(text, definitions, &table, holes, &mut targets)
+                .ok()
+                .expect(rt, "uses");
+        }
+        Err(_) => panic!(rt; "names"),
+    }
+    targets
+}
+
 #[test]
 fn names_definitions(rt: HostRuntime) {
     let text = b"%x b: %3";
@@ -96,9 +116,6 @@ fn names_definitions(rt: HostRuntime) {
         kind: HoleKind::Operand,
         span: ByteSpan { start: 6, end: 8 },
     }];
-    let mut targets = Vec::new(rt.alloc());
-    resolve_uses(text, &definitions, &table, &holes, &mut targets)
-        .ok()
-        .expect(&rt, "uses");
+    let targets = targets_in(&rt, rt.alloc(), text, &definitions, &holes);
     assert!(rt; targets.as_slice() == [Some(3)].as_slice());
 }

@@ -1,17 +1,18 @@
 //! The notation of `Bench`.
 ghost use Rattle.pliron_show.specs.Faults.{faults_as_unreadable};
 
+use crate::bench_traps::{reason_by_input, reason_without_input};
 use crate::renaming::{LETTERS, print_renamed};
+use crate::run_report::{RunOptions, evaluated_sight};
 use crate::shown::{NameScopes, NameSource, NewNames, Runnable, ShownNotation};
+use crate::trap_reason::TrapReason;
 use pliron_core::{Context, Operation, Ptr};
-use pliron_dialect_bench::BenchKind;
 use pliron_dialect_bench::tables::kind_at;
+use pliron_dialect_bench::{Bench, BenchKind};
 use pliron_driver::{BenchNotation, Document};
-use pliron_evaluator::evaluator::{Notes, Sight};
+use pliron_evaluator::evaluator::{Datum, Notes, Sight};
 use pliron_laws::OptError;
-use pliron_show_places::{
-    RunOptions, Source, TextParts, forwarded_names, parts_of, pretty, run_sight, text_fault,
-};
+use pliron_show_places::{Source, TextParts, forwarded_names, parts_of, pretty, text_fault};
 use pliron_text::number_of;
 use std::alloc::{AllocError, Global};
 
@@ -100,7 +101,20 @@ impl Runnable for BenchNotation {
         root: Ptr<Operation>,
         ctx: &Context,
         options: &RunOptions,
+        notes: &mut Notes,
     ) -> Result<Sight, AllocError> {
-        run_sight(alloc, root, ctx, options, &mut Notes::of_last(alloc))
+        evaluated_sight::<Bench>(alloc, root, ctx, options, notes)
+    }
+
+    fn trap_reason(
+        alloc: Global,
+        ctx: &Context,
+        op: Ptr<Operation>,
+        input: Option<&[Datum]>,
+    ) -> Result<TrapReason, OptError> {
+        match input {
+            Some(input) => reason_by_input(alloc, ctx, op, input),
+            None => Ok(reason_without_input(op, ctx)),
+        }
     }
 }

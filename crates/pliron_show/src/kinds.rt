@@ -3,11 +3,16 @@ ghost use Rattle.pliron_core.specs.Tree.{IsLive};
 ghost use Rattle.pliron_show.specs.Faults.{faults_as_unreadable};
 
 use crate::renaming::{LETTERS, print_renamed};
-use crate::shown::{NameScopes, NameSource, NewNames, ShownNotation};
+use crate::run_report::{RunOptions, evaluated_sight};
+use crate::shown::{NameScopes, NameSource, NewNames, Runnable, ShownNotation};
+use crate::trap_reason::TrapReason;
 use pliron_core::{Context, Operation, Ptr};
-use pliron_dialect::{Form, Roles};
+use pliron_dialect::{ByRoles, Form, Roles};
 use pliron_driver::{Document, KindNotation};
+use pliron_evaluator::evaluator::{Datum, Notes, Sight};
 use pliron_laws::OptError;
+use pliron_rewrite_rules::Rules;
+use pliron_role_runs::{Interprets, RunByRoles};
 use pliron_show_places::{Source, TextParts, forwarded_names, kind_fault, parts_of, pretty};
 use pliron_text::{Grammar, number_of};
 use std::alloc::{AllocError, Global};
@@ -22,13 +27,13 @@ fn form_of<K: Roles>(op: Ptr<Operation>, ctx: &Context) -> Option<Form>
     }
 }
 
-impl<K: Grammar> NameScopes for KindNotation<K> {
+impl<K: Grammar, L: Rules<ByRoles<K>>> NameScopes for KindNotation<K, L> {
     fn begins_names(_op: Ptr<Operation>, _ctx: &Context) -> bool {
         false
     }
 }
 
-impl<K: Grammar> ShownNotation for KindNotation<K> {
+impl<K: Grammar, L: Rules<ByRoles<K>>> ShownNotation for KindNotation<K, L> {
     ghost faults = { faults_as_unreadable };
 
     fn fault_message(alloc: Global, source: &Source) -> Result<Option<String>, OptError> {
@@ -95,5 +100,26 @@ impl<K: Grammar> ShownNotation for KindNotation<K> {
         index: usize,
     ) -> &'t [u8] {
         forwarded_names(words, index).unwrap_or(b"")
+    }
+}
+
+impl<K: Grammar + Interprets, L: Rules<ByRoles<K>>> Runnable for KindNotation<K, L> {
+    fn run_sight(
+        alloc: Global,
+        root: Ptr<Operation>,
+        ctx: &Context,
+        options: &RunOptions,
+        notes: &mut Notes,
+    ) -> Result<Sight, AllocError> {
+        evaluated_sight::<RunByRoles<K>>(alloc, root, ctx, options, notes)
+    }
+
+    fn trap_reason(
+        _alloc: Global,
+        _ctx: &Context,
+        _op: Ptr<Operation>,
+        _input: Option<&[Datum]>,
+    ) -> Result<TrapReason, OptError> {
+        Ok(TrapReason::Unknown)
     }
 }

@@ -7,11 +7,13 @@ ghost use Rattle.pliron_show_places.specs.Layout.{words_of};
 ghost use Rattle.pliron_evaluator.specs.Evaluator.{sight_of};
 ghost use Rattle.pliron_show.specs.Faults.{TextFaults};
 
+use crate::run_report::RunOptions;
+use crate::trap_reason::TrapReason;
 use pliron_core::{Context, Operation, Ptr};
 use pliron_driver::{Document, Notation};
-use pliron_evaluator::evaluator::Sight;
+use pliron_evaluator::evaluator::{Datum, Notes, Sight};
 use pliron_laws::OptError;
-use pliron_show_places::{RunOptions, Source, TextParts};
+use pliron_show_places::{Source, TextParts};
 use std::alloc::{AllocError, Global};
 
 /// What the names of new values and of new blocks begin with.
@@ -100,14 +102,25 @@ pub trait ShownNotation: Notation + NameScopes {
 
 /// A notation whose operations are run for people, on numbers.
 pub trait Runnable: ShownNotation {
-    /// What is seen of a run of the operation. Errors: allocation failure. Cost: that of the run.
+    /// What is seen of a run of the operation, with notes of its moves. Errors: allocation failure. Cost: that of the run.
     fn run_sight(
         alloc: Global,
         root: Ptr<Operation>,
         ctx: &Context,
         options: &RunOptions,
+        notes: &mut Notes,
     ) -> Result<Sight, AllocError>
         ensures { IfOk result (λ sight. sight_of sight ≡ seen_of
             (run Self.D.meaning ctx.now.tree root (map NumberOf options.now.inputs.now)
             (map NumberOf options.now.world.now) options.now.steps)) };
+
+    /// Why the operation that took this input traps; without an input, why it may. Asks that it is live (`is_live` tests
+    /// it). Errors: allocation failure. Cost: linear in its operands.
+    fn trap_reason(
+        alloc: Global,
+        ctx: &Context,
+        op: Ptr<Operation>,
+        input: Option<&[Datum]>,
+    ) -> Result<TrapReason, OptError>
+        requires { IsLive ctx.now.tree op };
 }

@@ -17,11 +17,11 @@ use pliron_driver_instrument::{
     InstrumentationOptions, InstrumentedPipeline, InstrumentedStep, PipelineText, PlanError,
     Timeless, instrumented_pipeline,
 };
-use pliron_evaluator::evaluator::{Datum, Sight};
+use pliron_evaluator::evaluator::{Datum, Notes, Sight};
 use pliron_laws::OptError;
 use pliron_pass::{BenchFactKind, Pass};
-use pliron_show::Runnable;
-use pliron_show_places::{RunOptions, Source, sight_text};
+use pliron_show::{RunOptions, Runnable, sight_text};
+use pliron_show_places::Source;
 use std::alloc::{AllocError, Global};
 
 /// The options of runs before and after passes.
@@ -140,9 +140,9 @@ pub fn compare_text<N: Runnable>(
     let Some(root) = N::read(alloc, text, ctx)? else {
         return Ok(None);
     };
-    let before = N::run_sight(alloc, root, ctx, options)?;
+    let before = N::run_sight(alloc, root, ctx, options, &mut Notes::of_last(alloc))?;
     let _status = run_alone(alloc, pipeline, root, ctx)?;
-    let after = N::run_sight(alloc, root, ctx, options)?;
+    let after = N::run_sight(alloc, root, ctx, options, &mut Notes::of_last(alloc))?;
     Ok(Some(Sights { before, after }))
 }
 

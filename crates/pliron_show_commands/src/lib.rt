@@ -32,11 +32,11 @@ pub use optimising::{OptOptions, misspelling_outcome, opt};
 pub use outcome::Outcome;
 pub use pliron_driver::BenchNotation;
 pub use pliron_driver_instrument::{InstrumentationOptions, PipelineText, PlanError, Progress};
-pub use pliron_show::{Runnable, ShownNotation};
+pub use pliron_show::{EffectSink, RunOptions, Runnable, ShownNotation};
 pub use pliron_show_graphs::FlowOptions;
 pub use pliron_show_places::{
-    EffectSink, LineAndColumn, MessageForm, RunOptions, Source, SourceMark, TextRange,
-    blank_comments, in_form, isolate, mark_source, operation_range, position_of, without_mark,
+    LineAndColumn, MessageForm, Source, SourceMark, TextRange, blank_comments, in_form, isolate,
+    mark_source, operation_range, position_of, without_mark,
 };
 pub use running::{run, run_streamed};
 pub use strict::{opt_with_check, unfit_warning};

@@ -1,7 +1,9 @@
 //! Runs of texts, worked by hand: inputs, the world's answers, the text, and what is seen, where `|` stands for
 //! the end of a line.
 use crate::diagnostics::lines::with_lines;
-use pliron_show_places::{EffectSink, End, RunOptions, Source, run_text, run_text_streamed};
+use pliron_driver::BenchNotation;
+use pliron_show::{EffectSink, End, RunOptions, run_text, run_text_streamed};
+use pliron_show_places::Source;
 use std::alloc::Global;
 use std::process::Abort;
 
@@ -11,7 +13,7 @@ fn expect_run(rt: &impl Abort, alloc: Global, text: &str, wanted: &str, options:
         name: "in.plir",
         text: text.as_bytes(),
     };
-    let reported = run_text(alloc, &source, options)
+    let reported = run_text::<BenchNotation>(alloc, &source, options)
         .expect(rt, "memory")
         .expect(rt, "a readable text");
     assert!(rt;
@@ -67,7 +69,7 @@ fn expect_last_move(rt: &impl Abort, alloc: Global, text: &str, wanted: &str) {
         steps: 20,
         trace: false,
     };
-    let reported = run_text(alloc, &source, &options)
+    let reported = run_text::<BenchNotation>(alloc, &source, &options)
         .expect(rt, "memory")
         .expect(rt, "a readable text");
     assert!(rt;
@@ -131,7 +133,7 @@ fn moves_and_traps_are_reported(rt: HostRuntime) {
         steps: 100,
         trace: true,
     };
-    let reported = run_text(rt.alloc(), &source, &options)
+    let reported = run_text::<BenchNotation>(rt.alloc(), &source, &options)
         .expect(&rt, "memory")
         .expect(&rt, "a readable text");
     assert!(rt;
@@ -162,14 +164,14 @@ fn expect_streamed(rt: &impl Abort, alloc: Global, text: &str, options: &RunOpti
         name: "in.plir",
         text: text.as_bytes(),
     };
-    let whole = run_text(alloc, &source, options)
+    let whole = run_text::<BenchNotation>(alloc, &source, options)
         .expect(rt, "memory")
         .expect(rt, "a readable text");
     let mut reported = Recorded {
         text: Vec::new(alloc),
         times: 0,
     };
-    let streamed = run_text_streamed(alloc, &source, options, &mut reported)
+    let streamed = run_text_streamed::<BenchNotation, _>(alloc, &source, options, &mut reported)
         .expect(rt, "memory")
         .expect(rt, "a readable text");
     reported

@@ -165,13 +165,16 @@ impl Notation for BenchNotation {
     fn empty_sheet(_: Global) {}
 }
 
-/// The notation of the dialect of these kinds, by their grammar.
-pub struct KindNotation<K>(PhantomData<K>);
+/// The notation of the dialect of these kinds, by their grammar. The pass `combine` has these rules.
+pub struct KindNotation<K, L = NoRules> {
+    of: PhantomData<K>,
+    by: PhantomData<L>,
+}
 
-impl<K: Grammar> Notation for KindNotation<K> {
+impl<K: Grammar, L: Rules<ByRoles<K>>> Notation for KindNotation<K, L> {
     type D = ByRoles<K>;
 
-    type Rules = NoRules;
+    type Rules = L;
 
     type Sheet = ();
 

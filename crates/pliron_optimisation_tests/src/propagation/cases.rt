@@ -1,23 +1,26 @@
-//! Texts, and what constant propagation makes of them.
+//! Texts, and what constant propagation makes of them, worked out by hand.
 //!
 //! A line has a name; `C` before a text that changes and `U` before one that does not; then how many blocks are
 //! executable, how many values defined in these are constants and how many others are not; then the text before and
 //! after.
 //!
-//! `ROWS` were worked out by hand. The lines of `HOSTILE` have no counts: uses are before definitions or use
-//! themselves, edges forward too few values or too many, and blocks end without a terminator. They were worked
-//! out by hand, where the order of work decides nothing. In `DEFERRED`, worked out by hand too, an operation has
-//! more operands than what is visited at once: sums of a loop that are lowered one after the other and that a
-//! branch behind it forwards; branches that come to be feasible only when their condition is lowered, one by
-//! itself, one after what it forwards was lowered too, and two of which the shorter one is visited first; a
-//! loop in which such a branch lowers its own operands, and one in which two lower each other's in turn; one of
-//! which the last operand is lowered that it forwards along an edge which isn't feasible, to a block that is
-//! reached; and a loop that moves the arguments of a `scope` on to its next operands, with three operands, and
-//! with ten of which the last two stay constant: the loop forwards a constant to the ninth, and so what is
-//! named for it to the tenth. In `ENTERED`, by hand as well, what is no branch leads to blocks of nine
-//! arguments: two to one of these, and one twice to one of eight; three edges to a block to which a branch
-//! forwarded constants, visited before the first of them or after it; one from such a block to itself; and one
-//! to a block to which a branch forwards constants later, beside a block that branches alone enter.
+//! - `ROWS`: texts that make sense.
+//! - `HOSTILE`, without counts: texts that are well linked alone. Uses are before definitions or use themselves, edges
+//!   forward too few values or too many, and blocks end without a terminator. The order of work decides nothing.
+//! - `DEFERRED`: an operation has more operands than what is visited at once.
+//!   - Sums of a loop are lowered one after the other, and a branch behind it forwards them.
+//!   - Branches come to be feasible only when their condition is lowered: one by itself, one after what it forwards,
+//!     and two of which the shorter one is visited first.
+//!   - In a loop such a branch lowers its own operands; in another one two lower each other's in turn.
+//!   - A branch forwards its last operand, which is lowered, along an edge that isn't feasible, to a block that is
+//!     reached.
+//!   - A loop moves the arguments of a `scope` on to its next operands. There are three operands; or ten, of which the
+//!     last two stay constant: the loop forwards a constant to the ninth, and to the tenth what is named for it.
+//! - `ENTERED`: operations that are no branches lead to blocks of nine arguments.
+//!   - Two lead to one of these, and one twice to a block of eight.
+//!   - Three edges lead to a block to which a branch forwarded constants, visited before the first of them or after it.
+//!   - An edge leads from such a block to itself.
+//!   - An edge leads to a block to which a branch forwards constants later; branches alone enter the block beside it.
 
 pub static ROWS: &str = "\
 a sum of two constants -- C blocks=1 constants=3 others=0 func { b0(): a = const 1; b = const 2; c = add a b; ret c } => func { b0(): v0 = const 1; v1 = const 2; v2 = const 3; v3 = add v0 v1; ret v2 }

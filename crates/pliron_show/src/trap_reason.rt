@@ -1,15 +1,15 @@
 //! Why runs trap.
 ghost use Rattle.pliron_core.specs.Tree.{IsLive};
 
+use crate::shown::Runnable;
 use pliron_core::{Context, Def, Operation, Ptr, Value};
-use pliron_dialect_bench::{Bench, BenchKind};
 use pliron_evaluator::evaluator::{Datum, NotedMove};
 use pliron_laws::{Dialect, OptError};
 use std::alloc::{AllocError, Global};
 
 /// Why an operation traps.
 #[derive(Clone, Copy, Debug, Drop, PartialEq, Eq)]
-pub(crate) enum TrapReason {
+pub enum TrapReason {
     /// The operand at this index isn't defined yet.
     Undefined(usize),
     /// It divides by 0.
@@ -24,8 +24,8 @@ pub(crate) enum TrapReason {
 }
 
 impl TrapReason {
-    // What is written under the operation. Errors: allocation failure.
-    pub(crate) fn label(self, alloc: Global) -> Result<String, AllocError> {
+    /// What is written under the operation. Errors: allocation failure. Cost: constant.
+    pub fn label(self, alloc: Global) -> Result<String, AllocError> {
         match self {
             TrapReason::Undefined(index) => {
                 let number = index.saturating_add(1);
@@ -43,14 +43,6 @@ impl TrapReason {
             }
             TrapReason::Unknown => format!(in alloc; "at this operation"),
         }
-    }
-}
-
-// The number that the datum at this index is.
-fn number_at(input: &[Datum], index: usize) -> Option<i128> {
-    match input.get(index)? {
-        Datum::Number(number) => Some(*number),
-        _ => None,
     }
 }
 
@@ -90,8 +82,9 @@ fn undefined_operand(ctx: &Context, op: Ptr<Operation>, moves: &[NotedMove]) -> 
     TrapReason::Unknown
 }
 
-// The counts of the branch's edge at this index. Errors: allocation failure.
-fn edge_counts(
+/// The counts of the branch's edge at this index: the values that it passes, and those that its block takes. Asks that
+/// the operation is live (`is_live` tests it). Errors: allocation failure. Cost: linear in the values.
+pub fn edge_counts<D: Dialect>(
     alloc: Global,
     ctx: &Context,
     op: Ptr<Operation>,
@@ -99,44 +92,20 @@ fn edge_counts(
 ) -> Result<TrapReason, OptError>
     requires { IsLive ctx.now.tree op }
 {
-    if !Bench::is_branch(op, ctx) {
+    if !D::is_branch(op, ctx) {
         return Ok(TrapReason::Unknown);
     }
     if index >= op.num_successor(ctx) {
         return Ok(TrapReason::Unknown);
     }
-    let passed = Bench::successor_operands(alloc, op, ctx, index)?.len();
+    let passed = D::successor_operands(alloc, op, ctx, index)?.len();
     let taken = op.get_successor(ctx, index).num_argument(ctx);
     Ok(TrapReason::Count { passed, taken })
 }
 
-// Why the operation that took this input trapped. Errors: allocation failure.
-fn reason_by_input(
-    alloc: Global,
-    ctx: &Context,
-    op: Ptr<Operation>,
-    input: &[Datum],
-) -> Result<TrapReason, OptError>
-    requires { IsLive ctx.now.tree op }
-{
-    match BenchKind::from_number(op.head(ctx).kind) {
-        Some(BenchKind::Div) => Ok(match number_at(input, 1) {
-            Some(0) => TrapReason::DivisionByZero,
-            Some(_) => TrapReason::QuotientTooLarge,
-            None => TrapReason::Division,
-        }),
-        Some(BenchKind::Br) => edge_counts(alloc, ctx, op, 0),
-        Some(BenchKind::Cbr) => match number_at(input, 0) {
-            Some(0) => edge_counts(alloc, ctx, op, 1),
-            _ => edge_counts(alloc, ctx, op, 0),
-        },
-        _ => Ok(TrapReason::Unknown),
-    }
-}
-
 // Why the operation that made the last of these moves, the first of which began the run, trapped. Errors: allocation
 // failure. Cost: linear in the moves for each operand.
-pub(crate) fn reason_of(
+pub(crate) fn reason_of<N: Runnable>(
     alloc: Global,
     ctx: &Context,
     moves: &[NotedMove],
@@ -148,18 +117,19 @@ pub(crate) fn reason_of(
         return Ok(TrapReason::Unknown);
     }
     match &last.input {
-        Some(input) => reason_by_input(alloc, ctx, last.op, input),
+        Some(input) => N::trap_reason(alloc, ctx, last.op, Some(input)),
         None => Ok(undefined_operand(ctx, last.op, moves)),
     }
 }
 
-// Why the operation traps, as far as its kind shows it. Cost: constant.
-pub(crate) fn reason_by_kind(ctx: &Context, op: Ptr<Operation>) -> TrapReason {
+// Why the operation traps, as far as it shows it. Errors: allocation failure. Cost: constant.
+pub(crate) fn reason_by_kind<N: Runnable>(
+    alloc: Global,
+    ctx: &Context,
+    op: Ptr<Operation>,
+) -> Result<TrapReason, OptError> {
     if !op.is_live(ctx) {
-        return TrapReason::Unknown;
+        return Ok(TrapReason::Unknown);
     }
-    match BenchKind::from_number(op.head(ctx).kind) {
-        Some(BenchKind::Div) => TrapReason::Division,
-        _ => TrapReason::Unknown,
-    }
+    N::trap_reason(alloc, ctx, op, None)
 }

@@ -1,5 +1,5 @@
 //! The command `opt`.
-use crate::dialect::TextFormat;
+use crate::format::TextFormat;
 use crate::input::CommandInput;
 use crate::pipeline::{first_passes, without_blanks};
 use clap::ArgMatches;
@@ -167,7 +167,7 @@ fn join_stages<N: ShownNotation>(
     whole: Outcome,
     staged: StageReport,
     answer: AnswerOptions,
-    dialect: TextFormat,
+    format: TextFormat,
 ) -> io::Result<Outcome> {
     let Outcome {
         output,
@@ -186,9 +186,9 @@ fn join_stages<N: ShownNotation>(
     let printed = std::str::from_utf8(&output).unwrap_or("").trim_end();
     let kept = named.as_deref();
     let kept = if answer.names_in_answer { kept } else { None };
-    let written = match dialect {
-        TextFormat::Bench => write_named_answer::<N>(alloc, printed, kept, answer.is_pretty),
-        TextFormat::Mlir => write_renamed_answer::<N>(alloc, printed, kept),
+    let written = match format {
+        TextFormat::Words => write_named_answer::<N>(alloc, printed, kept, answer.is_pretty),
+        TextFormat::Module => write_renamed_answer::<N>(alloc, printed, kept),
     };
     match written {
         Ok(mut output) => {
@@ -225,7 +225,7 @@ pub fn opt_as_asked<N: ShownNotation>(
     matches: &ArgMatches,
     word: &str,
     input: &CommandInput,
-    dialect: TextFormat,
+    format: TextFormat,
 ) -> io::Result<Outcome> {
     let alloc = rt.alloc();
     let pipeline = pipeline_of(alloc, matches, word)?;
@@ -252,7 +252,7 @@ pub fn opt_as_asked<N: ShownNotation>(
         is_pretty,
     )?;
     let outcome = match staged {
-        Some(staged) => join_stages::<N>(alloc, whole, staged, answer, dialect)?,
+        Some(staged) => join_stages::<N>(alloc, whole, staged, answer, format)?,
         None => whole,
     };
     if outcome.status != 0 {

@@ -1,7 +1,7 @@
 //! What the program reads.
-use crate::inner::{function_around, is_text};
+use crate::inner::{is_text, text_around};
+use crate::program::Program;
 use pliron_show_commands::{TextRange, blank_comments, isolate, operation_range, without_mark};
-use pliron_show_mlir::module_range;
 use std::alloc::{AllocError, Global};
 use std::fs;
 use std::io::{self, Read};
@@ -11,16 +11,23 @@ use std::io::{self, Read};
 pub struct CommandInput {
     /// All that was read, without a byte order mark.
     whole: Vec<u8>,
-    /// The text with blanks for comments, and for all but one `func` or `mod` where one is asked for.
+    /// The text with blanks for comments, and for all but one operation where one is asked for.
     pub text: Vec<u8>,
     /// Where that one is.
     part: Option<TextRange>,
-    /// Where the operation that is asked for is, if it is one inside a function: `text` is then the whole text.
+    /// Where the operation that is asked for is, if it is no text by itself: `text` is then the whole text.
     pub inner: Option<TextRange>,
 }
 
-// The bytes of the file, or of standard input where it is called `-`. Errors: those of the file. Cost: linear in it.
-fn bytes_of(rt: &HostRuntime, name: &str) -> io::Result<Vec<u8>> {
+/// The bytes of the file, without a byte order mark, or of standard input where it is called `-`. Errors: those of the file;
+/// allocation failure. Cost: linear in it.
+pub fn bytes_of(rt: &HostRuntime, name: &str) -> io::Result<Vec<u8>> {
+    let bytes = raw_bytes_of(rt, name)?;
+    Ok(Vec::from_slice(rt.alloc(), without_mark(&bytes))?)
+}
+
+// The bytes of the file, or of standard input where it is called `-`.
+fn raw_bytes_of(rt: &HostRuntime, name: &str) -> io::Result<Vec<u8>> {
     if name != "-" {
         return fs::read(rt, name);
     }
@@ -36,43 +43,13 @@ pub fn input_name(name: &str) -> &str {
 
 /// The graph in the file. Errors: those of the file; allocation failure. Cost: linear in it.
 pub fn read_graph_input(rt: &HostRuntime, name: &str) -> io::Result<CommandInput> {
-    let bytes = bytes_of(rt, name)?;
-    let whole = without_mark(&bytes);
+    let whole = bytes_of(rt, name)?;
     Ok(CommandInput {
         whole: Vec::new(rt.alloc()),
-        text: without_returns(rt.alloc(), whole)?,
+        text: without_returns(rt.alloc(), &whole)?,
         part: None,
         inner: None,
     })
-}
-
-/// The module in the file, or the operation in it that the path leads to, where a path is given. `None` where the path
-/// leads nowhere. Errors: those of the file; allocation failure. Cost: linear in it, and that of `module_range`.
-pub fn read_module_input(
-    rt: &HostRuntime,
-    name: &str,
-    path: Option<&str>,
-) -> io::Result<Option<CommandInput>> {
-    let alloc = rt.alloc();
-    let bytes = bytes_of(rt, name)?;
-    let whole = Vec::from_slice(alloc, without_mark(&bytes))?;
-    let part = match path {
-        Some(path) => match module_range(alloc, &whole, path)? {
-            Some(part) => Some(part),
-            None => return Ok(None),
-        },
-        None => None,
-    };
-    let text = match part {
-        Some(part) => isolate(alloc, &whole, part)?,
-        None => Vec::from_slice(alloc, &whole)?,
-    };
-    Ok(Some(CommandInput {
-        whole,
-        text,
-        part,
-        inner: None,
-    }))
 }
 
 // The bytes without the carriage return that some editors put before each end of a line. Errors: allocation failure.
@@ -88,17 +65,16 @@ fn without_returns(alloc: Global, bytes: &[u8]) -> Result<Vec<u8>, AllocError> {
     Ok(text)
 }
 
-/// The text in the file, or the `func` or `mod` in it that the path leads to, where a path is given; where that leads
-/// to an operation inside a function, the whole text, and where the operation is. `None` where the path leads nowhere.
+/// The text in the file, or the text by itself in it that the path leads to, where a path is given; where that leads to
+/// another operation, the whole text, and where the operation is. `None` where the path leads nowhere.
 /// Errors: those of the file; allocation failure. Cost: linear in it.
-pub fn read_input(
+pub fn read_input<P: Program>(
     rt: &HostRuntime,
     name: &str,
     path: Option<&str>,
 ) -> io::Result<Option<CommandInput>> {
     let alloc = rt.alloc();
-    let bytes = bytes_of(rt, name)?;
-    let whole = Vec::from_slice(alloc, without_mark(&bytes))?;
+    let whole = bytes_of(rt, name)?;
     let text = blank_comments(alloc, &whole)?;
     let Some(path) = path else {
         return Ok(Some(CommandInput {
@@ -111,7 +87,7 @@ pub fn read_input(
     let Some(part) = operation_range(&text, path) else {
         return Ok(None);
     };
-    let is_alone = is_text(&text, part);
+    let is_alone = is_text::<P>(&text, part);
     let text = if is_alone {
         isolate(alloc, &text, part)?
     } else {
@@ -152,10 +128,33 @@ fn push_lines(text: &mut Vec<u8>, answer: &[u8], blanks: &[u8]) -> Result<(), Al
 }
 
 impl CommandInput {
-    /// The text with blanks for all but the function around the operation that the path leads to. Errors: allocation
-    /// failure. Cost: that of `function_around`.
-    pub fn around_inner(&self, alloc: Global, path: &str) -> Result<Vec<u8>, AllocError> {
-        match function_around(&self.text, path) {
+    /// The input that is all of this text, of which the one part alone is to be taken, where there is one. Errors:
+    /// allocation failure. Cost: linear in it.
+    pub fn of_part(
+        alloc: Global,
+        whole: Vec<u8>,
+        part: Option<TextRange>,
+    ) -> Result<Self, AllocError> {
+        let text = match part {
+            Some(part) => isolate(alloc, &whole, part)?,
+            None => Vec::from_slice(alloc, &whole)?,
+        };
+        Ok(CommandInput {
+            whole,
+            text,
+            part,
+            inner: None,
+        })
+    }
+
+    /// The text with blanks for all but the text by itself around the operation that the path leads to. Errors: allocation
+    /// failure. Cost: that of `text_around`.
+    pub fn around_inner<P: Program>(
+        &self,
+        alloc: Global,
+        path: &str,
+    ) -> Result<Vec<u8>, AllocError> {
+        match text_around::<P>(&self.text, path) {
             Some((part, _)) if part.start.saturating_add(part.len) <= self.text.len() => {
                 isolate(alloc, &self.text, part)
             }

@@ -1,5 +1,6 @@
 //! Operations inside a function, which no command reads alone: what they name is defined around them, and no run begins
 //! there.
+use crate::program::Program;
 use pliron_show_commands::{
     LineAndColumn, Outcome, Source, SourceMark, TextRange, mark_source, operation_range,
     position_of,
@@ -11,22 +12,29 @@ fn is_name_byte(byte: u8) -> bool {
     byte.is_ascii_alphanumeric() || byte == b'_'
 }
 
-/// Whether the operation is a `func` or a `mod`, which is a text by itself. Cost: linear in the blanks before it.
-pub fn is_text(text: &[u8], part: TextRange) -> bool {
+// Whether the text begins with the word.
+fn begins_with_word(text: &[u8], word: &str) -> bool {
+    match text.strip_prefix(word.as_bytes()) {
+        Some(rest) => !rest.first().is_some_and(|byte| is_name_byte(*byte)),
+        None => false,
+    }
+}
+
+/// Whether the operation is a text by itself, as its word shows. Cost: linear in the blanks before it, and in the words of
+/// such operations.
+pub fn is_text<P: Program>(text: &[u8], part: TextRange) -> bool {
     let text = text.get(part.start..).unwrap_or(b"");
     let start = text
         .iter()
         .position(|byte| !byte.is_ascii_whitespace())
         .unwrap_or(0);
     let operation = text.get(start..).unwrap_or(b"");
-    let rest = match operation.strip_prefix(b"func") {
-        Some(rest) => Some(rest),
-        None => operation.strip_prefix(b"mod"),
-    };
-    match rest {
-        Some(rest) => !rest.first().is_some_and(|byte| is_name_byte(*byte)),
-        None => false,
+    for word in P::roots() {
+        if begins_with_word(operation, word) {
+            return true;
+        }
     }
+    false
 }
 
 /// The path to the operation, where the path leads to it or to a region of it. Cost: linear in it.
@@ -44,14 +52,14 @@ fn path_around(path: &str) -> Option<&str> {
     Some(operation_path(region))
 }
 
-/// The nearest `func` or `mod` around the operation that the path leads to, and the path to it. Cost: linear in the
-/// text for each operation around it.
-pub fn function_around<'p>(text: &[u8], path: &'p str) -> Option<(TextRange, &'p str)> {
+/// The nearest text by itself around the operation that the path leads to, and the path to it. Cost: linear in the text
+/// for each operation around it.
+pub fn text_around<'p, P: Program>(text: &[u8], path: &'p str) -> Option<(TextRange, &'p str)> {
     let mut at = path;
     for _ in 0..path.len() {
         at = path_around(at)?;
         let part = operation_range(text, at)?;
-        if is_text(text, part) {
+        if is_text::<P>(text, part) {
             return Some((part, at));
         }
     }
@@ -60,7 +68,7 @@ pub fn function_around<'p>(text: &[u8], path: &'p str) -> Option<(TextRange, &'p
 
 /// The outcome of a command that takes no operation inside a function: it reports where that operation is, and which
 /// path leads to the function. Errors: allocation failure. Cost: linear in the text.
-pub fn inner_failure(
+pub fn inner_failure<P: Program>(
     alloc: Global,
     source: &Source,
     part: TextRange,
@@ -69,13 +77,13 @@ pub fn inner_failure(
     let message = format!(in alloc; "`{path}` is an operation inside a function")?;
     let mark = SourceMark {
         message: message.as_str(),
-        label: "only a `func` or a `mod` is taken alone",
+        label: P::roots_label(),
         name: source.name,
         start: part.start,
         len: part.len,
     };
     let mut report = mark_source(alloc, source.text, &mark)?;
-    let (_, around) = function_around(source.text, path).unwrap_or((part, "0"));
+    let (_, around) = text_around::<P>(source.text, path).unwrap_or((part, "0"));
     write!(
         report,
         "help: take the function, as by `--at {around}`; `explain` and `dot` take this operation, too\n"

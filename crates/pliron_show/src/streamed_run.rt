@@ -1,13 +1,12 @@
 //! Runs whose effects are reported while they go on.
 use crate::run_report::{
-    FinishedRun, RunOptions, RunReport, effects_text, end_of, notes_for, report_of, run_sight,
-    sight_text,
+    FinishedRun, RunOptions, RunReport, effects_text, end_of, notes_for, report_of, sight_text,
 };
-use crate::source_mark::Source;
+use crate::shown::Runnable;
 use pliron_core::{Context, Operation, Ptr};
 use pliron_evaluator::evaluator::{Notes, Sight};
 use pliron_laws::OptError;
-use pliron_text::read_text;
+use pliron_show_places::Source;
 use std::alloc::{AllocError, Global};
 
 /// Receives the effects of a run as they come.
@@ -57,7 +56,7 @@ impl RunPart {
     }
 
     // What is reported of the run that came to this end, but for the effects that the sink was given.
-    fn report(
+    fn report<N: Runnable>(
         self,
         alloc: Global,
         ctx: &Context,
@@ -67,14 +66,14 @@ impl RunPart {
         let rest = std::str::from_utf8(bytes_behind(&seen, self.reported)).unwrap_or("");
         Ok(RunReport {
             seen: String::from_str(alloc, rest)?,
-            report: report_of(alloc, ctx, run)?,
+            report: report_of::<N>(alloc, ctx, run)?,
             end: end_of(run.sight),
         })
     }
 }
 
 // What is reported of the run of the operation, which was read from the text, once its effects were given to the sink.
-fn report_of_parts<S: EffectSink>(
+fn report_of_parts<N: Runnable, S: EffectSink>(
     alloc: Global,
     source: &Source,
     options: &RunOptions,
@@ -93,7 +92,7 @@ fn report_of_parts<S: EffectSink>(
             ..*options
         };
         let mut notes: Notes = notes_for(alloc, &own);
-        let sight = run_sight(alloc, root, ctx, &own, &mut notes)?;
+        let sight = N::run_sight(alloc, root, ctx, &own, &mut notes)?;
         let is_heard = part.report_effects(alloc, &sight, sink)?;
         if is_heard && continues(&sight, options, part.moves) {
             part.moves = part.moves.saturating_mul(4).min(options.steps);
@@ -106,7 +105,7 @@ fn report_of_parts<S: EffectSink>(
             notes: &notes,
             sight: &sight,
         };
-        return Ok(Some(part.report(alloc, ctx, &run)?));
+        return Ok(Some(part.report::<N>(alloc, ctx, &run)?));
     }
     Ok(None)
 }
@@ -115,26 +114,26 @@ fn report_of_parts<S: EffectSink>(
 /// latest once the run made four times as many moves as before the effect. `None` for an unreadable text.
 ///
 /// Errors: allocation failure. Cost: reading, and that of `evaluate_noting` for a third more moves than the run makes.
-pub fn run_text_streamed<S: EffectSink>(
+pub fn run_text_streamed<N: Runnable, S: EffectSink>(
     alloc: Global,
     source: &Source,
     options: &RunOptions,
     sink: &mut S,
 ) -> Result<Option<RunReport>, OptError> {
     let mut ctx = Context::new(alloc);
-    run_streamed_in(alloc, source, options, &mut ctx, sink)
+    run_streamed_in::<N, S>(alloc, source, options, &mut ctx, sink)
 }
 
 // The same in this context.
-fn run_streamed_in<S: EffectSink>(
+fn run_streamed_in<N: Runnable, S: EffectSink>(
     alloc: Global,
     source: &Source,
     options: &RunOptions,
     ctx: &mut Context,
     sink: &mut S,
 ) -> Result<Option<RunReport>, OptError> {
-    match read_text(alloc, source.text, ctx)? {
-        Some(root) => report_of_parts(alloc, source, options, root, ctx, sink),
+    match N::read(alloc, source.text, ctx)? {
+        Some(root) => report_of_parts::<N, S>(alloc, source, options, root, ctx, sink),
         None => Ok(None),
     }
 }

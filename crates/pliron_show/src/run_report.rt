@@ -2,18 +2,18 @@
 ghost use Rattle.std.specs.Prelude.{◌≡◌, map, IfOk};
 ghost use Rattle.pliron_laws.specs.Datum.{Number as NumberOf};
 ghost use Rattle.pliron_laws.specs.Machine.{run, sight_after as sight_seen};
-ghost use Rattle.pliron_dialect_bench.specs.BenchMoves.{bench};
 ghost use Rattle.pliron_evaluator.specs.Evaluator.{datum_of_value, sight_of};
 
-use crate::operation_ranges::{operation_places, place_of};
-use crate::source_mark::{Source, SourceMark, mark_source_as, push_bytes};
-use crate::text_parts::TextPart;
+use crate::shown::Runnable;
 use crate::trap_reason::{TrapReason, reason_by_kind, reason_of};
 use pliron_core::{Context, Operation, Ptr};
-use pliron_dialect_bench::Bench;
-use pliron_evaluator::evaluator::{Datum, NotedMove, Notes, RunInputs, Sight, evaluate_noting};
+use pliron_evaluator::evaluator::{
+    Datum, Evaluate, NotedMove, Notes, RunInputs, Sight, evaluate_noting,
+};
 use pliron_laws::OptError;
-use pliron_text::read_text;
+use pliron_show_places::{
+    Source, SourceMark, TextPart, mark_source_as, operation_places, place_of, push_bytes,
+};
 use std::alloc::{AllocError, Global};
 
 /// What a run is given.
@@ -147,9 +147,9 @@ pub fn end_of(sight: &Sight) -> End {
     }
 }
 
-/// What is seen of the run of the operation, with notes of its moves. Errors: allocation failure. Cost: that of
-/// `evaluate_noting`.
-pub fn run_sight(
+/// What is seen of the run of the operation in this dialect, with notes of its moves. Errors: allocation failure. Cost:
+/// that of `evaluate_noting`.
+pub fn evaluated_sight<D: Evaluate>(
     alloc: Global,
     root: Ptr<Operation>,
     ctx: &Context,
@@ -157,7 +157,7 @@ pub fn run_sight(
     notes: &mut Notes,
 ) -> Result<Sight, AllocError>
     ensures { IfOk result (λ sight. sight_of sight ≡ sight_seen
-        (run bench ctx.now.tree root (map NumberOf options.now.inputs.now) (map NumberOf options.now.world.now)
+        (run D.meaning ctx.now.tree root (map NumberOf options.now.inputs.now) (map NumberOf options.now.world.now)
         options.now.steps)) }
 {
     let inputs = data(alloc, options.inputs)?;
@@ -167,7 +167,7 @@ pub fn run_sight(
         world,
         fuel: options.steps,
     };
-    evaluate_noting::<Bench>(alloc, ctx, root, given, notes)
+    evaluate_noting::<D>(alloc, ctx, root, given, notes)
 }
 
 // Writes each move: where its operation is, how it is written, and the data that it takes.
@@ -217,26 +217,30 @@ struct LastMove {
 }
 
 // Why the run trapped: its moves are noted, or else it is run again to note them.
-fn trap_reason(alloc: Global, ctx: &Context, run: &FinishedRun) -> Result<TrapReason, OptError> {
+fn trap_reason<N: Runnable>(
+    alloc: Global,
+    ctx: &Context,
+    run: &FinishedRun,
+) -> Result<TrapReason, OptError> {
     if run.options.trace {
-        return reason_of(alloc, ctx, &run.notes.moves);
+        return reason_of::<N>(alloc, ctx, &run.notes.moves);
     }
     let mut notes = Notes::of_all(alloc);
     let options = RunOptions {
         steps: run.options.steps.min(MOST_NOTED),
         ..*run.options
     };
-    match run_sight(alloc, run.root, ctx, &options, &mut notes)? {
-        Sight::Trapped(_) => reason_of(alloc, ctx, &notes.moves),
-        _ => Ok(match run.notes.last {
-            Some(op) => reason_by_kind(ctx, op),
-            None => TrapReason::Unknown,
-        }),
+    match N::run_sight(alloc, run.root, ctx, &options, &mut notes)? {
+        Sight::Trapped(_) => reason_of::<N>(alloc, ctx, &notes.moves),
+        _ => match run.notes.last {
+            Some(op) => reason_by_kind::<N>(alloc, ctx, op),
+            None => Ok(TrapReason::Unknown),
+        },
     }
 }
 
 // What is reported of the run's last move, where the run didn't end with values.
-fn last_move(
+fn last_move<N: Runnable>(
     alloc: Global,
     ctx: &Context,
     run: &FinishedRun,
@@ -246,7 +250,7 @@ fn last_move(
         Sight::Trapped(_) => Some(LastMove {
             severity: "error",
             message: "the run trapped",
-            label: trap_reason(alloc, ctx, run)?.label(alloc)?,
+            label: trap_reason::<N>(alloc, ctx, run)?.label(alloc)?,
         }),
         Sight::Reached(effects) if effects.len() > run.options.world.len() => Some(LastMove {
             severity: "note",
@@ -267,7 +271,7 @@ fn last_move(
 // What is reported beside what is seen: the moves that are noted, and a mark under the operation that made the last one
 // where the run didn't end with values. Errors: allocation failure. Cost: linear in the text and the moves, and where
 // the run trapped that of running it again.
-pub(crate) fn report_of(
+pub(crate) fn report_of<N: Runnable>(
     alloc: Global,
     ctx: &Context,
     run: &FinishedRun,
@@ -279,7 +283,7 @@ pub(crate) fn report_of(
         Some(op) => place_of(&places, run.root, op),
         None => None,
     };
-    if let Some(last) = last_move(alloc, ctx, run)?
+    if let Some(last) = last_move::<N>(alloc, ctx, run)?
         && let Some(place) = place
     {
         let mark = SourceMark {
@@ -298,26 +302,26 @@ pub(crate) fn report_of(
 /// What is reported of the run of a text's operation; `None` for an unreadable text.
 ///
 /// Errors: allocation failure. Cost: reading, and that of `evaluate_noting`, twice where the run trapped.
-pub fn run_text(
+pub fn run_text<N: Runnable>(
     alloc: Global,
     source: &Source,
     options: &RunOptions,
 ) -> Result<Option<RunReport>, OptError> {
     let mut ctx = Context::new(alloc);
-    run_text_in(alloc, source, options, &mut ctx)
+    run_text_in::<N>(alloc, source, options, &mut ctx)
 }
 
 // The same in this context.
-fn run_text_in(
+fn run_text_in<N: Runnable>(
     alloc: Global,
     source: &Source,
     options: &RunOptions,
     ctx: &mut Context,
 ) -> Result<Option<RunReport>, OptError> {
-    let Some(root) = read_text(alloc, source.text, ctx)? else {
+    let Some(root) = N::read(alloc, source.text, ctx)? else {
         return Ok(None);
     };
-    Ok(Some(report_of_run(alloc, source, options, root, ctx)?))
+    Ok(Some(report_of_run::<N>(alloc, source, options, root, ctx)?))
 }
 
 // The notes that the options ask for. Cost: constant.
@@ -330,7 +334,7 @@ pub(crate) fn notes_for(alloc: Global, options: &RunOptions) -> Notes {
 }
 
 // What is reported of the run of the operation, which was read from the text.
-fn report_of_run(
+fn report_of_run<N: Runnable>(
     alloc: Global,
     source: &Source,
     options: &RunOptions,
@@ -338,7 +342,7 @@ fn report_of_run(
     ctx: &Context,
 ) -> Result<RunReport, OptError> {
     let mut notes = notes_for(alloc, options);
-    let sight = run_sight(alloc, root, ctx, options, &mut notes)?;
+    let sight = N::run_sight(alloc, root, ctx, options, &mut notes)?;
     let run = FinishedRun {
         source,
         root,
@@ -346,7 +350,7 @@ fn report_of_run(
         notes: &notes,
         sight: &sight,
     };
-    let report = report_of(alloc, ctx, &run)?;
+    let report = report_of::<N>(alloc, ctx, &run)?;
     let seen = sight_text(alloc, &sight)?;
     Ok(RunReport {
         seen,

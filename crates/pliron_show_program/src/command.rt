@@ -1,4 +1,5 @@
-//! The words of the program. Help texts are written in one line each; `help` lays them out.
+//! The words of a program. Help texts are written in one line each; `help` lays them out.
+use crate::program::Program;
 use clap::{Arg, ArgAction, ArgMatches, Command, Error, value_parser};
 use std::alloc::{AllocError, Global};
 
@@ -58,34 +59,34 @@ fn format<'a>(alloc: Global) -> Arg<'a> {
         )
 }
 
-fn at<'a>(alloc: Global) -> Arg<'a> {
-    Arg::new(alloc, "at").long("at").value_name("PATH").help(
-        "Take this `func` or `mod` of the text alone (`dot` and `explain`: any operation): numbers with dots \
-         between them, as `0.1` for operation 1 of region 0, counted from 0; `0.1.0`, its region, says the same",
-    )
+fn at<'a, P: Program>(alloc: Global) -> Arg<'a> {
+    Arg::new(alloc, "at")
+        .long("at")
+        .value_name("PATH")
+        .help(P::at_help())
 }
 
-/// The notations of texts.
-static DIALECTS: [&str; 2] = ["bench", "mlir"];
-
-fn dialect<'a>(alloc: Global) -> Arg<'a> {
+fn dialect<'a, P: Program>(alloc: Global) -> Arg<'a> {
     Arg::new(alloc, "dialect")
         .long("dialect")
         .value_name("NAME")
-        .value_parser(DIALECTS.as_slice())
+        .value_parser(P::dialects())
         .hide_possible_values(true)
-        .help(
-            "What the text is written in: `bench`, or `mlir`, the generic form of MLIR, as it is for a FILE that ends \
-             with `.mlir`",
-        )
+        .help(P::dialect_help())
 }
 
 // The flags that each command with a text has.
-fn with_common<'a>(command: Command<'a>, alloc: Global) -> Result<Command<'a>, AllocError> {
-    command
-        .arg(at(alloc))?
-        .arg(dialect(alloc))?
-        .arg(format(alloc))
+fn with_common<'a, P: Program>(
+    command: Command<'a>,
+    alloc: Global,
+) -> Result<Command<'a>, AllocError> {
+    let command = command.arg(at::<P>(alloc))?;
+    let command = if P::dialects().is_empty() {
+        command
+    } else {
+        command.arg(dialect::<P>(alloc))?
+    };
+    command.arg(format(alloc))
 }
 
 /// The statuses of `run`.
@@ -94,7 +95,7 @@ static RUN_STATUSES: &str =
      can't be used; 3 where the run traps or is cut off. With --compare: 0 where both runs end or trap and the \
      same is seen; 3 where one is cut off or something differs.";
 
-fn run<'a>(alloc: Global) -> Result<Command<'a>, AllocError> {
+fn run<'a, P: Program>(alloc: Global) -> Result<Command<'a>, AllocError> {
     let run = Command::new(alloc, "run")
         .about("Runs a text, and writes its effects as they come and how it ends")
         .after_help(RUN_STATUSES)
@@ -117,7 +118,7 @@ fn run<'a>(alloc: Global) -> Result<Command<'a>, AllocError> {
             "Tell each move with what it takes, on standard error",
         ))?
         .arg(compare(alloc)?)?;
-    with_common(run, alloc)
+    with_common::<P>(run, alloc)
 }
 
 fn compare<'a>(alloc: Global) -> Result<Arg<'a>, AllocError> {
@@ -247,7 +248,7 @@ fn with_reports<'a>(command: Command<'a>, alloc: Global) -> Result<Command<'a>, 
         .arg(flag(alloc, "list-passes", "Tell the passes, and read no text"))
 }
 
-fn opt<'a>(alloc: Global) -> Result<Command<'a>, AllocError> {
+fn opt<'a, P: Program>(alloc: Global) -> Result<Command<'a>, AllocError> {
     let opt = Command::new(alloc, "opt")
         .about("Runs passes on a text, and writes the text that they leave")
         .after_help(OPT_STATUSES)
@@ -263,7 +264,7 @@ fn opt<'a>(alloc: Global) -> Result<Command<'a>, AllocError> {
             "pretty",
         )?)?;
     let opt = with_reports(with_prints(opt, alloc)?, alloc)?;
-    with_common(opt.arg(color(alloc))?, alloc)
+    with_common::<P>(opt.arg(color(alloc))?, alloc)
 }
 
 /// When to write colours.
@@ -283,12 +284,12 @@ static CHECK_STATUSES: &str =
     "Statuses: 0 where the text, or each function of a `mod`, is fit to run; 1 where memory was refused; 2 for \
      words, files and texts that can't be used; 3 where it isn't fit.";
 
-fn check<'a>(alloc: Global) -> Result<Command<'a>, AllocError> {
+fn check<'a, P: Program>(alloc: Global) -> Result<Command<'a>, AllocError> {
     let check = Command::new(alloc, "check")
         .about("Tells whether a text is fit to run, or one thing that is wrong")
         .after_help(CHECK_STATUSES)
         .arg(file(alloc))?;
-    with_common(check, alloc)
+    with_common::<P>(check, alloc)
 }
 
 /// The statuses of the commands that draw.
@@ -301,7 +302,7 @@ static EXPLAIN_STATUSES: &str =
     "Statuses: 0 where the answer is written; 1 where memory or the passes were refused; 2 for words, files and \
      texts that can't be used.";
 
-fn dot<'a>(alloc: Global) -> Result<Command<'a>, AllocError> {
+fn dot<'a, P: Program>(alloc: Global) -> Result<Command<'a>, AllocError> {
     let dot = Command::new(alloc, "dot")
         .about("Draws the control flow of a text, as `dot` of Graphviz reads it")
         .after_help(STATUSES)
@@ -337,7 +338,7 @@ fn dot<'a>(alloc: Global) -> Result<Command<'a>, AllocError> {
                 .value_name("TITLE")
                 .help("What to write above the picture"),
         )?;
-    with_common(dot, alloc)
+    with_common::<P>(dot, alloc)
 }
 
 fn graph<'a>(alloc: Global) -> Result<Command<'a>, AllocError> {
@@ -349,7 +350,7 @@ fn graph<'a>(alloc: Global) -> Result<Command<'a>, AllocError> {
         .arg(format(alloc))
 }
 
-fn explain<'a>(alloc: Global) -> Result<Command<'a>, AllocError> {
+fn explain<'a, P: Program>(alloc: Global) -> Result<Command<'a>, AllocError> {
     let explain = Command::new(alloc, "explain")
         .about("Tells why passes changed or took out operations and arguments")
         .after_help(EXPLAIN_STATUSES)
@@ -366,7 +367,7 @@ fn explain<'a>(alloc: Global) -> Result<Command<'a>, AllocError> {
             "missed",
             "Tell also what the passes left as it is, and why",
         ))?;
-    with_common(explain, alloc)
+    with_common::<P>(explain, alloc)
 }
 
 // The command with one more under it, if that could be made.
@@ -380,28 +381,26 @@ fn with<'a>(
     }
 }
 
-/// What there is beside the program.
-static BESIDE: &str =
-    "The script ./plir has more commands, each with --help: reduce (a failing text made small), bisect (the \
-     first run of a pass that does it), test (RUN and CHECK lines) and report (a page).";
-
-fn command<'a>(alloc: Global) -> Result<Command<'a>, AllocError> {
-    let plir = Command::new(alloc, "plir")
+fn command<'a, P: Program>(alloc: Global) -> Result<Command<'a>, AllocError> {
+    let all = Command::new(alloc, P::name())
         .version("0.1.0")
-        .about("Texts of operations: runs, passes, what is wrong and where, pictures, reasons")
-        .after_help(BESIDE)
+        .about(P::about())
+        .after_help(P::beside())
         .subcommand_required(true)
         .arg_required_else_help(true);
-    let plir = with(plir, run(alloc))?;
-    let plir = with(plir, check(alloc))?;
-    let plir = with(plir, opt(alloc))?;
-    let plir = with(plir, dot(alloc))?;
-    let plir = with(plir, graph(alloc))?;
-    with(plir, explain(alloc))
+    let all = with(all, run::<P>(alloc))?;
+    let all = with(all, check::<P>(alloc))?;
+    let all = with(all, opt::<P>(alloc))?;
+    let all = with(all, dot::<P>(alloc))?;
+    let all = with(all, graph(alloc))?;
+    with(all, explain::<P>(alloc))
 }
 
 /// What the words ask for, of which the first is the program's name. Errors: words that the program doesn't have, or
 /// asking for help; allocation failure. Cost: linear in the words.
-pub fn parse_arguments<'a>(alloc: Global, words: &'a [String]) -> Result<ArgMatches<'a>, Error> {
-    command(alloc)?.try_get_matches_from(words)
+pub fn parse_arguments<'a, P: Program>(
+    alloc: Global,
+    words: &'a [String],
+) -> Result<ArgMatches<'a>, Error> {
+    command::<P>(alloc)?.try_get_matches_from(words)
 }
