@@ -1,0 +1,3 @@
+pub mod ArithmeticRules
+pub mod RulesHold
+pub mod Seen
