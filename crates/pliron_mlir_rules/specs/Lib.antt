@@ -6,11 +6,16 @@ pub mod SameData
 pub mod CastNumbers
 pub mod SumNumbers
 pub mod MaskNumbers
+pub mod StrictNumbers
 pub mod IntegerActs
 pub mod CastResults
 pub mod NarrowComparisons
 pub mod Seen
+pub mod ConstantComparisons
+pub mod OperandOrders
 pub mod ComparisonsHold
+pub mod StrictHold
+pub mod OrdersHold
 pub mod CastsHold
 pub mod MasksHold
 pub mod SumsHold

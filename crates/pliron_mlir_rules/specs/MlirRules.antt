@@ -5,7 +5,8 @@ use Rattle.pliron_core.specs.declared.attrs.AttrObj.{AttrObj}
 use Rattle.pliron_core.specs.declared.attrs.AttrObj.TheVariants.{Int, Text}
 use Rattle.pliron_core.specs.declared.attrs.Head.{Head}
 use Rattle.pliron_bits.specs.declared.flags.Flags.{Flags}
-use Rattle.pliron_bits.specs.declared.operators.BinaryOperator.TheVariants.{Add, Subtract, And, Xor}
+use Rattle.pliron_bits.specs.declared.operators.BinaryOperator.{BinaryOperator}
+use Rattle.pliron_bits.specs.declared.operators.BinaryOperator.TheVariants.{Add, Subtract, Multiply, And, Or, Xor}
 use Rattle.pliron_bits.specs.declared.operators.Predicate.{Predicate}
 use Rattle.pliron_bits.specs.declared.operators.Predicate.TheVariants.{Equal, NotEqual, SignedLess, SignedLessEqual, SignedGreater, SignedGreaterEqual, UnsignedLess, UnsignedLessEqual, UnsignedGreater, UnsignedGreaterEqual}
 use Rattle.pliron_bits.specs.declared.operators.Cast.{Cast}
@@ -206,6 +207,100 @@ abbrev pub join_sums : Option Arithmetic → (a b : Operand) → Option Term
 join_sums (Some s) a b = if wraps_freely s.flags then joined_sum s.width (constant_sum s.width a) (known_bits s.width b) else None
 join_sums None a b = None
 
+-- ---- strict comparisons
+
+-- the predicate without what is equal
+abbrev pub strict_of : Predicate → Predicate
+strict_of Equal = Equal
+strict_of NotEqual = NotEqual
+strict_of SignedLess = SignedLess
+strict_of SignedLessEqual = SignedLess
+strict_of SignedGreater = SignedGreater
+strict_of SignedGreaterEqual = SignedGreater
+strict_of UnsignedLess = UnsignedLess
+strict_of UnsignedLessEqual = UnsignedLess
+strict_of UnsignedGreater = UnsignedGreater
+strict_of UnsignedGreaterEqual = UnsignedGreater
+
+-- the next number of so many bits, and the one before, unless the number is the last one
+abbrev pub next_unless : (w last c : ℕ) → Option ℕ
+next_unless w last c = some_if (not (nat_eq c last)) ((c + 1) % 2 ^ w)
+
+abbrev pub before_unless : (w last c : ℕ) → Option ℕ
+before_unless w last c = some_if (not (nat_eq c last)) ((c + (2 ^ w - 1)) % 2 ^ w)
+
+-- the number with which the strict predicate compares what this one compares with c, where there is such a one
+abbrev pub number_beside : Predicate → (w c : ℕ) → Option ℕ
+number_beside SignedLessEqual w c = next_unless w (2 ^ (w - 1) - 1) c
+number_beside SignedGreaterEqual w c = before_unless w (2 ^ (w - 1)) c
+number_beside UnsignedLessEqual w c = next_unless w (2 ^ w - 1) c
+number_beside UnsignedGreaterEqual w c = before_unless w 0 c
+number_beside Equal w c = None
+number_beside NotEqual w c = None
+number_beside SignedLess w c = None
+number_beside SignedGreater w c = None
+number_beside UnsignedLess w c = None
+number_beside UnsignedGreater w c = None
+
+-- a comparison with a constant
+abbrev pub compare_with : Comparison → (value c : ℕ) → Term
+compare_with comparison value c = Make (head_of_comparison comparison) (Named value ∷ Constant (Int (number comparison.width c)) ∷ [])
+
+abbrev pub strict_with : Comparison → (value : ℕ) → Option ℕ → Option Term
+strict_with c value (Some k) = Some (compare_with (record { width = c.width; predicate = strict_of c.predicate }) value k)
+strict_with c value None = None
+
+abbrev pub strict_beside : Comparison → (value : ℕ) → Option ℕ → Option Term
+strict_beside c value (Some k) = strict_with c value (number_beside c.predicate (bits_of_width c.width) k)
+strict_beside c value None = None
+
+-- `icmp sle x c` is `icmp slt x (c + 1)`, `icmp sge x c` is `icmp sgt x (c - 1)`, and so without signs
+abbrev pub compare_strictly : Option Comparison → (a b : Operand) → Option Term
+compare_strictly (Some c) a b = strict_beside c (operand_value a) (known_bits c.width b)
+compare_strictly None a b = None
+
+-- ---- constants that stand second
+
+-- the predicate for the operands in the other order
+abbrev pub swapped_of : Predicate → Predicate
+swapped_of Equal = Equal
+swapped_of NotEqual = NotEqual
+swapped_of SignedLess = SignedGreater
+swapped_of SignedLessEqual = SignedGreaterEqual
+swapped_of SignedGreater = SignedLess
+swapped_of SignedGreaterEqual = SignedLessEqual
+swapped_of UnsignedLess = UnsignedGreater
+swapped_of UnsignedLessEqual = UnsignedGreaterEqual
+swapped_of UnsignedGreater = UnsignedLess
+swapped_of UnsignedGreaterEqual = UnsignedLessEqual
+
+-- whether the first is known, and the second isn't
+abbrev pub is_first_known : Option ℕ → Option ℕ → Bool
+is_first_known (Some c) None = true
+is_first_known (Some c) (Some d) = false
+is_first_known None d = false
+
+-- `icmp p c x` is `icmp swapped-p x c`
+abbrev pub swap_comparison : Option Comparison → (a b : Operand) → Option Term
+swap_comparison (Some c) a b =
+    some_if (is_first_known (known_bits c.width a) (known_bits c.width b))
+    (Make (head_of_comparison (record { width = c.width; predicate = swapped_of c.predicate })) (Named (operand_value b) ∷ Named (operand_value a) ∷ []))
+swap_comparison None a b = None
+
+-- `c op x` is `x op c`
+abbrev pub swap_operands : BinaryOperator → Option Arithmetic → (a b : Operand) → Option Term
+swap_operands operator (Some s) a b =
+    some_if (is_first_known (known_bits s.width a) (known_bits s.width b)) (Make (head_of_arithmetic operator s) (Named (operand_value b) ∷ Named (operand_value a) ∷ []))
+swap_operands operator None a b = None
+
+-- where the order of operands doesn't matter
+abbrev pub swap_constant : Head → (a b : Operand) → Option Term
+swap_constant head a b =
+    option_or (swap_operands Add (arithmetic_of Add head) a b)
+    (option_or (swap_operands And (arithmetic_of And head) a b)
+    (option_or (swap_operands Or (arithmetic_of Or head) a b)
+    (option_or (swap_operands Xor (arithmetic_of Xor head) a b) (swap_operands Multiply (arithmetic_of Multiply head) a b))))
+
 -- ---- inverted comparisons
 
 abbrev pub inverse_of : Predicate → Predicate
@@ -247,11 +342,18 @@ rules_of_unary head a =
     (option_or (join_casts SignExtend (conversion_of SignExtend head) a)
     (option_or (join_casts Truncate (conversion_of Truncate head) a) (mask_bits (conversion_of ZeroExtend head) a)))
 
+abbrev pub rules_of_comparison : Option Comparison → (a b : Operand) → Option Term
+rules_of_comparison c a b = option_or (swap_comparison c a b) (option_or (compare_narrow c a b) (compare_strictly c a b))
+
+abbrev pub rules_of_arithmetic : Head → (a b : Operand) → Option Term
+rules_of_arithmetic head a b =
+    option_or (subtract_constant (arithmetic_of Subtract head) a b)
+    (option_or (join_sums (arithmetic_of Add head) a b) (invert_comparison (arithmetic_of Xor head) a b))
+
 abbrev pub rules_of_binary : Head → (a b : Operand) → Option Term
 rules_of_binary head a b =
-    option_or (compare_narrow (comparison_of head) a b)
-    (option_or (subtract_constant (arithmetic_of Subtract head) a b)
-    (option_or (join_sums (arithmetic_of Add head) a b) (invert_comparison (arithmetic_of Xor head) a b)))
+    option_or (rules_of_comparison (comparison_of head) a b)
+    (option_or (swap_constant head a b) (rules_of_arithmetic head a b))
 
 abbrev pub by_mlir_operands : Head → List Operand → Option Term
 by_mlir_operands head (a ∷ []) = rules_of_unary head a
