@@ -9,14 +9,15 @@ pub mod MaskNumbers
 pub mod StrictNumbers
 pub mod IntegerActs
 pub mod CastResults
+pub mod ExtensionNumbers
 pub mod NarrowComparisons
 pub mod Seen
 pub mod ConstantComparisons
 pub mod OperandOrders
+pub mod CastsHold
 pub mod ComparisonsHold
 pub mod StrictHold
 pub mod OrdersHold
-pub mod CastsHold
 pub mod MasksHold
 pub mod SumsHold
 pub mod InversesHold

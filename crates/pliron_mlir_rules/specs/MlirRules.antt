@@ -1,5 +1,5 @@
 -- Rules on integers, as a table from views to terms.
-use Rattle.std.specs.Prelude.{if◌then◌else◌, nat_eq, nat_lt, not, ℕ, ◌+◌, ◌-◌, ◌%◌, ◌^◌, Bool, true, false, ◌&&◌, List, [], ◌∷◌, Option, Some, None, ℤ, pos}
+use Rattle.std.specs.Prelude.{if◌then◌else◌, nat_eq, nat_lt, nat_le, not, ℕ, ◌+◌, ◌-◌, ◌%◌, ◌^◌, Bool, true, false, ◌&&◌, List, [], ◌∷◌, Option, Some, None, ℤ, pos}
 use Rattle.std.specs.Option.{option_or}
 use Rattle.pliron_core.specs.declared.attrs.AttrObj.{AttrObj}
 use Rattle.pliron_core.specs.declared.attrs.AttrObj.TheVariants.{Int, Text}
@@ -59,7 +59,7 @@ abbrev pub source_of : Cast → (to : ℕ) → Operand → Option CastSource
 source_of cast to (Plain leaf) = None
 source_of cast to (Made v head leaves) = source_leaf cast to (conversion_of cast head) leaves
 
--- ---- comparisons of zero extensions
+-- ---- comparisons of extensions
 
 -- how the numbers compare that are read as unsigned
 abbrev pub unsigned_of : Predicate → Predicate
@@ -74,34 +74,53 @@ unsigned_of UnsignedLessEqual = UnsignedLessEqual
 unsigned_of UnsignedGreater = UnsignedGreater
 unsigned_of UnsignedGreaterEqual = UnsignedGreaterEqual
 
+-- how what is extended compares: without signs, where zeros are put before
+abbrev pub narrow_predicate : Cast → Predicate → Predicate
+narrow_predicate ZeroExtend p = unsigned_of p
+narrow_predicate SignExtend p = p
+narrow_predicate Truncate p = p
+
+-- the number of v bits whose extension to w bits is this one
+abbrev pub narrow_high : (v w bits : ℕ) → Option ℕ
+narrow_high v w bits = some_if (nat_le (2 ^ w - 2 ^ (v - 1)) bits) (bits - (2 ^ w - 2 ^ v))
+
+abbrev pub narrow_number : Cast → (v w bits : ℕ) → Option ℕ
+narrow_number ZeroExtend v w bits = some_if (nat_lt bits (2 ^ v)) bits
+narrow_number SignExtend v w bits = if nat_lt bits (2 ^ (v - 1)) then Some bits else narrow_high v w bits
+narrow_number Truncate v w bits = None
+
 -- the value of this width; the number that it holds, as one of it
 abbrev pub of_width : (width : ℕ) → Option CastSource → Option Atom
 of_width width (Some n) = some_if (nat_eq n.width width) (Named n.value)
 of_width width None = None
 
-abbrev pub fitting_constant : (width : ℕ) → Option ℕ → Option Atom
-fitting_constant width (Some bits) = some_if (nat_lt bits (2 ^ bits_of_width width)) (Constant (Int (number width bits)))
-fitting_constant width None = None
+abbrev pub number_atom : (width : ℕ) → Option ℕ → Option Atom
+number_atom width (Some bits) = Some (Constant (Int (number width bits)))
+number_atom width None = None
 
--- what the operand of the width `to` is the zero extension of
-abbrev pub narrow_atom : (width to : ℕ) → Operand → Option Atom
-narrow_atom width to b = option_or (of_width width (source_of ZeroExtend to b)) (fitting_constant width (known_bits to b))
+abbrev pub fitting_constant : Cast → (width to : ℕ) → Option ℕ → Option Atom
+fitting_constant cast width to (Some bits) = number_atom width (narrow_number cast (bits_of_width width) (bits_of_width to) bits)
+fitting_constant cast width to None = None
 
-abbrev pub narrow_comparison : Comparison → CastSource → Atom → Term
-narrow_comparison c a b = Make (head_of_comparison (record { width = a.width; predicate = unsigned_of c.predicate })) (Named a.value ∷ b ∷ [])
+-- what the operand of the width `to` is the extension of
+abbrev pub narrow_atom : Cast → (width to : ℕ) → Operand → Option Atom
+narrow_atom cast width to b = option_or (of_width width (source_of cast to b)) (fitting_constant cast width to (known_bits to b))
 
-abbrev pub comparison_term : Comparison → CastSource → Option Atom → Option Term
-comparison_term c a (Some b) = Some (narrow_comparison c a b)
-comparison_term c a None = None
+abbrev pub narrow_comparison : Cast → Comparison → CastSource → Atom → Term
+narrow_comparison cast c a b = Make (head_of_comparison (record { width = a.width; predicate = narrow_predicate cast c.predicate })) (Named a.value ∷ b ∷ [])
 
-abbrev pub comparison_from : Comparison → Option CastSource → Operand → Option Term
-comparison_from c (Some a) b = comparison_term c a (narrow_atom a.width c.width b)
-comparison_from c None b = None
+abbrev pub comparison_term : Cast → Comparison → CastSource → Option Atom → Option Term
+comparison_term cast c a (Some b) = Some (narrow_comparison cast c a b)
+comparison_term cast c a None = None
 
--- `icmp p (zext a) (zext b)`, or a constant in the place of the latter, is `icmp p a b`, without signs
-abbrev pub compare_narrow : Option Comparison → (a b : Operand) → Option Term
-compare_narrow (Some c) a b = comparison_from c (source_of ZeroExtend c.width a) b
-compare_narrow None a b = None
+abbrev pub comparison_from : Cast → Comparison → Option CastSource → Operand → Option Term
+comparison_from cast c (Some a) b = comparison_term cast c a (narrow_atom cast a.width c.width b)
+comparison_from cast c None b = None
+
+-- `icmp p (ext a) (ext b)`, or a constant in the place of the latter, is `icmp p a b`, of zero extensions without signs
+abbrev pub compare_narrow : Cast → Option Comparison → (a b : Operand) → Option Term
+compare_narrow cast (Some c) a b = comparison_from cast c (source_of cast c.width a) b
+compare_narrow cast None a b = None
 
 -- ---- casts of casts
 
@@ -343,7 +362,9 @@ rules_of_unary head a =
     (option_or (join_casts Truncate (conversion_of Truncate head) a) (mask_bits (conversion_of ZeroExtend head) a)))
 
 abbrev pub rules_of_comparison : Option Comparison → (a b : Operand) → Option Term
-rules_of_comparison c a b = option_or (swap_comparison c a b) (option_or (compare_narrow c a b) (compare_strictly c a b))
+rules_of_comparison c a b =
+    option_or (swap_comparison c a b)
+    (option_or (compare_narrow ZeroExtend c a b) (option_or (compare_narrow SignExtend c a b) (compare_strictly c a b)))
 
 abbrev pub rules_of_arithmetic : Head → (a b : Operand) → Option Term
 rules_of_arithmetic head a b =

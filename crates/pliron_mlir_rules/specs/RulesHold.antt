@@ -14,6 +14,7 @@ use Rattle.pliron_rewrite_rules.specs.declared.term.Term.{Term}
 use Rattle.pliron_rewrite_rules.specs.RuleLaws.{IsRule, RulesHold}
 use Rattle.pliron_mlir_rules.specs.CastsHold.{casts_hold}
 use Rattle.pliron_mlir_rules.specs.ComparisonsHold.{compare_holds}
+use Rattle.pliron_mlir_rules.specs.ExtensionNumbers.{zeros_extend, signs_extend}
 use Rattle.pliron_mlir_rules.specs.IntegerActs.{mlir_meaning, mlir_effects}
 use Rattle.pliron_mlir_rules.specs.MlirRules.{swap_comparison, compare_narrow, compare_strictly, join_casts, mask_bits, swap_constant, subtract_constant, join_sums, invert_comparison, rules_of_unary, rules_of_comparison, rules_of_arithmetic, rules_of_binary, by_mlir_operands, mlir_rules}
 use Rattle.pliron_mlir_rules.specs.InversesHold.{inverses_hold}
@@ -54,17 +55,24 @@ module _ {K : Type 0} (class_of : K → Class) (kind : Class → K) (value : Int
   comparisons_hold head a b term e = of_swapped (swap_comparison (comparison_of head) a b) refl e
     where
       narrow : Option Term
-      narrow = compare_narrow (comparison_of head) a b
+      narrow = compare_narrow ZeroExtend (comparison_of head) a b
+
+      signed : Option Term
+      signed = compare_narrow SignExtend (comparison_of head) a b
 
       strict : Option Term
       strict = compare_strictly (comparison_of head) a b
 
-      of_narrow : (o : Option Term) → compare_narrow (comparison_of head) a b ≡ o → option_or o strict ≡ Some term → IsRuleOf (record { head = head; operands = a ∷ b ∷ [] }) term
-      of_narrow None f g = strict_holds class_of kind value forth head a b term (comparison_of head) refl g
-      of_narrow (Some t) f g = compare_holds class_of kind value forth head a b term (comparison_of head) refl (f ∙ g)
+      of_signed : (o : Option Term) → compare_narrow SignExtend (comparison_of head) a b ≡ o → option_or o strict ≡ Some term → IsRuleOf (record { head = head; operands = a ∷ b ∷ [] }) term
+      of_signed None f g = strict_holds class_of kind value forth head a b term (comparison_of head) refl g
+      of_signed (Some t) f g = compare_holds class_of kind value forth SignExtend signs_extend head a b term (comparison_of head) refl (f ∙ g)
 
-      of_swapped : (o : Option Term) → swap_comparison (comparison_of head) a b ≡ o → option_or o (option_or narrow strict) ≡ Some term → IsRuleOf (record { head = head; operands = a ∷ b ∷ [] }) term
-      of_swapped None f g = of_narrow (compare_narrow (comparison_of head) a b) refl g
+      of_narrow : (o : Option Term) → compare_narrow ZeroExtend (comparison_of head) a b ≡ o → option_or o (option_or signed strict) ≡ Some term → IsRuleOf (record { head = head; operands = a ∷ b ∷ [] }) term
+      of_narrow None f g = of_signed (compare_narrow SignExtend (comparison_of head) a b) refl g
+      of_narrow (Some t) f g = compare_holds class_of kind value forth ZeroExtend zeros_extend head a b term (comparison_of head) refl (f ∙ g)
+
+      of_swapped : (o : Option Term) → swap_comparison (comparison_of head) a b ≡ o → option_or o (option_or narrow (option_or signed strict)) ≡ Some term → IsRuleOf (record { head = head; operands = a ∷ b ∷ [] }) term
+      of_swapped None f g = of_narrow (compare_narrow ZeroExtend (comparison_of head) a b) refl g
       of_swapped (Some t) f g = swapped_comparisons_hold class_of kind value forth head a b term (comparison_of head) refl (f ∙ g)
 
   arithmetic_holds : (head : Head) (a b : Operand) (term : Term) → rules_of_arithmetic head a b ≡ Some term → IsRuleOf (record { head = head; operands = a ∷ b ∷ [] }) term

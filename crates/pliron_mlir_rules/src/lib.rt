@@ -1,5 +1,5 @@
 //! A set of rules for MLIR's operations on integers, under every interpretation: a constant stands second; a comparison of
-//! zero extensions is one of what they extend, and one with a constant is strict; a cast of a cast is one cast, or a mask; a
+//! extensions is one of what they extend, and one with a constant is strict; a cast of a cast is one cast, or a mask; a
 //! constant is added where one is subtracted, and one where there are two; and an inverted comparison is the inverse one.
 //!
 //! The table is in `specs/MlirRules.antt`; for each rule its term has the datum of what is seen, also where the data are no
@@ -70,7 +70,10 @@ fn rules_of_comparison(
     if let Some(term) = swap_comparison(alloc, comparison, a, b)? {
         return Ok(Some(term));
     }
-    if let Some(term) = compare_narrow(alloc, comparison, a, b)? {
+    if let Some(term) = compare_narrow(alloc, Cast::ZeroExtend, comparison, a, b)? {
+        return Ok(Some(term));
+    }
+    if let Some(term) = compare_narrow(alloc, Cast::SignExtend, comparison, a, b)? {
         return Ok(Some(term));
     }
     compare_strictly(alloc, comparison, a, b)

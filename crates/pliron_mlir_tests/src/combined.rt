@@ -264,7 +264,42 @@ two constants that are added -- (%0: i32):|  %1 = \"llvm.mlir.constant\"() <{val
     \"llvm.mlir.constant\"() <{value = 7 : i32}> : () -> i32|  %3 = \"llvm.add\"(%1, %2) : (i32, i32) -> i32|  \"llvm.return\"(%3) \
     : (i32) -> () => (%0: i32):|  %1 = \"llvm.mlir.constant\"() <{value = 5 : i32}> : () -> i32|  %2 = \
     \"llvm.mlir.constant\"() <{value = 7 : i32}> : () -> i32|  %3 = \"llvm.add\"(%1, %2) : (i32, i32) -> i32|  \"llvm.return\"(%3) \
-    : (i32) -> ()";
+    : (i32) -> ()
+sign extensions, unsigned -- (%0: i8, %1: i8):|  %2 = \"llvm.sext\"(%0) : (i8) -> i32|  %3 = \"llvm.sext\"(%1) : (i8) \
+    -> i32|  %4 = \"llvm.icmp\"(%2, %3) <{predicate = 6 : i64}> : (i32, i32) -> i1|  \"llvm.return\"(%4) : (i1) -> () \
+    => (%0: i8, %1: i8):|  %2 = \"llvm.sext\"(%0) : (i8) -> i32|  %3 = \"llvm.sext\"(%1) : (i8) -> i32|  %5 = \
+    \"llvm.icmp\"(%0, %1) <{predicate = 6 : i64}> : (i8, i8) -> i1|  %4 = \"llvm.icmp\"(%2, %3) <{predicate = 6 : \
+    i64}> : (i32, i32) -> i1|  \"llvm.return\"(%5) : (i1) -> ()
+sign extensions, signed -- (%0: i8, %1: i8):|  %2 = \"llvm.sext\"(%0) : (i8) -> i32|  %3 = \"llvm.sext\"(%1) : (i8) -> \
+    i32|  %4 = \"llvm.icmp\"(%2, %3) <{predicate = 4 : i64}> : (i32, i32) -> i1|  \"llvm.return\"(%4) : (i1) -> () => \
+    (%0: i8, %1: i8):|  %2 = \"llvm.sext\"(%0) : (i8) -> i32|  %3 = \"llvm.sext\"(%1) : (i8) -> i32|  %5 = \
+    \"llvm.icmp\"(%0, %1) <{predicate = 4 : i64}> : (i8, i8) -> i1|  %4 = \"llvm.icmp\"(%2, %3) <{predicate = 4 : \
+    i64}> : (i32, i32) -> i1|  \"llvm.return\"(%5) : (i1) -> ()
+sign extensions of other widths -- (%0: i8, %1: i16):|  %2 = \"llvm.sext\"(%0) : (i8) -> i32|  %3 = \"llvm.sext\"(%1) \
+    : (i16) -> i32|  %4 = \"llvm.icmp\"(%2, %3) <{predicate = 0 : i64}> : (i32, i32) -> i1|  \"llvm.return\"(%4) : \
+    (i1) -> () => (%0: i8, %1: i16):|  %2 = \"llvm.sext\"(%0) : (i8) -> i32|  %3 = \"llvm.sext\"(%1) : (i16) -> i32|  %4 \
+    = \"llvm.icmp\"(%2, %3) <{predicate = 0 : i64}> : (i32, i32) -> i1|  \"llvm.return\"(%4) : (i1) -> ()
+a sign extension and a negative constant -- (%0: i8):|  %1 = \"llvm.mlir.constant\"() <{value = -100 : i32}> : () -> \
+    i32|  %2 = \"llvm.sext\"(%0) : (i8) -> i32|  %3 = \"llvm.icmp\"(%2, %1) <{predicate = 6 : i64}> : (i32, i32) -> \
+    i1|  \"llvm.return\"(%3) : (i1) -> () => (%0: i8):|  %1 = \"llvm.mlir.constant\"() <{value = -100 : i32}> : () -> \
+    i32|  %2 = \"llvm.sext\"(%0) : (i8) -> i32|  %4 = \"llvm.mlir.constant\"() <{value = -100 : i8}> : () -> i8|  %5 = \
+    \"llvm.icmp\"(%0, %4) <{predicate = 6 : i64}> : (i8, i8) -> i1|  %3 = \"llvm.icmp\"(%2, %1) <{predicate = 6 : \
+    i64}> : (i32, i32) -> i1|  \"llvm.return\"(%5) : (i1) -> ()
+a sign extension and a constant -- (%0: i8):|  %1 = \"llvm.mlir.constant\"() <{value = 127 : i64}> : () -> i64|  %2 = \
+    \"llvm.sext\"(%0) : (i8) -> i64|  %3 = \"llvm.icmp\"(%2, %1) <{predicate = 2 : i64}> : (i64, i64) -> i1|  \"llvm.return\"(%3) \
+    : (i1) -> () => (%0: i8):|  %1 = \"llvm.mlir.constant\"() <{value = 127 : i64}> : () -> i64|  %2 = \
+    \"llvm.sext\"(%0) : (i8) -> i64|  %4 = \"llvm.mlir.constant\"() <{value = 127 : i8}> : () -> i8|  %5 = \
+    \"llvm.icmp\"(%0, %4) <{predicate = 2 : i64}> : (i8, i8) -> i1|  %3 = \"llvm.icmp\"(%2, %1) <{predicate = 2 : \
+    i64}> : (i64, i64) -> i1|  \"llvm.return\"(%5) : (i1) -> ()
+a sign extension and a constant out of reach -- (%0: i8):|  %1 = \"llvm.mlir.constant\"() <{value = 128 : i64}> : () \
+    -> i64|  %2 = \"llvm.sext\"(%0) : (i8) -> i64|  %3 = \"llvm.icmp\"(%2, %1) <{predicate = 2 : i64}> : (i64, i64) -> \
+    i1|  \"llvm.return\"(%3) : (i1) -> () => (%0: i8):|  %1 = \"llvm.mlir.constant\"() <{value = 128 : i64}> : () -> \
+    i64|  %2 = \"llvm.sext\"(%0) : (i8) -> i64|  %3 = \"llvm.icmp\"(%2, %1) <{predicate = 2 : i64}> : (i64, i64) -> \
+    i1|  \"llvm.return\"(%3) : (i1) -> ()
+a sign extension and a zero extension -- (%0: i8, %1: i8):|  %2 = \"llvm.sext\"(%0) : (i8) -> i32|  %3 = \
+    \"llvm.zext\"(%1) : (i8) -> i32|  %4 = \"llvm.icmp\"(%2, %3) <{predicate = 0 : i64}> : (i32, i32) -> i1|  \"llvm.return\"(%4) \
+    : (i1) -> () => (%0: i8, %1: i8):|  %2 = \"llvm.sext\"(%0) : (i8) -> i32|  %3 = \"llvm.zext\"(%1) : (i8) -> i32|  %4 \
+    = \"llvm.icmp\"(%2, %3) <{predicate = 0 : i64}> : (i32, i32) -> i1|  \"llvm.return\"(%4) : (i1) -> ()";
 
 #[test]
 fn rules_leave(rt: HostRuntime) {
