@@ -140,10 +140,10 @@ is_that n (Number m) e = ap Number ((Decides-int_eq m n).0 e)
 is_that n (Text t) e = absurd (grind (arith, e))
 is_that n (Join a b) e = absurd (grind (arith, e))
 
-itself : (n : ℤ) → int_eq n n ≡ true
+pub itself : (n : ℤ) → int_eq n n ≡ true
 itself n = (Decides-int_eq n n).1 refl
 
-zero_is : (width : ℕ) → is_width width ≡ true → zero_at width ≡ Some (number width 0)
+pub zero_is : (width : ℕ) → is_width width ≡ true → zero_at width ≡ Some (number width 0)
 zero_is width is = ap (λ b. some_if b (number width 0)) is
 
 -- 0 added, and added to

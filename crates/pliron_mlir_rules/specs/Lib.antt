@@ -7,6 +7,7 @@ pub mod CastNumbers
 pub mod SumNumbers
 pub mod MaskNumbers
 pub mod StrictNumbers
+pub mod PowerNumbers
 pub mod IntegerActs
 pub mod CastResults
 pub mod ExtensionNumbers
@@ -15,9 +16,11 @@ pub mod Seen
 pub mod ConstantComparisons
 pub mod OperandOrders
 pub mod CastsHold
+pub mod ConstantArithmetic
 pub mod ComparisonsHold
 pub mod StrictHold
 pub mod OrdersHold
+pub mod PowersHold
 pub mod MasksHold
 pub mod SumsHold
 pub mod InversesHold

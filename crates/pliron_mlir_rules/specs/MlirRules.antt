@@ -1,12 +1,13 @@
 -- Rules on integers, as a table from views to terms.
 use Rattle.std.specs.Prelude.{if◌then◌else◌, nat_eq, nat_lt, nat_le, not, ℕ, ◌+◌, ◌-◌, ◌%◌, ◌^◌, Bool, true, false, ◌&&◌, List, [], ◌∷◌, Option, Some, None, ℤ, pos}
 use Rattle.std.specs.Option.{option_or}
+use Rattle.std.specs.Int.{w64, trailing_zeros}
 use Rattle.pliron_core.specs.declared.attrs.AttrObj.{AttrObj}
 use Rattle.pliron_core.specs.declared.attrs.AttrObj.TheVariants.{Int, Text}
 use Rattle.pliron_core.specs.declared.attrs.Head.{Head}
 use Rattle.pliron_bits.specs.declared.flags.Flags.{Flags}
 use Rattle.pliron_bits.specs.declared.operators.BinaryOperator.{BinaryOperator}
-use Rattle.pliron_bits.specs.declared.operators.BinaryOperator.TheVariants.{Add, Subtract, Multiply, And, Or, Xor}
+use Rattle.pliron_bits.specs.declared.operators.BinaryOperator.TheVariants.{Add, Subtract, Multiply, UnsignedDivide, UnsignedRemainder, ShiftLeft, LogicalShiftRight, And, Or, Xor}
 use Rattle.pliron_bits.specs.declared.operators.Predicate.{Predicate}
 use Rattle.pliron_bits.specs.declared.operators.Predicate.TheVariants.{Equal, NotEqual, SignedLess, SignedLessEqual, SignedGreater, SignedGreaterEqual, UnsignedLess, UnsignedLessEqual, UnsignedGreater, UnsignedGreaterEqual}
 use Rattle.pliron_bits.specs.declared.operators.Cast.{Cast}
@@ -320,6 +321,56 @@ swap_constant head a b =
     (option_or (swap_operands Or (arithmetic_of Or head) a b)
     (option_or (swap_operands Xor (arithmetic_of Xor head) a b) (swap_operands Multiply (arithmetic_of Multiply head) a b))))
 
+-- ---- powers of two
+
+-- the exponent, where the number is two to a power that isn't 0
+abbrev pub exponent_by : (k c : ℕ) → Option ℕ
+exponent_by k c = some_if (nat_lt 0 k && nat_eq (2 ^ k) c) k
+
+abbrev pub exponent_of : ℕ → Option ℕ
+exponent_of c = exponent_by (trailing_zeros w64 c) c
+
+abbrev pub known_exponent : Option ℕ → Option ℕ
+known_exponent (Some c) = exponent_of c
+known_exponent None = None
+
+-- an operation with a constant
+abbrev pub arithmetic_with : BinaryOperator → Arithmetic → (value c : ℕ) → Term
+arithmetic_with operator s value c = Make (head_of_arithmetic operator s) (Named value ∷ Constant (Int (number s.width c)) ∷ [])
+
+-- a shift by all bits but one promises of signs what a product by the least number doesn't
+abbrev pub shifted_product : Arithmetic → (value : ℕ) → Option ℕ → Option Term
+shifted_product s value (Some k) = some_if (not (s.flags.no_signed_wrap && nat_eq (k + 1) (bits_of_width s.width))) (arithmetic_with ShiftLeft s value k)
+shifted_product s value None = None
+
+-- `x * 2^k` is `x << k`
+abbrev pub shift_product : Option Arithmetic → (a b : Operand) → Option Term
+shift_product (Some s) a b = shifted_product s (operand_value a) (known_exponent (known_bits s.width b))
+shift_product None a b = None
+
+abbrev pub shifted_quotient : Arithmetic → (value : ℕ) → Option ℕ → Option Term
+shifted_quotient s value (Some k) = Some (arithmetic_with LogicalShiftRight s value k)
+shifted_quotient s value None = None
+
+-- `x udiv 2^k` is `x >> k`
+abbrev pub shift_quotient : Option Arithmetic → (a b : Operand) → Option Term
+shift_quotient (Some s) a b = shifted_quotient s (operand_value a) (known_exponent (known_bits s.width b))
+shift_quotient None a b = None
+
+abbrev pub masked_remainder : Arithmetic → (value : ℕ) → Option ℕ → Option Term
+masked_remainder s value (Some k) = Some (arithmetic_with And (record { width = s.width; flags = no_flags }) value (2 ^ k - 1))
+masked_remainder s value None = None
+
+-- `x urem 2^k` is `x & (2^k - 1)`
+abbrev pub mask_remainder : Option Arithmetic → (a b : Operand) → Option Term
+mask_remainder (Some s) a b = masked_remainder s (operand_value a) (known_exponent (known_bits s.width b))
+mask_remainder None a b = None
+
+abbrev pub rules_of_powers : Head → (a b : Operand) → Option Term
+rules_of_powers head a b =
+    option_or (shift_product (arithmetic_of Multiply head) a b)
+    (option_or (shift_quotient (arithmetic_of UnsignedDivide head) a b) (mask_remainder (arithmetic_of UnsignedRemainder head) a b))
+
 -- ---- inverted comparisons
 
 abbrev pub inverse_of : Predicate → Predicate
@@ -374,7 +425,7 @@ rules_of_arithmetic head a b =
 abbrev pub rules_of_binary : Head → (a b : Operand) → Option Term
 rules_of_binary head a b =
     option_or (rules_of_comparison (comparison_of head) a b)
-    (option_or (swap_constant head a b) (rules_of_arithmetic head a b))
+    (option_or (swap_constant head a b) (option_or (rules_of_arithmetic head a b) (rules_of_powers head a b)))
 
 abbrev pub by_mlir_operands : Head → List Operand → Option Term
 by_mlir_operands head (a ∷ []) = rules_of_unary head a

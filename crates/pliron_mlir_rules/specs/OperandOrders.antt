@@ -91,18 +91,18 @@ both_this None d e p q = false_true false refl p
 both_this (Some n) d e p q = is_that n d p ∙ sym (is_that n e q)
 
 -- what is given where no operand is left, by the number that is given or computed
-abbrev number_or_first : Option ℤ → (width : ℕ) → (d e : Datum) → Datum
+abbrev pub number_or_first : Option ℤ → (width : ℕ) → (d e : Datum) → Datum
 number_or_first (Some n) width d e = Number n
 number_or_first None width d e = first_other width (d ∷ e ∷ [])
 
-abbrev outcome : (behind before equal : Bool) → Option ℤ → (width : ℕ) → (d e : Datum) → Datum
+abbrev pub outcome : (behind before equal : Bool) → Option ℤ → (width : ℕ) → (d e : Datum) → Datum
 outcome true before equal given width d e = d
 outcome false true equal given width d e = e
 outcome false false true given width d e = d
 outcome false false false given width d e = number_or_first given width d e
 
 -- what an operation gives
-abbrev whole_datum : BinaryOperator → Flags → (width : ℕ) → (d e : Datum) → Datum
+abbrev pub whole_datum : BinaryOperator → Flags → (width : ℕ) → (d e : Datum) → Datum
 whole_datum operator flags width d e =
     outcome (is_this (identity_at operator flags width).neutral e) ((identity_at operator flags width).either_side && is_this (identity_at operator flags width).neutral d) ((identity_at operator flags width).idempotent && same_datum d e)
     (option_or (given_between (identity_at operator flags width) d e) (option_map (number width) (of_two (binary operator flags (bits_of_width width)) (bits_in width d) (bits_in width e)))) width d e
@@ -179,7 +179,7 @@ module _ (operator : BinaryOperator) (commutes : Commutes operator) (flags : Fla
 
 module _ {K : Type 0} (class_of : K → Class) (kind : Class → K) (value : Interpretation) (forth : (c : Class) → class_of (kind c) ≡ c) where
   -- what an operation gives, whatever its head says beside
-  whole_gives : (operator : BinaryOperator) (head : Head) (s : Arithmetic) → SaysArithmetic operator head s → (d e : Datum) → result_datum (mlir_meaning class_of kind value) head (Some (d ∷ e ∷ [])) ≡ Some (whole_datum operator s.flags s.width d e)
+  pub whole_gives : (operator : BinaryOperator) (head : Head) (s : Arithmetic) → SaysArithmetic operator head s → (d e : Datum) → result_datum (mlir_meaning class_of kind value) head (Some (d ∷ e ∷ [])) ≡ Some (whole_datum operator s.flags s.width d e)
   whole_gives operator head s says d e =
       arithmetic_as_said class_of kind value forth head operator s says d e
       ∙ by (is_this (identity_at operator s.flags s.width).neutral e) ((identity_at operator s.flags s.width).either_side && is_this (identity_at operator s.flags s.width).neutral d) ((identity_at operator s.flags s.width).idempotent && same_datum d e)

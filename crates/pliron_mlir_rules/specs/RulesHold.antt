@@ -16,10 +16,11 @@ use Rattle.pliron_mlir_rules.specs.CastsHold.{casts_hold}
 use Rattle.pliron_mlir_rules.specs.ComparisonsHold.{compare_holds}
 use Rattle.pliron_mlir_rules.specs.ExtensionNumbers.{zeros_extend, signs_extend}
 use Rattle.pliron_mlir_rules.specs.IntegerActs.{mlir_meaning, mlir_effects}
-use Rattle.pliron_mlir_rules.specs.MlirRules.{swap_comparison, compare_narrow, compare_strictly, join_casts, mask_bits, swap_constant, subtract_constant, join_sums, invert_comparison, rules_of_unary, rules_of_comparison, rules_of_arithmetic, rules_of_binary, by_mlir_operands, mlir_rules}
+use Rattle.pliron_mlir_rules.specs.MlirRules.{swap_comparison, compare_narrow, compare_strictly, join_casts, mask_bits, swap_constant, subtract_constant, join_sums, invert_comparison, rules_of_unary, rules_of_comparison, rules_of_arithmetic, rules_of_powers, rules_of_binary, by_mlir_operands, mlir_rules}
 use Rattle.pliron_mlir_rules.specs.InversesHold.{inverses_hold}
 use Rattle.pliron_mlir_rules.specs.MasksHold.{masks_hold}
 use Rattle.pliron_mlir_rules.specs.OrdersHold.{swapped_comparisons_hold, swapped_constants_hold}
+use Rattle.pliron_mlir_rules.specs.PowersHold.{powers_hold}
 use Rattle.pliron_mlir_rules.specs.StrictHold.{strict_holds}
 use Rattle.pliron_mlir_rules.specs.SumsHold.{differences_hold, sums_hold}
 
@@ -101,11 +102,18 @@ module _ {K : Type 0} (class_of : K → Class) (kind : Class → K) (value : Int
       arithmetic : Option Term
       arithmetic = rules_of_arithmetic head a b
 
-      of_swapped : (o : Option Term) → swap_constant head a b ≡ o → option_or o arithmetic ≡ Some term → IsRuleOf (record { head = head; operands = a ∷ b ∷ [] }) term
-      of_swapped None f g = arithmetic_holds head a b term g
+      powers : Option Term
+      powers = rules_of_powers head a b
+
+      of_arithmetic : (o : Option Term) → rules_of_arithmetic head a b ≡ o → option_or o powers ≡ Some term → IsRuleOf (record { head = head; operands = a ∷ b ∷ [] }) term
+      of_arithmetic None f g = powers_hold class_of kind value forth head a b term g
+      of_arithmetic (Some t) f g = arithmetic_holds head a b term (f ∙ g)
+
+      of_swapped : (o : Option Term) → swap_constant head a b ≡ o → option_or o (option_or arithmetic powers) ≡ Some term → IsRuleOf (record { head = head; operands = a ∷ b ∷ [] }) term
+      of_swapped None f g = of_arithmetic (rules_of_arithmetic head a b) refl g
       of_swapped (Some t) f g = swapped_constants_hold class_of kind value forth head a b term (f ∙ g)
 
-      of_comparison : (o : Option Term) → rules_of_comparison (comparison_of head) a b ≡ o → option_or o (option_or swapped arithmetic) ≡ Some term → IsRuleOf (record { head = head; operands = a ∷ b ∷ [] }) term
+      of_comparison : (o : Option Term) → rules_of_comparison (comparison_of head) a b ≡ o → option_or o (option_or swapped (option_or arithmetic powers)) ≡ Some term → IsRuleOf (record { head = head; operands = a ∷ b ∷ [] }) term
       of_comparison None f g = of_swapped (swap_constant head a b) refl g
       of_comparison (Some t) f g = comparisons_hold head a b term (f ∙ g)
 

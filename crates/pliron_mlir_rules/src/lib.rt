@@ -1,6 +1,7 @@
 //! A set of rules for MLIR's operations on integers, under every interpretation: a constant stands second; a comparison of
 //! extensions is one of what they extend, and one with a constant is strict; a cast of a cast is one cast, or a mask; a
-//! constant is added where one is subtracted, and one where there are two; and an inverted comparison is the inverse one.
+//! constant is added where one is subtracted, and one where there are two; a product or a quotient by a power of two is a
+//! shift, and a remainder by one a mask; and an inverted comparison is the inverse one.
 //!
 //! The table is in `specs/MlirRules.antt`; for each rule its term has the datum of what is seen, also where the data are no
 //! numbers.
@@ -16,6 +17,7 @@ mod comparisons;
 mod inverses;
 mod masks;
 mod orders;
+mod powers;
 mod seen;
 mod strict;
 mod sums;
@@ -30,6 +32,7 @@ use pliron_core::Head;
 use pliron_dialect_mlir::{Arithmetic, Comparison, Conversion, Interpretation, Mlir};
 use pliron_laws::OptError;
 use pliron_rewrite_rules::{Operand, Rules, Term, View};
+use powers::rules_of_powers;
 use std::alloc::Global;
 use strict::compare_strictly;
 use sums::{join_sums, subtract_constant};
@@ -116,7 +119,10 @@ fn rules_of_binary(
     if let Some(term) = swap_constant(alloc, head, a, b)? {
         return Ok(Some(term));
     }
-    rules_of_arithmetic(alloc, head, a, b)
+    if let Some(term) = rules_of_arithmetic(alloc, head, a, b)? {
+        return Ok(Some(term));
+    }
+    rules_of_powers(alloc, head, a, b)
 }
 
 impl<I: Interpretation> Rules<Mlir<I>> for MlirRules {

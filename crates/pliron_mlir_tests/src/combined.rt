@@ -299,7 +299,39 @@ a sign extension and a constant out of reach -- (%0: i8):|  %1 = \"llvm.mlir.con
 a sign extension and a zero extension -- (%0: i8, %1: i8):|  %2 = \"llvm.sext\"(%0) : (i8) -> i32|  %3 = \
     \"llvm.zext\"(%1) : (i8) -> i32|  %4 = \"llvm.icmp\"(%2, %3) <{predicate = 0 : i64}> : (i32, i32) -> i1|  \"llvm.return\"(%4) \
     : (i1) -> () => (%0: i8, %1: i8):|  %2 = \"llvm.sext\"(%0) : (i8) -> i32|  %3 = \"llvm.zext\"(%1) : (i8) -> i32|  %4 \
-    = \"llvm.icmp\"(%2, %3) <{predicate = 0 : i64}> : (i32, i32) -> i1|  \"llvm.return\"(%4) : (i1) -> ()";
+    = \"llvm.icmp\"(%2, %3) <{predicate = 0 : i64}> : (i32, i32) -> i1|  \"llvm.return\"(%4) : (i1) -> ()
+times the least number, without signs -- (%0: i8):|  %1 = \"llvm.mlir.constant\"() <{value = -128 : i8}> : () -> i8|  %2 \
+    = \"llvm.mul\"(%0, %1) <{overflowFlags = #llvm.overflow<nuw>}> : (i8, i8) -> i8|  \"llvm.return\"(%2) : (i8) -> () \
+    => (%0: i8):|  %1 = \"llvm.mlir.constant\"() <{value = -128 : i8}> : () -> i8|  %3 = \"llvm.mlir.constant\"() \
+    <{value = 7 : i8}> : () -> i8|  %4 = \"llvm.shl\"(%0, %3) <{overflowFlags = #llvm.overflow<nuw>}> : (i8, i8) -> \
+    i8|  %2 = \"llvm.mul\"(%0, %1) <{overflowFlags = #llvm.overflow<nuw>}> : (i8, i8) -> i8|  \"llvm.return\"(%4) : \
+    (i8) -> ()
+times the least number, with signs -- (%0: i8):|  %1 = \"llvm.mlir.constant\"() <{value = -128 : i8}> : () -> i8|  %2 \
+    = \"llvm.mul\"(%0, %1) <{overflowFlags = #llvm.overflow<nsw>}> : (i8, i8) -> i8|  \"llvm.return\"(%2) : (i8) -> () \
+    => (%0: i8):|  %1 = \"llvm.mlir.constant\"() <{value = -128 : i8}> : () -> i8|  %2 = \"llvm.mul\"(%0, %1) \
+    <{overflowFlags = #llvm.overflow<nsw>}> : (i8, i8) -> i8|  \"llvm.return\"(%2) : (i8) -> ()
+times 3 -- (%0: i32):|  %1 = \"llvm.mlir.constant\"() <{value = 3 : i32}> : () -> i32|  %2 = \"llvm.mul\"(%0, %1) : \
+    (i32, i32) -> i32|  \"llvm.return\"(%2) : (i32) -> () => (%0: i32):|  %1 = \"llvm.mlir.constant\"() <{value = 3 : \
+    i32}> : () -> i32|  %2 = \"llvm.mul\"(%0, %1) : (i32, i32) -> i32|  \"llvm.return\"(%2) : (i32) -> ()
+times 1 -- (%0: i32):|  %1 = \"llvm.mlir.constant\"() <{value = 1 : i32}> : () -> i32|  %2 = \"llvm.mul\"(%0, %1) : \
+    (i32, i32) -> i32|  \"llvm.return\"(%2) : (i32) -> () => (%0: i32):|  %1 = \"llvm.mlir.constant\"() <{value = 1 : \
+    i32}> : () -> i32|  %2 = \"llvm.mul\"(%0, %1) : (i32, i32) -> i32|  \"llvm.return\"(%2) : (i32) -> ()
+divided by the greatest power -- (%0: i64):|  %1 = \"llvm.mlir.constant\"() <{value = -9223372036854775808 : i64}> : \
+    () -> i64|  %2 = \"llvm.udiv\"(%0, %1) : (i64, i64) -> i64|  \"llvm.return\"(%2) : (i64) -> () => (%0: i64):|  %1 \
+    = \"llvm.mlir.constant\"() <{value = -9223372036854775808 : i64}> : () -> i64|  %3 = \"llvm.mlir.constant\"() \
+    <{value = 63 : i64}> : () -> i64|  %4 = \"llvm.lshr\"(%0, %3) : (i64, i64) -> i64|  %2 = \"llvm.udiv\"(%0, %1) : \
+    (i64, i64) -> i64|  \"llvm.return\"(%4) : (i64) -> ()
+divided by 0 -- (%0: i32):|  %1 = \"llvm.mlir.constant\"() <{value = 0 : i32}> : () -> i32|  %2 = \"llvm.udiv\"(%0, \
+    %1) : (i32, i32) -> i32|  \"llvm.return\"(%2) : (i32) -> () => (%0: i32):|  %1 = \"llvm.mlir.constant\"() <{value \
+    = 0 : i32}> : () -> i32|  %2 = \"llvm.udiv\"(%0, %1) : (i32, i32) -> i32|  \"llvm.return\"(%2) : (i32) -> ()
+the rest of the greatest power -- (%0: i8):|  %1 = \"llvm.mlir.constant\"() <{value = -128 : i8}> : () -> i8|  %2 = \
+    \"llvm.urem\"(%0, %1) : (i8, i8) -> i8|  \"llvm.return\"(%2) : (i8) -> () => (%0: i8):|  %1 = \
+    \"llvm.mlir.constant\"() <{value = -128 : i8}> : () -> i8|  %3 = \"llvm.mlir.constant\"() <{value = 127 : i8}> : \
+    () -> i8|  %4 = \"llvm.and\"(%0, %3) : (i8, i8) -> i8|  %2 = \"llvm.urem\"(%0, %1) : (i8, i8) -> i8|  \"llvm.return\"(%4) \
+    : (i8) -> ()
+the signed rest -- (%0: i8):|  %1 = \"llvm.mlir.constant\"() <{value = 4 : i8}> : () -> i8|  %2 = \"llvm.srem\"(%0, \
+    %1) : (i8, i8) -> i8|  \"llvm.return\"(%2) : (i8) -> () => (%0: i8):|  %1 = \"llvm.mlir.constant\"() <{value = 4 : \
+    i8}> : () -> i8|  %2 = \"llvm.srem\"(%0, %1) : (i8, i8) -> i8|  \"llvm.return\"(%2) : (i8) -> ()";
 
 #[test]
 fn rules_leave(rt: HostRuntime) {
