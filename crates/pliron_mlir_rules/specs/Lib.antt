@@ -23,5 +23,6 @@ pub mod OrdersHold
 pub mod PowersHold
 pub mod MasksHold
 pub mod SumsHold
+pub mod EquationsHold
 pub mod InversesHold
 pub mod RulesHold

@@ -404,6 +404,29 @@ abbrev pub invert_comparison : Option Arithmetic → (a b : Operand) → Option 
 invert_comparison (Some s) a b = if nat_eq s.width 1 then inverse_if (known_bits 1 b) a else None
 invert_comparison None a b = None
 
+-- ---- equations with sums
+
+abbrev pub is_equation : Predicate → Bool
+is_equation Equal = true
+is_equation NotEqual = true
+is_equation SignedLess = false
+is_equation SignedLessEqual = false
+is_equation SignedGreater = false
+is_equation SignedGreaterEqual = false
+is_equation UnsignedLess = false
+is_equation UnsignedLessEqual = false
+is_equation UnsignedGreater = false
+is_equation UnsignedGreaterEqual = false
+
+abbrev pub moved_constant : Comparison → Option ConstantSum → Option ℕ → Option Term
+moved_constant c (Some t) (Some d) = Some (compare_with c t.value ((d + (2 ^ bits_of_width c.width - t.constant)) % 2 ^ bits_of_width c.width))
+moved_constant c _ _ = None
+
+-- `icmp eq (x + c) d` is `icmp eq x (d - c)`, and so is `icmp ne`
+abbrev pub compare_summand : Option Comparison → (a b : Operand) → Option Term
+compare_summand (Some c) a b = if is_equation c.predicate then moved_constant c (constant_sum c.width a) (known_bits c.width b) else None
+compare_summand None a b = None
+
 -- ---- the rules
 
 abbrev pub rules_of_unary : Head → (a : Operand) → Option Term
@@ -415,7 +438,7 @@ rules_of_unary head a =
 abbrev pub rules_of_comparison : Option Comparison → (a b : Operand) → Option Term
 rules_of_comparison c a b =
     option_or (swap_comparison c a b)
-    (option_or (compare_narrow ZeroExtend c a b) (option_or (compare_narrow SignExtend c a b) (compare_strictly c a b)))
+    (option_or (compare_narrow ZeroExtend c a b) (option_or (compare_narrow SignExtend c a b) (option_or (compare_strictly c a b) (compare_summand c a b))))
 
 abbrev pub rules_of_arithmetic : Head → (a b : Operand) → Option Term
 rules_of_arithmetic head a b =

@@ -14,9 +14,10 @@ use Rattle.pliron_rewrite_rules.specs.declared.term.Term.{Term}
 use Rattle.pliron_rewrite_rules.specs.RuleLaws.{IsRule, RulesHold}
 use Rattle.pliron_mlir_rules.specs.CastsHold.{casts_hold}
 use Rattle.pliron_mlir_rules.specs.ComparisonsHold.{compare_holds}
+use Rattle.pliron_mlir_rules.specs.EquationsHold.{equations_hold}
 use Rattle.pliron_mlir_rules.specs.ExtensionNumbers.{zeros_extend, signs_extend}
 use Rattle.pliron_mlir_rules.specs.IntegerActs.{mlir_meaning, mlir_effects}
-use Rattle.pliron_mlir_rules.specs.MlirRules.{swap_comparison, compare_narrow, compare_strictly, join_casts, mask_bits, swap_constant, subtract_constant, join_sums, invert_comparison, rules_of_unary, rules_of_comparison, rules_of_arithmetic, rules_of_powers, rules_of_binary, by_mlir_operands, mlir_rules}
+use Rattle.pliron_mlir_rules.specs.MlirRules.{swap_comparison, compare_narrow, compare_strictly, compare_summand, join_casts, mask_bits, swap_constant, subtract_constant, join_sums, invert_comparison, rules_of_unary, rules_of_comparison, rules_of_arithmetic, rules_of_powers, rules_of_binary, by_mlir_operands, mlir_rules}
 use Rattle.pliron_mlir_rules.specs.InversesHold.{inverses_hold}
 use Rattle.pliron_mlir_rules.specs.MasksHold.{masks_hold}
 use Rattle.pliron_mlir_rules.specs.OrdersHold.{swapped_comparisons_hold, swapped_constants_hold}
@@ -64,15 +65,22 @@ module _ {K : Type 0} (class_of : K → Class) (kind : Class → K) (value : Int
       strict : Option Term
       strict = compare_strictly (comparison_of head) a b
 
-      of_signed : (o : Option Term) → compare_narrow SignExtend (comparison_of head) a b ≡ o → option_or o strict ≡ Some term → IsRuleOf (record { head = head; operands = a ∷ b ∷ [] }) term
-      of_signed None f g = strict_holds class_of kind value forth head a b term (comparison_of head) refl g
+      summand : Option Term
+      summand = compare_summand (comparison_of head) a b
+
+      of_strict : (o : Option Term) → compare_strictly (comparison_of head) a b ≡ o → option_or o summand ≡ Some term → IsRuleOf (record { head = head; operands = a ∷ b ∷ [] }) term
+      of_strict None f g = equations_hold class_of kind value forth head a b term (comparison_of head) refl g
+      of_strict (Some t) f g = strict_holds class_of kind value forth head a b term (comparison_of head) refl (f ∙ g)
+
+      of_signed : (o : Option Term) → compare_narrow SignExtend (comparison_of head) a b ≡ o → option_or o (option_or strict summand) ≡ Some term → IsRuleOf (record { head = head; operands = a ∷ b ∷ [] }) term
+      of_signed None f g = of_strict (compare_strictly (comparison_of head) a b) refl g
       of_signed (Some t) f g = compare_holds class_of kind value forth SignExtend signs_extend head a b term (comparison_of head) refl (f ∙ g)
 
-      of_narrow : (o : Option Term) → compare_narrow ZeroExtend (comparison_of head) a b ≡ o → option_or o (option_or signed strict) ≡ Some term → IsRuleOf (record { head = head; operands = a ∷ b ∷ [] }) term
+      of_narrow : (o : Option Term) → compare_narrow ZeroExtend (comparison_of head) a b ≡ o → option_or o (option_or signed (option_or strict summand)) ≡ Some term → IsRuleOf (record { head = head; operands = a ∷ b ∷ [] }) term
       of_narrow None f g = of_signed (compare_narrow SignExtend (comparison_of head) a b) refl g
       of_narrow (Some t) f g = compare_holds class_of kind value forth ZeroExtend zeros_extend head a b term (comparison_of head) refl (f ∙ g)
 
-      of_swapped : (o : Option Term) → swap_comparison (comparison_of head) a b ≡ o → option_or o (option_or narrow (option_or signed strict)) ≡ Some term → IsRuleOf (record { head = head; operands = a ∷ b ∷ [] }) term
+      of_swapped : (o : Option Term) → swap_comparison (comparison_of head) a b ≡ o → option_or o (option_or narrow (option_or signed (option_or strict summand))) ≡ Some term → IsRuleOf (record { head = head; operands = a ∷ b ∷ [] }) term
       of_swapped None f g = of_narrow (compare_narrow ZeroExtend (comparison_of head) a b) refl g
       of_swapped (Some t) f g = swapped_comparisons_hold class_of kind value forth head a b term (comparison_of head) refl (f ∙ g)
 

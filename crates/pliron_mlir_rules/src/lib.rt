@@ -14,6 +14,7 @@ ghost use Rattle.pliron_mlir_rules.specs.RulesHold.{mlir_rules_hold};
 
 mod casts;
 mod comparisons;
+mod equations;
 mod inverses;
 mod masks;
 mod orders;
@@ -24,6 +25,7 @@ mod sums;
 
 use casts::join_casts;
 use comparisons::compare_narrow;
+use equations::compare_summand;
 use inverses::invert_comparison;
 use masks::mask_bits;
 use orders::{swap_comparison, swap_constant};
@@ -79,7 +81,10 @@ fn rules_of_comparison(
     if let Some(term) = compare_narrow(alloc, Cast::SignExtend, comparison, a, b)? {
         return Ok(Some(term));
     }
-    compare_strictly(alloc, comparison, a, b)
+    if let Some(term) = compare_strictly(alloc, comparison, a, b)? {
+        return Ok(Some(term));
+    }
+    compare_summand(alloc, comparison, a, b)
 }
 
 // What the rules answer for an operation with this head that computes an integer of two.

@@ -331,7 +331,14 @@ the rest of the greatest power -- (%0: i8):|  %1 = \"llvm.mlir.constant\"() <{va
     : (i8) -> ()
 the signed rest -- (%0: i8):|  %1 = \"llvm.mlir.constant\"() <{value = 4 : i8}> : () -> i8|  %2 = \"llvm.srem\"(%0, \
     %1) : (i8, i8) -> i8|  \"llvm.return\"(%2) : (i8) -> () => (%0: i8):|  %1 = \"llvm.mlir.constant\"() <{value = 4 : \
-    i8}> : () -> i8|  %2 = \"llvm.srem\"(%0, %1) : (i8, i8) -> i8|  \"llvm.return\"(%2) : (i8) -> ()";
+    i8}> : () -> i8|  %2 = \"llvm.srem\"(%0, %1) : (i8, i8) -> i8|  \"llvm.return\"(%2) : (i8) -> ()
+a sum equals -- (%0: i32):|  %1 = \"llvm.mlir.constant\"() <{value = 3 : i32}> : () -> i32|  %2 = \
+    \"llvm.mlir.constant\"() <{value = 10 : i32}> : () -> i32|  %3 = \"llvm.add\"(%0, %1) : (i32, i32) -> i32|  %4 = \
+    \"llvm.icmp\"(%3, %2) <{predicate = 0 : i64}> : (i32, i32) -> i1|  \"llvm.return\"(%4) : (i1) -> () => (%0: \
+    i32):|  %1 = \"llvm.mlir.constant\"() <{value = 3 : i32}> : () -> i32|  %2 = \"llvm.mlir.constant\"() <{value = \
+    10 : i32}> : () -> i32|  %3 = \"llvm.add\"(%0, %1) : (i32, i32) -> i32|  %5 = \"llvm.mlir.constant\"() <{value = \
+    7 : i32}> : () -> i32|  %6 = \"llvm.icmp\"(%0, %5) <{predicate = 0 : i64}> : (i32, i32) -> i1|  %4 = \
+    \"llvm.icmp\"(%3, %2) <{predicate = 0 : i64}> : (i32, i32) -> i1|  \"llvm.return\"(%6) : (i1) -> ()";
 
 #[test]
 fn rules_leave(rt: HostRuntime) {
