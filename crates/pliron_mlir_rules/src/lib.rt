@@ -1,7 +1,8 @@
 //! A set of rules for MLIR's operations on integers, under every interpretation: a constant stands second; a comparison of
 //! extensions is one of what they extend, and one with a constant is strict; a cast of a cast is one cast, or a mask; a
 //! constant is added where one is subtracted, and one where there are two; a product or a quotient by a power of two is a
-//! shift, and a remainder by one a mask; and an inverted comparison is the inverse one.
+//! shift, and a remainder by one a mask; a sum with a constant equals one where its value equals the difference; and an
+//! inverted comparison is the inverse one.
 //!
 //! The table is in `specs/MlirRules.antt`; for each rule its term has the datum of what is seen, also where the data are no
 //! numbers.
