@@ -10,6 +10,8 @@ mod broken;
 #[cfg(test)]
 mod forms;
 #[cfg(test)]
+mod functions;
+#[cfg(test)]
 mod hostile;
 #[cfg(test)]
 mod lines;

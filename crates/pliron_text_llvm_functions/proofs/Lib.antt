@@ -1,0 +1,3 @@
+pub mod ParameterLemmas
+pub mod BodyLemmas
+pub mod FunctionLemmas

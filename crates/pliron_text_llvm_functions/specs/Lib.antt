@@ -1,0 +1,3 @@
+pub mod Parameters
+pub mod Bodies
+pub mod Functions
