@@ -7,6 +7,7 @@ use Rattle.pliron_bits.specs.declared.operators.BinaryOperator.{BinaryOperator}
 use Rattle.pliron_bits.specs.declared.operators.Predicate.{Predicate}
 use Rattle.pliron_bits.specs.declared.operators.Predicate.TheVariants.{Equal, NotEqual, SignedLess, SignedLessEqual, SignedGreater, SignedGreaterEqual, UnsignedLess, UnsignedLessEqual, UnsignedGreater, UnsignedGreaterEqual}
 use Rattle.pliron_bits.specs.declared.operators.Cast.{Cast}
+use Rattle.pliron_bits.specs.Flags.{number_of_flags, flags_of_number}
 use Rattle.pliron_bits.specs.Operators.{number_of_predicate, predicate_of_number}
 use Rattle.pliron_dialect_mlir.specs.declared.kind.Class.{Class}
 use Rattle.pliron_dialect_mlir.specs.declared.kind.Class.TheVariants.{Compare, Cast as CastClass, Binary}
@@ -134,15 +135,49 @@ says_arithmetic operator head s e =
       is = subst (λ x. is_width x.width ≡ true) both.1 parts.1;
     }
 
--- that of an operation that promises nothing but signs
-pub signed_says : (operator : BinaryOperator) (width : ℕ) (signed : Bool) → is_width width ≡ true → SaysArithmetic operator (head_of_arithmetic operator (record { width = width; flags = if_signed signed })) (record { width = width; flags = if_signed signed })
-signed_says operator width signed is = record {
+-- flags are what their number says
+flags_back : (v w x y z : Bool) → flags_of_number (number_of_flags (record { no_signed_wrap = v; no_unsigned_wrap = w; exact = x; disjoint = y; nonnegative = z })) ≡ record { no_signed_wrap = v; no_unsigned_wrap = w; exact = x; disjoint = y; nonnegative = z }
+flags_back true true true true true = refl
+flags_back true true true true false = refl
+flags_back true true true false true = refl
+flags_back true true true false false = refl
+flags_back true true false true true = refl
+flags_back true true false true false = refl
+flags_back true true false false true = refl
+flags_back true true false false false = refl
+flags_back true false true true true = refl
+flags_back true false true true false = refl
+flags_back true false true false true = refl
+flags_back true false true false false = refl
+flags_back true false false true true = refl
+flags_back true false false true false = refl
+flags_back true false false false true = refl
+flags_back true false false false false = refl
+flags_back false true true true true = refl
+flags_back false true true true false = refl
+flags_back false true true false true = refl
+flags_back false true true false false = refl
+flags_back false true false true true = refl
+flags_back false true false true false = refl
+flags_back false true false false true = refl
+flags_back false true false false false = refl
+flags_back false false true true true = refl
+flags_back false false true true false = refl
+flags_back false false true false true = refl
+flags_back false false true false false = refl
+flags_back false false false true true = refl
+flags_back false false false true false = refl
+flags_back false false false false true = refl
+flags_back false false false false false = refl
+
+pub arithmetic_says : (operator : BinaryOperator) (s : Arithmetic) → is_width s.width ≡ true → SaysArithmetic operator (head_of_arithmetic operator s) s
+arithmetic_says operator s is = record {
   class = numbered_class (Binary operator);
-  width = width_said width is;
-  flags = by signed;
+  width = width_said s.width is;
+  flags = flags_back s.flags.no_signed_wrap s.flags.no_unsigned_wrap s.flags.exact s.flags.disjoint s.flags.nonnegative;
   is = is;
 }
-  where
-    by : (b : Bool) → flags_at (head_of_arithmetic operator (record { width = width; flags = if_signed b })).attrs 1 ≡ if_signed b
-    by true = refl
-    by false = refl
+
+-- that of an operation that promises nothing but signs
+pub signed_says : (operator : BinaryOperator) (width : ℕ) (signed : Bool) → is_width width ≡ true → SaysArithmetic operator (head_of_arithmetic operator (record { width = width; flags = if_signed signed })) (record { width = width; flags = if_signed signed })
+signed_says operator width signed is = arithmetic_says operator (record { width = width; flags = if_signed signed }) is

@@ -134,16 +134,16 @@ cast_computes Truncate c plain n =
 
 -- ---- what is left and given
 
-is_that : (n : ℤ) (d : Datum) → is_this (Some n) d ≡ true → d ≡ Number n
+pub is_that : (n : ℤ) (d : Datum) → is_this (Some n) d ≡ true → d ≡ Number n
 is_that n Empty e = absurd (grind (arith, e))
 is_that n (Number m) e = ap Number ((Decides-int_eq m n).0 e)
 is_that n (Text t) e = absurd (grind (arith, e))
 is_that n (Join a b) e = absurd (grind (arith, e))
 
-itself : (n : ℤ) → int_eq n n ≡ true
+pub itself : (n : ℤ) → int_eq n n ≡ true
 itself n = (Decides-int_eq n n).1 refl
 
-zero_is : (width : ℕ) → is_width width ≡ true → zero_at width ≡ Some (number width 0)
+pub zero_is : (width : ℕ) → is_width width ≡ true → zero_at width ≡ Some (number width 0)
 zero_is width is = ap (λ b. some_if b (number width 0)) is
 
 -- 0 added, and added to
@@ -206,7 +206,7 @@ module _ {K : Type 0} (class_of : K → Class) (kind : Class → K) (value : Int
   role_is n c e = ap (λ o. option_map (λ k. role_of_class (class_of k)) (option_map kind o)) e ∙ ap (λ x. Some (role_of_class x)) (forth c)
 
   -- what is given otherwise is what the class passes on
-  otherwise_is : (head : Head) (k : Option Class) → class_of_number head.kind ≡ k → (input : List Datum) (o : Option ℤ) → results_given (given_otherwise value) head input o ≡ results_given (passing k value) head input o
+  pub otherwise_is : (head : Head) (k : Option Class) → class_of_number head.kind ≡ k → (input : List Datum) (o : Option ℤ) → results_given (given_otherwise value) head input o ≡ results_given (passing k value) head input o
   otherwise_is head k e input None = ap (λ c. results_given (passing c value) head input None) e
   otherwise_is head k e input (Some n) = refl
 
@@ -287,12 +287,12 @@ module _ {K : Type 0} (class_of : K → Class) (kind : Class → K) (value : Int
 
     -- ---- arithmetic
 
-    abbrev arithmetic_parts : BinaryOperator → Identity → Flags → (width : ℕ) → (d e : Datum) → Option Datum
+    abbrev pub arithmetic_parts : BinaryOperator → Identity → Flags → (width : ℕ) → (d e : Datum) → Option Datum
     arithmetic_parts operator identity flags width d e =
         only_one (operand_left (d ∷ e ∷ []) (place_between identity d e) (results_given (given_otherwise value) head (d ∷ e ∷ [])
         (option_or (given_between identity d e) (option_map (number width) (of_two (binary operator flags (bits_of_width width)) (bits_in width d) (bits_in width e))))))
 
-    arithmetic_as_said : (operator : BinaryOperator) (s : Arithmetic) → SaysArithmetic operator head s → (d e : Datum) → result_datum (mlir_meaning class_of kind value) head (Some (d ∷ e ∷ [])) ≡ arithmetic_parts operator (identity_at operator s.flags s.width) s.flags s.width d e
+    pub arithmetic_as_said : (operator : BinaryOperator) (s : Arithmetic) → SaysArithmetic operator head s → (d e : Datum) → result_datum (mlir_meaning class_of kind value) head (Some (d ∷ e ∷ [])) ≡ arithmetic_parts operator (identity_at operator s.flags s.width) s.flags s.width d e
     unfolding meaning_by
     arithmetic_as_said operator s says d e =
         ap (λ r. only_given (by_role no_act (act_of (given_otherwise value)) r (pure_shape head 2) Empty (d ∷ e ∷ []))) (role_is head.kind (Binary operator) says.class)

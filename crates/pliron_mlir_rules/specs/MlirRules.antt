@@ -1,11 +1,13 @@
 -- Rules on integers, as a table from views to terms.
-use Rattle.std.specs.Prelude.{if◌then◌else◌, nat_eq, nat_lt, not, ℕ, ◌+◌, ◌-◌, ◌%◌, ◌^◌, Bool, true, false, ◌&&◌, List, [], ◌∷◌, Option, Some, None, ℤ, pos}
+use Rattle.std.specs.Prelude.{if◌then◌else◌, nat_eq, nat_lt, nat_le, not, ℕ, ◌+◌, ◌-◌, ◌%◌, ◌^◌, Bool, true, false, ◌&&◌, List, [], ◌∷◌, Option, Some, None, ℤ, pos}
 use Rattle.std.specs.Option.{option_or}
+use Rattle.std.specs.Int.{w64, trailing_zeros}
 use Rattle.pliron_core.specs.declared.attrs.AttrObj.{AttrObj}
 use Rattle.pliron_core.specs.declared.attrs.AttrObj.TheVariants.{Int, Text}
 use Rattle.pliron_core.specs.declared.attrs.Head.{Head}
 use Rattle.pliron_bits.specs.declared.flags.Flags.{Flags}
-use Rattle.pliron_bits.specs.declared.operators.BinaryOperator.TheVariants.{Add, Subtract, And, Xor}
+use Rattle.pliron_bits.specs.declared.operators.BinaryOperator.{BinaryOperator}
+use Rattle.pliron_bits.specs.declared.operators.BinaryOperator.TheVariants.{Add, Subtract, Multiply, UnsignedDivide, UnsignedRemainder, ShiftLeft, LogicalShiftRight, And, Or, Xor}
 use Rattle.pliron_bits.specs.declared.operators.Predicate.{Predicate}
 use Rattle.pliron_bits.specs.declared.operators.Predicate.TheVariants.{Equal, NotEqual, SignedLess, SignedLessEqual, SignedGreater, SignedGreaterEqual, UnsignedLess, UnsignedLessEqual, UnsignedGreater, UnsignedGreaterEqual}
 use Rattle.pliron_bits.specs.declared.operators.Cast.{Cast}
@@ -58,7 +60,7 @@ abbrev pub source_of : Cast → (to : ℕ) → Operand → Option CastSource
 source_of cast to (Plain leaf) = None
 source_of cast to (Made v head leaves) = source_leaf cast to (conversion_of cast head) leaves
 
--- ---- comparisons of zero extensions
+-- ---- comparisons of extensions
 
 -- how the numbers compare that are read as unsigned
 abbrev pub unsigned_of : Predicate → Predicate
@@ -73,34 +75,53 @@ unsigned_of UnsignedLessEqual = UnsignedLessEqual
 unsigned_of UnsignedGreater = UnsignedGreater
 unsigned_of UnsignedGreaterEqual = UnsignedGreaterEqual
 
+-- how what is extended compares: without signs, where zeros are put before
+abbrev pub narrow_predicate : Cast → Predicate → Predicate
+narrow_predicate ZeroExtend p = unsigned_of p
+narrow_predicate SignExtend p = p
+narrow_predicate Truncate p = p
+
+-- the number of v bits whose extension to w bits is this one
+abbrev pub narrow_high : (v w bits : ℕ) → Option ℕ
+narrow_high v w bits = some_if (nat_le (2 ^ w - 2 ^ (v - 1)) bits) (bits - (2 ^ w - 2 ^ v))
+
+abbrev pub narrow_number : Cast → (v w bits : ℕ) → Option ℕ
+narrow_number ZeroExtend v w bits = some_if (nat_lt bits (2 ^ v)) bits
+narrow_number SignExtend v w bits = if nat_lt bits (2 ^ (v - 1)) then Some bits else narrow_high v w bits
+narrow_number Truncate v w bits = None
+
 -- the value of this width; the number that it holds, as one of it
 abbrev pub of_width : (width : ℕ) → Option CastSource → Option Atom
 of_width width (Some n) = some_if (nat_eq n.width width) (Named n.value)
 of_width width None = None
 
-abbrev pub fitting_constant : (width : ℕ) → Option ℕ → Option Atom
-fitting_constant width (Some bits) = some_if (nat_lt bits (2 ^ bits_of_width width)) (Constant (Int (number width bits)))
-fitting_constant width None = None
+abbrev pub number_atom : (width : ℕ) → Option ℕ → Option Atom
+number_atom width (Some bits) = Some (Constant (Int (number width bits)))
+number_atom width None = None
 
--- what the operand of the width `to` is the zero extension of
-abbrev pub narrow_atom : (width to : ℕ) → Operand → Option Atom
-narrow_atom width to b = option_or (of_width width (source_of ZeroExtend to b)) (fitting_constant width (known_bits to b))
+abbrev pub fitting_constant : Cast → (width to : ℕ) → Option ℕ → Option Atom
+fitting_constant cast width to (Some bits) = number_atom width (narrow_number cast (bits_of_width width) (bits_of_width to) bits)
+fitting_constant cast width to None = None
 
-abbrev pub narrow_comparison : Comparison → CastSource → Atom → Term
-narrow_comparison c a b = Make (head_of_comparison (record { width = a.width; predicate = unsigned_of c.predicate })) (Named a.value ∷ b ∷ [])
+-- what the operand of the width `to` is the extension of
+abbrev pub narrow_atom : Cast → (width to : ℕ) → Operand → Option Atom
+narrow_atom cast width to b = option_or (of_width width (source_of cast to b)) (fitting_constant cast width to (known_bits to b))
 
-abbrev pub comparison_term : Comparison → CastSource → Option Atom → Option Term
-comparison_term c a (Some b) = Some (narrow_comparison c a b)
-comparison_term c a None = None
+abbrev pub narrow_comparison : Cast → Comparison → CastSource → Atom → Term
+narrow_comparison cast c a b = Make (head_of_comparison (record { width = a.width; predicate = narrow_predicate cast c.predicate })) (Named a.value ∷ b ∷ [])
 
-abbrev pub comparison_from : Comparison → Option CastSource → Operand → Option Term
-comparison_from c (Some a) b = comparison_term c a (narrow_atom a.width c.width b)
-comparison_from c None b = None
+abbrev pub comparison_term : Cast → Comparison → CastSource → Option Atom → Option Term
+comparison_term cast c a (Some b) = Some (narrow_comparison cast c a b)
+comparison_term cast c a None = None
 
--- `icmp p (zext a) (zext b)`, or a constant in the place of the latter, is `icmp p a b`, without signs
-abbrev pub compare_narrow : Option Comparison → (a b : Operand) → Option Term
-compare_narrow (Some c) a b = comparison_from c (source_of ZeroExtend c.width a) b
-compare_narrow None a b = None
+abbrev pub comparison_from : Cast → Comparison → Option CastSource → Operand → Option Term
+comparison_from cast c (Some a) b = comparison_term cast c a (narrow_atom cast a.width c.width b)
+comparison_from cast c None b = None
+
+-- `icmp p (ext a) (ext b)`, or a constant in the place of the latter, is `icmp p a b`, of zero extensions without signs
+abbrev pub compare_narrow : Cast → Option Comparison → (a b : Operand) → Option Term
+compare_narrow cast (Some c) a b = comparison_from cast c (source_of cast c.width a) b
+compare_narrow cast None a b = None
 
 -- ---- casts of casts
 
@@ -206,6 +227,150 @@ abbrev pub join_sums : Option Arithmetic → (a b : Operand) → Option Term
 join_sums (Some s) a b = if wraps_freely s.flags then joined_sum s.width (constant_sum s.width a) (known_bits s.width b) else None
 join_sums None a b = None
 
+-- ---- strict comparisons
+
+-- the predicate without what is equal
+abbrev pub strict_of : Predicate → Predicate
+strict_of Equal = Equal
+strict_of NotEqual = NotEqual
+strict_of SignedLess = SignedLess
+strict_of SignedLessEqual = SignedLess
+strict_of SignedGreater = SignedGreater
+strict_of SignedGreaterEqual = SignedGreater
+strict_of UnsignedLess = UnsignedLess
+strict_of UnsignedLessEqual = UnsignedLess
+strict_of UnsignedGreater = UnsignedGreater
+strict_of UnsignedGreaterEqual = UnsignedGreater
+
+-- the next number of so many bits, and the one before, unless the number is the last one
+abbrev pub next_unless : (w last c : ℕ) → Option ℕ
+next_unless w last c = some_if (not (nat_eq c last)) ((c + 1) % 2 ^ w)
+
+abbrev pub before_unless : (w last c : ℕ) → Option ℕ
+before_unless w last c = some_if (not (nat_eq c last)) ((c + (2 ^ w - 1)) % 2 ^ w)
+
+-- the number with which the strict predicate compares what this one compares with c, where there is such a one
+abbrev pub number_beside : Predicate → (w c : ℕ) → Option ℕ
+number_beside SignedLessEqual w c = next_unless w (2 ^ (w - 1) - 1) c
+number_beside SignedGreaterEqual w c = before_unless w (2 ^ (w - 1)) c
+number_beside UnsignedLessEqual w c = next_unless w (2 ^ w - 1) c
+number_beside UnsignedGreaterEqual w c = before_unless w 0 c
+number_beside Equal w c = None
+number_beside NotEqual w c = None
+number_beside SignedLess w c = None
+number_beside SignedGreater w c = None
+number_beside UnsignedLess w c = None
+number_beside UnsignedGreater w c = None
+
+-- a comparison with a constant
+abbrev pub compare_with : Comparison → (value c : ℕ) → Term
+compare_with comparison value c = Make (head_of_comparison comparison) (Named value ∷ Constant (Int (number comparison.width c)) ∷ [])
+
+abbrev pub strict_with : Comparison → (value : ℕ) → Option ℕ → Option Term
+strict_with c value (Some k) = Some (compare_with (record { width = c.width; predicate = strict_of c.predicate }) value k)
+strict_with c value None = None
+
+abbrev pub strict_beside : Comparison → (value : ℕ) → Option ℕ → Option Term
+strict_beside c value (Some k) = strict_with c value (number_beside c.predicate (bits_of_width c.width) k)
+strict_beside c value None = None
+
+-- `icmp sle x c` is `icmp slt x (c + 1)`, `icmp sge x c` is `icmp sgt x (c - 1)`, and so without signs
+abbrev pub compare_strictly : Option Comparison → (a b : Operand) → Option Term
+compare_strictly (Some c) a b = strict_beside c (operand_value a) (known_bits c.width b)
+compare_strictly None a b = None
+
+-- ---- constants that stand second
+
+-- the predicate for the operands in the other order
+abbrev pub swapped_of : Predicate → Predicate
+swapped_of Equal = Equal
+swapped_of NotEqual = NotEqual
+swapped_of SignedLess = SignedGreater
+swapped_of SignedLessEqual = SignedGreaterEqual
+swapped_of SignedGreater = SignedLess
+swapped_of SignedGreaterEqual = SignedLessEqual
+swapped_of UnsignedLess = UnsignedGreater
+swapped_of UnsignedLessEqual = UnsignedGreaterEqual
+swapped_of UnsignedGreater = UnsignedLess
+swapped_of UnsignedGreaterEqual = UnsignedLessEqual
+
+-- whether the first is known, and the second isn't
+abbrev pub is_first_known : Option ℕ → Option ℕ → Bool
+is_first_known (Some c) None = true
+is_first_known (Some c) (Some d) = false
+is_first_known None d = false
+
+-- `icmp p c x` is `icmp swapped-p x c`
+abbrev pub swap_comparison : Option Comparison → (a b : Operand) → Option Term
+swap_comparison (Some c) a b =
+    some_if (is_first_known (known_bits c.width a) (known_bits c.width b))
+    (Make (head_of_comparison (record { width = c.width; predicate = swapped_of c.predicate })) (Named (operand_value b) ∷ Named (operand_value a) ∷ []))
+swap_comparison None a b = None
+
+-- `c op x` is `x op c`
+abbrev pub swap_operands : BinaryOperator → Option Arithmetic → (a b : Operand) → Option Term
+swap_operands operator (Some s) a b =
+    some_if (is_first_known (known_bits s.width a) (known_bits s.width b)) (Make (head_of_arithmetic operator s) (Named (operand_value b) ∷ Named (operand_value a) ∷ []))
+swap_operands operator None a b = None
+
+-- where the order of operands doesn't matter
+abbrev pub swap_constant : Head → (a b : Operand) → Option Term
+swap_constant head a b =
+    option_or (swap_operands Add (arithmetic_of Add head) a b)
+    (option_or (swap_operands And (arithmetic_of And head) a b)
+    (option_or (swap_operands Or (arithmetic_of Or head) a b)
+    (option_or (swap_operands Xor (arithmetic_of Xor head) a b) (swap_operands Multiply (arithmetic_of Multiply head) a b))))
+
+-- ---- powers of two
+
+-- the exponent, where the number is two to a power that isn't 0
+abbrev pub exponent_by : (k c : ℕ) → Option ℕ
+exponent_by k c = some_if (nat_lt 0 k && nat_eq (2 ^ k) c) k
+
+abbrev pub exponent_of : ℕ → Option ℕ
+exponent_of c = exponent_by (trailing_zeros w64 c) c
+
+abbrev pub known_exponent : Option ℕ → Option ℕ
+known_exponent (Some c) = exponent_of c
+known_exponent None = None
+
+-- an operation with a constant
+abbrev pub arithmetic_with : BinaryOperator → Arithmetic → (value c : ℕ) → Term
+arithmetic_with operator s value c = Make (head_of_arithmetic operator s) (Named value ∷ Constant (Int (number s.width c)) ∷ [])
+
+-- a shift by all bits but one promises of signs what a product by the least number doesn't
+abbrev pub shifted_product : Arithmetic → (value : ℕ) → Option ℕ → Option Term
+shifted_product s value (Some k) = some_if (not (s.flags.no_signed_wrap && nat_eq (k + 1) (bits_of_width s.width))) (arithmetic_with ShiftLeft s value k)
+shifted_product s value None = None
+
+-- `x * 2^k` is `x << k`
+abbrev pub shift_product : Option Arithmetic → (a b : Operand) → Option Term
+shift_product (Some s) a b = shifted_product s (operand_value a) (known_exponent (known_bits s.width b))
+shift_product None a b = None
+
+abbrev pub shifted_quotient : Arithmetic → (value : ℕ) → Option ℕ → Option Term
+shifted_quotient s value (Some k) = Some (arithmetic_with LogicalShiftRight s value k)
+shifted_quotient s value None = None
+
+-- `x udiv 2^k` is `x >> k`
+abbrev pub shift_quotient : Option Arithmetic → (a b : Operand) → Option Term
+shift_quotient (Some s) a b = shifted_quotient s (operand_value a) (known_exponent (known_bits s.width b))
+shift_quotient None a b = None
+
+abbrev pub masked_remainder : Arithmetic → (value : ℕ) → Option ℕ → Option Term
+masked_remainder s value (Some k) = Some (arithmetic_with And (record { width = s.width; flags = no_flags }) value (2 ^ k - 1))
+masked_remainder s value None = None
+
+-- `x urem 2^k` is `x & (2^k - 1)`
+abbrev pub mask_remainder : Option Arithmetic → (a b : Operand) → Option Term
+mask_remainder (Some s) a b = masked_remainder s (operand_value a) (known_exponent (known_bits s.width b))
+mask_remainder None a b = None
+
+abbrev pub rules_of_powers : Head → (a b : Operand) → Option Term
+rules_of_powers head a b =
+    option_or (shift_product (arithmetic_of Multiply head) a b)
+    (option_or (shift_quotient (arithmetic_of UnsignedDivide head) a b) (mask_remainder (arithmetic_of UnsignedRemainder head) a b))
+
 -- ---- inverted comparisons
 
 abbrev pub inverse_of : Predicate → Predicate
@@ -239,6 +404,29 @@ abbrev pub invert_comparison : Option Arithmetic → (a b : Operand) → Option 
 invert_comparison (Some s) a b = if nat_eq s.width 1 then inverse_if (known_bits 1 b) a else None
 invert_comparison None a b = None
 
+-- ---- equations with sums
+
+abbrev pub is_equation : Predicate → Bool
+is_equation Equal = true
+is_equation NotEqual = true
+is_equation SignedLess = false
+is_equation SignedLessEqual = false
+is_equation SignedGreater = false
+is_equation SignedGreaterEqual = false
+is_equation UnsignedLess = false
+is_equation UnsignedLessEqual = false
+is_equation UnsignedGreater = false
+is_equation UnsignedGreaterEqual = false
+
+abbrev pub moved_constant : Comparison → Option ConstantSum → Option ℕ → Option Term
+moved_constant c (Some t) (Some d) = Some (compare_with c t.value ((d + (2 ^ bits_of_width c.width - t.constant)) % 2 ^ bits_of_width c.width))
+moved_constant c _ _ = None
+
+-- `icmp eq (x + c) d` is `icmp eq x (d - c)`, and so is `icmp ne`
+abbrev pub compare_summand : Option Comparison → (a b : Operand) → Option Term
+compare_summand (Some c) a b = if is_equation c.predicate then moved_constant c (constant_sum c.width a) (known_bits c.width b) else None
+compare_summand None a b = None
+
 -- ---- the rules
 
 abbrev pub rules_of_unary : Head → (a : Operand) → Option Term
@@ -247,11 +435,20 @@ rules_of_unary head a =
     (option_or (join_casts SignExtend (conversion_of SignExtend head) a)
     (option_or (join_casts Truncate (conversion_of Truncate head) a) (mask_bits (conversion_of ZeroExtend head) a)))
 
+abbrev pub rules_of_comparison : Option Comparison → (a b : Operand) → Option Term
+rules_of_comparison c a b =
+    option_or (swap_comparison c a b)
+    (option_or (compare_narrow ZeroExtend c a b) (option_or (compare_narrow SignExtend c a b) (option_or (compare_strictly c a b) (compare_summand c a b))))
+
+abbrev pub rules_of_arithmetic : Head → (a b : Operand) → Option Term
+rules_of_arithmetic head a b =
+    option_or (subtract_constant (arithmetic_of Subtract head) a b)
+    (option_or (join_sums (arithmetic_of Add head) a b) (invert_comparison (arithmetic_of Xor head) a b))
+
 abbrev pub rules_of_binary : Head → (a b : Operand) → Option Term
 rules_of_binary head a b =
-    option_or (compare_narrow (comparison_of head) a b)
-    (option_or (subtract_constant (arithmetic_of Subtract head) a b)
-    (option_or (join_sums (arithmetic_of Add head) a b) (invert_comparison (arithmetic_of Xor head) a b)))
+    option_or (rules_of_comparison (comparison_of head) a b)
+    (option_or (swap_constant head a b) (option_or (rules_of_arithmetic head a b) (rules_of_powers head a b)))
 
 abbrev pub by_mlir_operands : Head → List Operand → Option Term
 by_mlir_operands head (a ∷ []) = rules_of_unary head a

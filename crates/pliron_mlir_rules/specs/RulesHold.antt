@@ -14,10 +14,15 @@ use Rattle.pliron_rewrite_rules.specs.declared.term.Term.{Term}
 use Rattle.pliron_rewrite_rules.specs.RuleLaws.{IsRule, RulesHold}
 use Rattle.pliron_mlir_rules.specs.CastsHold.{casts_hold}
 use Rattle.pliron_mlir_rules.specs.ComparisonsHold.{compare_holds}
+use Rattle.pliron_mlir_rules.specs.EquationsHold.{equations_hold}
+use Rattle.pliron_mlir_rules.specs.ExtensionNumbers.{zeros_extend, signs_extend}
 use Rattle.pliron_mlir_rules.specs.IntegerActs.{mlir_meaning, mlir_effects}
-use Rattle.pliron_mlir_rules.specs.MlirRules.{compare_narrow, join_casts, mask_bits, subtract_constant, join_sums, invert_comparison, rules_of_unary, rules_of_binary, by_mlir_operands, mlir_rules}
+use Rattle.pliron_mlir_rules.specs.MlirRules.{swap_comparison, compare_narrow, compare_strictly, compare_summand, join_casts, mask_bits, swap_constant, subtract_constant, join_sums, invert_comparison, rules_of_unary, rules_of_comparison, rules_of_arithmetic, rules_of_powers, rules_of_binary, by_mlir_operands, mlir_rules}
 use Rattle.pliron_mlir_rules.specs.InversesHold.{inverses_hold}
 use Rattle.pliron_mlir_rules.specs.MasksHold.{masks_hold}
+use Rattle.pliron_mlir_rules.specs.OrdersHold.{swapped_comparisons_hold, swapped_constants_hold}
+use Rattle.pliron_mlir_rules.specs.PowersHold.{powers_hold}
+use Rattle.pliron_mlir_rules.specs.StrictHold.{strict_holds}
 use Rattle.pliron_mlir_rules.specs.SumsHold.{differences_hold, sums_hold}
 
 module _ {K : Type 0} (class_of : K → Class) (kind : Class → K) (value : Interpretation) (forth : (c : Class) → class_of (kind c) ≡ c) where
@@ -48,12 +53,40 @@ module _ {K : Type 0} (class_of : K → Class) (kind : Class → K) (value : Int
       of_zero None f g = of_signed (join_casts SignExtend (conversion_of SignExtend head) a) refl g
       of_zero (Some t) f g = casts_hold class_of kind value forth ZeroExtend head a term (conversion_of ZeroExtend head) refl (f ∙ g)
 
-  two_hold : (head : Head) (a b : Operand) (term : Term) → rules_of_binary head a b ≡ Some term → IsRuleOf (record { head = head; operands = a ∷ b ∷ [] }) term
-  two_hold head a b term e = of_comparison (compare_narrow (comparison_of head) a b) refl e
+  comparisons_hold : (head : Head) (a b : Operand) (term : Term) → rules_of_comparison (comparison_of head) a b ≡ Some term → IsRuleOf (record { head = head; operands = a ∷ b ∷ [] }) term
+  comparisons_hold head a b term e = of_swapped (swap_comparison (comparison_of head) a b) refl e
     where
-      difference : Option Term
-      difference = subtract_constant (arithmetic_of Subtract head) a b
+      narrow : Option Term
+      narrow = compare_narrow ZeroExtend (comparison_of head) a b
 
+      signed : Option Term
+      signed = compare_narrow SignExtend (comparison_of head) a b
+
+      strict : Option Term
+      strict = compare_strictly (comparison_of head) a b
+
+      summand : Option Term
+      summand = compare_summand (comparison_of head) a b
+
+      of_strict : (o : Option Term) → compare_strictly (comparison_of head) a b ≡ o → option_or o summand ≡ Some term → IsRuleOf (record { head = head; operands = a ∷ b ∷ [] }) term
+      of_strict None f g = equations_hold class_of kind value forth head a b term (comparison_of head) refl g
+      of_strict (Some t) f g = strict_holds class_of kind value forth head a b term (comparison_of head) refl (f ∙ g)
+
+      of_signed : (o : Option Term) → compare_narrow SignExtend (comparison_of head) a b ≡ o → option_or o (option_or strict summand) ≡ Some term → IsRuleOf (record { head = head; operands = a ∷ b ∷ [] }) term
+      of_signed None f g = of_strict (compare_strictly (comparison_of head) a b) refl g
+      of_signed (Some t) f g = compare_holds class_of kind value forth SignExtend signs_extend head a b term (comparison_of head) refl (f ∙ g)
+
+      of_narrow : (o : Option Term) → compare_narrow ZeroExtend (comparison_of head) a b ≡ o → option_or o (option_or signed (option_or strict summand)) ≡ Some term → IsRuleOf (record { head = head; operands = a ∷ b ∷ [] }) term
+      of_narrow None f g = of_signed (compare_narrow SignExtend (comparison_of head) a b) refl g
+      of_narrow (Some t) f g = compare_holds class_of kind value forth ZeroExtend zeros_extend head a b term (comparison_of head) refl (f ∙ g)
+
+      of_swapped : (o : Option Term) → swap_comparison (comparison_of head) a b ≡ o → option_or o (option_or narrow (option_or signed (option_or strict summand))) ≡ Some term → IsRuleOf (record { head = head; operands = a ∷ b ∷ [] }) term
+      of_swapped None f g = of_narrow (compare_narrow ZeroExtend (comparison_of head) a b) refl g
+      of_swapped (Some t) f g = swapped_comparisons_hold class_of kind value forth head a b term (comparison_of head) refl (f ∙ g)
+
+  arithmetic_holds : (head : Head) (a b : Operand) (term : Term) → rules_of_arithmetic head a b ≡ Some term → IsRuleOf (record { head = head; operands = a ∷ b ∷ [] }) term
+  arithmetic_holds head a b term e = of_difference (subtract_constant (arithmetic_of Subtract head) a b) refl e
+    where
       joined : Option Term
       joined = join_sums (arithmetic_of Add head) a b
 
@@ -68,9 +101,29 @@ module _ {K : Type 0} (class_of : K → Class) (kind : Class → K) (value : Int
       of_difference None f g = of_joined (join_sums (arithmetic_of Add head) a b) refl g
       of_difference (Some t) f g = differences_hold class_of kind value forth head a b term (arithmetic_of Subtract head) refl (f ∙ g)
 
-      of_comparison : (o : Option Term) → compare_narrow (comparison_of head) a b ≡ o → option_or o (option_or difference (option_or joined inverted)) ≡ Some term → IsRuleOf (record { head = head; operands = a ∷ b ∷ [] }) term
-      of_comparison None f g = of_difference (subtract_constant (arithmetic_of Subtract head) a b) refl g
-      of_comparison (Some t) f g = compare_holds class_of kind value forth head a b term (comparison_of head) refl (f ∙ g)
+  two_hold : (head : Head) (a b : Operand) (term : Term) → rules_of_binary head a b ≡ Some term → IsRuleOf (record { head = head; operands = a ∷ b ∷ [] }) term
+  two_hold head a b term e = of_comparison (rules_of_comparison (comparison_of head) a b) refl e
+    where
+      swapped : Option Term
+      swapped = swap_constant head a b
+
+      arithmetic : Option Term
+      arithmetic = rules_of_arithmetic head a b
+
+      powers : Option Term
+      powers = rules_of_powers head a b
+
+      of_arithmetic : (o : Option Term) → rules_of_arithmetic head a b ≡ o → option_or o powers ≡ Some term → IsRuleOf (record { head = head; operands = a ∷ b ∷ [] }) term
+      of_arithmetic None f g = powers_hold class_of kind value forth head a b term g
+      of_arithmetic (Some t) f g = arithmetic_holds head a b term (f ∙ g)
+
+      of_swapped : (o : Option Term) → swap_constant head a b ≡ o → option_or o (option_or arithmetic powers) ≡ Some term → IsRuleOf (record { head = head; operands = a ∷ b ∷ [] }) term
+      of_swapped None f g = of_arithmetic (rules_of_arithmetic head a b) refl g
+      of_swapped (Some t) f g = swapped_constants_hold class_of kind value forth head a b term (f ∙ g)
+
+      of_comparison : (o : Option Term) → rules_of_comparison (comparison_of head) a b ≡ o → option_or o (option_or swapped (option_or arithmetic powers)) ≡ Some term → IsRuleOf (record { head = head; operands = a ∷ b ∷ [] }) term
+      of_comparison None f g = of_swapped (swap_constant head a b) refl g
+      of_comparison (Some t) f g = comparisons_hold head a b term (f ∙ g)
 
   pub mlir_rules_hold : RulesHold (mlir_meaning class_of kind value) (mlir_effects class_of kind value) (λ attr. true) mlir_rules
   mlir_rules_hold view term e = by view.head view.operands e

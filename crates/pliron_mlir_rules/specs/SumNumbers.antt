@@ -11,7 +11,7 @@ use Rattle.pliron_mlir_rules.specs.MlirRules.{if_signed}
 
 -- ---- what doesn't wrap
 
-signed_reach : (w n : ℕ) → 1 ≤ w → n < 2 ^ w → is_signed w (signed_value w n) ≡ true
+pub signed_reach : (w n : ℕ) → 1 ≤ w → n < 2 ^ w → is_signed w (signed_value w n) ≡ true
 signed_reach w n some lt = of_order (order n (2 ^ (w - 1)))
   where
     reach_low : (h n : ℕ) → n < h → int_le (neg_ℤ (pos h)) (pos n) && int_lt (pos n) (pos h) ≡ true
@@ -33,13 +33,13 @@ and_not : (x y : Bool) → y ≡ true → x && not y ≡ false
 and_not true y e = ap not e
 and_not false y e = refl
 
-no_wrap : (f : Flags) (w : ℕ) (z : ℤ) (exact : Bool) → is_signed w z ≡ true → exact ≡ true → wraps f w z exact ≡ false
+pub no_wrap : (f : Flags) (w : ℕ) (z : ℤ) (exact : Bool) → is_signed w z ≡ true → exact ≡ true → wraps f w z exact ≡ false
 no_wrap f w z exact p q = ap₂ (λ x y. x || y) (and_not f.no_signed_wrap (is_signed w z) p) (and_not f.no_unsigned_wrap exact q)
 
-zero_reads : (w : ℕ) → signed_value w 0 ≡ pos 0
+pub zero_reads : (w : ℕ) → signed_value w 0 ≡ pos 0
 zero_reads w = signed_low w 0 (pow_pos (w - 1))
 
-is_below : (a b : ℕ) → a < b → nat_lt a b ≡ true
+pub is_below : (a b : ℕ) → a < b → nat_lt a b ≡ true
 is_below a b h = grind (arith, tests)
 
 is_at_most : (a : ℕ) → nat_le a a ≡ true

@@ -49,7 +49,7 @@ negated_datum flags width c is some lt unsigned least d = by (bits_in width d)
     by (Some a) = ap (number_or_poison width) (difference_is_sum flags (bits_of_width width) a c (some_bits width is) some lt unsigned least)
 
 -- where sums may wrap
-free_sum : (flags : Flags) (w a c : ℕ) → wraps_freely flags ≡ true → sum flags w a c ≡ Some ((a + c) % 2 ^ w)
+pub free_sum : (flags : Flags) (w a c : ℕ) → wraps_freely flags ≡ true → sum flags w a c ≡ Some ((a + c) % 2 ^ w)
 free_sum flags w a c free =
     let both = both_so (not flags.no_signed_wrap) (not flags.no_unsigned_wrap) free in
     ap₂ (λ x y. sum (record flags { no_signed_wrap = x; no_unsigned_wrap = y }) w a c) (not_true flags.no_signed_wrap both.0) (not_true flags.no_unsigned_wrap both.1)
@@ -84,7 +84,7 @@ pub record SaysSum (width : ℕ) (a : Operand) (t : ConstantSum) : Type 0 where
   pub value_is : leaf_value x ≡ t.value
   pub reads : leaf_bits width c ≡ Some t.constant
 
-says_sum : (width : ℕ) (a : Operand) (t : ConstantSum) → constant_sum width a ≡ Some t → SaysSum width a t
+pub says_sum : (width : ℕ) (a : Operand) (t : ConstantSum) → constant_sum width a ≡ Some t → SaysSum width a t
 says_sum width (Plain leaf) t e = absurd (not_none e)
 says_sum width (Made v head leaves) t e = of_arithmetic (arithmetic_of Add head) refl leaves refl e
   where
@@ -185,7 +185,7 @@ module _ {K : Type 0} (class_of : K → Class) (kind : Class → K) (value : Int
   -- ---- sums of sums
 
   -- the sum that is seen has a datum
-  inner_gives : (env : Environment) (width : ℕ) (a : Operand) (t : ConstantSum) (d : Datum) → is_width width ≡ true → SaysSum width a t → OperandAgrees (mlir_meaning class_of kind value) env a → operand_datum (mlir_meaning class_of kind value) env a ≡ Some d → (flags : Flags) × (x : Datum) × (wraps_freely flags ≡ true) × (env t.value ≡ Some x) × (d ≡ constant_result Add flags width x t.constant)
+  pub inner_gives : (env : Environment) (width : ℕ) (a : Operand) (t : ConstantSum) (d : Datum) → is_width width ≡ true → SaysSum width a t → OperandAgrees (mlir_meaning class_of kind value) env a → operand_datum (mlir_meaning class_of kind value) env a ≡ Some d → (flags : Flags) × (x : Datum) × (wraps_freely flags ≡ true) × (env t.value ≡ Some x) × (d ≡ constant_result Add flags width x t.constant)
   inner_gives env width a t d is u agrees e =
       of (subst (OperandAgrees (mlir_meaning class_of kind value) env) u.is agrees) (ap (operand_datum (mlir_meaning class_of kind value) env) (sym u.is) ∙ e)
     where

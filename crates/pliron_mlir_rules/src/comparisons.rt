@@ -1,8 +1,9 @@
-//! Comparisons of zero extensions.
-ghost use Rattle.std.specs.Prelude.{◌≡◌, ◌≤◌, IfOk, IsOkUnless};
+//! Comparisons of extensions.
+ghost use Rattle.std.specs.Prelude.{◌≡◌, ◌≤◌, IfOk, IfSome, IsOkUnless};
 ghost use Rattle.pliron_mlir_rules.specs.MlirRules.{compare_narrow as compare_narrow_by, fitting_constant as fitting_constant_by};
 ghost use Rattle.pliron_mlir_rules.specs.MlirRules.{narrow_atom as narrow_atom_by, narrow_comparison as narrow_comparison_by};
-ghost use Rattle.pliron_mlir_rules.specs.MlirRules.{of_width as of_width_by, unsigned_of as unsigned_by};
+ghost use Rattle.pliron_mlir_rules.specs.MlirRules.{narrow_high as narrow_high_by, narrow_number as narrow_number_by};
+ghost use Rattle.pliron_mlir_rules.specs.MlirRules.{narrow_predicate as narrow_predicate_by, of_width as of_width_by, unsigned_of as unsigned_by};
 
 use crate::seen::{CastSource, known_bits, source_of};
 use pliron_bits::{Cast, Predicate, size};
@@ -25,6 +26,42 @@ fn unsigned_predicate(predicate: Predicate) -> Predicate
     }
 }
 
+// How what is extended compares.
+fn narrow_predicate(cast: Cast, predicate: Predicate) -> Predicate
+    ensures { result ≡ narrow_predicate_by cast predicate }
+{
+    match cast {
+        Cast::ZeroExtend => unsigned_predicate(predicate),
+        Cast::SignExtend | Cast::Truncate => predicate,
+    }
+}
+
+// The number of so many bits whose negative extension to more bits is this one.
+fn narrow_high(narrow: u32, wide: u32, bits: u64) -> Option<u64>
+    requires { (narrow ≤ 64) × (wide ≤ 64) }
+    ensures { result ≡ narrow_high_by narrow wide bits }
+{
+    let bits = bits as u128;
+    let least = size(wide).saturating_sub(size(narrow.saturating_sub(1)));
+    if bits < least {
+        return None;
+    }
+    Some(bits.saturating_sub(size(wide).saturating_sub(size(narrow))) as u64)
+}
+
+// The number of so many bits whose extension to more bits is this one.
+fn narrow_number(cast: Cast, narrow: u32, wide: u32, bits: u64) -> Option<u64>
+    requires { (narrow ≤ 64) × (wide ≤ 64) }
+    ensures { result ≡ narrow_number_by cast narrow wide bits }
+{
+    match cast {
+        Cast::ZeroExtend if (bits as u128) < size(narrow) => Some(bits),
+        Cast::SignExtend if (bits as u128) < size(narrow.saturating_sub(1)) => Some(bits),
+        Cast::SignExtend => narrow_high(narrow, wide, bits),
+        _ => None,
+    }
+}
+
 // The value, where it has this width.
 fn of_width(width: u32, source: Option<CastSource>) -> Option<Atom>
     ensures { result ≡ of_width_by width source }
@@ -35,43 +72,46 @@ fn of_width(width: u32, source: Option<CastSource>) -> Option<Atom>
     }
 }
 
-// The number as one of this width, where it fits.
-fn fitting_constant(width: u32, bits: Option<u64>) -> Option<Atom>
-    requires { width ≤ 65 }
-    ensures { result ≡ fitting_constant_by width bits }
+// The number whose extension this is, as one of the narrow width.
+fn fitting_constant(cast: Cast, width: u32, to: u32, bits: Option<u64>) -> Option<Atom>
+    requires narrow { width ≤ 65 }
+    requires wide { IfSome bits (λ b. (1 ≤ to) × (to ≤ 65)) }
+    ensures { result ≡ fitting_constant_by cast width to bits }
 {
-    match bits {
-        Some(bits) if (bits as u128) < size(counted_bits(width)) => {
-            Some(Atom::Constant(AttrObj::Int(number(width, bits))))
-        }
-        _ => None,
+    let Some(bits) = bits else {
+        return None;
+    };
+    match narrow_number(cast, counted_bits(width), counted_bits(to), bits) {
+        Some(narrow) => Some(Atom::Constant(AttrObj::Int(number(width, narrow)))),
+        None => None,
     }
 }
 
-// What the operand of the width `to` is the zero extension of.
-fn narrow_atom(width: u32, to: u32, operand: &Operand) -> Option<Atom>
+// What the operand of the width `to` is the extension of.
+fn narrow_atom(cast: Cast, width: u32, to: u32, operand: &Operand) -> Option<Atom>
     requires { width ≤ 65 }
-    ensures { result ≡ narrow_atom_by width to operand.now }
+    ensures { result ≡ narrow_atom_by cast width to operand.now }
 {
-    match of_width(width, source_of(Cast::ZeroExtend, to, operand)) {
+    match of_width(width, source_of(cast, to, operand)) {
         Some(atom) => Some(atom),
-        None => fitting_constant(width, known_bits(to, operand)),
+        None => fitting_constant(cast, width, to, known_bits(to, operand)),
     }
 }
 
 // The comparison of what is extended.
 fn narrow_comparison(
     alloc: Global,
+    cast: Cast,
     comparison: Comparison,
     first: CastSource,
     second: Atom,
 ) -> Result<Term, OptError>
-    ensures ok { IfOk result (λ term. term ≡ narrow_comparison_by comparison first second) }
+    ensures ok { IfOk result (λ term. term ≡ narrow_comparison_by cast comparison first second) }
     ensures memory { IsOkUnless result OptError.Memory }
 {
     let narrow = Comparison {
         width: first.width,
-        predicate: unsigned_predicate(comparison.predicate),
+        predicate: narrow_predicate(cast, comparison.predicate),
     };
     let head = narrow.head(alloc)?;
     let mut atoms = Vec::new(alloc);
@@ -80,24 +120,25 @@ fn narrow_comparison(
     Ok(Term::Make(head, Atoms::new(atoms)))
 }
 
-// `icmp p (zext a) (zext b)`, or a constant in the place of the latter, is `icmp p a b`, without signs.
+// `icmp p (ext a) (ext b)`, or a constant in the place of the latter, is `icmp p a b`, of zero extensions without signs.
 pub(crate) fn compare_narrow(
     alloc: Global,
+    cast: Cast,
     comparison: Option<Comparison>,
     a: &Operand,
     b: &Operand,
 ) -> Result<Option<Term>, OptError>
-    ensures ok { IfOk result (λ term. term ≡ compare_narrow_by comparison a.now b.now) }
+    ensures ok { IfOk result (λ term. term ≡ compare_narrow_by cast comparison a.now b.now) }
     ensures memory { IsOkUnless result OptError.Memory }
 {
     let Some(comparison) = comparison else {
         return Ok(None);
     };
-    let Some(first) = source_of(Cast::ZeroExtend, comparison.width, a) else {
+    let Some(first) = source_of(cast, comparison.width, a) else {
         return Ok(None);
     };
-    match narrow_atom(first.width, comparison.width, b) {
-        Some(second) => Ok(Some(narrow_comparison(alloc, comparison, first, second)?)),
+    match narrow_atom(cast, first.width, comparison.width, b) {
+        Some(second) => Ok(Some(narrow_comparison(alloc, cast, comparison, first, second)?)),
         None => Ok(None),
     }
 }

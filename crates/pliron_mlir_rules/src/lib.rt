@@ -1,6 +1,8 @@
-//! A set of rules for MLIR's operations on integers, under every interpretation: a comparison of zero extensions is one of
-//! what they extend; a cast of a cast is one cast, or a mask; a constant is added where one is subtracted, and one where
-//! there are two; and an inverted comparison is the inverse one.
+//! A set of rules for MLIR's operations on integers, under every interpretation: a constant stands second; a comparison of
+//! extensions is one of what they extend, and one with a constant is strict; a cast of a cast is one cast, or a mask; a
+//! constant is added where one is subtracted, and one where there are two; a product or a quotient by a power of two is a
+//! shift, and a remainder by one a mask; a sum with a constant equals one where its value equals the difference; and an
+//! inverted comparison is the inverse one.
 //!
 //! The table is in `specs/MlirRules.antt`; for each rule its term has the datum of what is seen, also where the data are no
 //! numbers.
@@ -8,25 +10,34 @@
 
 ghost use Rattle.std.specs.Prelude.{◌≡◌, Some, IfOk, IsOkUnless, refl};
 ghost use Rattle.pliron_mlir_rules.specs.MlirRules.{mlir_rules, rules_of_unary as rules_of_unary_by, rules_of_binary as rules_of_binary_by};
+ghost use Rattle.pliron_mlir_rules.specs.MlirRules.{rules_of_comparison as rules_of_comparison_by, rules_of_arithmetic as rules_of_arithmetic_by};
 ghost use Rattle.pliron_mlir_rules.specs.RulesHold.{mlir_rules_hold};
 
 mod casts;
 mod comparisons;
+mod equations;
 mod inverses;
 mod masks;
+mod orders;
+mod powers;
 mod seen;
+mod strict;
 mod sums;
 
 use casts::join_casts;
 use comparisons::compare_narrow;
+use equations::compare_summand;
 use inverses::invert_comparison;
 use masks::mask_bits;
+use orders::{swap_comparison, swap_constant};
 use pliron_bits::{BinaryOperator, Cast};
 use pliron_core::Head;
 use pliron_dialect_mlir::{Arithmetic, Comparison, Conversion, Interpretation, Mlir};
 use pliron_laws::OptError;
 use pliron_rewrite_rules::{Operand, Rules, Term, View};
+use powers::rules_of_powers;
 use std::alloc::Global;
+use strict::compare_strictly;
 use sums::{join_sums, subtract_constant};
 
 /// Rules on integers.
@@ -52,6 +63,52 @@ fn rules_of_unary(alloc: Global, head: &Head, a: &Operand) -> Result<Option<Term
     mask_bits(alloc, Conversion::of_head(Cast::ZeroExtend, head), a)
 }
 
+// What the rules answer for a comparison.
+fn rules_of_comparison(
+    alloc: Global,
+    comparison: Option<Comparison>,
+    a: &Operand,
+    b: &Operand,
+) -> Result<Option<Term>, OptError>
+    ensures ok { IfOk result (λ term. term ≡ rules_of_comparison_by comparison a.now b.now) }
+    ensures memory { IsOkUnless result OptError.Memory }
+{
+    if let Some(term) = swap_comparison(alloc, comparison, a, b)? {
+        return Ok(Some(term));
+    }
+    if let Some(term) = compare_narrow(alloc, Cast::ZeroExtend, comparison, a, b)? {
+        return Ok(Some(term));
+    }
+    if let Some(term) = compare_narrow(alloc, Cast::SignExtend, comparison, a, b)? {
+        return Ok(Some(term));
+    }
+    if let Some(term) = compare_strictly(alloc, comparison, a, b)? {
+        return Ok(Some(term));
+    }
+    compare_summand(alloc, comparison, a, b)
+}
+
+// What the rules answer for an operation with this head that computes an integer of two.
+fn rules_of_arithmetic(
+    alloc: Global,
+    head: &Head,
+    a: &Operand,
+    b: &Operand,
+) -> Result<Option<Term>, OptError>
+    ensures ok { IfOk result (λ term. term ≡ rules_of_arithmetic_by head.now a.now b.now) }
+    ensures memory { IsOkUnless result OptError.Memory }
+{
+    let difference = Arithmetic::of_head(BinaryOperator::Subtract, head);
+    if let Some(term) = subtract_constant(alloc, difference, a, b)? {
+        return Ok(Some(term));
+    }
+    let sum = Arithmetic::of_head(BinaryOperator::Add, head);
+    if let Some(term) = join_sums(alloc, sum, a, b)? {
+        return Ok(Some(term));
+    }
+    invert_comparison(alloc, Arithmetic::of_head(BinaryOperator::Xor, head), a, b)
+}
+
 // What the rules answer for an operation with this head and two operands.
 fn rules_of_binary(
     alloc: Global,
@@ -62,18 +119,16 @@ fn rules_of_binary(
     ensures ok { IfOk result (λ term. term ≡ rules_of_binary_by head.now a.now b.now) }
     ensures memory { IsOkUnless result OptError.Memory }
 {
-    if let Some(term) = compare_narrow(alloc, Comparison::of_head(head), a, b)? {
+    if let Some(term) = rules_of_comparison(alloc, Comparison::of_head(head), a, b)? {
         return Ok(Some(term));
     }
-    let difference = Arithmetic::of_head(BinaryOperator::Subtract, head);
-    if let Some(term) = subtract_constant(alloc, difference, a, b)? {
+    if let Some(term) = swap_constant(alloc, head, a, b)? {
         return Ok(Some(term));
     }
-    let sum = Arithmetic::of_head(BinaryOperator::Add, head);
-    if let Some(term) = join_sums(alloc, sum, a, b)? {
+    if let Some(term) = rules_of_arithmetic(alloc, head, a, b)? {
         return Ok(Some(term));
     }
-    invert_comparison(alloc, Arithmetic::of_head(BinaryOperator::Xor, head), a, b)
+    rules_of_powers(alloc, head, a, b)
 }
 
 impl<I: Interpretation> Rules<Mlir<I>> for MlirRules {

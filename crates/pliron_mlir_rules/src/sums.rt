@@ -16,8 +16,8 @@ use std::alloc::Global;
 // A value, and the bits of a constant that is added.
 #[derive(Clone, Copy)]
 pub(crate) struct ConstantSum {
-    value: Value,
-    constant: u64,
+    pub(crate) value: Value,
+    pub(crate) constant: u64,
 }
 
 // A promise of signs, or none.
@@ -116,7 +116,7 @@ fn sum_leaves(width: u32, sum: Option<Arithmetic>, leaves: &[Leaf]) -> Option<Co
 }
 
 // The value and the constant that the operand is the sum of, where that may wrap.
-fn constant_sum(width: u32, operand: &Operand) -> Option<ConstantSum>
+pub(crate) fn constant_sum(width: u32, operand: &Operand) -> Option<ConstantSum>
     ensures same { result ≡ constant_sum_by width operand.now }
     ensures below { IfSome result (λ s. s.constant < 2 ^ bits_of_width width) }
 {

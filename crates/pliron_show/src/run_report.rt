@@ -1,5 +1,6 @@
 //! Runs, as users see them.
 ghost use Rattle.std.specs.Prelude.{◌≡◌, map, IfOk};
+ghost use Rattle.pliron_core.specs.Writes.{no_tree};
 ghost use Rattle.pliron_laws.specs.Datum.{Number as NumberOf};
 ghost use Rattle.pliron_laws.specs.Machine.{run, sight_after as sight_seen};
 ghost use Rattle.pliron_evaluator.specs.Evaluator.{datum_of_value, sight_of};
@@ -311,13 +312,15 @@ pub fn run_text<N: Runnable>(
     run_text_in::<N>(alloc, source, options, &mut ctx)
 }
 
-// The same in this context.
+// The same in this context, which is empty.
 fn run_text_in<N: Runnable>(
     alloc: Global,
     source: &Source,
     options: &RunOptions,
     ctx: &mut Context,
-) -> Result<Option<RunReport>, OptError> {
+) -> Result<Option<RunReport>, OptError>
+    requires { ctx.old.tree ≡ no_tree }
+{
     let Some(root) = N::read(alloc, source.text, ctx)? else {
         return Ok(None);
     };

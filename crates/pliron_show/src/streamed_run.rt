@@ -1,4 +1,7 @@
 //! Runs whose effects are reported while they go on.
+ghost use Rattle.std.specs.Prelude.{◌≡◌};
+ghost use Rattle.pliron_core.specs.Writes.{no_tree};
+
 use crate::run_report::{
     FinishedRun, RunOptions, RunReport, effects_text, end_of, notes_for, report_of, sight_text,
 };
@@ -124,14 +127,16 @@ pub fn run_text_streamed<N: Runnable, S: EffectSink>(
     run_streamed_in::<N, S>(alloc, source, options, &mut ctx, sink)
 }
 
-// The same in this context.
+// The same in this context, which is empty.
 fn run_streamed_in<N: Runnable, S: EffectSink>(
     alloc: Global,
     source: &Source,
     options: &RunOptions,
     ctx: &mut Context,
     sink: &mut S,
-) -> Result<Option<RunReport>, OptError> {
+) -> Result<Option<RunReport>, OptError>
+    requires { ctx.old.tree ≡ no_tree }
+{
     match N::read(alloc, source.text, ctx)? {
         Some(root) => report_of_parts::<N, S>(alloc, source, options, root, ctx, sink),
         None => Ok(None),
