@@ -25,14 +25,13 @@ fn read_module_input(
 ) -> io::Result<Option<CommandInput>> {
     let alloc = rt.alloc();
     let whole = bytes_of(rt, name)?;
-    let part = match path {
-        Some(path) => match module_range(alloc, &whole, path)? {
-            Some(part) => Some(part),
-            None => return Ok(None),
-        },
-        None => None,
+    let Some(path) = path else {
+        return Ok(Some(CommandInput::of_whole(alloc, whole)?));
     };
-    Ok(Some(CommandInput::of_part(alloc, whole, part)?))
+    match module_range(alloc, &whole, path)? {
+        Some(part) => Ok(Some(CommandInput::of_part(alloc, whole, part)?)),
+        None => Ok(None),
+    }
 }
 
 // What the command makes of the module in the file of this name.

@@ -1,4 +1,7 @@
 //! What the program reads.
+ghost use Rattle.std.specs.Prelude.{◌≡◌, ◌≤◌, ◌+◌, length, IfOk};
+ghost use Rattle.pliron_show_places.specs.Isolated.{part_alone};
+
 use crate::inner::{is_text, text_around};
 use crate::program::Program;
 use pliron_show_commands::{TextRange, blank_comments, isolate, operation_range, without_mark};
@@ -128,21 +131,30 @@ fn push_lines(text: &mut Vec<u8>, answer: &[u8], blanks: &[u8]) -> Result<(), Al
 }
 
 impl CommandInput {
-    /// The input that is all of this text, of which the one part alone is to be taken, where there is one. Errors:
-    /// allocation failure. Cost: linear in it.
-    pub fn of_part(
-        alloc: Global,
-        whole: Vec<u8>,
-        part: Option<TextRange>,
-    ) -> Result<Self, AllocError> {
-        let text = match part {
-            Some(part) => isolate(alloc, &whole, part)?,
-            None => Vec::from_slice(alloc, &whole)?,
-        };
+    /// The input that is all of this text. Errors: allocation failure. Cost: linear in it.
+    pub fn of_whole(alloc: Global, whole: Vec<u8>) -> Result<Self, AllocError>
+        ensures { IfOk result (λ input. input.text.items ≡ whole.items) }
+    {
+        let text = Vec::from_slice(alloc, &whole)?;
         Ok(CommandInput {
             whole,
             text,
-            part,
+            part: None,
+            inner: None,
+        })
+    }
+
+    /// The input that is this part of a text alone. Asks that the text has the part. Errors: allocation failure. Cost:
+    /// linear in the text.
+    pub fn of_part(alloc: Global, whole: Vec<u8>, part: TextRange) -> Result<Self, AllocError>
+        requires { part.start + part.len ≤ length whole.items }
+        ensures { IfOk result (λ input. input.text.items ≡ part_alone part.start part.len whole.items) }
+    {
+        let text = isolate(alloc, &whole, part)?;
+        Ok(CommandInput {
+            whole,
+            text,
+            part: Some(part),
             inner: None,
         })
     }
