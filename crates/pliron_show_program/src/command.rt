@@ -381,13 +381,18 @@ fn with<'a>(
     }
 }
 
-fn command<'a, P: Program>(alloc: Global) -> Result<Command<'a>, AllocError> {
-    let all = Command::new(alloc, P::name())
+// The program's own words, without its commands.
+fn bare_command<'a, P: Program>(alloc: Global) -> Command<'a> {
+    Command::new(alloc, P::name())
         .version("0.1.0")
         .about(P::about())
         .after_help(P::beside())
         .subcommand_required(true)
-        .arg_required_else_help(true);
+        .arg_required_else_help(true)
+}
+
+fn command<'a, P: Program>(alloc: Global) -> Result<Command<'a>, AllocError> {
+    let all = bare_command::<P>(alloc);
     let all = with(all, run::<P>(alloc))?;
     let all = with(all, check::<P>(alloc))?;
     let all = with(all, opt::<P>(alloc))?;
