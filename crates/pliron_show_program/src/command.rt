@@ -381,18 +381,13 @@ fn with<'a>(
     }
 }
 
-// The program's own words, without its commands.
-fn bare_command<'a, P: Program>(alloc: Global) -> Command<'a> {
-    Command::new(alloc, P::name())
+fn command<'a, P: Program>(alloc: Global, name: &'a str) -> Result<Command<'a>, AllocError> {
+    let all = Command::new(alloc, name)
         .version("0.1.0")
         .about(P::about())
         .after_help(P::beside())
         .subcommand_required(true)
-        .arg_required_else_help(true)
-}
-
-fn command<'a, P: Program>(alloc: Global) -> Result<Command<'a>, AllocError> {
-    let all = bare_command::<P>(alloc);
+        .arg_required_else_help(true);
     let all = with(all, run::<P>(alloc))?;
     let all = with(all, check::<P>(alloc))?;
     let all = with(all, opt::<P>(alloc))?;
@@ -407,5 +402,9 @@ pub fn parse_arguments<'a, P: Program>(
     alloc: Global,
     words: &'a [String],
 ) -> Result<ArgMatches<'a>, Error> {
-    command::<P>(alloc)?.try_get_matches_from(words)
+    let name = match words.first() {
+        Some(word) => word.as_str(),
+        None => "",
+    };
+    command::<P>(alloc, name)?.try_get_matches_from(words)
 }
