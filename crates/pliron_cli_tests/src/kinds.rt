@@ -47,7 +47,7 @@ explain sccp => function { b0(): a = lit 2; b = lit 3; s = add a b; return s } =
 1:53 return s: takes 5 for s (sccp)|
 explain dce => function { b0(x): a = lit 2; return x } => 0 1:19 a = lit 2: unused (dce)|
 run  => function { b0(): a = lit 2; b = lit 3; s = add a b; return s } => 0 ended with 5|
-run  => function { b0(): x = lit 3; o = lit -1; r, s = while x x { t(u, v): w = add u o; return w v }; return r } => 0 ended with 3|
+run  => function { b0(): x = lit 3; o = lit -1; r = while x { t(u): w = add u o; return w w }; return r } => 0 ended with 0|
 run  => function { b0(): jump b1(); b1(): jump b1() } => 3 made no further move: steps or the world's answers were used up|\
 note: the run was cut off| --> text:1:35|  |\
 |1 | function { b0(): jump b1(); b1(): jump b1() }|  |                                   ^^^^^^^^^ the 100 moves that it may make were made|
