@@ -216,7 +216,7 @@ impl ScanPositions {
         }
     }
 
-    // The operation and those around it that one use is found to keep alive: the one before does so mostly.
+    // How far up one use keeps the operation alive, with those around it: mostly the use that was found before does.
     #[inline(always)]
     pub(crate) fn reach_from<D: Dialect>(
         &mut self,

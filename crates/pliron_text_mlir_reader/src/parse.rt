@@ -16,8 +16,8 @@ pub struct ParsedModule {
 
 /// What the text in the generic form says of a tree, by numbers, and beside it.
 ///
-/// Functions that can't be served, since they have more than 64 regions in one another or tags of blocks, are kept as
-/// they are written: only where the first reading meets one, the text is read once more. Errors: the place where the
+/// A function that has more than 64 regions in one another, or tags of blocks, is kept as it is written: only where the
+/// first reading meets one, the text is read once more. Errors: the place where the
 /// text leaves the grammar or uses what isn't defined, and what was expected; allocation failure. Cost: linear in the
 /// text, but for uses in regions inside the one that defines their value, which cost a step for each region between.
 #[doc(hidden)]
@@ -28,7 +28,7 @@ pub fn parse_text(alloc: Global, text: &[u8]) -> Result<ParsedModule, Fault> {
     }
 }
 
-// What the text says; whether functions that can't be served are kept as they are.
+// What the text says; a function that would be refused is kept as it is written, if `keeps` says so.
 fn parse_so(alloc: Global, text: &[u8], keeps: bool) -> Result<ParsedModule, Fault> {
     let mut reader = Reader::new(alloc, text, keeps);
     let read = reader.read();
