@@ -1,5 +1,7 @@
 //! Large and awkward modules.
-use pliron_text_llvm_syntax::{ExpectedSyntax, LlvmFault, ModulePart, split_text};
+use pliron_text_llvm_edges::{EdgeForm, read_edges};
+use pliron_text_llvm_functions::{FunctionForm, read_function};
+use pliron_text_llvm_syntax::{ExpectedSyntax, LlvmFault, ModulePart, function_at, split_text};
 use std::alloc::Global;
 use std::process::Abort;
 
@@ -52,6 +54,34 @@ fn takes_numbers_without_blanks_between_them(rt: HostRuntime) {
     let mut text = Vec::new(rt.alloc());
     repeat(&rt, b"-1", 1_000_000, &mut text);
     assert_eq!(rt; count(&rt, rt.alloc(), &text), 1);
+}
+
+// How many entries the first phi of the function has.
+fn count_entries(rt: &impl Abort, alloc: Global, text: &[u8]) -> usize {
+    assert!(rt; !text.is_empty());
+    let function = function_at(text, 0, &mut Vec::new(alloc))
+        .ok()
+        .expect(rt, "a function");
+    let form = read_function(alloc, text, &function).ok().expect(rt, "a function");
+    let FunctionForm::Read(reading) = form else {
+        return 0;
+    };
+    let edges = read_edges(alloc, text, &reading).ok().expect(rt, "edges");
+    let EdgeForm::Read(found) = edges else {
+        return 0;
+    };
+    found.phis.first().map_or(0, |phi| phi.entries.len())
+}
+
+#[test]
+fn takes_a_hundred_thousand_edges_to_one_phi(rt: HostRuntime) {
+    let mut text = Vec::new(rt.alloc());
+    repeat(&rt, b"define i32 @f(ptr %p) {\ne:\n  indirectbr ptr %p, [label %d", 1, &mut text);
+    repeat(&rt, b", label %d", 99_999, &mut text);
+    repeat(&rt, b"]\nd:\n  %x = phi i32 [ 1, %e ]", 1, &mut text);
+    repeat(&rt, b", [ 1, %e ]", 99_999, &mut text);
+    repeat(&rt, b"\n  ret i32 %x\n}", 1, &mut text);
+    assert_eq!(rt; count_entries(&rt, rt.alloc(), &text), 100_000);
 }
 
 #[test]
