@@ -37,7 +37,7 @@ entries_all reading line number found past ahead =
 -- ---- order
 
 pub entries_sorted : (reading : FunctionReading) (line : BodyStatement) (before after : List PhiEntry) → AreEntriesOf reading line before → IsPermutation before after → HasEntries reading line after
-entries_sorted reading line before after h moved = (before, (h, moved))
+entries_sorted reading line before after h moved = (before, h, moved)
 
 -- ---- blocks
 

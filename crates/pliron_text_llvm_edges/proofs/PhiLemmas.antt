@@ -56,7 +56,7 @@ into_none f lists number e =
 
 pub phi_fits : (text : List ℕ) (reading : FunctionReading) (incoming : List BlockEdge) (line : BodyStatement) (phi : BlockPhi) → slice_get reading.body.lines.items phi.place.line ≡ Some (Statement line) → HasEntries reading line phi.entries.items
     → map (λ entry. entry.block) phi.entries.items ≡ map (λ edge. edge.from) incoming → HaveOneValueEach text reading phi.entries.items → FitsEdges text reading incoming phi
-phi_fits text reading incoming line phi at entries blocks values = (line, (at, (entries, (blocks, values))))
+phi_fits text reading incoming line phi at entries blocks values = (line, at, entries, blocks, values)
 
 pub phi_pushed : (test : ℕ → Bool) (place : PhiPlace) (phi : BlockPhi) (found after : List BlockPhi) → test place.line ≡ true → phi.place ≡ place → after ≡ found ++ phi ∷ []
     → map place_of_phi after ≡ map place_of_phi found ++ in_block place.block (numbers_passing test place.line 1)
