@@ -29,7 +29,7 @@ use std::marker::Model;
 #[derive(Drop)]
 pub struct Arguments {
     lists: Uses,
-    written: Vec<Made>,
+    written: Vec<StoredDefinition>,
 }
 
 impl Model for Arguments {
@@ -218,7 +218,7 @@ impl Arguments {
         self.lists.agree();
         let index = self.lists.place(block.index(), i);
         let value = self.lists.remove(block.index(), i);
-        self.written[value as usize] = Made {
+        self.written[value as usize] = StoredDefinition {
             maker: Maker::Block(block),
             index,
         };
@@ -247,12 +247,12 @@ enum Maker {
 
 // What is written of a value, in 12 bytes: a definition whose index has 32 bits.
 #[derive(Drop)]
-struct Made {
+struct StoredDefinition {
     maker: Maker,
     index: u32,
 }
 
-impl Model for Made {
+impl Model for StoredDefinition {
     ghost use Rattle.pliron_core.specs.declared.context.Def.{Def};
 
     ghost Value = { Def };
@@ -262,7 +262,7 @@ impl Model for Made {
     ghost view = { λ m. made_by m.maker m.index };
 }
 
-impl Made {
+impl StoredDefinition {
     #[inline(always)]
     fn definition(&self) -> Def
         ensures { result ≡ self.now }
@@ -276,10 +276,10 @@ impl Made {
 
 impl Maker {
     #[inline(always)]
-    fn definition(&self, i: u32) -> Made
+    fn definition(&self, i: u32) -> StoredDefinition
         ensures { result ≡ made_by self.now i }
     {
-        Made {
+        StoredDefinition {
             maker: *self,
             index: i,
         }
@@ -302,7 +302,7 @@ fn value_keys(alloc: Global, first: usize, count: usize) -> Result<InlineList<Va
 
 // The definitions of so many new values.
 #[inline(always)]
-fn write_definitions(written: &mut Vec<Made>, maker: Maker, count: usize)
+fn write_definitions(written: &mut Vec<StoredDefinition>, maker: Maker, count: usize)
     requires room { vec_len written.old + count ≤ vec_capacity written.old }
     requires fits { count ≤ key_limit }
     ensures { written.new.items ≡ written.old.items ++ definitions_of maker count }
@@ -313,7 +313,7 @@ fn write_definitions(written: &mut Vec<Made>, maker: Maker, count: usize)
 }
 
 // The definitions of the block's arguments.
-fn write_arguments(written: &mut Vec<Made>, lists: &Uses, block: Ptr<BasicBlock>)
+fn write_arguments(written: &mut Vec<StoredDefinition>, lists: &Uses, block: Ptr<BasicBlock>)
     requires block { block < length lists.now.targets }
     requires values { (k v : ℕ) → slice_get (targets_of lists.now block) k ≡ Some v → v < length written.old.items }
     ensures { written.new.items ≡ argument_definitions_from written.old.items block 0 (targets_of lists.now block) }
@@ -321,7 +321,7 @@ fn write_arguments(written: &mut Vec<Made>, lists: &Uses, block: Ptr<BasicBlock>
     for i in 0..lists.num_targets(block.index()) {
         let value = lists.target(block.index(), i);
         let index = lists.place(block.index(), i);
-        written[value as usize] = Made {
+        written[value as usize] = StoredDefinition {
             maker: Maker::Block(block),
             index,
         };

@@ -35,7 +35,7 @@ pub(super) fn count_places(
     if places[user as usize].len() <= FEW_PLACES || are_counted(holes, user) {
         return Ok(());
     }
-    let counts = SlotCounts::over(alloc, marks_of(alloc, &places[user as usize])?)?;
+    let counts = SlotCounts::of_marks(alloc, marks_of(alloc, &places[user as usize])?)?;
     holes[user as usize] = Holes::Counted(Box::new(alloc, counts)?);
     Ok(())
 }

@@ -58,7 +58,7 @@ fn sums_of(alloc: Global, below: &InlineList<usize>) -> Result<InlineList<usize>
 impl SlotCounts {
     /// The counts of a list with these marks. Asks that each is 1 or 0. Errors: allocation failure. Cost: the
     /// number of marks.
-    pub fn over(alloc: Global, row: InlineList<usize>) -> Result<SlotCounts, AllocError>
+    pub fn of_marks(alloc: Global, row: InlineList<usize>) -> Result<SlotCounts, AllocError>
         requires { AreMarks row }
         ensures { IfOk result (λ c. c ≡ row) }
     {

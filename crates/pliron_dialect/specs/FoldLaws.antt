@@ -7,7 +7,7 @@ use Rattle.pliron_core.specs.declared.attrs.AttrObj.{AttrObj}
 use Rattle.pliron_core.specs.declared.attrs.AttrObj.TheVariants.{Int}
 use Rattle.pliron_core.specs.Lists.{In}
 use Rattle.pliron_laws.specs.Datum.{Datum, Empty, Number, Text, Join, datum_of, Shape, Move, Give, Visit, Goto, Leave, Emit, Trap}
-use Rattle.pliron_laws.specs.Acting.{Known}
+use Rattle.pliron_laws.specs.Acting.{AgreeWithKnown}
 use Rattle.pliron_laws.specs.Folding.{AnswersTrue, AnswersJumps}
 use Rattle.pliron_dialect.specs.Roles.{Interpretation, Role, Constant, Folds, Picks, Opaque, Jumps, Chooses, Leaves, Stops, Acts, Names, Forks, Holds, Allows, RoleFits, RolesFit, ResultFits, give_or_trap, complete, folds_to, folded_by, Stays, AllStay, number_of, numbers_of, first_number, results_given, operand_left, left_known, folded_known, operands_picked, nth_datum, head_without_counts, edge_or, chosen_edge, truth_of, only_edge, by_role, by_form, form_of, act_of, no_act, branches, meaning_by, folds_by, branch_folds_by, constants_by, feasible_by, answers_by, folds_of, folds_branch_of, feasible_of, edges_taken, known_as, known_number_at, all_known, with_number, number_computed, picked_known}
 use Rattle.pliron_dialect.specs.Counts.{only_successor}
@@ -23,7 +23,7 @@ abbrev pub AgreesWithKnown : Option ℤ → ℤ → Type 0
 AgreesWithKnown None n = Unit {0}
 AgreesWithKnown (Some m) n = m ≡ n
 
-pub first_agrees : (known : List (Option AttrObj)) (ds : List Datum) → Known known ds → AgreesWithKnown (known_number_at known 0) (first_number ds)
+pub first_agrees : (known : List (Option AttrObj)) (ds : List Datum) → AgreeWithKnown known ds → AgreesWithKnown (known_number_at known 0) (first_number ds)
 first_agrees [] ds h = tt
 first_agrees (a ∷ known) [] h = absurd h
 first_agrees (None ∷ known) (d ∷ ds) h = tt
@@ -37,7 +37,7 @@ one_more_agrees : (n m : ℤ) (o : Option (List ℤ)) (ns : List ℤ) → m ≡ 
 one_more_agrees n m None ns e a = tt
 one_more_agrees n m (Some ms) ns e a = ap₂ (λ x xs. x ∷ xs) e a
 
-all_agree : (known : List (Option AttrObj)) (ds : List Datum) → Known known ds → AllAgree (all_known known) (numbers_of ds)
+all_agree : (known : List (Option AttrObj)) (ds : List Datum) → AgreeWithKnown known ds → AllAgree (all_known known) (numbers_of ds)
 all_agree [] [] h = refl
 all_agree [] (d ∷ ds) h = absurd h
 all_agree (a ∷ known) [] h = absurd h
@@ -48,30 +48,30 @@ all_agree (Some a ∷ known) (d ∷ ds) h = one_more_agrees (number_of d) _ (all
 
 -- where the move gives results, they are the known constants
 abbrev GivesKnown : List (Option AttrObj) → Move → Type 0
-GivesKnown cs (Give ds) = Known cs ds
+GivesKnown cs (Give ds) = AgreeWithKnown cs ds
 GivesKnown cs (Visit i ds memo) = Unit {0}
 GivesKnown cs (Goto i ds) = Unit {0}
 GivesKnown cs (Leave ds) = Unit {0}
 GivesKnown cs (Emit e memo) = Unit {0}
 GivesKnown cs Trap = Unit {0}
 
-number_given : (value : Interpretation) (h : Head) (input : List Datum) (o : Option ℤ) → Known (option_map (λ m. Int m) o ∷ []) (results_given value h input o)
+number_given : (value : Interpretation) (h : Head) (input : List Datum) (o : Option ℤ) → AgreeWithKnown (option_map (λ m. Int m) o ∷ []) (results_given value h input o)
 number_given value h input (Some n) = (refl, tt)
 number_given value h input None = some_first (value h input)
   where
-    some_first : (ds : List Datum) → Known (None ∷ []) (Rattle.pliron_dialect.specs.Roles.fit_data 1 ds)
+    some_first : (ds : List Datum) → AgreeWithKnown (None ∷ []) (Rattle.pliron_dialect.specs.Roles.fit_data 1 ds)
     some_first [] = tt
     some_first (d ∷ ds) = tt
 
-nothing_given : (value : Interpretation) (h : Head) (input : List Datum) (o : Option ℤ) → Known (None ∷ []) (results_given value h input o)
+nothing_given : (value : Interpretation) (h : Head) (input : List Datum) (o : Option ℤ) → AgreeWithKnown (None ∷ []) (results_given value h input o)
 nothing_given value h input (Some n) = tt
 nothing_given value h input None = number_given value h input None
 
-folded_given : (value : Interpretation) (h : Head) (input : List Datum) (result : List ℤ → Option ℤ) (o : Option (List ℤ)) → AllAgree o (numbers_of input) → Known (option_map (λ m. Int m) (number_computed result o) ∷ []) (results_given value h input (result (numbers_of input)))
+folded_given : (value : Interpretation) (h : Head) (input : List Datum) (result : List ℤ → Option ℤ) (o : Option (List ℤ)) → AllAgree o (numbers_of input) → AgreeWithKnown (option_map (λ m. Int m) (number_computed result o) ∷ []) (results_given value h input (result (numbers_of input)))
 folded_given value h input result None a = nothing_given value h input (result (numbers_of input))
-folded_given value h input result (Some ns) a = subst (λ x. Known (option_map (λ m. Int m) (result ns) ∷ []) (results_given value h input (result x))) a (number_given value h input (result ns))
+folded_given value h input result (Some ns) a = subst (λ x. AgreeWithKnown (option_map (λ m. Int m) (result ns) ∷ []) (results_given value h input (result x))) a (number_given value h input (result ns))
 
-known_there : (known : List (Option AttrObj)) (ds : List Datum) (i : ℕ) → Known known ds → Known (slice_index_or known i None ∷ []) (nth_datum ds i ∷ [])
+known_there : (known : List (Option AttrObj)) (ds : List Datum) (i : ℕ) → AgreeWithKnown known ds → AgreeWithKnown (slice_index_or known i None ∷ []) (nth_datum ds i ∷ [])
 known_there [] ds i h = tt
 known_there (a ∷ known) [] i h = absurd h
 known_there (None ∷ known) (d ∷ ds) zero h = tt
@@ -80,23 +80,23 @@ known_there (None ∷ known) (d ∷ ds) (suc i) h = known_there known ds i h
 known_there (Some a ∷ known) (d ∷ ds) (suc i) h = known_there known ds i h.1
 
 -- the number that is known, or else the one that is computed
-found_given : (value : Interpretation) (h : Head) (result : List ℤ → Option ℤ) (n : Option ℤ) (known : List (Option AttrObj)) (first : List Datum) → Known known first → Known (option_map (λ m. Int m) (option_or n (number_computed result (all_known known))) ∷ []) (results_given value h first (option_or n (result (numbers_of first))))
+found_given : (value : Interpretation) (h : Head) (result : List ℤ → Option ℤ) (n : Option ℤ) (known : List (Option AttrObj)) (first : List Datum) → AgreeWithKnown known first → AgreeWithKnown (option_map (λ m. Int m) (option_or n (number_computed result (all_known known))) ∷ []) (results_given value h first (option_or n (result (numbers_of first))))
 found_given value h result (Some n) known first k = (refl, tt)
 found_given value h result None known first k = folded_given value h first result (all_known known) (all_agree known first k)
 
-at_place : (value : Interpretation) (h : Head) (result : List ℤ → Option ℤ) (o : Option ℕ) (n : Option ℤ) (known : List (Option AttrObj)) (first : List Datum) → Known known first → Known (left_known known o (option_map (λ m. Int m) (option_or n (number_computed result (all_known known)))) ∷ []) (operand_left first o (results_given value h first (option_or n (result (numbers_of first)))))
+at_place : (value : Interpretation) (h : Head) (result : List ℤ → Option ℤ) (o : Option ℕ) (n : Option ℤ) (known : List (Option AttrObj)) (first : List Datum) → AgreeWithKnown known first → AgreeWithKnown (left_known known o (option_map (λ m. Int m) (option_or n (number_computed result (all_known known)))) ∷ []) (operand_left first o (results_given value h first (option_or n (result (numbers_of first)))))
 at_place value h result (Some p) n known first k = known_there known first p k
 at_place value h result None n known first k = found_given value h result n known first k
 
-nothing_left : (value : Interpretation) (h : Head) (o : Option ℕ) (n : Option ℤ) (first : List Datum) → Known (None ∷ []) (operand_left first o (results_given value h first n))
+nothing_left : (value : Interpretation) (h : Head) (o : Option ℕ) (n : Option ℤ) (first : List Datum) → AgreeWithKnown (None ∷ []) (operand_left first o (results_given value h first n))
 nothing_left value h (Some p) n first = tt
 nothing_left value h None n first = nothing_given value h first n
 
-too_long : {P : Type 0} (b : Option AttrObj) (e f : Datum) (first : List Datum) → Known (b ∷ []) (e ∷ f ∷ first) → P
+too_long : {P : Type 0} (b : Option AttrObj) (e f : Datum) (first : List Datum) → AgreeWithKnown (b ∷ []) (e ∷ f ∷ first) → P
 too_long None e f first k = absurd k
 too_long (Some b) e f first k = absurd k.1
 
-too_short : {P : Type 0} (b c : Option AttrObj) (known : List (Option AttrObj)) (e : Datum) → Known (b ∷ c ∷ known) (e ∷ []) → P
+too_short : {P : Type 0} (b c : Option AttrObj) (known : List (Option AttrObj)) (e : Datum) → AgreeWithKnown (b ∷ c ∷ known) (e ∷ []) → P
 too_short None c known e k = absurd k
 too_short (Some b) c known e k = absurd k.1
 
@@ -105,7 +105,7 @@ abbrev folded_data : Interpretation → Head → (List ℤ → Option ℤ) → I
 folded_data value h result i first = operand_left first (place_in i first) (results_given value h first (option_or (given_in i first) (result (numbers_of first))))
 
 -- what is left or given of one operand, or of two that are known, is what is known of it
-left_given : (value : Interpretation) (h : Head) (result : List ℤ → Option ℤ) (i : Identity) (known : List (Option AttrObj)) (first : List Datum) → Known known first → Known (folded_known i result known ∷ []) (folded_data value h result i first)
+left_given : (value : Interpretation) (h : Head) (result : List ℤ → Option ℤ) (i : Identity) (known : List (Option AttrObj)) (first : List Datum) → AgreeWithKnown known first → AgreeWithKnown (folded_known i result known ∷ []) (folded_data value h result i first)
 left_given value h result i [] [] k = folded_given value h [] result (Some []) refl
 left_given value h result i [] (d ∷ first) k = absurd k
 left_given value h result i (a ∷ known) [] k = absurd k
@@ -118,30 +118,30 @@ left_given value h result i (a ∷ b ∷ c ∷ known) (d ∷ e ∷ f ∷ first) 
 left_given value h result i (None ∷ b ∷ []) (d ∷ e ∷ []) k = nothing_left value h (place_in i (d ∷ e ∷ [])) _ (d ∷ e ∷ [])
 left_given value h result i (Some a ∷ None ∷ []) (d ∷ e ∷ []) k = nothing_left value h (place_in i (d ∷ e ∷ [])) _ (d ∷ e ∷ [])
 left_given value h result i (Some a ∷ Some b ∷ []) (d ∷ e ∷ []) k =
-    subst (λ o. Known (left_known (Some a ∷ Some b ∷ []) o (option_map (λ m. Int m) (option_or (given_known i (Some a ∷ Some b ∷ [])) (number_computed result (all_known (Some a ∷ Some b ∷ []))))) ∷ []) (folded_data value h result i (d ∷ e ∷ []))) (sym (ap₂ (place_between i) k.0 k.1.0))
-    (subst (λ n. Known (left_known (Some a ∷ Some b ∷ []) (place_between i d e) (option_map (λ m. Int m) (option_or n (number_computed result (all_known (Some a ∷ Some b ∷ []))))) ∷ []) (folded_data value h result i (d ∷ e ∷ []))) (sym (ap₂ (given_between i) k.0 k.1.0))
+    subst (λ o. AgreeWithKnown (left_known (Some a ∷ Some b ∷ []) o (option_map (λ m. Int m) (option_or (given_known i (Some a ∷ Some b ∷ [])) (number_computed result (all_known (Some a ∷ Some b ∷ []))))) ∷ []) (folded_data value h result i (d ∷ e ∷ []))) (sym (ap₂ (place_between i) k.0 k.1.0))
+    (subst (λ n. AgreeWithKnown (left_known (Some a ∷ Some b ∷ []) (place_between i d e) (option_map (λ m. Int m) (option_or n (number_computed result (all_known (Some a ∷ Some b ∷ []))))) ∷ []) (folded_data value h result i (d ∷ e ∷ []))) (sym (ap₂ (given_between i) k.0 k.1.0))
     (at_place value h result (place_between i d e) (given_between i d e) (Some a ∷ Some b ∷ []) (d ∷ e ∷ []) k))
 left_given value h result i (None ∷ b ∷ []) (d ∷ e ∷ f ∷ first) k = too_long b e f first k
 left_given value h result i (Some a ∷ b ∷ []) (d ∷ e ∷ f ∷ first) k = too_long b e f first k.1
 left_given value h result i (None ∷ b ∷ c ∷ known) (d ∷ e ∷ []) k = too_short b c known e k
 left_given value h result i (Some a ∷ b ∷ c ∷ known) (d ∷ e ∷ []) k = too_short b c known e k.1
 
-where_true : (value : Interpretation) (h : Head) (known : List (Option AttrObj)) (ds : List Datum) (o : Option Bool) → Known known ds → Known (picked_known known o ∷ []) (operands_picked value h ds o)
+where_true : (value : Interpretation) (h : Head) (known : List (Option AttrObj)) (ds : List Datum) (o : Option Bool) → AgreeWithKnown known ds → AgreeWithKnown (picked_known known o ∷ []) (operands_picked value h ds o)
 where_true value h known ds (Some true) k = known_there known ds 1 k
 where_true value h known ds (Some false) k = known_there known ds 2 k
 where_true value h known ds None k = number_given value h ds None
 
-nothing_picked : (value : Interpretation) (h : Head) (ds : List Datum) (o : Option Bool) → Known (None ∷ []) (operands_picked value h ds o)
+nothing_picked : (value : Interpretation) (h : Head) (ds : List Datum) (o : Option Bool) → AgreeWithKnown (None ∷ []) (operands_picked value h ds o)
 nothing_picked value h ds (Some true) = tt
 nothing_picked value h ds (Some false) = tt
 nothing_picked value h ds None = number_given value h ds None
 
-picked_given : (value : Interpretation) (h : Head) (known : List (Option AttrObj)) (ds : List Datum) (truth : ℤ → Option Bool) (o : Option ℤ) (c : ℤ) → AgreesWithKnown o c → Known known ds → Known (picked_known known (truth_of truth o) ∷ []) (operands_picked value h ds (truth c))
+picked_given : (value : Interpretation) (h : Head) (known : List (Option AttrObj)) (ds : List Datum) (truth : ℤ → Option Bool) (o : Option ℤ) (c : ℤ) → AgreesWithKnown o c → AgreeWithKnown known ds → AgreeWithKnown (picked_known known (truth_of truth o) ∷ []) (operands_picked value h ds (truth c))
 picked_given value h known ds truth None c a k = nothing_picked value h ds (truth c)
-picked_given value h known ds truth (Some n) c a k = subst (λ x. Known (picked_known known (truth n) ∷ []) (operands_picked value h ds (truth x))) a (where_true value h known ds (truth n) k)
+picked_given value h known ds truth (Some n) c a k = subst (λ x. AgreeWithKnown (picked_known known (truth n) ∷ []) (operands_picked value h ds (truth x))) a (where_true value h known ds (truth n) k)
 
 -- what is computed of what is known is what is given, if anything is
-known_stays : (known : List (Option AttrObj)) (first : List Datum) → Known known first → AllStay (map known_as known) (map Some (numbers_of first))
+known_stays : (known : List (Option AttrObj)) (first : List Datum) → AgreeWithKnown known first → AllStay (map known_as known) (map Some (numbers_of first))
 known_stays [] [] k = tt
 known_stays [] (d ∷ first) k = absurd k
 known_stays (a ∷ known) [] k = absurd k
@@ -153,7 +153,7 @@ stays_given None None e = tt
 stays_given None (Some n) e = tt
 stays_given (Some m) p e = subst (λ x. GivesKnown (Some (Int m) ∷ []) (give_or_trap x)) (sym e) (refl, tt)
 
-fold_known : (otherwise : Otherwise) (n : ℕ) (value : Interpretation) (h : Head) (identity : Head → Identity) (knows : Head → List (Option ℤ) → Option ℤ) (known : List (Option AttrObj)) (first : List Datum) → ResultFits otherwise n knows identity → Known known first → GivesKnown (folded_by otherwise (identity h) (knows h) known ∷ []) (folds_to otherwise value h (identity h) (complete knows h) first)
+fold_known : (otherwise : Otherwise) (n : ℕ) (value : Interpretation) (h : Head) (identity : Head → Identity) (knows : Head → List (Option ℤ) → Option ℤ) (known : List (Option AttrObj)) (first : List Datum) → ResultFits otherwise n knows identity → AgreeWithKnown known first → GivesKnown (folded_by otherwise (identity h) (knows h) known ∷ []) (folds_to otherwise value h (identity h) (complete knows h) first)
 fold_known Says n value h identity knows known first own k = left_given value h (complete knows h) (identity h) known first k
 fold_known Never n value h identity knows known first own k = stays_given (knows h (map known_as known)) (complete knows h (numbers_of first)) (own.0.grows h (map known_as known) (map Some (numbers_of first)) (known_stays known first k))
 fold_known Traps n value h identity knows known first own k = stays_given (knows h (map known_as known)) (complete knows h (numbers_of first)) (own.grows h (map known_as known) (map Some (numbers_of first)) (known_stays known first k))
@@ -171,7 +171,7 @@ fold_quiet Traps value h i result input = trap_quiet (result (numbers_of input))
     trap_quiet None = tt
     trap_quiet (Some n) = tt
 
-role_gives : (value : Interpretation) (allows : Allows) (r : Role) (s : Shape) (known : List (Option AttrObj)) (memo : Datum) (first : List Datum) → RoleFits allows r s → IsTrue (folds_of (form_of r)) → Known known first → GivesKnown (answers_by s.head known r) (act_of value r s memo first)
+role_gives : (value : Interpretation) (allows : Allows) (r : Role) (s : Shape) (known : List (Option AttrObj)) (memo : Datum) (first : List Datum) → RoleFits allows r s → IsTrue (folds_of (form_of r)) → AgreeWithKnown known first → GivesKnown (answers_by s.head known r) (act_of value r s memo first)
 role_gives value allows Constant s known memo first own f h = (refl, tt)
 role_gives value allows (Folds n knows identity otherwise) s known memo first own f h = fold_known otherwise n value s.head identity knows known first own h
 role_gives value allows (Picks truth) s known memo first own f h = picked_given value s.head known first truth (known_number_at known 0) (first_number first) (first_agrees known first h) h
@@ -185,7 +185,7 @@ role_gives value allows (Names act named) s known memo first own f h = grind ari
 role_gives value allows (Forks says act) s known memo first own f h = grind arith
 role_gives value allows (Holds says) s known memo first own f h = grind arith
 
-answers_given : (value : Interpretation) (allows : Allows) (o : Option Role) (s : Shape) (known : List (Option AttrObj)) (memo : Datum) (first : List Datum) → ((r : Role) → o ≡ Some r → RoleFits allows r s) → IsTrue (by_form false folds_of (option_map form_of o)) → Known known first → GivesKnown (by_role [] (answers_by s.head known) o) (by_role no_act (act_of value) o s memo first)
+answers_given : (value : Interpretation) (allows : Allows) (o : Option Role) (s : Shape) (known : List (Option AttrObj)) (memo : Datum) (first : List Datum) → ((r : Role) → o ≡ Some r → RoleFits allows r s) → IsTrue (by_form false folds_of (option_map form_of o)) → AgreeWithKnown known first → GivesKnown (by_role [] (answers_by s.head known) o) (by_role no_act (act_of value) o s memo first)
 answers_given value allows None s known memo first own f h = grind arith
 answers_given value allows (Some r) s known memo first own f h = role_gives value allows r s known memo first (own r refl) f h
 
@@ -306,7 +306,7 @@ edge_within : (value : Interpretation) (h : Head) (ds : List Datum) (targets : L
 edge_within value h ds targets choose None c a b e = get_in targets (edge_or value h ds (choose c)) b e
 edge_within value h ds targets choose (Some n) c a b e = subst (λ x. In b (only_edge targets (choose x))) (sym a) (edge_among value h ds targets (choose c) b e)
 
-role_goes : (value : Interpretation) (r : Role) (s : Shape) (targets : List ℕ) (known : List (Option AttrObj)) (memo : Datum) (first : List Datum) → IsTrue (folds_branch_of (form_of r)) → Known known first → JumpsWithin targets (feasible_of s targets known r) (act_of value r s memo first)
+role_goes : (value : Interpretation) (r : Role) (s : Shape) (targets : List ℕ) (known : List (Option AttrObj)) (memo : Datum) (first : List Datum) → IsTrue (folds_branch_of (form_of r)) → AgreeWithKnown known first → JumpsWithin targets (feasible_of s targets known r) (act_of value r s memo first)
 role_goes value (Chooses counting choose) s targets known memo first f h = edge_within value (head_without_counts counting s) (take 1 first) targets (chosen_edge counting choose s) (known_number_at known 0) (first_number first) (first_agrees known first h)
 role_goes value Jumps s targets known memo first f h = grind arith
 role_goes value Constant s targets known memo first f h = grind arith
@@ -320,7 +320,7 @@ role_goes value (Names act named) s targets known memo first f h = grind arith
 role_goes value (Forks says act) s targets known memo first f h = grind arith
 role_goes value (Holds says) s targets known memo first f h = grind arith
 
-jumps_given : (value : Interpretation) (o : Option Role) (s : Shape) (targets : List ℕ) (known : List (Option AttrObj)) (memo : Datum) (first : List Datum) → IsTrue (by_form false folds_branch_of (option_map form_of o)) → Known known first → JumpsWithin targets (by_role targets (feasible_of s targets known) o) (by_role no_act (act_of value) o s memo first)
+jumps_given : (value : Interpretation) (o : Option Role) (s : Shape) (targets : List ℕ) (known : List (Option AttrObj)) (memo : Datum) (first : List Datum) → IsTrue (by_form false folds_branch_of (option_map form_of o)) → AgreeWithKnown known first → JumpsWithin targets (by_role targets (feasible_of s targets known) o) (by_role no_act (act_of value) o s memo first)
 jumps_given value None s targets known memo first f h = tt
 jumps_given value (Some r) s targets known memo first f h = role_goes value r s targets known memo first f h
 

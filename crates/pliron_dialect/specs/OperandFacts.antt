@@ -9,7 +9,7 @@ use Rattle.std.proofs.lemmas.Option.{same_Some}
 use Rattle.pliron_core.specs.declared.attrs.AttrObj.{AttrObj}
 use Rattle.pliron_core.specs.declared.attrs.AttrObj.TheVariants.{Int}
 use Rattle.pliron_laws.specs.Datum.{Datum, Empty, Number, Text, Join, datum_of, Move, Give, Visit, Goto, Leave, Emit, Trap}
-use Rattle.pliron_laws.specs.Acting.{Known}
+use Rattle.pliron_laws.specs.Acting.{AgreeWithKnown}
 use Rattle.pliron_laws.specs.declared.operand_folds.OpFoldResult.{OpFoldResult}
 use Rattle.pliron_laws.specs.declared.operand_folds.OpFoldResult.TheVariants.{Operand, Constant as ConstantFold}
 use Rattle.pliron_laws.specs.OperandFolding.{AreSameData, datum_by}
@@ -40,11 +40,11 @@ this_one n Empty e = grind arith
 this_one n (Text s) e = grind arith
 this_one n (Join a b) e = grind arith
 
-known_one : (n : ℤ) (p : Option AttrObj) (known : List (Option AttrObj)) (d : Datum) (ds : List Datum) → Known (p ∷ known) (d ∷ ds) → is_known_as (Some n) p ≡ true → d ≡ Number n
+known_one : (n : ℤ) (p : Option AttrObj) (known : List (Option AttrObj)) (d : Datum) (ds : List Datum) → AgreeWithKnown (p ∷ known) (d ∷ ds) → is_known_as (Some n) p ≡ true → d ≡ Number n
 known_one n None known d ds k e = grind arith
 known_one n (Some a) known d ds k e = sym k.0 ∙ this_one n (datum_of a) e
 
-behind : (p q : Option AttrObj) (d e : Datum) → Known (p ∷ q ∷ []) (d ∷ e ∷ []) → Known (q ∷ []) (e ∷ [])
+behind : (p q : Option AttrObj) (d e : Datum) → AgreeWithKnown (p ∷ q ∷ []) (d ∷ e ∷ []) → AgreeWithKnown (q ∷ []) (e ∷ [])
 behind None q d e k = k
 behind (Some a) q d e k = k.1
 
@@ -81,7 +81,7 @@ module _ (i : Identity) (result : List ℤ → Option ℤ) (holds : IdentityHold
   by_equal false (Some k) operands d e answer f g s a = grind arith
   by_equal false None operands d e answer f g s a = grind arith
 
-  by_place : (a : Option Annihilator) (p q : Option AttrObj) (operands : List ℕ) (d e : Datum) (answer : OpFoldResult) → i.annihilator ≡ a → Known (p ∷ q ∷ []) (d ∷ e ∷ []) → AreSameData operands (d ∷ e ∷ []) → answer_at (annihilating_place a p q) (if are_same operands then i.equal else None) ≡ Some answer → GivesAnswered answer (d ∷ e ∷ []) (give_or_trap (result (numbers_of (d ∷ e ∷ []))))
+  by_place : (a : Option Annihilator) (p q : Option AttrObj) (operands : List ℕ) (d e : Datum) (answer : OpFoldResult) → i.annihilator ≡ a → AgreeWithKnown (p ∷ q ∷ []) (d ∷ e ∷ []) → AreSameData operands (d ∷ e ∷ []) → answer_at (annihilating_place a p q) (if are_same operands then i.equal else None) ≡ Some answer → GivesAnswered answer (d ∷ e ∷ []) (give_or_trap (result (numbers_of (d ∷ e ∷ []))))
   by_place None p q operands d e answer same_n k s f = by_equal (are_same operands) i.equal operands d e answer refl refl s f
   by_place (Some n) p q operands d e answer same_n k s f = by_test (is_known_as (Some n.operand) p) (n.either_side && is_known_as (Some n.operand) q) refl refl f
     where
@@ -93,7 +93,7 @@ module _ (i : Identity) (result : List ℤ → Option ℤ) (holds : IdentityHold
       by_test false false x y g = by_equal (are_same operands) i.equal operands d e answer refl refl s g
 
 -- each answer is what is given, if anything is
-pub facts_answer : (i : Identity) (result : List ℤ → Option ℤ) → IdentityHolds i result → (known : List (Option AttrObj)) (operands : List ℕ) (first : List Datum) (answer : OpFoldResult) → Known known first → AreSameData operands first → answer_at (operand_by_fact i known) (constant_by_fact i known operands) ≡ Some answer → GivesAnswered answer first (give_or_trap (result (numbers_of first)))
+pub facts_answer : (i : Identity) (result : List ℤ → Option ℤ) → IdentityHolds i result → (known : List (Option AttrObj)) (operands : List ℕ) (first : List Datum) (answer : OpFoldResult) → AgreeWithKnown known first → AreSameData operands first → answer_at (operand_by_fact i known) (constant_by_fact i known operands) ≡ Some answer → GivesAnswered answer first (give_or_trap (result (numbers_of first)))
 facts_answer i result holds [] operands first answer k s e = grind arith
 facts_answer i result holds (p ∷ []) operands first answer k s e = grind arith
 facts_answer i result holds (p ∷ q ∷ r ∷ known) operands first answer k s e = grind arith

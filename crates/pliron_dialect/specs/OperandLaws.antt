@@ -9,7 +9,7 @@ use Rattle.std.proofs.lemmas.Option.{same_Some}
 use Rattle.pliron_core.specs.declared.attrs.AttrObj.{AttrObj}
 use Rattle.pliron_core.specs.declared.attrs.AttrObj.TheVariants.{Int}
 use Rattle.pliron_laws.specs.Datum.{Datum, Empty, Number, Text, Join, datum_of, Head, Shape, Move, Give, Visit, Goto, Leave, Emit, Trap}
-use Rattle.pliron_laws.specs.Acting.{Known}
+use Rattle.pliron_laws.specs.Acting.{AgreeWithKnown}
 use Rattle.pliron_laws.specs.declared.operand_folds.OpFoldResult.{OpFoldResult}
 use Rattle.pliron_laws.specs.declared.operand_folds.OpFoldResult.TheVariants.{Operand, Constant as ConstantFold}
 use Rattle.pliron_laws.specs.OperandFolding.{AreSameData, datum_by, IsWithinShape, AnswersOperand, AnswersOperands}
@@ -52,7 +52,7 @@ this_is (Some n) (Number l) Empty f g = grind arith
 this_is (Some n) (Number l) (Text s) f g = grind arith
 this_is (Some n) (Number l) (Join a b) f g = grind arith
 
-known_this : (o : Option ℤ) (a : Option AttrObj) (known : List (Option AttrObj)) (d : Datum) (ds : List Datum) → Known (a ∷ known) (d ∷ ds) → is_known_as o a ≡ true → is_this o d ≡ true
+known_this : (o : Option ℤ) (a : Option AttrObj) (known : List (Option AttrObj)) (d : Datum) (ds : List Datum) → AgreeWithKnown (a ∷ known) (d ∷ ds) → is_known_as o a ≡ true → is_this o d ≡ true
 known_this o None known d ds h e = grind arith
 known_this o (Some a) known d ds h e = ap (is_this o) (sym h.0) ∙ e
 
@@ -103,7 +103,7 @@ equal_data (v ∷ []) d e s f = grind arith
 equal_data (v ∷ w ∷ x ∷ operands) d e s f = grind arith
 equal_data (v ∷ w ∷ []) d e s f = same_Some d e (s 0 1 w (ap Some (same v w f)) refl)
 
-accurate : (i : Identity) (a b : Option AttrObj) (operands : List ℕ) (d e : Datum) → Known (a ∷ b ∷ []) (d ∷ e ∷ []) → AreSameData operands (d ∷ e ∷ []) → IdentityGives (is_known_as i.neutral b) (i.either_side && is_known_as i.neutral a) (i.idempotent && are_same operands) (is_this i.neutral e) (i.either_side && is_this i.neutral d) (i.idempotent && same_datum d e) d e
+accurate : (i : Identity) (a b : Option AttrObj) (operands : List ℕ) (d e : Datum) → AgreeWithKnown (a ∷ b ∷ []) (d ∷ e ∷ []) → AreSameData operands (d ∷ e ∷ []) → IdentityGives (is_known_as i.neutral b) (i.either_side && is_known_as i.neutral a) (i.idempotent && are_same operands) (is_this i.neutral e) (i.either_side && is_this i.neutral d) (i.idempotent && same_datum d e) d e
 accurate i a b operands d e h s = record {
   second = λ x. known_this i.neutral b [] e [] (behind a b d e h) x;
   first = λ y. let p = parts i.either_side (is_known_as i.neutral a) y in both i.either_side (is_this i.neutral d) p.0 (known_this i.neutral a (b ∷ []) d (e ∷ []) h p.1);
@@ -114,7 +114,7 @@ accurate i a b operands d e h s = record {
       (one, both i.idempotent (same_datum d e) p.0 (subst (λ x. same_datum d x ≡ true) one (same_itself d)));
 }
   where
-    behind : (a b : Option AttrObj) (d e : Datum) → Known (a ∷ b ∷ []) (d ∷ e ∷ []) → Known (b ∷ []) (e ∷ [])
+    behind : (a b : Option AttrObj) (d e : Datum) → AgreeWithKnown (a ∷ b ∷ []) (d ∷ e ∷ []) → AgreeWithKnown (b ∷ []) (e ∷ [])
     behind None b d e h = h
     behind (Some x) b d e h = h.1
 
@@ -122,7 +122,7 @@ only_left : (only : Bool) (d : Datum) (ds : List Datum) (p : ℕ) → place_of_o
 only_left true d ds p e = let at : 0 ≡ p = same_Some 0 p e in ap (slice_get (d ∷ [])) at
 only_left false d ds p e = grind arith
 
-folded_left : (i : Identity) (known : List (Option AttrObj)) (operands : List ℕ) (first ds : List Datum) (p : ℕ) → Known known first → AreSameData operands first → identity_operand i known operands ≡ Some p → GivesOperand p first (operand_left first (place_in i first) ds)
+folded_left : (i : Identity) (known : List (Option AttrObj)) (operands : List ℕ) (first ds : List Datum) (p : ℕ) → AgreeWithKnown known first → AreSameData operands first → identity_operand i known operands ≡ Some p → GivesOperand p first (operand_left first (place_in i first) ds)
 folded_left i [] operands first ds p h s e = grind arith
 folded_left i (a ∷ []) operands [] ds p h s e = absurd h
 folded_left i (a ∷ []) operands (d ∷ []) ds p h s e = only_left i.only d ds p e
@@ -170,7 +170,7 @@ same_as_number (Text s) n e = grind arith
 same_as_number (Join a b) n e = grind arith
 
 -- what is known to be one number is known not to be another
-known_other : (o p : Option ℤ) (a : Option AttrObj) (known : List (Option AttrObj)) (d : Datum) (ds : List Datum) → Known (a ∷ known) (d ∷ ds) → is_known_as p a ≡ true → is_known_as o a ≡ false → is_this o d ≡ false
+known_other : (o p : Option ℤ) (a : Option AttrObj) (known : List (Option AttrObj)) (d : Datum) (ds : List Datum) → AgreeWithKnown (a ∷ known) (d ∷ ds) → is_known_as p a ≡ true → is_known_as o a ≡ false → is_this o d ≡ false
 known_other o p None known d ds h e f = grind arith
 known_other o p (Some a) known d ds h e f = ap (is_this o) (sym h.0) ∙ f
 
@@ -268,13 +268,13 @@ off : (x y : Bool) → x ≡ true → (x && y) ≡ false → y ≡ false
 off true y e f = f
 off false y e f = grind arith
 
-constant_holds : (i : Identity) (a b : Option AttrObj) (operands : List ℕ) (d e : Datum) (m : ℤ) → Known (a ∷ b ∷ []) (d ∷ e ∷ []) → AreSameData operands (d ∷ e ∷ []) → identity_operand i (a ∷ b ∷ []) operands ≡ None → identity_constant i (a ∷ b ∷ []) operands ≡ Some m → GivesNumber i d e m
+constant_holds : (i : Identity) (a b : Option AttrObj) (operands : List ℕ) (d e : Datum) (m : ℤ) → AgreeWithKnown (a ∷ b ∷ []) (d ∷ e ∷ []) → AreSameData operands (d ∷ e ∷ []) → identity_operand i (a ∷ b ∷ []) operands ≡ None → identity_constant i (a ∷ b ∷ []) operands ≡ Some m → GivesNumber i d e m
 constant_holds i a b operands d e m h s none given = by_case (given_cases i (is_known_as (absorber_of i) b) (i.either_side && is_known_as (absorber_of i) a) (are_same operands) m given)
   where
     off_all : (is_known_as i.neutral b ≡ false) × ((i.either_side && is_known_as i.neutral a) ≡ false) × ((i.idempotent && are_same operands) ≡ false)
     off_all = none_placed (is_known_as i.neutral b) (i.either_side && is_known_as i.neutral a) (i.idempotent && are_same operands) none
 
-    behind : (a b : Option AttrObj) → Known (a ∷ b ∷ []) (d ∷ e ∷ []) → Known (b ∷ []) (e ∷ [])
+    behind : (a b : Option AttrObj) → AgreeWithKnown (a ∷ b ∷ []) (d ∷ e ∷ []) → AgreeWithKnown (b ∷ []) (e ∷ [])
     behind None b h = h
     behind (Some x) b h = h.1
 
@@ -332,7 +332,7 @@ module _ (value : Interpretation) (h : Head) (input : List Datum) (computed : Op
   number_there false false true d e o m f g k n = ap Some (k refl)
   number_there false false false d e o m f g k n = ap (λ x. slice_get (results_given value h input (option_or x computed)) 0) n
 
-  number_given_by : (i : Identity) (known : List (Option AttrObj)) (operands : List ℕ) (first : List Datum) (m : ℤ) → Known known first → AreSameData operands first → identity_operand i known operands ≡ None → identity_constant i known operands ≡ Some m → slice_get (operand_left first (place_in i first) (results_given value h input (option_or (given_in i first) computed))) 0 ≡ Some (Number m)
+  number_given_by : (i : Identity) (known : List (Option AttrObj)) (operands : List ℕ) (first : List Datum) (m : ℤ) → AgreeWithKnown known first → AreSameData operands first → identity_operand i known operands ≡ None → identity_constant i known operands ≡ Some m → slice_get (operand_left first (place_in i first) (results_given value h input (option_or (given_in i first) computed))) 0 ≡ Some (Number m)
   number_given_by i [] operands first m k s e f = grind arith
   number_given_by i (a ∷ []) operands first m k s e f = grind arith
   number_given_by i (a ∷ b ∷ c ∷ known) operands first m k s e f = grind arith
@@ -385,7 +385,7 @@ record Left (value : Interpretation) (r : Role) (s : Shape) (known : List (Optio
   no_successors : s.successors ≡ 0
   folds : IsTrue (folds_of (form_of r))
   within : IsWithinShape s answer
-  gives : (memo : Datum) (first : List Datum) → length first ≡ s.operands → Known known first → AreSameData operands first → GivesAnswered answer first (act_of value r s memo first)
+  gives : (memo : Datum) (first : List Datum) → length first ≡ s.operands → AgreeWithKnown known first → AreSameData operands first → GivesAnswered answer first (act_of value r s memo first)
 
 answered : (o : Option OpFoldResult) (i : ℕ) (answer : OpFoldResult) → slice_get (o ∷ []) i ≡ Some (Some answer) → (i ≡ 0) × (o ≡ Some answer)
 answered o (suc i) answer e = grind arith
@@ -404,7 +404,7 @@ identity_answer_within i s known operands answer l e = by_case (is_answer (ident
     by_case (inl c) = subst (IsWithinShape s) (sym c.2) (omega (arith, identity_operand_within i known operands c.0 c.1, l))
     by_case (inr c) = subst (IsWithinShape s) (sym c.3) tt
 
-identity_answer_given : (value : Interpretation) (h : Head) (computed : Option ℤ) (i : Identity) (known : List (Option AttrObj)) (operands : List ℕ) (answer : OpFoldResult) (first : List Datum) → Known known first → AreSameData operands first → answer_at (identity_operand i known operands) (identity_constant i known operands) ≡ Some answer → GivesFirst answer first (operand_left first (place_in i first) (results_given value h first (option_or (given_in i first) computed)))
+identity_answer_given : (value : Interpretation) (h : Head) (computed : Option ℤ) (i : Identity) (known : List (Option AttrObj)) (operands : List ℕ) (answer : OpFoldResult) (first : List Datum) → AgreeWithKnown known first → AreSameData operands first → answer_at (identity_operand i known operands) (identity_constant i known operands) ≡ Some answer → GivesFirst answer first (operand_left first (place_in i first) (results_given value h first (option_or (given_in i first) computed)))
 identity_answer_given value h computed i known operands answer first k s e = by_case (is_answer (identity_operand i known operands) (identity_constant i known operands) answer e)
   where
     given : List Datum

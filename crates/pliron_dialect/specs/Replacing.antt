@@ -7,7 +7,7 @@ use Rattle.std.proofs.lemmas.Option.{same_Some}
 use Rattle.pliron_core.specs.declared.attrs.Head.{Head}
 use Rattle.pliron_core.specs.declared.attrs.AttrObj.{AttrObj}
 use Rattle.pliron_laws.specs.Datum.{Datum, Empty, Shape, Goto}
-use Rattle.pliron_laws.specs.Acting.{MovesAlike, ActAlike, PassesSame, Known, pick}
+use Rattle.pliron_laws.specs.Acting.{MovesAlike, ActAlike, PassesSame, AgreeWithKnown, pick}
 use Rattle.pliron_laws.specs.PlaceLaws.{pick_all}
 use Rattle.pliron_dialect.specs.Ranges.{same_data}
 use Rattle.pliron_dialect.specs.Counted.{edge_range, uncapped, values_of_edge, edge_passes}
@@ -44,7 +44,7 @@ module _ (value : Interpretation) (roles : ℕ → Option Role) (allows : Allows
           ∙ ap (λ x. map Some (by_role [] (places_by s f) x)) (sym is))
       kept (suc k) f g = nowhere k f g
 
-      acts : (first first' : List Datum) → length first ≡ s.operands → Known known first → map Some first' ≡ pick (edge_range (edge_counts_of counting s) e) first → ActAlike (meaning_by value roles allows).act PassesSame (JumpsTo targets (b ∷ [])) s (branch_shape (head_of_kind n ssa) (length (edge_range (edge_counts_of counting s) e)) 1) first first'
+      acts : (first first' : List Datum) → length first ≡ s.operands → AgreeWithKnown known first → map Some first' ≡ pick (edge_range (edge_counts_of counting s) e) first → ActAlike (meaning_by value roles allows).act PassesSame (JumpsTo targets (b ∷ [])) s (branch_shape (head_of_kind n ssa) (length (edge_range (edge_counts_of counting s) e)) 1) first first'
       acts first first' l k p =
           let edge : edge_chosen value counting choose s first ≡ e = ap (λ x. edge_or value (head_without_counts counting s) (take 1 first) (chosen_edge counting choose s x)) (sym (known_is (known_number_at known 0) c (first_number first) known_c (first_agrees known first k))) ∙ ap (edge_or value (head_without_counts counting s) (take 1 first)) at in
           let values : first' ≡ values_of_edge (edge_counts_of counting s) e first = same_data first' (values_of_edge (edge_counts_of counting s) e first) (p ∙ sym (edge_passes (edge_counts_of counting s) e first ((is_choice counting choose s.head s.operands s.results s.successors (length s.entry_arguments) h).operands ∙ sym l))) in

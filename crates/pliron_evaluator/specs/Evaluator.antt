@@ -11,7 +11,7 @@ use Rattle.pliron_evaluator.specs.declared.evaluator.values.Move.{Move as MoveVa
 use Rattle.pliron_evaluator.specs.declared.evaluator.values.Move.TheVariants.{Give as GiveValue, Visit as VisitValue, Goto as GotoValue, Leave as LeaveValue, Emit as EmitValue, Trap as TrapValue}
 use Rattle.pliron_evaluator.specs.declared.evaluator.values.Sight.{Sight as SightValue}
 use Rattle.pliron_evaluator.specs.declared.evaluator.values.Sight.TheVariants.{Ended as EndedValue, Trapped as TrappedValue, Reached as ReachedValue}
-use Rattle.pliron_evaluator.specs.declared.evaluator.state.Waiting.{Waiting as WaitingValue}
+use Rattle.pliron_evaluator.specs.declared.evaluator.state.WaitingOperation.{WaitingOperation}
 use Rattle.pliron_evaluator.specs.declared.evaluator.state.State.{State as StateValue}
 use Rattle.pliron_evaluator.specs.declared.evaluator.state.Next.{Next as NextValue}
 use Rattle.pliron_evaluator.specs.declared.evaluator.state.Next.TheVariants.{Continues as ContinuesValue, Over as OverValue}
@@ -44,7 +44,7 @@ abbrev pub answer_of_values : Option (Vec DatumValue) → Option (List Datum)
 answer_of_values None = None
 answer_of_values (Some ds) = Some (map datum_of_value ds.items)
 
-abbrev pub waiting_of : WaitingValue → Waiting
+abbrev pub waiting_of : WaitingOperation → Waiting
 waiting_of w = record { rest = w.rest.items; memo = datum_of_value w.memo }
 
 abbrev pub state_of : StateValue → State

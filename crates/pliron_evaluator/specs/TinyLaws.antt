@@ -10,7 +10,7 @@ use Rattle.pliron_core.proofs.GrownLemmas.{range_at}
 use Rattle.pliron_evaluator.specs.declared.tiny.TinyKind.{TinyKind}
 use Rattle.pliron_evaluator.specs.declared.tiny.TinyKind.TheVariants.{Const, Ask, Scope, Br, Both, Twice}
 use Rattle.pliron_laws.specs.Datum.{Datum, Empty, Number, Text, Join, datum_of, Head, Shape, Move, Give, Visit, Goto, Leave, Emit, Trap}
-use Rattle.pliron_laws.specs.Acting.{Act, Comes, MovesAlike, PassesSame, DropsAt, pick, Known}
+use Rattle.pliron_laws.specs.Acting.{Act, Comes, MovesAlike, PassesSame, DropsAt, pick, AgreeWithKnown}
 use Rattle.pliron_laws.specs.Acting.Comes.{Begins, Answered, AnsweredByWorld}
 use Rattle.pliron_laws.specs.Laws.{Admitted, CountsFit, KeepsCounts, IsGive, GivesAtOnce, ForwardsOperands, LosesOperand, ActsWithoutArgument, fewer_operands, moved_up}
 use Rattle.pliron_laws.specs.Folding.{AnswersTrue, AnswersJumps, MakesConstants}
@@ -256,10 +256,10 @@ given (Leave ds) = None
 given (Emit e memo) = None
 given Trap = None
 
-constant_given : (k : Option TinyKind) (s : Shape) (memo : Datum) (input ds : List Datum) → IsTrue (is_const k) → tiny_act_of k s memo input ≡ Give ds → Known (Some (first_attribute s.head.attrs) ∷ []) ds
+constant_given : (k : Option TinyKind) (s : Shape) (memo : Datum) (input ds : List Datum) → IsTrue (is_const k) → tiny_act_of k s memo input ≡ Give ds → AgreeWithKnown (Some (first_attribute s.head.attrs) ∷ []) ds
 unfolding given
 constant_given None s memo input ds c e = grind arith
-constant_given (Some Const) s memo input ds c e = subst (Known (Some (first_attribute s.head.attrs) ∷ [])) (same_Some (datum_of (first_attribute s.head.attrs) ∷ []) ds (ap given e)) (refl, tt)
+constant_given (Some Const) s memo input ds c e = subst (AgreeWithKnown (Some (first_attribute s.head.attrs) ∷ [])) (same_Some (datum_of (first_attribute s.head.attrs) ∷ []) ds (ap given e)) (refl, tt)
 constant_given (Some Ask) s memo input ds c e = grind arith
 constant_given (Some Scope) s memo input ds c e = grind arith
 constant_given (Some Br) s memo input ds c e = grind arith

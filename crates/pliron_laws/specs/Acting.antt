@@ -43,9 +43,9 @@ abbrev pub pick : {A : Type 0} → List ℕ → List A → List (Option A)
 pick places xs = map (λ i. slice_get xs i) places
 
 -- the known constants are these data
-abbrev pub Known : List (Option AttrObj) → List Datum → Type 0
-Known [] [] = Unit {0}
-Known [] (d ∷ ds) = ⊥
-Known (a ∷ known) [] = ⊥
-Known (None ∷ known) (d ∷ ds) = Known known ds
-Known (Some a ∷ known) (d ∷ ds) = (datum_of a ≡ d) × Known known ds
+abbrev pub AgreeWithKnown : List (Option AttrObj) → List Datum → Type 0
+AgreeWithKnown [] [] = Unit {0}
+AgreeWithKnown [] (d ∷ ds) = ⊥
+AgreeWithKnown (a ∷ known) [] = ⊥
+AgreeWithKnown (None ∷ known) (d ∷ ds) = AgreeWithKnown known ds
+AgreeWithKnown (Some a ∷ known) (d ∷ ds) = (datum_of a ≡ d) × AgreeWithKnown known ds

@@ -3,7 +3,7 @@ use Rattle.std.specs.Prelude.{◌≡◌, ℕ, Bool, false, List, [], ◌∷◌, 
 use Rattle.pliron_core.specs.declared.attrs.AttrObj.{AttrObj}
 use Rattle.pliron_core.specs.Tree.{In}
 use Rattle.pliron_laws.specs.Datum.{Datum, Empty, datum_of, Head, Shape, Give, Goto, Meaning}
-use Rattle.pliron_laws.specs.Acting.{Comes, Known}
+use Rattle.pliron_laws.specs.Acting.{Comes, AgreeWithKnown}
 use Rattle.pliron_laws.specs.Laws.{Admitted}
 
 -- for the shape of an operation and the constants that are known of its operands, the constant that
@@ -20,13 +20,13 @@ Feasible = Shape → List ℕ → List (Option AttrObj) → List ℕ
 -- is the datum of its result
 pub record AnswersTrue (m : Meaning) (can_fold : Head → Bool) (constants : Constants) : Type 0 where
   pub counts : (s : Shape) → Admitted m s → IsTrue (can_fold s.head) → (known : List (Option AttrObj)) → length known ≡ s.operands → length (constants s known) ≡ s.results
-  pub gives : (s : Shape) → Admitted m s → IsTrue (can_fold s.head) → (known : List (Option AttrObj)) (first : List Datum) → length first ≡ s.operands → Known known first → (later : Bool) (memo : Datum) (input ds : List Datum) → Comes m.act s first later memo input → m.act s memo input ≡ Give ds → Known (constants s known) ds
+  pub gives : (s : Shape) → Admitted m s → IsTrue (can_fold s.head) → (known : List (Option AttrObj)) (first : List Datum) → length first ≡ s.operands → AgreeWithKnown known first → (later : Bool) (memo : Datum) (input ds : List Datum) → Comes m.act s first later memo input → m.act s memo input ≡ Give ds → AgreeWithKnown (constants s known) ds
 
 -- only branches fold as branches, and each jump goes to one of the successors that folding answers
 pub record AnswersJumps (m : Meaning) (can_fold_branch : Head → Bool) (feasible : Feasible) : Type 0 where
   pub branches : (s : Shape) → Admitted m s → IsTrue (can_fold_branch s.head) → IsTrue (m.is_branch s.head)
   pub successors : (s : Shape) (targets : List ℕ) → Admitted m s → IsTrue (can_fold_branch s.head) → length targets ≡ s.successors → (known : List (Option AttrObj)) → length known ≡ s.operands → (b : ℕ) → In b (feasible s targets known) → In b targets
-  pub goes : (s : Shape) (targets : List ℕ) → Admitted m s → IsTrue (can_fold_branch s.head) → length targets ≡ s.successors → (known : List (Option AttrObj)) (first : List Datum) → length first ≡ s.operands → Known known first → (later : Bool) (memo : Datum) (input : List Datum) (i b : ℕ) (ds : List Datum) → Comes m.act s first later memo input → m.act s memo input ≡ Goto i ds → slice_get targets i ≡ Some b → In b (feasible s targets known)
+  pub goes : (s : Shape) (targets : List ℕ) → Admitted m s → IsTrue (can_fold_branch s.head) → length targets ≡ s.successors → (known : List (Option AttrObj)) (first : List Datum) → length first ≡ s.operands → AgreeWithKnown known first → (later : Bool) (memo : Datum) (input : List Datum) (i b : ℕ) (ds : List Datum) → Comes m.act s first later memo input → m.act s memo input ≡ Goto i ds → slice_get targets i ≡ Some b → In b (feasible s targets known)
 
 -- the shape of an operation that makes a constant
 abbrev pub constant_shape : Head → Shape

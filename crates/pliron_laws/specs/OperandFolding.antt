@@ -3,7 +3,7 @@ use Rattle.std.proofs.Common.{◌≡◌, ◌<◌, ℕ, Bool, List, [], Option, S
 use Rattle.pliron_core.specs.declared.attrs.AttrObj.{AttrObj}
 use Rattle.pliron_core.specs.Tree.{Tree}
 use Rattle.pliron_laws.specs.Datum.{Datum, datum_of, Shape, Give, Meaning}
-use Rattle.pliron_laws.specs.Acting.{Comes, Known}
+use Rattle.pliron_laws.specs.Acting.{Comes, AgreeWithKnown}
 use Rattle.pliron_laws.specs.Laws.{Admitted}
 use Rattle.pliron_laws.specs.Tree.{Operation, op_at, shape_of}
 use Rattle.pliron_laws.specs.declared.operand_folds.OpFoldResult.{OpFoldResult}
@@ -25,7 +25,7 @@ datum_by (Constant c) first = Some (datum_of c)
 
 -- where the operands are these values and have these constants, the result at i is what the answer says
 abbrev pub GivesAnswer : Meaning → Shape → List (Option AttrObj) → List ℕ → ℕ → OpFoldResult → Type 0
-GivesAnswer m s known operands i answer = (first : List Datum) → length first ≡ s.operands → Known known first → AreSameData operands first → (later : Bool) (memo : Datum) (input ds : List Datum) → Comes m.act s first later memo input → m.act s memo input ≡ Give ds → slice_get ds i ≡ datum_by answer first
+GivesAnswer m s known operands i answer = (first : List Datum) → length first ≡ s.operands → AgreeWithKnown known first → AreSameData operands first → (later : Bool) (memo : Datum) (input ds : List Datum) → Comes m.act s first later memo input → m.act s memo input ≡ Give ds → slice_get ds i ≡ datum_by answer first
 
 -- the answer names an operand that there is
 abbrev pub IsWithinShape : Shape → OpFoldResult → Type 0

@@ -7,7 +7,7 @@ use Rattle.pliron_core.specs.Erased.{after_erasing}
 use Rattle.pliron_core.specs.Changes.{IsSameTree}
 use Rattle.pliron_laws.specs.Datum.{Datum, Head, Shape, Meaning}
 use Rattle.pliron_laws.specs.Tree.{Operation, op_at, shape_of}
-use Rattle.pliron_laws.specs.Acting.{ActAlike, PassesSame, Known, pick}
+use Rattle.pliron_laws.specs.Acting.{ActAlike, PassesSame, AgreeWithKnown, pick}
 use Rattle.pliron_laws.specs.Laws.{Admitted}
 use Rattle.pliron_laws.specs.Outcomes.{next_op}
 
@@ -26,7 +26,7 @@ pub record ReplacesBranch (m : Meaning) (s : Shape) (targets targets' : List ℕ
   pub admitted : Admitted m (branch_shape head (length places) (length edges))
   pub targets_kept : map Some targets' ≡ pick edges targets
   pub values_kept : (k e : ℕ) → slice_get edges k ≡ Some e → pick (m.forwarded (branch_shape head (length places) (length edges)) k) places ≡ map Some (m.forwarded s e)
-  pub alike : (first first' : List Datum) → length first ≡ s.operands → Known known first → map Some first' ≡ pick places first → ActAlike m.act PassesSame (JumpsTo targets targets') s (branch_shape head (length places) (length edges)) first first'
+  pub alike : (first first' : List Datum) → length first ≡ s.operands → AgreeWithKnown known first → map Some first' ≡ pick places first → ActAlike m.act PassesSame (JumpsTo targets targets') s (branch_shape head (length places) (length edges)) first first'
 
 -- the operation has these operands and successors
 abbrev pub with_edges : Tree → ℕ → List ℕ → List ℕ → Tree

@@ -44,7 +44,7 @@ impl DirectMappedIndex {
     /// The places in the list are the numbers. There is room for twice as many handles as are listed.
     ///
     /// Errors: allocation failure. Cost: one step for each.
-    pub fn over<T: HasKey>(alloc: Global, listed: &[T]) -> Result<DirectMappedIndex, OptError>
+    pub fn of_handles<T: HasKey>(alloc: Global, listed: &[T]) -> Result<DirectMappedIndex, OptError>
         ensures memory { IsOkUnless result OptError.Memory }
     {
         let mut first = u64::MAX;

@@ -77,7 +77,7 @@ fn number<T: HasKey>(alloc: Global, listed: &[T]) -> Result<LikelyNumbers, OptEr
     ensures room { IfOk result (λ numbers. length listed.now ≤ vec_capacity numbers.worklist) }
     ensures memory { IsOkUnless result OptError.Memory }
 {
-    let index = DirectMappedIndex::over(alloc, listed)?;
+    let index = DirectMappedIndex::of_handles(alloc, listed)?;
     let worklist = Vec::with_capacity(alloc, listed.len())?;
     Ok(LikelyNumbers { index, worklist })
 }
@@ -196,7 +196,7 @@ impl Tables {
     /// Tables over these blocks and values, with all the room that they ever need.
     ///
     /// Errors: allocation failure. Cost: one step for each block and value.
-    pub fn over(
+    pub fn with_room_for(
         alloc: Global,
         blocks: IndexSet<Ptr<BasicBlock>>,
         values: IndexSet<Value>,

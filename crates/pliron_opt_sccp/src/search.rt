@@ -63,7 +63,7 @@ fn initial_tables(alloc: Global, root: Ptr<Operation>, ctx: &Context) -> Result<
     let blocks = all_blocks(alloc, root, ctx)?;
     let numbered = block_numbers(alloc, &blocks)?;
     let values = value_numbers(alloc, root, count_values(&blocks, ctx), ctx)?;
-    Tables::over(alloc, numbered, values)
+    Tables::with_room_for(alloc, numbered, values)
 }
 
 /// The entries of the root's regions are executable and on the worklist, their arguments are not constants, and

@@ -86,8 +86,9 @@ fn pairs_inside(
     Ok(pairs)
 }
 
-// How many operations are inside the operation.
-fn count_inside(op: Ptr<Operation>, ctx: &Context) -> usize
+/// How many operations are inside the operation, at any depth. Asks that it is live (`is_live` tests it). Takes no
+/// memory. Cost: one step for each operation, block and region inside.
+pub fn count_inside(op: Ptr<Operation>, ctx: &Context) -> usize
     requires { IsLive ctx.now.tree op }
     ensures { result ≡ length (contents ctx.now.tree op) }
 {

@@ -21,7 +21,7 @@ mod run;
 mod verify;
 
 pub use analyses::Analyses;
-pub use bench_facts::{BenchFactKind, BenchFacts};
+pub use bench_facts::{BenchFactKind, BenchFacts, count_inside};
 pub use config::{PMConfig, PMData, PMState};
 pub use either::Either;
 pub use guard::{Guard, GuardedPass, OpGuard, OpInterfaceGuard, OpInterfacePass, OpPass};

@@ -16,10 +16,10 @@ use Rattle.pliron_pass_pipeline.specs.Combination.{AppliesRules, IsCombined, eff
 use Rattle.pliron_pass_pipeline.specs.Optimising.{IsAccurateAnswer}
 
 -- what is made of the tree
-pub applied : (x : RuleTables) (rules : View → Option Term) (root : ℕ) (t u : Tree) (c : CombineOutcome) (rs : List Rewrite) → RewriteInTurn x rules root rs t u → c.count ≡ length rs → (c.ending ≡ Finished → HasRewrites x rules u root → ⊥) → (c.ending ≡ LimitReached → c.count ≡ most_rewrites) → IsCombined x rules root t u (effect_of_count c.count)
+pub applied : (x : RuleTables) (rules : View → Option Term) (root : ℕ) (t u : Tree) (c : CombineOutcome) (rs : List Rewrite) → RewriteInTurn x rules root rs t u → c.count ≡ length rs → (c.ending ≡ Finished → HasRewrites x rules u root → ⊥) → (c.ending ≡ LimitReached → c.count ≡ most_rewrites t root) → IsCombined x rules root t u (effect_of_count c.count)
 applied x rules root t u c rs turn e none limit = record { rewrites = rs; in_turn = turn; reported = ap effect_of_count e; finished = go c.ending refl }
   where
-    go : (ending : Ending) → c.ending ≡ ending → (length rs ≡ most_rewrites) ⊎ (HasRewrites x rules u root → ⊥)
+    go : (ending : Ending) → c.ending ≡ ending → (length rs ≡ most_rewrites t root) ⊎ (HasRewrites x rules u root → ⊥)
     go Finished is = inr (none is)
     go LimitReached is = inl (sym e ∙ limit is)
 

@@ -1,6 +1,7 @@
 -- What the pass of rules makes of a tree.
-use Rattle.std.specs.Prelude.{◌≡◌, ◌⊎◌, ℕ, zero, suc, true, List, [], ◌∷◌, length, Option, None, Result, Ok, Err}
+use Rattle.std.specs.Prelude.{◌≡◌, ◌⊎◌, ℕ, zero, suc, ◌*◌, ◌-◌, ◌^◌, min, true, List, [], ◌∷◌, length, Option, None, Result, Ok, Err}
 use Rattle.pliron_core.specs.Tree.{Tree}
+use Rattle.pliron_core.specs.Walks.{contents}
 use Rattle.pliron_core.specs.declared.attrs.IRStatus.TheVariants.{Changed, Unchanged}
 use Rattle.pliron_laws.specs.declared.fault.OptError.{OptError}
 use Rattle.pliron_laws.specs.declared.fault.OptError.TheVariants.{Memory}
@@ -10,8 +11,9 @@ use Rattle.pliron_rewrite_rules.specs.Tables.{RuleTables}
 use Rattle.pliron_rewrite_rules.specs.declared.term.Term.{Term}
 use Rattle.pliron_rewrite_rules.specs.declared.view.View.{View}
 
-abbrev pub most_rewrites : ℕ
-most_rewrites = 1048576
+-- how many rewrites a run makes at most: so many for each operation inside
+abbrev pub most_rewrites : Tree → ℕ → ℕ
+most_rewrites t root = min (length (contents t root) * 16) (2 ^ 64 - 1)
 
 -- what is reported of so many rewrites
 abbrev pub effect_of_count : ℕ → Effect
@@ -27,12 +29,12 @@ pub record IsCombined (x : RuleTables) (rules : View → Option Term) (root : �
   pub rewrites : List Rewrite
   pub in_turn : RewriteInTurn x rules root rewrites t t'
   pub reported : effect ≡ effect_of_count (length rewrites)
-  pub finished : (length rewrites ≡ most_rewrites) ⊎ (HasRewrites x rules t' root → ⊥)
+  pub finished : (length rewrites ≡ most_rewrites t root) ⊎ (HasRewrites x rules t' root → ⊥)
 
 -- rules were applied so; or allocation failed, and some were
 abbrev pub AppliesRules : RuleTables → (View → Option Term) → (t t' : Tree) → ℕ → Result Effect OptError → Type 0
 AppliesRules x rules t t' root (Ok effect) = IsCombined x rules root t t' effect
-AppliesRules x rules t t' root (Err e) = (e ≡ Memory) × ((rs : List Rewrite) × AreRewritten x rules root most_rewrites rs t t')
+AppliesRules x rules t t' root (Err e) = (e ≡ Memory) × ((rs : List Rewrite) × AreRewritten x rules root (most_rewrites t root) rs t t')
 
 abbrev pub combine_name : List ℕ
 combine_name = 0x63 ∷ 0x6f ∷ 0x6d ∷ 0x62 ∷ 0x69 ∷ 0x6e ∷ 0x65 ∷ []

@@ -15,7 +15,7 @@ mod pipeline;
 mod step;
 
 pub use canonicalization::{Canonicalization, CanonicalizePass};
-pub use combination::{Combination, CombinePass, MAX_REWRITES, NoRules};
+pub use combination::{Combination, CombinePass, NoRules, max_rewrites};
 pub use common_subexpressions::{CSEPass, CommonSubexpressions};
 pub use constants::{Constants, SCCPPass};
 pub use control_flow::{ControlFlow, SimplifyCFGPass};

@@ -11,7 +11,7 @@ use Rattle.pliron_core.proofs.HoldingLemmas.{some_is, in_slice, holder_by, block
 use Rattle.pliron_laws.specs.Datum.{Datum, datum_of, Meaning}
 use Rattle.pliron_laws.specs.Tree.{Operation, op_at, shape_of}
 use Rattle.pliron_laws.specs.States.{Environment, State, prepend_optional, data_of}
-use Rattle.pliron_laws.specs.Acting.{Known}
+use Rattle.pliron_laws.specs.Acting.{AgreeWithKnown}
 use Rattle.pliron_laws.specs.Paths.{Path}
 use Rattle.pliron_laws.specs.Root.{HasPassed, IsDominated}
 use Rattle.pliron_laws.proofs.Records.{op_shows}
@@ -93,19 +93,19 @@ suc_length : {A B : Type 0} (a : A) (b : B) (xs : List A) (ys : List B) → leng
 suc_length a b xs ys e = grind (arith, e)
 
 -- constants that the environment has are known of what is read
-known_by : (env : Environment) (known : List (Option AttrObj)) (vs : List ℕ) (ds : List Datum) → length known ≡ length vs → data_of env vs ≡ Some ds → ((p v : ℕ) (c : AttrObj) (d : Datum) → slice_get vs p ≡ Some v → slice_get known p ≡ Some (Some c) → env v ≡ Some d → datum_of c ≡ d) → Known known ds
+known_by : (env : Environment) (known : List (Option AttrObj)) (vs : List ℕ) (ds : List Datum) → length known ≡ length vs → data_of env vs ≡ Some ds → ((p v : ℕ) (c : AttrObj) (d : Datum) → slice_get vs p ≡ Some v → slice_get known p ≡ Some (Some c) → env v ≡ Some d → datum_of c ≡ d) → AgreeWithKnown known ds
 known_by env [] [] [] long e h = tt
 known_by env [] [] (d ∷ ds) long e h = grind arith
 known_by env [] (v ∷ vs) ds long e h = grind arith
 known_by env (a ∷ known) [] ds long e h = grind arith
 known_by env (a ∷ known) (v ∷ vs) ds long e h = go (env v) refl (data_of env vs) e (λ others f. known_by env known vs others (suc_length a v known vs long) f (λ p x c y i j k. h (suc p) x c y i j k))
   where
-    go : (o : Option Datum) → env v ≡ o → (q : Option (List Datum)) → prepend_optional o q ≡ Some ds → ((others : List Datum) → q ≡ Some others → Known known others) → Known (a ∷ known) ds
+    go : (o : Option Datum) → env v ≡ o → (q : Option (List Datum)) → prepend_optional o q ≡ Some ds → ((others : List Datum) → q ≡ Some others → AgreeWithKnown known others) → AgreeWithKnown (a ∷ known) ds
     go None oe q g rest = grind arith
     go (Some d) oe None g rest = grind arith
-    go (Some d) oe (Some others) g rest = subst (Known (a ∷ known)) (some_is g) (first a refl)
+    go (Some d) oe (Some others) g rest = subst (AgreeWithKnown (a ∷ known)) (some_is g) (first a refl)
       where
-        first : (b : Option AttrObj) → a ≡ b → Known (b ∷ known) (d ∷ others)
+        first : (b : Option AttrObj) → a ≡ b → AgreeWithKnown (b ∷ known) (d ∷ others)
         first None ae = rest others refl
         first (Some c) ae = (h zero v c d refl (ap Some ae) oe, rest others refl)
 
@@ -144,7 +144,7 @@ module _ (m : Meaning) (t : Tree) (k i p old v : ℕ) (known : List (Option Attr
       let g = results_given m t root k w f in_k none_next u rest s (behind u uses in_k) r e quiet in
       let o = op_shows t k g.operation g.liveness in
       let has : data_of s.environment (operands_of t k) ≡ Some g.first = ap (data_of s.environment) o.operands ∙ g.has in
-      let knows : Known known g.first = known_by s.environment known (operands_of t k) g.first long has (λ q x c d a b h.
+      let knows : AgreeWithKnown known g.first = known_by s.environment known (operands_of t k) g.first long has (λ q x c d a b h.
       let n = makers q x c a b in
       sym (constant_datum m t w root n.0 x (datum_of c) n.1 (λ same. nothing_inside t root k w (ap (regions_of t) same ∙ n.1.regions) in_k) s r d h)) in
       sym (data_at s.environment (results_of t k) g.given (ap (data_of s.environment) o.results ∙ g.results) i old at)

@@ -6,13 +6,13 @@ use Rattle.pliron_core.specs.Invariant.{IsTree}
 use Rattle.pliron_core.specs.Writes.{after_replacing}
 use Rattle.pliron_laws.specs.Datum.{Datum, datum_of, Shape, Meaning, Give}
 use Rattle.pliron_laws.specs.Tree.{Operation, op_at, shape_of}
-use Rattle.pliron_laws.specs.Acting.{Comes, Known}
+use Rattle.pliron_laws.specs.Acting.{Comes, AgreeWithKnown}
 use Rattle.pliron_theory.specs.Keeps.{KeepsRuns}
 use Rattle.pliron_theory.specs.Renaming.{GivesConstant}
 
 -- where its operands are these constants and it gives, its result at i is its operand at p
 abbrev pub PassesOperand : Meaning → Shape → List (Option AttrObj) → (i p : ℕ) → Type 0
-PassesOperand m s known i p = (first : List Datum) → length first ≡ s.operands → Known known first → (later : Bool) (memo : Datum) (input ds : List Datum) → Comes m.act s first later memo input → m.act s memo input ≡ Give ds → slice_get ds i ≡ slice_get first p
+PassesOperand m s known i p = (first : List Datum) → length first ≡ s.operands → AgreeWithKnown known first → (later : Bool) (memo : Datum) (input ds : List Datum) → Comes m.act s first later memo input → m.act s memo input ≡ Give ds → slice_get ds i ≡ slice_get first p
 
 -- what is known of the operands is what operations define that give constants
 abbrev pub KnownByMakers : Meaning → Tree → List (Option AttrObj) → List ℕ → Type 0

@@ -10,7 +10,7 @@ use Rattle.pliron_core.specs.Tree.{Tree, In, IsDefined, IsInside, IsMadeBy, head
 use Rattle.pliron_core.specs.Writes.{after_replacing}
 use Rattle.pliron_core.proofs.HoldingLemmas.{some_is, not_none, in_slice, slice_in, holder_by, block_held, inside_by, within_inside}
 use Rattle.pliron_core.proofs.UsedLemmas.{length_map}
-use Rattle.pliron_laws.specs.Acting.{Comes, Begins, Known}
+use Rattle.pliron_laws.specs.Acting.{Comes, Begins, AgreeWithKnown}
 use Rattle.pliron_laws.specs.Datum.{Datum, Empty, datum_of, Head, Shape, Move, Give, Visit, Goto, Leave, Emit, Trap, Meaning}
 use Rattle.pliron_laws.specs.Folding.{AnswersTrue, MakesConstants}
 use Rattle.pliron_laws.specs.Laws.{Admitted, KeepsCounts, GivesAtOnce, IsGive}
@@ -85,7 +85,7 @@ answered_first : (xs : List (Option AttrObj)) (c : AttrObj) → answer_in (slice
 answered_first [] c e = absurd (not_none e)
 answered_first (a ∷ xs) c e = ap Some e
 
-known_long : (xs : List (Option AttrObj)) (ds : List Datum) → Known xs ds → length xs ≡ length ds
+known_long : (xs : List (Option AttrObj)) (ds : List Datum) → AgreeWithKnown xs ds → length xs ≡ length ds
 known_long [] [] k = refl
 known_long [] (d ∷ ds) k = absurd k
 known_long (a ∷ xs) [] k = absurd k
@@ -93,7 +93,7 @@ known_long (None ∷ xs) (d ∷ ds) k = ap (λ n. suc n) (known_long xs ds k)
 known_long (Some a ∷ xs) (d ∷ ds) k = ap (λ n. suc n) (known_long xs ds k.1)
 
 -- what is known of the only datum
-known_one : (xs : List (Option AttrObj)) (ds : List Datum) (c : AttrObj) → Known xs ds → length ds ≡ 1 → slice_get xs 0 ≡ Some (Some c) → ds ≡ datum_of c ∷ []
+known_one : (xs : List (Option AttrObj)) (ds : List Datum) (c : AttrObj) → AgreeWithKnown xs ds → length ds ≡ 1 → slice_get xs 0 ≡ Some (Some c) → ds ≡ datum_of c ∷ []
 known_one xs [] c k e at = grind arith
 known_one xs (d ∷ f ∷ ds) c k e at = grind arith
 known_one xs (d ∷ []) c k e at = ap (λ z. z ∷ []) (sym (known_data_at xs (d ∷ []) k 0 c d at refl))
@@ -102,19 +102,19 @@ suc_length : {A B : Type 0} (a : A) (b : B) (xs : List A) (ys : List B) → leng
 suc_length a b xs ys e = grind (arith, e)
 
 -- constants that the environment has are known of what is read
-known_when : (env : Environment) (known : List (Option AttrObj)) (vs : List ℕ) (ds : List Datum) → length known ≡ length vs → data_of env vs ≡ Some ds → ((p v : ℕ) (c : AttrObj) (d : Datum) → slice_get vs p ≡ Some v → slice_get known p ≡ Some (Some c) → env v ≡ Some d → datum_of c ≡ d) → Known known ds
+known_when : (env : Environment) (known : List (Option AttrObj)) (vs : List ℕ) (ds : List Datum) → length known ≡ length vs → data_of env vs ≡ Some ds → ((p v : ℕ) (c : AttrObj) (d : Datum) → slice_get vs p ≡ Some v → slice_get known p ≡ Some (Some c) → env v ≡ Some d → datum_of c ≡ d) → AgreeWithKnown known ds
 known_when env [] [] [] long e h = tt
 known_when env [] [] (d ∷ ds) long e h = grind arith
 known_when env [] (v ∷ vs) ds long e h = grind arith
 known_when env (a ∷ known) [] ds long e h = grind arith
 known_when env (a ∷ known) (v ∷ vs) ds long e h = go (env v) refl (data_of env vs) e (λ others f. known_when env known vs others (suc_length a v known vs long) f (λ p x c y i j k. h (suc p) x c y i j k))
   where
-    go : (o : Option Datum) → env v ≡ o → (q : Option (List Datum)) → prepend_optional o q ≡ Some ds → ((others : List Datum) → q ≡ Some others → Known known others) → Known (a ∷ known) ds
+    go : (o : Option Datum) → env v ≡ o → (q : Option (List Datum)) → prepend_optional o q ≡ Some ds → ((others : List Datum) → q ≡ Some others → AgreeWithKnown known others) → AgreeWithKnown (a ∷ known) ds
     go None oe q g rest = grind arith
     go (Some d) oe None g rest = grind arith
-    go (Some d) oe (Some others) g rest = subst (Known (a ∷ known)) (some_is g) (first a refl)
+    go (Some d) oe (Some others) g rest = subst (AgreeWithKnown (a ∷ known)) (some_is g) (first a refl)
       where
-        first : (b : Option AttrObj) → a ≡ b → Known (b ∷ known) (d ∷ others)
+        first : (b : Option AttrObj) → a ≡ b → AgreeWithKnown (b ∷ known) (d ∷ others)
         first None ae = rest others refl
         first (Some c) ae = (h zero v c d refl (ap Some ae) oe, rest others refl)
 
@@ -135,7 +135,7 @@ chosen_list : {A : Type 0} (b : Bool) (xs : List A) (i : ℕ) (a : A) → slice_
 chosen_list true xs i a e = (refl, e)
 chosen_list false xs i a e = absurd (not_none e)
 
-datum_at : (xs : List (Option AttrObj)) (ds : List Datum) (i : ℕ) (c : AttrObj) → Known xs ds → slice_get xs i ≡ Some (Some c) → slice_get ds i ≡ Some (datum_of c)
+datum_at : (xs : List (Option AttrObj)) (ds : List Datum) (i : ℕ) (c : AttrObj) → AgreeWithKnown xs ds → slice_get xs i ≡ Some (Some c) → slice_get ds i ≡ Some (datum_of c)
 datum_at [] ds i c k e = absurd (not_none e)
 datum_at (a ∷ xs) [] i c k e = absurd k
 datum_at (None ∷ xs) (d ∷ ds) zero c k e = absurd (not_none (some_is e))
@@ -173,7 +173,7 @@ module _ (x : Folding) (laws : AreLawful x) (t : Tree) (w : IsTree t) (k i old :
   same_operands = (op_shows t k operation liveness).operands
 
   -- what the operation gives
-  gives : Admitted m (shape_of m t operation) → (first : List Datum) → length first ≡ length operation.operands → Known known first → AreSameData operation.operands first → (later : Bool) (memo : Datum) (input ds : List Datum) → Comes m.act (shape_of m t operation) first later memo input → m.act (shape_of m t operation) memo input ≡ Give ds → slice_get ds i ≡ datum_by answer first
+  gives : Admitted m (shape_of m t operation) → (first : List Datum) → length first ≡ length operation.operands → AgreeWithKnown known first → AreSameData operation.operands first → (later : Bool) (memo : Datum) (input ds : List Datum) → Comes m.act (shape_of m t operation) first later memo input → m.act (shape_of m t operation) memo input ≡ Give ds → slice_get ds i ≡ datum_by answer first
   gives admitted first long knows same later memo input ds comes acts = ⊎_elim by_operands by_constants answered
     where
       parts : ((shape_of m t operation).head ≡ operation.head) × ((shape_of m t operation).operands ≡ length operation.operands) × ((shape_of m t operation).results ≡ length operation.results)
@@ -271,7 +271,7 @@ module _ (x : Folding) (laws : AreLawful x) (t : Tree) (w : IsTree t) (k i old :
                 given : (ds : List Datum) × (m.act (shape_of m t o) Empty [] ≡ Give ds)
                 given = given_is (m.act (shape_of m t o) Empty []) (laws.at_once (shape_of m t o) admitted (ap x.side_effects parts.0 ∙ harmless_is (x.side_effects o.head) fourth.1) [] none)
 
-                told_true : Known (x.constants (shape_of m t o) []) given.0
+                told_true : AgreeWithKnown (x.constants (shape_of m t o) []) given.0
                 told_true = laws.truly.gives (shape_of m t o) admitted (subst (λ z. IsTrue (x.can_fold z)) (sym parts.0) fourth.0) [] [] none tt false Empty [] given.0 Begins given.1
 
                 gives_one : (o' : Operation) → op_at t n ≡ Some o' → m.act (shape_of m t o') Empty [] ≡ Give (datum_of c ∷ [])
@@ -297,7 +297,7 @@ module _ (x : Folding) (laws : AreLawful x) (t : Tree) (w : IsTree t) (k i old :
         let one : g.operation ≡ operation = some_is (sym g.liveness ∙ liveness) in
         let has : data_of s.environment (operands_of t k) ≡ Some g.first = ap (data_of s.environment) o.operands ∙ g.has in
         let has_own : data_of s.environment operation.operands ≡ Some g.first = ap (data_of s.environment) (sym same_operands) ∙ has in
-        let knows : Known known g.first = known_when s.environment known operation.operands g.first (length_map _ operation.operands) has_own (λ p v c d a b h.
+        let knows : AgreeWithKnown known g.first = known_when s.environment known operation.operands g.first (length_map _ operation.operands) has_own (λ p v c d a b h.
         let used : In v (operands_of t k) = subst (In v) (sym same_operands) (in_slice operation.operands p v a) in
         let n = known_gives v c (w.joined.operands k v used) (f.defined.own_values k v inner used) (known_at (λ y. known_by x t (definition_of t y)) operation.operands p v c a b) in
         sym (constant_datum m t w root n.0 v (datum_of c) n.1 (λ same. nothing_inside t root k w (ap (regions_of t) same ∙ n.1.regions) inner) s r d h)) in

@@ -3,7 +3,7 @@ use Rattle.std.proofs.Common.{◌≡◌, ◌⊎◌, ◌&&◌, ◌<◌, ℕ, Bool
 use Rattle.pliron_core.specs.declared.attrs.AttrObj.{AttrObj}
 use Rattle.pliron_core.specs.Tree.{Tree}
 use Rattle.pliron_core.proofs.HoldingLemmas.{some_is, not_none}
-use Rattle.pliron_laws.specs.Acting.{Begins, Known}
+use Rattle.pliron_laws.specs.Acting.{Begins, AgreeWithKnown}
 use Rattle.pliron_laws.specs.Datum.{Datum, Empty, datum_of, Head, Shape, Give, Meaning}
 use Rattle.pliron_laws.specs.Folding.{AnswersTrue, MakesConstants}
 use Rattle.pliron_laws.specs.Laws.{Admitted, KeepsCounts, GivesAtOnce}
@@ -84,7 +84,7 @@ one_datum None ds e = absurd (not_none e)
 one_datum (Some d) ds e = (d, refl, sym (some_is e))
 
 -- the first answer of a fold is the datum, where it answers
-known_first : (answers : List (Option AttrObj)) (c : AttrObj) (d : Datum) → answer_in (slice_get answers 0) ≡ Some c → Known answers (d ∷ []) → d ≡ datum_of c
+known_first : (answers : List (Option AttrObj)) (c : AttrObj) (d : Datum) → answer_in (slice_get answers 0) ≡ Some c → AgreeWithKnown answers (d ∷ []) → d ≡ datum_of c
 known_first [] c d e is = absurd (not_none e)
 known_first (None ∷ answers) c d e is = absurd (not_none e)
 known_first (Some a ∷ answers) c d e is = sym is.0 ∙ ap datum_of (some_is e)
@@ -142,6 +142,6 @@ module _ (x : RuleTables) (laws : IsLawful x) (t : Tree) (env : Environment) (k 
             let s : Shape = pure_shape o.head (length o.operands) in
             let ad : Admitted x.meaning s = subst (Admitted x.meaning) (single_shape t) (admitted_shape x.meaning t k o p.liveness a) in
             let bare : 0 ≡ length o.operands = sym (ap length none) in
-            let told : Known (x.constants s []) c.given = laws.truly.gives s ad both.1 [] [] bare tt false Empty [] c.given Begins (ap (x.meaning.act s Empty) (sym empty) ∙ gives) in
+            let told : AgreeWithKnown (x.constants s []) c.given = laws.truly.gives s ad both.1 [] [] bare tt false Empty [] c.given Begins (ap (x.meaning.act s Empty) (sym empty) ∙ gives) in
             let first : answer_in (slice_get (x.constants s []) 0) ≡ Some attr = ap (λ z. answer_in (slice_get (x.constants z []) 0)) (sym (single_shape u)) ∙ f in
-            result.1 ∙ ap Some (known_first (x.constants s []) attr result.0 first (subst (Known (x.constants s [])) result.2 told))
+            result.1 ∙ ap Some (known_first (x.constants s []) attr result.0 first (subst (AgreeWithKnown (x.constants s [])) result.2 told))

@@ -16,7 +16,7 @@ use pliron_opt_combine::combine;
 use pliron_opt_cse::cse;
 use pliron_opt_dce::dce;
 use pliron_opt_sccp::sccp;
-use pliron_pass_pipeline::{MAX_REWRITES, PassName};
+use pliron_pass_pipeline::{PassName, max_rewrites};
 use pliron_rewrite_rules::Rules;
 use pliron_show::{ShownNotation, read_shown};
 use pliron_show_places::TextParts;
@@ -69,7 +69,8 @@ fn make_rewrite<D: Dialect, L: Rules<D>>(
         Rewrite::Subexpressions => cse::<D>(alloc, op, ctx),
         Rewrite::Canonicalization => canonicalize::<D>(alloc, op, ctx),
         Rewrite::Combination => {
-            let combined = combine::<D, L>(alloc, op, MAX_REWRITES, ctx)?;
+            let limit = max_rewrites(op, ctx);
+            let combined = combine::<D, L>(alloc, op, limit, ctx)?;
             Ok(if combined.count == 0 {
                 IRStatus::Unchanged
             } else {

@@ -5,13 +5,13 @@ use Rattle.std.proofs.lemmas.List.{reverse-append, drop_all}
 use Rattle.std.specs.Prelude.{Some}
 use Rattle.pliron_text_llvm_syntax.specs.declared.forms.Hole.{Hole}
 use Rattle.pliron_text_llvm_syntax.specs.declared.tokens.LlvmToken.{LlvmToken}
-use Rattle.pliron_text_llvm_reader.specs.declared.rules.Taking.{Taking}
+use Rattle.pliron_text_llvm_reader.specs.declared.rules.TakenStep.{TakenStep}
 use Rattle.pliron_text_llvm_reader.specs.declared.table.Reads.{Reads}
 use Rattle.pliron_text_llvm_reader.specs.declared.table.GrammarStep.{GrammarStep}
 use Rattle.pliron_text_llvm_reader.specs.Cursors.{first_start}
 use Rattle.pliron_text_llvm_reader.specs.Grammar.{move_of_step, with_last}
 use Rattle.pliron_text_llvm_reader.specs.Grammar.GrammarMove.{Skipped, Taken}
-use Rattle.pliron_text_llvm_reader.specs.Readings.{behind_taken, end_of_taken, holes_with, LeadsBySteps, Skips, IsNextTaking}
+use Rattle.pliron_text_llvm_reader.specs.Readings.{behind_taken, end_of_taken, holes_with, LeadsBySteps, Skips, IsNextTaken}
 use Rattle.pliron_text_llvm_reader.specs.Readings.LeadsBySteps.{Nowhere, Past, Onward}
 
 -- no step was pushed yet
@@ -55,8 +55,8 @@ emptied [] none = refl
 emptied (step ∷ steps) none = absurd (omega (arith, none))
 
 -- up to a step for which something is taken
-pub skips_to : (text : List ℕ) (reads : Reads) (steps : List GrammarStep) (tokens : List LlvmToken) (step : GrammarStep) (more left : List GrammarStep) (taking : Taking) → Skips text reads steps tokens left → left ≡ step ∷ more
-    → move_of_step text reads step tokens ≡ Some (Taken taking.amount taking.role (with_last taking.behind.now taking.last)) → IsNextTaking text reads steps tokens taking more
+pub skips_to : (text : List ℕ) (reads : Reads) (steps : List GrammarStep) (tokens : List LlvmToken) (step : GrammarStep) (more left : List GrammarStep) (taking : TakenStep) → Skips text reads steps tokens left → left ≡ step ∷ more
+    → move_of_step text reads step tokens ≡ Some (Taken taking.amount taking.role (with_last taking.behind.now taking.last)) → IsNextTaken text reads steps tokens taking more
 skips_to text reads steps tokens step more left taking skips e move = record {
   step = step;
   skips = subst (λ xs. Skips text reads steps tokens xs) e skips;
@@ -73,8 +73,8 @@ pub leads_end : (text : List ℕ) (reads : Reads) (steps : List GrammarStep) (to
 leads_end text reads steps tokens next left found before skips = leads_on before (skips found)
 
 -- what is taken for the next step
-pub leads_taken : (text : List ℕ) (reads : Reads) (steps : List GrammarStep) (tokens : List LlvmToken) (next : List GrammarStep) (left : List LlvmToken) (found : List Hole) (taking : Taking) (more after : List GrammarStep) (rest : List LlvmToken) (all : List Hole) (place end : ℕ)
-    → LeadsBySteps text reads steps tokens [] next left found → IsNextTaking text reads next left taking more → after ≡ with_last taking.behind.now taking.last ++ more → rest ≡ behind_taken taking.amount left
+pub leads_taken : (text : List ℕ) (reads : Reads) (steps : List GrammarStep) (tokens : List LlvmToken) (next : List GrammarStep) (left : List LlvmToken) (found : List Hole) (taking : TakenStep) (more after : List GrammarStep) (rest : List LlvmToken) (all : List Hole) (place end : ℕ)
+    → LeadsBySteps text reads steps tokens [] next left found → IsNextTaken text reads next left taking more → after ≡ with_last taking.behind.now taking.last ++ more → rest ≡ behind_taken taking.amount left
     → all ≡ holes_with taking.role place end found → place ≡ first_start left (length text) → end ≡ end_of_taken taking.amount left → LeadsBySteps text reads steps tokens [] after rest all
 leads_taken text reads steps tokens next left found taking more after rest all place end before found_next steps_are rest_is all_are place_is end_is =
     let whole : LeadsBySteps text reads steps tokens [] (with_last taking.behind.now taking.last ++ more) (behind_taken taking.amount left) (holes_with taking.role (first_start left (length text)) (end_of_taken taking.amount left) found) =

@@ -9,7 +9,7 @@ use Rattle.pliron_text_llvm_reader.specs.declared.rules.Amount.{Amount}
 use Rattle.pliron_text_llvm_reader.specs.declared.rules.Amount.TheVariants.{OneToken, OneTree}
 use Rattle.pliron_text_llvm_reader.specs.declared.rules.Rule.{Rule}
 use Rattle.pliron_text_llvm_reader.specs.declared.rules.Rule.TheVariants.{Skip, Take}
-use Rattle.pliron_text_llvm_reader.specs.declared.rules.Taking.{Taking}
+use Rattle.pliron_text_llvm_reader.specs.declared.rules.TakenStep.{TakenStep}
 use Rattle.pliron_text_llvm_reader.specs.declared.table.Reads.{Reads}
 use Rattle.pliron_text_llvm_reader.specs.declared.table.Reads.TheVariants.{Constants, Locals}
 use Rattle.pliron_text_llvm_reader.specs.declared.table.GrammarStep.{GrammarStep}
@@ -224,9 +224,9 @@ FitsRole cursor Successor = IsLocalAt (text_of cursor) (place_of cursor)
 FitsRole cursor _ = ⊤
 
 -- what is taken is there
-abbrev pub FitsTaking : StatementCursor → Taking → Type 0
-FitsTaking cursor taking = HasNext cursor × FitsRole cursor taking.role
+abbrev pub FitsTaken : StatementCursor → TakenStep → Type 0
+FitsTaken cursor taking = HasNext cursor × FitsRole cursor taking.role
 
 abbrev pub FitsRule : StatementCursor → Rule → Type 0
 FitsRule cursor Skip = ⊤
-FitsRule cursor (Take taking) = FitsTaking cursor taking
+FitsRule cursor (Take taking) = FitsTaken cursor taking

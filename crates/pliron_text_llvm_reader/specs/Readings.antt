@@ -10,7 +10,7 @@ use Rattle.pliron_text_llvm_reader.specs.declared.rules.Amount.TheVariants.{OneT
 use Rattle.pliron_text_llvm_reader.specs.declared.table.Reads.{Reads}
 use Rattle.pliron_text_llvm_reader.specs.declared.table.GrammarStep.{GrammarStep}
 use Rattle.pliron_text_llvm_reader.specs.Cursors.{first_start, first_end, behind_tree, end_of_tree}
-use Rattle.pliron_text_llvm_reader.specs.declared.rules.Taking.{Taking}
+use Rattle.pliron_text_llvm_reader.specs.declared.rules.TakenStep.{TakenStep}
 use Rattle.pliron_text_llvm_reader.specs.Grammar.{move_of_step, with_last}
 use Rattle.pliron_text_llvm_reader.specs.Grammar.GrammarMove.{Skipped, Taken}
 use Rattle.pliron_text_llvm_reader.specs.Holes.{hole_between}
@@ -55,7 +55,7 @@ abbrev pub Skips : List ℕ → Reads → List GrammarStep → List LlvmToken �
 Skips text reads steps tokens left = (holes : List Hole) → LeadsBySteps text reads steps tokens holes left tokens holes
 
 -- nothing of the first of these steps is there, up to one for which this is taken
-pub record IsNextTaking (text : List ℕ) (reads : Reads) (steps : List GrammarStep) (tokens : List LlvmToken) (taking : Taking) (left : List GrammarStep) : Type 0 where
+pub record IsNextTaken (text : List ℕ) (reads : Reads) (steps : List GrammarStep) (tokens : List LlvmToken) (taking : TakenStep) (left : List GrammarStep) : Type 0 where
   pub step : GrammarStep
   pub skips : Skips text reads steps tokens (step ∷ left)
   pub move : move_of_step text reads step tokens ≡ Some (Taken taking.amount taking.role (with_last taking.behind.now taking.last))

@@ -40,7 +40,7 @@ pub enum Role {
 /// What is taken for a step, and the steps that come in its place.
 #[doc(hidden)]
 #[derive(Clone, Copy)]
-pub struct Taking {
+pub struct TakenStep {
     pub amount: Amount,
     pub role: Role,
     pub behind: &'static [GrammarStep],
@@ -53,7 +53,7 @@ pub struct Taking {
 pub enum Rule {
     /// Nothing of it is there.
     Skip,
-    Take(Taking),
+    Take(TakenStep),
 }
 
 static FLAG: [GrammarStep; 3] = [
@@ -100,7 +100,7 @@ impl StatementCursor<'_> {
         ensures fits { IfSome result (λ rule. FitsRule self.now rule) }
     {
         if is_next {
-            Some(Rule::Take(Taking {
+            Some(Rule::Take(TakenStep {
                 amount: Amount::OneToken,
                 role: Role::Plain,
                 behind,
@@ -123,7 +123,7 @@ impl StatementCursor<'_> {
         ensures fits { IfSome result (λ rule. FitsRule self.now rule) }
     {
         if is_next {
-            Some(Rule::Take(Taking {
+            Some(Rule::Take(TakenStep {
                 amount: Amount::OneTree,
                 role: Role::Plain,
                 behind,
@@ -182,7 +182,7 @@ impl StatementCursor<'_> {
         ensures fits { IfSome result (λ rule. FitsRule self.now rule) }
     {
         if is_next {
-            Some(Rule::Take(Taking {
+            Some(Rule::Take(TakenStep {
                 amount,
                 role,
                 behind,

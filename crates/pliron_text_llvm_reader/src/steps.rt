@@ -3,13 +3,13 @@
 
 ghost use Rattle.std.specs.Prelude.{◌≡◌, ◌∷◌, ◌++◌, [], reverse, OnOk, IfOk, IfErr, IfSome, IfNone};
 ghost use Rattle.pliron_text_llvm_reader.specs.Cursors.{text_of, tokens_of, place_of, HasNext, MovesForward, HasTaken};
-ghost use Rattle.pliron_text_llvm_reader.specs.Grammar.{with_last, FitsTaking};
+ghost use Rattle.pliron_text_llvm_reader.specs.Grammar.{with_last, FitsTaken};
 ghost use Rattle.pliron_text_llvm_reader.specs.Holes.{AreHolesBetween, hole_between};
-ghost use Rattle.pliron_text_llvm_reader.specs.Readings.{behind_taken, end_of_taken, holes_with, with_end, Skips, IsNextTaking, LeadsBySteps};
+ghost use Rattle.pliron_text_llvm_reader.specs.Readings.{behind_taken, end_of_taken, holes_with, with_end, Skips, IsNextTaken, LeadsBySteps};
 ghost use Rattle.pliron_text_llvm_reader.specs.Stops.{IsUnread};
 
 use crate::cursor::StatementCursor;
-use crate::rules::{Amount, Role, Rule, Taking};
+use crate::rules::{Amount, Role, Rule, TakenStep};
 use crate::stop::{KeptReason, StatementStop};
 use crate::table::{GrammarStep, ListStep, Piece, Reads};
 use pliron_text_llvm_syntax::{Hole, HoleKind};
@@ -89,7 +89,7 @@ pub fn push_steps(before: &[GrammarStep], steps: &mut Vec<GrammarStep>) -> Resul
     Ok(())
 }
 
-impl Taking {
+impl TakenStep {
     // What comes in place of its step comes next.
     #[tactic(auto, using(crate::proofs::ReadingLemmas::with_last_append, crate::proofs::ReadingLemmas::pushed_last, crate::proofs::StopLemmas::unread_memory))]
     fn push_behind(&self, steps: &mut Vec<GrammarStep>) -> Result<(), StatementStop>
@@ -149,8 +149,8 @@ impl StatementCursor<'_> {
     }
 
     // Takes what the rule says, and adds it as what it is for the statement.
-    fn apply(&mut self, taking: &Taking, holes: &mut Vec<Hole>) -> Result<(), StatementStop>
-        requires { FitsTaking self.old taking.now }
+    fn apply(&mut self, taking: &TakenStep, holes: &mut Vec<Hole>) -> Result<(), StatementStop>
+        requires { FitsTaken self.old taking.now }
         ensures forward { MovesForward self.old self.new }
         ensures taken { HasTaken self.old self.new }
         ensures tokens { tokens_of self.new ≡ behind_taken taking.now.amount (tokens_of self.old) }
@@ -170,10 +170,10 @@ impl StatementCursor<'_> {
         &self,
         reads: Reads,
         steps: &mut Vec<GrammarStep>,
-    ) -> Result<Option<Taking>, StatementStop>
-        ensures next { IfOk result (λ found. IfSome found (λ taking. IsNextTaking (text_of self.now) reads
+    ) -> Result<Option<TakenStep>, StatementStop>
+        ensures next { IfOk result (λ found. IfSome found (λ taking. IsNextTaken (text_of self.now) reads
             (reverse steps.old.items) (tokens_of self.now) taking (reverse steps.new.items))) }
-        ensures fits { IfOk result (λ found. IfSome found (λ taking. FitsTaking self.now taking)) }
+        ensures fits { IfOk result (λ found. IfSome found (λ taking. FitsTaken self.now taking)) }
         ensures skips { IfOk result (λ found. IfNone found
             (Skips (text_of self.now) reads (reverse steps.old.items) (tokens_of self.now) [])) }
         ensures stop { IfErr result (λ stop. IsUnread stop) }

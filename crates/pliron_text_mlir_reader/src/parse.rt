@@ -22,14 +22,14 @@ pub struct ParsedModule {
 /// text, but for uses in regions inside the one that defines their value, which cost a step for each region between.
 #[doc(hidden)]
 pub fn parse_text(alloc: Global, text: &[u8]) -> Result<ParsedModule, Fault> {
-    match parse_so(alloc, text, false) {
-        Err(Fault::KeptAsText) => parse_so(alloc, text, true),
+    match parse_keeping(alloc, text, false) {
+        Err(Fault::KeptAsText) => parse_keeping(alloc, text, true),
         parsed => parsed,
     }
 }
 
 // What the text says; a function that would be refused is kept as it is written, if `keeps` says so.
-fn parse_so(alloc: Global, text: &[u8], keeps: bool) -> Result<ParsedModule, Fault> {
+fn parse_keeping(alloc: Global, text: &[u8], keeps: bool) -> Result<ParsedModule, Fault> {
     let mut reader = Reader::new(alloc, text, keeps);
     let read = reader.read();
     let Reader {

@@ -10,7 +10,7 @@ use Rattle.pliron_laws.specs.Datum.{Datum, Empty, datum_of, Head, Meaning, Move,
 use Rattle.pliron_laws.specs.Tree.{Operation, Block, op_at, block_at, entry_block, shape_of}
 use Rattle.pliron_laws.specs.States.{Environment, Waiting, State, Next, Continues, Over, bind, data_of, input_of}
 use Rattle.pliron_laws.specs.Machine.{leave, after_giving, begin, enter, entry_in, go_to, emit, perform, move, turn, step_at, step, start}
-use Rattle.pliron_laws.specs.Acting.{Comes, Begins, Answered, AnsweredByWorld, Known}
+use Rattle.pliron_laws.specs.Acting.{Comes, Begins, Answered, AnsweredByWorld, AgreeWithKnown}
 use Rattle.pliron_laws.specs.Folding.{Constants, AnswersTrue}
 use Rattle.pliron_theory.specs.Keeps.{IsFit}
 use Rattle.pliron_theory.specs.Renaming.{RunReaches, IsReadAs}
@@ -43,7 +43,7 @@ module _ (m : Meaning) (can_fold : Head → Bool) (constants : Constants) (answe
     record Minds (memo : Datum) (input : List Datum) : Type 0 where
       pub first : List Datum
       pub counted : length first ≡ length o.operands
-      pub knows : Known known first
+      pub knows : AgreeWithKnown known first
       pub later : Bool
       pub comes : Comes m.act (shape_of m t o) first later memo input
 

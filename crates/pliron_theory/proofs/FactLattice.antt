@@ -5,7 +5,7 @@ use Rattle.pliron_core.specs.declared.attrs.AttrObj.{AttrObj}
 use Rattle.pliron_core.proofs.HoldingLemmas.{some_is, not_none}
 use Rattle.pliron_laws.specs.Datum.{Datum, datum_of}
 use Rattle.pliron_laws.specs.States.{Environment, environment_with, bind, data_of}
-use Rattle.pliron_laws.specs.Acting.{Known, pick}
+use Rattle.pliron_laws.specs.Acting.{AgreeWithKnown, pick}
 use Rattle.pliron_theory.proofs.KnownData.{put_both}
 use Rattle.pliron_theory.specs.LatticeValues.{LatticeValue, Undetermined, Constant, NotAConstant, AtMost, IsBelowNamed, lattice_constant, value_of_answer}
 
@@ -32,7 +32,7 @@ fits_lower f g d (inr (inl n)) x = subst (λ z. Fits z d) (sym n) tt
 fits_lower f g d (inr (inr s)) x = subst (λ z. Fits z d) (sym s) x
 
 -- what is known of a value that has this datum
-pub known_fits : (f g : LatticeValue) (d : Datum) (a : Option AttrObj) → AtMost f g → Fits g d → lattice_constant f ≡ a → (ks : List (Option AttrObj)) (ds : List Datum) → Known ks ds → Known (a ∷ ks) (d ∷ ds)
+pub known_fits : (f g : LatticeValue) (d : Datum) (a : Option AttrObj) → AtMost f g → Fits g d → lattice_constant f ≡ a → (ks : List (Option AttrObj)) (ds : List Datum) → AgreeWithKnown ks ds → AgreeWithKnown (a ∷ ks) (d ∷ ds)
 known_fits f g d None m x e ks ds k = k
 known_fits Undetermined g d (Some c) m x e ks ds k = absurd (not_none e)
 known_fits (Constant a) g d (Some c) m x e ks ds k = (subst (λ z. datum_of z ≡ d) (some_is e) (fits_lower (Constant a) g d m x), k)
@@ -74,11 +74,11 @@ module _ (read : ℕ → LatticeValue) where
       let q = put_both (env v) (data_of env vs) ds e in
       read_fits env so vs q.1 q.3 p w d a (ap (λ z. slice_get z (suc p)) q.4 ∙ b)
 
-  pub read_known : (lattice_value : ℕ → LatticeValue) → ((v : ℕ) → AtMost (lattice_value v) (read v)) → (env : Environment) → Agrees env → (vs : List ℕ) (ds : List Datum) → data_of env vs ≡ Some ds → Known (map (λ v. lattice_constant (lattice_value v)) vs) ds
-  read_known lattice_value finer env so [] ds e = let f : [] ≡ ds = some_is e in subst (Known []) f tt
+  pub read_known : (lattice_value : ℕ → LatticeValue) → ((v : ℕ) → AtMost (lattice_value v) (read v)) → (env : Environment) → Agrees env → (vs : List ℕ) (ds : List Datum) → data_of env vs ≡ Some ds → AgreeWithKnown (map (λ v. lattice_constant (lattice_value v)) vs) ds
+  read_known lattice_value finer env so [] ds e = let f : [] ≡ ds = some_is e in subst (AgreeWithKnown []) f tt
   read_known lattice_value finer env so (v ∷ vs) ds e =
       let q = put_both (env v) (data_of env vs) ds e in
-      subst (Known (lattice_constant (lattice_value v) ∷ map (λ v. lattice_constant (lattice_value v)) vs)) q.4 (known_fits (lattice_value v) (read v) q.0 (lattice_constant (lattice_value v)) (finer v) (so v q.0 q.2) refl (map (λ v. lattice_constant (lattice_value v)) vs) q.1 (read_known lattice_value finer env so vs q.1 q.3))
+      subst (AgreeWithKnown (lattice_constant (lattice_value v) ∷ map (λ v. lattice_constant (lattice_value v)) vs)) q.4 (known_fits (lattice_value v) (read v) q.0 (lattice_constant (lattice_value v)) (finer v) (so v q.0 q.2) refl (map (λ v. lattice_constant (lattice_value v)) vs) q.1 (read_known lattice_value finer env so vs q.1 q.3))
 
 -- what is no constant is below every operand
 pub unknown_below : (lattice_value seen : ℕ → LatticeValue) (operands : List ℕ) (a : Option ℕ) (v : ℕ) → lattice_value v ≡ NotAConstant → IsBelowNamed lattice_value seen operands a v

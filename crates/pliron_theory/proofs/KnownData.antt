@@ -5,10 +5,10 @@ use Rattle.pliron_core.specs.declared.attrs.AttrObj.{AttrObj}
 use Rattle.pliron_core.proofs.HoldingLemmas.{some_is, not_none}
 use Rattle.pliron_laws.specs.Datum.{Datum, datum_of}
 use Rattle.pliron_laws.specs.States.{Environment, environment_with, bind, prepend_optional}
-use Rattle.pliron_laws.specs.Acting.{Known, pick}
+use Rattle.pliron_laws.specs.Acting.{AgreeWithKnown, pick}
 
 -- a constant that is known is the datum at its place
-pub known_data_at : (known : List (Option AttrObj)) (ds : List Datum) → Known known ds → (i : ℕ) (c : AttrObj) (d : Datum) → slice_get known i ≡ Some (Some c) → slice_get ds i ≡ Some d → datum_of c ≡ d
+pub known_data_at : (known : List (Option AttrObj)) (ds : List Datum) → AgreeWithKnown known ds → (i : ℕ) (c : AttrObj) (d : Datum) → slice_get known i ≡ Some (Some c) → slice_get ds i ≡ Some d → datum_of c ≡ d
 known_data_at [] ds k i c d e f = grind arith
 known_data_at (a ∷ known) [] k i c d e f = absurd k
 known_data_at (None ∷ known) (x ∷ ds) k zero c d e f = grind arith

@@ -7,7 +7,7 @@ use Rattle.pliron_core.proofs.HoldingLemmas.{some_is, not_none, in_slice}
 use Rattle.pliron_laws.specs.Datum.{Datum, datum_of, Head, Shape, Meaning}
 use Rattle.pliron_laws.specs.Tree.{Operation, op_at, block_at, entry_block, count_arguments, shape_of, unless}
 use Rattle.pliron_laws.specs.States.{Environment, prepend_optional, data_of}
-use Rattle.pliron_laws.specs.Acting.{ActAlike, PassesSame, Known, pick}
+use Rattle.pliron_laws.specs.Acting.{ActAlike, PassesSame, AgreeWithKnown, pick}
 use Rattle.pliron_laws.specs.Answers.{HeadPasses}
 use Rattle.pliron_laws.specs.Linked.{IsAdmitted}
 use Rattle.pliron_theory.specs.Keeps.{IsFit}
@@ -43,16 +43,16 @@ data_picked env vs ds e (q ∷ places) (w ∷ ws) p =
     (x.0 ∷ y.0, ap₂ prepend_optional x.2 y.1, ap₂ (λ a b. a ∷ b) (sym x.1) y.2)
 
 -- what is known is what is read
-pub known_read : (env : Environment) (known : List (Option AttrObj)) (vs : List ℕ) (ds : List Datum) → length known ≡ length vs → data_of env vs ≡ Some ds → ((j v : ℕ) (c : AttrObj) → slice_get vs j ≡ Some v → slice_get known j ≡ Some (Some c) → env v ≡ Some (datum_of c)) → Known known ds
-known_read env [] [] ds l e so = let f : [] ≡ ds = some_is e in subst (Known []) f tt
+pub known_read : (env : Environment) (known : List (Option AttrObj)) (vs : List ℕ) (ds : List Datum) → length known ≡ length vs → data_of env vs ≡ Some ds → ((j v : ℕ) (c : AttrObj) → slice_get vs j ≡ Some v → slice_get known j ≡ Some (Some c) → env v ≡ Some (datum_of c)) → AgreeWithKnown known ds
+known_read env [] [] ds l e so = let f : [] ≡ ds = some_is e in subst (AgreeWithKnown []) f tt
 known_read env [] (v ∷ vs) ds l e so = grind arith
 known_read env (a ∷ known) [] ds l e so = grind arith
 known_read env (a ∷ known) (v ∷ vs) ds l e so =
     let x = put_both (env v) (data_of env vs) ds e in
     let rest = known_read env known vs x.1 (grind (arith, l)) x.3 (λ j w c at is. so (suc j) w c at is) in
-    subst (Known (a ∷ known)) x.4 (go a refl x.0 x.1 x.2 rest)
+    subst (AgreeWithKnown (a ∷ known)) x.4 (go a refl x.0 x.1 x.2 rest)
   where
-    go : (b : Option AttrObj) → a ≡ b → (d : Datum) (others : List Datum) → env v ≡ Some d → Known known others → Known (b ∷ known) (d ∷ others)
+    go : (b : Option AttrObj) → a ≡ b → (d : Datum) (others : List Datum) → env v ≡ Some d → AgreeWithKnown known others → AgreeWithKnown (b ∷ known) (d ∷ others)
     go None s d others e k = k
     go (Some c) s d others e k = (sym (some_is (sym e ∙ so zero v c refl (ap Some s))), k)
 
@@ -98,7 +98,7 @@ module _ (m : Meaning) (t t' : Tree) (a op new : ℕ) (front : List ℕ) (known 
       let picked : map Some o'.operands ≡ pick h.places o.operands = ap (map Some) (sym x.operands) ∙ h.operands ∙ ap (λ z. pick h.places z.operands) same in
       let y = data_picked st.environment o.operands first reads h.places o'.operands picked in
       let old = op_shows t op o e in
-      let knows : Known known first = known_read st.environment known o.operands first (long ∙ ap length old.operands) reads (λ j v c at' is. so root j v c f (ap (λ z. slice_get z j) old.operands ∙ at') is st op rest r at none (subst (In v) (sym old.operands) (in_slice o.operands j v at'))) in
+      let knows : AgreeWithKnown known first = known_read st.environment known o.operands first (long ∙ ap length old.operands) reads (λ j v c at' is. so root j v c f (ap (λ z. slice_get z j) old.operands ∙ at') is st op rest r at none (subst (In v) (sym old.operands) (in_slice o.operands j v at'))) in
       let alike = h.replaces.alike first y.0 (data_long st.environment o.operands first reads ∙ ap (λ z. length z.operands) (sym same) ∙ counted m t h.operation) knows y.2 in
       let targets : h.operation.successors ≡ successors_of t op = sym (op_shows t op h.operation h.liveness).successors in (
         y.0,

@@ -8,7 +8,7 @@ use Rattle.pliron_laws.specs.Datum.{Datum, Empty, datum_of, Head, Shape, Meaning
 use Rattle.pliron_laws.specs.Tree.{Operation, Block, op_at, block_at, shape_of}
 use Rattle.pliron_laws.specs.States.{Environment, State, bind}
 use Rattle.pliron_laws.specs.Machine.{start}
-use Rattle.pliron_laws.specs.Acting.{Comes, Begins, Answered, AnsweredByWorld, Known, pick}
+use Rattle.pliron_laws.specs.Acting.{Comes, Begins, Answered, AnsweredByWorld, AgreeWithKnown, pick}
 use Rattle.pliron_laws.specs.Laws.{Admitted}
 use Rattle.pliron_laws.specs.Folding.{Constants, Feasible, AnswersTrue, AnswersJumps}
 use Rattle.pliron_laws.specs.Entries.{NamesOperands, RootsNameNone, names_none, none_are_named}
@@ -86,7 +86,7 @@ module _ (says : Says) (answers : AnswersTrue says.meaning says.can_fold says.co
   pub record Minds (o : Operation) (memo : Datum) (input : List Datum) : Type 0 where
     pub first : List Datum
     pub counted : length first ≡ length o.operands
-    pub known : Known (operand_constants found o.operands) first
+    pub known : AgreeWithKnown (operand_constants found o.operands) first
     pub fits : FitEach read o.operands first
     pub later : Bool
     pub comes : Comes m.act (shape_of m t o) first later memo input

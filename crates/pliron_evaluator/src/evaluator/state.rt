@@ -19,7 +19,7 @@ use std::mem;
 
 /// An operation that waits for the end of an invocation, with those after it in its block.
 #[derive(Drop)]
-pub(super) struct Waiting {
+pub(super) struct WaitingOperation {
     pub(super) rest: VecDeque<Ptr<Operation>>,
     pub(super) memo: Datum,
 }
@@ -31,7 +31,7 @@ pub(super) struct State {
     pub(super) rest: VecDeque<Ptr<Operation>>,
     pub(super) memo: Datum,
     pub(super) answer: Option<Vec<Datum>>,
-    pub(super) waiting: VecDeque<Waiting>,
+    pub(super) waiting: VecDeque<WaitingOperation>,
     pub(super) world: VecDeque<Datum>,
     pub(super) effects: VecDeque<Datum>,
 }
@@ -176,7 +176,7 @@ fn visit(
         (record { rest = state.rest.items; memo = datum_of_value memo } ∷ map waiting_of state.waiting.items)) }
 {
     let rest = mem::replace(&mut state.rest, VecDeque::new(alloc));
-    put_first(&mut state.waiting, Waiting { rest, memo })?;
+    put_first(&mut state.waiting, WaitingOperation { rest, memo })?;
     enter(alloc, ctx, state, entry, values)
 }
 

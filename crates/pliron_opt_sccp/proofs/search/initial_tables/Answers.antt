@@ -18,6 +18,6 @@ pub returns-clause-ok : goal.returns-clause-ok
 returns-clause-ok c =
     let t = c.args.ctx.now.tree in
     let values = c.in_ok-values.values.keys in
-    if_ok_then c.over.result
+    if_ok_then c.with_room_for.result
     (λ s new. unsearched_when t c.args.root c.deref.result.now c.in_ok-numbered.numbered.keys (values_in_preorder t c.args.root) values s (c.deref.ensures.value ∙ c.in_ok-blocks.ensures.ok) c.in_ok-numbered.ensures.ok (same_values t c.well_formed-2.ensures.tree c.args.root) c.in_ok-values.ensures.ok new)
-    c.over.ensures.ok
+    c.with_room_for.ensures.ok

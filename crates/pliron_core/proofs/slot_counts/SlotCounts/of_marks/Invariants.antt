@@ -1,7 +1,7 @@
 use Rattle.std.proofs.Common.{◌<◌, ◌^◌, length}
 use Rattle.pliron_core.specs.Counts.{AreMarks}
 use Rattle.pliron_core.proofs.LevelLemmas.{IsBuilt}
-use Rattle.pliron_core.proofs.slot_counts.SlotCounts.over.Given as goal
+use Rattle.pliron_core.proofs.slot_counts.SlotCounts.of_marks.Given as goal
 
 abbrev pub invariant-loop-alloc : goal.invariant-loop-alloc
 invariant-loop-alloc l = record {

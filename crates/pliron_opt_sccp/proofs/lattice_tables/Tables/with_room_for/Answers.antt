@@ -6,7 +6,7 @@ use Rattle.pliron_opt_sccp.specs.declared.lattice_tables.LatticeCell.TheVariants
 use Rattle.pliron_opt_sccp.specs.LatticeCells.{AreOnce, is_marked_executable, is_waiting}
 use Rattle.pliron_opt_sccp.proofs.Worklists.{once_from}
 use Rattle.pliron_opt_sccp.proofs.Fresh.{numbered_at, fresh_at, fresh_read, fresh_fact, count_most, none_known}
-use Rattle.pliron_opt_sccp.proofs.lattice_tables.Tables.over.Goals as goal
+use Rattle.pliron_opt_sccp.proofs.lattice_tables.Tables.with_room_for.Goals as goal
 
 pub invariant_of-result : goal.invariant_of-result
 invariant_of-result c =

@@ -1,6 +1,6 @@
 use Rattle.std.proofs.Common.{length, ap, arith}
 use Rattle.pliron_core.proofs.LevelLemmas.{length-pairs, sum-marks, built-more}
-use Rattle.pliron_core.proofs.slot_counts.SlotCounts.over.Goals as goal
+use Rattle.pliron_core.proofs.slot_counts.SlotCounts.of_marks.Goals as goal
 
 pub sums_of-requires : goal.sums_of-requires
 sums_of-requires c = let i = c.loop-alloc.invariant in omega (arith, i.built.sums, sum-marks c.args.row i.marks, i.few)
