@@ -59,6 +59,7 @@ fn outcome_of(alloc: Global, words: &str, source: &Source) -> Result<Outcome, Al
             let options = ExplainOptions {
                 pipeline: word,
                 missed: command == "missed",
+                json: false,
             };
             explain::<MlirNotation>(alloc, source, &options)
         }

@@ -8,13 +8,13 @@ use std::process::Abort;
 /// Texts, and what is reported of each: the message, the place and what is written under it, and the note with its
 /// place.
 static UNFIT: &str = "\
-func { b0(): scope { c0(): v = const 5; ret v }; ret v } => an operand isn't visible at this operation|--> in.plir:1:50|^^^^^ operand 1, `v`, is defined inside another operation, and isn't visible here|note: `v` is defined here|--> in.plir:1:28
-func { b0(): x = add y y; y = const 4; ret x } => an operand isn't defined on each way to this operation|--> in.plir:1:14|^^^^^^^^^^^ operand 1, `y`, may not be defined yet when this runs|note: `y` is defined here|--> in.plir:1:27
-func { b0(c): cbr c b1() b2(); b1(): x = const 1; br b2(); b2(): print x; ret } => an operand isn't defined on each way to this operation|--> in.plir:1:66|^^^^^^^ operand 1, `x`, may not be defined yet when this runs|note: `x` is defined here|--> in.plir:1:38
-func { b0(x): br b1(); b1(y): ret } => an edge passes another number of values than its block takes|--> in.plir:1:15|^^^^^^^ edge 1 passes 0, and its block takes 1|note: this block takes 1|--> in.plir:1:24
-func { b0(c): cbr c b1(c, c) b2(); b1(y): ret; b2(): ret } => an edge passes another number of values than its block takes|--> in.plir:1:15|edge 1 passes 2, and its block takes 1|note: this block takes 1|--> in.plir:1:36
-mod { m(): func { b0(): ret }; func { b0(): x = add y y; y = const 4; ret x } } => an operand isn't defined on each way to this operation|--> in.plir:1:45
-mod { m(): mod { n(): func { b0(x): br b1(); b1(y): ret } } } => an edge passes another number of values than its block takes|--> in.plir:1:37";
+func { b0(): scope { c0(): v = const 5; ret v }; ret v } => an operand isn't visible at this operation|--> in.plir:1:54|^ operand 1, `v`, is defined inside another operation, and isn't visible here|note: `v` is defined here|--> in.plir:1:28
+func { b0(): x = add y y; y = const 4; ret x } => an operand isn't defined on each way to this operation|--> in.plir:1:22|^ operand 1, `y`, may not be defined yet when this runs|note: `y` is defined here|--> in.plir:1:27|--> in.plir:1:24|^ operand 2, `y`,
+func { b0(c): cbr c b1() b2(); b1(): x = const 1; br b2(); b2(): print x; ret } => an operand isn't defined on each way to this operation|--> in.plir:1:72|^ operand 1, `x`, may not be defined yet when this runs|note: `x` is defined here|--> in.plir:1:38
+func { b0(x): br b1(); b1(y): ret } => an edge passes another number of values than its block takes|--> in.plir:1:18|^^^^ edge 1 passes 0, and its block takes 1|note: this block takes 1|--> in.plir:1:24
+func { b0(c): cbr c b1(c, c) b2(); b1(y): ret; b2(): ret } => an edge passes another number of values than its block takes|--> in.plir:1:21|^^^^^^^^ edge 1 passes 2, and its block takes 1|note: this block takes 1|--> in.plir:1:36
+mod { m(): func { b0(): ret }; func { b0(): x = add y y; y = const 4; ret x } } => an operand isn't defined on each way to this operation|--> in.plir:1:53
+mod { m(): mod { n(): func { b0(x): br b1(); b1(y): ret } } } => an edge passes another number of values than its block takes|--> in.plir:1:40";
 
 // Each of the parts is in what is reported.
 fn expect_parts(rt: &impl Abort, text: &str, reported: &str, wanted: &str) {
@@ -48,8 +48,8 @@ static WARNED: &str = "\
 func { b0(): ret } =>
 mod { } =>
 mod { m(): func { b0(): ret }; mod { n(): func { b0(): ret } } } =>
-func { b0(): x = add y y; y = const 4; ret x } => warning: an operand isn't defined on each way to this operation|--> in.plir:1:14
-mod { m(): func { b0(): ret }; func { b0(): x = add y y; y = const 4; ret x } } => warning: an operand isn't defined on each way to this operation|--> in.plir:1:45";
+func { b0(): x = add y y; y = const 4; ret x } => warning: an operand isn't defined on each way to this operation|--> in.plir:1:22
+mod { m(): func { b0(): ret }; func { b0(): x = add y y; y = const 4; ret x } } => warning: an operand isn't defined on each way to this operation|--> in.plir:1:53";
 
 fn expect_warning(rt: &impl Abort, alloc: Global, text: &str, wanted: &str) {
     let source = Source {
@@ -163,6 +163,6 @@ fn verifying_reads_the_input(rt: HostRuntime) {
     let outcome = outcome.expect(&rt, "memory");
     let reported = outcome.report.as_str();
     let wanted =
-        "warning: already in the input: an operand isn't defined on each way to this operation\n --> in.plir:1:14\n";
+        "warning: already in the input: an operand isn't defined on each way to this operation\n --> in.plir:1:22\n";
     assert!(rt; reported.starts_with(wanted), "{reported}");
 }

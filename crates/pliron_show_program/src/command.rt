@@ -117,6 +117,12 @@ fn run<'a, P: Program>(alloc: Global) -> Result<Command<'a>, AllocError> {
             "trace",
             "Tell each move with what it takes, on standard error",
         ))?
+        .arg(flag(
+            alloc,
+            "json",
+            "Write an object of JSON on each line: effects, how it ends, and moves of --trace",
+        )
+        .conflicts_with("compare")?)?
         .arg(compare(alloc)?)?;
     with_common::<P>(run, alloc)
 }
@@ -233,6 +239,7 @@ fn with_reports<'a>(command: Command<'a>, alloc: Global) -> Result<Command<'a>, 
             "Run no pass where the text isn't fit to run, as `plir check` finds it; without it that is a warning",
         ))?
         .arg(flag(alloc, "stats", STATS))?
+        .arg(flag(alloc, "json", "Tell what --stats does as an object of JSON on each line"))?
         .arg(flag(
             alloc,
             "time",
@@ -286,9 +293,10 @@ static CHECK_STATUSES: &str =
 
 fn check<'a, P: Program>(alloc: Global) -> Result<Command<'a>, AllocError> {
     let check = Command::new(alloc, "check")
-        .about("Tells whether a text is fit to run, or one thing that is wrong")
+        .about("Tells whether a text is fit to run, or all that is wrong")
         .after_help(CHECK_STATUSES)
-        .arg(file(alloc))?;
+        .arg(file(alloc))?
+        .arg(flag(alloc, "json", "Tell it as an object of JSON on each line"))?;
     with_common::<P>(check, alloc)
 }
 
@@ -366,7 +374,8 @@ fn explain<'a, P: Program>(alloc: Global) -> Result<Command<'a>, AllocError> {
             alloc,
             "missed",
             "Tell also what the passes left as it is, and why",
-        ))?;
+        ))?
+        .arg(flag(alloc, "json", "Write an object of JSON on each line"))?;
     with_common::<P>(explain, alloc)
 }
 
