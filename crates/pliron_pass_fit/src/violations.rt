@@ -184,7 +184,7 @@ fn edge_violation<D: Dialect>(
 ) -> Result<Option<Violation>, OptError>
     requires live { IsLive ctx.now.tree op }
     requires inside { IsInside ctx.now.tree root op }
-    ensures wrong { IfOk result (λ r. IfSome r (λ found. IsViolation D.meaning ctx.now.tree root found)) }
+    ensures violation { IfOk result (λ r. IfSome r (λ found. IsViolation D.meaning ctx.now.tree root found)) }
     ensures memory { IsOkUnless result OptError.Memory }
 {
     if !D::is_branch(op, ctx) {
@@ -212,7 +212,7 @@ fn inside_violation<D: Dialect>(
     requires contents { contents.now.keys ≡ preorder ctx.now.tree root }
     requires live { IsLive ctx.now.tree op }
     requires inside { IsInside ctx.now.tree root op }
-    ensures wrong { IfOk result (λ r. IfSome r (λ found. IsViolation D.meaning ctx.now.tree root found)) }
+    ensures violation { IfOk result (λ r. IfSome r (λ found. IsViolation D.meaning ctx.now.tree root found)) }
     ensures memory { IsOkUnless result OptError.Memory }
 {
     match aspect {
@@ -236,7 +236,7 @@ fn aspect_violation<D: Dialect>(
     requires contents { contents.now.keys ≡ preorder ctx.now.tree root }
     requires live { IsLive ctx.now.tree op }
     requires within { IsWithin ctx.now.tree root op }
-    ensures wrong { IfOk result (λ r. IfSome r (λ found. IsViolation D.meaning ctx.now.tree root found)) }
+    ensures violation { IfOk result (λ r. IfSome r (λ found. IsViolation D.meaning ctx.now.tree root found)) }
     ensures memory { IsOkUnless result OptError.Memory }
 {
     ctx.well_formed();
@@ -303,14 +303,20 @@ fn plain_violations<D: Dialect>(
     Ok(found)
 }
 
+/// What is found wrong, and the dominator trees by which more is found.
+#[derive(Drop)]
+struct UseSearch {
+    trees: DominatorTrees,
+    found: Vec<Violation>,
+}
+
 // Adds each operand of the operation, which the way leads to, whose definition doesn't dominate the operation.
 fn add_undominated<D: Dialect>(
     root: Ptr<Operation>,
     op: Ptr<Operation>,
     contents: &IndexSet<Ptr<Operation>>,
     way: &IndexSet<Ptr<Operation>>,
-    trees: &mut DominatorTrees,
-    found: &mut Vec<Violation>,
+    search: &mut UseSearch,
     ctx: &Context,
 ) -> Result<(), OptError>
     requires live { IsLive ctx.now.tree op }
@@ -318,10 +324,10 @@ fn add_undominated<D: Dialect>(
     requires contents { contents.now.keys ≡ preorder ctx.now.tree root }
     requires edges { EdgesLast ctx.now.tree root }
     requires way { IsWay ctx.now.tree root op way.now.keys }
-    requires gives { GiveRegions ctx.now.tree (λ r. get is_one_key trees.old.of_regions r) }
-    requires found { AreViolations D.meaning ctx.now.tree root found.old.items }
-    ensures gives { OnOk result (GiveRegions ctx.now.tree (λ r. get is_one_key trees.new.of_regions r)) }
-    ensures found { OnOk result (AreViolations D.meaning ctx.now.tree root found.new.items) }
+    requires gives { GiveRegions ctx.now.tree (λ r. get is_one_key search.old.trees.of_regions r) }
+    requires found { AreViolations D.meaning ctx.now.tree root search.old.found.items }
+    ensures gives { OnOk result (GiveRegions ctx.now.tree (λ r. get is_one_key search.new.trees.of_regions r)) }
+    ensures found { OnOk result (AreViolations D.meaning ctx.now.tree root search.new.found.items) }
     ensures memory { IsOkUnless result OptError.Memory }
 {
     for i in 0..op.num_operand(ctx) {
@@ -329,44 +335,45 @@ fn add_undominated<D: Dialect>(
         if !is_defined_inside(root, contents, value, ctx) {
             continue;
         }
-        if !is_dominated(value, contents, way, trees, ctx)? {
-            found.push(Violation::NotDominated(op, i))?;
+        if !is_dominated(value, contents, way, &mut search.trees, ctx)? {
+            search.found.push(Violation::NotDominated(op, i))?;
         }
     }
     Ok(())
 }
 
-// Adds each operand of what is inside the root whose definition doesn't dominate its user.
-fn add_all_undominated<D: Dialect>(
+// The same with each operand of what is inside the root whose definition doesn't dominate its user.
+fn with_undominated<D: Dialect>(
     alloc: Global,
     root: Ptr<Operation>,
     inside: &[Ptr<Operation>],
     contents: &IndexSet<Ptr<Operation>>,
-    found: &mut Vec<Violation>,
+    found: Vec<Violation>,
     ctx: &Context,
-) -> Result<(), OptError>
+) -> Result<Vec<Violation>, OptError>
     requires live { IsLive ctx.now.tree root }
     requires inside { inside.now ≡ inner ctx.now.tree root }
     requires contents { contents.now.keys ≡ preorder ctx.now.tree root }
     requires edges { EdgesLast ctx.now.tree root }
-    requires found { AreViolations D.meaning ctx.now.tree root found.old.items }
-    ensures found { OnOk result (AreViolations D.meaning ctx.now.tree root found.new.items) }
+    requires found { AreViolations D.meaning ctx.now.tree root found.items }
+    ensures found { IfOk result (λ found. AreViolations D.meaning ctx.now.tree root found.items) }
     ensures memory { IsOkUnless result OptError.Memory }
 {
     ctx.well_formed();
     let mut way = way_from(alloc, root)?;
-    let mut trees = DominatorTrees {
+    let trees = DominatorTrees {
         alloc,
         of_regions: IndexMap::new(alloc),
     };
+    let mut search = UseSearch { trees, found };
     for op in inside {
         lead_to(&mut way, *op, ctx)?;
-        add_undominated::<D>(root, *op, contents, &way, &mut trees, found, ctx)?;
+        add_undominated::<D>(root, *op, contents, &way, &mut search, ctx)?;
     }
-    Ok(())
+    Ok(search.found)
 }
 
-// Each violation of the operation.
+// Each violation of the operation, but for uses outside it, and where an edge doesn't end its block for dominance.
 fn all_violations<D: Dialect>(
     alloc: Global,
     root: Ptr<Operation>,
@@ -378,12 +385,12 @@ fn all_violations<D: Dialect>(
 {
     ctx.well_formed();
     let contents = contents_of(alloc, root, ctx)?;
-    let mut found = plain_violations::<D>(alloc, root, &contents, ctx)?;
-    if edges_last(root, ctx) {
-        let inside = &contents.as_slice()[1..];
-        add_all_undominated::<D>(alloc, root, inside, &contents, &mut found, ctx)?;
+    let found = plain_violations::<D>(alloc, root, &contents, ctx)?;
+    if !edges_last(root, ctx) {
+        return Ok(found);
     }
-    Ok(found)
+    let inside = &contents.as_slice()[1..];
+    with_undominated::<D>(alloc, root, inside, &contents, found, ctx)
 }
 
 /// All that keeps the operation from being fit to run, with places; nothing exactly if it is fit. Of an operation of
@@ -398,8 +405,8 @@ pub fn find_violations<D: Dialect>(
     ctx: &Context,
 ) -> Result<Vec<Violation>, OptError>
     requires { IsLive ctx.now.tree root }
-    ensures none { IfOk result (λ found. (found.items ≡ []) ↔ IsFit D.meaning ctx.now.tree root) }
-    ensures some { IfOk result (λ found. AreViolations D.meaning ctx.now.tree root found.items) }
+    ensures fit { IfOk result (λ found. (found.items ≡ []) ↔ IsFit D.meaning ctx.now.tree root) }
+    ensures found { IfOk result (λ found. AreViolations D.meaning ctx.now.tree root found.items) }
     ensures memory { IsOkUnless result OptError.Memory }
 {
     let Some(first) = find_violation::<D>(alloc, root, ctx)? else {

@@ -15,5 +15,5 @@ loop-i-preserved-then-not-branch g c =
     let law = c.in_ok-is_dominated.ensures.dominated c.args.op (record { root = c.args.root; listed = c.requires.contents; edges = c.requires.edges; leads = c.requires.way; made = made }) in
     record {
       gives = c.in_ok-is_dominated.ensures.gives;
-      found = one_more g.D.HasMeaning.meaning c.args.ctx.now.tree c.args.root c.loop-i.found.items c.push.new.self.items _ c.in_ok-push.ensures.items c.loop-i.invariant.found (c.requires.inside, (v, c.get_operand-value.ensures.operand, (made, λ d. refuted c.in_ok-is_dominated.field-0 c.if-not-branch.true (law.1 d))));
+      found = one_more g.D.HasMeaning.meaning c.args.ctx.now.tree c.args.root c.loop-i.search.found.items c.push.new.self.items _ c.in_ok-push.ensures.items c.loop-i.invariant.found (c.requires.inside, (v, c.get_operand-value.ensures.operand, (made, λ d. refuted c.in_ok-is_dominated.field-0 c.if-not-branch.true (law.1 d))));
     }

@@ -5,7 +5,7 @@ use Rattle.pliron_core.proofs.FlatLemmas.{In-slice_get}
 use Rattle.pliron_core.proofs.WalkLemmas.{In-contents, within_live}
 use Rattle.pliron_pass_fit.specs.Nesting.{IsWay}
 use Rattle.pliron_pass_fit.proofs.StepLemmas.{before_item, item_after, held_item}
-use Rattle.pliron_pass_fit.proofs.violations.add_all_undominated.Goals as goal
+use Rattle.pliron_pass_fit.proofs.violations.with_undominated.Goals as goal
 
 pub lead_to-requires-clause-live : goal.lead_to-requires-clause-live
 lead_to-requires-clause-live g c =
