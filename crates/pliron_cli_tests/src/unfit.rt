@@ -78,7 +78,8 @@ fn reported_in_short(rt: &impl Abort, alloc: Global, text: &str) -> String {
     let report = in_form(alloc, checked.report.as_str(), MessageForm::Short).expect(rt, "memory");
     let mut line = String::new(alloc);
     for message in report.as_str().lines() {
-        line.push_str(message.trim_start_matches(':')).expect(rt, "memory");
+        line.push_str(message.trim_start_matches(':'))
+            .expect(rt, "memory");
         line.push('|').expect(rt, "memory");
     }
     line
@@ -103,7 +104,11 @@ fn a_hundred_at_most(rt: HostRuntime) {
     text.push_str("ret }").expect(&rt, "memory");
     let reported = reported_in_short(&rt, rt.alloc(), text.as_str());
     assert_eq!(rt; reported.as_str().split('|').count(), 102);
-    assert!(rt; reported.as_str().ends_with("|note: 3 more are wrong, which aren't told|"));
+    assert!(rt;
+        reported
+            .as_str()
+            .ends_with("|note: 3 more are wrong, which aren't told|")
+    );
 }
 
 /// Texts, and what `opt` warns of before `dce`: nothing where the text, or each function of a `mod`, is fit to run.

@@ -154,12 +154,7 @@ impl<'r> Message<'r> {
     }
 
     // Writes it in the form.
-    fn write(
-        &self,
-        alloc: Global,
-        text: &mut String,
-        form: MessageForm,
-    ) -> Result<(), AllocError> {
+    fn write(&self, alloc: Global, text: &mut String, form: MessageForm) -> Result<(), AllocError> {
         match form {
             MessageForm::Json => self.write_json(alloc, text),
             MessageForm::Full | MessageForm::Short => self.write_short(text),

@@ -239,7 +239,11 @@ fn with_reports<'a>(command: Command<'a>, alloc: Global) -> Result<Command<'a>, 
             "Run no pass where the text isn't fit to run, as `plir check` finds it; without it that is a warning",
         ))?
         .arg(flag(alloc, "stats", STATS))?
-        .arg(flag(alloc, "json", "Tell what --stats does as an object of JSON on each line"))?
+        .arg(flag(
+            alloc,
+            "json",
+            "Tell what --stats does as an object of JSON on each line",
+        ))?
         .arg(flag(
             alloc,
             "time",

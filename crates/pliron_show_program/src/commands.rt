@@ -8,9 +8,9 @@ use crate::pipeline::{pipeline_and_file, without_blanks};
 use crate::program::Program;
 use clap::ArgMatches;
 use pliron_show_commands::{
-    CompareOptions, EffectSink, ExplainOptions, FlowOptions, JsonObject, Outcome, RunOptions, Runnable,
-    ShownNotation, Source, TextRange, check, compare, draw_flow, draw_graph, explain, run,
-    run_streamed, unfit_warning,
+    CompareOptions, EffectSink, ExplainOptions, FlowOptions, JsonObject, Outcome, RunOptions,
+    Runnable, ShownNotation, Source, TextRange, check, compare, draw_flow, draw_graph, explain,
+    run, run_streamed, unfit_warning,
 };
 use std::alloc::{AllocError, Global};
 use std::io;
@@ -151,7 +151,13 @@ fn explain_inner<P: Program>(
         return Ok(reported);
     }
     Ok(Outcome {
-        output: lines_inside(alloc, &input.text, part, &reported.output, matches.get_flag("json"))?,
+        output: lines_inside(
+            alloc,
+            &input.text,
+            part,
+            &reported.output,
+            matches.get_flag("json"),
+        )?,
         report: reported.report,
         status: 0,
     })
@@ -192,7 +198,9 @@ fn fit_object(alloc: Global, checked: Outcome) -> Result<Outcome, AllocError> {
     if checked.status != 0 {
         return Ok(checked);
     }
-    let answer = std::str::from_utf8(&checked.output).unwrap_or("").trim_end();
+    let answer = std::str::from_utf8(&checked.output)
+        .unwrap_or("")
+        .trim_end();
     let mut object = JsonObject::new(alloc);
     object.words("fit", answer)?;
     let mut line = String::new(alloc);
