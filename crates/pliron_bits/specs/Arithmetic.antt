@@ -72,14 +72,14 @@ abbrev pub ceiling_of : (a b : ℤ) → ℤ
 ceiling_of a b = if int_lt (pos 0) b then int_div_euclid (neg_ℤ a) (neg_ℤ b) else int_div_euclid a b
 
 -- the bits of a quotient that the signed numbers of the width reach
-abbrev pub rounded : (width : ℕ) → ℤ → Option ℕ
-rounded width quotient = unless_flagged (not (is_signed width quotient)) (bits_of width quotient)
+abbrev pub bits_in_reach : (width : ℕ) → ℤ → Option ℕ
+bits_in_reach width quotient = unless_flagged (not (is_signed width quotient)) (bits_of width quotient)
 
 abbrev pub signed_quotient_up : (width a b : ℕ) → Option ℕ
-signed_quotient_up width a b = if nat_eq b 0 then None else rounded width (ceiling_of (signed_value width a) (signed_value width b))
+signed_quotient_up width a b = if nat_eq b 0 then None else bits_in_reach width (ceiling_of (signed_value width a) (signed_value width b))
 
 abbrev pub signed_quotient_down : (width a b : ℕ) → Option ℕ
-signed_quotient_down width a b = if nat_eq b 0 then None else rounded width (floor_of (signed_value width a) (signed_value width b))
+signed_quotient_down width a b = if nat_eq b 0 then None else bits_in_reach width (floor_of (signed_value width a) (signed_value width b))
 
 -- ---- shifts to the right: quotients by a power of two that round down
 

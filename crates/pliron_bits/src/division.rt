@@ -1,7 +1,7 @@
 //! Quotients and remainders.
 ghost use Rattle.std.specs.Prelude.{◌≡◌, ◌≢◌, ℤ, pos, ◌≤◌, ◌<◌, ◌^◌, ◌-◌, IfSome, IfErr, unsigned_abs};
 ghost use Rattle.pliron_bits.specs.Arithmetic.{unsigned_quotient as unsigned_quotient_of, unsigned_remainder as unsigned_remainder_of, signed_quotient as signed_quotient_of, signed_remainder as signed_remainder_of, divides as divides_by};
-ghost use Rattle.pliron_bits.specs.Arithmetic.{unsigned_quotient_up as unsigned_quotient_up_of, signed_quotient_up as signed_quotient_up_of, signed_quotient_down as signed_quotient_down_of, rounded as rounded_of, floor_of, ceiling_of};
+ghost use Rattle.pliron_bits.specs.Arithmetic.{unsigned_quotient_up as unsigned_quotient_up_of, signed_quotient_up as signed_quotient_up_of, signed_quotient_down as signed_quotient_down_of, bits_in_reach as bits_in_reach_of, floor_of, ceiling_of};
 
 use crate::flags::Flags;
 use crate::integers::{euclidean, over, rest};
@@ -99,10 +99,10 @@ fn ceiling(a: i128, b: i128) -> i128
 }
 
 // The bits of a quotient, unless it is past the signed numbers.
-fn rounded(width: u32, quotient: i128) -> Option<u64>
+fn bits_in_reach(width: u32, quotient: i128) -> Option<u64>
     requires at_least { 1 ≤ width }
     requires at_most { width ≤ 64 }
-    ensures same { result ≡ rounded_of width quotient }
+    ensures same { result ≡ bits_in_reach_of width quotient }
     ensures number { IfSome result (λ n. n < 2 ^ width) }
 {
     if is_signed(width, quotient) {
@@ -125,7 +125,7 @@ pub fn signed_quotient_up(width: u32, a: u64, b: u64) -> Option<u64>
     if b == 0 {
         None
     } else {
-        rounded(
+        bits_in_reach(
             width,
             ceiling(signed_value(width, a), signed_value(width, b)),
         )
@@ -145,7 +145,7 @@ pub fn signed_quotient_down(width: u32, a: u64, b: u64) -> Option<u64>
     if b == 0 {
         None
     } else {
-        rounded(width, floor(signed_value(width, a), signed_value(width, b)))
+        bits_in_reach(width, floor(signed_value(width, a), signed_value(width, b)))
     }
 }
 
