@@ -96,7 +96,7 @@ plir_status plir_find_fault(const char *text, size_t text_length, char *output, 
  * answer is the module that they leave, and nothing else: what `plir_mlir PIPELINE` writes to standard output for the
  * text, byte for byte. `*changed` is 1 where the passes changed the module, also with PLIR_TOO_SMALL, and 0 where they
  * didn't and with every status without an answer.
- * `pipeline` is a list of sccp, dce, simplify-cfg, cse, canonicalize and combine, joined by commas; `nested:LIST` or
+ * `pipeline` is a list of sccp, dce, simplify-cfg, cse, canonicalize, combine and thread-edges, joined by commas; `nested:LIST` or
  * `nested(LIST)` runs it on each operation directly inside the module, and `repeat:N:..` or `repeat<N>(..)` until nothing
  * changes, at most N times, 1 to 64. An empty one runs no pass: the module is read and printed. Faults are found in this
  * order: pipeline, text, passes. */

@@ -198,7 +198,7 @@ def describe_graph(text: Text) -> str:
 def optimise_mlir(pipeline: str, module: Text) -> Answer:
     """Runs the passes of a pipeline on a module of MLIR in the generic form, as mlir-opt --mlir-print-op-generic prints it.
 
-    The pipeline is a list of sccp, dce, simplify-cfg, cse, canonicalize and combine, joined by commas; nested(LIST) runs it on
+    The pipeline is a list of sccp, dce, simplify-cfg, cse, canonicalize, combine and thread-edges, joined by commas; nested(LIST) runs it on
     each operation directly inside the module, and repeat<N>(..) until nothing changes, at most N times, 1 to 64. An empty
     one runs none.
 

@@ -157,7 +157,7 @@ fn fault_of(place: PlirPlace, expected: String) -> Option<Fault> {
 /// # Ok::<(), rachonpas::Error>(())
 /// ```
 ///
-/// The pipeline is a list of `sccp`, `dce`, `simplify-cfg`, `cse`, `canonicalize` and `combine`, joined by commas; `nested(LIST)` runs
+/// The pipeline is a list of `sccp`, `dce`, `simplify-cfg`, `cse`, `canonicalize`, `combine` and `thread-edges`, joined by commas; `nested(LIST)` runs
 /// it on each operation directly inside the module, and `repeat<N>(..)` until nothing changes, at most N times, 1 to 64. An
 /// empty one runs no pass.
 ///

@@ -24,10 +24,11 @@ static PIPELINE: &str = "\
 The passes, joined by commas: `sccp` (constant propagation), `dce`
 (dead code elimination), `simplify-cfg` (simplification of control
 flow), `cse` (common subexpression elimination), `canonicalize` (uses
-go to what results and arguments are), `combine` (rewrite rules); `repeat:N:LIST` runs them until
-nothing changes, at most N times, from 1 to 64, `nested:LIST` on each
-operation directly inside: `repeat:8:sccp,cse,simplify-cfg,dce`. An
-empty word, `''`, runs none";
+go to what results and arguments are), `combine` (rewrite rules),
+`thread-edges` (edges go past blocks that only jump); `repeat:N:LIST`
+runs them until nothing changes, at most N times, from 1 to 64,
+`nested:LIST` on each operation directly inside:
+`repeat:8:sccp,cse,simplify-cfg,dce`. An empty word, `''`, runs none";
 
 /// What `--stats` does.
 static STATS: &str = "\

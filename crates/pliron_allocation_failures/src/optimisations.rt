@@ -11,6 +11,7 @@ use pliron_opt_canonicalize::canonicalize;
 use pliron_opt_cfg::simplify_cfg;
 use pliron_opt_cse::cse;
 use pliron_opt_dce::dce;
+use pliron_opt_edges::thread_edges;
 use pliron_opt_sccp::sccp;
 use pliron_text::{print_text, read_text};
 use std::alloc::Global;
@@ -78,7 +79,11 @@ canonicalize | func { b0(x): a = div x x; br b1(a); b1(p): ret p p } \
     | func { b0(v0): v1 = div v0 v0; br b1(v1); b1(v2): ret v2 v2 } \
     | func { b0(v0): v1 = const 1; v2 = div v0 v0; br b1(v1); b1(v3): ret v3 v3 } \
     | func { b0(v0): v1 = div v0 v0; br b1(v1); b1(v2): ret v1 v1 } \
-    | func { b0(v0): v1 = const 1; v2 = div v0 v0; br b1(v1); b1(v3): ret v1 v1 }";
+    | func { b0(v0): v1 = const 1; v2 = div v0 v0; br b1(v1); b1(v3): ret v1 v1 }
+thread-edges | func { b0(x): cbr x b1() b2(); b1(): br b2(); b2(): br b3(); b3(): ret } \
+    | func { b0(v0): cbr v0 b1() b2(); b1(): br b2(); b2(): br b3(); b3(): ret } \
+    | func { b0(v0): cbr v0 b3() b3(); b1(): br b2(); b2(): br b3(); b3(): ret } \
+    | func { b0(v0): cbr v0 b3() b3(); b1(): br b3(); b2(): br b3(); b3(): ret }";
 
 // Runs the optimisation of this name.
 fn run(
@@ -95,6 +100,7 @@ fn run(
         "dce" => dce::<Bench>(alloc, root, ctx),
         "cse" => cse::<Bench>(alloc, root, ctx),
         "canonicalize" => canonicalize::<Bench>(alloc, root, ctx),
+        "thread-edges" => thread_edges::<Bench>(alloc, root, ctx),
         _ => simplify_cfg::<Bench>(alloc, root, ctx),
     }
 }

@@ -1,2 +1,3 @@
 mod ReadingLemmas
 mod CongruenceLemmas
+mod QuotientLemmas

@@ -1,6 +1,6 @@
 -- The signed reading and the bits of whole numbers are inverse, and signed sums have the bits of unsigned ones.
-use Rattle.std.proofs.Common.{◌≡◌, ℕ, zero, suc, ◌+◌, ◌-◌, ◌*◌, ◌%◌, ◌^◌, ◌<◌, ◌≤◌, Bool, true, false, nat_lt, if◌then◌else◌, IsTrue, refl, ap, sym, ◌∙◌, subst, arith, tests, ℤ, pos, negsuc, ◌+ℤ◌, ◌-ℤ◌}
-use Rattle.std.proofs.Math.Nat.{mod-eq_of_lt, mod-eq-sub-mod, pow-suc}
+use Rattle.std.proofs.Common.{◌≡◌, ℕ, zero, suc, ◌+◌, ◌-◌, ◌*◌, ◌^◌, ◌<◌, ◌≤◌, Bool, true, false, nat_lt, if◌then◌else◌, IsTrue, ap, ◌∙◌, arith, tests, ℤ, pos, negsuc, ◌-ℤ◌}
+use Rattle.std.proofs.Math.Nat.{mod-eq_of_lt, pow-suc}
 use Rattle.std.proofs.lemmas.Int.{ints}
 use Rattle.pliron_bits.specs.Numbers.{signed_value, is_signed, bits_of}
 

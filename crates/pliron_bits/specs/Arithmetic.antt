@@ -1,7 +1,7 @@
 -- What LLVM's operations on integers compute: none where the answer has no meaning, which LLVM calls poison, or where
 -- the operation must not be run. Operands are numbers of the width.
-use Rattle.std.specs.Prelude.{ℕ, ◌+◌, ◌-◌, ◌*◌, ◌/◌, ◌%◌, ◌^◌, min, max, nat_eq, nat_lt, nat_le, if◌then◌else◌, Bool, true, false, not, ◌&&◌, ◌||◌, Option, Some, None, ℤ, pos, neg_ℤ, ◌+ℤ◌, ◌-ℤ◌, ◌*ℤ◌, int_lt, int_le, int_div, int_rem, unsigned_abs, bit_and, bit_or, bit_xor}
-use Rattle.std.specs.Int.{int_div_euclid}
+use Rattle.std.specs.Prelude.{ℕ, ◌+◌, ◌-◌, ◌*◌, ◌/◌, ◌%◌, ◌^◌, min, max, nat_eq, nat_lt, nat_le, if◌then◌else◌, Bool, not, ◌&&◌, ◌||◌, Option, Some, None, ℤ, pos, neg_ℤ, ◌+ℤ◌, ◌-ℤ◌, ◌*ℤ◌, int_lt, int_div, int_rem, unsigned_abs, bit_and, bit_or, bit_xor}
+use Rattle.std.specs.Int.{int_div_euclid, div_ceil}
 use Rattle.pliron_bits.specs.declared.flags.Flags.{Flags}
 use Rattle.pliron_bits.specs.Numbers.{signed_value, is_signed, bits_of}
 
@@ -41,6 +41,9 @@ truncation f width to a = wrap f to (signed_value width a) (nat_lt a (2 ^ to)) a
 abbrev pub unsigned_quotient : Flags → (a b : ℕ) → Option ℕ
 unsigned_quotient f a b = unless_flagged (nat_eq b 0 || (f.exact && not (nat_eq (a % b) 0))) (a / b)
 
+abbrev pub unsigned_quotient_up : (a b : ℕ) → Option ℕ
+unsigned_quotient_up a b = unless_flagged (nat_eq b 0) (div_ceil a b)
+
 abbrev pub unsigned_remainder : (a b : ℕ) → Option ℕ
 unsigned_remainder a b = unless_flagged (nat_eq b 0) (a % b)
 
@@ -60,6 +63,23 @@ signed_quotient f width a b =
 
 abbrev pub signed_remainder : (width a b : ℕ) → Option ℕ
 signed_remainder width a b = unless_flagged (not (divides width a b)) (bits_of width (remainder_in width a b))
+
+-- the greatest whole number that isn't past the quotient, and the least one that the quotient isn't past
+abbrev pub floor_of : (a b : ℤ) → ℤ
+floor_of a b = if int_lt (pos 0) b then int_div_euclid a b else int_div_euclid (neg_ℤ a) (neg_ℤ b)
+
+abbrev pub ceiling_of : (a b : ℤ) → ℤ
+ceiling_of a b = if int_lt (pos 0) b then int_div_euclid (neg_ℤ a) (neg_ℤ b) else int_div_euclid a b
+
+-- the bits of a quotient that the signed numbers of the width reach
+abbrev pub bits_in_reach : (width : ℕ) → ℤ → Option ℕ
+bits_in_reach width quotient = unless_flagged (not (is_signed width quotient)) (bits_of width quotient)
+
+abbrev pub signed_quotient_up : (width a b : ℕ) → Option ℕ
+signed_quotient_up width a b = if nat_eq b 0 then None else bits_in_reach width (ceiling_of (signed_value width a) (signed_value width b))
+
+abbrev pub signed_quotient_down : (width a b : ℕ) → Option ℕ
+signed_quotient_down width a b = if nat_eq b 0 then None else bits_in_reach width (floor_of (signed_value width a) (signed_value width b))
 
 -- ---- shifts to the right: quotients by a power of two that round down
 

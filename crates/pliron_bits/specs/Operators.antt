@@ -2,12 +2,12 @@
 use Rattle.std.specs.Prelude.{ℕ, nat_eq, nat_lt, nat_le, not, if◌then◌else◌, Bool, Option, Some, None}
 use Rattle.pliron_bits.specs.declared.flags.Flags.{Flags}
 use Rattle.pliron_bits.specs.declared.operators.BinaryOperator.{BinaryOperator}
-use Rattle.pliron_bits.specs.declared.operators.BinaryOperator.TheVariants.{Add, Subtract, Multiply, UnsignedDivide, SignedDivide, UnsignedRemainder, SignedRemainder, ShiftLeft, LogicalShiftRight, ArithmeticShiftRight, And, Or, Xor, UnsignedMinimum, SignedMinimum, UnsignedMaximum, SignedMaximum}
+use Rattle.pliron_bits.specs.declared.operators.BinaryOperator.TheVariants.{Add, Subtract, Multiply, UnsignedDivide, SignedDivide, UnsignedRemainder, SignedRemainder, ShiftLeft, LogicalShiftRight, ArithmeticShiftRight, And, Or, Xor, UnsignedMinimum, SignedMinimum, UnsignedMaximum, SignedMaximum, UnsignedDivideUp, SignedDivideUp, SignedDivideDown}
 use Rattle.pliron_bits.specs.declared.operators.Predicate.{Predicate}
 use Rattle.pliron_bits.specs.declared.operators.Predicate.TheVariants.{Equal, NotEqual, SignedLess, SignedLessEqual, SignedGreater, SignedGreaterEqual, UnsignedLess, UnsignedLessEqual, UnsignedGreater, UnsignedGreaterEqual}
 use Rattle.pliron_bits.specs.declared.operators.Cast.{Cast}
 use Rattle.pliron_bits.specs.declared.operators.Cast.TheVariants.{ZeroExtend, SignExtend, Truncate}
-use Rattle.pliron_bits.specs.Arithmetic.{sum, difference, product, shifted_left, truncation, unsigned_quotient, unsigned_remainder, signed_quotient, signed_remainder, logical_shift, arithmetic_shift, conjunction, disjunction, exclusion, signed_less, unsigned_minimum, unsigned_maximum, signed_minimum, signed_maximum, zero_extended, sign_extended}
+use Rattle.pliron_bits.specs.Arithmetic.{sum, difference, product, shifted_left, truncation, unsigned_quotient, unsigned_remainder, signed_quotient, signed_remainder, unsigned_quotient_up, signed_quotient_up, signed_quotient_down, logical_shift, arithmetic_shift, conjunction, disjunction, exclusion, signed_less, unsigned_minimum, unsigned_maximum, signed_minimum, signed_maximum, zero_extended, sign_extended}
 
 abbrev pub binary : BinaryOperator → Flags → (width a b : ℕ) → Option ℕ
 binary Add f width a b = sum f width a b
@@ -27,6 +27,9 @@ binary UnsignedMinimum f width a b = unsigned_minimum a b
 binary SignedMinimum f width a b = signed_minimum width a b
 binary UnsignedMaximum f width a b = unsigned_maximum a b
 binary SignedMaximum f width a b = signed_maximum width a b
+binary UnsignedDivideUp f width a b = unsigned_quotient_up a b
+binary SignedDivideUp f width a b = signed_quotient_up width a b
+binary SignedDivideDown f width a b = signed_quotient_down width a b
 
 abbrev pub comparison : Predicate → (width a b : ℕ) → Bool
 comparison Equal width a b = nat_eq a b
@@ -66,6 +69,9 @@ number_of_operator UnsignedMinimum = 13
 number_of_operator SignedMinimum = 14
 number_of_operator UnsignedMaximum = 15
 number_of_operator SignedMaximum = 16
+number_of_operator UnsignedDivideUp = 17
+number_of_operator SignedDivideUp = 18
+number_of_operator SignedDivideDown = 19
 
 abbrev pub operator_of_number : ℕ → Option BinaryOperator
 operator_of_number n =
@@ -86,6 +92,9 @@ operator_of_number n =
     else if nat_eq n 14 then Some SignedMinimum
     else if nat_eq n 15 then Some UnsignedMaximum
     else if nat_eq n 16 then Some SignedMaximum
+    else if nat_eq n 17 then Some UnsignedDivideUp
+    else if nat_eq n 18 then Some SignedDivideUp
+    else if nat_eq n 19 then Some SignedDivideDown
     else None
 
 abbrev pub number_of_predicate : Predicate → ℕ

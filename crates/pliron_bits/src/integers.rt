@@ -49,6 +49,16 @@ pub(crate) fn rest(a: i128, b: i128) -> i128
     a % b
 }
 
+// The quotient that leaves a remainder which isn't negative.
+pub(crate) fn euclidean(a: i128, b: i128) -> i128
+    requires first { unsigned_abs a ≤ 2 ^ 64 }
+    requires second { b ≢ pos 0 }
+    requires small { unsigned_abs b ≤ 2 ^ 64 }
+    ensures { result ≡ int_div_euclid a b }
+{
+    a.div_euclid(b)
+}
+
 // The quotient, which rounds down.
 pub(crate) fn floor(a: i128, b: i128) -> i128
     requires first { unsigned_abs a ≤ 2 ^ 64 }

@@ -17,7 +17,10 @@ mod shifts;
 mod wrapping;
 
 pub use casts::{sign_extend, truncate, zero_extend};
-pub use division::{signed_quotient, signed_remainder, unsigned_quotient, unsigned_remainder};
+pub use division::{
+    signed_quotient, signed_quotient_down, signed_quotient_up, signed_remainder, unsigned_quotient,
+    unsigned_quotient_up, unsigned_remainder,
+};
 pub use flags::Flags;
 pub use logic::{and, or, xor};
 pub use operators::{BinaryOperator, Cast, Predicate, compare, compute, convert};

@@ -3,7 +3,10 @@ ghost use Rattle.std.specs.Prelude.{◌≡◌, ◌≤◌, ◌<◌, ◌^◌, Some
 ghost use Rattle.pliron_bits.specs.Operators.{binary, comparison, cast_to, number_of_operator, operator_of_number, number_of_predicate, predicate_of_number};
 
 use crate::casts::{sign_extend, truncate, zero_extend};
-use crate::division::{signed_quotient, signed_remainder, unsigned_quotient, unsigned_remainder};
+use crate::division::{
+    signed_quotient, signed_quotient_down, signed_quotient_up, signed_remainder, unsigned_quotient,
+    unsigned_quotient_up, unsigned_remainder,
+};
 use crate::flags::Flags;
 use crate::logic::{and, or, xor};
 use crate::order::{
@@ -32,6 +35,9 @@ pub enum BinaryOperator {
     SignedMinimum,
     UnsignedMaximum,
     SignedMaximum,
+    UnsignedDivideUp,
+    SignedDivideUp,
+    SignedDivideDown,
 }
 
 /// A comparison of two numbers of a width.
@@ -80,6 +86,9 @@ impl BinaryOperator {
             BinaryOperator::SignedMinimum => 14,
             BinaryOperator::UnsignedMaximum => 15,
             BinaryOperator::SignedMaximum => 16,
+            BinaryOperator::UnsignedDivideUp => 17,
+            BinaryOperator::SignedDivideUp => 18,
+            BinaryOperator::SignedDivideDown => 19,
         }
     }
 
@@ -105,6 +114,9 @@ impl BinaryOperator {
             14 => Some(BinaryOperator::SignedMinimum),
             15 => Some(BinaryOperator::UnsignedMaximum),
             16 => Some(BinaryOperator::SignedMaximum),
+            17 => Some(BinaryOperator::UnsignedDivideUp),
+            18 => Some(BinaryOperator::SignedDivideUp),
+            19 => Some(BinaryOperator::SignedDivideDown),
             _ => None,
         }
     }
@@ -176,6 +188,9 @@ pub fn compute(operator: BinaryOperator, flags: Flags, width: u32, a: u64, b: u6
         BinaryOperator::SignedMinimum => signed_minimum(width, a, b),
         BinaryOperator::UnsignedMaximum => unsigned_maximum(a, b),
         BinaryOperator::SignedMaximum => signed_maximum(width, a, b),
+        BinaryOperator::UnsignedDivideUp => unsigned_quotient_up(a, b),
+        BinaryOperator::SignedDivideUp => signed_quotient_up(width, a, b),
+        BinaryOperator::SignedDivideDown => signed_quotient_down(width, a, b),
     }
 }
 

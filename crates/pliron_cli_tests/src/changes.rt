@@ -90,6 +90,7 @@ sccp,dce => func { b0(): a = const 2; sum = add a a; sum_1 = const 7; ret sum su
 simplify-cfg => func { entry(x): br mid(x); mid(y): br end(y); end(z): print z; ret z } => func { entry(x): print x; ret x }
 nested(dce) => mod { m(): func { f(p): u = const 1; ret p }; func { g(p): scope p { h(q): ret q }; ret } } => mod { m(): func { f(p): ret p }; func { g(p): scope p { h(q): ret q }; ret } }
 cse => func { b0(x): a = add x x; b = add x x; print b; ret a } => func { b0(x): a = add x x; print a; ret a }
+thread-edges => func { entry(): br mid(); mid(): br end(); end(): ret } => func { entry(): br end(); mid(): br end(); end(): ret }
 canonicalize,dce => func { entry(x): zero = const 0; a = mul x zero; print a; ret x } => func { entry(x): zero = const 0; print zero; ret x }
 nested(sccp,dce) => mod { m(): func { f(): a = const 2; b = mul a a; ret b }; func { f(): a = const 3; b = mul a a; ret b } } => mod { m(): func { f(): b_1 = const 4; ret b_1 }; func { f(): b_2 = const 9; ret b_2 } }";
 

@@ -16,6 +16,7 @@ canonicalize => func { b0(x): z = const 0; a = mul x z; ret a } => 1:28 a = mul 
 canonicalize => func { b0(x): a = div x x; ret a } => 1:15 a = div x x: folded to 1 by its operands (canonicalize)|1:28 ret a: takes 1 for a (canonicalize)
 canonicalize => func { b0(x): br b1(x); b1(p): print p; ret } => 1:28 argument p of b1: always x (canonicalize)|1:32 print p: takes x for p (canonicalize)
 simplify-cfg => func { b0(x): br b1(x); b1(y): ret y } => 1:15 br b1(x): b1 was merged into its block (simplify-cfg)|1:28 argument y of b1: merged, it is x (simplify-cfg)|1:32 ret y: merged into b0, takes x for y (simplify-cfg)
+thread-edges => func { b0(x): cbr x b1() b2(); b1(): br b3(); b2(): br b1(); b3(): ret } => 1:15 cbr x b1() b2(): goes to b3 for b1, goes to b3 for b2 (thread-edges)|1:53 br b1(): goes to b3 for b1 (thread-edges)
 sccp => func { b0(): a = const 2; b = add a a; ret } => 1:27 b = add a a: folded to 4 by its operands, and nothing uses it (sccp)
 repeat:3:nested:sccp,dce => mod { m(): func { b0(): a = const 2; b = mul a a; ret b } } => 1:38 b = mul a a: folded to 4 by its operands (sccp, run 1)|1:51 ret b: takes 4 for b (sccp, run 1)|1:25 a = const 2: unused (dce, run 1)|1:38 b = mul a a: unused (dce, run 1)
 repeat<3>(nested(sccp,dce)) => mod { m(): func { b0(): a = const 2; b = mul a a; ret b } } => 1:38 b = mul a a: folded to 4 by its operands (sccp, run 1)|1:51 ret b: takes 4 for b (sccp, run 1)|1:25 a = const 2: unused (dce, run 1)|1:38 b = mul a a: unused (dce, run 1)";

@@ -28,31 +28,31 @@ fn expect_fault(rt: &impl Abort, alloc: Global, word: &str, column: &str, label:
 
 /// Words that plan nothing, the column of what is wrong, and what was expected there.
 static FAULTS: &str = "\
-passes => 1 `sccp`, `dce`, `simplify-cfg`, `cse`, `canonicalize` or `combine`
-sccp, dce => 6 `sccp`, `dce`, `simplify-cfg`, `cse`, `canonicalize` or `combine`
-sccp,,dce => 6 `sccp`, `dce`, `simplify-cfg`, `cse`, `canonicalize` or `combine`
-sccp,dce, => 10 `sccp`, `dce`, `simplify-cfg`, `cse`, `canonicalize` or `combine`
-DCE => 1 `sccp`, `dce`, `simplify-cfg`, `cse`, `canonicalize` or `combine`
-canonicalise => 1 `sccp`, `dce`, `simplify-cfg`, `cse`, `canonicalize` or `combine`
-nested => 1 `sccp`, `dce`, `simplify-cfg`, `cse`, `canonicalize` or `combine`
-nested: => 8 `sccp`, `dce`, `simplify-cfg`, `cse`, `canonicalize` or `combine`
-nested:sccp,cs => 13 `sccp`, `dce`, `simplify-cfg`, `cse`, `canonicalize` or `combine`
+passes => 1 `sccp`, `dce`, `simplify-cfg`, `cse`, `canonicalize`, `combine` or `thread-edges`
+sccp, dce => 6 `sccp`, `dce`, `simplify-cfg`, `cse`, `canonicalize`, `combine` or `thread-edges`
+sccp,,dce => 6 `sccp`, `dce`, `simplify-cfg`, `cse`, `canonicalize`, `combine` or `thread-edges`
+sccp,dce, => 10 `sccp`, `dce`, `simplify-cfg`, `cse`, `canonicalize`, `combine` or `thread-edges`
+DCE => 1 `sccp`, `dce`, `simplify-cfg`, `cse`, `canonicalize`, `combine` or `thread-edges`
+canonicalise => 1 `sccp`, `dce`, `simplify-cfg`, `cse`, `canonicalize`, `combine` or `thread-edges`
+nested => 1 `sccp`, `dce`, `simplify-cfg`, `cse`, `canonicalize`, `combine` or `thread-edges`
+nested: => 8 `sccp`, `dce`, `simplify-cfg`, `cse`, `canonicalize`, `combine` or `thread-edges`
+nested:sccp,cs => 13 `sccp`, `dce`, `simplify-cfg`, `cse`, `canonicalize`, `combine` or `thread-edges`
 nested(sccp => 12 `)`
-nested(sccp)) => 8 `sccp`, `dce`, `simplify-cfg`, `cse`, `canonicalize` or `combine`
+nested(sccp)) => 8 `sccp`, `dce`, `simplify-cfg`, `cse`, `canonicalize`, `combine` or `thread-edges`
 nested(sccp),dce => 13 the end, as nothing stands behind `)`
-nested(nested(sccp)) => 8 `sccp`, `dce`, `simplify-cfg`, `cse`, `canonicalize` or `combine`
-sccp,nested(dce) => 6 `sccp`, `dce`, `simplify-cfg`, `cse`, `canonicalize` or `combine`
+nested(nested(sccp)) => 8 `sccp`, `dce`, `simplify-cfg`, `cse`, `canonicalize`, `combine` or `thread-edges`
+sccp,nested(dce) => 6 `sccp`, `dce`, `simplify-cfg`, `cse`, `canonicalize`, `combine` or `thread-edges`
 repeat:sccp => 8 a number from 1 to 64, a colon and a list
 repeat:0:sccp => 8 a number from 1 to 64
 repeat:65:sccp => 8 a number from 1 to 64
 repeat:08:sccp => 8 a number from 1 to 64
-repeat:12:nested:x => 18 `sccp`, `dce`, `simplify-cfg`, `cse`, `canonicalize` or `combine`
+repeat:12:nested:x => 18 `sccp`, `dce`, `simplify-cfg`, `cse`, `canonicalize`, `combine` or `thread-edges`
 repeat<8>sccp => 8 a number from 1 to 64, `>(` and a list
 repeat<x>(sccp) => 8 a number from 1 to 64
 repeat<8>(sccp => 15 `)`
 repeat<8>(nested(sccp) => 22 `)`
 repeat<8>(dce),sccp => 15 the end, as nothing stands behind `)`
-repeat<64>(nested(sccp,y)) => 24 `sccp`, `dce`, `simplify-cfg`, `cse`, `canonicalize` or `combine`";
+repeat<64>(nested(sccp,y)) => 24 `sccp`, `dce`, `simplify-cfg`, `cse`, `canonicalize`, `combine` or `thread-edges`";
 
 #[test]
 fn words_without_passes(rt: HostRuntime) {
@@ -66,7 +66,7 @@ fn words_without_passes(rt: HostRuntime) {
         rt.alloc(),
         "",
         "1",
-        "`sccp`, `dce`, `simplify-cfg`, `cse`, `canonicalize` or `combine`",
+        "`sccp`, `dce`, `simplify-cfg`, `cse`, `canonicalize`, `combine` or `thread-edges`",
     );
 }
 
@@ -82,6 +82,7 @@ repeat<1>(nested(dce,dce)) => 1 each dce dce
 repeat:20:nested(sccp) => 20 each sccp
 cse,canonicalize => once itself cse canonicalize
 combine,dce => once itself combine dce
+thread-edges,dce => once itself thread-edges dce
 repeat:8:nested:canonicalize => 8 each canonicalize
 repeat<20>(nested:sccp) => 20 each sccp";
 

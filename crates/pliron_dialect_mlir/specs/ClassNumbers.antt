@@ -2,7 +2,7 @@
 use Rattle.std.proofs.Common.{◌≡◌, ℕ, ◌+◌, ◌-◌, nat_eq, if◌then◌else◌, Option, Some, None, refl}
 use Rattle.std.specs.Option.{option_map}
 use Rattle.pliron_bits.specs.declared.operators.BinaryOperator.{BinaryOperator}
-use Rattle.pliron_bits.specs.declared.operators.BinaryOperator.TheVariants.{Add, Subtract, Multiply, UnsignedDivide, SignedDivide, UnsignedRemainder, SignedRemainder, ShiftLeft, LogicalShiftRight, ArithmeticShiftRight, And, Or, Xor, UnsignedMinimum, SignedMinimum, UnsignedMaximum, SignedMaximum}
+use Rattle.pliron_bits.specs.declared.operators.BinaryOperator.TheVariants.{Add, Subtract, Multiply, UnsignedDivide, SignedDivide, UnsignedRemainder, SignedRemainder, ShiftLeft, LogicalShiftRight, ArithmeticShiftRight, And, Or, Xor, UnsignedMinimum, SignedMinimum, UnsignedMaximum, SignedMaximum, UnsignedDivideUp, SignedDivideUp, SignedDivideDown}
 use Rattle.pliron_bits.specs.declared.operators.Cast.TheVariants.{ZeroExtend, SignExtend, Truncate}
 use Rattle.pliron_bits.specs.Operators.{number_of_operator, operator_of_number}
 use Rattle.pliron_dialect_mlir.specs.declared.kind.Class.{Class}
@@ -70,6 +70,9 @@ operator_numbered UnsignedMinimum = refl
 operator_numbered SignedMinimum = refl
 operator_numbered UnsignedMaximum = refl
 operator_numbered SignedMaximum = refl
+operator_numbered UnsignedDivideUp = refl
+operator_numbered SignedDivideUp = refl
+operator_numbered SignedDivideDown = refl
 
 pub numbered_class : (c : Class) → class_of_number (number_of_class c) ≡ Some c
 numbered_class Constant = refl

@@ -3,7 +3,7 @@
 use Rattle.std.specs.Prelude.{ℕ, ◌-◌, ◌^◌, nat_eq, nat_lt, if◌then◌else◌, Bool, true, false, not, ◌&&◌, Option, Some, None, option_map, ℤ}
 use Rattle.pliron_bits.specs.declared.flags.Flags.{Flags}
 use Rattle.pliron_bits.specs.declared.operators.BinaryOperator.{BinaryOperator}
-use Rattle.pliron_bits.specs.declared.operators.BinaryOperator.TheVariants.{Add, Subtract, Multiply, UnsignedDivide, SignedDivide, UnsignedRemainder, SignedRemainder, ShiftLeft, LogicalShiftRight, ArithmeticShiftRight, And, Or, Xor, UnsignedMinimum, SignedMinimum, UnsignedMaximum, SignedMaximum}
+use Rattle.pliron_bits.specs.declared.operators.BinaryOperator.TheVariants.{Add, Subtract, Multiply, UnsignedDivide, SignedDivide, UnsignedRemainder, SignedRemainder, ShiftLeft, LogicalShiftRight, ArithmeticShiftRight, And, Or, Xor, UnsignedMinimum, SignedMinimum, UnsignedMaximum, SignedMaximum, UnsignedDivideUp, SignedDivideUp, SignedDivideDown}
 use Rattle.pliron_bits.specs.declared.operators.Predicate.{Predicate}
 use Rattle.pliron_bits.specs.declared.operators.Predicate.TheVariants.{Equal, NotEqual, SignedLess, SignedLessEqual, SignedGreater, SignedGreaterEqual, UnsignedLess, UnsignedLessEqual, UnsignedGreater, UnsignedGreaterEqual}
 use Rattle.pliron_dialect.specs.declared.identity.Absorption.{Absorption}
@@ -101,3 +101,6 @@ identity_at UnsignedMinimum flags width = with_absorbing (as_either None true) (
 identity_at SignedMinimum flags width = with_absorbing (as_either None true) (least_at width)
 identity_at UnsignedMaximum flags width = with_absorbing (as_either None true) (all_ones_at width)
 identity_at SignedMaximum flags width = with_absorbing (as_either None true) (greatest_at width)
+identity_at UnsignedDivideUp flags width = as_second (one_at width)
+identity_at SignedDivideUp flags width = as_second (one_at width)
+identity_at SignedDivideDown flags width = as_second (one_at width)

@@ -1,7 +1,7 @@
 -- The classes by the names of MLIR, where operands and results are integers of at most 64 bits or `index`.
 use Rattle.std.specs.Prelude.{◌||◌, ℕ, Bool, false, List, [], ◌∷◌, take, drop, length, Option, Some, None, if◌then◌else◌, codes, bytes_eq}
 use Rattle.pliron_bits.specs.declared.operators.BinaryOperator.{BinaryOperator}
-use Rattle.pliron_bits.specs.declared.operators.BinaryOperator.TheVariants.{Add, Subtract, Multiply, UnsignedDivide, SignedDivide, UnsignedRemainder, SignedRemainder, ShiftLeft, LogicalShiftRight, ArithmeticShiftRight, And, Or, Xor, UnsignedMinimum, SignedMinimum, UnsignedMaximum, SignedMaximum}
+use Rattle.pliron_bits.specs.declared.operators.BinaryOperator.TheVariants.{Add, Subtract, Multiply, UnsignedDivide, SignedDivide, UnsignedRemainder, SignedRemainder, ShiftLeft, LogicalShiftRight, ArithmeticShiftRight, And, Or, Xor, UnsignedMinimum, SignedMinimum, UnsignedMaximum, SignedMaximum, UnsignedDivideUp, SignedDivideUp, SignedDivideDown}
 use Rattle.pliron_bits.specs.declared.operators.Cast.TheVariants.{ZeroExtend, SignExtend, Truncate}
 use Rattle.pliron_dialect_mlir.specs.declared.kind.Class.{Class}
 use Rattle.pliron_dialect_mlir.specs.declared.kind.Class.TheVariants.{Constant, Select, Opaque, Jump, Branch, Switch, Leave, Unreachable, Effect, Root, Module, Compare, Cast as CastClass, Binary}
@@ -78,6 +78,9 @@ arith_operators =
     (codes "minsi", SignedMinimum) ∷
     (codes "maxui", UnsignedMaximum) ∷
     (codes "maxsi", SignedMaximum) ∷
+    (codes "ceildivui", UnsignedDivideUp) ∷
+    (codes "ceildivsi", SignedDivideUp) ∷
+    (codes "floordivsi", SignedDivideDown) ∷
     []
 
 abbrev pub binary_or : Option BinaryOperator → Class → Class

@@ -218,5 +218,8 @@ pub fn identity_at(operator: BinaryOperator, flags: Flags, width: u32) -> Identi
             all_ones_at(width),
         ),
         BinaryOperator::SignedMaximum => with_absorbing(as_either(None, true), greatest_at(width)),
+        BinaryOperator::UnsignedDivideUp => as_second(one_at(width)),
+        BinaryOperator::SignedDivideUp => as_second(one_at(width)),
+        BinaryOperator::SignedDivideDown => as_second(one_at(width)),
     }
 }

@@ -159,6 +159,12 @@ fn arith_operator(name: &[u8]) -> Option<BinaryOperator>
         Some(BinaryOperator::UnsignedMaximum)
     } else if name == b"maxsi".as_slice() {
         Some(BinaryOperator::SignedMaximum)
+    } else if name == b"ceildivui".as_slice() {
+        Some(BinaryOperator::UnsignedDivideUp)
+    } else if name == b"ceildivsi".as_slice() {
+        Some(BinaryOperator::SignedDivideUp)
+    } else if name == b"floordivsi".as_slice() {
+        Some(BinaryOperator::SignedDivideDown)
     } else {
         None
     }

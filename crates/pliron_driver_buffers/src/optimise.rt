@@ -8,6 +8,7 @@ ghost use Rattle.pliron_driver_buffers.specs.Optimises.{Optimises, IsListedPipel
 
 use crate::buffer::fill;
 use crate::status::{CallFailure, Status};
+use pliron_dialect_edges::BranchesAtOnce;
 use pliron_driver::{MAX_TEXT, Notation, PassPipeline, optimise_text, read_pipeline};
 use pliron_laws::Dialect;
 use pliron_pass::{BenchFactKind, BenchFacts, Pass};
@@ -15,7 +16,7 @@ use pliron_rewrite_rules::Rules;
 use std::alloc::Global;
 
 // The pipeline that the list plans. Errors: the list isn't one of names of passes; allocation failure.
-fn pipeline_of<D: Dialect, L: Rules<D>>(
+fn pipeline_of<D: Dialect + BranchesAtOnce, L: Rules<D>>(
     alloc: Global,
     list: &[u8],
 ) -> Result<PassPipeline<D, BenchFacts, L>, CallFailure>

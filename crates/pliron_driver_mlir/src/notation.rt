@@ -4,6 +4,7 @@ ghost use Rattle.pliron_driver_mlir.specs.Modules.{ReadsModule};
 
 use crate::failure::{ModuleFailure, ModuleFault, failure_of};
 use pliron_core::Context;
+use pliron_dialect_edges::BranchesAtOnce;
 use pliron_driver::{Document, Notation};
 use pliron_laws::{Dialect, OptError};
 use pliron_pass_pipeline::NoRules;
@@ -19,7 +20,7 @@ pub type ModuleDocument = Document<Sheet>;
 /// the types of a notation there.
 pub struct GenericForm<D>(PhantomData<(D, Sheet)>);
 
-impl<D: Dialect> Notation for GenericForm<D> {
+impl<D: Dialect + BranchesAtOnce> Notation for GenericForm<D> {
     type D = D;
 
     type Rules = NoRules;

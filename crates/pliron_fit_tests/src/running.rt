@@ -6,7 +6,7 @@ use pliron_fuzz::FuzzSubject;
 use pliron_laws::OptError;
 use pliron_pass::{AnalysisManager, BenchFacts, Passes};
 use pliron_pass_fit::{RunError, fit_roots, is_fit, run_checked, run_checked_for};
-use pliron_pass_pipeline::PassStep;
+use pliron_pass_pipeline::{DCEPass, PassStep};
 use pliron_test_cases::Tiny;
 use pliron_test_cases::cases::read;
 use pliron_test_cases::trees::build;
@@ -105,7 +105,7 @@ fn answers(
     case: &str,
 ) -> (Result<IRStatus, RunError>, Option<RunError>) {
     let root = build(alloc, ctx, case).expect(rt, "a tree");
-    let mut pass: PassStep<Tiny, BenchFacts> = PassStep::from_name("dce").expect(rt, "a pass");
+    let mut pass = DCEPass::<Tiny, BenchFacts>::new();
     let mut analyses = AnalysisManager::new(alloc);
     assert!(rt; root.is_live(ctx));
     let reported = run_checked_for(&mut pass, alloc, root, &[root], ctx, &mut analyses);

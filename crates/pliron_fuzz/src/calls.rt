@@ -14,6 +14,7 @@ use pliron_laws::OptError;
 use pliron_opt_canonicalize::canonicalize;
 use pliron_opt_combine::{Ending, combine};
 use pliron_opt_cse::cse;
+use pliron_opt_edges::thread_edges;
 use pliron_text::{print_text, read_text};
 use std::alloc::Global;
 
@@ -23,6 +24,7 @@ pub enum Call {
     Cse,
     Canonicalize,
     Combine,
+    ThreadEdges,
 }
 
 /// What a call leaves of a readable text: the text before and after, printed; what it says of the change; and whether a
@@ -60,6 +62,7 @@ fn apply_call(
     let status = match call {
         Call::Cse => cse::<Bench>(alloc, root, ctx)?,
         Call::Canonicalize => canonicalize::<Bench>(alloc, root, ctx)?,
+        Call::ThreadEdges => thread_edges::<Bench>(alloc, root, ctx)?,
         Call::Combine => {
             let combined = combine::<Bench, BenchRules>(alloc, root, limit, ctx)?;
             return Ok(Change {

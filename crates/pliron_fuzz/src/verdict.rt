@@ -38,6 +38,8 @@ pub enum AnswerFault {
     Folds,
     #[error("a rule is left that applies, or the rules change a run")]
     Rules,
+    #[error("an edge is left that leads to a block that only jumps, or a run changes where edges move")]
+    Edges,
 }
 
 /// What came of a text.
@@ -105,6 +107,11 @@ fn fault_of_calls(
         || !is_right(alloc, Call::Combine, line, is_defined)?
     {
         return Ok(Some(AnswerFault::Rules));
+    }
+    if !is_right(alloc, Call::ThreadEdges, &subject.text, is_defined)?
+        || !is_right(alloc, Call::ThreadEdges, line, is_defined)?
+    {
+        return Ok(Some(AnswerFault::Edges));
     }
     Ok(None)
 }

@@ -1,6 +1,6 @@
 //! Operations that leave one operand as it is or give one number, by what LLVM and MLIR make of them.
 use crate::integers::{datum, flags, kind, predicate, width};
-use crate::rows::{compare, division, identities, index, logic, sides, wrapping};
+use crate::rows::{compare, division, identities, index, logic, roundings, sides, wrapping};
 use pliron_dialect::{Identity, Roles};
 use pliron_dialect_mlir::{Class, binary_head, cast_head, class_named, compare_head};
 use std::alloc::Global;
@@ -175,6 +175,7 @@ fn answers_what_is_computed(rt: HostRuntime) {
         logic::ROWS,
         compare::ROWS,
         index::ROWS,
+        roundings::ROWS,
     ] {
         let failing = rows.lines().find(|row| !is_computed(alloc, row));
         assert_eq!(&rt; failing, None);

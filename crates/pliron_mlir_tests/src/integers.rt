@@ -1,5 +1,5 @@
 //! Integers, by the answers of LLVM and MLIR.
-use crate::rows::{casts, compare, division, index, logic, shifts, sides, wrapping};
+use crate::rows::{casts, compare, division, index, logic, roundings, shifts, sides, wrapping};
 use pliron_bits::{Flags, Predicate};
 use pliron_core::Head;
 use pliron_dialect::Roles;
@@ -138,4 +138,9 @@ fn computes_as_llvm(rt: HostRuntime) {
     assert_eq!(rt; failing(alloc, compare::ROWS), None, "comparisons");
     assert_eq!(rt; failing(alloc, casts::ROWS), None, "casts");
     assert_eq!(rt; failing(alloc, index::ROWS), None, "index");
+    assert_eq!(rt;
+        failing(alloc, roundings::ROWS),
+        None,
+        "quotients that round up or down"
+    );
 }

@@ -57,7 +57,7 @@ a word -- dce :: m => 2  => t:1:1: error: expected the name of an operation in q
 a block that the region lacks -- dce :: \"m\"() ({|  \"a\"()[^b] : () -> ()|}) : () -> () => 2  => t:2:9: error: \
     expected a block of this region|
 no such pass -- dce,licm :: \"m\"() : () -> () => 2  => error: no such passes: dce,licm: at byte 5: expected \
-    `sccp`, `dce`, `simplify-cfg`, `cse`, `canonicalize` or `combine`|
+    `sccp`, `dce`, `simplify-cfg`, `cse`, `canonicalize`, `combine` or `thread-edges`|
 too many rounds -- repeat:65:dce :: \"m\"() : () -> () => 2  => error: no such passes: repeat:65:dce: at byte 8: \
     expected a number from 1 to 64|
 a sum with 0 -- canonicalize,dce :: \"builtin.module\"() ({|  \"func.func\"() <{sym_name = \"f\"}> ({|  ^bb0(%0: i32):|    \

@@ -2,4 +2,5 @@ pub mod CombinationLemmas
 pub mod EffectLemmas
 pub mod DeadCodeLemmas
 pub mod ControlFlowLemmas
+pub mod EdgeThreadingLemmas
 pub mod ReportLemmas

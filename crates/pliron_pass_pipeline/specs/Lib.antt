@@ -6,6 +6,7 @@ pub mod CommonSubexpressions
 pub mod Constants
 pub mod ControlFlow
 pub mod DeadCode
+pub mod EdgeThreading
 pub mod PassNames
 pub mod PassSteps
 pub mod Pipelines

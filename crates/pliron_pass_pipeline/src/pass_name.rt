@@ -11,12 +11,13 @@ pub enum PassName {
     Cse,
     Canonicalize,
     Combine,
+    ThreadEdges,
 }
 
 impl PassName {
     /// All names, as a message lists them.
     pub const LIST: &'static str =
-        "`sccp`, `dce`, `simplify-cfg`, `cse`, `canonicalize` or `combine`";
+        "`sccp`, `dce`, `simplify-cfg`, `cse`, `canonicalize`, `combine` or `thread-edges`";
 
     /// The pass of this name. Cost: constant.
     pub fn from_name(name: &str) -> Option<Self>
@@ -30,6 +31,7 @@ impl PassName {
             "cse" => Some(PassName::Cse),
             "canonicalize" => Some(PassName::Canonicalize),
             "combine" => Some(PassName::Combine),
+            "thread-edges" => Some(PassName::ThreadEdges),
             _ => None,
         }
     }

@@ -11,27 +11,30 @@ use crate::common_subexpressions::{CSEPass, CommonSubexpressions};
 use crate::constants::{Constants, SCCPPass};
 use crate::control_flow::{ControlFlow, SimplifyCFGPass};
 use crate::dead_code::{DCEPass, DeadCode};
+use crate::edge_threading::{EdgeThreading, ThreadEdgesPass};
 use crate::optimisation::Optimisation;
 use crate::pass_name::PassName;
 use crate::pipeline::{Pipeline, Step};
 use pliron_core::{Context, Operation, Ptr};
+use pliron_dialect_edges::BranchesAtOnce;
 use pliron_laws::{Dialect, OptError};
 use pliron_pass::{Analyses, AnalysisKind, AnalysisManager, Pass, PassResult};
 use pliron_rewrite_rules::Rules;
 use std::alloc::Global;
 
-/// One of the six passes, for pipelines of different ones; `combine` with the rules `L`.
+/// One of the seven passes, for pipelines of different ones; `combine` with the rules `L`.
 #[derive(Drop)]
-pub enum PassStep<D: Dialect, E: Analyses + Drop, L: Rules<D> = NoRules> {
+pub enum PassStep<D: Dialect + BranchesAtOnce, E: Analyses + Drop, L: Rules<D> = NoRules> {
     Sccp(SCCPPass<D, E>),
     Dce(DCEPass<D, E>),
     SimplifyCfg(SimplifyCFGPass<D, E>),
     Cse(CSEPass<D, E>),
     Canonicalize(CanonicalizePass<D, E>),
     Combine(CombinePass<D, L, E>),
+    ThreadEdges(ThreadEdgesPass<D, E>),
 }
 
-impl<D: Dialect, E: Analyses + Drop, L: Rules<D>> PassStep<D, E, L> {
+impl<D: Dialect + BranchesAtOnce, E: Analyses + Drop, L: Rules<D>> PassStep<D, E, L> {
     /// The pass of this name. Cost: constant.
     pub fn from_name(name: &str) -> Option<Self>
         ensures named { IfSome result (λ step. step_name step ≡ name.now) }
@@ -44,12 +47,13 @@ impl<D: Dialect, E: Analyses + Drop, L: Rules<D>> PassStep<D, E, L> {
             Some(PassName::Cse) => Some(PassStep::Cse(CSEPass::new())),
             Some(PassName::Canonicalize) => Some(PassStep::Canonicalize(CanonicalizePass::new())),
             Some(PassName::Combine) => Some(PassStep::Combine(CombinePass::new())),
+            Some(PassName::ThreadEdges) => Some(PassStep::ThreadEdges(ThreadEdgesPass::new())),
             None => None,
         }
     }
 }
 
-impl<D: Dialect, E: Analyses + Drop, L: Rules<D>> Pass for PassStep<D, E, L> {
+impl<D: Dialect + BranchesAtOnce, E: Analyses + Drop, L: Rules<D>> Pass for PassStep<D, E, L> {
     type D = D;
 
     type E = E;
@@ -65,7 +69,8 @@ impl<D: Dialect, E: Analyses + Drop, L: Rules<D>> Pass for PassStep<D, E, L> {
         ⟦<ControlFlow<D> as Optimisation>⟧.outcome
         ⟦<CommonSubexpressions<D> as Optimisation>⟧.outcome
         ⟦<Canonicalization<D> as Optimisation>⟧.outcome
-        ⟦<Combination<D, L> as Optimisation>⟧.outcome p) op s s' r };
+        ⟦<Combination<D, L> as Optimisation>⟧.outcome
+        ⟦<EdgeThreading<D> as Optimisation>⟧.outcome p) op s s' r };
 
     fn name(&self) -> &str {
         match self {
@@ -75,6 +80,7 @@ impl<D: Dialect, E: Analyses + Drop, L: Rules<D>> Pass for PassStep<D, E, L> {
             PassStep::Cse(pass) => pass.name(),
             PassStep::Canonicalize(pass) => pass.name(),
             PassStep::Combine(pass) => pass.name(),
+            PassStep::ThreadEdges(pass) => pass.name(),
         }
     }
 
@@ -92,6 +98,7 @@ impl<D: Dialect, E: Analyses + Drop, L: Rules<D>> Pass for PassStep<D, E, L> {
             PassStep::Cse(pass) => pass.run(alloc, op, ctx, analyses),
             PassStep::Canonicalize(pass) => pass.run(alloc, op, ctx, analyses),
             PassStep::Combine(pass) => pass.run(alloc, op, ctx, analyses),
+            PassStep::ThreadEdges(pass) => pass.run(alloc, op, ctx, analyses),
         }
     }
 
@@ -100,7 +107,7 @@ impl<D: Dialect, E: Analyses + Drop, L: Rules<D>> Pass for PassStep<D, E, L> {
     }
 }
 
-impl<D: Dialect, E: Analyses + Drop, L: Rules<D>> Step for PassStep<D, E, L> {
+impl<D: Dialect + BranchesAtOnce, E: Analyses + Drop, L: Rules<D>> Step for PassStep<D, E, L> {
     ghost accurate = { record { same = λ p q op s s' a runs. optimisation_same _ _ _ op s s' a runs.1 } };
 }
 

@@ -4,6 +4,7 @@ use pliron_core::{Context, Operation, Ptr};
 use pliron_dialect_bench::Bench;
 use pliron_laws::{OptError, is_well_linked};
 use pliron_opt_combine::{CombineOutcome, Ending, combine};
+use pliron_pass_pipeline::max_rewrites;
 use pliron_test_cases::cases::{Case, case_of, line, read};
 use pliron_test_cases::runs::{are_kept, sights};
 use std::alloc::Global;
@@ -70,6 +71,10 @@ nothing to do -- 0F func { b0(x): ret x } => func { b0(v0): ret v0 }";
 static FORBIDDEN: &str = "\
 a value by itself -- 0L func { b0(x): a = add x x; ret a } => func { b0(v0): v1 = add v0 v0; ret v1 }";
 
+/// A sum that is made of itself: rules apply to it for ever, so a run of the pass ends where sixteen rewrites were made for
+/// each of the three operations inside.
+const ENDLESS: &str = "func { b0(): c = const 1; v = add v c; ret v }";
+
 // How the outcome is written, as in the tables.
 fn word(alloc: Global, outcome: CombineOutcome) -> Result<String, OptError> {
     let letter = match outcome.ending {
@@ -124,6 +129,23 @@ fn a_limit(rt: HostRuntime) {
 #[test]
 fn no_rewrite(rt: HostRuntime) {
     check_all(&rt, rt.alloc(), 0, FORBIDDEN)
+}
+
+fn end_in(rt: &impl Abort, alloc: Global, ctx: &mut Context) {
+    let root = read(alloc, ctx, ENDLESS).expect(rt, "a readable text");
+    assert!(rt; root.is_live(ctx));
+    let limit = max_rewrites(root, ctx);
+    assert_eq!(rt; limit, 48);
+    let outcome = run(rt, alloc, ctx, root, limit);
+    let answer = word(alloc, outcome).expect(rt, "memory");
+    assert_eq!(rt; answer.as_str(), "48L");
+}
+
+#[test]
+fn a_sum_of_itself_ends(rt: HostRuntime) {
+    let alloc = rt.alloc();
+    let mut ctx = Context::new(alloc);
+    end_in(&rt, alloc, &mut ctx)
 }
 
 fn compare_in(rt: &impl Abort, alloc: Global, ctx: &mut Context, case: &Case) {

@@ -9,12 +9,14 @@ use crate::pass_list::PassList;
 use crate::reasons::{Reason, Reasons, Rewrite};
 use crate::tree_state::{TreeState, tree_state};
 use pliron_core::{Children, Context, IRRewriter, IRStatus, Operation, Ptr};
+use pliron_dialect_edges::BranchesAtOnce;
 use pliron_laws::{Dialect, OptError, is_well_linked};
 use pliron_opt_canonicalize::canonicalize;
 use pliron_opt_cfg::{fold_branches, merge_inside_op, remove_blocks_inside_op};
 use pliron_opt_combine::combine;
 use pliron_opt_cse::cse;
 use pliron_opt_dce::dce;
+use pliron_opt_edges::thread_edges;
 use pliron_opt_sccp::sccp;
 use pliron_pass_pipeline::{PassName, max_rewrites};
 use pliron_rewrite_rules::Rules;
@@ -32,6 +34,7 @@ fn rewrites_of(pass: PassName) -> &'static [Rewrite] {
         PassName::Cse => &[Rewrite::Subexpressions],
         PassName::Canonicalize => &[Rewrite::Canonicalization],
         PassName::Combine => &[Rewrite::Combination],
+        PassName::ThreadEdges => &[Rewrite::EdgeThreading],
     }
 }
 
@@ -44,11 +47,12 @@ fn name_of(pass: PassName) -> &'static str {
         PassName::Cse => "cse",
         PassName::Canonicalize => "canonicalize",
         PassName::Combine => "combine",
+        PassName::ThreadEdges => "thread-edges",
     }
 }
 
 // Makes one rewrite of a pass, by the call that the pass makes. Errors: those of that call.
-fn make_rewrite<D: Dialect, L: Rules<D>>(
+fn make_rewrite<D: Dialect + BranchesAtOnce, L: Rules<D>>(
     alloc: Global,
     rewrite: Rewrite,
     op: Ptr<Operation>,
@@ -77,6 +81,7 @@ fn make_rewrite<D: Dialect, L: Rules<D>>(
                 IRStatus::Changed
             })
         }
+        Rewrite::EdgeThreading => thread_edges::<D>(alloc, op, ctx),
     }
 }
 

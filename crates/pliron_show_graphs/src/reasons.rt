@@ -28,6 +28,8 @@ pub enum Rewrite {
     Canonicalization,
     /// What rules build has the uses of results.
     Combination,
+    /// Edges are led past blocks that only jump.
+    EdgeThreading,
 }
 
 /// What is reported of one operation or argument.
@@ -258,7 +260,8 @@ impl<N: ShownNotation> Reasons<'_, N> {
     fn note(&mut self, ctx: &Context, before: &TreeState) -> Result<(), AllocError> {
         for i in 0..before.operations.len() {
             let state = &before.operations[i];
-            match (self.rewrite, state.op.is_live(ctx), state.successor) {
+            let successor = state.successors.first().copied();
+            match (self.rewrite, state.op.is_live(ctx), successor) {
                 (Rewrite::Constants, true, _) => self.note_constants(ctx, state)?,
                 (
                     Rewrite::Subexpressions | Rewrite::Canonicalization | Rewrite::Combination,
@@ -292,10 +295,38 @@ impl<N: ShownNotation> Reasons<'_, N> {
         Ok(())
     }
 
+    // Adds to which blocks the branch that ends this block now leads in place of others.
+    fn push_led(
+        &self,
+        ctx: &Context,
+        state: &OperationState,
+        block: Ptr<BasicBlock>,
+        why: &mut String,
+    ) -> Result<(), AllocError>
+        requires { IsBlock ctx.now.tree block }
+    {
+        let Some(branch) = block.get_tail(ctx) else {
+            return Ok(());
+        };
+        let count = branch.num_successor(ctx).min(state.successors.len());
+        for i in 0..count {
+            let (old, new) = (state.successors[i], branch.get_successor(ctx, i));
+            if old != new {
+                part_phrases(why)?;
+                why.push_str("goes to ")?;
+                self.push_block(why, new)?;
+                why.push_str(" for ")?;
+                self.push_block(why, old)?;
+            }
+        }
+        Ok(())
+    }
+
     // Why an operation was erased.
     fn why_erased(&self, ctx: &Context, state: &OperationState) -> Result<String, AllocError> {
         let mut why = String::new(self.alloc);
-        match (self.rewrite, state.holder, state.block, state.successor) {
+        let successor = state.successors.first().copied();
+        match (self.rewrite, state.holder, state.block, successor) {
             (Rewrite::DeadCode, Some(holder), _, _) if !holder.is_live(ctx) => {
                 why.push_str("inside an operation that went")?;
             }
@@ -311,6 +342,9 @@ impl<N: ShownNotation> Reasons<'_, N> {
             (Rewrite::Joining, _, _, Some(target)) => {
                 self.push_block(&mut why, target)?;
                 why.push_str(" was merged into its block")?;
+            }
+            (Rewrite::EdgeThreading, _, Some(block), _) if block.is_live(ctx) => {
+                self.push_led(ctx, state, block, &mut why)?;
             }
             _ => {}
         }

@@ -4,7 +4,7 @@ ghost use Rattle.pliron_core.specs.Tree.{IsLive};
 use pliron_core::{BasicBlock, Contents, Context, Operation, Ptr, Value};
 use pliron_laws::OptError;
 use pliron_laws::reads::{all_arguments, all_operands, all_results, push_layouts};
-use std::alloc::Global;
+use std::alloc::{AllocError, Global};
 
 /// An operation, as it was.
 #[derive(Drop)]
@@ -15,8 +15,7 @@ pub struct OperationState {
     pub holder: Option<Ptr<Operation>>,
     pub operands: Vec<Value>,
     pub results: Vec<Value>,
-    /// The first of its successors.
-    pub successor: Option<Ptr<BasicBlock>>,
+    pub successors: Vec<Ptr<BasicBlock>>,
 }
 
 /// A block, as it was.
@@ -35,15 +34,19 @@ pub struct TreeState {
     pub blocks: Vec<BlockSnapshot>,
 }
 
-// The first successor of the operation.
-fn first_successor(ctx: &Context, op: Ptr<Operation>) -> Option<Ptr<BasicBlock>>
+// The successors of the operation.
+fn all_successors(
+    alloc: Global,
+    op: Ptr<Operation>,
+    ctx: &Context,
+) -> Result<Vec<Ptr<BasicBlock>>, AllocError>
     requires { IsLive ctx.now.tree op }
 {
-    if op.num_successor(ctx) > 0 {
-        Some(op.get_successor(ctx, 0))
-    } else {
-        None
+    let mut successors = Vec::new(alloc);
+    for index in 0..op.num_successor(ctx) {
+        successors.push(op.get_successor(ctx, index))?;
     }
+    Ok(successors)
 }
 
 // The operation as it is now.
@@ -62,7 +65,7 @@ fn operation_state(
         holder: op.get_parent_op(ctx),
         operands,
         results,
-        successor: first_successor(ctx, op),
+        successors: all_successors(alloc, op, ctx)?,
     })
 }
 

@@ -138,13 +138,14 @@ fn compare<'a>(alloc: Global) -> Result<Arg<'a>, AllocError> {
 }
 
 /// The names of the passes.
-static PASSES: [&str; 6] = [
+static PASSES: [&str; 7] = [
     "sccp",
     "dce",
     "simplify-cfg",
     "cse",
     "canonicalize",
     "combine",
+    "thread-edges",
 ];
 
 /// The statuses of `opt`.
@@ -156,7 +157,7 @@ static OPT_STATUSES: &str =
 static PIPELINE: &str =
     "The passes, joined by commas: `sccp` (constant propagation), `dce` (dead code elimination), `simplify-cfg` \
      (simplification of control flow), `cse` (common subexpression elimination), `canonicalize` (uses go to what \
-     results and arguments are), `combine` (rewrite rules of the dialect). `nested(LIST)` runs them on each operation directly inside, `repeat<N>(..)` \
+     results and arguments are), `combine` (rewrite rules of the dialect), `thread-edges` (edges go past blocks that only jump). `nested(LIST)` runs them on each operation directly inside, `repeat<N>(..)` \
      until nothing changes, at most N times, from 1 to 64: `repeat<8>(nested(sccp,dce))`. `nested:LIST` and \
      `repeat:N:..` say the same, as for `plir_opt`, which has only the first three. Blanks around commas and \
      brackets say nothing";
@@ -198,7 +199,7 @@ fn with_prints<'a>(command: Command<'a>, alloc: Global) -> Result<Command<'a>, A
             alloc,
             "print-after",
             "Tell the operation after each run of this pass, on standard error: `sccp`, `dce`, `simplify-cfg`, \
-             `cse`, `canonicalize` or `combine`; once for each pass",
+             `cse`, `canonicalize`, `combine` or `thread-edges`; once for each pass",
         ))?
         .arg(print_pass(
             alloc,

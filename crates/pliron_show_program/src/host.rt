@@ -18,6 +18,7 @@ simplify-cfg  simplification of control flow
 cse           common subexpression elimination
 canonicalize  folding to operands, constants and what arguments are
 combine       rewrite rules of the dialect
+thread-edges  edges past blocks that only jump
 ";
 
 // Writes the answer of the command, and answers the status: to the file that is named, or to standard output. A file

@@ -132,6 +132,9 @@ fn llvm_binary(operator: BinaryOperator) -> &'static [u8] {
         BinaryOperator::SignedMinimum => b"\"llvm.intr.smin\"",
         BinaryOperator::UnsignedMaximum => b"\"llvm.intr.umax\"",
         BinaryOperator::SignedMaximum => b"\"llvm.intr.smax\"",
+        BinaryOperator::UnsignedDivideUp => b"\"arith.ceildivui\"",
+        BinaryOperator::SignedDivideUp => b"\"arith.ceildivsi\"",
+        BinaryOperator::SignedDivideDown => b"\"arith.floordivsi\"",
     }
 }
 
@@ -154,6 +157,9 @@ fn standard_binary(operator: BinaryOperator) -> &'static [u8] {
         BinaryOperator::SignedMinimum => b"\"arith.minsi\"",
         BinaryOperator::UnsignedMaximum => b"\"arith.maxui\"",
         BinaryOperator::SignedMaximum => b"\"arith.maxsi\"",
+        BinaryOperator::UnsignedDivideUp => b"\"arith.ceildivui\"",
+        BinaryOperator::SignedDivideUp => b"\"arith.ceildivsi\"",
+        BinaryOperator::SignedDivideDown => b"\"arith.floordivsi\"",
     }
 }
 

@@ -4,6 +4,7 @@ ghost use Rattle.pliron_pass_pipeline.specs.PassNames.{IsNoPass};
 ghost use Rattle.pliron_pass_pipeline.specs.Pipelines.{IsPipelineOf, is_nested, passes_in, passes_of as listed_passes, round_of, runs_of};
 
 use crate::program::PipelineText;
+use pliron_dialect_edges::BranchesAtOnce;
 use pliron_laws::Dialect;
 use pliron_pass::{BenchFacts, Either, NestedOpsPass, Pass, Passes, Repeat};
 use pliron_pass_pipeline::{PassStep, Pipeline, Round, Step};
@@ -25,7 +26,7 @@ pub trait StepFactory {
 #[derive(Drop)]
 pub struct PlainPasses<D, L>(pub PhantomData<(D, L)>);
 
-impl<D: Dialect, L: Rules<D>> StepFactory for PlainPasses<D, L> {
+impl<D: Dialect + BranchesAtOnce, L: Rules<D>> StepFactory for PlainPasses<D, L> {
     type S = PassStep<D, BenchFacts, L>;
 
     fn step(&self, _: Global, name: &str) -> Option<PassStep<D, BenchFacts, L>> {

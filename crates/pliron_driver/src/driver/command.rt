@@ -4,6 +4,7 @@ ghost use Rattle.pliron_driver.specs.Asked.{AskFor, IsPlanned};
 
 use super::build::{PlainPasses, build_pipeline};
 use crate::program::PipelineText;
+use pliron_dialect_edges::BranchesAtOnce;
 use pliron_laws::Dialect;
 use pliron_pass::BenchFacts;
 use pliron_pass_pipeline::PassPipeline;
@@ -13,7 +14,7 @@ use std::marker::PhantomData;
 
 /// What the arguments ask for.
 #[derive(Drop)]
-pub enum Command<D: Dialect, L: Rules<D>> {
+pub enum Command<D: Dialect + BranchesAtOnce, L: Rules<D>> {
     /// The optimisation of a text.
     Optimise(PassPipeline<D, BenchFacts, L>),
     /// The orders of a graph, its search numbers, the kinds of its edges and its components.
@@ -23,7 +24,7 @@ pub enum Command<D: Dialect, L: Rules<D>> {
 /// The pipeline that the word asks for, if each of its names is the name of a pass.
 ///
 /// Errors: allocation failure. Cost: linear in the word.
-pub fn read_pipeline<D: Dialect, L: Rules<D>>(
+pub fn read_pipeline<D: Dialect + BranchesAtOnce, L: Rules<D>>(
     alloc: Global,
     word: &str,
 ) -> Result<Option<PassPipeline<D, BenchFacts, L>>, AllocError>
@@ -38,7 +39,7 @@ pub fn read_pipeline<D: Dialect, L: Rules<D>>(
 /// What the words after the program's name ask for, if they are understood: `graph`, or a list of passes.
 ///
 /// Errors: allocation failure. Cost: linear in the words.
-pub fn read_command<D: Dialect, L: Rules<D>>(
+pub fn read_command<D: Dialect + BranchesAtOnce, L: Rules<D>>(
     alloc: Global,
     words: &[String],
 ) -> Result<Option<Command<D, L>>, AllocError>

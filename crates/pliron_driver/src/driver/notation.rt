@@ -11,6 +11,7 @@ use pliron_bench_rules::BenchRules;
 use pliron_core::{Context, Operation, Ptr};
 use pliron_dialect::ByRoles;
 use pliron_dialect_bench::Bench;
+use pliron_dialect_edges::BranchesAtOnce;
 use pliron_laws::{Dialect, OptError};
 use pliron_pass_pipeline::NoRules;
 use pliron_rewrite_rules::Rules;
@@ -45,7 +46,7 @@ pub struct Document<S> {
 /// What passes make of a text is proved for each notation. So an answer comes from the very text that was given, by the
 /// relation of that notation between texts and trees, whatever it is.
 pub trait Notation {
-    type D: Dialect;
+    type D: Dialect + BranchesAtOnce;
 
     /// The rules of the pass `combine`.
     type Rules: Rules<Self::D>;

@@ -7,6 +7,7 @@ ghost use Rattle.pliron_pass_tests.specs.declared.pipeline.nest.Nest.TheVariants
 use super::failing::FailAfter;
 use pliron_core::{Context, Operation, Ptr};
 use pliron_dialect_bench::{Bench, BenchKind};
+use pliron_dialect_edges::BranchesAtOnce;
 use pliron_laws::{Dialect, Interface};
 use pliron_pass::{
     Analyses, AnalysisKind, AnalysisManager, BenchFacts, GuardedPass, NestedOpsPass, OpGuard,
@@ -122,7 +123,7 @@ pub trait Build: Pass + Drop {
     ) -> Self;
 }
 
-impl<D: Dialect, E: Analyses + Drop> Build for PassStep<D, E> {
+impl<D: Dialect + BranchesAtOnce, E: Analyses + Drop> Build for PassStep<D, E> {
     fn build<A: Abort>(
         rt: &A,
         _alloc: Global,

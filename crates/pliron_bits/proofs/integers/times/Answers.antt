@@ -1,4 +1,4 @@
-use Rattle.std.proofs.Common.{ap₂, ap, ◌∙◌, ◌*ℤ◌, ◌^◌, rules, arith, lit<, FitsSigned, to_z, of_z}
+use Rattle.std.proofs.Common.{ap₂, ap, ◌∙◌, ◌*ℤ◌, ◌^◌, lit<, FitsSigned, to_z, of_z}
 use Rattle.std.specs.Int.{w128}
 use Rattle.std.proofs.lemmas.Int.{to_z-of_z, fits_signed_mul}
 use Rattle.pliron_bits.proofs.integers.times.Goals as goal

@@ -18,3 +18,6 @@ returns-in-Canonicalize-clause-outcome g c = rw c.in-Canonicalize.is (refl, c.ru
 
 pub returns-in-Combine-clause-outcome : goal.returns-in-Combine-clause-outcome
 returns-in-Combine-clause-outcome g c = rw c.in-Combine.is (refl, c.run-in-Combine.ensures.outcome)
+
+pub returns-in-ThreadEdges-clause-outcome : goal.returns-in-ThreadEdges-clause-outcome
+returns-in-ThreadEdges-clause-outcome g c = rw c.in-ThreadEdges.is (refl, c.run-in-ThreadEdges.ensures.outcome)
