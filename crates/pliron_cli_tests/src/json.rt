@@ -16,16 +16,18 @@ explain sccp,dce => func { b0(): a = const 2; b = add a a; ret b } => 0 \
 {~line~:1,~column~:14,~endLine~:1,~endColumn~:25,~subject~:~a = const 2~,~reason~:~unused~,~pass~:~dce~}|\
 {~line~:1,~column~:27,~endLine~:1,~endColumn~:38,~subject~:~b = add a a~,~reason~:~unused~,~pass~:~dce~}|
 explain repeat<2>(dce,canonicalize) => func { b0(x): br b1(x); b1(p): ret p } => 0 \
-{~line~:1,~column~:27,~endLine~:1,~endColumn~:28,~subject~:~argument p of b1~,~reason~:~always x~,~pass~:~canonicalize~,~run~:1}|\
-{~line~:1,~column~:31,~endLine~:1,~endColumn~:36,~subject~:~ret p~,~reason~:~takes x for p~,~pass~:~canonicalize~,~run~:1}|\
+{~line~:1,~column~:28,~endLine~:1,~endColumn~:29,~subject~:~argument p of b1~,~reason~:~always x~,~pass~:~canonicalize~,~run~:1}|\
+{~line~:1,~column~:32,~endLine~:1,~endColumn~:37,~subject~:~ret p~,~reason~:~takes x for p~,~pass~:~canonicalize~,~run~:1}|\
 {~line~:1,~column~:15,~endLine~:1,~endColumn~:23,~subject~:~br b1(x)~,~reason~:~passes x no more~,~pass~:~dce~,~run~:2}|\
-{~line~:1,~column~:27,~endLine~:1,~endColumn~:28,~subject~:~argument p of b1~,~reason~:~unused~,~pass~:~dce~,~run~:2}|\
+{~line~:1,~column~:28,~endLine~:1,~endColumn~:29,~subject~:~argument p of b1~,~reason~:~unused~,~pass~:~dce~,~run~:2}|\
 {~unfinished~:2}|
 missed sccp => func { b0(x): y = add x x; ret y } => 0 \
 {~line~:1,~column~:15,~endLine~:1,~endColumn~:26,~subject~:~y = add x x~,~reason~:~not folded: its operand 1, x, isn't known~,~pass~:~sccp~,~missed~:true}|
-run  => func { b0(x): y = add x x; ret y } => 0 {~end~:~ended~,~values~:[6],~transitions~:2}|\
+run  => func { b0(x): y = add x x; ret y } => 0 {~end~:~ended~,~values~:[6],~transitions~:4}|\
+{~line~:1,~column~:1,~endLine~:1,~endColumn~:5,~operation~:~func~,~takes~:[3]}|\
 {~line~:1,~column~:15,~endLine~:1,~endColumn~:26,~operation~:~y = add x x~,~takes~:[3,3]}|\
-{~line~:1,~column~:28,~endLine~:1,~endColumn~:33,~operation~:~ret y~,~takes~:[6]}|
+{~line~:1,~column~:28,~endLine~:1,~endColumn~:33,~operation~:~ret y~,~takes~:[6]}|\
+{~line~:1,~column~:1,~endLine~:1,~endColumn~:5,~operation~:~func~,~takes~:[6]}|
 stats dce => func { b0(): a = const 2; b = mul a a; ret } => 0 func { b0(): ret }|\
 {~round~:1,~pass~:~dce~,~runs~:1,~changed~:1,~before~:{~operations~:4,~blocks~:1,~arguments~:0,~edges~:0},\
 ~after~:{~operations~:2,~blocks~:1,~arguments~:0,~edges~:0},~made~:0,~erased~:2,~moved~:0,~operandsChanged~:0,~blocksErased~:0,~argumentsErased~:0}|";

@@ -52,12 +52,9 @@ func { b0(x): br b1(); b1(y): z = add y w; br b1(y, y); b2(): w = const 1; ret }
 func { b0(c): cbr c b1(c, c) b2(); b1(y): ret; b2(z): ret } => \
 1:21: error: an edge passes another number of values than its block takes: edge 1 passes 2, and its block takes 1|1:36: note: this block takes 1|\
 1:30: error: an edge passes another number of values than its block takes: edge 2 passes 0, and its block takes 1|1:48: note: this block takes 1|
-func { b0(c): fork c b1 b2; b1(): ret; b2(z): ret } => \
-1:22: error: an edge passes another number of values than its block takes: edge 1 passes 1, and its block takes 0|1:29: note: this block takes 0|
-func { b0(): ret; ret; br b1(); ret; b1(): ret } => \
+func { b0(): ret; ret; ret } => \
 1:14: error: an operation that ends a block isn't its last one: what stands behind it is never run|\
-1:19: error: an operation that ends a block isn't its last one: what stands behind it is never run|\
-1:24: error: an edge that doesn't end its block, or leads to another region: this operation has successors|
+1:19: error: an operation that ends a block isn't its last one: what stands behind it is never run|
 mod { m(): func { b0(x): br b1(); b1(y): ret }; func { b0(): ret }; mod { n(): func { b0(): x = add x y; y = const 4; ret } } } => \
 1:29: error: an edge passes another number of values than its block takes: edge 1 passes 0, and its block takes 1|1:35: note: this block takes 1|\
 1:101: error: an operand isn't defined on each way to this operation: operand 1, `x`, is a result of this very operation|1:93: note: `x` is defined here|\

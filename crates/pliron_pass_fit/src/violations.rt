@@ -413,8 +413,9 @@ pub fn find_violations<D: Dialect>(
         return Ok(Vec::new(alloc));
     };
     let mut found = all_violations::<D>(alloc, root, ctx)?;
-    if found.is_empty() {
-        found.push(first)?;
+    if !found.is_empty() {
+        return Ok(found);
     }
+    found.push(first)?;
     Ok(found)
 }

@@ -127,7 +127,8 @@ fn add_violations<D: Dialect>(
     requires found { AreFaults D.meaning ctx.now.tree found.old.items }
     ensures { OnOk result (AreFaults D.meaning ctx.now.tree found.new.items) }
 {
-    for violation in &find_violations::<D>(alloc, part, ctx)? {
+    let violations = find_violations::<D>(alloc, part, ctx)?;
+    for violation in &violations {
         found.push(PartViolation {
             part,
             violation: *violation,

@@ -161,7 +161,8 @@ pub fn write_json_statistics<N: Notation, C: Progress + Drop>(
     report: &mut String,
     passes: &[InstrumentedStep<N, C>],
 ) -> Result<(), AllocError> {
-    for work in &work_in_order(alloc, passes)? {
+    let works = work_in_order(alloc, passes)?;
+    for work in &works {
         write_object(alloc, report, work)?;
     }
     Ok(())

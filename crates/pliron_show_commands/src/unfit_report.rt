@@ -75,8 +75,8 @@ pub(crate) fn unfit_report<N: ShownNotation>(
     };
     let found = all_unfit::<N::D>(alloc, root, ctx)?;
     let placed = in_order::<N>(&text, &found, ctx)?;
-    for PlacedViolation { found, .. } in placed.iter().take(MOST_TOLD) {
-        let message = text.violation::<N>("error", found.part, &found.violation, ctx)?;
+    for next in placed.iter().take(MOST_TOLD) {
+        let message = text.violation::<N>("error", next.found.part, &next.found.violation, ctx)?;
         report.push_str(message.as_str())?;
     }
     if placed.len() > MOST_TOLD {
