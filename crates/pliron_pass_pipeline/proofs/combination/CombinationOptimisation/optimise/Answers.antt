@@ -1,3 +1,4 @@
+use Rattle.std.proofs.Common.{◌∙◌}
 use Rattle.pliron_theory.proofs.ChangeLemmas.{whole_passes}
 use Rattle.pliron_pass_pipeline.proofs.CombinationLemmas.{applied, reported}
 use Rattle.pliron_pass_pipeline.proofs.combination.CombinationOptimisation.optimise.Goals as goal
@@ -12,7 +13,7 @@ returns-clause-accurate g c =
 pub returns-clause-outcome : goal.returns-clause-outcome
 returns-clause-outcome g c =
     let p = c.in_ok-combined.ensures.rewritten in
-    rw c.effect_of.ensures (applied _ g.L.Rules.rules c.args.op c.args.ctx.now.tree c.combine.new.ctx.tree c.in_ok-combined.combined p.0 p.2.0 p.2.1 c.in_ok-combined.ensures.none c.in_ok-combined.ensures.limit)
+    rw c.effect_of.ensures (applied _ g.L.Rules.rules c.args.op c.args.ctx.now.tree c.combine.new.ctx.tree c.in_ok-combined.combined p.0 p.2.0 p.2.1 c.in_ok-combined.ensures.none (λ e. c.in_ok-combined.ensures.limit e ∙ c.max_rewrites-limit.ensures))
 
 pub returns-in_err-combined-clause-change : goal.returns-in_err-combined-clause-change
 returns-in_err-combined-clause-change g c = whole_passes g.D.HasMeaning.meaning c.args.ctx.now.tree c.combine.new.ctx.tree c.args.op c.combine.ensures.change
