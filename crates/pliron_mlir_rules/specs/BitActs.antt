@@ -85,9 +85,6 @@ module _ (flags : Flags) (width c : ℕ) (is : is_width width ≡ true) (lt : c 
   some : 0 < 2 ^ bits_of_width width
   some = pow_pos (bits_of_width width)
 
-  ones : ℕ
-  ones = 2 ^ bits_of_width width - 1
-
   ones_fit : 2 ^ bits_of_width width - 1 < 2 ^ bits_of_width width
   ones_fit = omega (arith, some)
 

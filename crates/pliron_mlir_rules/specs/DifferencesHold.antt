@@ -41,7 +41,7 @@ use Rattle.pliron_rewrite_rules.specs.Views.{Agrees, leaf_value, leaf_datum, ope
 use Rattle.pliron_mlir_rules.specs.BitNumbers.{no_difference, no_exclusion}
 use Rattle.pliron_mlir_rules.specs.ConstantComparisons.{compared_bits, compared_with, number_swaps}
 use Rattle.pliron_mlir_rules.specs.HeadsSay.{both_so, picked, SaysComparison, says_comparison, comparison_says, SaysArithmetic, says_arithmetic}
-use Rattle.pliron_mlir_rules.specs.IntegerActs.{unequal, comparison_result_if, comparison_result, mlir_meaning, mlir_effects, is_that, itself, zero_is, comparison_gives, pure_comparison}
+use Rattle.pliron_mlir_rules.specs.IntegerActs.{unequal, comparison_result_if, comparison_result, mlir_meaning, mlir_effects, and_none, is_that, itself, zero_is, comparison_gives, pure_comparison}
 use Rattle.pliron_mlir_rules.specs.Integers.{bits_in, integer, bits_back, below_size, first_is_other, first_is_later}
 use Rattle.pliron_mlir_rules.specs.MlirRules.{known_bits, wraps_freely, swapped_of, is_equation, difference_leaves, difference_term, difference_if, compare_difference}
 use Rattle.pliron_mlir_rules.specs.OperandOrders.{number_or_first, outcome, whole_datum, whole_gives}
@@ -53,10 +53,10 @@ use Rattle.pliron_mlir_rules.specs.WidthMoves.{false_true}
 
 -- the number that an operator gives, 0 where both are equal
 pub record IsNumberBetween (operator : BinaryOperator) (flags : Flags) (w a b : ℕ) : Type 0 where
-  pub number : ℕ
-  pub computes : binary operator flags w a b ≡ Some number
-  pub fits : number < 2 ^ w
-  pub same : nat_eq number 0 ≡ nat_eq a b
+  pub result : ℕ
+  pub computes : binary operator flags w a b ≡ Some result
+  pub fits : result < 2 ^ w
+  pub same : nat_eq result 0 ≡ nat_eq a b
 
 -- an operator that gives 0 of equal data, and leaves what stands beside 0
 pub record IsDifference (operator : BinaryOperator) : Type 0 where
@@ -69,7 +69,7 @@ differences_differ = record {
   either_side = false;
   identity = λ flags width is. ap (λ z. with_equal (as_second z) z) (zero_is width is);
   between = λ flags w a b free p q. record {
-    number = (a + (2 ^ w - b)) % 2 ^ w;
+    result = (a + (2 ^ w - b)) % 2 ^ w;
     computes = free_difference flags w a b free;
     fits = mod_below (a + (2 ^ w - b)) (2 ^ w) (pow_pos w);
     same = no_difference (2 ^ w) a b p q;
@@ -86,7 +86,7 @@ exclusions_differ = record {
   either_side = true;
   identity = λ flags width is. ap (λ z. with_equal (as_either z false) z) (zero_is width is);
   between = λ flags w a b free p q. record {
-    number = bit_xor a b;
+    result = bit_xor a b;
     computes = refl;
     fits = xor_lt w a b p q;
     same = no_exclusion a b;
@@ -128,9 +128,9 @@ module _ (operator : BinaryOperator) (differs : IsDifference operator) (flags : 
   by_identity i =
       outcome (is_this i.neutral e) (i.either_side && is_this i.neutral d) (i.idempotent && same_datum d e) (option_or (given_between i d e) (computed (bits_in width d) (bits_in width e))) width d e
 
-  abbrev parts : (behind before same agrees : Bool) → Datum
-  parts behind before same agrees =
-      outcome behind before false (option_or (if same then (if agrees && true then Some (number width 0) else None) else None) (computed (bits_in width d) (bits_in width e))) width d e
+  abbrev parts : (behind before first same agrees : Bool) → Datum
+  parts behind before first same agrees =
+      outcome behind before false (option_or (if first then None else if same then (if agrees && true then Some (number width 0) else None) else None) (computed (bits_in width d) (bits_in width e))) width d e
 
   zero_fits : 0 < 2 ^ bits_of_width width
   zero_fits = pow_pos (bits_of_width width)
@@ -144,8 +144,8 @@ module _ (operator : BinaryOperator) (differs : IsDifference operator) (flags : 
           compared_bits width p (bits_in width (number_or_first (computed (Some a) (Some b)) width d e)) (number_or_first (computed (Some a) (Some b)) width d e) 0 ≡ integer 1 (bit (comparison p (bits_of_width width) a b))
       of between =
           ap (λ o. compared_bits width p (bits_in width (number_or_first (option_map (number width) o) width d e)) (number_or_first (option_map (number width) o) width d e) 0) between.computes
-          ∙ ap (λ o. compared_bits width p o (integer width between.number) 0) (bits_back width between.number is between.fits)
-          ∙ ap (λ b. integer 1 (bit b)) (equation_keeps p equation (bits_of_width width) between.number 0 a b between.same)
+          ∙ ap (λ o. compared_bits width p o (integer width between.result) 0) (bits_back width between.result is between.fits)
+          ∙ ap (λ b. integer 1 (bit b)) (equation_keeps p equation (bits_of_width width) between.result 0 a b between.same)
   other (Some a) f None g =
       ap (λ o. compared_bits width p o (first_other width (d ∷ e ∷ [])) 0) (ap (bits_in width) (first_is_later width d (e ∷ []) a f ∙ first_is_other width e [] g) ∙ g)
   other None f (Some b) g = ap (λ o. compared_bits width p o (first_other width (d ∷ e ∷ [])) 0) (ap (bits_in width) (first_is_other width d (e ∷ []) f) ∙ f)
@@ -154,10 +154,10 @@ module _ (operator : BinaryOperator) (differs : IsDifference operator) (flags : 
   pub difference_datum : comparison_result width p (whole_datum operator flags width d e) (integer width 0) ≡ comparison_result width p d e
   difference_datum =
       ap (λ i. comparison_result width p (by_identity i) (integer width 0)) (differs.identity flags width is)
-      ∙ ap (λ x. comparison_result width p (parts (is_this (Some (number width 0)) e) (differs.either_side && is_this (Some (number width 0)) d) (same_datum d e) x) (integer width 0)) (itself (number width 0))
+      ∙ ap₂ (λ f x. comparison_result width p (parts (is_this (Some (number width 0)) e) (differs.either_side && is_this (Some (number width 0)) d) f (same_datum d e) x) (integer width 0)) (and_none differs.either_side) (itself (number width 0))
       ∙ by (is_this (Some (number width 0)) e) refl (differs.either_side && is_this (Some (number width 0)) d) refl (same_datum d e) refl
     where
-      by : (behind : Bool) → is_this (Some (number width 0)) e ≡ behind → (before : Bool) → differs.either_side && is_this (Some (number width 0)) d ≡ before → (same : Bool) → same_datum d e ≡ same → comparison_result width p (parts behind before same true) (integer width 0) ≡ comparison_result width p d e
+      by : (behind : Bool) → is_this (Some (number width 0)) e ≡ behind → (before : Bool) → differs.either_side && is_this (Some (number width 0)) d ≡ before → (same : Bool) → same_datum d e ≡ same → comparison_result width p (parts behind before false same true) (integer width 0) ≡ comparison_result width p d e
       by true f before g same h = ap (comparison_result width p d) (sym (is_that (number width 0) e f))
       by false f true g same h =
           let zero : d ≡ integer width 0 = is_that (number width 0) d (both_so differs.either_side (is_this (Some (number width 0)) d) g).1 in

@@ -757,57 +757,6 @@ xor icmp ne i8 x y 0 -- (%0: i8, %1: i8):|  %2 = \"llvm.mlir.constant\"() <{valu
     \"llvm.return\"(%4) : (i1) -> () => (%0: i8, %1: i8):|  %2 = \"llvm.mlir.constant\"() <{value = 0 : i8}> : () -> \
     i8|  %3 = \"llvm.xor\"(%0, %1) : (i8, i8) -> i8|  %5 = \"llvm.icmp\"(%0, %1) <{predicate = 1 : i64}> : (i8, i8) \
     -> i1|  %4 = \"llvm.icmp\"(%3, %2) <{predicate = 1 : i64}> : (i8, i8) -> i1|  \"llvm.return\"(%5) : (i1) -> ()
-add add i16 x 3 4 -- (%0: i16):|  %1 = \"llvm.mlir.constant\"() <{value = 3 : i16}> : () -> i16|  %2 = \
-    \"llvm.add\"(%0, %1) : (i16, i16) -> i16|  %3 = \"llvm.mlir.constant\"() <{value = 4 : i16}> : () -> i16|  %4 = \
-    \"llvm.add\"(%2, %3) : (i16, i16) -> i16|  \"llvm.return\"(%4) : (i16) -> () => (%0: i16):|  %1 = \
-    \"llvm.mlir.constant\"() <{value = 3 : i16}> : () -> i16|  %2 = \"llvm.add\"(%0, %1) : (i16, i16) -> i16|  %3 = \
-    \"llvm.mlir.constant\"() <{value = 4 : i16}> : () -> i16|  %5 = \"llvm.mlir.constant\"() <{value = 7 : i16}> : () \
-    -> i16|  %6 = \"llvm.add\"(%0, %5) : (i16, i16) -> i16|  %4 = \"llvm.add\"(%2, %3) : (i16, i16) -> i16|  \
-    \"llvm.return\"(%6) : (i16) -> ()
-and and i16 x 12 6 -- (%0: i16):|  %1 = \"llvm.mlir.constant\"() <{value = 12 : i16}> : () -> i16|  %2 = \
-    \"llvm.and\"(%0, %1) : (i16, i16) -> i16|  %3 = \"llvm.mlir.constant\"() <{value = 6 : i16}> : () -> i16|  %4 = \
-    \"llvm.and\"(%2, %3) : (i16, i16) -> i16|  \"llvm.return\"(%4) : (i16) -> () => (%0: i16):|  %1 = \
-    \"llvm.mlir.constant\"() <{value = 12 : i16}> : () -> i16|  %2 = \"llvm.and\"(%0, %1) : (i16, i16) -> i16|  %3 = \
-    \"llvm.mlir.constant\"() <{value = 6 : i16}> : () -> i16|  %5 = \"llvm.mlir.constant\"() <{value = 4 : i16}> : () \
-    -> i16|  %6 = \"llvm.and\"(%0, %5) : (i16, i16) -> i16|  %4 = \"llvm.and\"(%2, %3) : (i16, i16) -> i16|  \
-    \"llvm.return\"(%6) : (i16) -> ()
-or or i16 x 1 6 -- (%0: i16):|  %1 = \"llvm.mlir.constant\"() <{value = 1 : i16}> : () -> i16|  %2 = \"llvm.or\"(%0, \
-    %1) : (i16, i16) -> i16|  %3 = \"llvm.mlir.constant\"() <{value = 6 : i16}> : () -> i16|  %4 = \"llvm.or\"(%2, \
-    %3) : (i16, i16) -> i16|  \"llvm.return\"(%4) : (i16) -> () => (%0: i16):|  %1 = \"llvm.mlir.constant\"() <{value \
-    = 1 : i16}> : () -> i16|  %2 = \"llvm.or\"(%0, %1) : (i16, i16) -> i16|  %3 = \"llvm.mlir.constant\"() <{value = \
-    6 : i16}> : () -> i16|  %5 = \"llvm.mlir.constant\"() <{value = 7 : i16}> : () -> i16|  %6 = \"llvm.or\"(%0, %5) \
-    : (i16, i16) -> i16|  %4 = \"llvm.or\"(%2, %3) : (i16, i16) -> i16|  \"llvm.return\"(%6) : (i16) -> ()
-xor xor i16 x 5 3 -- (%0: i16):|  %1 = \"llvm.mlir.constant\"() <{value = 5 : i16}> : () -> i16|  %2 = \
-    \"llvm.xor\"(%0, %1) : (i16, i16) -> i16|  %3 = \"llvm.mlir.constant\"() <{value = 3 : i16}> : () -> i16|  %4 = \
-    \"llvm.xor\"(%2, %3) : (i16, i16) -> i16|  \"llvm.return\"(%4) : (i16) -> () => (%0: i16):|  %1 = \
-    \"llvm.mlir.constant\"() <{value = 5 : i16}> : () -> i16|  %2 = \"llvm.xor\"(%0, %1) : (i16, i16) -> i16|  %3 = \
-    \"llvm.mlir.constant\"() <{value = 3 : i16}> : () -> i16|  %5 = \"llvm.mlir.constant\"() <{value = 6 : i16}> : () \
-    -> i16|  %6 = \"llvm.xor\"(%0, %5) : (i16, i16) -> i16|  %4 = \"llvm.xor\"(%2, %3) : (i16, i16) -> i16|  \
-    \"llvm.return\"(%6) : (i16) -> ()
-sub icmp eq i16 x y 0 -- (%0: i16, %1: i16):|  %2 = \"llvm.mlir.constant\"() <{value = 0 : i16}> : () -> i16|  %3 = \
-    \"llvm.sub\"(%0, %1) : (i16, i16) -> i16|  %4 = \"llvm.icmp\"(%3, %2) <{predicate = 0 : i64}> : (i16, i16) -> i1|  \
-    \"llvm.return\"(%4) : (i1) -> () => (%0: i16, %1: i16):|  %2 = \"llvm.mlir.constant\"() <{value = 0 : i16}> : () \
-    -> i16|  %3 = \"llvm.sub\"(%0, %1) : (i16, i16) -> i16|  %5 = \"llvm.icmp\"(%0, %1) <{predicate = 0 : i64}> : \
-    (i16, i16) -> i1|  %4 = \"llvm.icmp\"(%3, %2) <{predicate = 0 : i64}> : (i16, i16) -> i1|  \"llvm.return\"(%5) : \
-    (i1) -> ()
-sub icmp ne i16 x y 0 -- (%0: i16, %1: i16):|  %2 = \"llvm.mlir.constant\"() <{value = 0 : i16}> : () -> i16|  %3 = \
-    \"llvm.sub\"(%0, %1) : (i16, i16) -> i16|  %4 = \"llvm.icmp\"(%3, %2) <{predicate = 1 : i64}> : (i16, i16) -> i1|  \
-    \"llvm.return\"(%4) : (i1) -> () => (%0: i16, %1: i16):|  %2 = \"llvm.mlir.constant\"() <{value = 0 : i16}> : () \
-    -> i16|  %3 = \"llvm.sub\"(%0, %1) : (i16, i16) -> i16|  %5 = \"llvm.icmp\"(%0, %1) <{predicate = 1 : i64}> : \
-    (i16, i16) -> i1|  %4 = \"llvm.icmp\"(%3, %2) <{predicate = 1 : i64}> : (i16, i16) -> i1|  \"llvm.return\"(%5) : \
-    (i1) -> ()
-xor icmp eq i16 x y 0 -- (%0: i16, %1: i16):|  %2 = \"llvm.mlir.constant\"() <{value = 0 : i16}> : () -> i16|  %3 = \
-    \"llvm.xor\"(%0, %1) : (i16, i16) -> i16|  %4 = \"llvm.icmp\"(%3, %2) <{predicate = 0 : i64}> : (i16, i16) -> i1|  \
-    \"llvm.return\"(%4) : (i1) -> () => (%0: i16, %1: i16):|  %2 = \"llvm.mlir.constant\"() <{value = 0 : i16}> : () \
-    -> i16|  %3 = \"llvm.xor\"(%0, %1) : (i16, i16) -> i16|  %5 = \"llvm.icmp\"(%0, %1) <{predicate = 0 : i64}> : \
-    (i16, i16) -> i1|  %4 = \"llvm.icmp\"(%3, %2) <{predicate = 0 : i64}> : (i16, i16) -> i1|  \"llvm.return\"(%5) : \
-    (i1) -> ()
-xor icmp ne i16 x y 0 -- (%0: i16, %1: i16):|  %2 = \"llvm.mlir.constant\"() <{value = 0 : i16}> : () -> i16|  %3 = \
-    \"llvm.xor\"(%0, %1) : (i16, i16) -> i16|  %4 = \"llvm.icmp\"(%3, %2) <{predicate = 1 : i64}> : (i16, i16) -> i1|  \
-    \"llvm.return\"(%4) : (i1) -> () => (%0: i16, %1: i16):|  %2 = \"llvm.mlir.constant\"() <{value = 0 : i16}> : () \
-    -> i16|  %3 = \"llvm.xor\"(%0, %1) : (i16, i16) -> i16|  %5 = \"llvm.icmp\"(%0, %1) <{predicate = 1 : i64}> : \
-    (i16, i16) -> i1|  %4 = \"llvm.icmp\"(%3, %2) <{predicate = 1 : i64}> : (i16, i16) -> i1|  \"llvm.return\"(%5) : \
-    (i1) -> ()
 add add i32 x 3 4 -- (%0: i32):|  %1 = \"llvm.mlir.constant\"() <{value = 3 : i32}> : () -> i32|  %2 = \
     \"llvm.add\"(%0, %1) : (i32, i32) -> i32|  %3 = \"llvm.mlir.constant\"() <{value = 4 : i32}> : () -> i32|  %4 = \
     \"llvm.add\"(%2, %3) : (i32, i32) -> i32|  \"llvm.return\"(%4) : (i32) -> () => (%0: i32):|  %1 = \
