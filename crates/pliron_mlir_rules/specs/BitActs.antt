@@ -1,11 +1,11 @@
 -- What operations bit by bit with a constant give, whatever the other datum is.
-use Rattle.std.proofs.Common.{◌≡◌, ℕ, ◌-◌, ◌^◌, ◌<◌, Bool, true, false, not, nat_eq, ◌&&◌, if◌then◌else◌, [], ◌∷◌, Option, Some, None, refl, sym, ap, ap₂, ◌∙◌, arith, ℤ}
+use Rattle.std.proofs.Common.{◌≡◌, ℕ, ◌-◌, ◌^◌, ◌<◌, ◌≤◌, Bool, true, false, not, nat_eq, ◌&&◌, if◌then◌else◌, Option, Some, None, refl, sym, ap, ap₂, ◌∙◌, arith, ℤ}
 use Rattle.std.specs.Prelude.{bit_and, bit_or}
 use Rattle.std.specs.Int.Bits.{and_self, or_self, or_zero_l, or_zero_r, xor_zero_r}
 use Rattle.std.specs.Option.{option_map, option_or}
 use Rattle.std.proofs.lemmas.Nat.{and_comm, and_le_l, pow_pos}
-use Rattle.pliron_laws.specs.Datum.{Datum, Number}
-use Rattle.pliron_dialect.specs.Identities.{no_identity, same_datum, is_this, given_between}
+use Rattle.pliron_laws.specs.Datum.{Datum}
+use Rattle.pliron_dialect.specs.Identities.{same_datum, is_this, given_between}
 use Rattle.pliron_dialect.specs.declared.identity.Identity.{Identity}
 use Rattle.pliron_bits.specs.declared.flags.Flags.{Flags}
 use Rattle.pliron_bits.specs.declared.operators.BinaryOperator.{BinaryOperator}
@@ -13,13 +13,13 @@ use Rattle.pliron_bits.specs.declared.operators.BinaryOperator.TheVariants.{And,
 use Rattle.pliron_bits.specs.Arithmetic.{unless_flagged}
 use Rattle.pliron_bits.specs.Operators.{binary}
 use Rattle.pliron_dialect_mlir.specs.Data.{is_width, bits_of_width, number}
-use Rattle.pliron_dialect_mlir.specs.IntegerIdentities.{zero_at, all_ones_at, identity_at, or_identity, as_either, to_itself, with_absorbing, with_equal}
+use Rattle.pliron_dialect_mlir.specs.IntegerIdentities.{identity_at, or_identity, as_either, to_itself, with_absorbing, with_equal}
 use Rattle.pliron_dialect_mlir.specs.Classes.{of_two}
 use Rattle.pliron_mlir_rules.specs.BitNumbers.{ones_keep, ones_take}
 use Rattle.pliron_mlir_rules.specs.ConstantArithmetic.{other_number, computed_first}
 use Rattle.pliron_mlir_rules.specs.IntegerActs.{number_or_poison, computed_datum, constant_result, is_that, itself, zero_is, ones_is, zero_excluded, equal_excluded}
 use Rattle.pliron_mlir_rules.specs.Integers.{bits_in, integer, bits_alone, bits_back, is_integer, below_size}
-use Rattle.pliron_mlir_rules.specs.OperandOrders.{number_or_first, outcome, whole_datum}
+use Rattle.pliron_mlir_rules.specs.OperandOrders.{outcome, whole_datum}
 use Rattle.pliron_mlir_rules.specs.SameData.{same_decides}
 
 -- an operator of numbers of which one leaves the other, and one absorbs it

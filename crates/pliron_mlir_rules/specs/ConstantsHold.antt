@@ -1,5 +1,5 @@
 -- Operations with two constants.
-use Rattle.std.proofs.Common.{◌≡◌, ℕ, ◌+◌, ◌-◌, ◌%◌, ◌^◌, ◌<◌, ◌≤◌, Bool, true, false, not, nat_eq, ◌&&◌, [], ◌∷◌, Option, Some, None, if◌then◌else◌, inl, inr, refl, sym, ap, ap₂, ◌∙◌, subst, arith, tests}
+use Rattle.std.proofs.Common.{◌≡◌, ℕ, ◌+◌, ◌-◌, ◌^◌, ◌<◌, ◌≤◌, Bool, true, false, not, nat_eq, ◌&&◌, [], ◌∷◌, Option, Some, None, if◌then◌else◌, inl, inr, refl, sym, ap, ap₂, ◌∙◌, subst, arith, tests}
 use Rattle.std.specs.Prelude.{bit_and, bit_or}
 use Rattle.std.specs.Int.Bits.{and_lt, xor_assoc}
 use Rattle.std.specs.Option.{option_or}
@@ -34,7 +34,7 @@ use Rattle.pliron_mlir_rules.specs.ConstantsSeen.{SaysConstant, says_constant, i
 use Rattle.pliron_mlir_rules.specs.HeadsSay.{both_so, picked, SaysArithmetic, says_arithmetic, arithmetic_says}
 use Rattle.pliron_mlir_rules.specs.IntegerActs.{number_or_poison, computed_datum, constant_result, mlir_meaning, mlir_effects, sum_gives}
 use Rattle.pliron_mlir_rules.specs.Integers.{bits_in, integer, bits_back, below_size}
-use Rattle.pliron_mlir_rules.specs.MlirRules.{known_bits, wraps_freely, promises_nothing, constant_operation, no_flags, arithmetic_with, operator_of, joined_bits, absorbs, joined_with, joined_constants, joined_if, join_constants, rules_of_constants}
+use Rattle.pliron_mlir_rules.specs.MlirRules.{known_bits, wraps_freely, promises_nothing, constant_operation, no_flags, arithmetic_with, operator_of, joined_bits, absorbs, joined_constants, joined_if, join_constants, rules_of_constants}
 use Rattle.pliron_mlir_rules.specs.Seen.{both_have, leaf_below, known_reads, known_below}
 use Rattle.pliron_mlir_rules.specs.SumNumbers.{sums_join}
 use Rattle.pliron_mlir_rules.specs.SumsHold.{not_true, free_sum}
@@ -102,7 +102,7 @@ module _ {K : Type 0} (class_of : K → Class) (kind : Class → K) (value : Int
   operation_gives Disjunction head s says nothing c lt apart d =
       constant_gives class_of kind value forth Or head s says d c
       (disjunction_whole s.flags s.width c says.is lt d (not_true s.flags.disjoint (both_so (wraps_freely s.flags) (not s.flags.disjoint) nothing).1)
-          (λ e. false_true (nat_eq c (2 ^ bits_of_width s.width - 1)) apart ((Decides-eqb c (2 ^ bits_of_width s.width - 1)).1 (sym e))))
+      (λ e. false_true (nat_eq c (2 ^ bits_of_width s.width - 1)) apart ((Decides-eqb c (2 ^ bits_of_width s.width - 1)).1 (sym e))))
   operation_gives Exclusion head s says nothing c lt apart d = constant_gives class_of kind value forth Xor head s says d c (exclusion_whole s.flags s.width c says.is lt d)
 
   module _ (o : AssociativeOperator) (head : Head) (s : Arithmetic) (says : SaysArithmetic (operator_of o) head s) (nothing : promises_nothing s.flags ≡ true) (a b : Operand) (t : ConstantOperation) (u : SaysConstant (operator_of o) s.width a t) (k : ℕ) (known : known_bits s.width b ≡ Some k) where

@@ -9,7 +9,7 @@ use Rattle.pliron_core.specs.declared.attrs.Head.{Head}
 use Rattle.pliron_core.specs.Tree.{In}
 use Rattle.pliron_core.proofs.HoldingLemmas.{not_none, some_is}
 use Rattle.pliron_core.proofs.ListLemmas.{In-left}
-use Rattle.pliron_laws.specs.Datum.{Datum, Number}
+use Rattle.pliron_laws.specs.Datum.{Datum}
 use Rattle.pliron_laws.specs.States.{Environment, prepend_optional}
 use Rattle.pliron_dialect.specs.Identities.{no_identity, same_datum, is_this, given_between}
 use Rattle.pliron_dialect.specs.declared.identity.Identity.{Identity}
@@ -26,7 +26,7 @@ use Rattle.pliron_dialect_mlir.specs.declared.computations.Arithmetic.{Arithmeti
 use Rattle.pliron_dialect_mlir.specs.declared.computations.Comparison.{Comparison}
 use Rattle.pliron_dialect_mlir.specs.Data.{is_width, bits_of_width, number, bit}
 use Rattle.pliron_dialect_mlir.specs.IntegerIdentities.{identity_at, as_second, as_either, with_equal}
-use Rattle.pliron_dialect_mlir.specs.OtherData.{first_other, passed_on}
+use Rattle.pliron_dialect_mlir.specs.OtherData.{first_other}
 use Rattle.pliron_dialect_mlir.specs.Classes.{of_two}
 use Rattle.pliron_dialect_mlir.specs.Computations.{comparison_of, arithmetic_of, head_of_comparison}
 use Rattle.pliron_rewrite_rules.specs.declared.view.Leaf.{Leaf}
@@ -192,8 +192,8 @@ module _ {K : Type 0} (class_of : K → Class) (kind : Class → K) (value : Int
         let within = both_have (mlir_meaning class_of kind value) inner (leaf_datum env x) (leaf_datum env y) both.0 both.2 in
         let result : both.0 ≡ whole_datum operator s.flags c.width within.0 within.1 =
         some_is (sym both.2 ∙ ap₂ (λ p q. result_datum (mlir_meaning class_of kind value) inner (prepend_optional p (prepend_optional q (Some [])))) within.2 within.3
-            ∙ whole_gives class_of kind value forth operator inner s computes within.0 within.1
-            ∙ ap (λ w. Some (whole_datum operator s.flags w within.0 within.1)) same) in
+        ∙ whole_gives class_of kind value forth operator inner s computes within.0 within.1
+        ∙ ap (λ w. Some (whole_datum operator s.flags w within.0 within.1)) same) in
         ap₂ (λ p q. result_datum (mlir_meaning class_of kind value) (head_of_comparison c) (prepend_optional p (prepend_optional q (Some [])))) (agrees.0.1.0 ∙ within.2) (agrees.0.1.1.0 ∙ within.3)
         ∙ comparison_gives class_of kind value forth (head_of_comparison c) c (comparison_says c says.is) within.0 within.1
         ∙ ap Some (sym (difference_datum operator differs s.flags c.width c.predicate says.is free equation within.0 within.1))

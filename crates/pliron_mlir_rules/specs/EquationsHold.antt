@@ -30,7 +30,7 @@ use Rattle.pliron_mlir_rules.specs.ConstantsSeen.{SaysConstant, says_constant, i
 use Rattle.pliron_mlir_rules.specs.HeadsSay.{both_so, SaysComparison, says_comparison, SaysArithmetic}
 use Rattle.pliron_mlir_rules.specs.IntegerActs.{number_or_poison, computed_datum, constant_result, comparison_result, mlir_meaning, mlir_effects, comparison_gives, sum_gives}
 use Rattle.pliron_mlir_rules.specs.Integers.{bits_in, integer, bits_back, below_size}
-use Rattle.pliron_mlir_rules.specs.MlirRules.{known_bits, compare_with, wraps_freely, promises_nothing, constant_operation, is_equation, moved_constant, compare_summand}
+use Rattle.pliron_mlir_rules.specs.MlirRules.{known_bits, compare_with, wraps_freely, constant_operation, is_equation, moved_constant, compare_summand}
 use Rattle.pliron_mlir_rules.specs.Seen.{both_have, known_reads, known_below, leaf_below}
 use Rattle.pliron_mlir_rules.specs.SumsHold.{free_sum}
 use Rattle.pliron_mlir_rules.specs.WidthMoves.{false_true}

@@ -1,12 +1,10 @@
 -- Differences from constants, as sums.
-use Rattle.std.proofs.Common.{◌≡◌, ℕ, ◌+◌, ◌-◌, ◌%◌, ◌^◌, ◌<◌, Bool, true, false, not, nat_eq, nat_lt, ◌&&◌, List, [], ◌∷◌, Option, Some, None, if◌then◌else◌, inl, inr, refl, sym, ap, ap₂, ◌∙◌, subst, arith}
+use Rattle.std.proofs.Common.{◌≡◌, ℕ, ◌+◌, ◌-◌, ◌%◌, ◌^◌, ◌<◌, Bool, true, false, not, nat_eq, nat_lt, ◌&&◌, [], ◌∷◌, Option, Some, None, inl, inr, refl, sym, ap, ap₂, ◌∙◌, subst, arith}
 use Rattle.std.specs.List.{flat_map}
-use Rattle.std.proofs.lemmas.Bool.Decides.{Decides-eqb, Decides-ltb}
-use Rattle.std.proofs.lemmas.Nat.{mod_below, pow_pos}
-use Rattle.pliron_core.specs.declared.attrs.AttrObj.TheVariants.{Int}
+use Rattle.std.proofs.lemmas.Bool.Decides.{Decides-ltb}
 use Rattle.pliron_core.specs.declared.attrs.Head.{Head}
 use Rattle.pliron_core.specs.Tree.{In}
-use Rattle.pliron_core.proofs.HoldingLemmas.{not_none, some_is}
+use Rattle.pliron_core.proofs.HoldingLemmas.{not_none}
 use Rattle.pliron_core.proofs.ListLemmas.{In-left}
 use Rattle.pliron_laws.specs.Datum.{Datum}
 use Rattle.pliron_laws.specs.States.{Environment, prepend_optional}
@@ -16,24 +14,19 @@ use Rattle.pliron_bits.specs.declared.operators.BinaryOperator.TheVariants.{Add,
 use Rattle.pliron_bits.specs.Arithmetic.{sum}
 use Rattle.pliron_dialect_mlir.specs.declared.kind.Class.{Class}
 use Rattle.pliron_dialect_mlir.specs.declared.computations.Arithmetic.{Arithmetic}
-use Rattle.pliron_dialect_mlir.specs.Data.{is_width, bits_of_width, number, some_if}
+use Rattle.pliron_dialect_mlir.specs.Data.{is_width, bits_of_width}
 use Rattle.pliron_dialect_mlir.specs.Computations.{arithmetic_of, head_of_arithmetic}
-use Rattle.pliron_rewrite_rules.specs.declared.view.Leaf.{Leaf}
 use Rattle.pliron_rewrite_rules.specs.declared.view.Operand.{Operand}
-use Rattle.pliron_rewrite_rules.specs.declared.view.Operand.TheVariants.{Plain, Made}
 use Rattle.pliron_rewrite_rules.specs.declared.view.View.{View}
-use Rattle.pliron_rewrite_rules.specs.declared.term.Atom.TheVariants.{Named, Constant}
 use Rattle.pliron_rewrite_rules.specs.declared.term.Term.{Term}
-use Rattle.pliron_rewrite_rules.specs.declared.term.Term.TheVariants.{Make}
 use Rattle.pliron_rewrite_rules.specs.RuleLaws.{IsRule}
-use Rattle.pliron_rewrite_rules.specs.Views.{Agrees, OperandAgrees, leaf_value, leaf_datum, operand_value, operand_values, operand_datum, result_datum, view_datum, term_datum, shown_in, named_in}
-use Rattle.pliron_mlir_rules.specs.declared.sums.ConstantSum.{ConstantSum}
+use Rattle.pliron_rewrite_rules.specs.Views.{Agrees, operand_value, operand_values, operand_datum, result_datum, view_datum, term_datum, shown_in}
 use Rattle.pliron_mlir_rules.specs.HeadsSay.{both_so, picked, SaysArithmetic, says_arithmetic, signed_says}
 use Rattle.pliron_mlir_rules.specs.IntegerActs.{number_or_poison, computed_datum, constant_result, mlir_meaning, mlir_effects, sum_gives, difference_gives, pure_arithmetic}
-use Rattle.pliron_mlir_rules.specs.Integers.{bits_in, integer, bits_back, some_bits, below_size}
-use Rattle.pliron_mlir_rules.specs.MlirRules.{leaf_bits, known_bits, wraps_freely, if_signed, sum_with, may_negate, negated_sum, subtract_constant, summand_with, sum_leaves, constant_sum, joined_sum, join_sums}
-use Rattle.pliron_mlir_rules.specs.Seen.{both_have, value_shown, value_has, leaf_reads, leaf_below, known_reads, known_below}
-use Rattle.pliron_mlir_rules.specs.SumNumbers.{difference_is_sum, sums_join}
+use Rattle.pliron_mlir_rules.specs.Integers.{bits_in, integer, some_bits}
+use Rattle.pliron_mlir_rules.specs.MlirRules.{known_bits, wraps_freely, if_signed, sum_with, may_negate, negated_sum, subtract_constant}
+use Rattle.pliron_mlir_rules.specs.Seen.{both_have, value_shown, value_has, known_reads, known_below}
+use Rattle.pliron_mlir_rules.specs.SumNumbers.{difference_is_sum}
 
 pub not_true : (b : Bool) → not b ≡ true → b ≡ false
 not_true true e = sym e
