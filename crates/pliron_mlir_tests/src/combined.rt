@@ -1,7 +1,7 @@
 //! Modules, and what the rules of MLIR leave of them. `|` stands for the end of a line. Answers were worked out by hand:
 //! what a rule makes is just before the operation, which stays without uses.
 use crate::lines::{in_one_line, with_lines};
-use crate::rows::rules;
+use crate::rows::{pairs, rules};
 use pliron_core::{Context, Operation, Ptr};
 use pliron_dialect_mlir::{AnyMeaning, Mlir};
 use pliron_laws::is_well_linked;
@@ -465,6 +465,14 @@ fn rules_leave(rt: HostRuntime) {
 #[test]
 fn rules_leave_what_instcombine_does(rt: HostRuntime) {
     for case in rules::ROWS.lines() {
+        let mut ctx = Context::new(rt.alloc());
+        expect_combined(&rt, rt.alloc(), case, &mut ctx);
+    }
+}
+
+#[test]
+fn rules_leave_of_pairs_what_instcombine_does(rt: HostRuntime) {
+    for case in pairs::ROWS.lines() {
         let mut ctx = Context::new(rt.alloc());
         expect_combined(&rt, rt.alloc(), case, &mut ctx);
     }
