@@ -37,7 +37,7 @@ use Rattle.pliron_mlir_rules.specs.PowerNumbers.{one_times, zero_times}
 use Rattle.pliron_mlir_rules.specs.WidthMoves.{false_true}
 
 -- another number is none that leaves or gives anything
-other_number : (width a c : ℕ) → (a ≡ c → ⊥) → is_this (Some (number width a)) (integer width c) ≡ false
+pub other_number : (width a c : ℕ) → (a ≡ c → ⊥) → is_this (Some (number width a)) (integer width c) ≡ false
 other_number width a c apart = by (is_this (Some (number width a)) (integer width c)) refl
   where
     by : (b : Bool) → is_this (Some (number width a)) (integer width c) ≡ b → b ≡ false

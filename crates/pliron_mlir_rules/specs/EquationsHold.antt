@@ -15,6 +15,7 @@ use Rattle.pliron_bits.specs.declared.operators.Predicate.{Predicate}
 use Rattle.pliron_bits.specs.declared.operators.Predicate.TheVariants.{Equal, NotEqual, SignedLess, SignedLessEqual, SignedGreater, SignedGreaterEqual, UnsignedLess, UnsignedLessEqual, UnsignedGreater, UnsignedGreaterEqual}
 use Rattle.pliron_bits.specs.Operators.{comparison}
 use Rattle.pliron_dialect_mlir.specs.declared.kind.Class.{Class}
+use Rattle.pliron_dialect_mlir.specs.declared.computations.Arithmetic.{Arithmetic}
 use Rattle.pliron_dialect_mlir.specs.declared.computations.Comparison.{Comparison}
 use Rattle.pliron_dialect_mlir.specs.Data.{is_width, bits_of_width, bit}
 use Rattle.pliron_dialect_mlir.specs.Computations.{comparison_of}
@@ -23,14 +24,15 @@ use Rattle.pliron_rewrite_rules.specs.declared.view.View.{View}
 use Rattle.pliron_rewrite_rules.specs.declared.term.Term.{Term}
 use Rattle.pliron_rewrite_rules.specs.RuleLaws.{IsRule}
 use Rattle.pliron_rewrite_rules.specs.Views.{Agrees, operand_values, operand_datum, result_datum, view_datum, term_datum}
-use Rattle.pliron_mlir_rules.specs.declared.sums.ConstantSum.{ConstantSum}
+use Rattle.pliron_mlir_rules.specs.declared.seen.ConstantOperation.{ConstantOperation}
 use Rattle.pliron_mlir_rules.specs.ConstantComparisons.{compared_bits, compared_with, compare_with_gives, compare_with_holds}
-use Rattle.pliron_mlir_rules.specs.HeadsSay.{SaysComparison, says_comparison}
-use Rattle.pliron_mlir_rules.specs.IntegerActs.{number_or_poison, computed_datum, constant_result, comparison_result, mlir_meaning, mlir_effects, comparison_gives}
+use Rattle.pliron_mlir_rules.specs.ConstantsSeen.{SaysConstant, says_constant, inner_gives}
+use Rattle.pliron_mlir_rules.specs.HeadsSay.{both_so, SaysComparison, says_comparison, SaysArithmetic}
+use Rattle.pliron_mlir_rules.specs.IntegerActs.{number_or_poison, computed_datum, constant_result, comparison_result, mlir_meaning, mlir_effects, comparison_gives, sum_gives}
 use Rattle.pliron_mlir_rules.specs.Integers.{bits_in, integer, bits_back, below_size}
-use Rattle.pliron_mlir_rules.specs.MlirRules.{known_bits, compare_with, wraps_freely, constant_sum, is_equation, moved_constant, compare_summand}
+use Rattle.pliron_mlir_rules.specs.MlirRules.{known_bits, compare_with, wraps_freely, constant_operation, is_equation, moved_constant, compare_summand}
 use Rattle.pliron_mlir_rules.specs.Seen.{both_have, known_reads, known_below, leaf_below}
-use Rattle.pliron_mlir_rules.specs.SumsHold.{free_sum, SaysSum, says_sum, inner_gives}
+use Rattle.pliron_mlir_rules.specs.SumsHold.{free_sum}
 use Rattle.pliron_mlir_rules.specs.WidthMoves.{false_true}
 
 -- ---- numbers
@@ -91,19 +93,28 @@ module _ {K : Type 0} (class_of : K → Class) (kind : Class → K) (value : Int
   abbrev moved : Comparison → (c n : ℕ) → ℕ
   moved k c n = (n + (2 ^ bits_of_width k.width - c)) % 2 ^ bits_of_width k.width
 
-  holds : (head : Head) (c : Comparison) → SaysComparison head c → is_equation c.predicate ≡ true → (a b : Operand) (t : ConstantSum) → SaysSum c.width a t → (n : ℕ) → known_bits c.width b ≡ Some n → IsRuleOf (record { head = head; operands = a ∷ b ∷ [] }) (compare_with c t.value (moved c t.constant n))
+  holds : (head : Head) (c : Comparison) → SaysComparison head c → is_equation c.predicate ≡ true → (a b : Operand) (t : ConstantOperation) → SaysConstant Add c.width a t → (n : ℕ) → known_bits c.width b ≡ Some n → IsRuleOf (record { head = head; operands = a ∷ b ∷ [] }) (compare_with c t.value (moved c t.constant n))
   holds head c says equation a b t u n known =
       compare_with_holds class_of kind value forth head a b c t.value (moved c t.constant n) says.is (subst (λ o. In t.value (operand_values o)) (sym u.is) (inr (inl (sym u.value_is)))) (λ env r agrees e. equal env r agrees e)
     where
       lt : n < 2 ^ bits_of_width c.width
       lt = known_below c.width b n known
 
+      small : t.constant < 2 ^ bits_of_width c.width
+      small = leaf_below c.width u.c t.constant u.reads
+
+      sum : (h : Head) (s : Arithmetic) → SaysArithmetic Add h s → s.width ≡ c.width → (d : Datum) → result_datum (mlir_meaning class_of kind value) h (Some (d ∷ integer c.width t.constant ∷ [])) ≡ Some (constant_result Add s.flags c.width d t.constant)
+      sum h s j same d =
+          ap (λ w. result_datum (mlir_meaning class_of kind value) h (Some (d ∷ integer w t.constant ∷ []))) (sym same)
+          ∙ sum_gives class_of kind value forth h s j d t.constant (subst (λ w. t.constant < 2 ^ bits_of_width w) (sym same) small)
+          ∙ ap (λ w. Some (constant_result Add s.flags w d t.constant)) same
+
       equal : (env : Environment) (r : Datum) → Agrees (mlir_meaning class_of kind value) env (record { head = head; operands = a ∷ b ∷ [] }) → view_datum (mlir_meaning class_of kind value) env (record { head = head; operands = a ∷ b ∷ [] }) ≡ Some r → term_datum (mlir_meaning class_of kind value) env (compare_with c t.value (moved c t.constant n)) ≡ Some r
       equal env r agrees e =
           let both = both_have (mlir_meaning class_of kind value) head (operand_datum (mlir_meaning class_of kind value) env a) (operand_datum (mlir_meaning class_of kind value) env b) r e in
-          let inner = inner_gives class_of kind value forth env c.width a t both.0 says.is u agrees.0 both.2 in
+          let inner = inner_gives class_of kind value forth env Add c.width a t both.0 (λ h s j same nothing d. sum h s j same d) u agrees.0 both.2 in
           compare_with_gives class_of kind value forth env c t.value (moved c t.constant n) inner.1 says.is (mod_below (n + (2 ^ bits_of_width c.width - t.constant)) (2 ^ bits_of_width c.width) (pow_pos (bits_of_width c.width))) inner.3
-          ∙ ap Some (sym (moved_datum inner.0 c.width c.predicate t.constant n says.is inner.2 equation (leaf_below c.width u.c t.constant u.reads) lt inner.1))
+          ∙ ap Some (sym (moved_datum inner.0 c.width c.predicate t.constant n says.is (both_so (wraps_freely inner.0) (not inner.0.disjoint) inner.2).0 equation small lt inner.1))
           ∙ ap (λ y. Some (compared_bits c.width c.predicate (bits_in c.width y) y n)) (sym inner.4)
           ∙ ap Some (sym (compared_with c.width c.predicate n says.is lt both.0))
           ∙ ap (λ y. Some (comparison_result c.width c.predicate both.0 y)) (sym (known_reads class_of kind value forth env c.width b n both.1 known both.3))
@@ -115,14 +126,14 @@ module _ {K : Type 0} (class_of : K → Class) (kind : Class → K) (value : Int
   equations_hold head a b term None e f = absurd (not_none f)
   equations_hold head a b term (Some c) e f = of_equation (is_equation c.predicate) refl f
     where
-      of_bits : is_equation c.predicate ≡ true → (t : ConstantSum) → constant_sum c.width a ≡ Some t → (o : Option ℕ) → known_bits c.width b ≡ o → moved_constant c (Some t) o ≡ Some term → IsRuleOf (record { head = head; operands = a ∷ b ∷ [] }) term
+      of_bits : is_equation c.predicate ≡ true → (t : ConstantOperation) → constant_operation Add c.width a ≡ Some t → (o : Option ℕ) → known_bits c.width b ≡ o → moved_constant c (Some t) o ≡ Some term → IsRuleOf (record { head = head; operands = a ∷ b ∷ [] }) term
       of_bits equation t g None h i = absurd (not_none i)
-      of_bits equation t g (Some n) h i = subst (IsRuleOf (record { head = head; operands = a ∷ b ∷ [] })) (some_is i) (holds head c (says_comparison head c e) equation a b t (says_sum c.width a t g) n h)
+      of_bits equation t g (Some n) h i = subst (IsRuleOf (record { head = head; operands = a ∷ b ∷ [] })) (some_is i) (holds head c (says_comparison head c e) equation a b t (says_constant Add c.width a t g) n h)
 
-      of_sum : is_equation c.predicate ≡ true → (o : Option ConstantSum) → constant_sum c.width a ≡ o → moved_constant c o (known_bits c.width b) ≡ Some term → IsRuleOf (record { head = head; operands = a ∷ b ∷ [] }) term
+      of_sum : is_equation c.predicate ≡ true → (o : Option ConstantOperation) → constant_operation Add c.width a ≡ o → moved_constant c o (known_bits c.width b) ≡ Some term → IsRuleOf (record { head = head; operands = a ∷ b ∷ [] }) term
       of_sum equation None g h = absurd (not_none h)
       of_sum equation (Some t) g h = of_bits equation t g (known_bits c.width b) refl h
 
-      of_equation : (x : Bool) → is_equation c.predicate ≡ x → (if x then moved_constant c (constant_sum c.width a) (known_bits c.width b) else None) ≡ Some term → IsRuleOf (record { head = head; operands = a ∷ b ∷ [] }) term
+      of_equation : (x : Bool) → is_equation c.predicate ≡ x → (if x then moved_constant c (constant_operation Add c.width a) (known_bits c.width b) else None) ≡ Some term → IsRuleOf (record { head = head; operands = a ∷ b ∷ [] }) term
       of_equation false g h = absurd (not_none h)
-      of_equation true g h = of_sum g (constant_sum c.width a) refl h
+      of_equation true g h = of_sum g (constant_operation Add c.width a) refl h

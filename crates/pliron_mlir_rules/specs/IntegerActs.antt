@@ -106,7 +106,7 @@ apart_back width to lt = go (nat_eq width to) refl
         never : (n : ℕ) → nat_lt n n ≡ true → ⊥
         never n h = grind (arith, tests, h)
 
-and_none : (x : Bool) → x && false ≡ false
+pub and_none : (x : Bool) → x && false ≡ false
 and_none true = refl
 and_none false = refl
 
@@ -165,7 +165,7 @@ equal_differ flags width c is lt =
     ∙ ap (number_or_poison width) (difference_of_equal flags (bits_of_width width) c lt)
 
 -- masks and exclusions
-ones_is : (width : ℕ) → is_width width ≡ true → all_ones_at width ≡ Some (number width (2 ^ bits_of_width width - 1))
+pub ones_is : (width : ℕ) → is_width width ≡ true → all_ones_at width ≡ Some (number width (2 ^ bits_of_width width - 1))
 ones_is width is = ap (λ b. some_if b (number width (2 ^ bits_of_width width - 1))) is
 
 ones_masked : (flags : Flags) (width k : ℕ) → is_width width ≡ true → k < bits_of_width width → constant_result And flags width (integer width (2 ^ bits_of_width width - 1)) (2 ^ k - 1) ≡ integer width (2 ^ k - 1)
@@ -185,12 +185,12 @@ zero_masked flags width k is =
     ap (λ o. computed_datum And flags width o (integer width 0) (2 ^ k - 1)) (bits_back width 0 is (pow_pos (bits_of_width width)))
     ∙ ap (integer width) (and_mask 0 k ∙ zero-mod (2 ^ k))
 
-zero_excluded : (flags : Flags) (width c : ℕ) → is_width width ≡ true → constant_result Xor flags width (integer width 0) c ≡ integer width c
+pub zero_excluded : (flags : Flags) (width c : ℕ) → is_width width ≡ true → constant_result Xor flags width (integer width 0) c ≡ integer width c
 zero_excluded flags width c is =
     ap (λ o. computed_datum Xor flags width o (integer width 0) c) (bits_back width 0 is (pow_pos (bits_of_width width)))
     ∙ ap (integer width) (xor_zero_l c)
 
-equal_excluded : (flags : Flags) (width c : ℕ) → is_width width ≡ true → c < 2 ^ bits_of_width width → constant_result Xor flags width (integer width c) c ≡ integer width 0
+pub equal_excluded : (flags : Flags) (width c : ℕ) → is_width width ≡ true → c < 2 ^ bits_of_width width → constant_result Xor flags width (integer width c) c ≡ integer width 0
 equal_excluded flags width c is lt =
     ap (λ o. computed_datum Xor flags width o (integer width c) c) (bits_back width c is lt)
     ∙ ap (integer width) (xor_self c)

@@ -1,5 +1,5 @@
 -- Rules on integers, as a table from views to terms.
-use Rattle.std.specs.Prelude.{if◌then◌else◌, nat_eq, nat_lt, nat_le, not, ℕ, ◌+◌, ◌-◌, ◌%◌, ◌^◌, Bool, true, false, ◌&&◌, List, [], ◌∷◌, Option, Some, None, ℤ, pos}
+use Rattle.std.specs.Prelude.{if◌then◌else◌, nat_eq, nat_lt, nat_le, not, bit_and, bit_or, bit_xor, ℕ, ◌+◌, ◌-◌, ◌%◌, ◌^◌, Bool, true, false, ◌&&◌, List, [], ◌∷◌, Option, Some, None, ℤ, pos}
 use Rattle.std.specs.Option.{option_or}
 use Rattle.std.specs.Int.{w64, trailing_zeros}
 use Rattle.pliron_core.specs.declared.attrs.AttrObj.{AttrObj}
@@ -28,7 +28,9 @@ use Rattle.pliron_rewrite_rules.specs.declared.term.Term.{Term}
 use Rattle.pliron_rewrite_rules.specs.declared.term.Term.TheVariants.{Atomic, Make}
 use Rattle.pliron_rewrite_rules.specs.Views.{leaf_value, operand_value}
 use Rattle.pliron_mlir_rules.specs.declared.seen.CastSource.{CastSource}
-use Rattle.pliron_mlir_rules.specs.declared.sums.ConstantSum.{ConstantSum}
+use Rattle.pliron_mlir_rules.specs.declared.seen.ConstantOperation.{ConstantOperation}
+use Rattle.pliron_mlir_rules.specs.declared.constants.AssociativeOperator.{AssociativeOperator}
+use Rattle.pliron_mlir_rules.specs.declared.constants.AssociativeOperator.TheVariants.{Sum, Conjunction, Disjunction, Exclusion}
 
 -- ---- what is seen of an operand
 
@@ -59,6 +61,26 @@ source_leaf cast to _ _ = None
 abbrev pub source_of : Cast → (to : ℕ) → Operand → Option CastSource
 source_of cast to (Plain leaf) = None
 source_of cast to (Made v head leaves) = source_leaf cast to (conversion_of cast head) leaves
+
+-- whether results may wrap, and operands may have bits in common
+abbrev pub wraps_freely : Flags → Bool
+wraps_freely flags = not flags.no_signed_wrap && not flags.no_unsigned_wrap
+
+abbrev pub promises_nothing : Flags → Bool
+promises_nothing flags = wraps_freely flags && not flags.disjoint
+
+abbrev pub operation_with : (value : ℕ) → Option ℕ → Option ConstantOperation
+operation_with value (Some c) = Some (record { value = value; constant = c })
+operation_with value None = None
+
+abbrev pub constant_leaves : (width : ℕ) → Option Arithmetic → List Leaf → Option ConstantOperation
+constant_leaves width (Some s) (x ∷ c ∷ []) = if nat_eq s.width width && promises_nothing s.flags then operation_with (leaf_value x) (leaf_bits width c) else None
+constant_leaves width _ _ = None
+
+-- the value and the constant of which the operator makes the operand, where it promises nothing
+abbrev pub constant_operation : BinaryOperator → (width : ℕ) → Operand → Option ConstantOperation
+constant_operation operator width (Plain leaf) = None
+constant_operation operator width (Made v head leaves) = constant_leaves width (arithmetic_of operator head) leaves
 
 -- ---- comparisons of extensions
 
@@ -201,31 +223,6 @@ negated_sum s value None = None
 abbrev pub subtract_constant : Option Arithmetic → (a b : Operand) → Option Term
 subtract_constant (Some s) a b = negated_sum s (operand_value a) (known_bits s.width b)
 subtract_constant None a b = None
-
-abbrev pub wraps_freely : Flags → Bool
-wraps_freely flags = not flags.no_signed_wrap && not flags.no_unsigned_wrap
-
-abbrev pub summand_with : (value : ℕ) → Option ℕ → Option ConstantSum
-summand_with value (Some c) = Some (record { value = value; constant = c })
-summand_with value None = None
-
-abbrev pub sum_leaves : (width : ℕ) → Option Arithmetic → List Leaf → Option ConstantSum
-sum_leaves width (Some s) (x ∷ c ∷ []) = if nat_eq s.width width && wraps_freely s.flags then summand_with (leaf_value x) (leaf_bits width c) else None
-sum_leaves width _ _ = None
-
--- the value and the constant that the operand is the sum of, where that may wrap
-abbrev pub constant_sum : (width : ℕ) → Operand → Option ConstantSum
-constant_sum width (Plain leaf) = None
-constant_sum width (Made v head leaves) = sum_leaves width (arithmetic_of Add head) leaves
-
-abbrev pub joined_sum : (width : ℕ) → Option ConstantSum → Option ℕ → Option Term
-joined_sum width (Some t) (Some d) = Some (sum_with width false t.value ((t.constant + d) % 2 ^ bits_of_width width))
-joined_sum width _ _ = None
-
--- `(x + c) + d` is `x + (c + d)`
-abbrev pub join_sums : Option Arithmetic → (a b : Operand) → Option Term
-join_sums (Some s) a b = if wraps_freely s.flags then joined_sum s.width (constant_sum s.width a) (known_bits s.width b) else None
-join_sums None a b = None
 
 -- ---- strict comparisons
 
@@ -371,6 +368,49 @@ rules_of_powers head a b =
     option_or (shift_product (arithmetic_of Multiply head) a b)
     (option_or (shift_quotient (arithmetic_of UnsignedDivide head) a b) (mask_remainder (arithmetic_of UnsignedRemainder head) a b))
 
+-- ---- operations with two constants
+
+abbrev pub operator_of : AssociativeOperator → BinaryOperator
+operator_of Sum = Add
+operator_of Conjunction = And
+operator_of Disjunction = Or
+operator_of Exclusion = Xor
+
+-- the one constant that two of w bits are
+abbrev pub joined_bits : AssociativeOperator → (w a b : ℕ) → ℕ
+joined_bits Sum w a b = (a + b) % 2 ^ w
+joined_bits Conjunction w a b = bit_and a b
+joined_bits Disjunction w a b = bit_or a b
+joined_bits Exclusion w a b = bit_xor a b
+
+-- whether an operation with this constant gives the constant, whatever its other operand is
+abbrev pub absorbs : AssociativeOperator → (w c : ℕ) → Bool
+absorbs Sum w c = false
+absorbs Conjunction w c = nat_eq c 0
+absorbs Disjunction w c = nat_eq c (2 ^ w - 1)
+absorbs Exclusion w c = false
+
+abbrev pub joined_with : AssociativeOperator → (width value c : ℕ) → Option Term
+joined_with operator width value c = some_if (not (absorbs operator (bits_of_width width) c)) (arithmetic_with (operator_of operator) (record { width = width; flags = no_flags }) value c)
+
+abbrev pub joined_constants : AssociativeOperator → (width : ℕ) → Option ConstantOperation → Option ℕ → Option Term
+joined_constants operator width (Some t) (Some d) = joined_with operator width t.value (joined_bits operator (bits_of_width width) t.constant d)
+joined_constants operator width _ _ = None
+
+abbrev pub joined_if : AssociativeOperator → Option Arithmetic → (a b : Operand) → Option Term
+joined_if operator (Some s) a b =
+    if promises_nothing s.flags then joined_constants operator s.width (constant_operation (operator_of operator) s.width a) (known_bits s.width b) else None
+joined_if operator None a b = None
+
+-- `(x op c) op d` is `x op (c op d)`, unless that constant absorbs what is no number
+abbrev pub join_constants : AssociativeOperator → Head → (a b : Operand) → Option Term
+join_constants operator head a b = joined_if operator (arithmetic_of (operator_of operator) head) a b
+
+abbrev pub rules_of_constants : Head → (a b : Operand) → Option Term
+rules_of_constants head a b =
+    option_or (join_constants Sum head a b)
+    (option_or (join_constants Conjunction head a b) (option_or (join_constants Disjunction head a b) (join_constants Exclusion head a b)))
+
 -- ---- inverted comparisons
 
 abbrev pub inverse_of : Predicate → Predicate
@@ -404,7 +444,7 @@ abbrev pub invert_comparison : Option Arithmetic → (a b : Operand) → Option 
 invert_comparison (Some s) a b = if nat_eq s.width 1 then inverse_if (known_bits 1 b) a else None
 invert_comparison None a b = None
 
--- ---- equations with sums
+-- ---- equations with sums and differences
 
 abbrev pub is_equation : Predicate → Bool
 is_equation Equal = true
@@ -418,14 +458,33 @@ is_equation UnsignedLessEqual = false
 is_equation UnsignedGreater = false
 is_equation UnsignedGreaterEqual = false
 
-abbrev pub moved_constant : Comparison → Option ConstantSum → Option ℕ → Option Term
+abbrev pub moved_constant : Comparison → Option ConstantOperation → Option ℕ → Option Term
 moved_constant c (Some t) (Some d) = Some (compare_with c t.value ((d + (2 ^ bits_of_width c.width - t.constant)) % 2 ^ bits_of_width c.width))
 moved_constant c _ _ = None
 
 -- `icmp eq (x + c) d` is `icmp eq x (d - c)`, and so is `icmp ne`
 abbrev pub compare_summand : Option Comparison → (a b : Operand) → Option Term
-compare_summand (Some c) a b = if is_equation c.predicate then moved_constant c (constant_sum c.width a) (known_bits c.width b) else None
+compare_summand (Some c) a b = if is_equation c.predicate then moved_constant c (constant_operation Add c.width a) (known_bits c.width b) else None
 compare_summand None a b = None
+
+abbrev pub difference_leaves : Comparison → Option Arithmetic → List Leaf → Option Term
+difference_leaves c (Some s) (x ∷ y ∷ []) =
+    some_if (nat_eq s.width c.width && wraps_freely s.flags) (Make (head_of_comparison c) (Named (leaf_value x) ∷ Named (leaf_value y) ∷ []))
+difference_leaves c _ _ = None
+
+-- the comparison of the two of which the operator makes the operand
+abbrev pub difference_term : BinaryOperator → Comparison → Operand → Option Term
+difference_term operator c (Plain leaf) = None
+difference_term operator c (Made v head leaves) = difference_leaves c (arithmetic_of operator head) leaves
+
+abbrev pub difference_if : BinaryOperator → Comparison → Option ℕ → (a : Operand) → Option Term
+difference_if operator c (Some k) a = if nat_eq k 0 then difference_term operator c a else None
+difference_if operator c None a = None
+
+-- `icmp eq (x - y) 0` is `icmp eq x y`, `icmp eq (x xor y) 0` too, and so is `icmp ne`
+abbrev pub compare_difference : BinaryOperator → Option Comparison → (a b : Operand) → Option Term
+compare_difference operator (Some c) a b = if is_equation c.predicate then difference_if operator c (known_bits c.width b) a else None
+compare_difference operator None a b = None
 
 -- ---- the rules
 
@@ -438,12 +497,13 @@ rules_of_unary head a =
 abbrev pub rules_of_comparison : Option Comparison → (a b : Operand) → Option Term
 rules_of_comparison c a b =
     option_or (swap_comparison c a b)
-    (option_or (compare_narrow ZeroExtend c a b) (option_or (compare_narrow SignExtend c a b) (option_or (compare_strictly c a b) (compare_summand c a b))))
+    (option_or (compare_narrow ZeroExtend c a b) (option_or (compare_narrow SignExtend c a b) (option_or (compare_strictly c a b)
+    (option_or (compare_summand c a b) (option_or (compare_difference Subtract c a b) (compare_difference Xor c a b))))))
 
 abbrev pub rules_of_arithmetic : Head → (a b : Operand) → Option Term
 rules_of_arithmetic head a b =
     option_or (subtract_constant (arithmetic_of Subtract head) a b)
-    (option_or (join_sums (arithmetic_of Add head) a b) (invert_comparison (arithmetic_of Xor head) a b))
+    (option_or (rules_of_constants head a b) (invert_comparison (arithmetic_of Xor head) a b))
 
 abbrev pub rules_of_binary : Head → (a b : Operand) → Option Term
 rules_of_binary head a b =

@@ -4,7 +4,7 @@ use Rattle.std.specs.Option.{option_or}
 use Rattle.pliron_core.specs.declared.attrs.Head.{Head}
 use Rattle.pliron_core.proofs.HoldingLemmas.{not_none}
 use Rattle.pliron_dialect.specs.Roles.{Interpretation}
-use Rattle.pliron_bits.specs.declared.operators.BinaryOperator.TheVariants.{Add, Subtract, Xor}
+use Rattle.pliron_bits.specs.declared.operators.BinaryOperator.TheVariants.{Subtract, Xor}
 use Rattle.pliron_bits.specs.declared.operators.Cast.TheVariants.{ZeroExtend, SignExtend, Truncate}
 use Rattle.pliron_dialect_mlir.specs.declared.kind.Class.{Class}
 use Rattle.pliron_dialect_mlir.specs.Computations.{comparison_of, conversion_of, arithmetic_of}
@@ -14,16 +14,18 @@ use Rattle.pliron_rewrite_rules.specs.declared.term.Term.{Term}
 use Rattle.pliron_rewrite_rules.specs.RuleLaws.{IsRule, RulesHold}
 use Rattle.pliron_mlir_rules.specs.CastsHold.{casts_hold}
 use Rattle.pliron_mlir_rules.specs.ComparisonsHold.{compare_holds}
+use Rattle.pliron_mlir_rules.specs.ConstantsHold.{constants_hold}
+use Rattle.pliron_mlir_rules.specs.DifferencesHold.{differences_differ, exclusions_differ, differences_compare}
 use Rattle.pliron_mlir_rules.specs.EquationsHold.{equations_hold}
 use Rattle.pliron_mlir_rules.specs.ExtensionNumbers.{zeros_extend, signs_extend}
 use Rattle.pliron_mlir_rules.specs.IntegerActs.{mlir_meaning, mlir_effects}
-use Rattle.pliron_mlir_rules.specs.MlirRules.{swap_comparison, compare_narrow, compare_strictly, compare_summand, join_casts, mask_bits, swap_constant, subtract_constant, join_sums, invert_comparison, rules_of_unary, rules_of_comparison, rules_of_arithmetic, rules_of_powers, rules_of_binary, by_mlir_operands, mlir_rules}
+use Rattle.pliron_mlir_rules.specs.MlirRules.{swap_comparison, compare_narrow, compare_strictly, compare_summand, compare_difference, join_casts, mask_bits, swap_constant, subtract_constant, rules_of_constants, invert_comparison, rules_of_unary, rules_of_comparison, rules_of_arithmetic, rules_of_powers, rules_of_binary, by_mlir_operands, mlir_rules}
 use Rattle.pliron_mlir_rules.specs.InversesHold.{inverses_hold}
 use Rattle.pliron_mlir_rules.specs.MasksHold.{masks_hold}
 use Rattle.pliron_mlir_rules.specs.OrdersHold.{swapped_comparisons_hold, swapped_constants_hold}
 use Rattle.pliron_mlir_rules.specs.PowersHold.{powers_hold}
 use Rattle.pliron_mlir_rules.specs.StrictHold.{strict_holds}
-use Rattle.pliron_mlir_rules.specs.SumsHold.{differences_hold, sums_hold}
+use Rattle.pliron_mlir_rules.specs.SumsHold.{differences_hold}
 
 module _ {K : Type 0} (class_of : K → Class) (kind : Class → K) (value : Interpretation) (forth : (c : Class) → class_of (kind c) ≡ c) where
   abbrev IsRuleOf : View → Term → Type 0
@@ -68,19 +70,36 @@ module _ {K : Type 0} (class_of : K → Class) (kind : Class → K) (value : Int
       summand : Option Term
       summand = compare_summand (comparison_of head) a b
 
-      of_strict : (o : Option Term) → compare_strictly (comparison_of head) a b ≡ o → option_or o summand ≡ Some term → IsRuleOf (record { head = head; operands = a ∷ b ∷ [] }) term
-      of_strict None f g = equations_hold class_of kind value forth head a b term (comparison_of head) refl g
+      difference : Option Term
+      difference = compare_difference Subtract (comparison_of head) a b
+
+      exclusion : Option Term
+      exclusion = compare_difference Xor (comparison_of head) a b
+
+      equations : Option Term
+      equations = option_or summand (option_or difference exclusion)
+
+      of_difference : (o : Option Term) → compare_difference Subtract (comparison_of head) a b ≡ o → option_or o exclusion ≡ Some term → IsRuleOf (record { head = head; operands = a ∷ b ∷ [] }) term
+      of_difference None f g = differences_compare class_of kind value forth Xor exclusions_differ head a b term (comparison_of head) refl g
+      of_difference (Some t) f g = differences_compare class_of kind value forth Subtract differences_differ head a b term (comparison_of head) refl (f ∙ g)
+
+      of_summand : (o : Option Term) → compare_summand (comparison_of head) a b ≡ o → option_or o (option_or difference exclusion) ≡ Some term → IsRuleOf (record { head = head; operands = a ∷ b ∷ [] }) term
+      of_summand None f g = of_difference (compare_difference Subtract (comparison_of head) a b) refl g
+      of_summand (Some t) f g = equations_hold class_of kind value forth head a b term (comparison_of head) refl (f ∙ g)
+
+      of_strict : (o : Option Term) → compare_strictly (comparison_of head) a b ≡ o → option_or o equations ≡ Some term → IsRuleOf (record { head = head; operands = a ∷ b ∷ [] }) term
+      of_strict None f g = of_summand (compare_summand (comparison_of head) a b) refl g
       of_strict (Some t) f g = strict_holds class_of kind value forth head a b term (comparison_of head) refl (f ∙ g)
 
-      of_signed : (o : Option Term) → compare_narrow SignExtend (comparison_of head) a b ≡ o → option_or o (option_or strict summand) ≡ Some term → IsRuleOf (record { head = head; operands = a ∷ b ∷ [] }) term
+      of_signed : (o : Option Term) → compare_narrow SignExtend (comparison_of head) a b ≡ o → option_or o (option_or strict equations) ≡ Some term → IsRuleOf (record { head = head; operands = a ∷ b ∷ [] }) term
       of_signed None f g = of_strict (compare_strictly (comparison_of head) a b) refl g
       of_signed (Some t) f g = compare_holds class_of kind value forth SignExtend signs_extend head a b term (comparison_of head) refl (f ∙ g)
 
-      of_narrow : (o : Option Term) → compare_narrow ZeroExtend (comparison_of head) a b ≡ o → option_or o (option_or signed (option_or strict summand)) ≡ Some term → IsRuleOf (record { head = head; operands = a ∷ b ∷ [] }) term
+      of_narrow : (o : Option Term) → compare_narrow ZeroExtend (comparison_of head) a b ≡ o → option_or o (option_or signed (option_or strict equations)) ≡ Some term → IsRuleOf (record { head = head; operands = a ∷ b ∷ [] }) term
       of_narrow None f g = of_signed (compare_narrow SignExtend (comparison_of head) a b) refl g
       of_narrow (Some t) f g = compare_holds class_of kind value forth ZeroExtend zeros_extend head a b term (comparison_of head) refl (f ∙ g)
 
-      of_swapped : (o : Option Term) → swap_comparison (comparison_of head) a b ≡ o → option_or o (option_or narrow (option_or signed (option_or strict summand))) ≡ Some term → IsRuleOf (record { head = head; operands = a ∷ b ∷ [] }) term
+      of_swapped : (o : Option Term) → swap_comparison (comparison_of head) a b ≡ o → option_or o (option_or narrow (option_or signed (option_or strict equations))) ≡ Some term → IsRuleOf (record { head = head; operands = a ∷ b ∷ [] }) term
       of_swapped None f g = of_narrow (compare_narrow ZeroExtend (comparison_of head) a b) refl g
       of_swapped (Some t) f g = swapped_comparisons_hold class_of kind value forth head a b term (comparison_of head) refl (f ∙ g)
 
@@ -88,17 +107,17 @@ module _ {K : Type 0} (class_of : K → Class) (kind : Class → K) (value : Int
   arithmetic_holds head a b term e = of_difference (subtract_constant (arithmetic_of Subtract head) a b) refl e
     where
       joined : Option Term
-      joined = join_sums (arithmetic_of Add head) a b
+      joined = rules_of_constants head a b
 
       inverted : Option Term
       inverted = invert_comparison (arithmetic_of Xor head) a b
 
-      of_joined : (o : Option Term) → join_sums (arithmetic_of Add head) a b ≡ o → option_or o inverted ≡ Some term → IsRuleOf (record { head = head; operands = a ∷ b ∷ [] }) term
+      of_joined : (o : Option Term) → rules_of_constants head a b ≡ o → option_or o inverted ≡ Some term → IsRuleOf (record { head = head; operands = a ∷ b ∷ [] }) term
       of_joined None f g = inverses_hold class_of kind value forth head a b term (arithmetic_of Xor head) refl g
-      of_joined (Some t) f g = sums_hold class_of kind value forth head a b term (arithmetic_of Add head) refl (f ∙ g)
+      of_joined (Some t) f g = constants_hold class_of kind value forth head a b term (f ∙ g)
 
       of_difference : (o : Option Term) → subtract_constant (arithmetic_of Subtract head) a b ≡ o → option_or o (option_or joined inverted) ≡ Some term → IsRuleOf (record { head = head; operands = a ∷ b ∷ [] }) term
-      of_difference None f g = of_joined (join_sums (arithmetic_of Add head) a b) refl g
+      of_difference None f g = of_joined (rules_of_constants head a b) refl g
       of_difference (Some t) f g = differences_hold class_of kind value forth head a b term (arithmetic_of Subtract head) refl (f ∙ g)
 
   two_hold : (head : Head) (a b : Operand) (term : Term) → rules_of_binary head a b ≡ Some term → IsRuleOf (record { head = head; operands = a ∷ b ∷ [] }) term

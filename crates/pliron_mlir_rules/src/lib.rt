@@ -1,8 +1,9 @@
 //! A set of rules for MLIR's operations on integers, under every interpretation: a constant stands second; a comparison of
 //! extensions is one of what they extend, and one with a constant is strict; a cast of a cast is one cast, or a mask; a
-//! constant is added where one is subtracted, and one where there are two; a product or a quotient by a power of two is a
-//! shift, and a remainder by one a mask; a sum with a constant equals one where its value equals the difference; and an
-//! inverted comparison is the inverse one.
+//! constant is added where one is subtracted; of two sums, masks, unions or exclusions with constants there is one; a product
+//! or a quotient by a power of two is a shift, and a remainder by one a mask; a sum with a constant equals one where its value
+//! equals the difference, and a difference or an exclusion is 0 where its operands are equal; and an inverted comparison is
+//! the inverse one.
 //!
 //! The table is in `specs/MlirRules.antt`; for each rule its term has the datum of what is seen, also where the data are no
 //! numbers.
@@ -15,6 +16,7 @@ ghost use Rattle.pliron_mlir_rules.specs.RulesHold.{mlir_rules_hold};
 
 mod casts;
 mod comparisons;
+mod constants;
 mod equations;
 mod inverses;
 mod masks;
@@ -26,7 +28,8 @@ mod sums;
 
 use casts::join_casts;
 use comparisons::compare_narrow;
-use equations::compare_summand;
+use constants::rules_of_constants;
+use equations::{compare_difference, compare_summand};
 use inverses::invert_comparison;
 use masks::mask_bits;
 use orders::{swap_comparison, swap_constant};
@@ -38,7 +41,7 @@ use pliron_rewrite_rules::{Operand, Rules, Term, View};
 use powers::rules_of_powers;
 use std::alloc::Global;
 use strict::compare_strictly;
-use sums::{join_sums, subtract_constant};
+use sums::subtract_constant;
 
 /// Rules on integers.
 pub struct MlirRules;
@@ -85,7 +88,14 @@ fn rules_of_comparison(
     if let Some(term) = compare_strictly(alloc, comparison, a, b)? {
         return Ok(Some(term));
     }
-    compare_summand(alloc, comparison, a, b)
+    if let Some(term) = compare_summand(alloc, comparison, a, b)? {
+        return Ok(Some(term));
+    }
+    let operator = BinaryOperator::Subtract;
+    if let Some(term) = compare_difference(alloc, operator, comparison, a, b)? {
+        return Ok(Some(term));
+    }
+    compare_difference(alloc, BinaryOperator::Xor, comparison, a, b)
 }
 
 // What the rules answer for an operation with this head that computes an integer of two.
@@ -102,8 +112,7 @@ fn rules_of_arithmetic(
     if let Some(term) = subtract_constant(alloc, difference, a, b)? {
         return Ok(Some(term));
     }
-    let sum = Arithmetic::of_head(BinaryOperator::Add, head);
-    if let Some(term) = join_sums(alloc, sum, a, b)? {
+    if let Some(term) = rules_of_constants(alloc, head, a, b)? {
         return Ok(Some(term));
     }
     invert_comparison(alloc, Arithmetic::of_head(BinaryOperator::Xor, head), a, b)

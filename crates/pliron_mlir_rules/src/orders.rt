@@ -42,7 +42,7 @@ fn is_first_known(first: Option<u64>, second: Option<u64>) -> bool
 }
 
 // These two values, as atoms.
-fn two_values(alloc: Global, first: Value, second: Value) -> Result<Atoms, OptError>
+pub(crate) fn two_values(alloc: Global, first: Value, second: Value) -> Result<Atoms, OptError>
     ensures ok { IfOk result (λ atoms. atoms ≡ Named first ∷ Named second ∷ []) }
     ensures memory { IsOkUnless result OptError.Memory }
 {

@@ -39,7 +39,7 @@ fn known_exponent(width: u32, operand: &Operand) -> Option<u32>
 }
 
 // The operation on the value and a constant.
-fn arithmetic_with(
+pub(crate) fn arithmetic_with(
     alloc: Global,
     operator: BinaryOperator,
     arithmetic: Arithmetic,

@@ -3,13 +3,14 @@ ghost use Rattle.std.specs.Prelude.{◌≡◌, ◌≤◌, ◌<◌, ◌^◌, IfSo
 ghost use Rattle.pliron_rewrite_rules.specs.Views.{leaf_value as leaf_value_by, operand_value as operand_value_by};
 ghost use Rattle.pliron_dialect_mlir.specs.Data.{bits_of_width};
 ghost use Rattle.pliron_mlir_rules.specs.MlirRules.{constant_bits as constant_bits_by, known_bits as known_bits_by};
+ghost use Rattle.pliron_mlir_rules.specs.MlirRules.{constant_leaves as constant_leaves_by, constant_operation as constant_operation_by};
 ghost use Rattle.pliron_mlir_rules.specs.MlirRules.{is_plain_cast as is_plain_cast_by, leaf_bits as leaf_bits_by};
 ghost use Rattle.pliron_mlir_rules.specs.MlirRules.{source_leaf as source_leaf_by, source_of as source_of_by};
-ghost use Rattle.pliron_mlir_rules.specs.MlirRules.{wraps_freely as wraps_freely_by};
+ghost use Rattle.pliron_mlir_rules.specs.MlirRules.{promises_nothing as promises_nothing_by, wraps_freely as wraps_freely_by};
 
-use pliron_bits::{Cast, Flags};
+use pliron_bits::{BinaryOperator, Cast, Flags};
 use pliron_core::{AttrObj, Value};
-use pliron_dialect_mlir::{Conversion, bits_at, counted_bits};
+use pliron_dialect_mlir::{Arithmetic, Conversion, bits_at, counted_bits};
 use pliron_rewrite_rules::{Leaf, Operand};
 
 // A value that is cast, and its width.
@@ -17,6 +18,13 @@ use pliron_rewrite_rules::{Leaf, Operand};
 pub(crate) struct CastSource {
     pub(crate) value: Value,
     pub(crate) width: u32,
+}
+
+// A value, and the bits of a constant that is computed with it.
+#[derive(Clone, Copy)]
+pub(crate) struct ConstantOperation {
+    pub(crate) value: Value,
+    pub(crate) constant: u64,
 }
 
 // The bits of the constant, where it is an integer of this width.
@@ -82,6 +90,13 @@ pub(crate) fn wraps_freely(flags: Flags) -> bool
     !flags.no_signed_wrap && !flags.no_unsigned_wrap
 }
 
+// Whether results may wrap, and operands may have bits in common.
+pub(crate) fn promises_nothing(flags: Flags) -> bool
+    ensures { result ≡ promises_nothing_by flags }
+{
+    wraps_freely(flags) && !flags.disjoint
+}
+
 // Whether the cast has more bits, or fewer, as its name says, and promises nothing.
 pub(crate) fn is_plain_cast(cast: Cast, conversion: Conversion) -> bool
     ensures { result ≡ is_plain_cast_by cast conversion }
@@ -133,6 +148,52 @@ pub(crate) fn source_of(cast: Cast, to: u32, operand: &Operand) -> Option<CastSo
             cast,
             to,
             Conversion::of_head(cast, head),
+            leaves.as_slice(),
+        ),
+    }
+}
+
+// The value and the constant of an operation with these operands, where it promises nothing.
+fn constant_leaves(
+    width: u32,
+    arithmetic: Option<Arithmetic>,
+    leaves: &[Leaf],
+) -> Option<ConstantOperation>
+    ensures same { result ≡ constant_leaves_by width arithmetic leaves.now }
+    ensures below { IfSome result (λ s. s.constant < 2 ^ bits_of_width width) }
+{
+    let [value, constant] = leaves else {
+        return None;
+    };
+    let Some(arithmetic) = arithmetic else {
+        return None;
+    };
+    if arithmetic.width != width || !promises_nothing(arithmetic.flags) {
+        return None;
+    }
+    match leaf_bits(width, constant) {
+        Some(constant) => Some(ConstantOperation {
+            value: leaf_value(value),
+            constant,
+        }),
+        None => None,
+    }
+}
+
+// The value and the constant of which this operator makes the operand, where it promises nothing.
+pub(crate) fn constant_operation(
+    operator: BinaryOperator,
+    width: u32,
+    operand: &Operand,
+) -> Option<ConstantOperation>
+    ensures same { result ≡ constant_operation_by operator width operand.now }
+    ensures below { IfSome result (λ s. s.constant < 2 ^ bits_of_width width) }
+{
+    match operand {
+        Operand::Plain(_) => None,
+        Operand::Made(_, head, leaves) => constant_leaves(
+            width,
+            Arithmetic::of_head(operator, head),
             leaves.as_slice(),
         ),
     }

@@ -1,24 +1,15 @@
-//! Sums with constants.
-ghost use Rattle.std.specs.Prelude.{◌≡◌, ◌≤◌, ◌<◌, ◌^◌, IfOk, IfSome, IsOkUnless};
-ghost use Rattle.pliron_dialect_mlir.specs.Data.{bits_of_width};
-ghost use Rattle.pliron_mlir_rules.specs.MlirRules.{constant_sum as constant_sum_by, if_signed as if_signed_by};
-ghost use Rattle.pliron_mlir_rules.specs.MlirRules.{join_sums as join_sums_by, may_negate as may_negate_by};
-ghost use Rattle.pliron_mlir_rules.specs.MlirRules.{subtract_constant as subtract_constant_by, sum_leaves as sum_leaves_by, sum_with as sum_with_by};
+//! Differences from constants, as sums.
+ghost use Rattle.std.specs.Prelude.{◌≡◌, ◌≤◌, IfOk, IsOkUnless};
+ghost use Rattle.pliron_mlir_rules.specs.MlirRules.{if_signed as if_signed_by, may_negate as may_negate_by};
+ghost use Rattle.pliron_mlir_rules.specs.MlirRules.{subtract_constant as subtract_constant_by, sum_with as sum_with_by};
 
-use crate::seen::{known_bits, leaf_bits, leaf_value, operand_value, wraps_freely};
+use crate::seen::{known_bits, operand_value};
 use pliron_bits::{BinaryOperator, Flags, size};
 use pliron_core::{AttrObj, Value};
 use pliron_dialect_mlir::{Arithmetic, counted_bits, number};
 use pliron_laws::OptError;
-use pliron_rewrite_rules::{Atom, Atoms, Leaf, Operand, Term};
+use pliron_rewrite_rules::{Atom, Atoms, Operand, Term};
 use std::alloc::Global;
-
-// A value, and the bits of a constant that is added.
-#[derive(Clone, Copy)]
-pub(crate) struct ConstantSum {
-    pub(crate) value: Value,
-    pub(crate) constant: u64,
-}
 
 // A promise of signs, or none.
 fn if_signed(signed: bool) -> Flags
@@ -90,70 +81,4 @@ pub(crate) fn subtract_constant(
     let negated = (size(counted_bits(width)) - constant as u128) as u64;
     let signed = difference.flags.no_signed_wrap;
     Ok(Some(sum_with(alloc, width, signed, operand_value(a), negated)?))
-}
-
-// The value and the constant whose sum an operation with these operands is, where that may wrap.
-fn sum_leaves(width: u32, sum: Option<Arithmetic>, leaves: &[Leaf]) -> Option<ConstantSum>
-    ensures same { result ≡ sum_leaves_by width sum leaves.now }
-    ensures below { IfSome result (λ s. s.constant < 2 ^ bits_of_width width) }
-{
-    let [value, constant] = leaves else {
-        return None;
-    };
-    let Some(sum) = sum else {
-        return None;
-    };
-    if sum.width != width || !wraps_freely(sum.flags) {
-        return None;
-    }
-    match leaf_bits(width, constant) {
-        Some(constant) => Some(ConstantSum {
-            value: leaf_value(value),
-            constant,
-        }),
-        None => None,
-    }
-}
-
-// The value and the constant that the operand is the sum of, where that may wrap.
-pub(crate) fn constant_sum(width: u32, operand: &Operand) -> Option<ConstantSum>
-    ensures same { result ≡ constant_sum_by width operand.now }
-    ensures below { IfSome result (λ s. s.constant < 2 ^ bits_of_width width) }
-{
-    match operand {
-        Operand::Plain(_) => None,
-        Operand::Made(_, head, leaves) => sum_leaves(
-            width,
-            Arithmetic::of_head(BinaryOperator::Add, head),
-            leaves.as_slice(),
-        ),
-    }
-}
-
-// `(x + c) + d` is `x + (c + d)`.
-pub(crate) fn join_sums(
-    alloc: Global,
-    sum: Option<Arithmetic>,
-    a: &Operand,
-    b: &Operand,
-) -> Result<Option<Term>, OptError>
-    ensures ok { IfOk result (λ term. term ≡ join_sums_by sum a.now b.now) }
-    ensures memory { IsOkUnless result OptError.Memory }
-{
-    let Some(sum) = sum else {
-        return Ok(None);
-    };
-    let width = sum.width;
-    if !wraps_freely(sum.flags) {
-        return Ok(None);
-    }
-    let Some(first) = constant_sum(width, a) else {
-        return Ok(None);
-    };
-    let Some(second) = known_bits(width, b) else {
-        return Ok(None);
-    };
-    let whole = first.constant as u128 + second as u128;
-    let constant = (whole % size(counted_bits(width))) as u64;
-    Ok(Some(sum_with(alloc, width, false, first.value, constant)?))
 }

@@ -7,6 +7,7 @@ pub mod edges;
 pub mod identities;
 pub mod index;
 pub mod logic;
+pub mod pairs;
 pub mod roundings;
 pub mod rules;
 pub mod shifts;

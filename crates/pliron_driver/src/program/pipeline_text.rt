@@ -62,10 +62,7 @@ impl Words {
         match PassName::from_name(name) {
             Some(PassName::Sccp | PassName::Dce | PassName::SimplifyCfg) => true,
             Some(
-                PassName::Cse
-                | PassName::Canonicalize
-                | PassName::Combine
-                | PassName::ThreadEdges,
+                PassName::Cse | PassName::Canonicalize | PassName::Combine | PassName::ThreadEdges,
             ) => matches!(self, Words::All),
             None => false,
         }
