@@ -1,11 +1,11 @@
 -- Operations behind one in its block move to the end of another block, one after the other.
-use Rattle.std.proofs.Common.{◌≡◌, ◌≢◌, inl, inr, ⊎_elim, ℕ, suc, ◌+◌, ◌<◌, ◌≤◌, List, [], ◌∷◌, ◌++◌, length, get_or, Option, Some, None, IsSome, is_some, refl, sym, ap, ◌∙◌, subst, append_assoc, append-nil, arith, slice_set}
+use Rattle.std.proofs.Common.{◌≡◌, ◌≢◌, inl, inr, ⊎_elim, ℕ, suc, ◌+◌, ◌<◌, ◌≤◌, List, [], ◌∷◌, ◌++◌, length, get_or, Option, Some, None, is_some, refl, sym, ap, ◌∙◌, subst, append_assoc, append-nil, arith}
 use Rattle.std.specs.List.{range_with_len}
 use Rattle.std.proofs.lemmas.Bool.{cases_eq}
 use Rattle.std.proofs.lemmas.List.{length-set, get_or-set_other, get_or-set_same, length-append}
 use Rattle.std.proofs.lemmas.Option.{slice_get_within}
 use Rattle.pliron_core.specs.Lists.{IsDistinct, next_in, without}
-use Rattle.pliron_core.specs.Tree.{Tree, In, IsLive, IsBlock, IsRegion, IsInside.Directly, HoldsBlock, first_of, up_from, parent_of, body_of, arguments_of, block_parent_of, block_parent_operation_of, region_parent_of, layout_of}
+use Rattle.pliron_core.specs.Tree.{Tree, In, IsLive, IsBlock, IsInside.Directly, HoldsBlock, first_of, up_from, parent_of, body_of, arguments_of, block_parent_of, block_parent_operation_of, region_parent_of, layout_of}
 use Rattle.pliron_core.specs.Invariant.{IsTree}
 use Rattle.pliron_core.specs.Reads.{next_of}
 use Rattle.pliron_core.specs.WalkSteps.{rest_after, rest_from}

@@ -1,4 +1,4 @@
-use Rattle.std.proofs.Common.{◌≡◌, ◌<◌, ℕ, List, length, refl, sym, subst, ap, ◌∙◌}
+use Rattle.std.proofs.Common.{◌<◌, ℕ, List, length, refl, sym, subst, ap, ◌∙◌}
 use Rattle.pliron_core.specs.Tree.{Tree, IsBlock, body_of}
 use Rattle.pliron_core.specs.WalkSteps.{rest_after}
 use Rattle.pliron_rewrite_calls.specs.Splitting.{AreMoving}

@@ -1,5 +1,5 @@
 use Rattle.std.proofs.Common.{sym}
-use Rattle.pliron_rewrite_calls.proofs.MovedBehind.{IsReady, ready, whole}
+use Rattle.pliron_rewrite_calls.proofs.MovedBehind.{ready, whole}
 use Rattle.pliron_rewrite_calls.proofs.splitting.split_block_behind.Goals as goal
 
 pub count_behind-moves-requires : goal.count_behind-moves-requires
