@@ -1,0 +1,11 @@
+//! Calls that change a tree as inlining asks: a block is split behind an operation.
+//!
+//! Each is wholly done or not at all, whatever it answers. A contract here says what the tree became. Runs aren't kept yet
+//! by a call alone: a block that was split ends without a jump until the caller puts one.
+//!
+//! It knows the laws of dialects, and no graph, no dialect and no optimisation.
+#![tactic(auto)]
+
+mod splitting;
+
+pub use splitting::split_block_behind;
