@@ -16,6 +16,8 @@ use Rattle.pliron_dialect_mlir.specs.declared.computations.Comparison.{Compariso
 use Rattle.pliron_dialect_mlir.specs.declared.computations.Arithmetic.{Arithmetic}
 use Rattle.pliron_dialect_mlir.specs.declared.computations.Conversion.{Conversion}
 use Rattle.pliron_dialect_mlir.specs.Data.{bits_of_width, number, bits_at, some_if}
+use Rattle.pliron_dialect_mlir.specs.declared.kind.Class.TheVariants.{Compare}
+use Rattle.pliron_dialect_mlir.specs.ClassNumbers.{number_of_class}
 use Rattle.pliron_dialect_mlir.specs.Computations.{comparison_of, conversion_of, arithmetic_of, head_of_comparison, head_of_conversion, head_of_arithmetic}
 use Rattle.pliron_rewrite_rules.specs.declared.view.Leaf.{Leaf}
 use Rattle.pliron_rewrite_rules.specs.declared.view.Leaf.TheVariants.{Unknown, Known}
@@ -515,5 +517,9 @@ by_mlir_operands head (a ∷ []) = rules_of_unary head a
 by_mlir_operands head (a ∷ b ∷ []) = rules_of_binary head a b
 by_mlir_operands head _ = None
 
+-- comparisons, casts and operations that compute an integer of two have rules
+abbrev pub has_rules : Head → Bool
+has_rules head = nat_le (number_of_class Compare) head.kind
+
 abbrev pub mlir_rules : View → Option Term
-mlir_rules view = by_mlir_operands view.head view.operands
+mlir_rules view = if has_rules view.head then by_mlir_operands view.head view.operands else None

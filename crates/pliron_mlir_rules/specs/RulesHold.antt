@@ -1,5 +1,5 @@
 -- Each term has the datum of what is seen.
-use Rattle.std.proofs.Common.{◌≡◌, true, List, [], ◌∷◌, Option, Some, None, refl, ◌∙◌}
+use Rattle.std.proofs.Common.{◌≡◌, Bool, true, false, if◌then◌else◌, List, [], ◌∷◌, Option, Some, None, refl, ◌∙◌}
 use Rattle.std.specs.Option.{option_or}
 use Rattle.pliron_core.specs.declared.attrs.Head.{Head}
 use Rattle.pliron_core.proofs.HoldingLemmas.{not_none}
@@ -19,7 +19,7 @@ use Rattle.pliron_mlir_rules.specs.DifferencesHold.{differences_differ, exclusio
 use Rattle.pliron_mlir_rules.specs.EquationsHold.{equations_hold}
 use Rattle.pliron_mlir_rules.specs.ExtensionNumbers.{zeros_extend, signs_extend}
 use Rattle.pliron_mlir_rules.specs.IntegerActs.{mlir_meaning, mlir_effects}
-use Rattle.pliron_mlir_rules.specs.MlirRules.{swap_comparison, compare_narrow, compare_strictly, compare_summand, compare_difference, join_casts, mask_bits, swap_constant, subtract_constant, rules_of_constants, invert_comparison, rules_of_unary, rules_of_comparison, rules_of_arithmetic, rules_of_powers, rules_of_binary, by_mlir_operands, mlir_rules}
+use Rattle.pliron_mlir_rules.specs.MlirRules.{swap_comparison, compare_narrow, compare_strictly, compare_summand, compare_difference, join_casts, mask_bits, swap_constant, subtract_constant, rules_of_constants, invert_comparison, rules_of_unary, rules_of_comparison, rules_of_arithmetic, rules_of_powers, rules_of_binary, by_mlir_operands, has_rules, mlir_rules}
 use Rattle.pliron_mlir_rules.specs.InversesHold.{inverses_hold}
 use Rattle.pliron_mlir_rules.specs.MasksHold.{masks_hold}
 use Rattle.pliron_mlir_rules.specs.OrdersHold.{swapped_comparisons_hold, swapped_constants_hold}
@@ -145,10 +145,14 @@ module _ {K : Type 0} (class_of : K → Class) (kind : Class → K) (value : Int
       of_comparison (Some t) f g = comparisons_hold head a b term (f ∙ g)
 
   pub mlir_rules_hold : RulesHold (mlir_meaning class_of kind value) (mlir_effects class_of kind value) (λ attr. true) mlir_rules
-  mlir_rules_hold view term e = by view.head view.operands e
+  mlir_rules_hold view term e = by_class (has_rules view.head) e
     where
       by : (head : Head) (operands : List Operand) → by_mlir_operands head operands ≡ Some term → IsRuleOf (record { head = head; operands = operands }) term
       by head [] f = absurd (not_none f)
       by head (a ∷ []) f = one_holds head a term f
       by head (a ∷ b ∷ []) f = two_hold head a b term f
       by head (a ∷ b ∷ c ∷ more) f = absurd (not_none f)
+
+      by_class : (b : Bool) → (if b then by_mlir_operands view.head view.operands else None) ≡ Some term → IsRuleOf view term
+      by_class false f = absurd (not_none f)
+      by_class true f = by view.head view.operands f

@@ -10,7 +10,7 @@
 #![tactic(auto)]
 
 ghost use Rattle.std.specs.Prelude.{◌≡◌, Some, IfOk, IsOkUnless, refl};
-ghost use Rattle.pliron_mlir_rules.specs.MlirRules.{mlir_rules, rules_of_unary as rules_of_unary_by, rules_of_binary as rules_of_binary_by};
+ghost use Rattle.pliron_mlir_rules.specs.MlirRules.{mlir_rules, has_rules as has_rules_by, rules_of_unary as rules_of_unary_by, rules_of_binary as rules_of_binary_by};
 ghost use Rattle.pliron_mlir_rules.specs.MlirRules.{rules_of_comparison as rules_of_comparison_by, rules_of_arithmetic as rules_of_arithmetic_by};
 ghost use Rattle.pliron_mlir_rules.specs.RulesHold.{mlir_rules_hold};
 
@@ -35,7 +35,9 @@ use masks::mask_bits;
 use orders::{swap_comparison, swap_constant};
 use pliron_bits::{BinaryOperator, Cast};
 use pliron_core::Head;
-use pliron_dialect_mlir::{Arithmetic, Comparison, Conversion, Interpretation, Mlir};
+use pliron_dialect_mlir::{
+    Arithmetic, Class, Comparison, Conversion, Interpretation, Mlir, class_number,
+};
 use pliron_laws::OptError;
 use pliron_rewrite_rules::{Operand, Rules, Term, View};
 use powers::rules_of_powers;
@@ -45,6 +47,13 @@ use sums::subtract_constant;
 
 /// Rules on integers.
 pub struct MlirRules;
+
+// Whether there are rules for operations with this head, by its class.
+fn has_rules(head: &Head) -> bool
+    ensures { result ≡ has_rules_by head.now }
+{
+    head.kind >= class_number(Class::Compare)
+}
 
 // What the rules answer for an operation with this head and one operand.
 fn rules_of_unary(alloc: Global, head: &Head, a: &Operand) -> Result<Option<Term>, OptError>
@@ -143,9 +152,17 @@ fn rules_of_binary(
 impl<I: Interpretation> Rules<Mlir<I>> for MlirRules {
     ghost rules = { mlir_rules };
 
+    /// Those of comparisons, casts and operations that compute an integer of two.
+    fn may_apply(head: &Head) -> bool {
+        has_rules(head)
+    }
+
     /// Cost: constant.
     fn rewrite(alloc: Global, view: &View) -> Result<Option<Term>, OptError> {
         let head = &view.head;
+        if !has_rules(head) {
+            return Ok(None);
+        }
         match view.operands.as_slice() {
             [a] => rules_of_unary(alloc, head, a),
             [a, b] => rules_of_binary(alloc, head, a, b),

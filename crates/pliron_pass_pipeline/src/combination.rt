@@ -4,7 +4,7 @@ ghost use Rattle.pliron_core.specs.Tree.{IsLive};
 ghost use Rattle.pliron_pass_pipeline.specs.Combination.{AppliesRules, combine_name, effect_of_count, most_rewrites, no_rules};
 
 use crate::optimisation::{Effect, Optimisation, OptimisingPass};
-use pliron_core::{Context, IRStatus, Operation, Ptr};
+use pliron_core::{Context, Head, IRStatus, Operation, Ptr};
 use pliron_laws::{Dialect, OptError};
 use pliron_opt_combine::combine;
 use pliron_pass::count_inside;
@@ -17,6 +17,10 @@ pub struct NoRules;
 
 impl<D: Dialect> Rules<D> for NoRules {
     ghost rules = { no_rules };
+
+    fn may_apply(_: &Head) -> bool {
+        false
+    }
 
     fn rewrite(_: Global, _: &View) -> Result<Option<Term>, OptError> {
         Ok(None)

@@ -4,9 +4,10 @@ use Rattle.std.proofs.lemmas.Option.{slice_get_within}
 use Rattle.pliron_core.specs.declared.attrs.Head.{Head}
 use Rattle.pliron_core.specs.Invariant.{IsTree}
 use Rattle.pliron_core.proofs.HoldingLemmas.{not_none, some_is}
-use Rattle.pliron_core.specs.Tree.{Tree, In, IsLive, IsDefined, parent_of, operands_of, results_of}
+use Rattle.pliron_core.specs.Tree.{Tree, In, IsLive, IsDefined, head_of, parent_of, operands_of, results_of}
 use Rattle.pliron_laws.specs.MaterialisedConstants.{IsRestored}
 use Rattle.pliron_laws.specs.Tree.{Operation, op_at}
+use Rattle.pliron_laws.proofs.ShapeLemmas.{head_at}
 use Rattle.pliron_rewrite_rules.specs.Tables.{RuleTables}
 use Rattle.pliron_rewrite_rules.specs.Insertions.{with_operation, IsInsertion}
 use Rattle.pliron_rewrite_rules.specs.declared.term.Atom.{Atom}
@@ -17,7 +18,8 @@ use Rattle.pliron_rewrite_rules.specs.Rewriting.{with_atoms, atom_values, with_t
 use Rattle.pliron_rewrite_rules.specs.Applying.{rule_answer, answered_term, Applies}
 use Rattle.pliron_rewrite_rules.specs.Putting.{AreErasable}
 use Rattle.pliron_rewrite_rules.specs.RuleLaws.{RulesHold}
-use Rattle.pliron_rewrite_rules.specs.Seen.{is_pure_operation, pure_only, operation_view}
+use Rattle.pliron_rewrite_rules.specs.Seen.{is_pure_operation, pure_only, operand_of, operation_view}
+use Rattle.pliron_rewrite_rules.specs.declared.view.Operand.{Operand}
 use Rattle.pliron_rewrite_rules.specs.declared.view.View.{View}
 use Rattle.pliron_rewrite_rules.proofs.Growing.{grown_live, op_live}
 use Rattle.pliron_rewrite_rules.proofs.PureOperations.{IsLawful}
@@ -96,6 +98,18 @@ module _ (x : RuleTables) (rules : View → Option Term) (t : Tree) (op : ℕ) (
   asked_is passed view seen answer answered =
       let o = live_shown t op live in
       answered ∙ ap rules (seen o.0 o.1) ∙ sym (ap (rule_answer x t rules) (pure_some x t op live told tells passed o.0 o.1))
+
+-- the rules answer nothing for an operation with a head to which none of them applies
+pub none_applies : (x : RuleTables) (rules : View → Option Term) (t : Tree) (op : ℕ) (head : Head) → head_of t op ≡ Some head → ((operands : List Operand) → rules (record { head = head; operands = operands }) ≡ None) → None ≡ answered_term x t rules op
+none_applies x rules t op head has none = by (op_at t op) refl
+  where
+    by : (o : Option Operation) → op_at t op ≡ o → None ≡ rule_answer x t rules (pure_only x o)
+    by None at = refl
+    by (Some o) at = of_pure (is_pure_operation x o)
+      where
+        of_pure : (pure : Bool) → None ≡ rule_answer x t rules (if pure then Some o else None)
+        of_pure false = refl
+        of_pure true = sym (ap (λ h. rules (record { head = h; operands = map (operand_of x t) o.operands })) (some_is (sym (head_at t op o at) ∙ has)) ∙ none (map (operand_of x t) o.operands))
 
 -- a term that applies is that of a rule
 module _ (x : RuleTables) (rules : View → Option Term) (hold : RulesHold x.meaning x.side_effects x.accepts rules) (t : Tree) (op : ℕ) (placed : IsSome (parent_of t op)) (term : Term) (a : Applies x rules t op term) where

@@ -36,6 +36,9 @@ fn answer_of<D: Dialect, L: Rules<D>>(
     ensures ok { IfOk result (λ term. term ≡ answered_term ⟦<D as HasRuleTables>⟧.rule_tables ctx.now.tree L.rules op) }
     ensures memory { IsOkUnless result OptError.Memory }
 {
+    if !L::may_apply(op.head(ctx)) {
+        return Ok(None);
+    }
     if !is_pure::<D>(op, ctx) {
         return Ok(None);
     }
