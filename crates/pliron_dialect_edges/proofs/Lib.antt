@@ -1,1 +1,3 @@
 mod BranchLemmas
+mod PlaceLemmas
+mod LengthenLemmas

@@ -1,7 +1,6 @@
 -- Branches that go at once.
-use Rattle.std.proofs.Common.{◌≡◌, ℕ, Bool, true, false, List, Option, Some, None, length, IsTrue, arith}
+use Rattle.std.proofs.Common.{◌≡◌, ℕ, false, List, Option, Some, None, length, IsTrue, arith}
 use Rattle.std.specs.Option.{option_map}
-use Rattle.pliron_core.specs.declared.attrs.Head.{Head}
 use Rattle.pliron_laws.specs.Datum.{Datum, Empty, Shape, Move, Give, Visit, Goto, Leave, Emit, Trap, Meaning}
 use Rattle.pliron_laws.specs.Laws.{Admitted}
 use Rattle.pliron_dialect.specs.Roles.{Interpretation, Role, Allows, Jumps, Chooses, by_role, by_form, form_of, act_of, no_act, branches, meaning_by}

@@ -1,1 +1,4 @@
 pub mod AtOnce
+pub mod Lengthened
+pub mod LongerCounts
+pub mod LengthenedByRoles

@@ -6,7 +6,9 @@
 #![tactic(auto)]
 
 mod at_once;
+mod lengthen;
 mod replace;
 
 pub use at_once::BranchesAtOnce;
+pub use lengthen::{LengthensEdges, LongerBranch};
 pub use replace::lead_elsewhere;

@@ -13,7 +13,7 @@ use pliron_laws::{OptError, Room};
 use std::alloc::Global;
 
 // An equal head.
-fn copy_head(alloc: Global, head: &Head) -> Result<Head, OptError>
+pub(crate) fn copy_head(alloc: Global, head: &Head) -> Result<Head, OptError>
     ensures ok { IfOk result (λ copy. copy ≡ head.now) }
     ensures memory { IsOkUnless result OptError.Memory }
 {

@@ -1,4 +1,4 @@
-use Rattle.std.proofs.Common.{◌∙◌, ap, ap₂, subst}
+use Rattle.std.proofs.Common.{◌∙◌, ap₂, subst}
 use Rattle.pliron_laws.specs.Replacing.{branch_replaced}
 use Rattle.pliron_core.specs.Tree.{In}
 use Rattle.pliron_dialect.proofs.JumpLemmas.{operand_defined, jump_point, new_contained, jump_undone, jump_long, undone_jump_long}
