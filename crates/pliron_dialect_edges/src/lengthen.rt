@@ -162,8 +162,8 @@ fn longer_by_form(
     edge: usize,
 ) -> Result<Option<LongerBranch>, OptError>
     requires { edge < edges }
-    ensures ok { IfOk result (λ found. IfSome found (λ longer. LongerByForm form head.now operands edges edge longer.place
-        longer.head)) }
+    ensures ok { IfOk result (λ found. IfSome found (λ longer. LongerByForm form head.now operands edges edge
+        longer.place longer.head)) }
     ensures memory { IsOkUnless result OptError.Memory }
 {
     match form {

@@ -23,8 +23,10 @@ pub trait Rules<D: Dialect> {
     /// Whether some rule may answer a term for an operation with this head. No view of another is made. Here: any may.
     /// Cost: constant.
     fn may_apply(_head: &Head) -> bool
-        ensures { result ≡ false → (operands : List OperandOf) → rules (record { head = _head.now; operands = operands }) ≡
-            None }
+        ensures { result ≡ false → (operands : List OperandOf) → rules (record {
+          head = _head.now;
+          operands = operands;
+        }) ≡ None }
     {
         true
     }
