@@ -30,7 +30,7 @@ use Rattle.pliron_mlir_rules.specs.ConstantsSeen.{SaysConstant, says_constant, i
 use Rattle.pliron_mlir_rules.specs.HeadsSay.{both_so, SaysComparison, says_comparison, SaysArithmetic}
 use Rattle.pliron_mlir_rules.specs.IntegerActs.{number_or_poison, computed_datum, constant_result, comparison_result, mlir_meaning, mlir_effects, comparison_gives, sum_gives}
 use Rattle.pliron_mlir_rules.specs.Integers.{bits_in, integer, bits_back, below_size}
-use Rattle.pliron_mlir_rules.specs.MlirRules.{known_bits, compare_with, wraps_freely, constant_operation, is_equation, moved_constant, compare_summand}
+use Rattle.pliron_mlir_rules.specs.MlirRules.{known_bits, compare_with, wraps_freely, no_flags, constant_operation, is_equation, moved_constant, compare_summand}
 use Rattle.pliron_mlir_rules.specs.Seen.{both_have, known_reads, known_below, leaf_below}
 use Rattle.pliron_mlir_rules.specs.SumsHold.{free_sum}
 use Rattle.pliron_mlir_rules.specs.WidthMoves.{false_true}
@@ -93,7 +93,7 @@ module _ {K : Type 0} (class_of : K → Class) (kind : Class → K) (value : Int
   abbrev moved : Comparison → (c n : ℕ) → ℕ
   moved k c n = (n + (2 ^ bits_of_width k.width - c)) % 2 ^ bits_of_width k.width
 
-  holds : (head : Head) (c : Comparison) → SaysComparison head c → is_equation c.predicate ≡ true → (a b : Operand) (t : ConstantOperation) → SaysConstant Add c.width a t → (n : ℕ) → known_bits c.width b ≡ Some n → IsRuleOf (record { head = head; operands = a ∷ b ∷ [] }) (compare_with c t.value (moved c t.constant n))
+  holds : (head : Head) (c : Comparison) → SaysComparison head c → is_equation c.predicate ≡ true → (a b : Operand) (t : ConstantOperation) → SaysConstant Add no_flags c.width a t → (n : ℕ) → known_bits c.width b ≡ Some n → IsRuleOf (record { head = head; operands = a ∷ b ∷ [] }) (compare_with c t.value (moved c t.constant n))
   holds head c says equation a b t u n known =
       compare_with_holds class_of kind value forth head a b c t.value (moved c t.constant n) says.is (subst (λ o. In t.value (operand_values o)) (sym u.is) (inr (inl (sym u.value_is)))) (λ env r agrees e. equal env r agrees e)
     where
@@ -112,7 +112,7 @@ module _ {K : Type 0} (class_of : K → Class) (kind : Class → K) (value : Int
       equal : (env : Environment) (r : Datum) → Agrees (mlir_meaning class_of kind value) env (record { head = head; operands = a ∷ b ∷ [] }) → view_datum (mlir_meaning class_of kind value) env (record { head = head; operands = a ∷ b ∷ [] }) ≡ Some r → term_datum (mlir_meaning class_of kind value) env (compare_with c t.value (moved c t.constant n)) ≡ Some r
       equal env r agrees e =
           let both = both_have (mlir_meaning class_of kind value) head (operand_datum (mlir_meaning class_of kind value) env a) (operand_datum (mlir_meaning class_of kind value) env b) r e in
-          let inner = inner_gives class_of kind value forth env Add c.width a t both.0 (λ h s j same nothing d. sum h s j same d) u agrees.0 both.2 in
+          let inner = inner_gives class_of kind value forth env Add no_flags c.width a t both.0 (λ h s j same nothing d. sum h s j same d) u agrees.0 both.2 in
           compare_with_gives class_of kind value forth env c t.value (moved c t.constant n) inner.1 says.is (mod_below (n + (2 ^ bits_of_width c.width - t.constant)) (2 ^ bits_of_width c.width) (pow_pos (bits_of_width c.width))) inner.3
           ∙ ap Some (sym (moved_datum inner.0 c.width c.predicate t.constant n says.is (both_so (wraps_freely inner.0) (not inner.0.disjoint) inner.2).0 equation small lt inner.1))
           ∙ ap (λ y. Some (compared_bits c.width c.predicate (bits_in c.width y) y n)) (sym inner.4)
@@ -128,7 +128,7 @@ module _ {K : Type 0} (class_of : K → Class) (kind : Class → K) (value : Int
     where
       of_bits : is_equation c.predicate ≡ true → (t : ConstantOperation) → constant_operation Add c.width a ≡ Some t → (o : Option ℕ) → known_bits c.width b ≡ o → moved_constant c (Some t) o ≡ Some term → IsRuleOf (record { head = head; operands = a ∷ b ∷ [] }) term
       of_bits equation t g None h i = absurd (not_none i)
-      of_bits equation t g (Some n) h i = subst (IsRuleOf (record { head = head; operands = a ∷ b ∷ [] })) (some_is i) (holds head c (says_comparison head c e) equation a b t (says_constant Add c.width a t g) n h)
+      of_bits equation t g (Some n) h i = subst (IsRuleOf (record { head = head; operands = a ∷ b ∷ [] })) (some_is i) (holds head c (says_comparison head c e) equation a b t (says_constant Add no_flags c.width a t g) n h)
 
       of_sum : is_equation c.predicate ≡ true → (o : Option ConstantOperation) → constant_operation Add c.width a ≡ o → moved_constant c o (known_bits c.width b) ≡ Some term → IsRuleOf (record { head = head; operands = a ∷ b ∷ [] }) term
       of_sum equation None g h = absurd (not_none h)

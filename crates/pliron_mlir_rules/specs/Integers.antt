@@ -39,7 +39,7 @@ bits_back width bits w lt =
     grind (arith, tests, w, lt, quotient, rest)
 
 -- what counts as 0 is no integer
-no_zero : (width : ℕ) → bits_at width (pos 0) ≡ None
+pub no_zero : (width : ℕ) → bits_at width (pos 0) ≡ None
 no_zero width = grind (arith, tests)
 
 nothing_said : {A : Type 0} {x : Option ℕ} {n : ℕ} → x ≡ None → x ≡ Some n → A

@@ -5,6 +5,7 @@ pub mod Integers
 pub mod SameData
 pub mod CastNumbers
 pub mod SumNumbers
+pub mod FlaggedSums
 pub mod MaskNumbers
 pub mod BitNumbers
 pub mod StrictNumbers
@@ -26,6 +27,7 @@ pub mod OrdersHold
 pub mod PowersHold
 pub mod MasksHold
 pub mod SumsHold
+pub mod JoinedSumsHold
 pub mod ConstantsHold
 pub mod EquationsHold
 pub mod DifferencesHold

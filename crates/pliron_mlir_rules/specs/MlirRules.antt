@@ -1,5 +1,5 @@
 -- Rules on integers, as a table from views to terms.
-use Rattle.std.specs.Prelude.{if◌then◌else◌, nat_eq, nat_lt, nat_le, not, bit_and, bit_or, bit_xor, ℕ, ◌+◌, ◌-◌, ◌%◌, ◌^◌, Bool, true, false, ◌&&◌, List, [], ◌∷◌, Option, Some, None, ℤ, pos}
+use Rattle.std.specs.Prelude.{if◌then◌else◌, nat_eq, nat_lt, nat_le, not, int_le, bit_and, bit_or, bit_xor, ℕ, ◌+◌, ◌-◌, ◌%◌, ◌^◌, Bool, true, false, ◌&&◌, ◌||◌, List, [], ◌∷◌, Option, Some, None, ℤ, pos}
 use Rattle.std.specs.Option.{option_or}
 use Rattle.std.specs.Int.{w64, trailing_zeros}
 use Rattle.pliron_core.specs.declared.attrs.AttrObj.{AttrObj}
@@ -12,6 +12,8 @@ use Rattle.pliron_bits.specs.declared.operators.Predicate.{Predicate}
 use Rattle.pliron_bits.specs.declared.operators.Predicate.TheVariants.{Equal, NotEqual, SignedLess, SignedLessEqual, SignedGreater, SignedGreaterEqual, UnsignedLess, UnsignedLessEqual, UnsignedGreater, UnsignedGreaterEqual}
 use Rattle.pliron_bits.specs.declared.operators.Cast.{Cast}
 use Rattle.pliron_bits.specs.declared.operators.Cast.TheVariants.{ZeroExtend, SignExtend, Truncate}
+use Rattle.pliron_bits.specs.Numbers.{signed_value}
+use Rattle.pliron_bits.specs.Arithmetic.{sum}
 use Rattle.pliron_dialect_mlir.specs.declared.computations.Comparison.{Comparison}
 use Rattle.pliron_dialect_mlir.specs.declared.computations.Arithmetic.{Arithmetic}
 use Rattle.pliron_dialect_mlir.specs.declared.computations.Conversion.{Conversion}
@@ -32,7 +34,7 @@ use Rattle.pliron_rewrite_rules.specs.Views.{leaf_value, operand_value}
 use Rattle.pliron_mlir_rules.specs.declared.seen.CastSource.{CastSource}
 use Rattle.pliron_mlir_rules.specs.declared.seen.ConstantOperation.{ConstantOperation}
 use Rattle.pliron_mlir_rules.specs.declared.constants.AssociativeOperator.{AssociativeOperator}
-use Rattle.pliron_mlir_rules.specs.declared.constants.AssociativeOperator.TheVariants.{Sum, Conjunction, Disjunction, Exclusion}
+use Rattle.pliron_mlir_rules.specs.declared.constants.AssociativeOperator.TheVariants.{Conjunction, Disjunction, Exclusion}
 
 -- ---- what is seen of an operand
 
@@ -71,18 +73,35 @@ wraps_freely flags = not flags.no_signed_wrap && not flags.no_unsigned_wrap
 abbrev pub promises_nothing : Flags → Bool
 promises_nothing flags = wraps_freely flags && not flags.disjoint
 
+abbrev pub no_flags : Flags
+no_flags = record { no_signed_wrap = false; no_unsigned_wrap = false; exact = false; disjoint = false; nonnegative = false }
+
+abbrev pub are_alike : (x y : Bool) → Bool
+are_alike true y = y
+are_alike false y = not y
+
+-- whether both promise the same of how results wrap, and neither that operands have no bits in common
+abbrev pub promise_alike : (f g : Flags) → Bool
+promise_alike f g =
+    (are_alike f.no_signed_wrap g.no_signed_wrap && are_alike f.no_unsigned_wrap g.no_unsigned_wrap) && (not f.disjoint && not g.disjoint)
+
 abbrev pub operation_with : (value : ℕ) → Option ℕ → Option ConstantOperation
 operation_with value (Some c) = Some (record { value = value; constant = c })
 operation_with value None = None
 
-abbrev pub constant_leaves : (width : ℕ) → Option Arithmetic → List Leaf → Option ConstantOperation
-constant_leaves width (Some s) (x ∷ c ∷ []) = if nat_eq s.width width && promises_nothing s.flags then operation_with (leaf_value x) (leaf_bits width c) else None
-constant_leaves width _ _ = None
+abbrev pub constant_leaves : Flags → (width : ℕ) → Option Arithmetic → List Leaf → Option ConstantOperation
+constant_leaves flags width (Some s) (x ∷ c ∷ []) =
+    if nat_eq s.width width && promise_alike flags s.flags then operation_with (leaf_value x) (leaf_bits width c) else None
+constant_leaves flags width _ _ = None
 
--- the value and the constant of which the operator makes the operand, where it promises nothing
+-- the value and the constant of which the operator makes the operand, where it promises what these flags do
+abbrev pub operation_alike : BinaryOperator → Flags → (width : ℕ) → Operand → Option ConstantOperation
+operation_alike operator flags width (Plain leaf) = None
+operation_alike operator flags width (Made v head leaves) = constant_leaves flags width (arithmetic_of operator head) leaves
+
+-- the same, where it promises nothing
 abbrev pub constant_operation : BinaryOperator → (width : ℕ) → Operand → Option ConstantOperation
-constant_operation operator width (Plain leaf) = None
-constant_operation operator width (Made v head leaves) = constant_leaves width (arithmetic_of operator head) leaves
+constant_operation operator width a = operation_alike operator no_flags width a
 
 -- ---- comparisons of extensions
 
@@ -160,9 +179,6 @@ joined_cast SignExtend Truncate from to = Some (if nat_lt from to then SignExten
 joined_cast Truncate ZeroExtend from to = None
 joined_cast Truncate SignExtend from to = None
 joined_cast Truncate Truncate from to = Some Truncate
-
-abbrev pub no_flags : Flags
-no_flags = record { no_signed_wrap = false; no_unsigned_wrap = false; exact = false; disjoint = false; nonnegative = false }
 
 abbrev pub plain_cast : (width to : ℕ) → Conversion
 plain_cast width to = record { width = width; to = to; flags = no_flags }
@@ -370,24 +386,48 @@ rules_of_powers head a b =
     option_or (shift_product (arithmetic_of Multiply head) a b)
     (option_or (shift_quotient (arithmetic_of UnsignedDivide head) a b) (mask_remainder (arithmetic_of UnsignedRemainder head) a b))
 
--- ---- operations with two constants
+-- ---- sums with two constants
+
+-- whether neither of the two is negative, or neither positive
+abbrev pub have_one_sign : (y z : ℤ) → Bool
+have_one_sign y z = (int_le (pos 0) y && int_le (pos 0) z) || (int_le y (pos 0) && int_le z (pos 0))
+
+-- the sum of two constants, where it wraps no more than these flags let it, and the two have one sign if that counts
+abbrev pub joined_sum : Flags → (w c d : ℕ) → Option ℕ
+joined_sum f w c d = if f.no_signed_wrap && not (have_one_sign (signed_value w c) (signed_value w d)) then None else sum f w c d
+
+-- what these flags promise of how results wrap
+abbrev pub wraps_of : Flags → Flags
+wraps_of f = record { no_signed_wrap = f.no_signed_wrap; no_unsigned_wrap = f.no_unsigned_wrap; exact = false; disjoint = false; nonnegative = false }
+
+abbrev pub sum_of_joined : Arithmetic → (value : ℕ) → Option ℕ → Option Term
+sum_of_joined s value (Some c) = Some (arithmetic_with Add (record { width = s.width; flags = wraps_of s.flags }) value c)
+sum_of_joined s value None = None
+
+abbrev pub joined_sums : Arithmetic → Option ConstantOperation → Option ℕ → Option Term
+joined_sums s (Some t) (Some d) = sum_of_joined s t.value (joined_sum s.flags (bits_of_width s.width) t.constant d)
+joined_sums s _ _ = None
+
+-- `(x + c) + d` is `x + (c + d)`, where the two promise the same of how they wrap, and `x + (c + d)` may
+abbrev pub join_sums : Option Arithmetic → (a b : Operand) → Option Term
+join_sums (Some s) a b = joined_sums s (operation_alike Add s.flags s.width a) (known_bits s.width b)
+join_sums None a b = None
+
+-- ---- operations on bits with two constants
 
 abbrev pub operator_of : AssociativeOperator → BinaryOperator
-operator_of Sum = Add
 operator_of Conjunction = And
 operator_of Disjunction = Or
 operator_of Exclusion = Xor
 
--- the one constant that two of w bits are
-abbrev pub joined_bits : AssociativeOperator → (w a b : ℕ) → ℕ
-joined_bits Sum w a b = (a + b) % 2 ^ w
-joined_bits Conjunction w a b = bit_and a b
-joined_bits Disjunction w a b = bit_or a b
-joined_bits Exclusion w a b = bit_xor a b
+-- the one constant that two are
+abbrev pub joined_bits : AssociativeOperator → (a b : ℕ) → ℕ
+joined_bits Conjunction a b = bit_and a b
+joined_bits Disjunction a b = bit_or a b
+joined_bits Exclusion a b = bit_xor a b
 
 -- whether an operation with this constant gives the constant, whatever its other operand is
 abbrev pub absorbs : AssociativeOperator → (w c : ℕ) → Bool
-absorbs Sum w c = false
 absorbs Conjunction w c = nat_eq c 0
 absorbs Disjunction w c = nat_eq c (2 ^ w - 1)
 absorbs Exclusion w c = false
@@ -396,7 +436,7 @@ abbrev pub joined_with : AssociativeOperator → (width value c : ℕ) → Optio
 joined_with operator width value c = some_if (not (absorbs operator (bits_of_width width) c)) (arithmetic_with (operator_of operator) (record { width = width; flags = no_flags }) value c)
 
 abbrev pub joined_constants : AssociativeOperator → (width : ℕ) → Option ConstantOperation → Option ℕ → Option Term
-joined_constants operator width (Some t) (Some d) = joined_with operator width t.value (joined_bits operator (bits_of_width width) t.constant d)
+joined_constants operator width (Some t) (Some d) = joined_with operator width t.value (joined_bits operator t.constant d)
 joined_constants operator width _ _ = None
 
 abbrev pub joined_if : AssociativeOperator → Option Arithmetic → (a b : Operand) → Option Term
@@ -410,7 +450,7 @@ join_constants operator head a b = joined_if operator (arithmetic_of (operator_o
 
 abbrev pub rules_of_constants : Head → (a b : Operand) → Option Term
 rules_of_constants head a b =
-    option_or (join_constants Sum head a b)
+    option_or (join_sums (arithmetic_of Add head) a b)
     (option_or (join_constants Conjunction head a b) (option_or (join_constants Disjunction head a b) (join_constants Exclusion head a b)))
 
 -- ---- inverted comparisons

@@ -1,8 +1,9 @@
-//! Operations with two constants.
-ghost use Rattle.std.specs.Prelude.{◌≡◌, ◌≤◌, ◌<◌, ◌^◌, IfOk, IsOkUnless};
+//! Operations on bits with two constants, and all with two.
+ghost use Rattle.std.specs.Prelude.{◌≡◌, ◌≤◌, IfOk, IsOkUnless};
 ghost use Rattle.pliron_mlir_rules.specs.MlirRules.{absorbs as absorbs_by, join_constants as join_constants_by, joined_bits as joined_bits_by};
 ghost use Rattle.pliron_mlir_rules.specs.MlirRules.{operator_of as operator_of_by, rules_of_constants as rules_of_constants_by};
 
+use crate::joined_sums::join_sums;
 use crate::powers::arithmetic_with;
 use crate::seen::{constant_operation, known_bits, promises_nothing};
 use pliron_bits::{BinaryOperator, Flags, size};
@@ -12,10 +13,9 @@ use pliron_laws::OptError;
 use pliron_rewrite_rules::{Operand, Term};
 use std::alloc::Global;
 
-// An operator of which two constants are one.
+// An operator of which two constants are one, bit by bit.
 #[derive(Clone, Copy)]
 enum AssociativeOperator {
-    Sum,
     Conjunction,
     Disjunction,
     Exclusion,
@@ -26,20 +26,17 @@ fn operator_of(operator: AssociativeOperator) -> BinaryOperator
     ensures { result ≡ operator_of_by operator }
 {
     match operator {
-        AssociativeOperator::Sum => BinaryOperator::Add,
         AssociativeOperator::Conjunction => BinaryOperator::And,
         AssociativeOperator::Disjunction => BinaryOperator::Or,
         AssociativeOperator::Exclusion => BinaryOperator::Xor,
     }
 }
 
-// The one constant that two of so many bits are.
-fn joined_bits(operator: AssociativeOperator, bits: u32, a: u64, b: u64) -> u64
-    requires { bits ≤ 64 }
-    ensures { result ≡ joined_bits_by operator bits a b }
+// The one constant that two are.
+fn joined_bits(operator: AssociativeOperator, a: u64, b: u64) -> u64
+    ensures { result ≡ joined_bits_by operator a b }
 {
     match operator {
-        AssociativeOperator::Sum => ((a as u128 + b as u128) % size(bits)) as u64,
         AssociativeOperator::Conjunction => a & b,
         AssociativeOperator::Disjunction => a | b,
         AssociativeOperator::Exclusion => a ^ b,
@@ -54,7 +51,7 @@ fn absorbs(operator: AssociativeOperator, bits: u32, constant: u64) -> bool
     match operator {
         AssociativeOperator::Conjunction => constant == 0,
         AssociativeOperator::Disjunction => constant as u128 == size(bits) - 1,
-        AssociativeOperator::Sum | AssociativeOperator::Exclusion => false,
+        AssociativeOperator::Exclusion => false,
     }
 }
 
@@ -83,7 +80,7 @@ fn join_constants(
         return Ok(None);
     };
     let bits = counted_bits(outer.width);
-    let constant = joined_bits(operator, bits, inner.constant, second);
+    let constant = joined_bits(operator, inner.constant, second);
     if absorbs(operator, bits, constant) {
         return Ok(None);
     }
@@ -105,7 +102,7 @@ pub(crate) fn rules_of_constants(
     ensures ok { IfOk result (λ term. term ≡ rules_of_constants_by head.now a.now b.now) }
     ensures memory { IsOkUnless result OptError.Memory }
 {
-    if let Some(term) = join_constants(alloc, AssociativeOperator::Sum, head, a, b)? {
+    if let Some(term) = join_sums(alloc, Arithmetic::of_head(BinaryOperator::Add, head), a, b)? {
         return Ok(Some(term));
     }
     if let Some(term) = join_constants(alloc, AssociativeOperator::Conjunction, head, a, b)? {

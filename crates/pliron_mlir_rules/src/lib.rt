@@ -19,6 +19,7 @@ mod comparisons;
 mod constants;
 mod equations;
 mod inverses;
+mod joined_sums;
 mod masks;
 mod orders;
 mod powers;

@@ -6,6 +6,7 @@ ghost use Rattle.pliron_mlir_rules.specs.MlirRules.{constant_bits as constant_bi
 ghost use Rattle.pliron_mlir_rules.specs.MlirRules.{constant_leaves as constant_leaves_by, constant_operation as constant_operation_by};
 ghost use Rattle.pliron_mlir_rules.specs.MlirRules.{is_plain_cast as is_plain_cast_by, leaf_bits as leaf_bits_by};
 ghost use Rattle.pliron_mlir_rules.specs.MlirRules.{source_leaf as source_leaf_by, source_of as source_of_by};
+ghost use Rattle.pliron_mlir_rules.specs.MlirRules.{operation_alike as operation_alike_by, promise_alike as promise_alike_by};
 ghost use Rattle.pliron_mlir_rules.specs.MlirRules.{promises_nothing as promises_nothing_by, wraps_freely as wraps_freely_by};
 
 use pliron_bits::{BinaryOperator, Cast, Flags};
@@ -97,6 +98,15 @@ pub(crate) fn promises_nothing(flags: Flags) -> bool
     wraps_freely(flags) && !flags.disjoint
 }
 
+// Whether both promise the same of how results wrap, and neither that operands have no bits in common.
+fn promise_alike(f: Flags, g: Flags) -> bool
+    ensures { result ≡ promise_alike_by f g }
+{
+    let signed = f.no_signed_wrap == g.no_signed_wrap;
+    let unsigned = f.no_unsigned_wrap == g.no_unsigned_wrap;
+    (signed && unsigned) && (!f.disjoint && !g.disjoint)
+}
+
 // Whether the cast has more bits, or fewer, as its name says, and promises nothing.
 pub(crate) fn is_plain_cast(cast: Cast, conversion: Conversion) -> bool
     ensures { result ≡ is_plain_cast_by cast conversion }
@@ -153,13 +163,14 @@ pub(crate) fn source_of(cast: Cast, to: u32, operand: &Operand) -> Option<CastSo
     }
 }
 
-// The value and the constant of an operation with these operands, where it promises nothing.
+// The value and the constant of an operation with these operands, where it promises what these flags do.
 fn constant_leaves(
+    flags: Flags,
     width: u32,
     arithmetic: Option<Arithmetic>,
     leaves: &[Leaf],
 ) -> Option<ConstantOperation>
-    ensures same { result ≡ constant_leaves_by width arithmetic leaves.now }
+    ensures same { result ≡ constant_leaves_by flags width arithmetic leaves.now }
     ensures below { IfSome result (λ s. s.constant < 2 ^ bits_of_width width) }
 {
     let [value, constant] = leaves else {
@@ -168,7 +179,7 @@ fn constant_leaves(
     let Some(arithmetic) = arithmetic else {
         return None;
     };
-    if arithmetic.width != width || !promises_nothing(arithmetic.flags) {
+    if arithmetic.width != width || !promise_alike(flags, arithmetic.flags) {
         return None;
     }
     match leaf_bits(width, constant) {
@@ -177,6 +188,27 @@ fn constant_leaves(
             constant,
         }),
         None => None,
+    }
+}
+
+// The value and the constant of which this operator makes the operand, where it promises what these flags do.
+pub(crate) fn operation_alike(
+    operator: BinaryOperator,
+    flags: Flags,
+    width: u32,
+    operand: &Operand,
+) -> Option<ConstantOperation>
+    ensures same { result ≡ operation_alike_by operator flags width operand.now }
+    ensures below { IfSome result (λ s. s.constant < 2 ^ bits_of_width width) }
+{
+    match operand {
+        Operand::Plain(_) => None,
+        Operand::Made(_, head, leaves) => constant_leaves(
+            flags,
+            width,
+            Arithmetic::of_head(operator, head),
+            leaves.as_slice(),
+        ),
     }
 }
 
@@ -189,12 +221,5 @@ pub(crate) fn constant_operation(
     ensures same { result ≡ constant_operation_by operator width operand.now }
     ensures below { IfSome result (λ s. s.constant < 2 ^ bits_of_width width) }
 {
-    match operand {
-        Operand::Plain(_) => None,
-        Operand::Made(_, head, leaves) => constant_leaves(
-            width,
-            Arithmetic::of_head(operator, head),
-            leaves.as_slice(),
-        ),
-    }
+    operation_alike(operator, Flags::NONE, width, operand)
 }

@@ -452,7 +452,85 @@ a mask of more bits -- (%0: i32):|  %1 = \"llvm.mlir.constant\"() <{value = 12 :
     \"llvm.and\"(%2, %3) : (i32, i32) -> i32|  \"llvm.return\"(%4) : (i32) -> () => (%0: i32):|  %1 = \
     \"llvm.mlir.constant\"() <{value = 12 : i32}> : () -> i32|  %2 = \"llvm.or\"(%0, %1) : (i32, i32) -> i32|  %3 = \
     \"llvm.mlir.constant\"() <{value = 6 : i32}> : () -> i32|  %4 = \"llvm.and\"(%2, %3) : (i32, i32) -> i32|  \
-    \"llvm.return\"(%4) : (i32) -> ()";
+    \"llvm.return\"(%4) : (i32) -> ()
+sums whose constants have other signs -- (%0: i8):|  %1 = \"llvm.mlir.constant\"() <{value = 3 : i8}> : () -> i8|  %2 \
+    = \"llvm.add\"(%0, %1) <{overflowFlags = #llvm.overflow<nsw>}> : (i8, i8) -> i8|  %3 = \"llvm.mlir.constant\"() \
+    <{value = -4 : i8}> : () -> i8|  %4 = \"llvm.add\"(%2, %3) <{overflowFlags = #llvm.overflow<nsw>}> : (i8, i8) -> \
+    i8|  \"llvm.return\"(%4) : (i8) -> () => (%0: i8):|  %1 = \"llvm.mlir.constant\"() <{value = 3 : i8}> : () -> i8|  \
+    %2 = \"llvm.add\"(%0, %1) <{overflowFlags = #llvm.overflow<nsw>}> : (i8, i8) -> i8|  %3 = \
+    \"llvm.mlir.constant\"() <{value = -4 : i8}> : () -> i8|  %4 = \"llvm.add\"(%2, %3) <{overflowFlags = \
+    #llvm.overflow<nsw>}> : (i8, i8) -> i8|  \"llvm.return\"(%4) : (i8) -> ()
+sums past the greatest number -- (%0: i8):|  %1 = \"llvm.mlir.constant\"() <{value = 100 : i8}> : () -> i8|  %2 = \
+    \"llvm.add\"(%0, %1) <{overflowFlags = #llvm.overflow<nsw>}> : (i8, i8) -> i8|  %3 = \"llvm.mlir.constant\"() \
+    <{value = 100 : i8}> : () -> i8|  %4 = \"llvm.add\"(%2, %3) <{overflowFlags = #llvm.overflow<nsw>}> : (i8, i8) -> \
+    i8|  \"llvm.return\"(%4) : (i8) -> () => (%0: i8):|  %1 = \"llvm.mlir.constant\"() <{value = 100 : i8}> : () -> \
+    i8|  %2 = \"llvm.add\"(%0, %1) <{overflowFlags = #llvm.overflow<nsw>}> : (i8, i8) -> i8|  %3 = \
+    \"llvm.mlir.constant\"() <{value = 100 : i8}> : () -> i8|  %4 = \"llvm.add\"(%2, %3) <{overflowFlags = \
+    #llvm.overflow<nsw>}> : (i8, i8) -> i8|  \"llvm.return\"(%4) : (i8) -> ()
+sums to the least number -- (%0: i8):|  %1 = \"llvm.mlir.constant\"() <{value = -100 : i8}> : () -> i8|  %2 = \
+    \"llvm.add\"(%0, %1) <{overflowFlags = #llvm.overflow<nsw>}> : (i8, i8) -> i8|  %3 = \"llvm.mlir.constant\"() \
+    <{value = -28 : i8}> : () -> i8|  %4 = \"llvm.add\"(%2, %3) <{overflowFlags = #llvm.overflow<nsw>}> : (i8, i8) -> \
+    i8|  \"llvm.return\"(%4) : (i8) -> () => (%0: i8):|  %1 = \"llvm.mlir.constant\"() <{value = -100 : i8}> : () -> \
+    i8|  %2 = \"llvm.add\"(%0, %1) <{overflowFlags = #llvm.overflow<nsw>}> : (i8, i8) -> i8|  %3 = \
+    \"llvm.mlir.constant\"() <{value = -28 : i8}> : () -> i8|  %5 = \"llvm.mlir.constant\"() <{value = -128 : i8}> : \
+    () -> i8|  %6 = \"llvm.add\"(%0, %5) <{overflowFlags = #llvm.overflow<nsw>}> : (i8, i8) -> i8|  %4 = \
+    \"llvm.add\"(%2, %3) <{overflowFlags = #llvm.overflow<nsw>}> : (i8, i8) -> i8|  \"llvm.return\"(%6) : (i8) -> ()
+sums past the least number -- (%0: i8):|  %1 = \"llvm.mlir.constant\"() <{value = -100 : i8}> : () -> i8|  %2 = \
+    \"llvm.add\"(%0, %1) <{overflowFlags = #llvm.overflow<nsw>}> : (i8, i8) -> i8|  %3 = \"llvm.mlir.constant\"() \
+    <{value = -29 : i8}> : () -> i8|  %4 = \"llvm.add\"(%2, %3) <{overflowFlags = #llvm.overflow<nsw>}> : (i8, i8) -> \
+    i8|  \"llvm.return\"(%4) : (i8) -> () => (%0: i8):|  %1 = \"llvm.mlir.constant\"() <{value = -100 : i8}> : () -> \
+    i8|  %2 = \"llvm.add\"(%0, %1) <{overflowFlags = #llvm.overflow<nsw>}> : (i8, i8) -> i8|  %3 = \
+    \"llvm.mlir.constant\"() <{value = -29 : i8}> : () -> i8|  %4 = \"llvm.add\"(%2, %3) <{overflowFlags = \
+    #llvm.overflow<nsw>}> : (i8, i8) -> i8|  \"llvm.return\"(%4) : (i8) -> ()
+nothing has each sign -- (%0: i8):|  %1 = \"llvm.mlir.constant\"() <{value = -4 : i8}> : () -> i8|  %2 = \
+    \"llvm.add\"(%0, %1) <{overflowFlags = #llvm.overflow<nsw>}> : (i8, i8) -> i8|  %3 = \"llvm.mlir.constant\"() \
+    <{value = 0 : i8}> : () -> i8|  %4 = \"llvm.add\"(%2, %3) <{overflowFlags = #llvm.overflow<nsw>}> : (i8, i8) -> \
+    i8|  \"llvm.return\"(%4) : (i8) -> () => (%0: i8):|  %1 = \"llvm.mlir.constant\"() <{value = -4 : i8}> : () -> \
+    i8|  %2 = \"llvm.add\"(%0, %1) <{overflowFlags = #llvm.overflow<nsw>}> : (i8, i8) -> i8|  %3 = \
+    \"llvm.mlir.constant\"() <{value = 0 : i8}> : () -> i8|  %5 = \"llvm.mlir.constant\"() <{value = -4 : i8}> : () \
+    -> i8|  %6 = \"llvm.add\"(%0, %5) <{overflowFlags = #llvm.overflow<nsw>}> : (i8, i8) -> i8|  %4 = \
+    \"llvm.add\"(%2, %3) <{overflowFlags = #llvm.overflow<nsw>}> : (i8, i8) -> i8|  \"llvm.return\"(%6) : (i8) -> ()
+a sum that may wrap of one that may not -- (%0: i8):|  %1 = \"llvm.mlir.constant\"() <{value = 3 : i8}> : () -> i8|  \
+    %2 = \"llvm.add\"(%0, %1) <{overflowFlags = #llvm.overflow<nsw>}> : (i8, i8) -> i8|  %3 = \
+    \"llvm.mlir.constant\"() <{value = 4 : i8}> : () -> i8|  %4 = \"llvm.add\"(%2, %3) : (i8, i8) -> i8|  \
+    \"llvm.return\"(%4) : (i8) -> () => (%0: i8):|  %1 = \"llvm.mlir.constant\"() <{value = 3 : i8}> : () -> i8|  %2 \
+    = \"llvm.add\"(%0, %1) <{overflowFlags = #llvm.overflow<nsw>}> : (i8, i8) -> i8|  %3 = \"llvm.mlir.constant\"() \
+    <{value = 4 : i8}> : () -> i8|  %4 = \"llvm.add\"(%2, %3) : (i8, i8) -> i8|  \"llvm.return\"(%4) : (i8) -> ()
+a sum that may not wrap of one that may -- (%0: i8):|  %1 = \"llvm.mlir.constant\"() <{value = 3 : i8}> : () -> i8|  \
+    %2 = \"llvm.add\"(%0, %1) : (i8, i8) -> i8|  %3 = \"llvm.mlir.constant\"() <{value = 4 : i8}> : () -> i8|  %4 = \
+    \"llvm.add\"(%2, %3) <{overflowFlags = #llvm.overflow<nsw>}> : (i8, i8) -> i8|  \"llvm.return\"(%4) : (i8) -> () \
+    => (%0: i8):|  %1 = \"llvm.mlir.constant\"() <{value = 3 : i8}> : () -> i8|  %2 = \"llvm.add\"(%0, %1) : (i8, i8) \
+    -> i8|  %3 = \"llvm.mlir.constant\"() <{value = 4 : i8}> : () -> i8|  %4 = \"llvm.add\"(%2, %3) <{overflowFlags = \
+    #llvm.overflow<nsw>}> : (i8, i8) -> i8|  \"llvm.return\"(%4) : (i8) -> ()
+sums that promise the other thing -- (%0: i8):|  %1 = \"llvm.mlir.constant\"() <{value = 3 : i8}> : () -> i8|  %2 = \
+    \"llvm.add\"(%0, %1) <{overflowFlags = #llvm.overflow<nuw>}> : (i8, i8) -> i8|  %3 = \"llvm.mlir.constant\"() \
+    <{value = 4 : i8}> : () -> i8|  %4 = \"llvm.add\"(%2, %3) <{overflowFlags = #llvm.overflow<nsw>}> : (i8, i8) -> \
+    i8|  \"llvm.return\"(%4) : (i8) -> () => (%0: i8):|  %1 = \"llvm.mlir.constant\"() <{value = 3 : i8}> : () -> i8|  \
+    %2 = \"llvm.add\"(%0, %1) <{overflowFlags = #llvm.overflow<nuw>}> : (i8, i8) -> i8|  %3 = \
+    \"llvm.mlir.constant\"() <{value = 4 : i8}> : () -> i8|  %4 = \"llvm.add\"(%2, %3) <{overflowFlags = \
+    #llvm.overflow<nsw>}> : (i8, i8) -> i8|  \"llvm.return\"(%4) : (i8) -> ()
+a sum that promises less -- (%0: i8):|  %1 = \"llvm.mlir.constant\"() <{value = 3 : i8}> : () -> i8|  %2 = \
+    \"llvm.add\"(%0, %1) <{overflowFlags = #llvm.overflow<nsw, nuw>}> : (i8, i8) -> i8|  %3 = \
+    \"llvm.mlir.constant\"() <{value = 4 : i8}> : () -> i8|  %4 = \"llvm.add\"(%2, %3) <{overflowFlags = \
+    #llvm.overflow<nsw>}> : (i8, i8) -> i8|  \"llvm.return\"(%4) : (i8) -> () => (%0: i8):|  %1 = \
+    \"llvm.mlir.constant\"() <{value = 3 : i8}> : () -> i8|  %2 = \"llvm.add\"(%0, %1) <{overflowFlags = \
+    #llvm.overflow<nsw, nuw>}> : (i8, i8) -> i8|  %3 = \"llvm.mlir.constant\"() <{value = 4 : i8}> : () -> i8|  %4 = \
+    \"llvm.add\"(%2, %3) <{overflowFlags = #llvm.overflow<nsw>}> : (i8, i8) -> i8|  \"llvm.return\"(%4) : (i8) -> ()
+unsigned sums past the end -- (%0: i8):|  %1 = \"llvm.mlir.constant\"() <{value = -56 : i8}> : () -> i8|  %2 = \
+    \"llvm.add\"(%0, %1) <{overflowFlags = #llvm.overflow<nuw>}> : (i8, i8) -> i8|  %3 = \"llvm.mlir.constant\"() \
+    <{value = 100 : i8}> : () -> i8|  %4 = \"llvm.add\"(%2, %3) <{overflowFlags = #llvm.overflow<nuw>}> : (i8, i8) -> \
+    i8|  \"llvm.return\"(%4) : (i8) -> () => (%0: i8):|  %1 = \"llvm.mlir.constant\"() <{value = -56 : i8}> : () -> \
+    i8|  %2 = \"llvm.add\"(%0, %1) <{overflowFlags = #llvm.overflow<nuw>}> : (i8, i8) -> i8|  %3 = \
+    \"llvm.mlir.constant\"() <{value = 100 : i8}> : () -> i8|  %4 = \"llvm.add\"(%2, %3) <{overflowFlags = \
+    #llvm.overflow<nuw>}> : (i8, i8) -> i8|  \"llvm.return\"(%4) : (i8) -> ()
+sums of which one promise fails -- (%0: i8):|  %1 = \"llvm.mlir.constant\"() <{value = 100 : i8}> : () -> i8|  %2 = \
+    \"llvm.add\"(%0, %1) <{overflowFlags = #llvm.overflow<nsw, nuw>}> : (i8, i8) -> i8|  %3 = \
+    \"llvm.mlir.constant\"() <{value = 100 : i8}> : () -> i8|  %4 = \"llvm.add\"(%2, %3) <{overflowFlags = \
+    #llvm.overflow<nsw, nuw>}> : (i8, i8) -> i8|  \"llvm.return\"(%4) : (i8) -> () => (%0: i8):|  %1 = \
+    \"llvm.mlir.constant\"() <{value = 100 : i8}> : () -> i8|  %2 = \"llvm.add\"(%0, %1) <{overflowFlags = \
+    #llvm.overflow<nsw, nuw>}> : (i8, i8) -> i8|  %3 = \"llvm.mlir.constant\"() <{value = 100 : i8}> : () -> i8|  %4 \
+    = \"llvm.add\"(%2, %3) <{overflowFlags = #llvm.overflow<nsw, nuw>}> : (i8, i8) -> i8|  \"llvm.return\"(%4) : (i8) \
+    -> ()";
 
 #[test]
 fn rules_leave(rt: HostRuntime) {
