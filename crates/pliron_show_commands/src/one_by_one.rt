@@ -147,13 +147,15 @@ pub(crate) fn all_unfit<D: Dialect>(
     requires { IsLive ctx.now.tree root }
     ensures { IfOk result (λ found. AreFaults D.meaning ctx.now.tree found.items) }
 {
+    ctx.contents_agree();
+    ctx.well_formed();
     let mut found = Vec::new(alloc);
     if !is_container(root, ctx) {
         add_violations::<D>(alloc, root, &mut found, ctx)?;
         return Ok(found);
     }
     for op in Contents::new(root, ctx) {
-        if op.is_live(ctx) && is_part(op, ctx) {
+        if is_part(op, ctx) {
             add_violations::<D>(alloc, op, &mut found, ctx)?;
         }
     }
