@@ -1,8 +1,8 @@
 use Rattle.pliron_laws.proofs.AnswerLemmas.{refuted}
 use Rattle.pliron_pass_fit.proofs.violations.use_violation.Goals as goal
 
-pub is_dominated-requires-clause-ready : goal.is_dominated-requires-clause-ready
-is_dominated-requires-clause-ready g c =
+pub is_dominated-dominated-requires-clause-ready : goal.is_dominated-dominated-requires-clause-ready
+is_dominated-dominated-requires-clause-ready g c =
     (c.args.place.op, record { root = c.args.root; listed = c.requires.contents; edges = c.requires.edges; leads = c.requires.way; made = c.is_defined_inside.ensures.0 c.if-not-is_defined_inside.false })
 
 pub returns-clause-violation : goal.returns-clause-violation
