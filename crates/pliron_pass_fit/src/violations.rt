@@ -252,25 +252,6 @@ fn aspect_violation<D: Dialect>(
     }
 }
 
-// Adds what was found, if something was.
-fn add_found<D: Dialect>(
-    root: Ptr<Operation>,
-    wrong: Option<Violation>,
-    found: &mut Vec<Violation>,
-    ctx: &Context,
-) -> Result<(), OptError>
-    requires violation { IfSome wrong (λ violation. IsViolation D.meaning ctx.now.tree root violation) }
-    requires found { AreViolations D.meaning ctx.now.tree root found.old.items }
-    ensures found { OnOk result (AreViolations D.meaning ctx.now.tree root found.new.items) }
-    ensures memory { IsOkUnless result OptError.Memory }
-{
-    let Some(violation) = wrong else {
-        return Ok(());
-    };
-    found.push(violation)?;
-    Ok(())
-}
-
 // Adds what is wrong with the operation, but for dominance of uses.
 fn add_violations<D: Dialect>(
     alloc: Global,
@@ -289,53 +270,9 @@ fn add_violations<D: Dialect>(
 {
     let aspects = aspects_of(alloc, root, op, ctx)?;
     for aspect in &aspects {
-        let wrong = aspect_violation::<D>(alloc, root, contents, op, *aspect, ctx)?;
-        add_found::<D>(root, wrong, found, ctx)?;
-    }
-    Ok(())
-}
-
-// The violation that no run may begin at the root.
-fn start_violation<D: Dialect>(root: Ptr<Operation>, ctx: &Context) -> Option<Violation>
-    requires { IsLive ctx.now.tree root }
-    ensures { IfSome result (λ found. IsViolation D.meaning ctx.now.tree root found) }
-{
-    if D::may_be_root(root, ctx) {
-        return None;
-    }
-    Some(Violation::NotRoot)
-}
-
-// The violation that the root has successors.
-fn successors_violation<D: Dialect>(root: Ptr<Operation>, ctx: &Context) -> Option<Violation>
-    requires { IsLive ctx.now.tree root }
-    ensures { IfSome result (λ found. IsViolation D.meaning ctx.now.tree root found) }
-{
-    if root.num_successor(ctx) == 0 {
-        return None;
-    }
-    Some(Violation::HasSuccessors)
-}
-
-// Adds what is wrong with the root and all that is inside it, but for dominance of uses.
-fn add_all_violations<D: Dialect>(
-    alloc: Global,
-    root: Ptr<Operation>,
-    ops: &[Ptr<Operation>],
-    contents: &IndexSet<Ptr<Operation>>,
-    found: &mut Vec<Violation>,
-    ctx: &Context,
-) -> Result<(), OptError>
-    requires live { IsLive ctx.now.tree root }
-    requires ops { ops.now ≡ preorder ctx.now.tree root }
-    requires contents { contents.now.keys ≡ preorder ctx.now.tree root }
-    requires found { AreViolations D.meaning ctx.now.tree root found.old.items }
-    ensures found { OnOk result (AreViolations D.meaning ctx.now.tree root found.new.items) }
-    ensures memory { IsOkUnless result OptError.Memory }
-{
-    ctx.well_formed();
-    for op in ops {
-        add_violations::<D>(alloc, root, contents, *op, found, ctx)?;
+        if let Some(wrong) = aspect_violation::<D>(alloc, root, contents, op, *aspect, ctx)? {
+            found.push(wrong)?;
+        }
     }
     Ok(())
 }
@@ -352,53 +289,18 @@ fn plain_violations<D: Dialect>(
     ensures found { IfOk result (λ found. AreViolations D.meaning ctx.now.tree root found.items) }
     ensures memory { IsOkUnless result OptError.Memory }
 {
+    ctx.well_formed();
     let mut found = Vec::new(alloc);
-    add_found::<D>(root, start_violation::<D>(root, ctx), &mut found, ctx)?;
-    add_found::<D>(root, successors_violation::<D>(root, ctx), &mut found, ctx)?;
-    let ops = contents.as_slice();
-    add_all_violations::<D>(alloc, root, ops, contents, &mut found, ctx)?;
+    if !D::may_be_root(root, ctx) {
+        found.push(Violation::NotRoot)?;
+    }
+    if root.num_successor(ctx) != 0 {
+        found.push(Violation::HasSuccessors)?;
+    }
+    for op in contents.as_slice() {
+        add_violations::<D>(alloc, root, contents, *op, &mut found, ctx)?;
+    }
     Ok(found)
-}
-
-/// An operand of an operation, by its index.
-#[derive(Clone, Copy)]
-struct OperandPlace {
-    op: Ptr<Operation>,
-    index: usize,
-}
-
-// The violation that the definition of this operand doesn't dominate the operation, which the way leads to.
-fn use_violation<D: Dialect>(
-    root: Ptr<Operation>,
-    place: OperandPlace,
-    contents: &IndexSet<Ptr<Operation>>,
-    way: &IndexSet<Ptr<Operation>>,
-    trees: &mut DominatorTrees,
-    ctx: &Context,
-) -> Result<Option<Violation>, OptError>
-    requires live { IsLive ctx.now.tree place.op }
-    requires inside { IsInside ctx.now.tree root place.op }
-    requires contents { contents.now.keys ≡ preorder ctx.now.tree root }
-    requires edges { EdgesLast ctx.now.tree root }
-    requires way { IsWay ctx.now.tree root place.op way.now.keys }
-    requires gives { GiveRegions ctx.now.tree (λ r. get is_one_key trees.old.of_regions r) }
-    ensures violation { IfOk result (λ r. IfSome r (λ found. IsViolation D.meaning ctx.now.tree root found)) }
-    ensures gives { OnOk result (GiveRegions ctx.now.tree (λ r. get is_one_key trees.new.of_regions r)) }
-    ensures memory { IsOkUnless result OptError.Memory }
-{
-    let OperandPlace { op, index } = place;
-    if index >= op.num_operand(ctx) {
-        return Ok(None);
-    }
-    let value = op.get_operand(ctx, index);
-    if !is_defined_inside(root, contents, value, ctx) {
-        return Ok(None);
-    }
-    let dominated = is_dominated(value, contents, way, trees, ctx)?;
-    if dominated {
-        return Ok(None);
-    }
-    Ok(Some(Violation::NotDominated(op, index)))
 }
 
 /// What is found wrong, and the dominator trees by which more is found.
@@ -428,10 +330,14 @@ fn add_undominated<D: Dialect>(
     ensures found { OnOk result (AreViolations D.meaning ctx.now.tree root search.new.found.items) }
     ensures memory { IsOkUnless result OptError.Memory }
 {
-    for index in 0..op.num_operand(ctx) {
-        let place = OperandPlace { op, index };
-        let wrong = use_violation::<D>(root, place, contents, way, &mut search.trees, ctx)?;
-        add_found::<D>(root, wrong, &mut search.found, ctx)?;
+    for i in 0..op.num_operand(ctx) {
+        let value = op.get_operand(ctx, i);
+        if !is_defined_inside(root, contents, value, ctx) {
+            continue;
+        }
+        if !is_dominated(value, contents, way, &mut search.trees, ctx)? {
+            search.found.push(Violation::NotDominated(op, i))?;
+        }
     }
     Ok(())
 }

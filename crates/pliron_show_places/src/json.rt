@@ -80,13 +80,10 @@ impl JsonObject {
     }
 
     /// The object without the end of a line. Errors: allocation failure. Cost: linear in it.
-    pub fn finish(self) -> Result<String, AllocError> {
-        let mut text = self.text;
-        if text.is_empty() {
-            text.push_str("{")?;
-        }
-        text.push_str("}")?;
-        Ok(text)
+    pub fn finish(mut self) -> Result<String, AllocError> {
+        self.text
+            .push_str(if self.text.is_empty() { "{}" } else { "}" })?;
+        Ok(self.text)
     }
 
     /// Adds the object as a line. Errors: allocation failure. Cost: linear in it.
