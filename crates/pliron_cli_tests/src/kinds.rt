@@ -70,7 +70,6 @@ const WITHOUT_INPUTS: RunOptions<'static> = RunOptions {
     world: &[],
     steps: 100,
     trace: false,
-    json: false,
 };
 
 // What the command answers.
@@ -82,7 +81,6 @@ fn outcome_of(alloc: Global, words: &str, source: &Source) -> Result<Outcome, Al
             let options = ExplainOptions {
                 pipeline: word,
                 missed: false,
-                json: false,
             };
             explain::<Arithmetic>(alloc, source, &options)
         }

@@ -14,8 +14,6 @@ mod flows;
 #[cfg(test)]
 mod graphs;
 #[cfg(test)]
-mod json;
-#[cfg(test)]
 mod kinds;
 #[cfg(test)]
 mod lines;

@@ -16,7 +16,6 @@ pub fn with_instrumentation<'w>(
         is_pretty: false,
         instrumentation,
         times: false,
-        json: false,
     }
 }
 

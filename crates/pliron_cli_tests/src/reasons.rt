@@ -40,11 +40,7 @@ fn explained(
     pipeline: &str,
     missed: bool,
 ) -> Outcome {
-    let options = ExplainOptions {
-        pipeline,
-        missed,
-        json: false,
-    };
+    let options = ExplainOptions { pipeline, missed };
     explain::<BenchNotation>(alloc, source, &options).expect(rt, "memory")
 }
 

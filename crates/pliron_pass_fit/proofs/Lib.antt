@@ -7,4 +7,3 @@ pub mod StepLemmas
 pub mod OrderLemmas
 pub mod UseLemmas
 pub mod FitLemmas
-pub mod FoundLemmas

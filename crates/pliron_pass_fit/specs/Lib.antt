@@ -6,4 +6,3 @@ pub mod Definitions
 pub mod Uses
 pub mod Chosen
 pub mod Checked
-pub mod Found

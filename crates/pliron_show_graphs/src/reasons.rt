@@ -35,10 +35,9 @@ pub enum Rewrite {
 /// What is reported of one operation or argument.
 #[derive(Drop)]
 pub struct Reason {
-    /// Where it is in the text, and what it is.
+    /// Where it is in the text.
     pub part: TextPart,
-    pub subject: String,
-    pub why: String,
+    pub reported: String,
 }
 
 /// How many bytes of an operation are shown.
@@ -154,12 +153,13 @@ impl<'t, N: ShownNotation> Reasons<'t, N> {
         };
         let mut line = String::new(self.alloc);
         push_on_one_line(&mut line, part.of(self.text))?;
-        let mut subject = String::new(self.alloc);
+        let mut reported = String::new(self.alloc);
         for letter in line.chars().take(SHOWN) {
-            subject.push(letter)?;
+            reported.push(letter)?;
         }
-        subject.push_str(if line.len() > SHOWN { " .." } else { "" })?;
-        self.reasons.push(Reason { part, subject, why })?;
+        reported.push_str(if line.len() > SHOWN { " ..: " } else { ": " })?;
+        reported.push_str(why.as_str())?;
+        self.reasons.push(Reason { part, reported })?;
         Ok(())
     }
 
@@ -173,14 +173,15 @@ impl<'t, N: ShownNotation> Reasons<'t, N> {
         let Some(name) = self.words.value(argument.key()) else {
             return Ok(());
         };
-        let mut subject = format!(in self.alloc; "argument ")?;
-        push_value_name(&mut subject, self.text, self.words, argument.key())?;
-        subject.push_str(" of ")?;
-        self.push_block(&mut subject, block)?;
+        let mut reported = format!(in self.alloc; "argument ")?;
+        push_value_name(&mut reported, self.text, self.words, argument.key())?;
+        reported.push_str(" of ")?;
+        self.push_block(&mut reported, block)?;
+        reported.push_str(": ")?;
+        reported.push_str(why)?;
         self.reasons.push(Reason {
             part: name.part,
-            subject,
-            why: String::from_str(self.alloc, why)?,
+            reported,
         })?;
         Ok(())
     }

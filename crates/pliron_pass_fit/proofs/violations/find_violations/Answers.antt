@@ -1,2 +1,0 @@
-use Rattle.pliron_pass_fit.proofs.FitLemmas.{refutes}
-use Rattle.pliron_pass_fit.proofs.violations.find_violations.Goals as goal
