@@ -1,10 +1,9 @@
 //! Functions as they are read: which definition each use names, and where and why one is refused or kept. `|` stands for
 //! the end of a line.
-use crate::lines::with_lines;
+use crate::lines::{at_place, with_lines};
 use pliron_text_llvm_functions::{FunctionFault, FunctionForm, FunctionReading, read_function};
 use pliron_text_llvm_names::{DefinitionKind, LocalDefinition};
 use pliron_text_llvm_syntax::function_at;
-use pliron_text_mlir_syntax::position_of;
 use std::alloc::Global;
 use std::process::Abort;
 
@@ -76,13 +75,6 @@ fn uses_of(rt: &impl Abort, alloc: Global, reading: &FunctionReading) -> String 
         out.push_str(named.as_str()).expect(rt, "memory");
     }
     out
-}
-
-// A place, and what is said of it.
-fn at_place(rt: &impl Abort, alloc: Global, text: &[u8], at: usize, why: &str) -> String {
-    let place = position_of(text, at);
-    let (line, column) = (place.line, place.column);
-    format!(in alloc; " {line}:{column} {why}").expect(rt, "memory")
 }
 
 // What the function is read as.

@@ -1,5 +1,7 @@
 //! Texts over several lines, in one: `|` stands for the end of a line.
+use pliron_text_mlir_syntax::position_of;
 use std::alloc::{AllocError, Global};
+use std::process::Abort;
 
 /// The text with an end of a line for each `|`.
 pub fn with_lines(alloc: Global, text: &str) -> Result<String, AllocError> {
@@ -17,4 +19,11 @@ pub fn in_one_line(alloc: Global, text: &[u8]) -> Result<String, AllocError> {
         line.push(if letter == '\n' { '|' } else { letter })?;
     }
     Ok(line)
+}
+
+/// A place, and what is said of it.
+pub fn at_place(rt: &impl Abort, alloc: Global, text: &[u8], at: usize, why: &str) -> String {
+    let place = position_of(text, at);
+    let (line, column) = (place.line, place.column);
+    format!(in alloc; " {line}:{column} {why}").expect(rt, "memory")
 }

@@ -1,0 +1,5 @@
+pub mod NumberLemmas
+pub mod EdgeLemmas
+pub mod IncomingLemmas
+pub mod EntryLemmas
+pub mod PhiLemmas
