@@ -1,1 +1,5 @@
 mod MovedBehind
+mod Growing
+mod ErasedAgain
+mod CopyLists
+mod CopyStages
