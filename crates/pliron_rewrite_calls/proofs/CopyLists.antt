@@ -122,3 +122,8 @@ module _ (t : Tree) (w : IsTree t) (b : ℕ) where
       filter-append own (body_of t c) (flat_map (λ x. body_of t x) cs) ∙ ap (λ z. z ++ filter own (flat_map (λ x. body_of t x) cs)) (filter_all own (body_of t c) (λ k j. is_own k (w.bodies.owned k c j ∙ ap Some (sym e)))) ∙ ap (λ z. body_of t c ++ z) (none_own cs (λ j. d.0 (subst (λ z. In z cs) e j))) ∙ append-nil (body_of t c) ∙ ap (body_of t) (sym e)
   own_part (c ∷ cs) d (inr i) =
       filter-append own (body_of t c) (flat_map (λ x. body_of t x) cs) ∙ ap (λ z. z ++ filter own (flat_map (λ x. body_of t x) cs)) (filter_none own (body_of t c) (λ k j. not_own k c (w.bodies.owned k c j) (λ e. d.0 (subst (λ z. In z cs) (sym e) i)))) ∙ own_part cs d.1 i
+
+-- a list that is copied item by item
+pub item_more : {A : Type 0} (xs before after : List A) (i : ℕ) (x y : A) → after ≡ before ++ x ∷ [] → before ≡ take i xs → x ≡ y → slice_get xs i ≡ Some y → after ≡ take (i + 1) xs
+item_more xs before after i x y push is e at =
+    push ∙ ap (λ z. z ++ x ∷ []) is ∙ ap (λ z. take i xs ++ z ∷ []) (e ∙ sym (get_or_from_slice_get xs i y y at)) ∙ sym (take_more xs i y (slice_get_within xs i y at))

@@ -165,6 +165,11 @@ module _ (t u : Tree) (region count : ℕ) (wu : IsTree u) (is : IsRegion u regi
 
 -- ---- one operation more, in a block
 
+pub created_childless : (u : Tree) (head : Head) (count : ℕ) → regions_of (after_creating u head count 0) (length u.operations) ≡ []
+created_childless u head count =
+    let entry : OperationEntry = record { head = Some head; results = range_with_len (length u.definitions) count; regions = [] } in
+    ap (λ z. z.regions) (get_last_same u.operations entry no_entry)
+
 module _ (u : Tree) (head : Head) (count c : ℕ) (wu : IsTree u) where
   abbrev pub made : Tree
   made = after_creating u head count 0

@@ -7,8 +7,8 @@ use Rattle.pliron_rewrite_calls.proofs.copying.connect_all.Goals as goal
 pub loop-i-init : goal.loop-i-init
 loop-i-init g c =
     record {
-      copying = c.requires.3;
-      connected = connected_none g.x c.args.region c.requires.0 c.args.ctx.now.tree c.args.copies.now (subst (λ z. IsCopying g.x c.args.ctx.now.tree c.args.region g.x.blocks z c.args.copies.now) c.requires.1 c.requires.3) c.requires.4;
+      copying = c.requires.1.1.1.0;
+      connected = connected_none g.x c.args.region c.requires.0 c.args.ctx.now.tree c.args.copies.now (subst (λ z. IsCopying g.x c.args.ctx.now.tree c.args.region g.x.blocks z c.args.copies.now) c.requires.1.0 c.requires.1.1.1.0) c.requires.1.1.1.1;
     }
 
 pub returns-clause-connected : goal.returns-clause-connected

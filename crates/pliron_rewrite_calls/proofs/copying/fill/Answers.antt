@@ -7,15 +7,15 @@ use Rattle.pliron_rewrite_calls.proofs.copying.fill.Goals as goal
 
 pub make_blocks-requires-clause-begun : goal.make_blocks-requires-clause-begun
 make_blocks-requires-clause-begun g c =
-    subst (λ (z : Tree). IsCopying g.x z c.args.region [] [] c.args.copies.now) c.requires.1 (copying_none g.x c.args.region c.requires.0 c.args.copies.now c.requires.4 c.requires.5)
+    subst (λ (z : Tree). IsCopying g.x z c.args.region [] [] c.args.copies.now) c.requires.1.1.0 (copying_none g.x c.args.region c.requires.1.0 c.args.copies.now c.requires.1.1.1.1.1.0 c.requires.1.1.1.1.1.1.0)
 
 pub make_operations-requires-clause-begun : goal.make_operations-requires-clause-begun
 make_operations-requires-clause-begun g c =
-    subst (λ z. IsCopying g.x c.make_blocks.new.ctx.tree c.args.region z [] c.make_blocks.new.copies) (sym c.requires.2) c.in_ok-make_blocks.ensures.ok
+    subst (λ z. IsCopying g.x c.make_blocks.new.ctx.tree c.args.region z [] c.make_blocks.new.copies) (sym c.requires.1.1.1.0) c.in_ok-make_blocks.ensures.ok
 
 pub make_operations-requires-clause-bare : goal.make_operations-requires-clause-bare
 make_operations-requires-clause-bare g c =
-    bare_still g.x c.args.region c.requires.0 c.make_blocks.new.ctx.tree c.well_formed-2.ensures.tree c.args.blocks.now c.in_ok-make_blocks.ensures.ok.made
+    bare_still g.x c.args.region c.requires.1.0 c.make_blocks.new.ctx.tree c.well_formed-2.ensures.tree c.args.blocks.now c.in_ok-make_blocks.ensures.ok.made
 
 pub returns-in_err-connect_all-clause-grown : goal.returns-in_err-connect_all-clause-grown
 returns-in_err-connect_all-clause-grown g c =
@@ -27,8 +27,8 @@ returns-clause-grown g c =
 
 pub returns-clause-ok : goal.returns-clause-ok
 returns-clause-ok g c =
-    all_copied g.x c.args.region c.requires.0 c.connect_all.new.ctx.tree c.make_operations.new.copies (subst (λ z. IsCopying g.x c.connect_all.new.ctx.tree c.args.region g.x.blocks z c.make_operations.new.copies) c.requires.3 c.connect_all.ensures.copied) (subst (λ z. AreConnected g.x c.connect_all.new.ctx.tree c.make_operations.new.copies (length z)) c.requires.3 c.in_ok-connect_all.ensures.connected)
+    all_copied g.x c.args.region c.requires.1.0 c.connect_all.new.ctx.tree c.make_operations.new.copies (subst (λ z. IsCopying g.x c.connect_all.new.ctx.tree c.args.region g.x.blocks z c.make_operations.new.copies) c.requires.1.1.1.1.0 c.connect_all.ensures.copied) (subst (λ z. AreConnected g.x c.connect_all.new.ctx.tree c.make_operations.new.copies (length z)) c.requires.1.1.1.1.0 c.in_ok-connect_all.ensures.connected)
 
 pub returns-clause-copies : goal.returns-clause-copies
 returns-clause-copies g c =
-    all_known g.x c.args.region c.requires.0 c.connect_all.new.ctx.tree c.make_operations.new.copies (subst (λ z. IsCopying g.x c.connect_all.new.ctx.tree c.args.region g.x.blocks z c.make_operations.new.copies) c.requires.3 c.connect_all.ensures.copied)
+    all_known g.x c.args.region c.requires.1.0 c.connect_all.new.ctx.tree c.make_operations.new.copies (subst (λ z. IsCopying g.x c.connect_all.new.ctx.tree c.args.region g.x.blocks z c.make_operations.new.copies) c.requires.1.1.1.1.0 c.connect_all.ensures.copied)

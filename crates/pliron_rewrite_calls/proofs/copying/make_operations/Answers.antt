@@ -7,7 +7,7 @@ use Rattle.pliron_rewrite_calls.proofs.copying.make_operations.Goals as goal
 
 pub loop-i-init : goal.loop-i-init
 loop-i-init g c =
-    record { copying = c.requires.2; bare = c.requires.3; made = c.requires.4; point = refl }
+    record { copying = c.requires.1.1.1.0; bare = c.requires.1.1.1.1.0; made = c.requires.1.1.1.1.1; point = refl }
 
 pub loop-i-preserved : goal.loop-i-preserved
 loop-i-preserved g c =
