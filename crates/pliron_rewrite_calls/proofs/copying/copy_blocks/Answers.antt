@@ -1,7 +1,8 @@
-use Rattle.std.proofs.Common.{◌≡◌, ◌++◌, [], refl, sym, ap, ◌∙◌, subst}
-use Rattle.pliron_rewrite_calls.specs.Copying.{operations_in}
+use Rattle.std.proofs.Common.{rules}
+use Rattle.pliron_rewrite_calls.specs.CopySteps.{MayCopy}
 use Rattle.pliron_rewrite_calls.proofs.copying.copy_blocks.Goals as goal
 
-pub copy_within_room-requires-clause-may : goal.copy_within_room-requires-clause-may
-copy_within_room-requires-clause-may g c =
-    record { tree = c.well_formed-2.ensures.tree; live = c.requires.blocks; apart = c.requires.apart; childless = c.requires.childless; into = c.requires.region }
+pub copy_within_room-requires : goal.copy_within_room-requires
+copy_within_room-requires g c =
+    let may : MayCopy (record { tree = c.args.ctx.now.tree; blocks = c.args.blocks.now }) c.args.region = record { tree = c.well_formed-2.ensures.tree; live = c.requires.blocks; apart = c.requires.apart; childless = c.requires.childless; into = c.requires.region } in
+    search rules

@@ -1,21 +1,20 @@
-use Rattle.std.proofs.Common.{◌≡◌, length, [], refl, sym, ap, ◌∙◌, subst}
+use Rattle.std.proofs.Common.{rules, ◌≡◌, length, [], refl, sym, ap, ◌∙◌, subst}
 use Rattle.pliron_core.specs.Tree.{Tree}
 use Rattle.pliron_rewrite_calls.specs.Copying.{operations_in}
 use Rattle.pliron_rewrite_calls.specs.CopySteps.{IsCopying, IsGrown, AreBare, AreConnected}
 use Rattle.pliron_rewrite_calls.proofs.CopyStages.{copying_none, bare_still, all_copied, all_known}
 use Rattle.pliron_rewrite_calls.proofs.copying.fill.Goals as goal
 
-pub make_blocks-requires-clause-begun : goal.make_blocks-requires-clause-begun
-make_blocks-requires-clause-begun g c =
-    subst (λ (z : Tree). IsCopying g.x z c.args.region [] [] c.args.copies.now) c.requires.1.1.0 (copying_none g.x c.args.region c.requires.1.0 c.args.copies.now c.requires.1.1.1.1.1.0 c.requires.1.1.1.1.1.1.0)
+pub make_blocks-requires : goal.make_blocks-requires
+make_blocks-requires g c =
+    let begun : IsCopying g.x c.args.ctx.now.tree c.args.region [] [] c.args.copies.now = subst (λ (z : Tree). IsCopying g.x z c.args.region [] [] c.args.copies.now) c.requires.1.1.0 (copying_none g.x c.args.region c.requires.1.0 c.args.copies.now c.requires.1.1.1.1.1.0 c.requires.1.1.1.1.1.1.0) in
+    (c.requires.1.0, c.requires.1.1.1.0, begun)
 
-pub make_operations-requires-clause-begun : goal.make_operations-requires-clause-begun
-make_operations-requires-clause-begun g c =
-    subst (λ z. IsCopying g.x c.make_blocks.new.ctx.tree c.args.region z [] c.make_blocks.new.copies) (sym c.requires.1.1.1.0) c.in_ok-make_blocks.ensures.ok
-
-pub make_operations-requires-clause-bare : goal.make_operations-requires-clause-bare
-make_operations-requires-clause-bare g c =
-    bare_still g.x c.args.region c.requires.1.0 c.make_blocks.new.ctx.tree c.well_formed-2.ensures.tree c.args.blocks.now c.in_ok-make_blocks.ensures.ok.made
+pub make_operations-requires : goal.make_operations-requires
+make_operations-requires g c =
+    let begun : IsCopying g.x c.make_blocks.new.ctx.tree c.args.region g.x.blocks [] c.make_blocks.new.copies = subst (λ z. IsCopying g.x c.make_blocks.new.ctx.tree c.args.region z [] c.make_blocks.new.copies) (sym c.requires.1.1.1.0) c.in_ok-make_blocks.ensures.ok in
+    let bare : AreBare g.x.tree c.make_blocks.new.ctx.tree = bare_still g.x c.args.region c.requires.1.0 c.make_blocks.new.ctx.tree c.well_formed-2.ensures.tree c.args.blocks.now c.in_ok-make_blocks.ensures.ok.made in
+    search rules
 
 pub returns-in_err-connect_all-clause-grown : goal.returns-in_err-connect_all-clause-grown
 returns-in_err-connect_all-clause-grown g c =
