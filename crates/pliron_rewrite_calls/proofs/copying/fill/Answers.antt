@@ -8,7 +8,7 @@ use Rattle.pliron_rewrite_calls.proofs.copying.fill.Goals as goal
 pub make_blocks-requires : goal.make_blocks-requires
 make_blocks-requires g c =
     let begun : IsCopying g.x c.args.ctx.now.tree c.args.region [] [] c.args.copies.now = subst (λ (z : Tree). IsCopying g.x z c.args.region [] [] c.args.copies.now) c.requires.1.1.0 (copying_none g.x c.args.region c.requires.1.0 c.args.copies.now c.requires.1.1.1.1.1.0 c.requires.1.1.1.1.1.1.0) in
-    (c.requires.1.0, c.requires.1.1.1.0, begun)
+    (c.requires.1.0, (c.requires.1.1.1.0, begun))
 
 pub make_operations-requires : goal.make_operations-requires
 make_operations-requires g c =
