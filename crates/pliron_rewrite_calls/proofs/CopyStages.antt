@@ -201,12 +201,12 @@ module _ (x : CopySource) (region : ℕ) (may : MayCopy x region) where
       operation_count = m.operation_count;
       block_count = let e = length-append u.bodies ([] ∷ []) in let f = m.block_count in let n = next_count in omega (arith, e, f, n);
       value_count =
-        let e = length-append u.definitions (argument_definitions (length u.bodies) (length (arguments_of u b))) in
-        let f = length-map-range_with_len (λ j. Argument (length u.bodies) j) 0 (length (arguments_of u b)) in
-        let g = first_is in
-        let h = ap length next_args ∙ length-append (args_of (take i x.blocks)) (arguments_of t b) in
-        let s = ap length args_same in
-        omega (arith, e, f, g, h, s);
+          let e = length-append u.definitions (argument_definitions (length u.bodies) (length (arguments_of u b))) in
+          let f = length-map-range_with_len (λ j. Argument (length u.bodies) j) 0 (length (arguments_of u b)) in
+          let g = first_is in
+          let h = ap length next_args ∙ length-append (args_of (take i x.blocks)) (arguments_of t b) in
+          let s = ap length args_same in
+          omega (arith, e, f, g, h, s);
       operations = λ k le less. let q = m.operations k le less in record { live = q.live; head = q.head; results = q.results };
       blocks = λ d le less. elim (cases_eq d c) [
         | inl e ↦ subst (IsBlockMade t with_block (copy_originals x) region []) (sym e) (record {
@@ -356,12 +356,12 @@ module _ (x : CopySource) (region : ℕ) (may : MayCopy x region) where
       operation_count = let e = length-append u.operations (made_entry u head (length (results_of u op)) c wu ∷ []) in let f = m.operation_count in let n = ap length next_ops ∙ length-append (take i ops) (op ∷ []) in omega (arith, e, f, n);
       block_count = bodies_long ∙ m.block_count;
       value_count =
-        let e = length-append u.definitions (result_definitions (length u.operations) (length (results_of u op))) in
-        let f = length-map-range_with_len (λ j. Result (length u.operations) j) 0 (length (results_of u op)) in
-        let g = m.value_count in
-        let h = ap length next_results ∙ length-append (res_of (take i ops)) (results_of t op) in
-        let s = ap length results_same in
-        omega (arith, e, f, g, h, s);
+          let e = length-append u.definitions (result_definitions (length u.operations) (length (results_of u op))) in
+          let f = length-map-range_with_len (λ j. Result (length u.operations) j) 0 (length (results_of u op)) in
+          let g = m.value_count in
+          let h = ap length next_results ∙ length-append (res_of (take i ops)) (results_of t op) in
+          let s = ap length results_same in
+          omega (arith, e, f, g, h, s);
       operations = λ j le less. elim (cases_eq j k) [
         | inl e ↦ subst (IsOperationMade t with_op (copy_originals x)) (sym e) (record {
           live = ap (λ z. is_some z.head) (row_new u head (length (results_of u op)) c wu);
@@ -380,20 +380,20 @@ module _ (x : CopySource) (region : ℕ) (may : MayCopy x region) where
             }
       ];
       blocks = λ d le less.
-        let under : d < length u.bodies = (let l = bodies_long in omega (arith, l, less)) in
-        let q = m.blocks d le under in
-        record {
-          arguments = q.arguments;
-          body = elim (cases_eq d c) [
-            | inl e ↦
-                let own_one : is_the ((copy_originals x).block d) (parent_of t op) ≡ true = is_own t may.tree ((copy_originals x).block d) op (stood ∙ ap Some (sym (ap (copy_originals x).block e ∙ of))) in
-                ap (λ z. map (copy_originals x).operation (body_of with_op z)) e ∙ ap (map (copy_originals x).operation) body_new ∙ map-append (copy_originals x).operation (body_of u c) (k ∷ []) ∙ ap (λ z. z ++ (copy_originals x).operation k ∷ []) (ap (λ z. map (copy_originals x).operation (body_of u z)) (sym e) ∙ q.body) ∙ ap (λ z. filter (λ j. is_the ((copy_originals x).block d) (parent_of t j)) (take i ops) ++ z ∷ []) original_k ∙ ap (λ z. filter (λ j. is_the ((copy_originals x).block d) (parent_of t j)) (take i ops) ++ z) (sym (filter_in (λ j. is_the ((copy_originals x).block d) (parent_of t j)) op [] own_one)) ∙ sym (filtered ((copy_originals x).block d))
-            | inr ne ↦
-                let other_one : is_the ((copy_originals x).block d) (parent_of t op) ≡ false = not_own t may.tree ((copy_originals x).block d) op b stood (λ e. other_block d le under ne (sym e)) in
-                ap (map (copy_originals x).operation) (body_old d ne) ∙ q.body ∙ sym (append-nil (filter (λ j. is_the ((copy_originals x).block d) (parent_of t j)) (take i ops))) ∙ ap (λ z. filter (λ j. is_the ((copy_originals x).block d) (parent_of t j)) (take i ops) ++ z) (sym (filter_out (λ j. is_the ((copy_originals x).block d) (parent_of t j)) op [] other_one)) ∙ sym (filtered ((copy_originals x).block d))
-          ];
-          parent = q.parent;
-        };
+          let under : d < length u.bodies = (let l = bodies_long in omega (arith, l, less)) in
+          let q = m.blocks d le under in
+          record {
+            arguments = q.arguments;
+            body = elim (cases_eq d c) [
+              | inl e ↦
+                  let own_one : is_the ((copy_originals x).block d) (parent_of t op) ≡ true = is_own t may.tree ((copy_originals x).block d) op (stood ∙ ap Some (sym (ap (copy_originals x).block e ∙ of))) in
+                  ap (λ z. map (copy_originals x).operation (body_of with_op z)) e ∙ ap (map (copy_originals x).operation) body_new ∙ map-append (copy_originals x).operation (body_of u c) (k ∷ []) ∙ ap (λ z. z ++ (copy_originals x).operation k ∷ []) (ap (λ z. map (copy_originals x).operation (body_of u z)) (sym e) ∙ q.body) ∙ ap (λ z. filter (λ j. is_the ((copy_originals x).block d) (parent_of t j)) (take i ops) ++ z ∷ []) original_k ∙ ap (λ z. filter (λ j. is_the ((copy_originals x).block d) (parent_of t j)) (take i ops) ++ z) (sym (filter_in (λ j. is_the ((copy_originals x).block d) (parent_of t j)) op [] own_one)) ∙ sym (filtered ((copy_originals x).block d))
+              | inr ne ↦
+                  let other_one : is_the ((copy_originals x).block d) (parent_of t op) ≡ false = not_own t may.tree ((copy_originals x).block d) op b stood (λ e. other_block d le under ne (sym e)) in
+                  ap (map (copy_originals x).operation) (body_old d ne) ∙ q.body ∙ sym (append-nil (filter (λ j. is_the ((copy_originals x).block d) (parent_of t j)) (take i ops))) ∙ ap (λ z. filter (λ j. is_the ((copy_originals x).block d) (parent_of t j)) (take i ops) ++ z) (sym (filter_out (λ j. is_the ((copy_originals x).block d) (parent_of t j)) op [] other_one)) ∙ sym (filtered ((copy_originals x).block d))
+            ];
+            parent = q.parent;
+          };
       last = layout_same u head (length (results_of u op)) c wu region ∙ m.last;
     }
 
@@ -559,9 +559,9 @@ module _ (x : CopySource) (region : ℕ) (may : MayCopy x region) where
           | inr ne ↦ n.other_successors j ne ∙ a.successors j le (omega (arith, le, less, ne, is_k))
         ];
         bare = λ j le.
-          let ne : j ≢ k = (λ e. absurd (omega (arith, e, le, is_k))) in
-          let y = a.bare j (omega (arith, le)) in
-          (n.other_operands j ne ∙ y.0, n.other_successors j ne ∙ y.1);
+            let ne : j ≢ k = (λ e. absurd (omega (arith, e, le, is_k))) in
+            let y = a.bare j (omega (arith, le)) in
+            (n.other_operands j ne ∙ y.0, n.other_successors j ne ∙ y.1);
       }
 
     -- ---- the whole
@@ -594,29 +594,29 @@ module _ (x : CopySource) (region : ℕ) (may : MayCopy x region) where
         block_count = q.made.block_count;
         value_count = q.made.value_count ∙ ap (λ z. length t.definitions + z) (sym (length-append (args_of x.blocks) (res_of ops)));
         copies = λ k le less.
-          let y = q.made.operations k le less in
-          let o = (copy_originals x).operation k in
-          let s = op_stands o (original_op_in k le less) in
-          let none = q.made.grown.childless k le in
-          record {
-            live = y.live;
-            same = record {
-              head = y.head;
-              operands = mapped_back (copy_originals x).value (value_or_copy_in copies) (operands_of t o) (λ v i. value_back v (defined_below v (may.tree.joined.operands o v i))) ∙ ap (map (copy_originals x).value) (sym (a.operands k le (within k less)));
-              results = y.results;
-              successors = mapped_back (copy_originals x).block (block_or_copy_in copies) (successors_of t o) (λ b i. target_back b (block-within t b may.tree.keys (may.tree.joined.successors o b i))) ∙ ap (map (copy_originals x).block) (sym (a.successors k le (within k less)));
-              regions = may.childless s.0 o s.1 s.4 ∙ sym (ap (map (copy_originals x).region) none);
+            let y = q.made.operations k le less in
+            let o = (copy_originals x).operation k in
+            let s = op_stands o (original_op_in k le less) in
+            let none = q.made.grown.childless k le in
+            record {
+              live = y.live;
+              same = record {
+                head = y.head;
+                operands = mapped_back (copy_originals x).value (value_or_copy_in copies) (operands_of t o) (λ v i. value_back v (defined_below v (may.tree.joined.operands o v i))) ∙ ap (map (copy_originals x).value) (sym (a.operands k le (within k less)));
+                results = y.results;
+                successors = mapped_back (copy_originals x).block (block_or_copy_in copies) (successors_of t o) (λ b i. target_back b (block-within t b may.tree.keys (may.tree.joined.successors o b i))) ∙ ap (map (copy_originals x).block) (sym (a.successors k le (within k less)));
+                regions = may.childless s.0 o s.1 s.4 ∙ sym (ap (map (copy_originals x).region) none);
+              };
+              childless = none;
             };
-            childless = none;
-          };
         block_copies = λ b le less.
-          let y = q.made.blocks b le less in
-          let i = original_in x.blocks (length t.bodies) b le (let e = q.made.block_count in omega (arith, e, less)) in
-          record {
-            arguments = y.arguments;
-            body = sym (y.body ∙ own_part t may.tree ((copy_originals x).block b) x.blocks may.apart i);
-            parent = y.parent;
-          };
+            let y = q.made.blocks b le less in
+            let i = original_in x.blocks (length t.bodies) b le (let e = q.made.block_count in omega (arith, e, less)) in
+            record {
+              arguments = y.arguments;
+              body = sym (y.body ∙ own_part t may.tree ((copy_originals x).block b) x.blocks may.apart i);
+              parent = y.parent;
+            };
         named = λ k v le i j. let s = named_there k v le i in not_original s.0 (subst (λ z. In z (args_of x.blocks ++ res_of ops)) s.1 j);
         led = λ k b le i j. let s = led_there k b le i in not_copied s.0 (subst (λ z. In z x.blocks) s.1 j);
         last = q.made.last;

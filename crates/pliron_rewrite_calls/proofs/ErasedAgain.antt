@@ -150,9 +150,9 @@ module _ (t u : Tree) (region : ℕ) (last : Option ℕ) (w : IsTree t) (wu : Is
     split = added_is;
     here = e ∙ before_is;
     bare = λ k b i p. ⊎_elim
-      (λ s. here_bare t u region w wu d.grown a drop_new k (p ∙ ap Some s))
-      (λ j. still_bare t u region w wu d.grown a drop_new k (d.bare k b j p))
-      i;
+        (λ s. here_bare t u region w wu d.grown a drop_new k (p ∙ ap Some s))
+        (λ j. still_bare t u region w wu d.grown a drop_new k (d.bare k b j p))
+        i;
   }
 
   pub drop_falls : (at : Option ℕ) → at ≡ prev_block_of (uses_dropped u a) a → option_map_or (λ b. b + 1) at 0 < a + 1
@@ -305,15 +305,15 @@ module _ (t u : Tree) (region : ℕ) (w : IsTree t) (wu : IsTree u) (h : IsGrown
         layouts = λ r ne. get_or-set_other E.layouts region r (without a (layout_of E region)) [] ne ∙ layout_kept r ∙ h.layouts r ne;
         definitions = h.definitions;
         childless = λ k le. ⊎_elim
-          (λ e. ap (λ x. x.regions) (blanked_gone op_away no_entry u.operations k e))
-          (λ e. ap (λ x. x.regions) (blanked_kept op_away no_entry u.operations k e) ∙ h.childless k le)
-          (true_or_false (op_away k));
+            (λ e. ap (λ x. x.regions) (blanked_gone op_away no_entry u.operations k e))
+            (λ e. ap (λ x. x.regions) (blanked_kept op_away no_entry u.operations k e) ∙ h.childless k le)
+            (true_or_false (op_away k));
         placed = λ k le l. ⊎_elim
-          (λ e. absurd (no_some (head_of z k) (ap (λ x. x.head) (blanked_gone op_away no_entry u.operations k e)) l))
-          (λ e.
-          let p = h.placed k le (subst (λ x. IsSome x.head) (blanked_kept op_away no_entry u.operations k e) l) in
-          (p.0, blanked_kept op_away None u.parents k e ∙ p.1, p.2))
-          (true_or_false (op_away k));
+            (λ e. absurd (no_some (head_of z k) (ap (λ x. x.head) (blanked_gone op_away no_entry u.operations k e)) l))
+            (λ e.
+            let p = h.placed k le (subst (λ x. IsSome x.head) (blanked_kept op_away no_entry u.operations k e) l) in
+            (p.0, blanked_kept op_away None u.parents k e ∙ p.1, p.2))
+            (true_or_false (op_away k));
       }
         where
           block_long : length E.bodies ≡ length u.bodies

@@ -5,7 +5,7 @@ use Rattle.pliron_core.specs.Erased.{is_the}
 use Rattle.pliron_core.specs.Invariant.{IsTree}
 use Rattle.pliron_core.specs.declared.context.Def.{Def}
 use Rattle.pliron_core.specs.Tree.{Tree, In, IsDistinct, last_of, IsLive, IsBlock, IsRegion, IsDefined, row_of, head_of, operands_of, successors_of, results_of, regions_of, parent_of, body_of, arguments_of, block_parent_of, layout_of, definition_of}
-use Rattle.pliron_rewrite_calls.specs.TempOriginals.{Originals}
+use Rattle.pliron_rewrite_copies.specs.Copies.{Originals}
 use Rattle.pliron_rewrite_calls.specs.declared.copies.Copies.{Copies}
 use Rattle.pliron_rewrite_calls.specs.CopyTables.{block_copy, value_copy, block_or_copy_in, value_or_copy_in}
 use Rattle.pliron_rewrite_calls.specs.Copying.{originals_of, operations_in, AreChildless}

@@ -5,7 +5,7 @@
 use Rattle.std.specs.Prelude.{◌≡◌, ◌≢◌, ◌+◌, ◌-◌, ◌<◌, ◌≤◌, ℕ, nat_lt, if◌then◌else◌, List, [], ◌++◌, Some, IsSome, length, get_or, map}
 use Rattle.std.specs.List.{flat_map, range_with_len}
 use Rattle.pliron_core.specs.Tree.{Tree, In, IsLive, IsBlock, row_of, operands_of, successors_of, results_of, regions_of, parent_of, body_of, arguments_of, block_parent_of, layout_of, definition_of}
-use Rattle.pliron_rewrite_calls.specs.TempOriginals.{Originals, IsCopiedOperation}
+use Rattle.pliron_rewrite_copies.specs.Copies.{Originals, IsCopiedOperation}
 use Rattle.pliron_rewrite_calls.specs.declared.copies.Copies.{Copies}
 use Rattle.pliron_rewrite_calls.specs.CopyTables.{block_copy, value_copy}
 

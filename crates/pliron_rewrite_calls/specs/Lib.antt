@@ -1,5 +1,4 @@
 pub mod Splitting
-pub mod TempOriginals
 pub mod CopyTables
 pub mod Copying
 pub mod CopySteps

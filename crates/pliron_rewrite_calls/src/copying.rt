@@ -406,7 +406,16 @@ pub(crate) fn copy_within_room<R: Rewriter + Room>(
     let last = region.get_tail(ctx);
     let mut copies = Copies::new(alloc);
     let mut made = Vec::new(alloc);
-    match fill(alloc, blocks, operations, region, ctx, &mut copies, &mut made, rewriter) {
+    match fill(
+        alloc,
+        blocks,
+        operations,
+        region,
+        ctx,
+        &mut copies,
+        &mut made,
+        rewriter,
+    ) {
         Ok(()) => Ok(copies),
         Err(refusal) => {
             erase_new_blocks(region, &last, ctx, rewriter);
