@@ -4,4 +4,6 @@
 #[cfg(test)]
 mod copying;
 #[cfg(test)]
+mod inlining;
+#[cfg(test)]
 mod splitting;

@@ -2,3 +2,4 @@ pub mod Splitting
 pub mod CopyTables
 pub mod Copying
 pub mod CopySteps
+pub mod Inlining
