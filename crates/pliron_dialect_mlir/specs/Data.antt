@@ -1,5 +1,5 @@
 -- Data: an integer says its type, and every other constant says the form of its text.
-use Rattle.std.specs.Prelude.{ℕ, ◌+◌, ◌*◌, ◌/◌, ◌%◌, ◌^◌, nat_eq, nat_lt, nat_le, if◌then◌else◌, Bool, true, false, ◌&&◌, Option, Some, None, ℤ, pos, negsuc}
+use Rattle.std.specs.Prelude.{◌≡◌, ◌⊎◌, ◌+ℤ◌, ℕ, ◌+◌, ◌*◌, ◌/◌, ◌%◌, ◌^◌, nat_eq, nat_lt, nat_le, if◌then◌else◌, Bool, true, false, ◌&&◌, Option, Some, None, ℤ, pos, negsuc}
 use Rattle.std.specs.Option.{option_map}
 
 -- a width is 1 to 64, or 65 for `index`, which counts 64 bits
@@ -55,3 +55,7 @@ with_width width bits = (width, bits)
 
 abbrev pub integer_in : ℤ → Option (ℕ × ℕ)
 integer_in datum = option_map (with_width (width_in datum)) (bits_at (width_in datum) datum)
+
+-- the datum is this value at this width: its bits are the value, or where that is negative, what is left of it
+abbrev pub IsInteger : (width : ℕ) → (value datum : ℤ) → Type 0
+IsInteger width value datum = (bits : ℕ) × (bits_at width datum ≡ Some bits) × ((value ≡ pos bits) ⊎ (value +ℤ pos (2 ^ bits_of_width width) ≡ pos bits))

@@ -1,6 +1,6 @@
 //! Data: integers that say their type, and other constants.
 ghost use Rattle.std.specs.Prelude.{◌≡◌, ◌≤◌, ◌<◌, ◌^◌, IfSome, IsTrue};
-ghost use Rattle.pliron_dialect_mlir.specs.Data.{is_width as is_width_of, bits_of_width, number as number_of, bits_at as bits_in, width_in as width_said_by, other_constant as other_constant_of, form_in as form_said_by, truth as truth_of};
+ghost use Rattle.pliron_dialect_mlir.specs.Data.{is_width as is_width_of, bits_of_width, number as number_of, bits_at as bits_in, width_in as width_said_by, other_constant as other_constant_of, form_in as form_said_by, truth as truth_of, IsInteger};
 
 use pliron_bits::size;
 
@@ -48,6 +48,27 @@ pub fn bits_at(width: u32, datum: i128) -> Option<u64>
     let bits = all % ABOVE;
     if all / ABOVE == width as u128 && bits < size(counted_bits(width)) {
         Some(bits as u64)
+    } else {
+        None
+    }
+}
+
+/// The datum of this value at this width, where it fits: it is at least the least number with a sign, and at most the
+/// greatest one without. Asks for a width. Cost: constant.
+pub fn integer_datum(width: u32, value: i128) -> Option<i128>
+    requires at_least { 1 ≤ width }
+    requires at_most { width ≤ 65 }
+    ensures { IfSome result (IsInteger width value) }
+{
+    let values = size(counted_bits(width)) as i128;
+    if value < 0 {
+        if value < -(values / 2) {
+            return None;
+        }
+        return Some(number(width, (value + values) as u64));
+    }
+    if value < values {
+        Some(number(width, value as u64))
     } else {
         None
     }

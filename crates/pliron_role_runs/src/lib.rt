@@ -2,7 +2,7 @@
 #![tactic(auto)]
 
 mod counts;
-mod data;
+pub mod data;
 mod edges;
 pub mod entries;
 mod identities;
@@ -12,6 +12,7 @@ pub mod numbers;
 pub mod own_moves;
 pub mod plain;
 mod role_moves;
+pub mod world_moves;
 
 pub use counts::Counts;
 pub use interprets::Interprets;
