@@ -9,9 +9,8 @@ use crate::meaning::Computes;
 use crate::passing::given_otherwise;
 use pliron_core::Head;
 use pliron_evaluator::evaluator::{Datum, Move};
-use pliron_role_runs::data::{all_copies, fitted_to};
 use pliron_role_runs::world_moves::{effect_move, fork_move, region_move};
-use pliron_role_runs::{Counts, Interprets};
+use pliron_role_runs::{Counts, Interprets, all_copies, fitted_to};
 use std::alloc::{AllocError, Global};
 
 // A visit of the region of a function, and then a leave with what it gave.

@@ -2,7 +2,7 @@
 #![tactic(auto)]
 
 mod counts;
-pub mod data;
+mod data;
 mod edges;
 pub mod entries;
 mod identities;
@@ -15,6 +15,7 @@ mod role_moves;
 pub mod world_moves;
 
 pub use counts::Counts;
+pub use data::{all_copies, fitted_to};
 pub use interprets::Interprets;
 pub use known::{KnownRun, evaluate_known};
 pub use role_moves::{RunByRoles, known_move};
