@@ -99,7 +99,7 @@ choice false 100:i8 / ^1 end,-56:i8 => 0 effect scf.if false|effect a region gav
 // The data that these words say.
 fn inputs_of(rt: &impl Abort, alloc: Global, words: &str) -> Vec<Datum> {
     let mut data = Vec::new(alloc);
-    for word in words.split_whitespace() {
+    for word in words.split_ascii_whitespace() {
         let datum = MlirNotation::input_of_word(alloc, word).expect(rt, "memory");
         data.push(datum.expect(rt, "an input")).expect(rt, "memory");
     }
@@ -109,7 +109,7 @@ fn inputs_of(rt: &impl Abort, alloc: Global, words: &str) -> Vec<Datum> {
 // The answers that these words say.
 fn answers_of(rt: &impl Abort, alloc: Global, words: &str) -> Vec<Datum> {
     let mut data = Vec::new(alloc);
-    for word in words.split_whitespace() {
+    for word in words.split_ascii_whitespace() {
         let datum = MlirNotation::answer_of_word(alloc, word).expect(rt, "memory");
         data.push(datum.expect(rt, "an answer"))
             .expect(rt, "memory");

@@ -206,15 +206,19 @@ pub fn region_move(
     }
 }
 
-impl Counts {
-    // How many arguments the successor with this index has; 0 where there is none, and of a branch.
-    fn target_argument(&self, successor: usize) -> usize
-        ensures { result ≡ arguments_at (option_map (λ each. each.items) self.now.target_arguments) successor }
-    {
-        match &self.target_arguments {
-            Some(counts) if successor < counts.len() => counts[successor],
-            _ => 0,
+// How many arguments the successor with this index has; 0 where there is none, and of a branch.
+fn target_argument(counts: &Counts, successor: usize) -> usize
+    ensures { result ≡ arguments_at (option_map (λ each. each.items) counts.now.target_arguments) successor }
+{
+    match &counts.target_arguments {
+        Some(each) => {
+            if successor < each.len() {
+                each[successor]
+            } else {
+                0
+            }
         }
+        None => 0,
     }
 }
 
@@ -241,7 +245,7 @@ fn fork_choice(
         return leave_with(alloc, answer);
     }
     let successor = index_of(number)?;
-    let values = fitted_data(alloc, counts.target_argument(successor), chain)?;
+    let values = fitted_data(alloc, target_argument(counts, successor), chain)?;
     Ok(Move::Goto(successor, values))
 }
 

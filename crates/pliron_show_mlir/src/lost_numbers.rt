@@ -1,4 +1,5 @@
 //! Why operations on integers give no number.
+use crate::words::number_in;
 use pliron_bits::BinaryOperator;
 use pliron_core::Head;
 use pliron_dialect::Roles;
@@ -53,11 +54,9 @@ fn binary_label(operator: BinaryOperator, width: u32, second: u64) -> &'static s
 
 // The number and its bits, where the datum is an integer.
 fn number_and_bits(datum: &Datum) -> Option<(i128, u32, u64)> {
-    let Datum::Number(number) = datum else {
-        return None;
-    };
-    let (width, bits) = integer_of(*number)?;
-    Some((*number, width, bits))
+    let number = number_in(datum)?;
+    let (width, bits) = integer_of(number)?;
+    Some((number, width, bits))
 }
 
 // The same of an operation with this operator.

@@ -5,7 +5,7 @@ ghost use Rattle.pliron_core.specs.Writes.{no_tree};
 
 use crate::lost_numbers::lost_label;
 use crate::notation::MlirNotation;
-use crate::words::{WORDS, answer_of_word, datum_of_word, push_datum, push_effect};
+use crate::words::{WORDS, answer_of_word, datum_of_word, number_in, push_datum, push_effect};
 use pliron_core::{Context, Operation, Ptr};
 use pliron_dialect::Roles;
 use pliron_dialect_mlir::{AnyMeaning, Class, Mlir, MlirKind, class_of_head};
@@ -31,10 +31,15 @@ fn branch_reason(
     let Some(kind) = MlirKind::<AnyMeaning>::from_number(head.kind) else {
         return Ok(TrapReason::Unknown);
     };
-    let Some(Datum::Number(number)) = input.first() else {
-        return Ok(TrapReason::NoNumber);
+    let number = match input.first() {
+        Some(datum) => number_in(datum),
+        None => None,
     };
-    match kind.choose_edge(head, op.num_successor(ctx), *number) {
+    let edge = match number {
+        Some(number) => kind.choose_edge(head, op.num_successor(ctx), number),
+        None => None,
+    };
+    match edge {
         Some(edge) => edge_counts::<Mlir<AnyMeaning>>(alloc, ctx, op, edge),
         None => Ok(TrapReason::NoNumber),
     }

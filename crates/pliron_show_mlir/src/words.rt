@@ -114,8 +114,8 @@ fn push_chain(
     }
 }
 
-// The number that the datum is.
-fn number_in(datum: &Datum) -> Option<i128> {
+/// The number that the datum is. Cost: constant.
+pub fn number_in(datum: &Datum) -> Option<i128> {
     match datum {
         Datum::Number(number) => Some(*number),
         _ => None,
@@ -172,18 +172,20 @@ fn push_operation(
     kind: u32,
     rest: &Datum,
 ) -> Result<(), AllocError> {
-    let Datum::Join(attributes, operands) = rest else {
-        return Ok(());
-    };
-    let mut attrs = Vec::new(alloc);
-    push_attributes(&mut attrs, attributes)?;
-    let head = Head {
-        kind,
-        ssa: true,
-        attrs: Attrs::new(attrs),
-    };
-    push_name(out, sheet, &head)?;
-    push_chain(out, sheet, operands, b" ")
+    match rest {
+        Datum::Join(attributes, operands) => {
+            let mut attrs = Vec::new(alloc);
+            push_attributes(&mut attrs, attributes)?;
+            let head = Head {
+                kind,
+                ssa: true,
+                attrs: Attrs::new(attrs),
+            };
+            push_name(out, sheet, &head)?;
+            push_chain(out, sheet, operands, b" ")
+        }
+        _ => Ok(()),
+    }
 }
 
 // Adds what a visit of a region gave.

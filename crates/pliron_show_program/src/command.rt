@@ -448,8 +448,8 @@ fn other_matches<'a, P: Program>(
     match command::<P>(alloc, name, DataWords::Any)?.try_get_matches_from(words) {
         Ok(matches) => {
             let takes = match matches.subcommand() {
-                Some(("run", run)) => P::takes_other_data(run),
-                _ => false,
+                Some((command, inner)) => command == "run" && P::takes_other_data(inner),
+                None => false,
             };
             Ok(if takes { Some(matches) } else { None })
         }
