@@ -59,7 +59,7 @@ load = ~llvm.func~() <{function_type = !llvm.func<i32 (ptr)>, sym_name = ~load~}
 %2 = ~llvm.add~(%1, %0) <{overflowFlags = 0 : i32}> : (i32, i32) -> i32 \
 ~llvm.store~(%2, %p) <{ordering = 0 : i64}> : (i32, !llvm.ptr) -> () \
 %3 = ~llvm.call~(%2) <{callee = @f, fastmathFlags = #llvm.fastmath<none>, op_bundle_sizes = array<i32>, \
-operandSegmentSizes = array<i32: 1, 0>}> : (i32) -> i32 ~llvm.return~(%3, %2) : (i32, i32) -> () }) : () -> ()
+operandSegmentSizes = array<i32: 1, 0>}> : (i32) -> i32 ~llvm.return~(%3) : (i32) -> () }) : () -> ()
 index = ~func.func~() <{function_type = (index) -> (index, i64, f32), sym_name = ~index~}> ({ ^bb0(%a: index): \
 %0 = ~arith.constant~() <{value = 3 : index}> : () -> index %1 = ~arith.muli~(%a, %0) <{overflowFlags = #arith.overflow<none>}> : (index, index) -> index \
 %2 = ~arith.index_cast~(%1) : (index) -> i64 %3 = ~arith.constant~() <{value = 1.5 : f32}> : () -> f32 \
@@ -86,12 +86,13 @@ quotient 7:i32 -2:i32 => 0 ended with -3 : i32|
 quotient 7:i32 0:i32 => 0 ended with ()|text:1:112: note: no number comes of this: the divisor is 0|
 quotient -2147483648:i32 -1:i32 => 0 ended with ()|text:1:112: note: no number comes of this: the quotient doesn't fit in its width|
 next 41:i32 => 0 ended with 42 : i32|
-next 2147483647:i32 => 0 ended with ()|text:1:150: note: no number comes of this: its flags promise another result|
+next 2147483647:i32 => 0 ended with ()|text:1:154: note: no number comes of this: its flags promise another result|
 grows 4:i8 => 0 ended with true|
-grows -1:i8 => 3 trapped|text:1:252: error: the run trapped: what it branches on is no number|
-load 64 / 41:i32 () 7:i32 => 0 effect llvm.load 64 : i64|effect llvm.store 42 : i32, 64 : i64|effect llvm.call @f 42 : i32|ended with 7 : i32, 42 : i32|
+grows -1:i8 => 3 trapped|text:1:285: error: the run trapped: what it branches on is no number|\
+text:1:150: note: no number comes of this: its flags promise another result|
+load 64 / 41:i32 () 7:i32 => 0 effect llvm.load 64 : i64|effect llvm.store 42 : i32, 64 : i64|effect llvm.call @f 42 : i32|ended with 7 : i32|
 load 64 => 3 effect llvm.load 64 : i64|made no further move: steps or the world's answers were used up|\
-text:1:147: note: the run was cut off: the world has no answer to effect 1|
+text:1:160: note: the run was cut off: the world has no answer to effect 1|
 index 5:index => 0 ended with 15 : index, 15 : i64, 1.5 : f32|
 choice true 7:i8 / ^0,7:i8 end,7:i8 => 0 effect scf.if true|effect a region gave 7 : i8|ended with 7 : i8|
 choice false 100:i8 / ^1 end,-56:i8 => 0 effect scf.if false|effect a region gave -56 : i8|ended with -56 : i8|";
