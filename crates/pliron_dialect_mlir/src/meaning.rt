@@ -1,7 +1,7 @@
 //! The dialect.
 ghost use Rattle.std.specs.Prelude.{◌≡◌, map, IfOk, IfSome};
 ghost use Rattle.pliron_evaluator.specs.Evaluator.{datum_of_value};
-ghost use Rattle.pliron_dialect_mlir.specs.ComputedMeaning.{no_edge as edge_beyond_all, given_in_runs};
+ghost use Rattle.pliron_dialect_mlir.specs.ComputedMeaning.{no_edge as edge_behind_all, given_in_runs};
 
 use crate::kind::{Class, Interpretation, MlirKind, numbered_class};
 use pliron_core::Head;
@@ -34,12 +34,13 @@ impl Interpretation for AnyMeaning {
     ghost value = { given_in_runs };
 }
 
-// An edge that there isn't.
-fn no_edge(alloc: Global) -> Result<Vec<Datum>, AllocError>
-    ensures { IfOk result (λ values. map datum_of_value values.items ≡ edge_beyond_all) }
+// An edge that a branch or a switch with this head, without the counts of its edges, hasn't.
+fn no_edge(alloc: Global, head: &Head) -> Result<Vec<Datum>, AllocError>
+    ensures { IfOk result (λ values. map datum_of_value values.items ≡ edge_behind_all head.now) }
 {
+    let edge = head.attrs.len() as i128 + 2;
     let mut data = Vec::new(alloc);
-    data.push(Datum::Number(18_446_744_073_709_551_615))?;
+    data.push(Datum::Number(edge))?;
     Ok(data)
 }
 
@@ -50,7 +51,7 @@ impl Computes for AnyMeaning {
         _input: &[Datum],
     ) -> Result<Option<Vec<Datum>>, AllocError> {
         match numbered_class(head.kind) {
-            Some(Class::Branch) | Some(Class::Switch) => Ok(Some(no_edge(alloc)?)),
+            Some(Class::Branch) | Some(Class::Switch) => Ok(Some(no_edge(alloc, head)?)),
             _ => Ok(Some(Vec::new(alloc))),
         }
     }
