@@ -1,0 +1,2 @@
+//! Calls of functions by name, in dialects by roles.
+#![tactic(auto)]
