@@ -19,6 +19,7 @@ fn expect_compared(rt: &impl Abort, alloc: Global, pipeline: &str, text: &str, w
         world: &[7, 8],
         steps: 20,
         trace: false,
+        json: false,
     };
     let options = before_and_after(run, pipeline);
     let outcome = compare::<BenchNotation>(alloc, &source, &options).expect(rt, "memory");

@@ -70,6 +70,7 @@ const WITHOUT_INPUTS: RunOptions<'static> = RunOptions {
     world: &[],
     steps: 100,
     trace: false,
+    json: false,
 };
 
 // What the command answers.
@@ -81,6 +82,7 @@ fn outcome_of(alloc: Global, words: &str, source: &Source) -> Result<Outcome, Al
             let options = ExplainOptions {
                 pipeline: word,
                 missed: false,
+                json: false,
             };
             explain::<Arithmetic>(alloc, source, &options)
         }

@@ -14,6 +14,8 @@ mod flows;
 #[cfg(test)]
 mod graphs;
 #[cfg(test)]
+mod json;
+#[cfg(test)]
 mod kinds;
 #[cfg(test)]
 mod lines;

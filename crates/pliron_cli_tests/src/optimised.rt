@@ -16,6 +16,7 @@ pub fn with_instrumentation<'w>(
         is_pretty: false,
         instrumentation,
         times: false,
+        json: false,
     }
 }
 

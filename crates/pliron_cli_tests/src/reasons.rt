@@ -40,7 +40,11 @@ fn explained(
     pipeline: &str,
     missed: bool,
 ) -> Outcome {
-    let options = ExplainOptions { pipeline, missed };
+    let options = ExplainOptions {
+        pipeline,
+        missed,
+        json: false,
+    };
     explain::<BenchNotation>(alloc, source, &options).expect(rt, "memory")
 }
 

@@ -1,5 +1,5 @@
 -- Data: an integer says its type, and every other constant says the form of its text.
-use Rattle.std.specs.Prelude.{ℕ, ◌+◌, ◌*◌, ◌/◌, ◌%◌, ◌^◌, nat_eq, nat_lt, nat_le, if◌then◌else◌, Bool, true, false, ◌&&◌, Option, Some, None, ℤ, pos, negsuc}
+use Rattle.std.specs.Prelude.{◌≡◌, ◌⊎◌, ◌<◌, ◌≤◌, ◌+ℤ◌, ℕ, suc, ◌+◌, ◌*◌, ◌/◌, ◌%◌, ◌^◌, nat_eq, nat_lt, nat_le, if◌then◌else◌, Bool, true, false, ◌&&◌, Option, Some, None, ℤ, pos, negsuc}
 use Rattle.std.specs.Option.{option_map}
 
 -- a width is 1 to 64, or 65 for `index`, which counts 64 bits
@@ -55,3 +55,16 @@ with_width width bits = (width, bits)
 
 abbrev pub integer_in : ℤ → Option (ℕ × ℕ)
 integer_in datum = option_map (with_width (width_in datum)) (bits_at (width_in datum) datum)
+
+-- these bits of the width are this value, or where that is negative, what is left of it
+abbrev pub IsValue : (width : ℕ) → (value : ℤ) → (bits : ℕ) → Type 0
+IsValue width value bits = (value ≡ pos bits) ⊎ (value +ℤ pos (2 ^ bits_of_width width) ≡ pos bits)
+
+-- from the least number with a sign to the greatest one without
+abbrev pub FitsWidth : (width : ℕ) → (value : ℤ) → Type 0
+FitsWidth width (pos n) = n < 2 ^ bits_of_width width
+FitsWidth width (negsuc n) = 2 * suc n ≤ 2 ^ bits_of_width width
+
+-- the datum is this value at this width
+abbrev pub IsInteger : (width : ℕ) → (value datum : ℤ) → Type 0
+IsInteger width value datum = (bits : ℕ) × (bits_at width datum ≡ Some bits) × IsValue width value bits

@@ -1,6 +1,6 @@
 //! Data: integers that say their type, and other constants.
-ghost use Rattle.std.specs.Prelude.{◌≡◌, ◌≤◌, ◌<◌, ◌^◌, IfSome, IsTrue};
-ghost use Rattle.pliron_dialect_mlir.specs.Data.{is_width as is_width_of, bits_of_width, number as number_of, bits_at as bits_in, width_in as width_said_by, other_constant as other_constant_of, form_in as form_said_by, truth as truth_of};
+ghost use Rattle.std.specs.Prelude.{◌≡◌, ◌≤◌, ◌<◌, ◌^◌, Some, IfSome, MatchOption, IsTrue};
+ghost use Rattle.pliron_dialect_mlir.specs.Data.{is_width as is_width_of, bits_of_width, number as number_of, bits_at as bits_in, width_in as width_said_by, other_constant as other_constant_of, form_in as form_said_by, truth as truth_of, IsInteger, IsValue, FitsWidth};
 
 use pliron_bits::size;
 
@@ -50,5 +50,49 @@ pub fn bits_at(width: u32, datum: i128) -> Option<u64>
         Some(bits as u64)
     } else {
         None
+    }
+}
+
+// The datum of the integer of this width with these bits.
+fn integer_with(width: u32, bits: u64) -> i128
+    requires at_least { 1 ≤ width }
+    requires at_most { width ≤ 65 }
+    requires below { bits < 2 ^ bits_of_width width }
+    ensures { bits_in width result ≡ Some bits }
+{
+    number(width, bits)
+}
+
+// The bits of this value at this width, where it fits.
+fn bits_of_value(width: u32, value: i128) -> Option<u64>
+    requires at_least { 1 ≤ width }
+    requires at_most { width ≤ 65 }
+    ensures { MatchOption result (¬ FitsWidth width value) (λ bits. (bits < 2 ^ bits_of_width width)
+        × IsValue width value bits) }
+{
+    let values = size(counted_bits(width)) as i128;
+    if value < 0 {
+        if value < -(values / 2) {
+            None
+        } else {
+            Some((value + values) as u64)
+        }
+    } else if value < values {
+        Some(value as u64)
+    } else {
+        None
+    }
+}
+
+/// The datum of this value at this width, where it fits: it is at least the least number with a sign, and at most the
+/// greatest one without. Asks for a width. Cost: constant.
+pub fn integer_datum(width: u32, value: i128) -> Option<i128>
+    requires at_least { 1 ≤ width }
+    requires at_most { width ≤ 65 }
+    ensures { MatchOption result (¬ FitsWidth width value) (IsInteger width value) }
+{
+    match bits_of_value(width, value) {
+        Some(bits) => Some(integer_with(width, bits)),
+        None => None,
     }
 }

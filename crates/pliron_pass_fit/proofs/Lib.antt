@@ -7,3 +7,4 @@ pub mod StepLemmas
 pub mod OrderLemmas
 pub mod UseLemmas
 pub mod FitLemmas
+pub mod FoundLemmas

@@ -6,3 +6,4 @@ pub mod Definitions
 pub mod Uses
 pub mod Chosen
 pub mod Checked
+pub mod Found

@@ -13,7 +13,9 @@ mod nesting;
 mod operations;
 mod run;
 mod violation;
+mod violations;
 
 pub use find::{find_violation, fit_roots, is_fit};
 pub use run::{CheckedRun, RunError, run_checked, run_checked_for};
 pub use violation::Violation;
+pub use violations::find_violations;

@@ -61,7 +61,7 @@ fn check_forwarded<D: Dialect>(
 }
 
 // Whether the operation, if it is a terminator, is the last of its block.
-fn ends_if_terminator<D: Dialect>(op: Ptr<Operation>, ctx: &Context) -> bool
+pub(crate) fn ends_if_terminator<D: Dialect>(op: Ptr<Operation>, ctx: &Context) -> bool
     requires { IsLive ctx.now.tree op }
     ensures { IsTrue result ↔ EndsIfTerminator D.meaning ctx.now.tree op }
 {

@@ -1,1 +1,5 @@
 pub mod Splitting
+pub mod CopyTables
+pub mod Copying
+pub mod CopySteps
+pub mod Copyable

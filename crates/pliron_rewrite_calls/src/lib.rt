@@ -1,4 +1,4 @@
-//! Calls that change a tree as inlining asks: a block is split behind an operation.
+//! Calls that change a tree as inlining asks: a block is split behind an operation, and blocks are copied.
 //!
 //! Each is wholly done or not at all, whatever it answers. A contract here says what the tree became. Runs aren't kept yet
 //! by a call alone: a block that was split ends without a jump until the caller puts one.
@@ -6,6 +6,13 @@
 //! It knows the laws of dialects, and no graph, no dialect and no optimisation.
 #![tactic(auto)]
 
+mod copies;
+mod copyable;
+mod copying;
+mod erasing;
 mod splitting;
 
+pub use copies::Copies;
+pub use copyable::may_copy_blocks;
+pub use copying::copy_blocks;
 pub use splitting::split_block_behind;

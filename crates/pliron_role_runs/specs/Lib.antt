@@ -3,3 +3,4 @@ pub mod RoleRuns
 pub mod Visits
 pub mod OwnMoves
 pub mod Plain
+pub mod WorldMoves

@@ -12,8 +12,10 @@ pub mod numbers;
 pub mod own_moves;
 pub mod plain;
 mod role_moves;
+pub mod world_moves;
 
 pub use counts::Counts;
+pub use data::{all_copies, fitted_to};
 pub use interprets::Interprets;
 pub use known::{KnownRun, evaluate_known};
 pub use role_moves::{RunByRoles, known_move};

@@ -12,7 +12,10 @@ use pliron_dialect_bench::{Bench, BenchKind};
 use pliron_driver::{BenchNotation, Document};
 use pliron_evaluator::evaluator::{Datum, Notes, Sight};
 use pliron_laws::OptError;
-use pliron_show_places::{Source, TextParts, forwarded_names, parts_of, pretty, text_fault};
+use pliron_show_places::{
+    Source, TextParts, TextRange, edge_range, forwarded_names, operand_range, parts_of, pretty,
+    text_fault,
+};
 use pliron_text::number_of;
 use std::alloc::{AllocError, Global};
 
@@ -92,6 +95,14 @@ impl ShownNotation for BenchNotation {
         index: usize,
     ) -> &'t [u8] {
         forwarded_names(words, index).unwrap_or(b"")
+    }
+
+    fn operand_range(words: &[u8], index: usize) -> Option<TextRange> {
+        operand_range(words, index)
+    }
+
+    fn edge_range(words: &[u8], index: usize) -> Option<TextRange> {
+        edge_range(words, index)
     }
 }
 

@@ -13,7 +13,10 @@ use pliron_evaluator::evaluator::{Datum, Notes, Sight};
 use pliron_laws::OptError;
 use pliron_rewrite_rules::Rules;
 use pliron_role_runs::{Interprets, RunByRoles};
-use pliron_show_places::{Source, TextParts, forwarded_names, kind_fault, parts_of, pretty};
+use pliron_show_places::{
+    Source, TextParts, TextRange, edge_range, forwarded_names, kind_fault, operand_range, parts_of,
+    pretty,
+};
 use pliron_text::{Grammar, number_of};
 use std::alloc::{AllocError, Global};
 
@@ -100,6 +103,14 @@ impl<K: Grammar, L: Rules<ByRoles<K>>> ShownNotation for KindNotation<K, L> {
         index: usize,
     ) -> &'t [u8] {
         forwarded_names(words, index).unwrap_or(b"")
+    }
+
+    fn operand_range(words: &[u8], index: usize) -> Option<TextRange> {
+        operand_range(words, index)
+    }
+
+    fn edge_range(words: &[u8], index: usize) -> Option<TextRange> {
+        edge_range(words, index)
     }
 }
 

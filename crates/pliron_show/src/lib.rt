@@ -7,6 +7,7 @@
 mod bench;
 mod bench_traps;
 mod definition_order;
+mod json_run;
 mod kinds;
 mod part_names;
 mod reading;

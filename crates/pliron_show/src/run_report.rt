@@ -5,6 +5,7 @@ ghost use Rattle.pliron_laws.specs.Datum.{Number as NumberOf};
 ghost use Rattle.pliron_laws.specs.Machine.{run, sight_after as sight_seen};
 ghost use Rattle.pliron_evaluator.specs.Evaluator.{datum_of_value, sight_of};
 
+use crate::json_run::{json_text, move_object, write_effect_objects};
 use crate::shown::Runnable;
 use crate::trap_reason::{TrapReason, reason_by_kind, reason_of};
 use pliron_core::{Context, Operation, Ptr};
@@ -28,6 +29,8 @@ pub struct RunOptions<'w> {
     pub steps: usize,
     /// Whether each move is reported.
     pub trace: bool,
+    /// Whether what is seen, and each move, is an object of JSON on a line.
+    pub json: bool,
 }
 
 // The numbers as data.
@@ -79,12 +82,21 @@ fn write_effects(text: &mut String, effects: &[Datum]) -> Result<(), AllocError>
     Ok(())
 }
 
-// The effects of a run, each on a line, as they came. Errors: allocation failure. Cost: linear in them.
-pub(crate) fn effects_text(alloc: Global, sight: &Sight) -> Result<String, AllocError> {
+// The effects of a run, each on a line, as they came, as objects of JSON or in words. Errors: allocation failure. Cost:
+// linear in them.
+pub(crate) fn effects_text(
+    alloc: Global,
+    sight: &Sight,
+    is_json: bool,
+) -> Result<String, AllocError> {
     let mut text = String::new(alloc);
     match sight {
         Sight::Ended(_, effects) | Sight::Trapped(effects) | Sight::Reached(effects) => {
-            write_effects(&mut text, effects)?;
+            if is_json {
+                write_effect_objects(alloc, &mut text, effects)?;
+            } else {
+                write_effects(&mut text, effects)?;
+            }
         }
     }
     Ok(text)
@@ -171,27 +183,45 @@ pub fn evaluated_sight<D: Evaluate>(
     evaluate_noting::<D>(alloc, ctx, root, given, notes)
 }
 
-// Writes each move: where its operation is, how it is written, and the data that it takes.
-fn write_moves(
+// Writes a move: where its operation is, how it is written, and the data that it takes.
+fn write_move(
     report: &mut String,
     source: &Source,
-    root: Ptr<Operation>,
-    places: &[TextPart],
-    moves: &[NotedMove],
+    place: Option<TextPart>,
+    noted: &NotedMove,
 ) -> Result<(), AllocError> {
-    for noted in moves {
-        if let Some(place) = place_of(places, root, noted.op) {
-            write!(report, "{}:{} ", place.line, place.column)?;
-            push_bytes(report, source.text, place.start, place.len)?;
+    if let Some(place) = place {
+        write!(report, "{}:{} ", place.line, place.column)?;
+        push_bytes(report, source.text, place.start, place.len)?;
+    }
+    match &noted.input {
+        Some(input) if !input.is_empty() => {
+            report.push_str(" <-")?;
+            write_data(report, input)?;
         }
-        match &noted.input {
-            Some(input) if !input.is_empty() => {
-                report.push_str(" <-")?;
-                write_data(report, input)?;
-            }
-            _ => {}
+        _ => {}
+    }
+    report.push_str("\n")
+}
+
+// Writes each move that is noted, where the options ask for it.
+fn write_moves(
+    alloc: Global,
+    report: &mut String,
+    run: &FinishedRun,
+    places: &[TextPart],
+) -> Result<(), AllocError> {
+    if !run.options.trace {
+        return Ok(());
+    }
+    for noted in &run.notes.moves {
+        let place = place_of(places, run.root, noted.op);
+        if run.options.json {
+            let object = move_object(alloc, run.source, place, noted)?;
+            object.write_line(report)?;
+        } else {
+            write_move(report, run.source, place, noted)?;
         }
-        report.push_str("\n")?;
     }
     Ok(())
 }
@@ -209,6 +239,15 @@ pub(crate) struct FinishedRun<'r> {
     pub(crate) sight: &'r Sight,
 }
 
+// What is seen of the run, in words or as objects of JSON. Errors: allocation failure. Cost: linear in what is seen.
+pub(crate) fn seen_text(alloc: Global, run: &FinishedRun) -> Result<String, AllocError> {
+    if run.options.json {
+        json_text(alloc, run.sight, run.notes.moves.len())
+    } else {
+        sight_text(alloc, run.sight)
+    }
+}
+
 /// What is reported of the last move of a run that didn't end with values.
 #[derive(Drop)]
 struct LastMove {
@@ -223,7 +262,7 @@ fn trap_reason<N: Runnable>(
     ctx: &Context,
     run: &FinishedRun,
 ) -> Result<TrapReason, OptError> {
-    if run.options.trace {
+    if run.options.trace || run.options.json {
         return reason_of::<N>(alloc, ctx, &run.notes.moves);
     }
     let mut notes = Notes::of_all(alloc);
@@ -279,7 +318,7 @@ pub(crate) fn report_of<N: Runnable>(
 ) -> Result<String, OptError> {
     let places = operation_places(alloc, run.source.text)?;
     let mut report = String::new(alloc);
-    write_moves(&mut report, run.source, run.root, &places, &run.notes.moves)?;
+    write_moves(alloc, &mut report, run, &places)?;
     let place = match run.notes.last {
         Some(op) => place_of(&places, run.root, op),
         None => None,
@@ -329,7 +368,7 @@ fn run_text_in<N: Runnable>(
 
 // The notes that the options ask for. Cost: constant.
 pub(crate) fn notes_for(alloc: Global, options: &RunOptions) -> Notes {
-    if options.trace {
+    if options.trace || options.json {
         Notes::of_all(alloc)
     } else {
         Notes::of_last(alloc)
@@ -354,7 +393,7 @@ fn report_of_run<N: Runnable>(
         sight: &sight,
     };
     let report = report_of::<N>(alloc, ctx, &run)?;
-    let seen = sight_text(alloc, &sight)?;
+    let seen = seen_text(alloc, &run)?;
     Ok(RunReport {
         seen,
         report,

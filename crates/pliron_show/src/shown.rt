@@ -1,5 +1,5 @@
 //! What people ask of a notation.
-ghost use Rattle.std.specs.Prelude.{◌≡◌, map, IfOk, IfSome, string_bytes};
+ghost use Rattle.std.specs.Prelude.{◌≡◌, ◌≤◌, ◌+◌, length, map, IfOk, IfSome, string_bytes};
 ghost use Rattle.pliron_core.specs.Tree.{IsLive};
 ghost use Rattle.pliron_laws.specs.Datum.{Number as NumberOf};
 ghost use Rattle.pliron_laws.specs.Machine.{run, sight_after as seen_of};
@@ -13,7 +13,7 @@ use pliron_core::{Context, Operation, Ptr};
 use pliron_driver::{Document, Notation};
 use pliron_evaluator::evaluator::{Datum, Notes, Sight};
 use pliron_laws::OptError;
-use pliron_show_places::{Source, TextParts};
+use pliron_show_places::{Source, TextParts, TextRange};
 use std::alloc::{AllocError, Global};
 
 /// What the names of new values and of new blocks begin with.
@@ -98,6 +98,15 @@ pub trait ShownNotation: Notation + NameScopes {
     /// the operation is live (`is_live` tests it). Cost: linear in the words, and in the edges before it.
     fn edge_names<'t>(op: Ptr<Operation>, ctx: &Context, words: &'t [u8], index: usize) -> &'t [u8]
         requires { IsLive ctx.now.tree op };
+
+    /// Where these words of an operation, up to its regions, have the operand at this index; `None` where they don't.
+    /// Cost: linear in the words.
+    fn operand_range(words: &[u8], index: usize) -> Option<TextRange>
+        ensures { IfSome result (λ part. part.start + part.len ≤ length words.now) };
+
+    /// The same of the edge at this index. Cost: linear in the words.
+    fn edge_range(words: &[u8], index: usize) -> Option<TextRange>
+        ensures { IfSome result (λ part. part.start + part.len ≤ length words.now) };
 }
 
 /// A notation whose operations are run for people, on numbers.

@@ -3,7 +3,7 @@ ghost use Rattle.std.specs.Prelude.{◌≡◌};
 ghost use Rattle.pliron_core.specs.Writes.{no_tree};
 
 use crate::run_report::{
-    FinishedRun, RunOptions, RunReport, effects_text, end_of, notes_for, report_of, sight_text,
+    FinishedRun, RunOptions, RunReport, effects_text, end_of, notes_for, report_of, seen_text,
 };
 use crate::shown::Runnable;
 use pliron_core::{Context, Operation, Ptr};
@@ -49,9 +49,10 @@ impl RunPart {
         &mut self,
         alloc: Global,
         sight: &Sight,
+        is_json: bool,
         sink: &mut S,
     ) -> Result<bool, AllocError> {
-        let text = effects_text(alloc, sight)?;
+        let text = effects_text(alloc, sight, is_json)?;
         let lines = bytes_behind(&text, self.reported);
         let is_heard = lines.is_empty() || sink.accept(lines);
         self.reported = text.len();
@@ -65,7 +66,7 @@ impl RunPart {
         ctx: &Context,
         run: &FinishedRun,
     ) -> Result<RunReport, OptError> {
-        let seen = sight_text(alloc, run.sight)?;
+        let seen = seen_text(alloc, run)?;
         let rest = std::str::from_utf8(bytes_behind(&seen, self.reported)).unwrap_or("");
         Ok(RunReport {
             seen: String::from_str(alloc, rest)?,
@@ -96,7 +97,7 @@ fn report_of_parts<N: Runnable, S: EffectSink>(
         };
         let mut notes: Notes = notes_for(alloc, &own);
         let sight = N::run_sight(alloc, root, ctx, &own, &mut notes)?;
-        let is_heard = part.report_effects(alloc, &sight, sink)?;
+        let is_heard = part.report_effects(alloc, &sight, options.json, sink)?;
         if is_heard && continues(&sight, options, part.moves) {
             part.moves = part.moves.saturating_mul(4).min(options.steps);
             continue;

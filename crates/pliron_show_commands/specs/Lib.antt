@@ -1,6 +1,7 @@
 pub mod Asked
 pub mod CheckOutcome
 pub mod Compared
+pub mod Faults
 pub mod Findings
 pub mod Likeness
 pub mod Optimised

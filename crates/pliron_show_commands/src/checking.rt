@@ -8,7 +8,7 @@ ghost use Rattle.pliron_show_commands.specs.Outcomes.{EndsEither};
 use crate::failure::CommandFailure;
 use crate::one_by_one::{first_unfit, is_container};
 use crate::outcome::{Outcome, failure_outcome};
-use crate::violation_message::violation_message;
+use crate::unfit_report::unfit_report;
 use pliron_core::{Context, Operation, Ptr};
 use pliron_driver::Notation;
 use pliron_laws::OptError;
@@ -62,7 +62,7 @@ pub(crate) enum Finding {
     Whole,
     /// No run begins at it, and each part inside it is fit to run.
     ByParts,
-    /// Something keeps it, or a part inside it, from being fit to run: this message says what.
+    /// Something keeps it, or a part inside it, from being fit to run: this report says what.
     Wrong(String),
 }
 
@@ -92,9 +92,9 @@ fn find_message_in<N: ShownNotation>(
         CheckOutcome::Unreadable => Ok(None),
         CheckOutcome::Fit => Ok(Some(Finding::Whole)),
         CheckOutcome::FitByParts => Ok(Some(Finding::ByParts)),
-        CheckOutcome::Unfit(op, violation) => {
-            let message = violation_message::<N>(alloc, "error", source, op, &violation, ctx)?;
-            Ok(Some(Finding::Wrong(message)))
+        CheckOutcome::Unfit(part, _) => {
+            let report = unfit_report::<N>(alloc, source, part, ctx)?;
+            Ok(Some(Finding::Wrong(report)))
         }
     }
 }
@@ -111,12 +111,13 @@ fn fit_outcome(alloc: Global, line: &[u8]) -> Result<Outcome, AllocError>
     })
 }
 
-/// Checks whether the operation of a text is well linked and fit to run, and reports one violation with its place. Of
-/// an operation at which no run begins, as a `mod`, each part inside, as a `func`, is checked instead.
+/// Checks whether the operation of a text is well linked and fit to run, and reports all that keeps it from that, in the
+/// order of the text: the first hundred violations, and how many more there are. Of an operation at which no run begins,
+/// as a `mod`, each part inside, as a `func`, is checked instead.
 ///
 /// Statuses: 0 where there is no violation; 1 where memory was refused; 2 for an unreadable text; 3 for a violation.
 /// With all but 0 nothing is to be written to the output. Errors: allocation failure for what is reported. Cost: that
-/// of `check_text`.
+/// of `check_text`, and where something is wrong that of `find_violations`, and n log n for n violations.
 #[tactic(auto, using(crate::proofs::CommandLemmas::says_whole, crate::proofs::CommandLemmas::says_parts, crate::proofs::CommandLemmas::says_unfit))]
 pub fn check<N: ShownNotation>(alloc: Global, source: &Source) -> Result<Outcome, AllocError>
     ensures { IfOk result (λ outcome. EndsEither (N.faults source.now.text.now)

@@ -14,11 +14,11 @@ use pliron_show::ShownNotation;
 use pliron_show_graphs::{PassList, explain_changes};
 use std::alloc::{AllocError, Global};
 
-// The outcome for these lines.
-fn explanation_outcome(alloc: Global, lines: String) -> Result<Outcome, AllocError>
+// The outcome for these lines; where there is none, one says so, but of JSON.
+fn explanation_outcome(alloc: Global, lines: String, is_json: bool) -> Result<Outcome, AllocError>
     ensures { IfOk result (λ outcome. outcome.status ≡ 0) }
 {
-    if lines.is_empty() {
+    if lines.is_empty() && !is_json {
         let none = Vec::from_slice(alloc, b"nothing of the text changed or went\n")?;
         Ok(success_outcome(alloc, none))
     } else {
@@ -44,7 +44,7 @@ fn passes_of(alloc: Global, names: &[&str]) -> Result<Option<Vec<PassName>>, All
 fn list_of(
     alloc: Global,
     plan: &PipelineText,
-    reports_missed: bool,
+    options: &ExplainOptions,
 ) -> Result<Option<PassList>, AllocError>
     ensures nested { IfOk result (λ found. IfSome found (λ list. list.is_nested ≡ plan.now.nested)) }
     ensures passes { IfOk result (λ found. IfSome found
@@ -55,7 +55,8 @@ fn list_of(
             runs: plan.runs.unwrap_or(1),
             is_nested: plan.nested,
             passes,
-            reports_missed,
+            reports_missed: options.missed,
+            is_json: options.json,
         })),
         None => Ok(None),
     }
@@ -67,15 +68,15 @@ fn explain_by<N: ShownNotation>(
     alloc: Global,
     source: &Source,
     plan: &PipelineText,
-    reports_missed: bool,
+    options: &ExplainOptions,
 ) -> Result<Outcome, AllocError>
     ensures { IfOk result (EndsEither (λ report. N.faults source.now.text.now report ⊎ FaultsWord report) ⊤ ⊥) }
 {
-    let Some(list) = list_of(alloc, plan, reports_missed)? else {
+    let Some(list) = list_of(alloc, plan, options)? else {
         return no_passes_outcome(alloc);
     };
     match explain_changes::<N>(alloc, source.text, &list) {
-        Ok(Some(lines)) => explanation_outcome(alloc, lines),
+        Ok(Some(lines)) => explanation_outcome(alloc, lines, options.json),
         Ok(None) => failure_outcome::<N>(alloc, CommandFailure::Text, source),
         Err(error) => refused_outcome::<N>(alloc, source, error, plan),
     }
@@ -88,6 +89,8 @@ pub struct ExplainOptions<'w> {
     pub pipeline: &'w str,
     /// Whether what they left unchanged is reported, too, and why.
     pub missed: bool,
+    /// Whether each line is an object of JSON.
+    pub json: bool,
 }
 
 /// Explains what the passes that the word asks for changed in a text: place and reason of each operation and argument
@@ -106,7 +109,7 @@ pub fn explain<N: ShownNotation>(
     ensures { IfOk result (EndsEither (λ report. N.faults source.now.text.now report ⊎ FaultsWord report) ⊤ ⊥) }
 {
     match PipelineText::read(alloc, options.pipeline) {
-        Ok(plan) => explain_by::<N>(alloc, source, &plan, options.missed),
+        Ok(plan) => explain_by::<N>(alloc, source, &plan, options),
         Err(PlanError::Word(fault)) => misspelling_outcome(alloc, options.pipeline, &fault),
         Err(PlanError::Memory) => failure_outcome::<N>(
             alloc,

@@ -21,6 +21,7 @@ mod running;
 mod statistics;
 mod strict;
 mod table;
+mod unfit_report;
 mod violation_message;
 
 pub use checking::{CheckOutcome, check, check_text};
@@ -35,8 +36,8 @@ pub use pliron_driver_instrument::{InstrumentationOptions, PipelineText, PlanErr
 pub use pliron_show::{EffectSink, RunOptions, Runnable, ShownNotation};
 pub use pliron_show_graphs::FlowOptions;
 pub use pliron_show_places::{
-    LineAndColumn, MessageForm, Source, SourceMark, TextRange, blank_comments, in_form, isolate,
-    mark_source, operation_range, position_of, without_mark,
+    JsonObject, LineAndColumn, MessageForm, Source, SourceMark, TextRange, blank_comments, in_form,
+    isolate, mark_source, operation_range, position_of, without_mark,
 };
 pub use running::{run, run_streamed};
 pub use strict::{opt_with_check, unfit_warning};

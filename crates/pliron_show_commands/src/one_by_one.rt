@@ -1,13 +1,14 @@
 //! What is inside operations at which no run begins, one by one.
-ghost use Rattle.std.specs.Prelude.{◌≡◌, ◌↔◌, None, IfOk, IfSome, IsTrue};
+ghost use Rattle.std.specs.Prelude.{◌≡◌, ◌↔◌, None, IfOk, IfSome, OnOk, IsTrue};
 ghost use Rattle.pliron_core.specs.Tree.{IsLive};
 ghost use Rattle.pliron_theory.specs.Keeps.{IsFit};
 ghost use Rattle.pliron_pass_fit.specs.Violation.{IsViolation};
+ghost use Rattle.pliron_show_commands.specs.Faults.{AreFaults};
 ghost use Rattle.pliron_show_commands.specs.Parts.{AreFitParts, IsContainer, IsFirstPart, IsFitByParts, IsInContainer, IsReportedPart, IsAtFault};
 
 use pliron_core::{Contents, Context, Operation, Ptr};
 use pliron_laws::{Dialect, OptError};
-use pliron_pass_fit::{Violation, find_violation};
+use pliron_pass_fit::{Violation, find_violation, find_violations};
 use std::alloc::Global;
 
 /// Whether the operation has a region in which definitions need not come before uses, as a `mod` has, so that what is
@@ -105,4 +106,56 @@ pub(crate) fn first_unfit<D: Dialect>(
         Some(violation) => Ok(Some((root, violation))),
         None => Ok(None),
     }
+}
+
+/// Something that keeps an operation from being fit to run.
+#[derive(Clone, Copy)]
+pub(crate) struct PartViolation {
+    /// The operation: the one that is checked, or a part inside it.
+    pub part: Ptr<Operation>,
+    pub violation: Violation,
+}
+
+// Adds all that keeps the operation from being fit to run. Errors: allocation failure.
+fn add_violations<D: Dialect>(
+    alloc: Global,
+    part: Ptr<Operation>,
+    found: &mut Vec<PartViolation>,
+    ctx: &Context,
+) -> Result<(), OptError>
+    requires live { IsLive ctx.now.tree part }
+    requires found { AreFaults D.meaning ctx.now.tree found.old.items }
+    ensures { OnOk result (AreFaults D.meaning ctx.now.tree found.new.items) }
+{
+    let violations = find_violations::<D>(alloc, part, ctx)?;
+    for violation in &violations {
+        found.push(PartViolation {
+            part,
+            violation: *violation,
+        })?;
+    }
+    Ok(())
+}
+
+/// All that keeps the operation from being fit to run or, for a container, each part inside it. Asks that it is live.
+/// Errors: allocation failure. Cost: linear in what is inside, and that of `find_violations` for each part.
+pub(crate) fn all_unfit<D: Dialect>(
+    alloc: Global,
+    root: Ptr<Operation>,
+    ctx: &Context,
+) -> Result<Vec<PartViolation>, OptError>
+    requires { IsLive ctx.now.tree root }
+    ensures { IfOk result (λ found. AreFaults D.meaning ctx.now.tree found.items) }
+{
+    let mut found = Vec::new(alloc);
+    if !is_container(root, ctx) {
+        add_violations::<D>(alloc, root, &mut found, ctx)?;
+        return Ok(found);
+    }
+    for op in Contents::new(root, ctx) {
+        if op.is_live(ctx) && is_part(op, ctx) {
+            add_violations::<D>(alloc, op, &mut found, ctx)?;
+        }
+    }
+    Ok(found)
 }

@@ -34,6 +34,8 @@ pub struct OptOptions<'w> {
     pub instrumentation: InstrumentationOptions<'w>,
     /// Whether the time of each pass is reported.
     pub times: bool,
+    /// Whether the counts of each pass are objects of JSON.
+    pub json: bool,
 }
 
 // The message for a word that plans no passes.
@@ -102,6 +104,7 @@ fn report_options(options: &OptOptions) -> ReportOptions {
         faults: options.instrumentation.verifies,
         counts: options.instrumentation.counts,
         times: options.times,
+        is_json: options.json,
     }
 }
 

@@ -1,5 +1,5 @@
 //! What is reported of the runs of passes: trees and what verifying finds after each, counts, and times.
-use crate::statistics::write_statistics;
+use crate::statistics::{write_json_statistics, write_statistics};
 use pliron_core::IRStatus;
 use pliron_driver::Notation;
 use pliron_driver_instrument::{InstrumentedStep, Progress, RoundRecord, RunNote};
@@ -16,6 +16,8 @@ pub struct ReportOptions {
     /// Whether counts are reported, and whether times are.
     pub counts: bool,
     pub times: bool,
+    /// Whether the counts are objects of JSON.
+    pub is_json: bool,
 }
 
 /// A note, and the name of its pass.
@@ -186,7 +188,9 @@ pub fn report_of<N: Notation, C: Progress + Drop>(
     if wanted.faults {
         write_faults(&mut report, &notes)?;
     }
-    if wanted.counts {
+    if wanted.counts && wanted.is_json {
+        write_json_statistics(alloc, &mut report, passes)?;
+    } else if wanted.counts {
         write_statistics(alloc, &mut report, passes)?;
     }
     if wanted.times {

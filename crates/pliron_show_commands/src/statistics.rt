@@ -1,7 +1,8 @@
 //! What is reported of the work of passes: how much there was before and after each, and what each rewrote.
 use crate::table::Table;
 use pliron_driver::Notation;
-use pliron_driver_instrument::{InstrumentedStep, Progress, RoundRecord};
+use pliron_driver_instrument::{ContentsCount, InstrumentedStep, Progress, RoundRecord};
+use pliron_show_places::JsonObject;
 use std::alloc::{AllocError, Global};
 
 /// What one pass did in one round.
@@ -117,6 +118,54 @@ fn rewrite_row(alloc: Global, work: &PassWork) -> Result<Vec<String>, AllocError
         row.push(format!(in alloc; "{count}")?)?;
     }
     Ok(row)
+}
+
+// An object of JSON of how much there was. Errors: allocation failure.
+fn counts_object(alloc: Global, counts: &ContentsCount) -> Result<String, AllocError> {
+    let mut object = JsonObject::new(alloc);
+    object.number("operations", counts.operations)?;
+    object.number("blocks", counts.blocks)?;
+    object.number("arguments", counts.arguments)?;
+    object.number("edges", counts.edges)?;
+    object.finish()
+}
+
+// Writes an object of JSON of what a pass did in a round.
+fn write_object(alloc: Global, report: &mut String, work: &PassWork) -> Result<(), AllocError> {
+    let compared = &work.row.compared;
+    let mut object = JsonObject::new(alloc);
+    object.number("round", work.round)?;
+    object.words("pass", work.name)?;
+    object.number("runs", work.row.runs)?;
+    object.number("changed", work.row.changed)?;
+    object.value("before", counts_object(alloc, &compared.before)?.as_str())?;
+    object.value("after", counts_object(alloc, &compared.after)?.as_str())?;
+    for (key, count) in [
+        ("made", compared.rewrites.made),
+        ("erased", compared.rewrites.erased),
+        ("moved", compared.rewrites.moved),
+        ("operandsChanged", compared.rewrites.operands),
+        ("blocksErased", compared.rewrites.blocks),
+        ("argumentsErased", compared.rewrites.arguments),
+    ] {
+        object.number(key, count)?;
+    }
+    object.write_line(report)
+}
+
+/// Writes the same as `write_statistics`, an object of JSON for each pass in each round.
+///
+/// Errors: allocation failure. Cost: linear in the rows.
+pub fn write_json_statistics<N: Notation, C: Progress + Drop>(
+    alloc: Global,
+    report: &mut String,
+    passes: &[InstrumentedStep<N, C>],
+) -> Result<(), AllocError> {
+    let works = work_in_order(alloc, passes)?;
+    for work in &works {
+        write_object(alloc, report, work)?;
+    }
+    Ok(())
 }
 
 /// Writes how much there was before and after each pass, and what each rewrote, round by round.

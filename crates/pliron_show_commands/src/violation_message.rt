@@ -10,7 +10,7 @@ use pliron_core::{BasicBlock, Context, Def, Operation, Ptr, Region, Value};
 use pliron_laws::{Dialect, OptError};
 use pliron_pass_fit::Violation;
 use pliron_show::{ShownNotation, push_value_name};
-use pliron_show_places::{Source, SourceMark, TextPart, TextParts, mark_source_as};
+use pliron_show_places::{Source, SourceMark, TextPart, TextParts, TextRange, mark_source_as};
 use std::alloc::{AllocError, Global};
 
 /// Another place in the text, and what is said of it.
@@ -234,12 +234,45 @@ fn edge_of<D: Dialect>(
     Ok(Some((op.get_successor(ctx, index), values.len())))
 }
 
+// Where the text names the result of the operation at this index, if it has one.
+fn result_part(
+    ctx: &Context,
+    parts: &TextParts,
+    op: Ptr<Operation>,
+    index: usize,
+) -> Option<TextPart> {
+    if op.is_live(ctx) && index < op.num_result(ctx) {
+        Some(parts.value(op.get_result(ctx, index).key())?.part)
+    } else {
+        None
+    }
+}
+
+// The range of the whole part. Cost: constant.
+fn range_of(part: TextPart) -> TextRange {
+    TextRange {
+        start: part.start,
+        len: part.len,
+    }
+}
+
+// The range of what is inside the part; that of the part where there is none. Cost: constant.
+fn range_inside(whole: TextPart, inside: Option<TextRange>) -> TextRange {
+    match inside {
+        Some(inside) => TextRange {
+            start: whole.start.saturating_add(inside.start),
+            len: inside.len,
+        },
+        None => range_of(whole),
+    }
+}
+
 /// A text of which something is reported.
 #[derive(Clone, Copy)]
-struct ViolationText<'t> {
-    alloc: Global,
-    source: &'t Source<'t>,
-    parts: &'t TextParts,
+pub(crate) struct ViolationText<'t> {
+    pub alloc: Global,
+    pub source: &'t Source<'t>,
+    pub parts: &'t TextParts,
 }
 
 impl ViolationText<'_> {
@@ -358,6 +391,43 @@ impl ViolationText<'_> {
         })
     }
 
+    // The operand of the operation at this index in the text, or else the operation.
+    fn operand_mark<N: ShownNotation>(
+        &self,
+        op: Ptr<Operation>,
+        index: usize,
+    ) -> Option<TextRange> {
+        let whole = self.parts.operation_part(op.key())?;
+        let words = whole.of(self.source.text);
+        Some(range_inside(whole, N::operand_range(words, index)))
+    }
+
+    // What is marked of a violation of this operation, if the text has it: the operand, the edge or the result that is
+    // wrong, or else the whole operation.
+    pub(crate) fn mark<N: ShownNotation>(
+        &self,
+        ctx: &Context,
+        root: Ptr<Operation>,
+        violation: &Violation,
+    ) -> Option<TextRange> {
+        let op = operation_of(violation, root);
+        let whole = self.parts.operation_part(op.key())?;
+        match violation {
+            Violation::NotDominated(_, index)
+            | Violation::ForeignValue(_, index)
+            | Violation::UsedOutside(_, index) => self.operand_mark::<N>(op, *index),
+            Violation::UnequalEdge(_, index) => {
+                let words = whole.of(self.source.text);
+                Some(range_inside(whole, N::edge_range(words, *index)))
+            }
+            Violation::ResultUsed(_, index) => {
+                let named = result_part(ctx, self.parts, op, *index);
+                Some(range_of(named.unwrap_or(whole)))
+            }
+            _ => Some(range_of(whole)),
+        }
+    }
+
     // Adds the note, with a mark under its part.
     fn push_note(&self, message: &mut String, note: &Note) -> Result<(), AllocError> {
         let mark = SourceMark {
@@ -385,7 +455,7 @@ impl ViolationText<'_> {
     fn message(
         &self,
         severity: &str,
-        part: Option<TextPart>,
+        part: Option<TextRange>,
         words: &ViolationWords,
     ) -> Result<String, AllocError>
         ensures { IfOk result (λ message. BeginsWith (string_bytes message) (heading severity.now
@@ -403,10 +473,26 @@ impl ViolationText<'_> {
         message.push_str(help.as_str())?;
         Ok(message)
     }
+
+    /// The message for a violation of this operation: this word for the severity, what is wrong with a mark under it,
+    /// what helps, and where the operand is defined or the block begins.
+    ///
+    /// Errors: allocation failure. Cost: linear in the text, and the depth of the operation.
+    pub(crate) fn violation<N: ShownNotation>(
+        &self,
+        severity: &str,
+        root: Ptr<Operation>,
+        violation: &Violation,
+        ctx: &Context,
+    ) -> Result<String, OptError> {
+        let words = self.words::<N::D>(ctx, violation)?;
+        let part = self.mark::<N>(ctx, root, violation);
+        Ok(self.message(severity, part, &words)?)
+    }
 }
 
 /// The message for a violation of an operation that was read from the text into an empty context: this word for the
-/// severity, the operation with a mark under it, what helps, and where the operand is defined or the block begins.
+/// severity, what is wrong with a mark under it, what helps, and where the operand is defined or the block begins.
 ///
 /// Errors: allocation failure. Cost: linear in the text, and the depth of the operation.
 pub fn violation_message<N: ShownNotation>(
@@ -423,13 +509,11 @@ pub fn violation_message<N: ShownNotation>(
         source,
         parts: &parts,
     };
-    let words = text.words::<N::D>(ctx, violation)?;
-    let part = parts.operation_part(operation_of(violation, root).key());
-    Ok(text.message(severity, part, &words)?)
+    text.violation::<N>(severity, root, violation, ctx)
 }
 
 /// The message for a use for which passes are refused on an operation that was read from the text into an empty
-/// context: the user with a mark under it, and where the value is defined; for a user that a pass made, which no text
+/// context: the operand of the user with a mark under it, and where the value is defined; for a user that a pass made, which no text
 /// has, the definition alone.
 ///
 /// Errors: allocation failure. Cost: linear in the text.
@@ -448,7 +532,7 @@ pub(crate) fn live_use_message<N: ShownNotation>(
         parts: &parts,
     };
     let words = text.operand_words(ctx, found.user, found.index, unreached_words())?;
-    let part = parts.operation_part(found.user.key());
+    let part = text.operand_mark::<N>(found.user, found.index);
     if part.is_some() {
         return Ok(text.message("error", part, &words)?);
     }
@@ -463,6 +547,8 @@ pub(crate) fn live_use_message<N: ShownNotation>(
         help: words.help,
         note: None,
     };
-    let part = parts.value(found.value.key()).map(|name| name.part);
+    let part = parts
+        .value(found.value.key())
+        .map(|name| range_of(name.part));
     Ok(text.message("error", part, &made)?)
 }

@@ -4,9 +4,9 @@ ghost use Rattle.pliron_core.specs.Tree.{IsLive};
 ghost use Rattle.pliron_core.specs.Writes.{no_tree};
 ghost use Rattle.pliron_laws.specs.Linked.{IsWellLinked};
 
-use crate::missed::{MissedText, push_missed};
+use crate::missed::{MissedText, push_missed, reason_object};
 use crate::pass_list::PassList;
-use crate::reasons::{Reasons, Rewrite};
+use crate::reasons::{Reason, Reasons, Rewrite};
 use crate::tree_state::{TreeState, tree_state};
 use pliron_core::{Children, Context, IRRewriter, IRStatus, Operation, Ptr};
 use pliron_dialect_edges::BranchesAtOnce;
@@ -21,7 +21,7 @@ use pliron_opt_sccp::sccp;
 use pliron_pass_pipeline::{PassName, max_rewrites};
 use pliron_rewrite_rules::Rules;
 use pliron_show::{ShownNotation, read_shown};
-use pliron_show_places::TextParts;
+use pliron_show_places::{JsonObject, TextParts};
 use std::alloc::{AllocError, Global};
 use std::marker::PhantomData;
 
@@ -97,6 +97,8 @@ struct Explaining<'e, N: ShownNotation> {
     counts_runs: bool,
     /// The run of the list, counted from 1.
     run: usize,
+    /// Whether each line is an object of JSON.
+    is_json: bool,
     lines: String,
 }
 
@@ -104,18 +106,56 @@ impl<N: ShownNotation> Explaining<'_, N> {
     // Writes a line for each reason.
     fn push_reasons(&mut self, pass: PassName, reasons: &Reasons<N>) -> Result<(), AllocError> {
         for reason in &reasons.reasons {
-            let name = name_of(pass);
-            write!(
-                self.lines,
-                "{}:{} {} ({name}",
-                reason.part.line, reason.part.column, reason.reported
-            )?;
-            if self.counts_runs {
-                write!(self.lines, ", run {}", self.run)?;
+            if self.is_json {
+                self.push_object(pass, reason)?;
+            } else {
+                self.push_line(pass, reason)?;
             }
-            self.lines.push_str(")\n")?;
         }
         Ok(())
+    }
+
+    // Writes a line for the reason.
+    fn push_line(&mut self, pass: PassName, reason: &Reason) -> Result<(), AllocError> {
+        let name = name_of(pass);
+        write!(
+            self.lines,
+            "{}:{} {}: {} ({name}",
+            reason.part.line, reason.part.column, reason.subject, reason.why
+        )?;
+        if self.counts_runs {
+            write!(self.lines, ", run {}", self.run)?;
+        }
+        self.lines.push_str(")\n")
+    }
+
+    // Writes an object of JSON for the reason.
+    fn push_object(&mut self, pass: PassName, reason: &Reason) -> Result<(), AllocError> {
+        let mut object = reason_object(
+            self.alloc,
+            self.text,
+            reason.part,
+            reason.subject.as_str(),
+            reason.why.as_str(),
+        )?;
+        object.words("pass", name_of(pass))?;
+        if self.counts_runs {
+            object.number("run", self.run)?;
+        }
+        object.write_line(&mut self.lines)
+    }
+
+    // Writes that the last of so many runs, as many as are allowed, still changed something.
+    fn push_unfinished(&mut self, runs: usize) -> Result<(), AllocError> {
+        if self.is_json {
+            let mut object = JsonObject::new(self.alloc);
+            object.number("unfinished", runs)?;
+            return object.write_line(&mut self.lines);
+        }
+        write!(
+            self.lines,
+            "after {runs} runs, as many as it may, the list still changed something\n"
+        )
     }
 
     // Makes one rewrite of a pass, where the operation is live and well linked, and reports what changed.
@@ -196,11 +236,7 @@ impl<N: ShownNotation> Explaining<'_, N> {
             }
         }
         if self.counts_runs {
-            let runs = list.runs;
-            write!(
-                self.lines,
-                "after {runs} runs, as many as it may, the list still changed something\n"
-            )?;
+            self.push_unfinished(list.runs)?;
         }
         Ok(())
     }
@@ -248,6 +284,7 @@ fn explain_in<N: ShownNotation>(
         sheet: &document.sheet,
         counts_runs: list.runs > 1,
         run: 0,
+        is_json: list.is_json,
         lines: String::new(alloc),
     };
     explaining.list(list, &operations, ctx)?;
@@ -269,7 +306,7 @@ fn explain_in<N: ShownNotation>(
     Ok(Some(lines))
 }
 
-/// What these passes changed in a text: a line with place and reason for each operation and argument that changed or
+/// What these passes changed in a text: a line or an object with place and reason for each operation and argument that changed or
 /// was erased; where the list asks for missed operations, also for each that the passes left alone though they change
 /// operations of its kind. `None` for an unreadable text.
 ///

@@ -6,7 +6,7 @@ use pliron_core::{Contents, Context, Def, Operation, Ptr, Value};
 use pliron_laws::{ConstFoldInterface, SideEffects};
 use pliron_pass_pipeline::PassName;
 use pliron_show::{ShownNotation, push_value_name};
-use pliron_show_places::{TextParts, push_on_one_line};
+use pliron_show_places::{JsonObject, TextPart, TextParts, push_on_one_line};
 use std::alloc::{AllocError, Global};
 use std::marker::PhantomData;
 
@@ -34,6 +34,22 @@ struct MissedReport<'m, N: ShownNotation> {
     alloc: Global,
     of: PhantomData<N>,
     reported: &'m MissedText<'m, N::Sheet>,
+}
+
+/// An object of JSON that says why something of the text changed or stayed: where and what it is, and the reason.
+/// Errors: allocation failure. Cost: linear in what is written.
+pub(crate) fn reason_object(
+    alloc: Global,
+    text: &[u8],
+    part: TextPart,
+    subject: &str,
+    reason: &str,
+) -> Result<JsonObject, AllocError> {
+    let mut object = JsonObject::new(alloc);
+    object.part(text, part)?;
+    object.words("subject", subject)?;
+    object.words("reason", reason)?;
+    Ok(object)
 }
 
 // Whether an operation makes the value as a constant.
@@ -204,9 +220,34 @@ impl<N: ShownNotation> MissedReport<'_, N> {
         if why.is_empty() {
             return Ok(());
         }
+        if self.reported.list.is_json {
+            return self.push_object(part, why, pass, lines);
+        }
         write!(lines, "{}:{} ", part.line, part.column)?;
         push_on_one_line(lines, part.of(self.reported.text))?;
         write!(lines, ": {why} (missed by {pass})\n")
+    }
+
+    // Adds an object of JSON for it.
+    fn push_object(
+        &self,
+        part: TextPart,
+        why: &str,
+        pass: &str,
+        lines: &mut String,
+    ) -> Result<(), AllocError> {
+        let mut subject = String::new(self.alloc);
+        push_on_one_line(&mut subject, part.of(self.reported.text))?;
+        let mut object = reason_object(
+            self.alloc,
+            self.reported.text,
+            part,
+            subject.as_str(),
+            why,
+        )?;
+        object.words("pass", pass)?;
+        object.value("missed", "true")?;
+        object.write_line(lines)
     }
 
     // Adds what was missed of an operation.

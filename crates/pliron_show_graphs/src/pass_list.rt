@@ -12,4 +12,6 @@ pub struct PassList {
     pub passes: Vec<PassName>,
     /// Whether what they left unchanged is reported, too, and why.
     pub reports_missed: bool,
+    /// Whether each line is an object of JSON.
+    pub is_json: bool,
 }

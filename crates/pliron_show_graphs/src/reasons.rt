@@ -35,9 +35,10 @@ pub enum Rewrite {
 /// What is reported of one operation or argument.
 #[derive(Drop)]
 pub struct Reason {
-    /// Where it is in the text.
+    /// Where it is in the text, and what it is.
     pub part: TextPart,
-    pub reported: String,
+    pub subject: String,
+    pub why: String,
 }
 
 /// How many bytes of an operation are shown.
@@ -153,13 +154,12 @@ impl<'t, N: ShownNotation> Reasons<'t, N> {
         };
         let mut line = String::new(self.alloc);
         push_on_one_line(&mut line, part.of(self.text))?;
-        let mut reported = String::new(self.alloc);
+        let mut subject = String::new(self.alloc);
         for letter in line.chars().take(SHOWN) {
-            reported.push(letter)?;
+            subject.push(letter)?;
         }
-        reported.push_str(if line.len() > SHOWN { " ..: " } else { ": " })?;
-        reported.push_str(why.as_str())?;
-        self.reasons.push(Reason { part, reported })?;
+        subject.push_str(if line.len() > SHOWN { " .." } else { "" })?;
+        self.reasons.push(Reason { part, subject, why })?;
         Ok(())
     }
 
@@ -173,15 +173,14 @@ impl<'t, N: ShownNotation> Reasons<'t, N> {
         let Some(name) = self.words.value(argument.key()) else {
             return Ok(());
         };
-        let mut reported = format!(in self.alloc; "argument ")?;
-        push_value_name(&mut reported, self.text, self.words, argument.key())?;
-        reported.push_str(" of ")?;
-        self.push_block(&mut reported, block)?;
-        reported.push_str(": ")?;
-        reported.push_str(why)?;
+        let mut subject = format!(in self.alloc; "argument ")?;
+        push_value_name(&mut subject, self.text, self.words, argument.key())?;
+        subject.push_str(" of ")?;
+        self.push_block(&mut subject, block)?;
         self.reasons.push(Reason {
             part: name.part,
-            reported,
+            subject,
+            why: String::from_str(self.alloc, why)?,
         })?;
         Ok(())
     }

@@ -1,9 +1,11 @@
 //! Edges of branches as people read them.
+ghost use Rattle.std.specs.Prelude.{◌≤◌, ◌+◌, length, IfSome};
 ghost use Rattle.pliron_core.specs.Tree.{IsLive};
 
 use crate::constants::push_integer;
 use pliron_core::{Context, Head, Operation, Ptr};
 use pliron_dialect_mlir::{Class, class_of_head, count_of_edge};
+use pliron_show_places::TextRange;
 use std::alloc::{AllocError, Global};
 
 // The attribute at this index, as a count.
@@ -104,4 +106,60 @@ pub fn edge_way(
         (Some(Class::Switch), _) => case_of(alloc, head, op.num_successor(ctx), index),
         _ => Ok(String::new(alloc)),
     }
+}
+
+// The part at this index between commas, without blanks around it, of what is in the next such brackets behind the
+// operation's name.
+fn listed_range(words: &[u8], index: usize, opening: u8, closing: u8) -> Option<TextRange>
+    ensures { IfSome result (λ part. part.start + part.len ≤ length words.now) }
+{
+    let mut at = words.iter().position(|byte| *byte == b'"')?;
+    at = at.saturating_add(words.get(at..)?.iter().position(|byte| *byte == opening)?);
+    let mut number = 0usize;
+    let mut start = at.saturating_add(1);
+    for end in start..words.len() {
+        let byte = words[end];
+        if byte != b',' && byte != closing {
+            continue;
+        }
+        if number == index {
+            return trimmed_range(words, start, end);
+        }
+        if byte == closing {
+            return None;
+        }
+        number = number.saturating_add(1);
+        start = end.saturating_add(1);
+    }
+    None
+}
+
+// The part from here up to there without blanks around it; `None` where nothing is left.
+fn trimmed_range(words: &[u8], start: usize, end: usize) -> Option<TextRange>
+    ensures { IfSome result (λ part. part.start + part.len ≤ length words.now) }
+{
+    let inside = words.get(start..end)?;
+    let first = inside.iter().position(|byte| !byte.is_ascii_whitespace())?;
+    let last = inside.iter().rposition(|byte| !byte.is_ascii_whitespace())?;
+    let start = start.saturating_add(first);
+    let len = last.saturating_add(1).saturating_sub(first);
+    if start.saturating_add(len) > words.len() {
+        return None;
+    }
+    Some(TextRange { start, len })
+}
+
+/// Where these words of an operation, up to its regions, have the operand at this index; `None` where they don't. Cost:
+/// linear in the words.
+pub fn operand_range(words: &[u8], index: usize) -> Option<TextRange>
+    ensures { IfSome result (λ part. part.start + part.len ≤ length words.now) }
+{
+    listed_range(words, index, b'(', b')')
+}
+
+/// The same of the block that the edge at this index leads to. Cost: linear in the words.
+pub fn edge_range(words: &[u8], index: usize) -> Option<TextRange>
+    ensures { IfSome result (λ part. part.start + part.len ≤ length words.now) }
+{
+    listed_range(words, index, b'[', b']')
 }

@@ -4,7 +4,7 @@ ghost use Rattle.pliron_core.specs.Writes.{no_tree};
 ghost use Rattle.pliron_show.specs.Faults.{faults_as_unreadable};
 
 use crate::constants::{constant_of, name_of_head};
-use crate::edges::{edge_names, edge_way};
+use crate::edges::{edge_names, edge_range, edge_way, operand_range};
 use crate::notation::MlirNotation;
 use crate::parts::module_parts;
 use pliron_core::{Context, Operation, Ptr};
@@ -13,7 +13,7 @@ use pliron_driver::{Notation, TextFailure};
 use pliron_driver_mlir::{ModuleDocument, ModuleFault};
 use pliron_laws::OptError;
 use pliron_show::{NameScopes, NameSource, NewNames, ShownNotation};
-use pliron_show_places::{Source, SourceMark, TextParts, mark_source};
+use pliron_show_places::{Source, SourceMark, TextParts, TextRange, mark_source};
 use pliron_text_mlir_printer::{Naming, print_module_named};
 use pliron_text_mlir_syntax::Sheet;
 use std::alloc::{AllocError, Global};
@@ -135,5 +135,13 @@ impl ShownNotation for MlirNotation {
         index: usize,
     ) -> &'t [u8] {
         edge_names(op, ctx, words, index)
+    }
+
+    fn operand_range(words: &[u8], index: usize) -> Option<TextRange> {
+        operand_range(words, index)
+    }
+
+    fn edge_range(words: &[u8], index: usize) -> Option<TextRange> {
+        edge_range(words, index)
     }
 }

@@ -5,6 +5,8 @@
 ghost use Rattle.std.specs.Prelude.{◌≡◌, IfOk, string_bytes};
 ghost use Rattle.pliron_show_places.specs.declared.message_form.MessageForm.TheVariants.{Full};
 
+use crate::json::JsonObject;
+use pliron_text_positions::LineAndColumn;
 use std::alloc::{AllocError, Global};
 
 /// A form of reports.
@@ -30,6 +32,8 @@ struct Message<'r> {
     place: Option<(&'r str, &'r str, &'r str)>,
     label: &'r str,
     help: &'r str,
+    /// How many bytes are marked.
+    marked: usize,
 }
 
 // The severity and what is wrong, where the line begins so.
@@ -63,33 +67,16 @@ fn behind_frame(line: &str) -> Option<&str> {
     }
 }
 
-// The label behind the mark, if the line has one.
-fn label_of_line(line: &str) -> Option<&str> {
+// How long the mark is, and the label behind it, if the line has one.
+fn mark_of_line(line: &str) -> Option<(usize, &str)> {
     let marks = behind_frame(line)?.trim_start_matches(' ');
     let label = marks.trim_start_matches('^');
     if label.len() < marks.len() {
-        Some(label.trim_start_matches(' '))
+        let marked = marks.len().saturating_sub(label.len());
+        Some((marked, label.trim_start_matches(' ')))
     } else {
         None
     }
-}
-
-// Adds the letters as they are written in a string of JSON.
-fn push_json(text: &mut String, words: &str) -> Result<(), AllocError> {
-    text.push('"')?;
-    for letter in words.chars() {
-        match letter {
-            '"' => text.push_str("\\\"")?,
-            '\\' => text.push_str("\\\\")?,
-            ' '..='~' => text.push(letter)?,
-            _ if u32::from(letter) < 0x20 => {
-                let code = u32::from(letter);
-                write!(text, "\\u{code:04x}")?;
-            }
-            _ => text.push(letter)?,
-        }
-    }
-    text.push('"')
 }
 
 impl<'r> Message<'r> {
@@ -101,6 +88,7 @@ impl<'r> Message<'r> {
             place: None,
             label: "",
             help: "",
+            marked: 0,
         }
     }
 
@@ -110,7 +98,8 @@ impl<'r> Message<'r> {
             self.place = Some(place);
             return true;
         }
-        if let Some(label) = label_of_line(line) {
+        if let Some((marked, label)) = mark_of_line(line) {
+            self.marked = marked;
             self.label = label;
             return true;
         }
@@ -133,30 +122,41 @@ impl<'r> Message<'r> {
         text.push_str("\n")
     }
 
+    // Where the message marks the text, from its first byte to right behind its last one on that line.
+    fn range(&self) -> Option<(&'r str, LineAndColumn, LineAndColumn)> {
+        let (name, line, column) = self.place?;
+        let start = LineAndColumn {
+            line: line.parse::<usize>().ok()?,
+            column: column.parse::<usize>().ok()?,
+        };
+        let end = LineAndColumn {
+            line: start.line,
+            column: start.column.saturating_add(self.marked),
+        };
+        Some((name, start, end))
+    }
+
     // Writes it as an object of JSON.
-    fn write_json(&self, text: &mut String) -> Result<(), AllocError> {
-        text.push_str("{\"severity\":")?;
-        push_json(text, self.severity)?;
-        text.push_str(",\"message\":")?;
-        push_json(text, self.message)?;
-        if let Some((name, line, column)) = self.place {
-            text.push_str(",\"file\":")?;
-            push_json(text, name)?;
-            write!(text, ",\"line\":{line},\"column\":{column}")?;
+    fn write_json(&self, alloc: Global, text: &mut String) -> Result<(), AllocError> {
+        let mut object = JsonObject::new(alloc);
+        object.words("severity", self.severity)?;
+        object.words("message", self.message)?;
+        if let Some((name, start, end)) = self.range() {
+            object.words("file", name)?;
+            object.range(start, end)?;
         }
         for (key, words) in [("label", self.label), ("help", self.help)] {
             if !words.is_empty() {
-                write!(text, ",\"{key}\":")?;
-                push_json(text, words)?;
+                object.words(key, words)?;
             }
         }
-        text.push_str("}\n")
+        object.write_line(text)
     }
 
     // Writes it in the form.
-    fn write(&self, text: &mut String, form: MessageForm) -> Result<(), AllocError> {
+    fn write(&self, alloc: Global, text: &mut String, form: MessageForm) -> Result<(), AllocError> {
         match form {
-            MessageForm::Json => self.write_json(text),
+            MessageForm::Json => self.write_json(alloc, text),
             MessageForm::Full | MessageForm::Short => self.write_short(text),
         }
     }
@@ -164,12 +164,13 @@ impl<'r> Message<'r> {
 
 // Writes the message that is open, if one is, in the form.
 fn write_open(
+    alloc: Global,
     open: Option<Message>,
     text: &mut String,
     form: MessageForm,
 ) -> Result<(), AllocError> {
     match open {
-        Some(reported) => reported.write(text, form),
+        Some(reported) => reported.write(alloc, text, form),
         None => Ok(()),
     }
 }
@@ -188,7 +189,7 @@ pub fn in_form(alloc: Global, report: &str, form: MessageForm) -> Result<String,
     let mut open: Option<Message> = None;
     for line in report.lines() {
         if let Some((severity, message)) = beginning(line) {
-            write_open(open, &mut text, form)?;
+            write_open(alloc, open, &mut text, form)?;
             open = Some(Message::new(severity, message));
             continue;
         }
@@ -200,12 +201,12 @@ pub fn in_form(alloc: Global, report: &str, form: MessageForm) -> Result<String,
         if is_taken {
             open = reported;
         } else {
-            write_open(open, &mut text, form)?;
+            write_open(alloc, open, &mut text, form)?;
             open = None;
             text.push_str(line)?;
             text.push_str("\n")?;
         }
     }
-    write_open(open, &mut text, form)?;
+    write_open(alloc, open, &mut text, form)?;
     Ok(text)
 }

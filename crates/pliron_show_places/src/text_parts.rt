@@ -1,4 +1,5 @@
 //! What a text of the notation writes: where its operations, the heads of its blocks and the names of its values are.
+use pliron_text_positions::LineAndColumn;
 use std::alloc::{AllocError, Global};
 
 /// A part of a text.
@@ -18,6 +19,23 @@ impl TextPart {
         let start = self.start.min(text.len());
         let rest = &text[start..];
         &rest[..self.len.min(rest.len())]
+    }
+
+    /// The line and column right behind it. Cost: linear in it.
+    pub fn end(&self, text: &[u8]) -> LineAndColumn {
+        let mut end = LineAndColumn {
+            line: self.line,
+            column: self.column,
+        };
+        for byte in self.of(text) {
+            if *byte == b'\n' {
+                end.line = end.line.saturating_add(1);
+                end.column = 1;
+            } else {
+                end.column = end.column.saturating_add(1);
+            }
+        }
+        end
     }
 }
 

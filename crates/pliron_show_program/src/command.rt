@@ -117,6 +117,12 @@ fn run<'a, P: Program>(alloc: Global) -> Result<Command<'a>, AllocError> {
             "trace",
             "Tell each move with what it takes, on standard error",
         ))?
+        .arg(flag(
+            alloc,
+            "json",
+            "Write an object of JSON on each line: effects, how it ends, and moves of --trace",
+        )
+        .conflicts_with("compare")?)?
         .arg(compare(alloc)?)?;
     with_common::<P>(run, alloc)
 }
@@ -236,6 +242,11 @@ fn with_reports<'a>(command: Command<'a>, alloc: Global) -> Result<Command<'a>, 
         .arg(flag(alloc, "stats", STATS))?
         .arg(flag(
             alloc,
+            "json",
+            "Tell what --stats does as an object of JSON on each line",
+        ))?
+        .arg(flag(
+            alloc,
             "time",
             "Tell the time of each pass and its share, on standard error",
         ))?
@@ -287,9 +298,10 @@ static CHECK_STATUSES: &str =
 
 fn check<'a, P: Program>(alloc: Global) -> Result<Command<'a>, AllocError> {
     let check = Command::new(alloc, "check")
-        .about("Tells whether a text is fit to run, or one thing that is wrong")
+        .about("Tells whether a text is fit to run, or all that is wrong")
         .after_help(CHECK_STATUSES)
-        .arg(file(alloc))?;
+        .arg(file(alloc))?
+        .arg(flag(alloc, "json", "Tell it as an object of JSON on each line"))?;
     with_common::<P>(check, alloc)
 }
 
@@ -367,7 +379,8 @@ fn explain<'a, P: Program>(alloc: Global) -> Result<Command<'a>, AllocError> {
             alloc,
             "missed",
             "Tell also what the passes left as it is, and why",
-        ))?;
+        ))?
+        .arg(flag(alloc, "json", "Write an object of JSON on each line"))?;
     with_common::<P>(explain, alloc)
 }
 

@@ -8,9 +8,9 @@ use crate::pipeline::{pipeline_and_file, without_blanks};
 use crate::program::Program;
 use clap::ArgMatches;
 use pliron_show_commands::{
-    CompareOptions, EffectSink, ExplainOptions, FlowOptions, Outcome, RunOptions, Runnable,
-    ShownNotation, Source, TextRange, check, compare, draw_flow, draw_graph, explain, run,
-    run_streamed, unfit_warning,
+    CompareOptions, EffectSink, ExplainOptions, FlowOptions, JsonObject, Outcome, RunOptions,
+    Runnable, ShownNotation, Source, TextRange, check, compare, draw_flow, draw_graph, explain,
+    run, run_streamed, unfit_warning,
 };
 use std::alloc::{AllocError, Global};
 use std::io;
@@ -67,6 +67,7 @@ fn run_as_asked<N: Runnable>(
         world: &world,
         steps: matches.get_one::<usize>("steps").unwrap_or(100_000),
         trace: matches.get_flag("trace"),
+        json: matches.get_flag("json"),
     };
     match matches.get_str("compare") {
         Some(pipeline) => compare_as_asked::<N>(alloc, source, options, pipeline),
@@ -116,6 +117,7 @@ fn explain_as_asked<N: ShownNotation>(
     let options = ExplainOptions {
         pipeline: pipeline.as_str(),
         missed: matches.get_flag("missed"),
+        json: matches.get_flag("json"),
     };
     let explained = explain::<N>(alloc, source, &options)?;
     if explained.status != 0 {
@@ -149,7 +151,13 @@ fn explain_inner<P: Program>(
         return Ok(reported);
     }
     Ok(Outcome {
-        output: lines_inside(alloc, &input.text, part, &reported.output)?,
+        output: lines_inside(
+            alloc,
+            &input.text,
+            part,
+            &reported.output,
+            matches.get_flag("json"),
+        )?,
         report: reported.report,
         status: 0,
     })
@@ -185,6 +193,25 @@ pub fn input_failure(alloc: Global, report: String) -> Outcome {
     }
 }
 
+// The outcome of `check` with its answer, where the text is fit to run, as an object of JSON. Errors: allocation failure.
+fn fit_object(alloc: Global, checked: Outcome) -> Result<Outcome, AllocError> {
+    if checked.status != 0 {
+        return Ok(checked);
+    }
+    let answer = std::str::from_utf8(&checked.output)
+        .unwrap_or("")
+        .trim_end();
+    let mut object = JsonObject::new(alloc);
+    object.words("fit", answer)?;
+    let mut line = String::new(alloc);
+    object.write_line(&mut line)?;
+    Ok(Outcome {
+        output: line.into_bytes(),
+        report: checked.report,
+        status: 0,
+    })
+}
+
 /// What a command of each notation makes of its input: `check`, `opt`, `dot`, `explain`. Errors: allocation failure. Cost:
 /// that of the command.
 pub fn outcome_in<N: ShownNotation>(
@@ -201,6 +228,7 @@ pub fn outcome_in<N: ShownNotation>(
         text: &input.text,
     };
     match command {
+        "check" if matches.get_flag("json") => Ok(fit_object(alloc, check::<N>(alloc, &source)?)?),
         "check" => Ok(check::<N>(alloc, &source)?),
         "opt" => opt_as_asked::<N>(rt, &source, matches, pipeline, input, format),
         "dot" => draw_as_asked::<N>(alloc, &source, matches, None),

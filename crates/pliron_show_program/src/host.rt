@@ -43,6 +43,9 @@ fn write_outcome(rt: &HostRuntime, outcome: &Outcome, file: Option<&str>) -> io:
 
 // The form of reports that the words ask for.
 fn form_of(matches: &ArgMatches) -> MessageForm {
+    if matches.get_flag("json") {
+        return MessageForm::Json;
+    }
     match matches.get_str("format") {
         Some("short") => MessageForm::Short,
         Some("json") => MessageForm::Json,

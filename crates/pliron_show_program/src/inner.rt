@@ -95,10 +95,24 @@ pub fn inner_failure<P: Program>(
     })
 }
 
+// The line and the column with which a line of an explanation begins, in words or as an object of JSON, if it does.
+fn numbers_of_line(line: &str) -> Option<(&str, &str)> {
+    match line.strip_prefix("{\"line\":") {
+        Some(members) => {
+            let (line, rest) = members.split_once(",\"column\":")?;
+            let (column, _) = rest.split_once(',')?;
+            Some((line, column))
+        }
+        None => {
+            let (place, _) = line.split_once(' ')?;
+            place.split_once(':')
+        }
+    }
+}
+
 // The place that a line of an explanation begins with, if it does.
 fn place_of_line(line: &str) -> Option<LineAndColumn> {
-    let (place, _) = line.split_once(' ')?;
-    let (line, column) = place.split_once(':')?;
+    let (line, column) = numbers_of_line(line)?;
     Some(LineAndColumn {
         line: line.parse::<usize>().ok()?,
         column: column.parse::<usize>().ok()?,
@@ -117,6 +131,7 @@ pub fn lines_inside(
     text: &[u8],
     part: TextRange,
     explanation: &[u8],
+    is_json: bool,
 ) -> Result<Vec<u8>, AllocError> {
     let start = position_of(text, part.start);
     let end = position_of(text, part.start.saturating_add(part.len));
@@ -131,7 +146,7 @@ pub fn lines_inside(
             kept.push_str("\n")?;
         }
     }
-    if kept.is_empty() {
+    if kept.is_empty() && !is_json {
         kept.push_str("nothing of the operation changed or went\n")?;
     }
     Ok(kept.into_bytes())

@@ -117,6 +117,7 @@ fn opt_instrumented<'w, N: ShownNotation>(
         is_pretty,
         instrumentation,
         times: matches.get_flag("time"),
+        json: matches.get_flag("json"),
     };
     let start = rt.monotonic().unwrap_or(Duration::ZERO);
     let reported = Cell::new(0);

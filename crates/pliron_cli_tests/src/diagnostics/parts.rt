@@ -93,8 +93,8 @@ fn parts_are_at_paths(rt: HostRuntime) {
 /// Reports, and the same in the short form and as JSON.
 static FORMS: &str = "\
 error: refused: memory was refused| => error: refused: memory was refused| => {'severity':'error','message':'refused: memory was refused'}|
-error: unreadable text| --> in:2:19|  !|2 ! b0(): x|  !       ^^^ expected `;`| => in:2:19: error: unreadable text: expected `;`| => {'severity':'error','message':'unreadable text','file':'in','line':2,'column':19,'label':'expected `;`'}|
-warning: a| --> a:b:1:2|  !|1 ! x|  ! ^|help: h|note: n| --> a:b:3:4|  !|3 ! y|  ! ^| => a:b:1:2: warning: a|a:b:3:4: note: n| => {'severity':'warning','message':'a','file':'a:b','line':1,'column':2,'help':'h'}|{'severity':'note','message':'n','file':'a:b','line':3,'column':4}|
+error: unreadable text| --> in:2:19|  !|2 ! b0(): x|  !       ^^^ expected `;`| => in:2:19: error: unreadable text: expected `;`| => {'severity':'error','message':'unreadable text','file':'in','line':2,'column':19,'endLine':2,'endColumn':22,'label':'expected `;`'}|
+warning: a| --> a:b:1:2|  !|1 ! x|  ! ^|help: h|note: n| --> a:b:3:4|  !|3 ! y|  ! ^| => a:b:1:2: warning: a|a:b:3:4: note: n| => {'severity':'warning','message':'a','file':'a:b','line':1,'column':2,'endLine':1,'endColumn':3,'help':'h'}|{'severity':'note','message':'n','file':'a:b','line':3,'column':4,'endLine':3,'endColumn':5}|
 round  pass|    1  dce| => round  pass|    1  dce| => round  pass|    1  dce|";
 
 // The text with an end of a line for each `|`, a bar for each `!`, and a quote for each `'`.

@@ -39,6 +39,7 @@ fn runs_are_seen(rt: HostRuntime) {
         world: &[7, 8],
         steps: 20,
         trace: false,
+        json: false,
     };
     for case in RUNS.lines() {
         let (text, wanted) = case.split_once(" => ").expect(&rt, "a case");
@@ -68,6 +69,7 @@ fn expect_last_move(rt: &impl Abort, alloc: Global, text: &str, wanted: &str) {
         world: &[7, 8],
         steps: 20,
         trace: false,
+        json: false,
     };
     let reported = run_text::<BenchNotation>(alloc, &source, &options)
         .expect(rt, "memory")
@@ -132,6 +134,7 @@ fn moves_and_traps_are_reported(rt: HostRuntime) {
         world: &[],
         steps: 100,
         trace: true,
+        json: false,
     };
     let reported = run_text::<BenchNotation>(rt.alloc(), &source, &options)
         .expect(&rt, "memory")
@@ -196,6 +199,7 @@ fn effects_come_while_a_run_continues(rt: HostRuntime) {
             world: &[7, 8],
             steps,
             trace: false,
+            json: false,
         };
         let times = expect_streamed(&rt, rt.alloc(), LONG, &options);
         assert!(rt; times == if steps > 10_000 { 2 } else { 1 }, "{times}");

@@ -1,0 +1,5 @@
+pub mod CallTables
+pub mod Conventions
+pub mod Inlinable
+pub mod HeadsByRole
+pub mod ReadyActs

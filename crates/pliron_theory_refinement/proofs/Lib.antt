@@ -1,0 +1,4 @@
+pub mod Paces
+pub mod Monotone
+pub mod RefinedSubstitute
+pub mod SweptRefines
