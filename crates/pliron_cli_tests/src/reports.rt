@@ -166,10 +166,10 @@ fn verifying_and_times(rt: HostRuntime) {
 /// `v`, so it has no place. In the fourth the pass runs on each function, and the second one is refused.
 static REFUSED: &str = "\
 dce,simplify-cfg | func { b0(): c = const 0; cbr c b1() b2(); b1(): v = const 1; br b2(); b2(): print v; ret } => \
-    error: refused: a value of an unreachable block is used| --> in.plir:1:78|  ||1 | \
-    .. br c b1() b2(); b1(): v = const 1; br b2(); b2(): print v; ret }|  \
+    error: refused: a value of an unreachable block is used| --> in.plir:1:84|  ||1 | \
+    .. 1() b2(); b1(): v = const 1; br b2(); b2(): print v; ret }|  \
     |                                                      \
-    ^^^^^^^ operand 1, `v`, is defined in a block that isn't reached|\
+    ^ operand 1, `v`, is defined in a block that isn't reached|\
     help: define the value in a block that is reached, or pass it as an argument of a block|\
     note: `v` is defined here| --> in.plir:1:50|  ||1 | \
     func { b0(): c = const 0; cbr c b1() b2(); b1(): v = const 1; br b2(); b2(): print v; ret }|  \
@@ -183,19 +183,19 @@ simplify-cfg | func { b0(): c = const 1; cbr c b1(v) b1(c); b1(p): ret p; b2(): 
     help: define the value in a block that is reached, or pass it as an argument of a block|\
     note: it was the pass simplify-cfg|
 simplify-cfg | func { b0(): scope { c0(): ret q; c1(q): scope { d0(r): ret r }; ret q }; ret } => \
-    error: refused: a value of an unreachable block is used| --> in.plir:1:28|  ||1 | \
-    func { b0(): scope { c0(): ret q; c1(q): scope { d0(r): ret r }; ret q }; ret }|  |                            \
-    ^^^^^ operand 1, `q`, is defined in a block that isn't reached|\
+    error: refused: a value of an unreachable block is used| --> in.plir:1:32|  ||1 | \
+    func { b0(): scope { c0(): ret q; c1(q): scope { d0(r): ret r }; ret q }; ret }|  |                                \
+    ^ operand 1, `q`, is defined in a block that isn't reached|\
     help: define the value in a block that is reached, or pass it as an argument of a block|\
     note: `q` is defined here| --> in.plir:1:38|  ||1 | \
     func { b0(): scope { c0(): ret q; c1(q): scope { d0(r): ret r }; ret q }; ret }|  \
     |                                      ^|\
     note: it was the pass simplify-cfg|
 nested(simplify-cfg) | mod { m(): func { a(): ret }; func { b(): ret v; c(): v = read; ret } } => \
-    error: refused: a value of an unreachable block is used| --> in.plir:1:43|  ||1 | \
+    error: refused: a value of an unreachable block is used| --> in.plir:1:47|  ||1 | \
     mod { m(): func { a(): ret }; func { b(): ret v; c(): v = read; ret } }|  \
-    |                                           \
-    ^^^^^ operand 1, `v`, is defined in a block that isn't reached|\
+    |                                               \
+    ^ operand 1, `v`, is defined in a block that isn't reached|\
     help: define the value in a block that is reached, or pass it as an argument of a block|\
     note: `v` is defined here| --> in.plir:1:55|  ||1 | \
     .. { m(): func { a(): ret }; func { b(): ret v; c(): v = read; ret } }|  \
