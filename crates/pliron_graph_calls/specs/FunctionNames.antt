@@ -1,19 +1,16 @@
 -- The functions with a name among the operations directly inside an operation.
-use Rattle.std.specs.Prelude.{◌≡◌, ◌<◌, ℕ, List, [], ◌∷◌, Option, Some, None, slice_get, option_and_then}
+use Rattle.std.specs.Prelude.{◌≡◌, ℕ, List, [], ◌∷◌, Option, Some, None, option_and_then}
+use Rattle.pliron_core.specs.declared.attrs.AttrObj.{AttrObj}
 use Rattle.pliron_core.specs.Tree.{Tree, head_of}
-use Rattle.pliron_laws.specs.Datum.{Datum, Number, Text}
+use Rattle.pliron_laws.specs.Datum.{Datum}
+use Rattle.pliron_graph_calls.specs.Names.{names_of}
+use Rattle.pliron_graph_calls.specs.Namesakes.{HasNamesakes}
 use Rattle.pliron_pass_linked.specs.Calls.{CallingConvention}
-use Rattle.pliron_graph_calls.specs.declared.function_table.FunctionName.{FunctionName}
-use Rattle.pliron_graph_calls.specs.declared.function_table.FunctionName.TheVariants.{Number as NumberName, Letters}
 
 -- functions, and the name of each
 pub record NamedFunctions : Type 0 where
   pub functions : List ℕ
-  pub names : List Datum
-
-abbrev pub datum_of_name : FunctionName → Datum
-datum_of_name (NumberName n) = Number n
-datum_of_name (Letters letters) = Text letters.items
+  pub names : List AttrObj
 
 -- the name of the function that the operation is, if it is one
 abbrev pub symbol_at : CallingConvention → Tree → ℕ → Option Datum
@@ -36,11 +33,8 @@ abbrev pub names_among : CallingConvention → Tree → List ℕ → List Datum
 names_among c t [] = []
 names_among c t (k ∷ ks) = with_name (symbol_at c t k) (names_among c t ks)
 
-abbrev pub HasNamesakes : List Datum → Type 0
-HasNamesakes names = (i j : ℕ) × (name : Datum) × (i < j) × (slice_get names i ≡ Some name) × (slice_get names j ≡ Some name)
-
 -- the functions among these operations, no two of one name
 pub record AreNamedFunctions (c : CallingConvention) (t : Tree) (ks : List ℕ) (found : NamedFunctions) : Type 0 where
   pub functions : found.functions ≡ functions_among c t ks
-  pub names : found.names ≡ names_among c t ks
-  pub apart : HasNamesakes found.names → ⊥
+  pub names : names_of found.names ≡ names_among c t ks
+  pub apart : HasNamesakes (names_of found.names) → ⊥

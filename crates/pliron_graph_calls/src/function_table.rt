@@ -3,21 +3,18 @@ ghost use Rattle.std.specs.Prelude.{◌≡◌, ◌≢◌, ◌++◌, ◌∷◌, [
 ghost use Rattle.pliron_core.specs.Tree.{IsLive};
 ghost use Rattle.pliron_core.specs.Walks.{children};
 ghost use Rattle.pliron_laws.specs.Datum.{datum_of};
-ghost use Rattle.pliron_graph_calls.specs.FunctionNames.{datum_of_name, NamedFunctions, names_among, functions_among, HasNamesakes, AreNamedFunctions};
+ghost use Rattle.pliron_graph_calls.specs.Names.{attribute_of_name, names_of};
+ghost use Rattle.pliron_graph_calls.specs.Namesakes.{HasNamesakes};
+ghost use Rattle.pliron_graph_calls.specs.FunctionNames.{NamedFunctions, names_among, functions_among, AreNamedFunctions};
 
+use crate::children::all_children;
+use crate::function_name::{FunctionName, name_of_attribute};
 use indexmap::IndexSet;
 use pliron_core::{AttrObj, Context, Operation, Ptr};
 use pliron_dialect_calls::InliningDialect;
 use pliron_laws::OptError;
 use std::alloc::{AllocError, Global};
 use std::marker::Model;
-
-/// A name, as the table has it.
-#[derive(Debug, PartialEq, Eq, Hash, Drop)]
-enum FunctionName {
-    Number(i128),
-    Letters(Vec<u8>),
-}
 
 /// The functions with a name directly inside an operation, as they stand there; no two have one name.
 #[derive(Drop)]
@@ -30,40 +27,7 @@ pub struct FunctionTable {
 impl Model for FunctionTable {
     ghost Value = { NamedFunctions };
 
-    ghost view = { λ table. record { functions = table.functions.items; names = map datum_of_name table.names.keys } };
-}
-
-// The attribute as a name. Errors: allocation failure. Cost: the length of a text.
-fn name_of_attribute(alloc: Global, attr: &AttrObj) -> Result<FunctionName, AllocError>
-    ensures { IfOk result (λ name. datum_of_name name ≡ datum_of attr.now) }
-{
-    match attr {
-        AttrObj::Int(number) => Ok(FunctionName::Number(*number)),
-        AttrObj::Text(text) => {
-            let letters = Vec::from_slice(alloc, text.as_str().as_bytes())?;
-            Ok(FunctionName::Letters(letters))
-        }
-    }
-}
-
-// The operations directly inside this one. Errors: allocation failure. Cost: linear in them, and in the empty blocks and
-// regions between them.
-fn all_children(
-    alloc: Global,
-    holder: Ptr<Operation>,
-    ctx: &Context,
-) -> Result<Vec<Ptr<Operation>>, OptError>
-    requires { IsLive ctx.now.tree holder }
-    ensures inside { IfOk result (λ found. found.items ≡ children ctx.now.tree holder) }
-    ensures memory { IsOkUnless result OptError.Memory }
-{
-    let mut found = Vec::new(alloc);
-    let mut at = holder.first_inside(ctx);
-    while let Some(inner) = at {
-        found.push(inner)?;
-        at = inner.next_beside(ctx);
-    }
-    Ok(found)
+    ghost view = { λ table. record { functions = table.functions.items; names = map attribute_of_name table.names.keys } };
 }
 
 impl FunctionTable {
@@ -77,12 +41,12 @@ impl FunctionTable {
         requires { IsLive ctx.now.tree op }
         ensures functions { IfOk result (λ is_new. is_new ≡ true → self.new.functions
             ≡ self.old.functions ++ functions_among D.convention ctx.now.tree (op ∷ [])) }
-        ensures names { IfOk result (λ is_new. is_new ≡ true → self.new.names
-            ≡ self.old.names ++ names_among D.convention ctx.now.tree (op ∷ [])) }
-        ensures apart { IfOk result (λ is_new. is_new ≡ true → (HasNamesakes self.old.names → ⊥)
-            → HasNamesakes self.new.names → ⊥) }
+        ensures names { IfOk result (λ is_new. is_new ≡ true → names_of self.new.names
+            ≡ names_of self.old.names ++ names_among D.convention ctx.now.tree (op ∷ [])) }
+        ensures apart { IfOk result (λ is_new. is_new ≡ true → (HasNamesakes (names_of self.old.names) → ⊥)
+            → HasNamesakes (names_of self.new.names) → ⊥) }
         ensures namesake { IfOk result (λ is_new. is_new ≡ false
-            → HasNamesakes (self.old.names ++ names_among D.convention ctx.now.tree (op ∷ []))) }
+            → HasNamesakes (names_of self.old.names ++ names_among D.convention ctx.now.tree (op ∷ []))) }
         ensures memory { IsOkUnless result OptError.Memory }
     {
         let Some(attr) = D::symbol_name(op, ctx) else {
@@ -156,8 +120,8 @@ impl FunctionTable {
     /// length of the name.
     pub fn find(&self, name: &AttrObj) -> Result<Option<usize>, AllocError>
         ensures { IfOk result (λ found. MatchOption found
-            ((i : ℕ) → slice_get self.now.names i ≢ Some (datum_of name.now))
-            (λ i. slice_get self.now.names i ≡ Some (datum_of name.now))) }
+            ((i : ℕ) → slice_get (names_of self.now.names) i ≢ Some (datum_of name.now))
+            (λ i. slice_get (names_of self.now.names) i ≡ Some (datum_of name.now))) }
     {
         let name = name_of_attribute(self.alloc, name)?;
         Ok(self.names.get_index_of(&name))

@@ -4,6 +4,10 @@
 //! linked programs or of rewrites.
 #![tactic(auto)]
 
+mod call_sites;
+mod children;
+mod function_name;
 mod function_table;
 
+pub use call_sites::CallSite;
 pub use function_table::FunctionTable;
