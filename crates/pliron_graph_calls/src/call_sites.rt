@@ -49,7 +49,8 @@ impl FunctionTable {
         ctx: &Context,
     ) -> Result<Vec<CallSite>, OptError>
         requires { All (λ op. IsLive ctx.now.tree op) ops.now }
-        ensures calls { IfOk result (λ sites. AreCallSites D.callee ctx.now.tree (names_of self.now.names) ops.now sites.items) }
+        ensures calls { IfOk result (λ sites. AreCallSites D.callee ctx.now.tree (names_of self.now.names) ops.now
+            sites.items) }
         ensures memory { IsOkUnless result OptError.Memory }
     {
         let mut sites = Vec::new(alloc);

@@ -27,7 +27,8 @@ pub struct FunctionTable {
 impl Model for FunctionTable {
     ghost Value = { NamedFunctions };
 
-    ghost view = { λ table. record { functions = table.functions.items; names = map attribute_of_name table.names.keys } };
+    ghost view = { λ table.
+        record { functions = table.functions.items; names = map attribute_of_name table.names.keys } };
 }
 
 impl FunctionTable {
@@ -43,7 +44,7 @@ impl FunctionTable {
             ≡ self.old.functions ++ functions_among D.convention ctx.now.tree (op ∷ [])) }
         ensures names { IfOk result (λ is_new. is_new ≡ true → names_of self.new.names
             ≡ names_of self.old.names ++ names_among D.convention ctx.now.tree (op ∷ [])) }
-        ensures apart { IfOk result (λ is_new. is_new ≡ true → (HasNamesakes (names_of self.old.names) → ⊥)
+        ensures no_namesakes { IfOk result (λ is_new. is_new ≡ true → (HasNamesakes (names_of self.old.names) → ⊥)
             → HasNamesakes (names_of self.new.names) → ⊥) }
         ensures namesake { IfOk result (λ is_new. is_new ≡ false
             → HasNamesakes (names_of self.old.names ++ names_among D.convention ctx.now.tree (op ∷ []))) }

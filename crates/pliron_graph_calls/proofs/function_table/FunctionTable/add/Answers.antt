@@ -5,8 +5,8 @@ use Rattle.pliron_graph_calls.proofs.AmongLemmas.{read_of}
 use Rattle.pliron_graph_calls.proofs.TableLemmas.{taken_apart, taken_twice}
 use Rattle.pliron_graph_calls.proofs.function_table.FunctionTable.add.Goals as goal
 
-pub returns-in_ok-push-clause-apart : goal.returns-in_ok-push-clause-apart
-returns-in_ok-push-clause-apart g c = λ added apart bad.
+pub returns-in_ok-push-clause-no_namesakes : goal.returns-in_ok-push-clause-no_namesakes
+returns-in_ok-push-clause-no_namesakes g c = λ added apart bad.
     taken_apart c.in_ok-name.name c.self.inside.names.keys c.insert_full.new.self.keys c.in_ok-is_new.is_new c.in_ok-is_new.ensures.added c.in_ok-is_new.ensures.keys added
     (subst (λ v. HasNamesakes (names_of v.names) → ⊥) (sym c.self.view_is) apart) bad
 

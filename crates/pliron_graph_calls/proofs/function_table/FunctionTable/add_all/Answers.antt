@@ -13,4 +13,4 @@ pub loop-op-preserved : goal.loop-op-preserved
 loop-op-preserved g c =
     let x = c.op-item.result in
     let more = take_more c.args.ops.now c.loop-op.op-index x c.loop-op-test.true ∙ ap (λ z. take c.loop-op.op-index c.args.ops.now ++ z ∷ []) (sym c.op-item.is) in
-    one_added g.D.InliningDialect.convention c.args.ctx.now.tree c.args.ops.now c.loop-op.op-index x c.loop-op.self _ more c.loop-op.invariant (c.in_ok-add.ensures.functions c.if-not-branch.false) (c.in_ok-add.ensures.names c.if-not-branch.false) (c.in_ok-add.ensures.apart c.if-not-branch.false)
+    one_added g.D.InliningDialect.convention c.args.ctx.now.tree c.args.ops.now c.loop-op.op-index x c.loop-op.self _ more c.loop-op.invariant (c.in_ok-add.ensures.functions c.if-not-branch.false) (c.in_ok-add.ensures.names c.if-not-branch.false) (c.in_ok-add.ensures.no_namesakes c.if-not-branch.false)
