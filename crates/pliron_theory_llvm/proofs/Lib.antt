@@ -1,0 +1,5 @@
+pub mod SameData
+pub mod LlvmOrder
+pub mod LlvmMonotone
+pub mod PureGives
+pub mod Refining
