@@ -1,16 +1,16 @@
 -- LLVM's operations are monotone: where an operand is poison, its becoming anything makes a result no less defined.
 use Rattle.std.proofs.Common.{◌≡◌, ◌⊎◌, inl, inr, ℕ, zero, suc, ◌&&◌, ◌||◌, nat_eq, Bool, true, false, true≢false, List, [], ◌∷◌, map, Option, Some, None, IsTrue, refl, sym, ap, ap₂, ◌∙◌, subst, arith}
-use Rattle.std.specs.Prelude.{ℤ, pos, negsuc}
+use Rattle.std.specs.Prelude.{ℤ, pos}
 use Rattle.std.specs.Option.{option_map}
 use Rattle.pliron_core.specs.declared.attrs.Head.{Head}
 use Rattle.pliron_core.specs.declared.attrs.AttrObj.{AttrObj}
-use Rattle.pliron_laws.specs.Datum.{Datum, Empty, Number, Text, Join, datum_of, Shape, Move, Give, Visit, Goto, Leave, Emit, Trap}
+use Rattle.pliron_laws.specs.Datum.{Datum, Empty, Number, Text, Join, datum_of, Shape, Move, Give, Leave}
 use Rattle.pliron_bits.specs.declared.operators.BinaryOperator.{BinaryOperator}
 use Rattle.pliron_bits.specs.declared.operators.BinaryOperator.TheVariants.{Add, Subtract, Multiply, UnsignedDivide, SignedDivide, UnsignedRemainder, SignedRemainder, ShiftLeft, LogicalShiftRight, ArithmeticShiftRight, And, Or, Xor, UnsignedMinimum, SignedMinimum, UnsignedMaximum, SignedMaximum, UnsignedDivideUp, SignedDivideUp, SignedDivideDown}
 use Rattle.pliron_bits.specs.Operators.{binary, predicate_of_number}
 use Rattle.pliron_bits.specs.declared.operators.Cast.{Cast as CastKind}
 use Rattle.pliron_dialect.specs.declared.form.Counting.TheVariants.{OfEach}
-use Rattle.pliron_dialect.specs.Roles.{number_of, fit_data, data_in, first_datum, first_attribute, effect_of, edge_chosen, edge_counts_of, region_answer, fork_answer, effect_act, region_act, fork_act}
+use Rattle.pliron_dialect.specs.Roles.{number_of, fit_data, data_in, first_datum, first_attribute, effect_of, edge_chosen, edge_counts_of, region_answer, fork_answer, effect_act}
 use Rattle.pliron_dialect_mlir.specs.declared.kind.Class.{Class}
 use Rattle.pliron_dialect_mlir.specs.declared.kind.Class.TheVariants.{Constant, Select, Opaque, Jump, Branch, Switch, Leave as LeaveClass, Unreachable, Effect, Local, Call, Regions, Root, Function, Module, Fork, Compare, Cast, Binary}
 use Rattle.pliron_dialect_mlir.specs.ClassNumbers.{class_of_number}
@@ -18,7 +18,7 @@ use Rattle.pliron_dialect_mlir.specs.Data.{is_width, bits_of_width, bits_at, som
 use Rattle.pliron_dialect_mlir.specs.Heads.{attribute_at, width_at, flags_at}
 use Rattle.pliron_dialect_mlir.specs.Classes.{computed_by, compared_by, cast_by, of_one, of_two, cast_of, truth_of_two, branch_edge, switch_edge}
 use Rattle.pliron_theory_refinement.specs.Refinement.{ActsMonotonely}
-use Rattle.pliron_theory_llvm.specs.Llvm.{Llvm, meant, may_become, is_poison, IsFlatOnIntegers, number_or_poison, computed, may_be, is_negative_one, is_least, division_fails, operator_fails, picked, trap_if, goes_by, is_undefined, llvm_act, act_by_class, llvm, elements_may, IsMonotone}
+use Rattle.pliron_theory_llvm.specs.Llvm.{Llvm, meant, may_become, is_poison, IsFlatOnIntegers, or_poison, computed_move, may_be, is_negative_one, is_least, division_fails, operator_fails, select_result, trap_if, goes_by, is_undefined, llvm_act, act_by_class, llvm, elements_may, IsMonotone}
 use Rattle.pliron_theory_llvm.proofs.SameData.{both}
 use Rattle.pliron_theory_llvm.proofs.LlvmOrder.{AllMay, Moves, no_poison, become_itself, poison_may, chain_stays, stays_no_poison, stays_no_chain, chain_may, all_itself, move_itself, fit_poison, fit_may, nth_may, first_may, edge_may}
 
@@ -68,18 +68,18 @@ module _ (l : Llvm) (flat : IsFlatOnIntegers l.order) where
       by_sort (Join a b) k = inl (no_bits w)
 
   abbrev of_bits_two : (w : ℕ) (f : ℕ → ℕ → Option ℕ) (g : ℕ → ℤ) (x y : Datum) → Datum
-  of_bits_two w f g x y = number_or_poison (option_map g (of_two f (bits_at w (number_of x)) (bits_at w (number_of y))))
+  of_bits_two w f g x y = or_poison (option_map g (of_two f (bits_at w (number_of x)) (bits_at w (number_of y))))
 
   abbrev of_bits_one : (w : ℕ) (f : ℕ → Option ℕ) (g : ℕ → ℤ) (x : Datum) → Datum
-  of_bits_one w f g x = number_or_poison (option_map g (of_one f (bits_at w (number_of x))))
+  of_bits_one w f g x = or_poison (option_map g (of_one f (bits_at w (number_of x))))
 
-  first_no_bits : (f : ℕ → ℕ → Option ℕ) (g : ℕ → ℤ) (o p : Option ℕ) → o ≡ None → number_or_poison (option_map g (of_two f o p)) ≡ Empty
+  first_no_bits : (f : ℕ → ℕ → Option ℕ) (g : ℕ → ℤ) (o p : Option ℕ) → o ≡ None → or_poison (option_map g (of_two f o p)) ≡ Empty
   first_no_bits f g None p e = refl
-  first_no_bits f g (Some a) p e = ap (λ z. number_or_poison (option_map g (of_two f z p))) e
+  first_no_bits f g (Some a) p e = ap (λ z. or_poison (option_map g (of_two f z p))) e
 
-  second_no_bits : (f : ℕ → ℕ → Option ℕ) (g : ℕ → ℤ) (o p : Option ℕ) → p ≡ None → number_or_poison (option_map g (of_two f o p)) ≡ Empty
+  second_no_bits : (f : ℕ → ℕ → Option ℕ) (g : ℕ → ℤ) (o p : Option ℕ) → p ≡ None → or_poison (option_map g (of_two f o p)) ≡ Empty
   second_no_bits f g None p e = refl
-  second_no_bits f g (Some a) p e = ap (λ z. number_or_poison (option_map g (of_two f (Some a) z))) e
+  second_no_bits f g (Some a) p e = ap (λ z. or_poison (option_map g (of_two f (Some a) z))) e
 
   poisoned : (x y : Datum) → x ≡ Empty → IsTrue (may_become l x y)
   poisoned x y e = subst (λ z. IsTrue (may_become l z y)) (sym e) (poison_may l flat y)
@@ -96,10 +96,10 @@ module _ (l : Llvm) (flat : IsFlatOnIntegers l.order) where
   one_may w f g d e h = by (meant_bits w d e h)
     where
       by : (bits_at w (number_of (meant l d)) ≡ None) ⊎ (meant l d ≡ meant l e) → IsTrue (may_become l (of_bits_one w f g (meant l d)) (of_bits_one w f g (meant l e)))
-      by (inl p) = poisoned _ _ (ap (λ o. number_or_poison (option_map g (of_one f o))) p)
+      by (inl p) = poisoned _ _ (ap (λ o. or_poison (option_map g (of_one f o))) p)
       by (inr p) = subst (λ z. IsTrue (may_become l (of_bits_one w f g (meant l d)) z)) (ap (of_bits_one w f g) p) (become_itself l flat (of_bits_one w f g (meant l d)))
 
-  binary_may : (operator : BinaryOperator) (h : Head) (ds es : List Datum) → AllMay l ds es → Moves l (computed l (computed_by operator) h ds) (computed l (computed_by operator) h es)
+  binary_may : (operator : BinaryOperator) (h : Head) (ds es : List Datum) → AllMay l ds es → Moves l (computed_move l (computed_by operator) h ds) (computed_move l (computed_by operator) h es)
   binary_may operator h [] [] a = (poison_may l flat Empty, tt)
   binary_may operator h [] (e ∷ es) a = absurd a
   binary_may operator h (d ∷ ds) [] a = absurd a
@@ -111,7 +111,7 @@ module _ (l : Llvm) (flat : IsFlatOnIntegers l.order) where
   binary_may operator h (d ∷ d' ∷ d'' ∷ ds) (e ∷ e' ∷ []) a = absurd a.1.1
   binary_may operator h (d ∷ d' ∷ d'' ∷ ds) (e ∷ e' ∷ e'' ∷ es) a = (poison_may l flat Empty, tt)
 
-  compare_may : (h : Head) (ds es : List Datum) → AllMay l ds es → Moves l (computed l compared_by h ds) (computed l compared_by h es)
+  compare_may : (h : Head) (ds es : List Datum) → AllMay l ds es → Moves l (computed_move l compared_by h ds) (computed_move l compared_by h es)
   compare_may h [] [] a = (poison_may l flat Empty, tt)
   compare_may h [] (e ∷ es) a = absurd a
   compare_may h (d ∷ ds) [] a = absurd a
@@ -123,7 +123,7 @@ module _ (l : Llvm) (flat : IsFlatOnIntegers l.order) where
   compare_may h (d ∷ d' ∷ d'' ∷ ds) (e ∷ e' ∷ []) a = absurd a.1.1
   compare_may h (d ∷ d' ∷ d'' ∷ ds) (e ∷ e' ∷ e'' ∷ es) a = (poison_may l flat Empty, tt)
 
-  cast_may : (cast : CastKind) (h : Head) (ds es : List Datum) → AllMay l ds es → Moves l (computed l (cast_by cast) h ds) (computed l (cast_by cast) h es)
+  cast_may : (cast : CastKind) (h : Head) (ds es : List Datum) → AllMay l ds es → Moves l (computed_move l (cast_by cast) h ds) (computed_move l (cast_by cast) h es)
   cast_may cast h [] [] a = (poison_may l flat Empty, tt)
   cast_may cast h [] (e ∷ es) a = absurd a
   cast_may cast h (d ∷ ds) [] a = absurd a
@@ -187,17 +187,17 @@ module _ (l : Llvm) (flat : IsFlatOnIntegers l.order) where
 
   -- ---- choices
 
-  picked_may : (ds es : List Datum) (o : Option Bool) → AllMay l ds es → IsTrue (may_become l (picked ds o) (picked es o))
+  picked_may : (ds es : List Datum) (o : Option Bool) → AllMay l ds es → IsTrue (may_become l (select_result ds o) (select_result es o))
   picked_may ds es (Some true) a = nth_may l flat ds es 1 a
   picked_may ds es (Some false) a = nth_may l flat ds es 2 a
   picked_may ds es None a = poison_may l flat Empty
 
-  select_may : (ds es : List Datum) → AllMay l ds es → IsTrue (may_become l (picked ds (truth (number_of (meant l (first_datum ds))))) (picked es (truth (number_of (meant l (first_datum es))))))
+  select_may : (ds es : List Datum) → AllMay l ds es → IsTrue (may_become l (select_result ds (truth (number_of (meant l (first_datum ds))))) (select_result es (truth (number_of (meant l (first_datum es))))))
   select_may ds es a = by (meant_bits 1 (first_datum ds) (first_datum es) (first_may l flat ds es a))
     where
-      by : (bits_at 1 (number_of (meant l (first_datum ds))) ≡ None) ⊎ (meant l (first_datum ds) ≡ meant l (first_datum es)) → IsTrue (may_become l (picked ds (truth (number_of (meant l (first_datum ds))))) (picked es (truth (number_of (meant l (first_datum es))))))
-      by (inl p) = poisoned _ _ (ap (λ o. picked ds (option_map is_one o)) p)
-      by (inr p) = subst (λ z. IsTrue (may_become l (picked ds (truth (number_of (meant l (first_datum ds))))) (picked es (truth (number_of z))))) p (picked_may ds es (truth (number_of (meant l (first_datum ds)))) a)
+      by : (bits_at 1 (number_of (meant l (first_datum ds))) ≡ None) ⊎ (meant l (first_datum ds) ≡ meant l (first_datum es)) → IsTrue (may_become l (select_result ds (truth (number_of (meant l (first_datum ds))))) (select_result es (truth (number_of (meant l (first_datum es))))))
+      by (inl p) = poisoned _ _ (ap (λ o. select_result ds (option_map is_one o)) p)
+      by (inr p) = subst (λ z. IsTrue (may_become l (select_result ds (truth (number_of (meant l (first_datum ds))))) (select_result es (truth (number_of z))))) p (picked_may ds es (truth (number_of (meant l (first_datum ds)))) a)
 
   goes_may : (choose : ℕ → List AttrObj → ℤ → Option ℕ) (s : Shape) (ds es : List Datum) → AllMay l ds es → Moves l (goes_by l choose s ds (meant l (first_datum ds))) (goes_by l choose s es (meant l (first_datum es)))
   goes_may choose s ds es a = by_sort (meant l (first_datum ds)) (first_may l flat ds es a)

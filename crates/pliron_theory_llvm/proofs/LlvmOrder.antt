@@ -1,15 +1,13 @@
 -- What may become what, by sorts of data: what is whole stays, and poison is the least.
-use Rattle.std.proofs.Common.{◌≡◌, ◌⊎◌, inl, inr, ℕ, zero, suc, Bool, true, false, true≢false, ◌&&◌, List, [], ◌∷◌, take, drop, IsTrue, refl, sym, ap, ◌∙◌, subst, arith}
-use Rattle.std.specs.Prelude.{ℤ, pos, negsuc}
+use Rattle.std.proofs.Common.{◌≡◌, inl, inr, ℕ, zero, suc, Bool, true, false, true≢false, List, [], ◌∷◌, take, drop, IsTrue, refl, sym, ap, ◌∙◌, subst, arith}
+use Rattle.std.specs.Prelude.{pos, negsuc}
 use Rattle.pliron_core.specs.declared.attrs.AttrObj.{AttrObj}
 use Rattle.pliron_core.specs.declared.attrs.AttrObj.TheVariants.{Int, Text as Words}
 use Rattle.pliron_laws.specs.Datum.{Datum, Empty, Number, Text, Join, datum_of, Move, Give, Visit, Goto, Leave, Emit, Trap}
-use Rattle.pliron_dialect.specs.Identities.{same_datum}
 use Rattle.pliron_dialect.specs.Roles.{fit_data, chain_of, nth_datum, first_datum}
 use Rattle.pliron_dialect.specs.Counted.{values_of_edge, count_of, start_of}
-use Rattle.pliron_dialect_mlir.specs.OtherData.{poison}
-use Rattle.pliron_theory_refinement.specs.Refinement.{Relation, IsPreorder, AllMayBecome, MoveMayBecome}
-use Rattle.pliron_theory_llvm.specs.Llvm.{Llvm, meant, may_become, is_poison, is_whole, IsFlatOnIntegers, elements_may, IsMonotone}
+use Rattle.pliron_theory_refinement.specs.Refinement.{IsPreorder, AllMayBecome, MoveMayBecome}
+use Rattle.pliron_theory_llvm.specs.Llvm.{Llvm, meant, may_become, is_poison, IsFlatOnIntegers, elements_may}
 use Rattle.pliron_theory_llvm.proofs.SameData.{both, parts, itself, same_is}
 
 -- ---- sorts

@@ -1,16 +1,16 @@
 -- Pure operations give their results at once, or are undefined behaviour.
-use Rattle.std.proofs.Common.{◌≡◌, ◌⊎◌, inl, inr, ℕ, Bool, true, false, true≢false, ◌&&◌, nat_eq, List, [], ◌∷◌, length, Option, Some, None, IsTrue, refl, sym, ap, ◌∙◌, subst, arith}
+use Rattle.std.proofs.Common.{◌≡◌, ◌⊎◌, inl, inr, ℕ, Bool, true, false, true≢false, ◌&&◌, nat_eq, List, [], ◌∷◌, length, Option, Some, None, IsTrue, refl, sym, ◌∙◌, subst}
 use Rattle.std.specs.Option.{option_map}
 use Rattle.pliron_core.specs.declared.attrs.Head.{Head}
-use Rattle.pliron_core.specs.Tree.{Tree, head_of}
+use Rattle.pliron_core.specs.Tree.{Tree}
 use Rattle.pliron_laws.specs.Datum.{Datum, Empty, Shape, Move, Give, Trap}
-use Rattle.pliron_laws.specs.Tree.{Operation, op_at, shape_of}
+use Rattle.pliron_laws.specs.Tree.{shape_of}
 use Rattle.pliron_laws.specs.Laws.{Admitted}
 use Rattle.pliron_laws.specs.Linked.{IsAdmitted}
 use Rattle.pliron_laws.specs.Answers.{HeadPasses}
 use Rattle.pliron_laws.proofs.Records.{op_shows}
 use Rattle.pliron_theory.proofs.SweptKeeps.{admitted_shape}
-use Rattle.pliron_dialect.specs.Roles.{takes_by, by_role, meaning_by, has_some, fit_data}
+use Rattle.pliron_dialect.specs.Roles.{takes_by, by_role, meaning_by, has_some}
 use Rattle.pliron_dialect.specs.Parts.{both_parts, same}
 use Rattle.pliron_dialect.specs.CountLaws.{length-fitted}
 use Rattle.pliron_dialect_mlir.specs.declared.kind.Class.{Class}

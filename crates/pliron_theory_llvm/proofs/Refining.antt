@@ -1,20 +1,23 @@
 -- What refines in LLVM's meaning.
-use Rattle.std.proofs.Common.{◌≡◌, inr, ℕ, ◌<◌, ◌≤◌, Bool, true, false, length, Some, IsSome, refl, sym, ap, subst, arith}
-use Rattle.pliron_core.specs.Tree.{Tree, In, IsLive, IsInside, operands_of, parent_of}
+use Rattle.std.proofs.Common.{◌≡◌, inr, ℕ, ◌<◌, ◌≤◌, Bool, length, IsSome, refl, sym, subst, arith}
+use Rattle.pliron_core.specs.Tree.{Tree, In, IsLive, operands_of, parent_of}
 use Rattle.pliron_core.specs.Invariant.{IsTree}
+use Rattle.pliron_core.specs.Erased.{after_erasing, IsSelfContained}
 use Rattle.pliron_core.proofs.HoldingLemmas.{past_live}
+use Rattle.pliron_laws.specs.Answers.{HeadPasses}
 use Rattle.pliron_theory.specs.Keeps.{IsFit, KeepsRuns}
 use Rattle.pliron_theory.specs.Sweeping.{IsSwept, AreNotLive}
 use Rattle.pliron_theory.specs.Renaming.{IsRenamed, MayUse}
 use Rattle.pliron_theory.proofs.SweptParts.{lives, gone_away}
 use Rattle.pliron_theory.proofs.SweptStays.{swept_fit}
+use Rattle.pliron_theory.proofs.ErasedKeeps.{op_erased, block_erased_with, only_op, as_many, erased_swept, erased_gone}
 use Rattle.pliron_theory.proofs.Renamed.{renamed_fit}
 use Rattle.pliron_theory_refinement.specs.Refinement.{Relation, HaveLessData, DeadRemovable}
 use Rattle.pliron_theory_refinement.proofs.Paces.{agreed_refines, refinements_compose}
 use Rattle.pliron_theory_refinement.proofs.Monotone.{renamed_refines}
 use Rattle.pliron_theory_refinement.proofs.SweptRefines.{swept_refines}
 use Rattle.pliron_theory_llvm.specs.Llvm.{Llvm, llvm, may_become, elements_may, IsMonotone}
-use Rattle.pliron_theory_llvm.specs.LlvmLaws.{RefinesLlvm, DeadPure}
+use Rattle.pliron_theory_llvm.specs.LlvmLaws.{RefinesLlvm, DeadPure, is_pure_head}
 use Rattle.pliron_theory_llvm.proofs.LlvmOrder.{become_preorder, elements_preorder}
 use Rattle.pliron_theory_llvm.proofs.LlvmMonotone.{llvm_monotone}
 use Rattle.pliron_theory_llvm.proofs.PureGives.{pure_ends}
@@ -63,3 +66,9 @@ module _ (l : Llvm) (mono : IsMonotone l) where
     grows = omega (arith, same);
     fewer = λ root lt live. subst (λ z. IsSome z.head) (h.rows root) live;
   }
+
+  pub erased_refined : (t : Tree) (op : ℕ) → IsTree t → IsTree (after_erasing t op) → IsLive t op → IsSelfContained t op → HeadPasses is_pure_head t op → RefinesLlvm l t (after_erasing t op)
+  erased_refined t op w v live contained pure =
+      let n = as_many t op w live contained (parent_of t op) refl in
+      swept_refined t (after_erasing t op) (λ k. op_erased t op k) (λ b. block_erased_with t op b) w v (erased_swept t op w live contained) (erased_gone t op w live contained) (omega (arith, n))
+      (λ root f k b i d e left. subst (HeadPasses is_pure_head t) (sym (only_op t op w live contained k b d e left)) pure)

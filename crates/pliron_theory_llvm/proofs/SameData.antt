@@ -1,5 +1,5 @@
 -- Equal data.
-use Rattle.std.proofs.Common.{◌≡◌, ℕ, nat_eq, Bool, true, false, ◌&&◌, List, IsTrue, refl, ap, ap₂, arith}
+use Rattle.std.proofs.Common.{◌≡◌, Bool, true, false, ◌&&◌, IsTrue, refl, ap, ap₂, arith}
 use Rattle.std.specs.Cmp.{signed_Decides}
 use Rattle.std.proofs.lemmas.Slice.Eq.{bytes_eq-Decides}
 use Rattle.pliron_laws.specs.Datum.{Datum, Empty, Number, Text, Join}

@@ -43,8 +43,8 @@ plain_branch = record {
 }
 
 -- a target whose constant of form 3 is the byte 200
-abbrev pub with_constant : Llvm → Llvm
-with_constant l = record l { constant = λ form. Int (pos (8 * 2 ^ 64 + 200)) }
+abbrev pub with_byte_constant : Llvm → Llvm
+with_byte_constant l = record l { constant = λ form. Int (pos (8 * 2 ^ 64 + 200)) }
 
 pub record Verdicts : Type 0 where
   -- `sub x x` is poison where x is; the tables say 0 of all data
@@ -56,7 +56,7 @@ pub record Verdicts : Type 0 where
   -- `add nsw 127 1` is poison, `add 127 1` is -128, and a constant that isn't read is what it is to the target
   pub overflow : (l : Llvm) → llvm_act l (Binary Add) (on_bytes (Binary Add) 2 (1 ∷ 0 ∷ [])) Empty (byte 127 ∷ byte 1 ∷ []) ≡ Give (poison ∷ [])
   pub wrapped : (l : Llvm) → llvm_act l (Binary Add) (on_bytes (Binary Add) 2 (0 ∷ 0 ∷ [])) Empty (byte 127 ∷ byte 1 ∷ []) ≡ Give (byte 128 ∷ [])
-  pub constant_meant : (l : Llvm) → llvm_act (with_constant l) (Binary Add) (on_bytes (Binary Add) 2 (0 ∷ 0 ∷ [])) Empty (Number (negsuc 3) ∷ byte 1 ∷ []) ≡ Give (byte 201 ∷ [])
+  pub constant_meant : (l : Llvm) → llvm_act (with_byte_constant l) (Binary Add) (on_bytes (Binary Add) 2 (0 ∷ 0 ∷ [])) Empty (Number (negsuc 3) ∷ byte 1 ∷ []) ≡ Give (byte 201 ∷ [])
   -- `udiv 1 0`, `udiv 1 poison` and `sdiv poison -1` are undefined behaviour, and `-128` by -1 is; `udiv poison 2` and
   -- `udiv exact 3 2` are poison
   pub by_zero : (l : Llvm) → llvm_act l (Binary UnsignedDivide) (on_bytes (Binary UnsignedDivide) 2 (0 ∷ 0 ∷ [])) Empty (byte 1 ∷ byte 0 ∷ []) ≡ Trap

@@ -68,12 +68,12 @@ pub record IsFlatOnIntegers (order : Relation) : Type 0 where
 
 -- poison, where no number is computed: an operand is none of the width, a promise as `nsw` or `exact` is broken, or a
 -- shift is by the width or more
-abbrev pub number_or_poison : Option ℤ → Datum
-number_or_poison None = poison
-number_or_poison (Some n) = Number n
+abbrev pub or_poison : Option ℤ → Datum
+or_poison None = poison
+or_poison (Some n) = Number n
 
-abbrev pub computed : Llvm → (Head → List (Option ℤ) → Option ℤ) → Head → List Datum → Move
-computed l knows h input = Give (number_or_poison (complete knows h (numbers_of (map (meant l) input))) ∷ [])
+abbrev pub computed_move : Llvm → (Head → List (Option ℤ) → Option ℤ) → Head → List Datum → Move
+computed_move l knows h input = Give (or_poison (complete knows h (numbers_of (map (meant l) input))) ∷ [])
 
 -- whether the datum is an integer of the width with this property, or poison, which may be any
 abbrev pub may_be : (property : ℕ → Bool) → (width : ℕ) → Datum → Bool
@@ -105,10 +105,10 @@ operator_fails SignedRemainder width input = division_fails true width input
 operator_fails _ width input = false
 
 -- the operand that a select picks by its condition, whatever the other one is
-abbrev pub picked : List Datum → Option Bool → Datum
-picked input (Some true) = nth_datum input 1
-picked input (Some false) = nth_datum input 2
-picked input None = poison
+abbrev pub select_result : List Datum → Option Bool → Datum
+select_result input (Some true) = nth_datum input 1
+select_result input (Some false) = nth_datum input 2
+select_result input None = poison
 
 -- ---- undefined behaviour
 
@@ -141,10 +141,10 @@ is_edge_poison _ input = is_poison (first_datum input)
 
 abbrev pub llvm_act : Llvm → Class → Shape → (memo : Datum) → List Datum → Move
 llvm_act l Constant s memo input = Give (datum_of (first_attribute s.head.attrs) ∷ [])
-llvm_act l (Binary operator) s memo input = trap_if (operator_fails operator (width_at s.head.attrs 0) (map (meant l) input)) (computed l (computed_by operator) s.head input)
-llvm_act l Compare s memo input = computed l compared_by s.head input
-llvm_act l (Cast cast) s memo input = computed l (cast_by cast) s.head input
-llvm_act l Select s memo input = Give (picked input (truth (number_of (meant l (first_datum input)))) ∷ [])
+llvm_act l (Binary operator) s memo input = trap_if (operator_fails operator (width_at s.head.attrs 0) (map (meant l) input)) (computed_move l (computed_by operator) s.head input)
+llvm_act l Compare s memo input = computed_move l compared_by s.head input
+llvm_act l (Cast cast) s memo input = computed_move l (cast_by cast) s.head input
+llvm_act l Select s memo input = Give (select_result input (truth (number_of (meant l (first_datum input)))) ∷ [])
 llvm_act l Opaque s memo input = trap_if (l.undefined s.head input) (Give (fit_data s.results (l.value s.head input)))
 llvm_act l Effect s memo input = trap_if (is_undefined l s memo input) (effect_act s memo input)
 llvm_act l Local s memo input = trap_if (is_undefined l s memo input) (effect_act s memo input)

@@ -1,8 +1,10 @@
 -- The laws on LLVM's meaning, and what it is that one tree refines another in it.
-use Rattle.std.specs.Prelude.{◌≡◌, ◌≤◌, ◌<◌, ℕ, Bool, true, false, length, Option, Some, None}
+use Rattle.std.specs.Prelude.{◌≡◌, ◌≤◌, ◌<◌, ℕ, Bool, true, false, List, length, Option, Some, IsTrue}
 use Rattle.pliron_core.specs.declared.attrs.Head.{Head}
 use Rattle.pliron_core.specs.Tree.{Tree, In, IsLive, IsInside, operands_of, parent_of}
 use Rattle.pliron_core.specs.Invariant.{IsTree}
+use Rattle.pliron_core.specs.Erased.{after_erasing, IsSelfContained}
+use Rattle.pliron_laws.specs.Datum.{Text}
 use Rattle.pliron_laws.specs.Answers.{HeadPasses}
 use Rattle.pliron_dialect_mlir.specs.declared.kind.Class.{Class}
 use Rattle.pliron_dialect_mlir.specs.declared.kind.Class.TheVariants.{Constant, Select, Opaque, Compare, Cast, Binary}
@@ -21,6 +23,10 @@ pub record LlvmOrders : Type 0 where
 -- LLVM's operations are monotone
 abbrev pub LlvmLaw : Type 0
 LlvmLaw = (l : Llvm) → IsMonotone l → ActsMonotonely (may_become l) (elements_may (may_become l)) (llvm l)
+
+-- there is such a target, where an aggregate that is poison in part may become another one
+abbrev pub SomeTarget : Type 0
+SomeTarget = (l : Llvm) × IsMonotone l × (a : List ℕ) × (b : List ℕ) × IsTrue (l.order (Text a) (Text b)) × (a ≡ b → ⊥)
 
 -- ---- trees
 
@@ -59,5 +65,7 @@ pub record LlvmRefining : Type 0 where
   pub transitive : (l : Llvm) (t u v : Tree) → IsMonotone l → RefinesLlvm l t u → RefinesLlvm l u v → RefinesLlvm l t v
   -- dead pure operations, divisions among them, and blocks that no run comes to may be erased
   pub swept : (l : Llvm) (t u : Tree) (dead dead_block : ℕ → Bool) → IsMonotone l → IsTree t → IsTree u → IsSwept t u dead dead_block → AreNotLive u dead dead_block → length t.operations ≤ length u.operations → ((root : ℕ) → IsFit (llvm l) t root → DeadPure t dead dead_block root) → RefinesLlvm l t u
+  -- so may a pure operation with all that is inside it, where nothing else names that
+  pub erased : (l : Llvm) (t : Tree) (op : ℕ) → IsMonotone l → IsTree t → IsTree (after_erasing t op) → IsLive t op → IsSelfContained t op → HeadPasses is_pure_head t op → RefinesLlvm l t (after_erasing t op)
   -- operands may be renamed to values whose data the old ones may become
   pub renamed : (l : Llvm) (t u : Tree) (rename : ℕ → ℕ) → IsMonotone l → IsRenamed t u rename → length t.operations ≡ length u.operations → ((root : ℕ) → IsFit (llvm l) t root → (user v : ℕ) → In v (operands_of t user) → MayUse t root user (rename v)) → ((root : ℕ) → IsFit (llvm l) t root → HaveLessData (may_become l) (llvm l) t rename root) → RefinesLlvm l t u
