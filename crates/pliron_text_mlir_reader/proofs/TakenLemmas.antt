@@ -51,6 +51,12 @@ pub other_taken_so : (sheet : Sheet) (class : Class) (owned : OwnedProperty) (s 
 other_taken_so sheet class owned s said forms (Ok head) no_constant no_branch no_switch is = other_head sheet class owned s said forms head no_constant no_branch no_switch is
 other_taken_so sheet class owned s said forms (Err fault) no_constant no_branch no_switch is = is
 
+pub other_taken : (sheet : Sheet) (known : KnownName) (s : OperationShape) (said : Said) (forms : Forms) (class : Class) (r : Result Head Fault) → known ≡ known_in_quotes forms.form.name
+    → class ≡ class_taken known.class s → (class ≡ Constant → ⊥) → (class ≡ Branch → ⊥) → (class ≡ Switch → ⊥)
+    → IfOk r (λ head. IsOtherHead sheet class known.owned s said forms.form head) → IfOk r (λ head. IsTakenFor sheet s said forms head)
+other_taken sheet known s said forms class r named at no_constant no_branch no_switch is =
+    taken_so sheet known s said forms class r named at (other_taken_so sheet class known.owned s said forms r no_constant no_branch no_switch is)
+
 pub taken_by_text : (sheet : Sheet) (s : OperationShape) (said : Said) (forms : Forms) (head : Head) → s.from ≡ width_written said.operand → s.to ≡ width_written said.result
     → IsTakenFor sheet s said forms head → ∥ IsTakenHead head ∥₁
 taken_by_text sheet s said forms head from to is = ∣ inl (sheet, s, said, forms, from, to, is) ∣₁

@@ -184,7 +184,7 @@ fn fits(counts: &[usize], shape: &OperationShape) -> bool
 fn without_quote(text: &[u8]) -> Option<&[u8]>
     ensures { option_now result ≡ without_any is_quote text.now }
 {
-    if text.iter().any(|byte| *byte == b'"') {
+    if text.contains(&b'"') {
         None
     } else {
         Some(text)
@@ -195,7 +195,7 @@ fn without_quote(text: &[u8]) -> Option<&[u8]>
 fn without_colon(text: &[u8]) -> Option<&[u8]>
     ensures { option_now result ≡ without_any is_colon text.now }
 {
-    if text.iter().any(|byte| *byte == b':') {
+    if text.contains(&b':') {
         None
     } else {
         Some(text)
@@ -261,7 +261,7 @@ impl<'t> Reader<'t> {
     }
 
     // The same, empty where neither has it.
-    fn value_or_empty(&self, name: &[u8]) -> &[u8]
+    fn value_or_empty(&self, name: &[u8]) -> &'t [u8]
         ensures { result.now ≡ unwrap_or (value_of_said name.now (said_of self.now)) [] }
     {
         self.value_of(name).unwrap_or(&[])
