@@ -1,7 +1,7 @@
 //! Modules as they are read: their parts with their bytes, and where and why one is refused. `|` stands for the end of a line.
 use crate::lines::{at_place, in_one_line, with_lines};
 use pliron_text_llvm_modules::{
-    ModuleFault, ModuleFunction, ReadFunction, ReadPart, print_module, read_module,
+    LlvmModuleFault, ModuleFunction, ReadFunction, ReadPart, print_module, read_module,
 };
 use pliron_text_llvm_syntax::{ByteSpan, LlvmFault};
 use pliron_text_mlir_syntax::position_of;
@@ -82,14 +82,14 @@ fn parts_of(rt: &impl Abort, alloc: Global, text: &[u8], parts: &[ReadPart]) -> 
 fn module_of(rt: &impl Abort, alloc: Global, text: &[u8]) -> String {
     match read_module(alloc, text) {
         Ok(parts) => parts_of(rt, alloc, text, &parts),
-        Err(ModuleFault::Refused(at, why)) => {
+        Err(LlvmModuleFault::Refused(at, why)) => {
             let why = format!(in alloc; "{why}").expect(rt, "memory");
             at_place(rt, alloc, text, at, why.as_str())
         }
-        Err(ModuleFault::Broken(LlvmFault::Expected(_, _))) => {
+        Err(LlvmModuleFault::Broken(LlvmFault::Expected(_, _))) => {
             format!(in alloc; " broken").expect(rt, "memory")
         }
-        Err(ModuleFault::Broken(LlvmFault::NoMemory)) => {
+        Err(LlvmModuleFault::Broken(LlvmFault::NoMemory)) => {
             format!(in alloc; " no memory").expect(rt, "memory")
         }
     }

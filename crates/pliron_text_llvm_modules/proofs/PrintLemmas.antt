@@ -5,7 +5,7 @@ use Rattle.pliron_text_llvm_syntax.specs.declared.tokens.ByteSpan.{ByteSpan}
 use Rattle.pliron_text_llvm_syntax.specs.Parts.{span_of_part, AreConsecutive}
 use Rattle.pliron_text_llvm_syntax.proofs.PartLemmas.{consecutive_le}
 use Rattle.pliron_text_llvm_modules.specs.declared.module.ReadPart.{ReadPart}
-use Rattle.pliron_text_llvm_modules.specs.Modules.{part_of, printed_part, number_behind, printed_from}
+use Rattle.pliron_text_llvm_modules.specs.Modules.{part_of, printed_part, number_behind_part, printed_from}
 
 -- a part between bytes of a text
 abbrev pub IsWithin : List ℕ → ReadPart → Type 0
@@ -27,9 +27,9 @@ part_within text start (first ∷ parts) (suc i) part h less is =
 pub print_step : (text : List ℕ) (texts : List (List ℕ)) (parts : List ReadPart) (i number : ℕ) (part : ReadPart) (out piece after whole : List ℕ) → i < length parts → part ≡ get_or parts i part
     → out ++ printed_from text texts number (drop i parts) ≡ whole
     → piece ≡ printed_part text part (get_or texts number []) → after ≡ out ++ piece
-    → after ++ printed_from text texts (number_behind number part) (drop (i + 1) parts) ≡ whole
+    → after ++ printed_from text texts (number_behind_part number part) (drop (i + 1) parts) ≡ whole
 print_step text texts parts i number part out piece after whole less is h piece-is after-is =
-    let rest : List ℕ = printed_from text texts (number_behind number part) (drop (i + 1) parts) in
+    let rest : List ℕ = printed_from text texts (number_behind_part number part) (drop (i + 1) parts) in
     ap (λ bytes. bytes ++ rest) (after-is ∙ ap (λ bytes. out ++ bytes) piece-is)
     ∙ append_assoc out (printed_part text part (get_or texts number [])) rest
     ∙ sym (ap (λ left. out ++ printed_from text texts number left) (drop_more parts i part less ∙ ap (λ first. first ∷ drop (i + 1) parts) (sym is)))

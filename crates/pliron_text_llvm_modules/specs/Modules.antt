@@ -6,7 +6,7 @@ use Rattle.pliron_text_llvm_syntax.specs.declared.parts.ModulePart.{ModulePart}
 use Rattle.pliron_text_llvm_syntax.specs.declared.parts.ModulePart.TheVariants.{Raw as RawText, Function as FunctionPart}
 use Rattle.pliron_text_llvm_syntax.specs.Tokens.{bytes_of_span}
 use Rattle.pliron_text_llvm_syntax.specs.Forms.{is_hole_byte}
-use Rattle.pliron_text_llvm_syntax.specs.Parts.{span_of_part, IsModulePart}
+use Rattle.pliron_text_llvm_syntax.specs.Parts.{span_of_part, IsRawOrFunction}
 use Rattle.pliron_text_llvm_functions.specs.Functions.{IsFunctionReading}
 use Rattle.pliron_text_llvm_edges.specs.Stops.{AreEdgesOf}
 use Rattle.pliron_text_llvm_modules.specs.declared.function.ModuleFunction.{ModuleFunction}
@@ -30,9 +30,9 @@ IsReadingOf text function (Kept place reason) = ⊤
 
 -- a part of the text with what it is read as: text outside functions, or a whole function
 abbrev pub IsReadPart : List ℕ → ReadPart → Type 0
-IsReadPart text (Raw span) = IsModulePart text (RawText span)
+IsReadPart text (Raw span) = IsRawOrFunction text (RawText span)
 IsReadPart text (Function function read) =
-    IsModulePart text (FunctionPart function) × IsReadingOf text function read
+    IsRawOrFunction text (FunctionPart function) × IsReadingOf text function read
 
 -- ---- printing
 
@@ -50,12 +50,12 @@ abbrev pub number_behind_function : ℕ → ModuleFunction → ℕ
 number_behind_function number (Read read) = number + 1
 number_behind_function number (Kept place reason) = number
 
-abbrev pub number_behind : ℕ → ReadPart → ℕ
-number_behind number (Raw span) = number
-number_behind number (Function function read) = number_behind_function number read
+abbrev pub number_behind_part : ℕ → ReadPart → ℕ
+number_behind_part number (Raw span) = number
+number_behind_part number (Function function read) = number_behind_function number read
 
 -- the parts in their order, where the first function that was read has the text of this number
 abbrev pub printed_from : List ℕ → List (List ℕ) → ℕ → List ReadPart → List ℕ
 printed_from text texts number [] = []
 printed_from text texts number (part ∷ parts) =
-    printed_part text part (slice_index_or texts number []) ++ printed_from text texts (number_behind number part) parts
+    printed_part text part (slice_index_or texts number []) ++ printed_from text texts (number_behind_part number part) parts

@@ -7,7 +7,7 @@ ghost use Rattle.pliron_text_llvm_syntax.specs.Tokens.{bytes_of_span};
 ghost use Rattle.pliron_text_llvm_functions.specs.Functions.{IsFunctionReading};
 ghost use Rattle.pliron_text_llvm_modules.specs.Modules.{IsReadingOf};
 
-use crate::stop::{KeptFunction, ModuleFault, fault_of_edges, fault_of_function};
+use crate::stop::{KeptFunction, LlvmModuleFault, fault_of_edges, fault_of_function};
 use pliron_text_llvm_edges::{EdgeForm, FunctionEdges, read_edges};
 use pliron_text_llvm_functions::{FunctionForm, FunctionReading, read_function};
 use pliron_text_llvm_syntax::{FunctionText, bytes_of, is_mark};
@@ -45,7 +45,7 @@ fn with_edges(
     text: &[u8],
     function: &FunctionText,
     reading: FunctionReading,
-) -> Result<ModuleFunction, ModuleFault>
+) -> Result<ModuleFunction, LlvmModuleFault>
     requires marks { list_any is_hole_byte (bytes_of_span text.now function.now.span) ≡ false }
     requires reading { IsFunctionReading text.now function.now reading }
     ensures { IfOk result (λ read. IsReadingOf text.now function.now read) }
@@ -68,7 +68,7 @@ pub fn read_whole(
     alloc: Global,
     text: &[u8],
     function: &FunctionText,
-) -> Result<ModuleFunction, ModuleFault>
+) -> Result<ModuleFunction, LlvmModuleFault>
     requires { IsFunctionAt text.now function.now.span.start function.now }
     ensures { IfOk result (λ read. IsReadingOf text.now function.now read) }
 {

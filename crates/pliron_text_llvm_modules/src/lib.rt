@@ -10,4 +10,4 @@ mod stop;
 pub use function::{ModuleFunction, ReadFunction};
 pub use module::{ReadPart, read_module};
 pub use print::print_module;
-pub use stop::{KeptFunction, ModuleFault, ModuleRefusal};
+pub use stop::{KeptFunction, LlvmModuleFault, ModuleRefusal};

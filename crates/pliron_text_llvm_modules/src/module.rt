@@ -1,11 +1,11 @@
 //! A module.
 ghost use Rattle.std.specs.Prelude.{◌≡◌, [], length, map, IfOk, OnOk};
 ghost use Rattle.std.specs.List.{All};
-ghost use Rattle.pliron_text_llvm_syntax.specs.Parts.{bytes_of_parts, AreConsecutive, IsModulePart};
+ghost use Rattle.pliron_text_llvm_syntax.specs.Parts.{bytes_of_parts, AreConsecutive, IsRawOrFunction};
 ghost use Rattle.pliron_text_llvm_modules.specs.Modules.{part_of, IsReadPart};
 
 use crate::function::{ModuleFunction, read_whole};
-use crate::stop::ModuleFault;
+use crate::stop::LlvmModuleFault;
 use pliron_text_llvm_syntax::{ByteSpan, FunctionText, ModulePart, split_text};
 use std::alloc::Global;
 
@@ -20,10 +20,10 @@ pub enum ReadPart {
 }
 
 // Reads the part.
-fn read_part(alloc: Global, text: &[u8], part: ModulePart) -> Result<ReadPart, ModuleFault>
-    requires { IsModulePart text.now part }
+fn read_part(alloc: Global, text: &[u8], part: ModulePart) -> Result<ReadPart, LlvmModuleFault>
+    requires { IsRawOrFunction text.now part }
     ensures part { IfOk result (λ read. part_of read ≡ part) }
-    ensures reading { IfOk result (λ read. IsReadPart text.now read) }
+    ensures read { IfOk result (λ read. IsReadPart text.now read) }
 {
     match part {
         ModulePart::Raw(span) => Ok(ReadPart::Raw(span)),
@@ -41,11 +41,11 @@ fn read_parts(
     text: &[u8],
     parts: &[ModulePart],
     read: &mut Vec<ReadPart>,
-) -> Result<(), ModuleFault>
-    requires functions { All (IsModulePart text.now) parts.now }
+) -> Result<(), LlvmModuleFault>
+    requires functions { All (IsRawOrFunction text.now) parts.now }
     requires empty { read.old.items ≡ [] }
     ensures parts { OnOk result (map part_of read.new.items ≡ parts.now) }
-    ensures readings { OnOk result (All (IsReadPart text.now) read.new.items) }
+    ensures read { OnOk result (All (IsReadPart text.now) read.new.items) }
 {
     for part in parts {
         let reading = read_part(alloc, text, *part)?;
@@ -59,10 +59,10 @@ fn read_parts(
 ///
 /// Errors, with the place and what was expected there: a function isn't one of LLVM's; a token or a bracket is broken;
 /// allocation failure. Cost: linear in the text, with a look-up for each name and a sort of the entries of each phi.
-pub fn read_module(alloc: Global, text: &[u8]) -> Result<Vec<ReadPart>, ModuleFault>
+pub fn read_module(alloc: Global, text: &[u8]) -> Result<Vec<ReadPart>, LlvmModuleFault>
     ensures consecutive { IfOk result (λ read. AreConsecutive 0 (length text.now) (map part_of read.items)) }
     ensures text { IfOk result (λ read. bytes_of_parts text.now (map part_of read.items) ≡ text.now) }
-    ensures readings { IfOk result (λ read. All (IsReadPart text.now) read.items) }
+    ensures read { IfOk result (λ read. All (IsReadPart text.now) read.items) }
 {
     let parts = split_text(alloc, text)?;
     let mut read = Vec::new(alloc);

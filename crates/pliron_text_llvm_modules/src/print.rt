@@ -2,7 +2,7 @@
 ghost use Rattle.std.specs.Prelude.{◌≡◌, ◌≤◌, [], length, map, slice_index_or, IfOk};
 ghost use Rattle.pliron_text_llvm_syntax.specs.Tokens.{bytes_of_span};
 ghost use Rattle.pliron_text_llvm_syntax.specs.Parts.{span_of_part, AreConsecutive};
-ghost use Rattle.pliron_text_llvm_modules.specs.Modules.{part_of, printed_part, number_behind, printed_from};
+ghost use Rattle.pliron_text_llvm_modules.specs.Modules.{part_of, printed_part, number_behind_part, printed_from};
 
 use crate::function::ModuleFunction;
 use crate::module::ReadPart;
@@ -36,9 +36,9 @@ fn bytes_of_part<'t>(text: &'t [u8], part: &ReadPart, own: &'t [u8]) -> &'t [u8]
 }
 
 // The number of the text that the next function has which was read.
-fn number_behind(number: usize, part: &ReadPart) -> usize
+fn number_behind_part(number: usize, part: &ReadPart) -> usize
     requires { number < 18446744073709551615 }
-    ensures { result ≡ number_behind number part.now }
+    ensures { result ≡ number_behind_part number part.now }
 {
     match part {
         ReadPart::Function(_, ModuleFunction::Read(_)) => number + 1,
@@ -75,7 +75,7 @@ pub fn print_module(
     let mut number = 0;
     for part in parts {
         printed.extend_from_slice(bytes_of_part(text, part, text_at(texts, number)))?;
-        number = number_behind(number, part);
+        number = number_behind_part(number, part);
     }
     Ok(printed)
 }

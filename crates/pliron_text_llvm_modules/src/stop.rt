@@ -1,7 +1,7 @@
 //! What stops reading a module.
 ghost use Rattle.std.specs.Prelude.{◌≡◌};
 ghost use Rattle.pliron_text_llvm_syntax.specs.declared.fault.LlvmFault.TheVariants.{NoMemory};
-ghost use Rattle.pliron_text_llvm_modules.specs.declared.stop.ModuleFault.TheVariants.{Broken};
+ghost use Rattle.pliron_text_llvm_modules.specs.declared.stop.LlvmModuleFault.TheVariants.{Broken};
 
 use pliron_text_llvm_edges::{EdgeFault, EdgeRefusal, KeptForEdges};
 use pliron_text_llvm_functions::{FunctionFault, KeptFor, Refusal};
@@ -34,7 +34,7 @@ pub enum KeptFunction {
 /// Why a module isn't read.
 #[doc(hidden)]
 #[derive(Clone, Copy, Debug, Drop, PartialEq, Eq)]
-pub enum ModuleFault {
+pub enum LlvmModuleFault {
     /// At this byte this was expected.
     Refused(usize, ModuleRefusal),
     /// The text is broken, or memory lacks.
@@ -42,39 +42,39 @@ pub enum ModuleFault {
 }
 
 /// A fault of the text is reported as such.
-impl From<LlvmFault> for ModuleFault {
+impl From<LlvmFault> for LlvmModuleFault {
     ghost from_gives = { λ fault e. e ≡ Broken fault };
 
-    fn from(fault: LlvmFault) -> ModuleFault {
-        ModuleFault::Broken(fault)
+    fn from(fault: LlvmFault) -> LlvmModuleFault {
+        LlvmModuleFault::Broken(fault)
     }
 }
 
 /// A failed growth of a collection is reported as `NoMemory`, and the value that was not stored is dropped.
-impl<T: Drop> From<AllocFailed<T>> for ModuleFault {
+impl<T: Drop> From<AllocFailed<T>> for LlvmModuleFault {
     ghost from_gives = { λ _ e. e ≡ Broken NoMemory };
 
-    fn from(_refused: AllocFailed<T>) -> ModuleFault {
-        ModuleFault::Broken(LlvmFault::NoMemory)
+    fn from(_refused: AllocFailed<T>) -> LlvmModuleFault {
+        LlvmModuleFault::Broken(LlvmFault::NoMemory)
     }
 }
 
 /// A module with such a function isn't read. Cost: constant.
-pub fn fault_of_function(fault: FunctionFault) -> ModuleFault {
+pub fn fault_of_function(fault: FunctionFault) -> LlvmModuleFault {
     match fault {
         FunctionFault::Refused(place, refusal) => {
-            ModuleFault::Refused(place, ModuleRefusal::Function(refusal))
+            LlvmModuleFault::Refused(place, ModuleRefusal::Function(refusal))
         }
-        FunctionFault::Broken(fault) => ModuleFault::Broken(fault),
+        FunctionFault::Broken(fault) => LlvmModuleFault::Broken(fault),
     }
 }
 
 /// A module with a function of such edges isn't read. Cost: constant.
-pub fn fault_of_edges(fault: EdgeFault) -> ModuleFault {
+pub fn fault_of_edges(fault: EdgeFault) -> LlvmModuleFault {
     match fault {
         EdgeFault::Refused(place, refusal) => {
-            ModuleFault::Refused(place, ModuleRefusal::Edges(refusal))
+            LlvmModuleFault::Refused(place, ModuleRefusal::Edges(refusal))
         }
-        EdgeFault::NoMemory => ModuleFault::Broken(LlvmFault::NoMemory),
+        EdgeFault::NoMemory => LlvmModuleFault::Broken(LlvmFault::NoMemory),
     }
 }

@@ -3,13 +3,13 @@ use Rattle.std.proofs.Common.{◌≡◌, ℕ, ◌<◌, List, [], length, true, s
 use Rattle.pliron_text_llvm_syntax.specs.declared.tokens.Bracket.{Bracket}
 use Rattle.pliron_text_llvm_syntax.specs.declared.tokens.LlvmToken.{LlvmToken}
 use Rattle.pliron_text_llvm_syntax.specs.Lexing.{IsLexedAt}
-use Rattle.pliron_text_llvm_syntax.specs.Brackets.{TakesBracket, AreClosed, IsTreeAt}
-use Rattle.pliron_text_llvm_syntax.specs.Brackets.AreClosed.{Nothing, More}
+use Rattle.pliron_text_llvm_syntax.specs.Brackets.{TakesBracket, AreBracketsClosed, IsTreeAt}
+use Rattle.pliron_text_llvm_syntax.specs.Brackets.AreBracketsClosed.{Nothing, More}
 use Rattle.pliron_text_llvm_syntax.specs.Functions.{is_open_brace, HasBraces}
 
 -- what closes the brackets that are open at `at` closes those that were open at `start`
 abbrev pub Closes : List ℕ → List Bracket → ℕ → List Bracket → ℕ → Type 0
-Closes text first start opened at = (end : ℕ) → AreClosed text end opened at → AreClosed text end first start
+Closes text first start opened at = (end : ℕ) → AreBracketsClosed text end opened at → AreBracketsClosed text end first start
 
 -- a token more
 pub closes_more : (text : List ℕ) (first before behind : List Bracket) (start at : ℕ) (token : LlvmToken) → Closes text first start before at
@@ -17,12 +17,12 @@ pub closes_more : (text : List ℕ) (first before behind : List Bracket) (start 
 closes_more text first before behind start at token h some lexed takes end closed = h end (More token some lexed takes closed)
 
 -- none is open
-pub closes_all : (text : List ℕ) (first opened : List Bracket) (start end : ℕ) → Closes text first start opened end → opened ≡ [] → AreClosed text end first start
-closes_all text first opened start end h none = h end (subst (λ xs. AreClosed text end xs end) (sym none) Nothing)
+pub closes_all : (text : List ℕ) (first opened : List Bracket) (start end : ℕ) → Closes text first start opened end → opened ≡ [] → AreBracketsClosed text end first start
+closes_all text first opened start end h none = h end (subst (λ xs. AreBracketsClosed text end xs end) (sym none) Nothing)
 
 -- a token with all that is in it
 pub tree_read : (text : List ℕ) (token tree : LlvmToken) (opened : List Bracket) → IsLexedAt text token.span.start token → tree.kind ≡ token.kind → tree.span.start ≡ token.span.start
-    → TakesBracket token.kind [] opened → AreClosed text tree.span.end opened token.span.end → IsTreeAt text token.span.start tree
+    → TakesBracket token.kind [] opened → AreBracketsClosed text tree.span.end opened token.span.end → IsTreeAt text token.span.start tree
 tree_read text token tree opened lexed kind start takes closed = (token, lexed, kind, start, opened, takes, closed)
 
 -- from one brace to the other

@@ -11,7 +11,7 @@ use Rattle.pliron_text_llvm_syntax.specs.Brackets.{IsTreeAt}
 use Rattle.pliron_text_llvm_syntax.specs.declared.functions.FunctionText.{FunctionText}
 use Rattle.pliron_text_llvm_syntax.specs.declared.parts.ModulePart.TheVariants.{Function}
 use Rattle.pliron_text_llvm_syntax.specs.Functions.{is_define, HasBraces, IsFunctionAt}
-use Rattle.pliron_text_llvm_syntax.specs.Parts.{span_of_part, bytes_of_parts, AreConsecutive, IsDefineAt, AreRaw, IsModulePart}
+use Rattle.pliron_text_llvm_syntax.specs.Parts.{span_of_part, bytes_of_parts, AreConsecutive, IsDefineAt, AreRaw, IsRawOrFunction}
 use Rattle.pliron_text_llvm_syntax.specs.Parts.AreRaw.{Nothing, More}
 
 -- one more part behind the last
@@ -94,7 +94,7 @@ define_found text at tree here is = (tree, here, is)
 
 -- the function at a byte where the raw text before it ends
 pub function_part : (text : List ℕ) (at end : ℕ) (function : FunctionText) → at ≤ end → end ≤ at → at < length text → (end < length text → IsDefineAt text end)
-    → IsFunctionAt text at function → HasBraces text function.body → IsModulePart text (Function function)
+    → IsFunctionAt text at function → HasBraces text function.body → IsRawOrFunction text (Function function)
 function_part text at end function le ge less define is braces =
     let here : end ≡ function.span.start = omega (arith, is.0) in
     (subst (IsDefineAt text) here (define (omega arith)), subst (λ n. IsFunctionAt text n function) (sym is.0) is, braces)

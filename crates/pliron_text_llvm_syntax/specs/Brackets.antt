@@ -13,11 +13,11 @@ TakesBracket (Close bracket) before behind = before ≡ behind ++ bracket ∷ []
 TakesBracket _ before behind = behind ≡ before
 
 -- the brackets that are open at a byte are all closed at `end`, and not before
-pub data AreClosed (text : List ℕ) (end : ℕ) : List Bracket → ℕ → Type 0 where
-  Nothing : AreClosed text end [] end
+pub data AreBracketsClosed (text : List ℕ) (end : ℕ) : List Bracket → ℕ → Type 0 where
+  Nothing : AreBracketsClosed text end [] end
   More : {before behind : List Bracket} {at : ℕ} (token : LlvmToken)
       → 0 < length before → IsLexedAt text at token → TakesBracket token.kind before behind
-      → AreClosed text end behind token.span.end → AreClosed text end before at
+      → AreBracketsClosed text end behind token.span.end → AreBracketsClosed text end before at
 
 -- the text has a token at this byte; where it opens a bracket, this is all up to the end of the bracket
 abbrev pub IsTreeAt : List ℕ → ℕ → LlvmToken → Type 0
@@ -28,4 +28,4 @@ IsTreeAt text at tree =
     × (tree.span.start ≡ at)
     × (opened : List Bracket)
     × TakesBracket token.kind [] opened
-    × AreClosed text tree.span.end opened token.span.end
+    × AreBracketsClosed text tree.span.end opened token.span.end

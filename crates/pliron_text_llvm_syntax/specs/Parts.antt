@@ -45,9 +45,9 @@ pub data AreRaw (text : List ℕ) (start : ℕ) : ℕ → Type 0 where
       → AreRaw text start at → IsTreeAt text at tree → is_define text tree ≡ false → AreRaw text start tree.span.end
 
 -- raw text, without the word `define` outside brackets; or a function, from this word to the `}` of its body
-abbrev pub IsModulePart : List ℕ → ModulePart → Type 0
-IsModulePart text (Raw span) = AreRaw text span.start span.end
-IsModulePart text (Function function) =
+abbrev pub IsRawOrFunction : List ℕ → ModulePart → Type 0
+IsRawOrFunction text (Raw span) = AreRaw text span.start span.end
+IsRawOrFunction text (Function function) =
     IsDefineAt text function.span.start
     × IsFunctionAt text function.span.start function
     × HasBraces text function.body

@@ -2,7 +2,7 @@
 ghost use Rattle.std.specs.Prelude.{◌≡◌, ◌<◌, ◌≤◌, [], length, IfOk, IfErr, IfSome, OnOk};
 ghost use Rattle.pliron_text_llvm_syntax.specs.Tokens.{IsTokenAt, IsTokenBehind, IsFaultIn};
 ghost use Rattle.pliron_text_llvm_syntax.specs.Lexing.{is_trivia, start_of_token, AreBlanks, IsLexedAt};
-ghost use Rattle.pliron_text_llvm_syntax.specs.Brackets.{TakesBracket, AreClosed, IsTreeAt};
+ghost use Rattle.pliron_text_llvm_syntax.specs.Brackets.{TakesBracket, AreBracketsClosed, IsTreeAt};
 
 use crate::fault::{ExpectedSyntax, LlvmFault};
 use crate::tokens::{Bracket, ByteSpan, LlvmToken, TokenKind, token_at};
@@ -50,7 +50,7 @@ fn take(text: &[u8], token: &LlvmToken, stack: &mut Vec<Bracket>) -> Result<(), 
 fn bracket_end(text: &[u8], at: usize, stack: &mut Vec<Bracket>) -> Result<usize, LlvmFault>
     requires { at ≤ length text.now }
     ensures end { IfOk result (λ end. (at ≤ end) × (end ≤ length text.now)) }
-    ensures closed { IfOk result (λ end. AreClosed text.now end stack.old.items at) }
+    ensures closed { IfOk result (λ end. AreBracketsClosed text.now end stack.old.items at) }
     ensures fault { IfErr result (λ fault. IsFaultIn text.now fault) }
 {
     let mut end = at;

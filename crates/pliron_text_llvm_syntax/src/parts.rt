@@ -3,7 +3,7 @@ ghost use Rattle.std.specs.Prelude.{◌≡◌, ◌<◌, ◌≤◌, [], length, I
 ghost use Rattle.pliron_text_llvm_syntax.specs.Tokens.{IsFaultIn};
 ghost use Rattle.std.specs.List.{All};
 ghost use Rattle.pliron_text_llvm_syntax.specs.Parts.{span_of_part, bytes_of_parts, AreConsecutive, IsPartAt};
-ghost use Rattle.pliron_text_llvm_syntax.specs.Parts.{IsDefineAt, AreRaw, IsModulePart};
+ghost use Rattle.pliron_text_llvm_syntax.specs.Parts.{IsDefineAt, AreRaw, IsRawOrFunction};
 
 use crate::brackets::token_tree_at;
 use crate::fault::LlvmFault;
@@ -55,7 +55,7 @@ fn raw_end(text: &[u8], at: usize, open: &mut Vec<Bracket>) -> Result<usize, Llv
 fn part_at(text: &[u8], at: usize, open: &mut Vec<Bracket>) -> Result<ModulePart, LlvmFault>
     requires { at < length text.now }
     ensures part { IfOk result (λ part. IsPartAt text.now at part) }
-    ensures function { IfOk result (λ part. IsModulePart text.now part) }
+    ensures raw_or_function { IfOk result (λ part. IsRawOrFunction text.now part) }
     ensures fault { IfErr result (λ fault. IsFaultIn text.now fault) }
 {
     let end = raw_end(text, at, open)?;
@@ -75,7 +75,7 @@ fn split_into(
 ) -> Result<(), LlvmFault>
     requires { parts.old.items ≡ [] }
     ensures parts { IfOk result (λ _. AreConsecutive 0 (length text.now) parts.new.items) }
-    ensures functions { IfOk result (λ _. All (IsModulePart text.now) parts.new.items) }
+    ensures functions { IfOk result (λ _. All (IsRawOrFunction text.now) parts.new.items) }
     ensures fault { IfErr result (λ fault. IsFaultIn text.now fault) }
 {
     let mut at = 0;
@@ -97,7 +97,7 @@ fn split_into(
 pub fn split_text(alloc: Global, text: &[u8]) -> Result<Vec<ModulePart>, LlvmFault>
     ensures consecutive { IfOk result (λ parts. AreConsecutive 0 (length text.now) parts.items) }
     ensures text { IfOk result (λ parts. bytes_of_parts text.now parts.items ≡ text.now) }
-    ensures functions { IfOk result (λ parts. All (IsModulePart text.now) parts.items) }
+    ensures functions { IfOk result (λ parts. All (IsRawOrFunction text.now) parts.items) }
     ensures fault { IfErr result (λ fault. IsFaultIn text.now fault) }
 {
     let mut open = Vec::new(alloc);
