@@ -5,23 +5,23 @@ use Rattle.pliron_text_llvm_syntax.specs.declared.tokens.ByteSpan.{ByteSpan}
 use Rattle.pliron_text_llvm_syntax.specs.Parts.{span_of_part, AreConsecutive}
 use Rattle.pliron_text_llvm_syntax.proofs.PartLemmas.{consecutive_le}
 use Rattle.pliron_text_llvm_modules.specs.declared.module.ReadPart.{ReadPart}
-use Rattle.pliron_text_llvm_modules.specs.Modules.{part_of, printed_part, number_behind_part, printed_from}
+use Rattle.pliron_text_llvm_modules.specs.Modules.{module_part_of, printed_part, number_behind_part, printed_from}
 
 -- a part between bytes of a text
 abbrev pub IsWithin : List ℕ → ReadPart → Type 0
 IsWithin text part =
-    ((span_of_part (part_of part)).start ≤ (span_of_part (part_of part)).end)
-    × ((span_of_part (part_of part)).end ≤ length text)
+    ((span_of_part (module_part_of part)).start ≤ (span_of_part (module_part_of part)).end)
+    × ((span_of_part (module_part_of part)).end ≤ length text)
 
 -- each part is in the text
-pub part_within : (text : List ℕ) (start : ℕ) (parts : List ReadPart) (i : ℕ) (part : ReadPart) → AreConsecutive start (length text) (map part_of parts)
+pub part_within : (text : List ℕ) (start : ℕ) (parts : List ReadPart) (i : ℕ) (part : ReadPart) → AreConsecutive start (length text) (map module_part_of parts)
     → i < length parts → part ≡ get_or parts i part → IsWithin text part
 part_within text start [] i part h less is = absurd (omega (arith, less))
 part_within text start (first ∷ parts) zero part h less is =
-    let span : ByteSpan = span_of_part (part_of first) in
-    subst (IsWithin text) (sym is) (omega (arith, h.0, h.1), consecutive_le span.end (length text) (map part_of parts) h.2)
+    let span : ByteSpan = span_of_part (module_part_of first) in
+    subst (IsWithin text) (sym is) (omega (arith, h.0, h.1), consecutive_le span.end (length text) (map module_part_of parts) h.2)
 part_within text start (first ∷ parts) (suc i) part h less is =
-    part_within text (span_of_part (part_of first)).end parts i part h.2 (omega (arith, less)) is
+    part_within text (span_of_part (module_part_of first)).end parts i part h.2 (omega (arith, less)) is
 
 -- a part more was printed
 pub print_step : (text : List ℕ) (texts : List (List ℕ)) (parts : List ReadPart) (i number : ℕ) (part : ReadPart) (out piece after whole : List ℕ) → i < length parts → part ≡ get_or parts i part

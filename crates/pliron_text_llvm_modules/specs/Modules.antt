@@ -15,9 +15,9 @@ use Rattle.pliron_text_llvm_modules.specs.declared.module.ReadPart.{ReadPart}
 use Rattle.pliron_text_llvm_modules.specs.declared.module.ReadPart.TheVariants.{Raw, Function}
 
 -- which part of the text it is
-abbrev pub part_of : ReadPart → ModulePart
-part_of (Raw span) = RawText span
-part_of (Function function read) = FunctionPart function
+abbrev pub module_part_of : ReadPart → ModulePart
+module_part_of (Raw span) = RawText span
+module_part_of (Function function read) = FunctionPart function
 
 -- a function whose text has no byte that stands for a hole, with its body, what it defines and names, and its edges; or
 -- one that is kept as it is written

@@ -2,7 +2,7 @@
 ghost use Rattle.std.specs.Prelude.{◌≡◌, [], length, map, IfOk, OnOk};
 ghost use Rattle.std.specs.List.{All};
 ghost use Rattle.pliron_text_llvm_syntax.specs.Parts.{bytes_of_parts, AreConsecutive, IsRawOrFunction};
-ghost use Rattle.pliron_text_llvm_modules.specs.Modules.{part_of, IsReadPart};
+ghost use Rattle.pliron_text_llvm_modules.specs.Modules.{module_part_of, IsReadPart};
 
 use crate::function::{ModuleFunction, read_whole};
 use crate::stop::LlvmModuleFault;
@@ -22,7 +22,7 @@ pub enum ReadPart {
 // Reads the part.
 fn read_part(alloc: Global, text: &[u8], part: ModulePart) -> Result<ReadPart, LlvmModuleFault>
     requires { IsRawOrFunction text.now part }
-    ensures part { IfOk result (λ read. part_of read ≡ part) }
+    ensures part { IfOk result (λ read. module_part_of read ≡ part) }
     ensures read { IfOk result (λ read. IsReadPart text.now read) }
 {
     match part {
@@ -44,7 +44,7 @@ fn read_parts(
 ) -> Result<(), LlvmModuleFault>
     requires functions { All (IsRawOrFunction text.now) parts.now }
     requires empty { read.old.items ≡ [] }
-    ensures parts { OnOk result (map part_of read.new.items ≡ parts.now) }
+    ensures parts { OnOk result (map module_part_of read.new.items ≡ parts.now) }
     ensures read { OnOk result (All (IsReadPart text.now) read.new.items) }
 {
     for part in parts {
@@ -60,8 +60,8 @@ fn read_parts(
 /// Errors, with the place and what was expected there: a function isn't one of LLVM's; a token or a bracket is broken;
 /// allocation failure. Cost: linear in the text, with a look-up for each name and a sort of the entries of each phi.
 pub fn read_module(alloc: Global, text: &[u8]) -> Result<Vec<ReadPart>, LlvmModuleFault>
-    ensures consecutive { IfOk result (λ read. AreConsecutive 0 (length text.now) (map part_of read.items)) }
-    ensures text { IfOk result (λ read. bytes_of_parts text.now (map part_of read.items) ≡ text.now) }
+    ensures consecutive { IfOk result (λ read. AreConsecutive 0 (length text.now) (map module_part_of read.items)) }
+    ensures text { IfOk result (λ read. bytes_of_parts text.now (map module_part_of read.items) ≡ text.now) }
     ensures read { IfOk result (λ read. All (IsReadPart text.now) read.items) }
 {
     let parts = split_text(alloc, text)?;

@@ -2,7 +2,7 @@
 ghost use Rattle.std.specs.Prelude.{◌≡◌, ◌≤◌, [], length, map, slice_index_or, IfOk};
 ghost use Rattle.pliron_text_llvm_syntax.specs.Tokens.{bytes_of_span};
 ghost use Rattle.pliron_text_llvm_syntax.specs.Parts.{span_of_part, AreConsecutive};
-ghost use Rattle.pliron_text_llvm_modules.specs.Modules.{part_of, printed_part, number_behind_part, printed_from};
+ghost use Rattle.pliron_text_llvm_modules.specs.Modules.{module_part_of, printed_part, number_behind_part, printed_from};
 
 use crate::function::ModuleFunction;
 use crate::module::ReadPart;
@@ -12,7 +12,7 @@ use std::alloc::{AllocError, Global};
 impl ReadPart {
     /// Where it is in the text. Cost: constant.
     pub fn span(&self) -> ByteSpan
-        ensures { result ≡ span_of_part (part_of self.now) }
+        ensures { result ≡ span_of_part (module_part_of self.now) }
     {
         match self {
             ReadPart::Raw(span) => *span,
@@ -23,8 +23,8 @@ impl ReadPart {
 
 // The bytes of the part: this text, where it is a function that was read, and else those that it is written with.
 fn bytes_of_part<'t>(text: &'t [u8], part: &ReadPart, own: &'t [u8]) -> &'t [u8]
-    requires ordered { (span_of_part (part_of part.now)).start ≤ (span_of_part (part_of part.now)).end }
-    requires within { (span_of_part (part_of part.now)).end ≤ length text.now }
+    requires ordered { (span_of_part (module_part_of part.now)).start ≤ (span_of_part (module_part_of part.now)).end }
+    requires within { (span_of_part (module_part_of part.now)).end ≤ length text.now }
     ensures { result.now ≡ printed_part text.now part.now own.now }
 {
     match part {
@@ -68,8 +68,9 @@ pub fn print_module(
     parts: &[ReadPart],
     texts: &[&[u8]],
 ) -> Result<Vec<u8>, AllocError>
-    requires { AreConsecutive 0 (length text.now) (map part_of parts.now) }
-    ensures { IfOk result (λ printed. printed.items ≡ printed_from text.now (map (λ text. text.now) texts.now) 0 parts.now) }
+    requires { AreConsecutive 0 (length text.now) (map module_part_of parts.now) }
+    ensures { IfOk result (λ printed.
+        printed.items ≡ printed_from text.now (map (λ text. text.now) texts.now) 0 parts.now) }
 {
     let mut printed = Vec::with_capacity(alloc, text.len())?;
     let mut number = 0;
