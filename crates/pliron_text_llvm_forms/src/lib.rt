@@ -1,6 +1,0 @@
-//! Forms of statements in LLVM's textual IR: what a tree keeps of their texts beside operands and successors.
-#![tactic(auto)]
-
-mod statement;
-
-pub use statement::{form_of_statement, holes_of_statement};
