@@ -1,5 +1,5 @@
 -- Parts that are printed one after another.
-use Rattle.std.proofs.Common.{◌≡◌, ℕ, zero, suc, absurd, ◌+◌, ◌<◌, ◌≤◌, List, [], ◌∷◌, ◌++◌, length, map, get_or, drop, sym, ap, ◌∙◌, subst, append_assoc, arith}
+use Rattle.std.proofs.Common.{◌≡◌, ℕ, zero, suc, ◌+◌, ◌<◌, ◌≤◌, List, [], ◌∷◌, ◌++◌, length, map, get_or, drop, sym, ap, ◌∙◌, subst, append_assoc, arith}
 use Rattle.std.proofs.lemmas.List.{drop_more, drop_all, append-nil}
 use Rattle.pliron_text_llvm_syntax.specs.declared.tokens.ByteSpan.{ByteSpan}
 use Rattle.pliron_text_llvm_syntax.specs.Parts.{span_of_part, AreConsecutive}
@@ -39,4 +39,4 @@ print_step text texts parts i number part out piece after whole less is h piece-
 pub print_end : (text : List ℕ) (texts : List (List ℕ)) (parts : List ReadPart) (i number : ℕ) (out whole : List ℕ) → length parts ≤ i
     → out ++ printed_from text texts number (drop i parts) ≡ whole → out ≡ whole
 print_end text texts parts i number out whole past h =
-    sym (append-nil out) ∙ sym (ap (λ left. out ++ printed_from text texts number left) (drop_all parts i past)) ∙ h
+    sym (append-nil out) ∙ sym (ap (λ left. out ++ printed_from text texts number left) (drop_all i parts past)) ∙ h

@@ -1,5 +1,5 @@
 //! Printing a module.
-ghost use Rattle.std.specs.Prelude.{◌≡◌, ◌≤◌, [], length, map, slice_index_or, IfOk};
+ghost use Rattle.std.specs.Prelude.{◌≡◌, ◌<◌, ◌≤◌, [], length, map, slice_index_or, IfOk};
 ghost use Rattle.pliron_text_llvm_syntax.specs.Tokens.{bytes_of_span};
 ghost use Rattle.pliron_text_llvm_syntax.specs.Parts.{span_of_part, AreConsecutive};
 ghost use Rattle.pliron_text_llvm_modules.specs.Modules.{module_part_of, printed_part, number_behind_part, printed_from};

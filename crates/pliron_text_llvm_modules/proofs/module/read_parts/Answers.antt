@@ -1,4 +1,4 @@
-use Rattle.std.proofs.Common.{refl, arith}
+use Rattle.std.proofs.Common.{arith}
 use Rattle.pliron_text_llvm_modules.proofs.ModuleLemmas.{parts_none, readings_none, parts_more, readings_more}
 use Rattle.pliron_text_llvm_modules.proofs.module.read_parts.Goals as goal
 
