@@ -6,7 +6,7 @@ use Rattle.pliron_text_llvm_syntax.specs.declared.parts.ModulePart.{ModulePart}
 use Rattle.pliron_text_llvm_syntax.specs.declared.parts.ModulePart.TheVariants.{Raw as RawText, Function as FunctionPart}
 use Rattle.pliron_text_llvm_syntax.specs.Tokens.{bytes_of_span}
 use Rattle.pliron_text_llvm_syntax.specs.Forms.{is_hole_byte}
-use Rattle.pliron_text_llvm_syntax.specs.Parts.{span_of_part, IsRawOrFunction}
+use Rattle.pliron_text_llvm_syntax.specs.Parts.{IsRawOrFunction}
 use Rattle.pliron_text_llvm_functions.specs.Functions.{IsFunctionReading}
 use Rattle.pliron_text_llvm_edges.specs.Stops.{AreEdgesOf}
 use Rattle.pliron_text_llvm_modules.specs.declared.function.ModuleFunction.{ModuleFunction}
