@@ -15,6 +15,7 @@ raw text alone -- @g = global i32 1|declare void @h()| => raw 0..36
 a function alone -- define void @f() {|  ret void|} => read 0..31: 1 blocks, 0 edges, 0 phis
 functions between raw parts -- @g = global i32 1|define void @f() {|  ret void|}|define i32 @h(i1 %c) {|a:|  br i1 %c, label %b, label %d|b:|  br label %d|d:|  %y = phi i32 [ 1, %a ], [ 2, %b ]|  ret i32 %y|}|!0 = !{}| => raw 0..18; read 18..49: 1 blocks, 0 edges, 0 phis; raw 49..50; read 50..177: 3 blocks, 3 edges, 1 phis; raw 177..187
 a function that is kept -- define void @f() {|  %x = frobnicate i32 1, 2|  ret void|} define void @g() {|  ret void|} => kept 0..58: 2:3 an unknown word; raw 58..59; read 59..90: 1 blocks, 0 edges, 0 phis
+a function with a byte that stands for a hole -- define void @f() {|  ; \x01|  ret void|} => kept 0..37: 1:1 a byte that stands for a hole in a form
 a function that is kept for a phi -- define i32 @f(i1 %c) {|a:|  br i1 %c, label %d, label %d|d:|  %y = phi i32 [ 1, %a ], [ 01, %a ]|  ret i32 %y|} => kept 0..111: 5:29 two texts of a constant for one block";
 
 /// Modules, and the place and what was expected there.
@@ -38,7 +39,13 @@ fn span_of(rt: &impl Abort, alloc: Global, span: ByteSpan) -> String {
 }
 
 // What the function becomes.
-fn function_of(rt: &impl Abort, alloc: Global, text: &[u8], span: &str, read: &ModuleFunction) -> String {
+fn function_of(
+    rt: &impl Abort,
+    alloc: Global,
+    text: &[u8],
+    span: &str,
+    read: &ModuleFunction,
+) -> String {
     match read {
         ModuleFunction::Read(function) => {
             let counts = counts_of(rt, alloc, function);
@@ -142,7 +149,10 @@ fn expect_printed(rt: &impl Abort, alloc: Global, case: &str) {
     let lines = with_lines(alloc, text.trim_end_matches(' ')).expect(rt, "memory");
     let texts: [&[u8]; 2] = [b"F", b"G"];
     let found = printed_of(rt, alloc, lines.as_str().as_bytes(), &texts);
-    assert!(rt; found.as_str() == wanted.trim_start_matches(' '), "{name}: {found}");
+    assert!(rt;
+        found.as_str() == wanted.trim_start_matches(' '),
+        "{name}: {found}"
+    );
 }
 
 #[test]
