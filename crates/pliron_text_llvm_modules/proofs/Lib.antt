@@ -1,0 +1,2 @@
+pub mod ModuleLemmas
+pub mod PrintLemmas
