@@ -90,6 +90,9 @@ module _ (t : Tree) (w : IsTree t) (blocks : List ℕ) (apart : IsDistinct block
       (λ j. let p = flat_map-In (λ k. results_of t k) operations v j in let y = result_here p.0 v p.2 in slice_get_within t.definitions v (Result p.0 y.0) y.1)
       (In-cases v arguments results i)
 
+  abbrev xs : List ℕ
+  xs = (parts_of t blocks).values
+
   pub values_own : (v z : ℕ) → IsFreshKey t v → IsFreshKey t z → (originals_of t blocks).value v ≡ (originals_of t blocks).value z → v ≡ z
   values_own v z le le' e = elim (cases_lt v (length t.definitions + length xs)) [
     | inl lt ↦ elim (cases_lt z (length t.definitions + length xs)) [
@@ -102,9 +105,6 @@ module _ (t : Tree) (w : IsTree t) (blocks : List ℕ) (apart : IsDistinct block
     ]
   ]
     where
-      abbrev xs : List ℕ
-      xs = (parts_of t blocks).values
-
       in_less : (y : ℕ) → IsFreshKey t y → y < length t.definitions + length xs → original_by xs (length t.definitions) y < length t.definitions
       in_less y p q = value_less (original_by xs (length t.definitions) y) (original_in xs (length t.definitions) y p q)
 

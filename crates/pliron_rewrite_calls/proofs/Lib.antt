@@ -12,3 +12,4 @@ mod InlinedCopies
 mod InlinedParts
 mod InliningCalls
 mod ReturnLoops
+mod InliningAsked

@@ -9,6 +9,7 @@ use Rattle.pliron_dialect_calls.specs.Inlinable.{IsJumpHead}
 use Rattle.pliron_rewrite_calls.specs.declared.copies.Copies.{Copies}
 use Rattle.pliron_rewrite_calls.specs.CopyTables.{block_or_copy_in}
 use Rattle.pliron_rewrite_calls.specs.Copying.{original_by, AreCopiedInto, KnowsCopies}
+use Rattle.pliron_rewrite_calls.specs.CopySteps.{IsGrownIn}
 
 -- u has the values, the blocks and the regions of t, where they were
 pub record HasSamePlaces (t u : Tree) : Type 0 where
@@ -171,4 +172,5 @@ pub record AreCopiesLed (m : Meaning) (returns : Head → Bool) (t u : Tree) (re
   pub are_copied : AreCopiedInto t copied region blocks
   pub known : KnowsCopies t copied blocks copies
   pub tree : IsTree copied
+  pub grown : IsGrownIn t copied region
   pub led_back : IsLedBack m returns copied u copies blocks after values entry jump

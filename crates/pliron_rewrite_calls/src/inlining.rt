@@ -197,7 +197,8 @@ fn lead_back<D: InliningDialect, R: Rewriter + Room>(
     let entry = copies.block_or_copy(blocks[0]);
     let values = all_operands(alloc, call, ctx)?;
     let head = D::jump_head(alloc, values.len())?;
-    make_jump(head, values.as_slice(), entry, ctx, rewriter)
+    let jump = make_jump(head, values.as_slice(), entry, ctx, rewriter)?;
+    Ok(jump)
 }
 
 // Copies of the blocks, with these operations, whose returns lead to `after`, and a jump to the first one in no block, where
