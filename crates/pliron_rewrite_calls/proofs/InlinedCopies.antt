@@ -261,6 +261,7 @@ module _ (m : Meaning) (c : CallingConvention) (returns : Head → Bool) (t u : 
     pub count_alike : count_arguments (block_at t (o.block b)) ≡ count_arguments (block_at u b)
     count_alike = ap count_arguments (make_block t (o.block b) d.may.region home) ∙ ap length arguments_on ∙ length-map (arguments_of u b) o.value ∙ sym (ap count_arguments (make_block u b d.region parent_on))
 
+  module _ (b : ℕ) (le : length t.bodies ≤ b) (lt : b < length d.copied.bodies) where
     fresh_argument : (v : ℕ) → In v (arguments_of u b) → IsFreshKey t v
     fresh_argument v j =
         let i : In v (arguments_of d.copied b) = subst (In v) (places.arguments b) j in
@@ -270,7 +271,7 @@ module _ (m : Meaning) (c : CallingConvention) (returns : Head → Bool) (t u : 
           | inl less ↦
               let same = old_itself (parts_of t os).values (length t.definitions) v less in
               let e = argument_is b y.0 (o.block b) z.0 (sym (d.copied_tree.joined.arguments b y.0 v y.1) ∙ d.copies.definitions v less ∙ ap (definition_of t) (sym same) ∙ d.tree.joined.arguments (o.block b) z.0 (o.value v) z.1) in
-              absurd (let x = block-within t (o.block b) d.tree.keys (ap is_some home) in omega (arith, e, x, le))
+              absurd (let x = block-within t (o.block b) d.tree.keys (ap is_some (home b le lt)) in omega (arith, e, x, le))
           | inr ge ↦ ge
         ]
 
@@ -296,7 +297,7 @@ module _ (m : Meaning) (c : CallingConvention) (returns : Head → Bool) (t u : 
 
       pub fresh_operand : (v : ℕ) → In v (operands_of d.copied k) → IsFreshKey t v
       fresh_operand v j =
-          let own = d.may.own (o.block b) (o.operation k) (o.value v) home there (subst (In (o.value v)) (sym copy.same.operands) (in_map o.value (operands_of d.copied k) v j)) in
+          let own = d.may.own (o.block b) (o.operation k) (o.value v) (home b le lt) there (subst (In (o.value v)) (sym copy.same.operands) (in_map o.value (operands_of d.copied k) v j)) in
           elim (cases_lt v (length t.definitions)) [
             | inl less ↦ absurd (d.copies.named k v from_new j (subst (λ z. In z (parts_of t os).values) (old_itself (parts_of t os).values (length t.definitions) v less) own))
             | inr ge ↦ ge
@@ -317,7 +318,7 @@ module _ (m : Meaning) (c : CallingConvention) (returns : Head → Bool) (t u : 
       leads_in : (s : ℕ) → In s (successors_of d.copied k) → (length t.bodies ≤ s) × (s < length d.copied.bodies)
       leads_in s j =
           let stands = block-within d.copied s d.copied_tree.keys (d.copied_tree.joined.successors k s j) in
-          let inside = d.may.inside (o.block b) (o.operation k) (o.block s) home there (subst (In (o.block s)) (sym copy.same.successors) (in_map o.block (successors_of d.copied k) s j)) in
+          let inside = d.may.inside (o.block b) (o.operation k) (o.block s) (home b le lt) there (subst (In (o.block s)) (sym copy.same.successors) (in_map o.block (successors_of d.copied k) s j)) in
           elim (cases_lt s (length t.bodies)) [
             | inl less ↦ absurd (d.copies.led k s from_new j (subst (λ z. In z os) (old_itself os (length t.bodies) s less) (d.tree.layouts.listed (o.block s) d.may.region inside)))
             | inr ge ↦ (ge, stands)
@@ -342,7 +343,7 @@ module _ (m : Meaning) (c : CallingConvention) (returns : Head → Bool) (t u : 
           where
             maps : (xs : List ℕ) → ((s : ℕ) → In s xs → (length t.bodies ≤ s) × (s < length d.copied.bodies)) → map (λ s. count_arguments (block_at t s)) (map o.block xs) ≡ map (λ s. count_arguments (block_at u s)) xs
             maps [] each = refl
-            maps (s ∷ xs) each = let p = each s (inl refl) in ap (λ z. z ∷ map (λ s. count_arguments (block_at t s)) (map o.block xs)) (count_alike s p.0 p.1) ∙ ap (λ z. count_arguments (block_at u s) ∷ z) (maps xs (λ y j. each y (inr j)))
+            maps (y ∷ xs) each = let p = each y (inl refl) in ap (λ z. z ∷ map (λ s. count_arguments (block_at t s)) (map o.block xs)) (count_alike y p.0 p.1) ∙ ap (λ z. count_arguments (block_at u y) ∷ z) (maps xs (λ z j. each z (inr j)))
 
         shape_on : (oj ok : Operation) → op_at t (o.operation k) ≡ Some oj → op_at u k ≡ Some ok → shape_of m t oj ≡ shape_of m u ok
         shape_on oj ok e f = shape_by m t u (o.operation k) k oj ok e f (copy.same.head ∙ sym (ap (λ z. z.head) on.row))
@@ -373,7 +374,7 @@ module _ (m : Meaning) (c : CallingConvention) (returns : Head → Bool) (t u : 
 
     -- how it ends
     pub ends_so : (front : List ℕ) (last : ℕ) → body_of d.copied b ≡ front ++ last ∷ [] → ((k : ℕ) → In k front → NeverLeaves m t (o.operation k)) × (ReturnsAsMany m returns t many (o.operation last) ⊎ StaysInside m returns t (o.operation last))
-    ends_so front last e = split_copied m returns t many o.operation front last (subst (MayBeCopied m returns t many) ((d.copies.block_copies b le lt).body ∙ ap (map o.operation) e) (d.may.copied (o.block b) home))
+    ends_so front last e = split_copied m returns t many o.operation front last (subst (MayBeCopied m returns t many) ((d.copies.block_copies b le lt).body ∙ ap (map o.operation) e) (d.may.copied (o.block b) (home b le lt)))
 
     not_old : (front : List ℕ) (last k : ℕ) → body_of d.copied b ≡ front ++ last ∷ [] → In k (body_of d.copied b) → In k d.olds → k ≡ last
     not_old front last k e i j =
@@ -468,7 +469,7 @@ module _ (m : Meaning) (c : CallingConvention) (returns : Head → Bool) (t u : 
         (λ y.
         let same : body_of u b ≡ body_of d.copied b = body_on b le ∙ y.1 in
         ⊎_elim
-        (λ none. absurd (none_copied m returns t many o.operation (body_of d.copied b) (subst (MayBeCopied m returns t many) (d.copies.block_copies b le lt).body (d.may.copied (o.block b) home)) none))
+        (λ none. absurd (none_copied m returns t many o.operation (body_of d.copied b) (subst (MayBeCopied m returns t many) (d.copies.block_copies b le lt).body (d.may.copied (o.block b) (home b le lt))) none))
         (λ s. subst (λ z. AreCopies m t u parts z × (body_of t (o.block b) ≡ map parts.originals.operation z)) (sym (same ∙ s.2)) (copies_closed s.0 s.1 s.2 y.0, body_closed s.0 s.1 s.2 y.0))
         (from_end (body_of d.copied b)))
         (λ y. subst (λ z. AreCopies m t u parts z × (body_of t (o.block b) ≡ map parts.originals.operation z)) (sym (body_on b le ∙ y.now)) (copies_led y.front y.old y.before y.new y.is_old y.is_new y.within y.returned, body_led y.front y.old y.before y.new y.is_old y.is_new y.within y.returned))
@@ -476,9 +477,9 @@ module _ (m : Meaning) (c : CallingConvention) (returns : Head → Bool) (t u : 
 
     pub block_copy : IsBlockCopy m t u parts b
     block_copy = record {
-      live = ap is_some parent_on;
-      original = home;
-      arguments = arguments_on;
+      live = ap is_some (parent_on b le lt);
+      original = home b le lt;
+      arguments = arguments_on b le lt;
       body = copies_here.1;
       operations = copies_here.0;
       fresh = fresh_argument;

@@ -123,7 +123,7 @@ jumps_put x (k ∷ front) each = let p = each k (inl refl) in inl (p.0, p.1, ref
 
 first_stays : (xs ys : List ℕ) (k : ℕ) → In k xs → first_of (xs ++ ys) None ≡ first_of xs None
 first_stays [] ys k i = absurd i
-first_stays (x ∷ xs) ys k i = refl
+first_stays (y ∷ rest) ys k i = refl
 
 some_data : (n : ℕ) → (ds : List Datum) × (length ds ≡ n)
 some_data zero = ([], refl)

@@ -252,14 +252,14 @@ grown_replaced t u w region b old new g target wt wu h le r = record {
     | inl e ↦ ap (regions_of w) e ∙ ap (λ z. z.regions) r.jump.row
     | inr ne ↦ elim (cases_eq k old) [
       | inl e ↦ ap (regions_of w) e ∙ ap (λ z. z.regions) r.gone
-      | inr no ↦ ap (λ z. z.regions) (r.others k no ne).row ∙ h.childless k ge
+      | inr na ↦ ap (λ z. z.regions) (r.others k na ne).row ∙ h.childless k ge
     ]
   ];
   placed = λ k ge l. elim (cases_eq k new) [
     | inl e ↦ (b, ap (parent_of w) e ∙ r.placed, le)
     | inr ne ↦ elim (cases_eq k old) [
       | inl e ↦ absurd (no_some (head_of w k) (ap (head_of w) e ∙ ap (λ z. z.head) r.gone) l)
-      | inr no ↦ let s = r.others k no ne in let p = h.placed k ge (subst (λ z. IsSome z.head) s.row l) in (p.0, s.parent ∙ p.1, p.2)
+      | inr na ↦ let s = r.others k na ne in let p = h.placed k ge (subst (λ z. IsSome z.head) s.row l) in (p.0, s.parent ∙ p.1, p.2)
     ]
   ];
 }
