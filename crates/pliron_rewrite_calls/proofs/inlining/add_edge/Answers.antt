@@ -3,7 +3,6 @@ use Rattle.pliron_core.specs.Tree.{Tree, successors_of}
 use Rattle.pliron_rewrite_calls.specs.CopySteps.{HasNames}
 use Rattle.pliron_rewrite_calls.proofs.CopyCalls.{names_none, names_live, names_defined, names_block}
 use Rattle.pliron_rewrite_calls.proofs.CopyLists.{there}
-use Rattle.pliron_rewrite_calls.proofs.InliningAsked.{call_is_inlined}
 use Rattle.pliron_rewrite_calls.proofs.InliningCalls.{value_next, edge_next}
 use Rattle.pliron_rewrite_calls.proofs.inlining.add_edge.Goals as goal
 
