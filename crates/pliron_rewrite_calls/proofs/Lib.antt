@@ -13,3 +13,4 @@ mod InlinedParts
 mod InliningCalls
 mod ReturnLoops
 mod InliningAsked
+mod CallReady

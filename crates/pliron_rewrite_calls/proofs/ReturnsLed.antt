@@ -4,16 +4,17 @@ use Rattle.std.proofs.lemmas.Bool.{cases_eq, cases_lt}
 use Rattle.std.proofs.lemmas.List.{length-append}
 use Rattle.pliron_core.specs.declared.attrs.Head.{Head}
 use Rattle.pliron_core.specs.Invariant.{IsTree}
-use Rattle.pliron_core.specs.Tree.{Tree, In, IsLive, last_of, no_entry, row_of, head_of, operands_of, regions_of, parent_of, body_of}
-use Rattle.pliron_core.proofs.HoldingLemmas.{some_is}
+use Rattle.pliron_core.specs.Tree.{Tree, In, IsLive, last_of, no_entry, row_of, head_of, operands_of, results_of, regions_of, parent_of, body_of}
+use Rattle.pliron_core.proofs.HoldingLemmas.{some_is, some_of}
 use Rattle.pliron_core.proofs.LastLemmas.{last_in, in_end}
 use Rattle.pliron_core.proofs.ListLemmas.{In-left, In-right, In-cases}
 use Rattle.pliron_core.proofs.TreeLemmas.{live-within}
+use Rattle.pliron_laws.specs.Answers.{ReadsHead}
 use Rattle.pliron_laws.specs.Datum.{Meaning}
 use Rattle.pliron_dialect_calls.specs.Inlinable.{IsJumpHead}
 use Rattle.pliron_rewrite_calls.specs.Copying.{original_by}
 use Rattle.pliron_rewrite_calls.specs.CopySteps.{IsGrownIn}
-use Rattle.pliron_rewrite_calls.specs.InliningSteps.{HasSamePlaces, IsAsBefore, IsJumpRow, IsUndone, IsLastReplaced, EndsOtherwise, IsInPlaceOf, IsEndLed, IsReturnOf, AreReturnsLed}
+use Rattle.pliron_rewrite_calls.specs.InliningSteps.{HasSamePlaces, IsAsBefore, IsJumpRow, IsUndone, IsLastReplaced, EndsOtherwise, IsInPlaceOf, IsEndLed, IsReturnOf, AreReturnsBare, AreReturnsLed}
 use Rattle.pliron_rewrite_calls.proofs.CopyLists.{new_item, original_at}
 use Rattle.pliron_rewrite_calls.proofs.ErasedAgain.{last_there}
 use Rattle.pliron_rewrite_calls.proofs.Growing.{no_some, past_row, new_only}
@@ -40,6 +41,12 @@ led_none m returns u after = record {
   bodies = λ b out. refl;
   ends = λ b i. absurd i;
 }
+
+-- what ends a block whose returns are bare is so, where it is found to be a return
+pub end_bare : (returns : Head → Bool) (t : Tree) (b k : ℕ) (found : Bool) → AreReturnsBare returns t b → Some k ≡ last_of None (body_of t b) → IsLive t k → ReadsHead returns t k found → IsTrue found → (results_of t k ≡ []) × (regions_of t k ≡ [])
+end_bare returns t b k found bare last live reads is =
+    let h = some_of (head_of t k) live in
+    bare k h.0 (sym last) h.1 (sym (reads h.0 h.1) ∙ is)
 
 -- a return of some blocks is one of more
 more_of : {returns : Head → Bool} {u : Tree} (bs : List ℕ) (b k : ℕ) → IsReturnOf returns u bs k → IsReturnOf returns u (bs ++ b ∷ []) k

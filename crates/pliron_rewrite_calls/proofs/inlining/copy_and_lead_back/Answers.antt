@@ -8,8 +8,8 @@ pub get_tail-last-requires : goal.get_tail-last-requires
 get_tail-last-requires g c =
     subst (IsRegion c.args.ctx.now.tree) c.requires.1.1.1.1.0 (subst (λ (z : Tree). IsRegion z g.x.region) c.requires.1.0 c.requires.0.into)
 
-pub copy_within_room-copies-requires : goal.copy_within_room-copies-requires
-copy_within_room-copies-requires g c = (c.requires.0, (c.requires.1.0, (c.requires.1.1.0, (c.requires.1.1.1.0, c.requires.1.1.1.1.0))))
+pub copy_within_room-requires : goal.copy_within_room-requires
+copy_within_room-requires g c = (c.requires.0, (c.requires.1.0, (c.requires.1.1.0, (c.requires.1.1.1.0, c.requires.1.1.1.1.0))))
 
 pub lead_back-requires : goal.lead_back-requires
 lead_back-requires g c = (c.requires.0, (c.requires.1.1.0, (c.in_ok-copies.ensures.ok, (c.in_ok-copies.ensures.copies, (c.in_ok-copies.ensures.grown, c.requires.1.1.1.1.1)))))
@@ -21,13 +21,13 @@ returns-in-Ok-clause-led g c =
     ( l.0
     , ap (λ (bs : List ℕ). first_of bs None) c.requires.1.1.0 ∙ l.1
     , record {
-        copied = c.copy_within_room-copies.new.ctx.tree;
+        copied = c.copy_within_room.new.ctx.tree;
         copies = c.in_ok-copies.copies;
         are_copied = c.in_ok-copies.ensures.ok;
         known = c.in_ok-copies.ensures.copies;
         tree = c.well_formed-2.ensures.tree;
         grown = c.in_ok-copies.ensures.grown;
-        led_back = subst (λ bs. IsLedBack g.D.HasMeaning.meaning g.D.InliningDialect.returns c.copy_within_room-copies.new.ctx.tree c.lead_back.new.ctx.tree c.in_ok-copies.copies bs c.args.after (operands_of g.x.tree c.args.call) l.0 c.in-Ok.jump) same l.2;
+        led_back = subst (λ bs. IsLedBack g.D.HasMeaning.meaning g.D.InliningDialect.returns c.copy_within_room.new.ctx.tree c.lead_back.new.ctx.tree c.in_ok-copies.copies bs c.args.after (operands_of g.x.tree c.args.call) l.0 c.in-Ok.jump) same l.2;
       } )
 
 pub erase_new_blocks-requires : goal.erase_new_blocks-requires

@@ -11,3 +11,12 @@ get_successor-after-requires-clause-index g c =
 
 pub get_region-requires-clause-index : goal.get_region-requires-clause-index
 get_region-requires-clause-index g c = subst (λ (xs : List ℕ). 0 < length xs) (sym c.requires.runs.holds) (omega arith)
+
+pub copy_and_lead_back-requires : goal.copy_and_lead_back-requires
+copy_and_lead_back-requires g c = ?
+
+pub replace_call-requires : goal.replace_call-requires
+replace_call-requires g c = ?
+
+pub returns-clause-inlined : goal.returns-clause-inlined
+returns-clause-inlined g c = ?
