@@ -33,7 +33,7 @@ pub record MayReplace (v : Tree) (block call jump new : ℕ) : Type 0 where
   pub plain : regions_of v call ≡ []
   pub bare : (results_of v jump ≡ []) × (regions_of v jump ≡ [])
   pub used_there : (k x : ℕ) → In x (results_of v call) → In x (operands_of v k) → k ≡ jump
-  pub new : IsLive v new
+  pub stands : IsLive v new
   pub free : parent_of v new ≡ None
   pub childless : regions_of v new ≡ []
 
@@ -158,7 +158,7 @@ module _ (m : Meaning) (c : CallingConvention) (returns : Head → Bool) (t : Tr
       plain = ap (λ z. z.regions) (stays call call_in).row ∙ may.plain;
       bare = (ap (λ z. z.results) (stays may.jump jump_in).row ∙ may.bare.0, ap (λ z. z.regions) (stays may.jump jump_in).row ∙ may.bare.1);
       used_there = used_there;
-      new = new_lives;
+      stands = new_lives;
       free = made.free;
       childless = ap (λ z. z.regions) made.jump.row;
     }

@@ -320,5 +320,6 @@ pub fn inline_call<D: InliningDialect, R: Rewriter + Room>(
     )?;
     ctx.well_formed();
     replace_call(call, jump, new, block, ctx, rewriter);
+    ctx.well_formed();
     Ok(())
 }
