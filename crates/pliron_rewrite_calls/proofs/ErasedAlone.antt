@@ -1,5 +1,5 @@
 -- An operation without regions is erased.
-use Rattle.std.proofs.Common.{◌≡◌, ◌≢◌, ◌⊎◌, inl, inr, ⊎_elim, ℕ, ◌<◌, Bool, true, false, nat_eq, List, [], ◌∷◌, length, get_or, Option, Some, None, slice_get, slice_set, refl, sym, ap, ◌∙◌, subst, arith}
+use Rattle.std.proofs.Common.{◌≡◌, ◌≢◌, inl, inr, ⊎_elim, ℕ, ◌<◌, true, false, nat_eq, List, [], ◌∷◌, length, get_or, Option, Some, None, slice_get, slice_set, refl, sym, ap, ◌∙◌, subst}
 use Rattle.std.proofs.lemmas.Bool.{cases_eq}
 use Rattle.std.proofs.lemmas.List.{length-set, get_or-set_other, get_or-set_same, get_or_past}
 use Rattle.pliron_core.specs.declared.context.Def.{Def}
@@ -7,7 +7,7 @@ use Rattle.pliron_core.specs.declared.context.Def.TheVariants.{Result, Argument}
 use Rattle.pliron_core.specs.Invariant.{IsTree}
 use Rattle.pliron_core.specs.Erased.{is_met_above, after_clearing, after_erasing, IsSelfContained}
 use Rattle.pliron_core.specs.Lists.{without}
-use Rattle.pliron_core.specs.Tree.{Tree, In, IsLive, IsInside, IsMadeBy, IsDefinedWithin, HoldsBlock, no_entry, operands_of, results_of, regions_of, parent_of, body_of, block_parent_of, layout_of, region_parent_of, block_parent_operation_of, definition_of}
+use Rattle.pliron_core.specs.Tree.{Tree, In, IsLive, IsMadeBy, IsDefinedWithin, no_entry, operands_of, results_of, regions_of, parent_of, body_of, layout_of, region_parent_of, block_parent_operation_of, definition_of}
 use Rattle.pliron_core.specs.Writes.{taken_from}
 use Rattle.pliron_core.proofs.BlankLemmas.{length-blanked, blanked_gone, blanked_kept}
 use Rattle.pliron_core.proofs.ClearedLemmas.{true_or_false, met_above, met_itself}
@@ -16,7 +16,7 @@ use Rattle.pliron_core.proofs.EditLemmas.{without-out}
 use Rattle.pliron_core.proofs.EraseInsideLemmas.{not_met}
 use Rattle.pliron_core.proofs.ErasedLemmas.{taken-slots, taken-definitions, taken-block_parent_operation, taken-met}
 use Rattle.pliron_core.proofs.HoldingLemmas.{not_none, some_is, in_slice}
-use Rattle.pliron_core.proofs.TreeLemmas.{live-within, block-within, cases_lt}
+use Rattle.pliron_core.proofs.TreeLemmas.{live-within, cases_lt}
 use Rattle.pliron_core.proofs.WithinLemmas.{within_is, block_holder_from}
 use Rattle.pliron_rewrite_calls.specs.InliningSteps.{HasSamePlaces, IsAsBefore, IsErasedAlone}
 use Rattle.pliron_rewrite_calls.proofs.Growing.{holds_nothing, outside_childless}

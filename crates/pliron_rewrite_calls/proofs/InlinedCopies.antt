@@ -1,27 +1,24 @@
 -- The copies of a callee whose returns were led back are those of an inlined call.
-use Rattle.std.proofs.Common.{◌≡◌, ◌≢◌, ◌⊎◌, inl, inr, ⊎_elim, ℕ, zero, suc, ◌+◌, ◌<◌, ◌≤◌, Bool, true, false, true≢false, nat_lt, if◌then◌else◌, List, [], ◌∷◌, ◌++◌, length, get_or, map, Option, Some, None, IsSome, IsTrue, is_some, slice_get, refl, sym, ap, ◌∙◌, subst, arith}
-use Rattle.std.proofs.lemmas.Bool.{cases_eq, cases_lt, lt-ltb, le-ltb}
-use Rattle.std.proofs.lemmas.List.{length-map, map-append, get_or_past}
+use Rattle.std.proofs.Common.{◌≡◌, ◌≢◌, ◌⊎◌, inl, inr, ⊎_elim, ℕ, zero, suc, ◌<◌, ◌≤◌, Bool, true, false, true≢false, nat_lt, if◌then◌else◌, List, [], ◌∷◌, ◌++◌, length, map, Option, Some, None, IsSome, IsTrue, is_some, slice_get, refl, sym, ap, ◌∙◌, subst, arith}
+use Rattle.std.proofs.lemmas.Bool.{cases_lt, lt-ltb, le-ltb}
+use Rattle.std.proofs.lemmas.List.{length-map, map-append}
 use Rattle.std.proofs.lemmas.Option.{slice_get_within}
 use Rattle.pliron_core.specs.declared.attrs.Head.{Head}
 use Rattle.pliron_core.specs.declared.context.Def.{Def}
 use Rattle.pliron_core.specs.declared.context.Def.TheVariants.{Result, Argument}
 use Rattle.pliron_core.specs.Invariant.{IsTree}
-use Rattle.pliron_core.specs.Tree.{Tree, In, IsDistinct, IsLive, IsBlock, last_of, row_of, head_of, operands_of, successors_of, results_of, regions_of, parent_of, body_of, arguments_of, block_parent_of, layout_of, definition_of}
-use Rattle.pliron_core.proofs.HoldingLemmas.{some_is, some_of, slice_in, in_slice}
-use Rattle.pliron_core.proofs.ListLemmas.{In-left, In-right, In-cases, distinct-apart}
+use Rattle.pliron_core.specs.Tree.{Tree, In, IsDistinct, IsLive, last_of, head_of, operands_of, successors_of, results_of, regions_of, parent_of, body_of, arguments_of, block_parent_of, layout_of, definition_of}
+use Rattle.pliron_core.proofs.HoldingLemmas.{some_is, some_of, slice_in}
+use Rattle.pliron_core.proofs.ListLemmas.{In-left, In-cases, distinct-apart}
 use Rattle.pliron_core.proofs.LastLemmas.{in_end}
 use Rattle.pliron_core.proofs.TreeLemmas.{live-within, block-within}
-use Rattle.pliron_laws.specs.Datum.{Datum, Empty, Shape, Meaning, Goto, Give, Leave}
+use Rattle.pliron_laws.specs.Datum.{Datum, Meaning}
 use Rattle.pliron_laws.specs.Tree.{Operation, op_at, block_at, entry_block, count_arguments, unless, shape_of}
-use Rattle.pliron_laws.specs.Laws.{Admitted}
-use Rattle.pliron_laws.specs.Linked.{IsAdmitted}
-use Rattle.pliron_laws.specs.Replacing.{branch_shape}
 use Rattle.pliron_laws.proofs.Records.{ShowsOperation, op_shows, make_block}
 use Rattle.pliron_laws.proofs.ShapeLemmas.{live_at}
 use Rattle.pliron_theory.specs.Rebranching.{FitsInPlace}
 use Rattle.pliron_pass_linked.specs.Calls.{CallingConvention}
-use Rattle.pliron_rewrite_copies.specs.Copies.{Originals, IsCopiedOperation}
+use Rattle.pliron_rewrite_copies.specs.Copies.{Originals}
 use Rattle.pliron_rewrite_copies.proofs.Maps.{in_map}
 use Rattle.pliron_rewrite_inlining.specs.Inlined.{InlinedCall, IsJumpTo, Returns, IsCopy, NeverGives, IsFreshKey, IsReturnReplaced, AreCopies, IsBlockCopy}
 use Rattle.pliron_rewrite_inlining.proofs.CopiedShapes.{same_shape}
@@ -29,7 +26,7 @@ use Rattle.pliron_dialect_calls.specs.Inlinable.{IsJumpHead, NeverLeaves}
 use Rattle.pliron_rewrite_calls.specs.Copying.{original_by, parts_of, originals_of, IsOperationCopy, AreCopiedInto}
 use Rattle.pliron_rewrite_calls.specs.CopySteps.{IsGrownIn}
 use Rattle.pliron_rewrite_calls.specs.Inlining.{ReturnsAsMany, StaysInside, MayBeCopied, MayInline}
-use Rattle.pliron_rewrite_calls.specs.InliningSteps.{HasSamePlaces, IsAsBefore, IsJumpRow, IsJumpMade, IsCallReplaced, EndsOtherwise, IsInPlaceOf, IsEndLed, AreReturnsLed}
+use Rattle.pliron_rewrite_calls.specs.InliningSteps.{HasSamePlaces, IsAsBefore, IsJumpRow, IsJumpMade, IsCallReplaced, EndsOtherwise, IsInPlaceOf, AreReturnsLed}
 use Rattle.pliron_rewrite_calls.proofs.CopyLists.{old_itself, original_in}
 use Rattle.pliron_rewrite_calls.proofs.ErasedAgain.{from_end, last_there}
 use Rattle.pliron_rewrite_calls.proofs.Growing.{new_only}

@@ -1,5 +1,5 @@
 -- A call whose place a jump to led-back copies took is inlined.
-use Rattle.std.proofs.Common.{◌≡◌, ◌≢◌, ◌⊎◌, inl, inr, ⊎_elim, ℕ, zero, suc, ◌+◌, ◌-◌, ◌<◌, ◌≤◌, Bool, true, List, [], ◌∷◌, ◌++◌, length, get_or, map, Option, Some, None, IsSome, is_some, slice_get, refl, sym, ap, ◌∙◌, subst, arith}
+use Rattle.std.proofs.Common.{◌≡◌, ◌≢◌, ◌⊎◌, inl, inr, ⊎_elim, ℕ, zero, suc, ◌+◌, ◌-◌, ◌<◌, ◌≤◌, Bool, List, [], ◌∷◌, ◌++◌, length, Option, Some, None, IsSome, is_some, refl, sym, ap, ◌∙◌, subst, arith}
 use Rattle.std.specs.List.{flat_map, range_with_len}
 use Rattle.std.proofs.lemmas.Bool.{cases_eq, cases_lt}
 use Rattle.std.proofs.lemmas.List.{length-map, get_or_past}
@@ -8,18 +8,16 @@ use Rattle.pliron_core.specs.declared.attrs.Head.{Head}
 use Rattle.pliron_core.specs.declared.context.Def.{Def}
 use Rattle.pliron_core.specs.declared.context.Def.TheVariants.{Result, Argument}
 use Rattle.pliron_core.specs.Invariant.{IsTree}
-use Rattle.pliron_core.specs.Tree.{Tree, In, IsDistinct, IsLive, IsBlock, first_of, row_of, head_of, operands_of, successors_of, results_of, regions_of, parent_of, body_of, arguments_of, block_parent_of, layout_of, definition_of}
+use Rattle.pliron_core.specs.Tree.{Tree, In, IsDistinct, IsLive, IsBlock, first_of, head_of, operands_of, results_of, parent_of, body_of, arguments_of, layout_of, definition_of}
 use Rattle.pliron_core.proofs.FlatLemmas.{flat_map-In, distinct-flat_map, distinct-indices}
-use Rattle.pliron_core.proofs.HoldingLemmas.{some_is, some_of, slice_in}
+use Rattle.pliron_core.proofs.HoldingLemmas.{some_is, slice_in}
 use Rattle.pliron_core.proofs.LastLemmas.{last_in}
-use Rattle.pliron_core.proofs.ListLemmas.{In-cases, In-left, distinct-join, distinct-apart}
+use Rattle.pliron_core.proofs.ListLemmas.{In-cases, distinct-join, distinct-apart}
 use Rattle.pliron_core.proofs.TreeLemmas.{live-within, block-within}
-use Rattle.pliron_laws.specs.Datum.{Datum, Empty, Move, Shape, Meaning, Goto, Leave}
-use Rattle.pliron_laws.specs.Tree.{Operation, op_at, shape_of}
-use Rattle.pliron_laws.proofs.Records.{op_shows}
+use Rattle.pliron_laws.specs.Datum.{Datum, Empty, Move, Meaning, Goto, Leave}
 use Rattle.pliron_laws.proofs.ShapeLemmas.{live_at}
 use Rattle.pliron_pass_linked.specs.Calls.{CallingConvention}
-use Rattle.pliron_rewrite_inlining.specs.Inlined.{InlinedCall, Returns, IsFreshKey, IsReturnReplaced, IsBlockCopy, HasNewJump, IsCallInlined}
+use Rattle.pliron_rewrite_inlining.specs.Inlined.{InlinedCall, Returns, IsFreshKey, IsReturnReplaced, HasNewJump, IsCallInlined}
 use Rattle.pliron_rewrite_inlining.specs.InlinedBeside.{IsNewJump, AreCopiesBeside}
 use Rattle.pliron_rewrite_inlining.proofs.CallerSteps.{stays_at, shape_same}
 use Rattle.pliron_dialect_calls.specs.Inlinable.{IsJumpHead, NeverLeaves}
@@ -28,7 +26,7 @@ use Rattle.pliron_rewrite_calls.specs.Inlining.{IsInlined}
 use Rattle.pliron_rewrite_calls.specs.InliningSteps.{HasSamePlaces, IsAsBefore, IsJumpRow}
 use Rattle.pliron_rewrite_calls.proofs.CopyLists.{old_itself, new_item, original_in, original_apart}
 use Rattle.pliron_rewrite_calls.proofs.Growing.{no_some, past_row}
-use Rattle.pliron_rewrite_calls.proofs.InlinedCopies.{IsDone, os, o, parts, is_between_of, between_is, call_less, jump_less, new_past, places, olds_new, stays_on, led_on, body_on, home, parent_on, arguments_on, never_left, jump_goes, jump_fits, block_copy}
+use Rattle.pliron_rewrite_calls.proofs.InlinedCopies.{IsDone, o, parts, is_between_of, between_is, new_past, places, olds_new, stays_on, led_on, parent_on, arguments_on, never_left, jump_goes, jump_fits, block_copy}
 
 -- ---- values of copies have originals of their own
 

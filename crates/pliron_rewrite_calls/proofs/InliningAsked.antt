@@ -1,9 +1,8 @@
 -- What inlining a call asks of its steps, and that they make it.
-use Rattle.std.proofs.Common.{◌≡◌, ◌⊎◌, inl, inr, ⊎_elim, ℕ, ◌+◌, ◌<◌, ◌≤◌, Bool, List, [], ◌∷◌, ◌++◌, length, map, Some, None, IsTrue, is_some, refl, sym, ap, ◌∙◌, subst, arith}
+use Rattle.std.proofs.Common.{◌≡◌, ◌⊎◌, inl, ⊎_elim, ℕ, ◌+◌, ◌<◌, ◌≤◌, Bool, List, [], ◌∷◌, length, map, Some, None, is_some, refl, sym, ap, ◌∙◌, subst, arith}
 use Rattle.pliron_core.specs.declared.attrs.Head.{Head}
 use Rattle.pliron_core.specs.Invariant.{IsTree}
-use Rattle.pliron_core.specs.Tree.{Tree, In, IsLive, IsBlock, IsRegion, first_of, last_of, head_of, operands_of, successors_of, results_of, regions_of, parent_of, body_of, block_parent_of, layout_of}
-use Rattle.pliron_core.specs.Reads.{next_of}
+use Rattle.pliron_core.specs.Tree.{Tree, In, IsBlock, first_of, last_of, operands_of, results_of, regions_of, body_of, block_parent_of, layout_of}
 use Rattle.pliron_core.proofs.HoldingLemmas.{some_is, not_none}
 use Rattle.pliron_core.proofs.NeighbourLemmas.{first_of-In}
 use Rattle.pliron_core.proofs.TreeLemmas.{block-within}
@@ -11,8 +10,8 @@ use Rattle.pliron_laws.specs.Datum.{Datum, Meaning}
 use Rattle.pliron_pass_linked.specs.Calls.{CallingConvention}
 use Rattle.pliron_rewrite_copies.proofs.Maps.{in_map}
 use Rattle.pliron_rewrite_calls.specs.CopyTables.{block_or_copy_in}
-use Rattle.pliron_rewrite_calls.specs.Copying.{originals_of, AreChildless}
-use Rattle.pliron_rewrite_calls.specs.CopySteps.{CopySource, MayCopy}
+use Rattle.pliron_rewrite_calls.specs.Copying.{originals_of}
+use Rattle.pliron_rewrite_calls.specs.CopySteps.{MayCopy}
 use Rattle.pliron_rewrite_calls.specs.Inlining.{ReturnsAsMany, StaysInside, MayBeCopied, MayInline, IsInlined}
 use Rattle.pliron_rewrite_calls.specs.InliningSteps.{AreReturnsBare, AreCopiesLed, IsCallReplaced}
 use Rattle.pliron_rewrite_calls.proofs.CopyLists.{original_in, original_apart}

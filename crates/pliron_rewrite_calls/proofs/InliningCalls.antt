@@ -1,20 +1,18 @@
 -- What each call that inlines asks, and what it leaves.
-use Rattle.std.proofs.Common.{◌≡◌, ◌≢◌, inl, inr, ⊎_elim, ℕ, ◌+◌, ◌<◌, ◌≤◌, List, [], ◌∷◌, ◌++◌, length, get_or, take, map, Option, Some, None, IsSome, IsTrue, is_some, slice_get, refl, sym, ap, ◌∙◌, subst, arith}
+use Rattle.std.proofs.Common.{◌≡◌, ◌≢◌, ⊎_elim, ℕ, ◌+◌, ◌<◌, ◌≤◌, List, [], ◌∷◌, length, get_or, take, Some, None, IsSome, is_some, slice_get, refl, sym, ap, ◌∙◌, subst, arith}
 use Rattle.std.proofs.lemmas.Bool.{cases_eq}
 use Rattle.std.proofs.lemmas.List.{get_or_past, take_all}
 use Rattle.pliron_core.specs.declared.attrs.Head.{Head}
 use Rattle.pliron_core.specs.declared.context.OperationEntry.{OperationEntry}
 use Rattle.pliron_core.specs.Erased.{IsSelfContained, after_erasing}
 use Rattle.pliron_core.specs.Invariant.{IsTree}
-use Rattle.pliron_core.specs.Tree.{Tree, In, IsLive, IsBlock, IsDefined, HoldsBlock, last_of, no_entry, row_of, head_of, operands_of, successors_of, results_of, regions_of, parent_of, body_of, arguments_of, block_parent_of}
+use Rattle.pliron_core.specs.Tree.{Tree, In, IsLive, IsBlock, IsDefined, HoldsBlock, last_of, no_entry, row_of, operands_of, successors_of, results_of, regions_of, parent_of, body_of}
 use Rattle.pliron_core.specs.Reads.{next_of}
 use Rattle.pliron_core.specs.Writes.{after_creating, operand_pushed, successor_pushed, moved_last}
 use Rattle.pliron_core.proofs.CreatedLemmas.{defined_kept}
 use Rattle.pliron_core.proofs.GrownLemmas.{get_grown, get_last, get_last_same, slice_get_kept}
 use Rattle.pliron_core.proofs.LastLemmas.{last_in}
 use Rattle.pliron_core.proofs.TreeLemmas.{live-within}
-use Rattle.pliron_laws.specs.Datum.{Meaning}
-use Rattle.pliron_dialect_calls.specs.Inlinable.{IsJumpHead}
 use Rattle.pliron_rewrite_calls.specs.CopySteps.{HasNames}
 use Rattle.pliron_rewrite_calls.specs.InliningSteps.{IsJumpMade, IsPutLast, IsErasedAlone, IsUndone, IsLastReplaced, IsCallReplaced}
 use Rattle.pliron_rewrite_calls.proofs.CopyCalls.{operand_more, successor_more}

@@ -1,23 +1,22 @@
 -- A jump is made, put at the end of a block, or undone.
-use Rattle.std.proofs.Common.{◌≡◌, ◌≢◌, ◌⊎◌, inl, inr, ⊎_elim, ℕ, ◌+◌, ◌<◌, ◌≤◌, List, [], ◌∷◌, ◌++◌, length, get_or, Option, Some, None, slice_set, refl, sym, ap, ◌∙◌, subst, append_assoc, append-nil, arith}
+use Rattle.std.proofs.Common.{◌≡◌, ◌≢◌, inl, inr, ⊎_elim, ℕ, ◌<◌, ◌≤◌, List, [], ◌∷◌, ◌++◌, length, get_or, Option, Some, None, refl, sym, ap, ◌∙◌, subst, append_assoc, append-nil, arith}
 use Rattle.std.proofs.lemmas.Bool.{cases_eq}
 use Rattle.std.proofs.lemmas.List.{length-set, get_or-set_other, get_or-set_same, length-append, get_or_past}
 use Rattle.pliron_core.specs.declared.attrs.Head.{Head}
 use Rattle.pliron_core.specs.declared.context.OperationEntry.{OperationEntry}
-use Rattle.pliron_core.specs.Changes.{IsSameTree}
 use Rattle.pliron_core.specs.Invariant.{IsTree}
 use Rattle.pliron_core.specs.Lists.{without}
-use Rattle.pliron_core.specs.Tree.{Tree, In, IsDistinct, IsLive, IsBlock, first_of, last_of, next_in, up_from, no_entry, row_of, head_of, operands_of, successors_of, results_of, regions_of, parent_of, body_of}
+use Rattle.pliron_core.specs.Tree.{Tree, In, IsDistinct, IsLive, IsBlock, first_of, last_of, next_in, up_from, no_entry, row_of, operands_of, successors_of, parent_of, body_of}
 use Rattle.pliron_core.specs.Reads.{next_of}
 use Rattle.pliron_core.specs.Writes.{after_creating, moved_last, put_last, taken_from}
 use Rattle.pliron_core.proofs.EditLemmas.{without-out}
 use Rattle.pliron_core.proofs.GrownLemmas.{get_grown, get_last, get_last_same, get_padded}
 use Rattle.pliron_core.proofs.HoldingLemmas.{not_none, some_is}
 use Rattle.pliron_core.proofs.LastLemmas.{last_front, last_in}
-use Rattle.pliron_core.proofs.ListLemmas.{In-right, distinct-apart, distinct-back, next_in-split, split_at, without-split}
+use Rattle.pliron_core.proofs.ListLemmas.{distinct-apart, distinct-back, next_in-split, split_at, without-split}
 use Rattle.pliron_core.proofs.TreeLemmas.{live-within, block-within}
-use Rattle.pliron_rewrite_calls.specs.CopySteps.{IsGrownIn, HasNames}
-use Rattle.pliron_rewrite_calls.specs.InliningSteps.{HasSamePlaces, IsAsBefore, IsJumpRow, IsJumpMade, IsPutLast, IsErasedAlone, IsUndone, IsLastReplaced, IsCallReplaced}
+use Rattle.pliron_rewrite_calls.specs.CopySteps.{HasNames}
+use Rattle.pliron_rewrite_calls.specs.InliningSteps.{HasSamePlaces, IsAsBefore, IsJumpMade, IsPutLast, IsErasedAlone, IsUndone, IsLastReplaced, IsCallReplaced}
 
 -- ---- a jump more
 

@@ -1,10 +1,10 @@
 -- The copies of blocks are looked at one after the other, and their returns led back.
-use Rattle.std.proofs.Common.{◌≡◌, inl, inr, ⊎_elim, ℕ, ◌+◌, ◌<◌, ◌≤◌, Bool, List, [], ◌∷◌, ◌++◌, length, get_or, take, drop, map, Option, Some, None, IsSome, IsTrue, refl, sym, ap, ◌∙◌, subst, arith}
+use Rattle.std.proofs.Common.{◌≡◌, inl, ⊎_elim, ℕ, ◌+◌, ◌<◌, ◌≤◌, Bool, List, [], ◌∷◌, ◌++◌, length, get_or, take, drop, map, Some, None, IsSome, refl, sym, ap, ◌∙◌, subst, arith}
 use Rattle.std.specs.Option.{option_map}
 use Rattle.std.proofs.lemmas.List.{map-append, take_all}
 use Rattle.pliron_core.specs.declared.attrs.Head.{Head}
 use Rattle.pliron_core.specs.Invariant.{IsTree}
-use Rattle.pliron_core.specs.Tree.{Tree, In, IsDistinct, IsLive, IsBlock, first_of, last_of, head_of, operands_of, results_of, regions_of, parent_of, body_of}
+use Rattle.pliron_core.specs.Tree.{Tree, In, IsDistinct, IsLive, IsBlock, first_of, last_of, operands_of, results_of, body_of}
 use Rattle.pliron_core.proofs.HoldingLemmas.{some_of}
 use Rattle.pliron_core.proofs.ListLemmas.{In-left, distinct-apart}
 use Rattle.pliron_core.proofs.TreeLemmas.{live-within, block-within}
@@ -15,10 +15,10 @@ use Rattle.pliron_rewrite_calls.specs.declared.copies.Copies.{Copies}
 use Rattle.pliron_rewrite_calls.specs.CopyTables.{block_copy, or_itself, block_or_copy_in}
 use Rattle.pliron_rewrite_calls.specs.Copying.{originals_of, AreCopiedInto, KnowsCopies}
 use Rattle.pliron_rewrite_calls.specs.CopySteps.{CopySource, MayCopy, IsGrownIn}
-use Rattle.pliron_rewrite_calls.specs.InliningSteps.{IsUndone, IsReturnLed, AreReturnsBare, AreReturnsLed}
+use Rattle.pliron_rewrite_calls.specs.InliningSteps.{IsReturnLed, AreReturnsBare, AreReturnsLed}
 use Rattle.pliron_rewrite_calls.proofs.CopyLists.{split_at, take_next, there}
 use Rattle.pliron_rewrite_calls.proofs.Growing.{new_only, block_grown}
-use Rattle.pliron_rewrite_calls.proofs.ReturnsLed.{led_kept, led_more, last_still, still, grown_undone, grown_replaced}
+use Rattle.pliron_rewrite_calls.proofs.ReturnsLed.{led_kept, led_more, last_still, still, grown_replaced}
 
 -- blocks of t were copied, and these are the copies
 pub record AreReady (t u : Tree) (region : ℕ) (blocks : List ℕ) (copies : Copies) : Type 0 where

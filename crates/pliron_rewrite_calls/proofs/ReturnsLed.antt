@@ -1,10 +1,10 @@
 -- The returns of blocks become jumps, one after the other.
 use Rattle.std.proofs.Common.{◌≡◌, ◌≢◌, ◌⊎◌, inl, inr, ⊎_elim, ℕ, zero, suc, ◌+◌, ◌-◌, ◌<◌, ◌≤◌, Bool, List, [], ◌∷◌, ◌++◌, length, get_or, Some, None, IsSome, IsTrue, slice_get, refl, sym, ap, ◌∙◌, subst, arith}
-use Rattle.std.proofs.lemmas.Bool.{cases_eq, cases_lt}
+use Rattle.std.proofs.lemmas.Bool.{cases_eq}
 use Rattle.std.proofs.lemmas.List.{length-append}
 use Rattle.pliron_core.specs.declared.attrs.Head.{Head}
 use Rattle.pliron_core.specs.Invariant.{IsTree}
-use Rattle.pliron_core.specs.Tree.{Tree, In, IsLive, last_of, no_entry, row_of, head_of, operands_of, results_of, regions_of, parent_of, body_of}
+use Rattle.pliron_core.specs.Tree.{Tree, In, IsLive, last_of, row_of, head_of, operands_of, results_of, regions_of, parent_of, body_of}
 use Rattle.pliron_core.proofs.HoldingLemmas.{some_is, some_of}
 use Rattle.pliron_core.proofs.LastLemmas.{last_in, in_end}
 use Rattle.pliron_core.proofs.ListLemmas.{In-left, In-right, In-cases}
@@ -14,10 +14,10 @@ use Rattle.pliron_laws.specs.Datum.{Meaning}
 use Rattle.pliron_dialect_calls.specs.Inlinable.{IsJumpHead}
 use Rattle.pliron_rewrite_calls.specs.Copying.{original_by}
 use Rattle.pliron_rewrite_calls.specs.CopySteps.{IsGrownIn}
-use Rattle.pliron_rewrite_calls.specs.InliningSteps.{HasSamePlaces, IsAsBefore, IsJumpRow, IsUndone, IsLastReplaced, EndsOtherwise, IsInPlaceOf, IsEndLed, IsReturnOf, AreReturnsBare, AreReturnsLed}
+use Rattle.pliron_rewrite_calls.specs.InliningSteps.{IsAsBefore, IsJumpRow, IsUndone, IsLastReplaced, EndsOtherwise, IsInPlaceOf, IsEndLed, IsReturnOf, AreReturnsBare, AreReturnsLed}
 use Rattle.pliron_rewrite_calls.proofs.CopyLists.{new_item, original_at}
 use Rattle.pliron_rewrite_calls.proofs.ErasedAgain.{last_there}
-use Rattle.pliron_rewrite_calls.proofs.Growing.{no_some, past_row, new_only}
+use Rattle.pliron_rewrite_calls.proofs.Growing.{no_some, new_only}
 use Rattle.pliron_rewrite_calls.proofs.JumpsMade.{after_both, as_before_both}
 
 get_front : (xs ys : List ℕ) (i d : ℕ) → i < length xs → get_or (xs ++ ys) i d ≡ get_or xs i d

@@ -306,7 +306,9 @@ pub fn inline_call<D: InliningDialect, R: Rewriter + Room>(
     push_layout(callee.get_region(ctx, 0), ctx, &mut blocks)?;
     push_all_operations(blocks.as_slice(), ctx, &mut operations)?;
     // the copies, three changes for each return, what puts the new jump, and what takes the copies back
-    let changes = operations.len().saturating_add(blocks.len().saturating_mul(4));
+    let changes = operations
+        .len()
+        .saturating_add(blocks.len().saturating_mul(4));
     rewriter.room(alloc, changes.saturating_add(4))?;
     let new = copy_and_lead_back::<D, R>(
         alloc,

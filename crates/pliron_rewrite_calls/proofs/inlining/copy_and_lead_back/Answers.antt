@@ -1,4 +1,4 @@
-use Rattle.std.proofs.Common.{rules, ◌≡◌, None, Some, List, ℕ, ap, sym, ◌∙◌, subst}
+use Rattle.std.proofs.Common.{rules, ◌≡◌, None, List, ℕ, ap, sym, ◌∙◌, subst}
 use Rattle.pliron_core.specs.Tree.{Tree, IsRegion, layout_of, last_of, first_of, operands_of}
 use Rattle.pliron_rewrite_calls.specs.CopySteps.{IsGrownIn}
 use Rattle.pliron_rewrite_calls.specs.InliningSteps.{IsLedBack}
@@ -30,10 +30,10 @@ lead_back-requires g c =
 pub returns-in-Ok-clause-led : goal.returns-in-Ok-clause-led
 returns-in-Ok-clause-led g c =
     let l = c.in-Ok.ensures.led in
-    let same = sym c.requires.1.1.1.1.0 in
-    ( l.0
-    , ap (λ (bs : List ℕ). first_of bs None) c.requires.1.1.1.1.0 ∙ l.1
-    , record {
+    let same = sym c.requires.1.1.1.1.0 in (
+      l.0,
+      ap (λ (bs : List ℕ). first_of bs None) c.requires.1.1.1.1.0 ∙ l.1,
+      record {
         copied = c.copy_within_room.new.ctx.tree;
         copies = c.in_ok-copies.copies;
         are_copied = c.in_ok-copies.ensures.ok;
@@ -41,7 +41,8 @@ returns-in-Ok-clause-led g c =
         tree = c.well_formed-2.ensures.tree;
         grown = c.in_ok-copies.ensures.grown;
         led_back = subst (λ bs. IsLedBack g.D.HasMeaning.meaning g.D.InliningDialect.returns c.copy_within_room.new.ctx.tree c.lead_back.new.ctx.tree c.in_ok-copies.copies bs c.args.after (operands_of g.x.tree c.args.call) l.0 c.in-Ok.jump) same l.2;
-      } )
+      },
+    )
 
 pub erase_new_blocks-requires : goal.erase_new_blocks-requires
 erase_new_blocks-requires g c =

@@ -1,5 +1,5 @@
-use Rattle.std.proofs.Common.{rules, ◌≡◌, ◌<◌, ℕ, List, [], ◌∷◌, ◌++◌, length, refl, ap, sym, ◌∙◌, subst, arith}
-use Rattle.pliron_core.specs.Tree.{Tree, successors_of, regions_of, layout_of}
+use Rattle.std.proofs.Common.{◌≡◌, ◌<◌, ℕ, List, ◌++◌, length, refl, ap, sym, ◌∙◌, subst, arith}
+use Rattle.pliron_core.specs.Tree.{successors_of, layout_of}
 use Rattle.pliron_core.proofs.HoldingLemmas.{some_is}
 use Rattle.pliron_rewrite_calls.specs.Copying.{operations_of}
 use Rattle.pliron_rewrite_calls.proofs.CallReady.{copies_may, bare_blocks, after_is_block, some_blocks, replaceable, it_is_inlined}

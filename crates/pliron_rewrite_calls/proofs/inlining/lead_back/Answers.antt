@@ -1,5 +1,5 @@
 use Rattle.std.proofs.Common.{◌≡◌, ℕ, List, length, [], ◌∷◌, ap, sym, ◌∙◌, subst}
-use Rattle.pliron_core.specs.Tree.{Tree, In, IsLive, IsBlock, operands_of}
+use Rattle.pliron_core.specs.Tree.{In, IsBlock, operands_of}
 use Rattle.pliron_dialect_calls.specs.Inlinable.{IsJumpHead}
 use Rattle.pliron_laws.proofs.FoldLemmas.{on_err}
 use Rattle.pliron_rewrite_calls.specs.CopyTables.{block_or_copy_in}
@@ -30,11 +30,11 @@ returns-clause-led g c =
     let a = c.in_ok-replace_returns.ensures.led in
     let items : c.in_ok-values.values.items ≡ operands_of g.x.tree c.args.call = c.in_ok-values.ensures ∙ operands_stay g.x.tree led g.x.region c.args.call c.requires.1.1.1.1.1.1.1.1.1.0 c.replace_returns.ensures.grown in
     let made : IsJumpMade led c.make_jump.new.ctx.tree c.in_ok-jump.jump c.in_ok-head.head (operands_of g.x.tree c.args.call) (block_or_copy_in c.args.copies.now c.index-blocks-0.result ∷ []) =
-        subst (λ b. IsJumpMade led c.make_jump.new.ctx.tree c.in_ok-jump.jump c.in_ok-head.head (operands_of g.x.tree c.args.call) (b ∷ [])) c.block_or_copy-entry.ensures
-        (subst (λ (xs : List ℕ). IsJumpMade led c.make_jump.new.ctx.tree c.in_ok-jump.jump c.in_ok-head.head xs (c.block_or_copy-entry.result ∷ [])) (c.as_slice.ensures.value ∙ items) c.in_ok-jump.ensures.made) in
-    ( c.index-blocks-0.result
-    , first_is c.args.blocks.now c.index-blocks-0.result c.requires.1.1.1.1.1.1.1.1.1.1 c.index-blocks-0.is
-    , record {
+    subst (λ b. IsJumpMade led c.make_jump.new.ctx.tree c.in_ok-jump.jump c.in_ok-head.head (operands_of g.x.tree c.args.call) (b ∷ [])) c.block_or_copy-entry.ensures
+    (subst (λ (xs : List ℕ). IsJumpMade led c.make_jump.new.ctx.tree c.in_ok-jump.jump c.in_ok-head.head xs (c.block_or_copy-entry.result ∷ [])) (c.as_slice.ensures.value ∙ items) c.in_ok-jump.ensures.made) in (
+      c.index-blocks-0.result,
+      first_is c.args.blocks.now c.index-blocks-0.result c.requires.1.1.1.1.1.1.1.1.1.1 c.index-blocks-0.is,
+      record {
         led = led;
         tree = c.well_formed-3.ensures.tree;
         olds = a.0;
@@ -42,4 +42,5 @@ returns-clause-led g c =
         head = c.in_ok-head.head;
         jumps = subst (λ n. IsJumpHead g.D.HasMeaning.meaning n c.in_ok-head.head) (c.len.ensures ∙ sym c.as_slice.ensures.len ∙ ap length (c.as_slice.ensures.value ∙ items)) c.in_ok-head.ensures.jump;
         made = made;
-      } )
+      },
+    )

@@ -1,9 +1,8 @@
-use Rattle.std.proofs.Common.{◌≡◌, ℕ, length, [], ◌∷◌, ap, sym, ◌∙◌, subst}
-use Rattle.pliron_core.specs.Tree.{Tree, In, operands_of}
+use Rattle.std.proofs.Common.{◌≡◌, length, [], ◌∷◌, ap, sym, ◌∙◌, subst}
+use Rattle.pliron_core.specs.Tree.{In, operands_of}
 use Rattle.pliron_dialect_calls.specs.Inlinable.{IsJumpHead}
 use Rattle.pliron_laws.proofs.FoldLemmas.{on_err}
 use Rattle.pliron_core.proofs.LastLemmas.{last_in}
-use Rattle.pliron_rewrite_calls.specs.InliningSteps.{IsUndone}
 use Rattle.pliron_rewrite_calls.proofs.InliningCalls.{made_live, made_block, made_outside, old_stands, old_contained, replaced_last}
 use Rattle.pliron_rewrite_calls.proofs.JumpsMade.{nothing_done}
 use Rattle.pliron_rewrite_calls.proofs.inlining.replace_last.Goals as goal
@@ -45,7 +44,8 @@ erase_operation-requires-clause-contained g c =
 
 pub returns-clause-ok : goal.returns-clause-ok
 returns-clause-ok g c =
-    let many : c.len.result ≡ length (operands_of c.args.ctx.now.tree c.args.last) = c.len.ensures ∙ sym c.as_slice.ensures.len ∙ ap length (c.as_slice.ensures.value ∙ c.in_ok-values.ensures) in
-    ( c.in_ok-head.head
-    , subst (λ n. IsJumpHead g.D.HasMeaning.meaning n c.in_ok-head.head) many c.in_ok-head.ensures.jump
-    , replaced_last c.args.ctx.now.tree c.make_jump.new.ctx.tree c.move_operation_to_end.new.ctx.tree c.erase_operation.new.ctx.tree c.args.block c.args.last c.in_ok-jump.jump c.args.after c.in_ok-head.head c.as_slice.result.now c.well_formed-2.ensures.tree c.well_formed-3.ensures.tree c.well_formed-4.ensures.tree c.requires.block c.requires.last c.requires.no_results c.requires.no_regions (c.as_slice.ensures.value ∙ c.in_ok-values.ensures) c.in_ok-jump.ensures.made (ap (λ z. z.tree) c.move_operation_to_end.ensures.moved) c.erase_operation.ensures.erased )
+    let many : c.len.result ≡ length (operands_of c.args.ctx.now.tree c.args.last) = c.len.ensures ∙ sym c.as_slice.ensures.len ∙ ap length (c.as_slice.ensures.value ∙ c.in_ok-values.ensures) in (
+      c.in_ok-head.head,
+      subst (λ n. IsJumpHead g.D.HasMeaning.meaning n c.in_ok-head.head) many c.in_ok-head.ensures.jump,
+      replaced_last c.args.ctx.now.tree c.make_jump.new.ctx.tree c.move_operation_to_end.new.ctx.tree c.erase_operation.new.ctx.tree c.args.block c.args.last c.in_ok-jump.jump c.args.after c.in_ok-head.head c.as_slice.result.now c.well_formed-2.ensures.tree c.well_formed-3.ensures.tree c.well_formed-4.ensures.tree c.requires.block c.requires.last c.requires.no_results c.requires.no_regions (c.as_slice.ensures.value ∙ c.in_ok-values.ensures) c.in_ok-jump.ensures.made (ap (λ z. z.tree) c.move_operation_to_end.ensures.moved) c.erase_operation.ensures.erased,
+    )

@@ -1,4 +1,4 @@
-use Rattle.std.proofs.Common.{◌<◌, ◌≤◌, length, [], refl, sym, ap, ◌∙◌, subst, arith}
+use Rattle.std.proofs.Common.{◌<◌, ◌≤◌, length, [], refl, sym, ◌∙◌, subst, arith}
 use Rattle.pliron_core.specs.Tree.{In, IsBlock}
 use Rattle.pliron_rewrite_calls.specs.InliningSteps.{AreReturnsBare, IsReturnLed}
 use Rattle.pliron_rewrite_calls.proofs.ReturnsLed.{led_none, grown_undone}
