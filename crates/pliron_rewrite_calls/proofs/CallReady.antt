@@ -18,7 +18,7 @@ use Rattle.pliron_rewrite_calls.specs.CopyTables.{block_or_copy_in}
 use Rattle.pliron_rewrite_calls.specs.Copying.{original_by, parts_of, originals_of}
 use Rattle.pliron_rewrite_calls.specs.CopySteps.{MayCopy}
 use Rattle.pliron_rewrite_calls.specs.Inlining.{MayInline, IsInlined}
-use Rattle.pliron_rewrite_calls.specs.InliningSteps.{IsAsBefore, IsJumpMade, AreReturnsBare, AreReturnsLed, AreCopiesLed, IsCallReplaced}
+use Rattle.pliron_rewrite_calls.specs.InliningSteps.{IsSameAt, IsJumpMade, AreReturnsBare, AreReturnsLed, AreCopiesLed, IsCallReplaced}
 use Rattle.pliron_rewrite_calls.proofs.CopyLists.{old_itself, original_in}
 use Rattle.pliron_rewrite_calls.proofs.Growing.{no_some, new_only}
 use Rattle.pliron_rewrite_calls.proofs.InliningAsked.{may_copy, returns_bare, after_block, not_empty, call_is_inlined}
@@ -68,12 +68,12 @@ module _ (m : Meaning) (c : CallingConvention) (returns : Head → Bool) (t : Tr
     olds_new : (k : ℕ) → In k l.led_back.olds → length t.operations ≤ k
     olds_new k i = let f = returns_led.from k i in new_only t l.copied region w l.grown l.tree k f.block f.holds (copies_new_here f.block f.listed)
 
-    stays : (k : ℕ) → k < length t.operations → IsAsBefore t v k
+    stays : (k : ℕ) → k < length t.operations → IsSameAt t v k
     stays k lt =
         let n = l.are_copied.operation_count in
         let p = returns_led.count in
         let q = made.key in
-        let copied : IsAsBefore t l.copied k = record { row = l.are_copied.rows k lt; operands = l.are_copied.operands k lt; successors = l.are_copied.successors k lt; parent = l.are_copied.parents k lt } in
+        let copied : IsSameAt t l.copied k = record { row = l.are_copied.rows k lt; operands = l.are_copied.operands k lt; successors = l.are_copied.successors k lt; parent = l.are_copied.parents k lt } in
         as_before_both t l.copied v k copied
         (as_before_both l.copied led v k (returns_led.others k (omega (arith, n, lt)) (λ i. let f = olds_new k i in omega (arith, f, lt)))
         (made.others k (λ e. omega (arith, e, q, p, n, lt))))

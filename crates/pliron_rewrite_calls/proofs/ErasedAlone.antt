@@ -18,7 +18,7 @@ use Rattle.pliron_core.proofs.ErasedLemmas.{taken-slots, taken-definitions, take
 use Rattle.pliron_core.proofs.HoldingLemmas.{not_none, some_is, in_slice}
 use Rattle.pliron_core.proofs.TreeLemmas.{live-within, cases_lt}
 use Rattle.pliron_core.proofs.WithinLemmas.{within_is, block_holder_from}
-use Rattle.pliron_rewrite_calls.specs.InliningSteps.{HasSamePlaces, IsAsBefore, IsErasedAlone}
+use Rattle.pliron_rewrite_calls.specs.InliningSteps.{HasSamePlaces, IsSameAt, IsErasedChildless}
 use Rattle.pliron_rewrite_calls.proofs.Growing.{holds_nothing, outside_childless}
 
 taken-arguments : (t : Tree) (k : ℕ) (o : Option ℕ) → (taken_from t k o).arguments ≡ t.arguments
@@ -93,7 +93,7 @@ module _ (t : Tree) (k : ℕ) (w : IsTree t) (live : IsLive t k) (none : regions
       layouts = layouts;
     }
 
-    others : (j : ℕ) → j ≢ k → IsAsBefore t (after_clearing free (nat_eq k)) j
+    others : (j : ℕ) → j ≢ k → IsSameAt t (after_clearing free (nat_eq k)) j
     others j ne = record {
       row = blanked_kept _ no_entry free.operations j (kept j ne) ∙ ap (λ z. get_or z j no_entry) (taken-operations t k o);
       operands = blanked_kept _ [] free.operands j (kept j ne) ∙ ap (λ z. get_or z j []) (taken-operands t k o);
@@ -101,7 +101,7 @@ module _ (t : Tree) (k : ℕ) (w : IsTree t) (live : IsLive t k) (none : regions
       parent = blanked_kept _ None free.parents j (kept j ne) ∙ taken-others t k j o ne;
     }
 
-    cleared_alone : IsErasedAlone t (after_clearing free (nat_eq k)) k
+    cleared_alone : IsErasedChildless t (after_clearing free (nat_eq k)) k
     cleared_alone = record {
       gone = blanked_gone _ no_entry free.operations k gone;
       no_operands = blanked_gone _ [] free.operands k gone;
@@ -113,8 +113,8 @@ module _ (t : Tree) (k : ℕ) (w : IsTree t) (live : IsLive t k) (none : regions
       count = length-blanked _ no_entry free.operations ∙ ap length (taken-operations t k o);
     }
 
-  pub erased_alone : (u : Tree) → u ≡ after_erasing t k → IsErasedAlone t u k
-  erased_alone u e = subst (λ (z : Tree). IsErasedAlone t z k) (sym e) (cleared_alone (parent_of t k) refl)
+  pub erased_alone : (u : Tree) → u ≡ after_erasing t k → IsErasedChildless t u k
+  erased_alone u e = subst (λ (z : Tree). IsErasedChildless t z k) (sym e) (cleared_alone (parent_of t k) refl)
 
   -- it may go where its results have no uses
   pub alone_contained : ((x v : ℕ) → In v (results_of t k) → In v (operands_of t x) → ⊥) → IsSelfContained t k

@@ -25,8 +25,8 @@ use Rattle.pliron_rewrite_inlining.proofs.CopiedShapes.{same_shape}
 use Rattle.pliron_dialect_calls.specs.Inlinable.{IsJumpHead, NeverLeaves}
 use Rattle.pliron_rewrite_calls.specs.Copying.{original_by, parts_of, originals_of, IsOperationCopy, AreCopiedInto}
 use Rattle.pliron_rewrite_calls.specs.CopySteps.{IsGrownIn}
-use Rattle.pliron_rewrite_calls.specs.Inlining.{ReturnsAsMany, StaysInside, MayBeCopied, MayInline}
-use Rattle.pliron_rewrite_calls.specs.InliningSteps.{HasSamePlaces, IsAsBefore, IsJumpRow, IsJumpMade, IsCallReplaced, EndsOtherwise, IsInPlaceOf, AreReturnsLed}
+use Rattle.pliron_rewrite_calls.specs.Inlining.{ReturnsAsMany, StaysWithin, MayBeCopied, MayInline}
+use Rattle.pliron_rewrite_calls.specs.InliningSteps.{HasSamePlaces, IsSameAt, IsJumpRow, IsJumpMade, IsCallReplaced, EndsOtherwise, IsInPlaceOf, AreReturnsLed}
 use Rattle.pliron_rewrite_calls.proofs.CopyLists.{old_itself, original_in}
 use Rattle.pliron_rewrite_calls.proofs.ErasedAgain.{from_end, last_there}
 use Rattle.pliron_rewrite_calls.proofs.Growing.{new_only}
@@ -117,7 +117,7 @@ module _ (m : Meaning) (u : Tree) (k target : ℕ) (h : Head) (values : List ℕ
 
 -- ---- blocks that may be copied
 
-split_copied : (m : Meaning) (returns : Head → Bool) (t : Tree) (n : ℕ) (f : ℕ → ℕ) (front : List ℕ) (last : ℕ) → MayBeCopied m returns t n (map f (front ++ last ∷ [])) → ((k : ℕ) → In k front → NeverLeaves m t (f k)) × (ReturnsAsMany m returns t n (f last) ⊎ StaysInside m returns t (f last))
+split_copied : (m : Meaning) (returns : Head → Bool) (t : Tree) (n : ℕ) (f : ℕ → ℕ) (front : List ℕ) (last : ℕ) → MayBeCopied m returns t n (map f (front ++ last ∷ [])) → ((k : ℕ) → In k front → NeverLeaves m t (f k)) × (ReturnsAsMany m returns t n (f last) ⊎ StaysWithin m returns t (f last))
 split_copied m returns t n f [] last p = (λ k i. absurd i, p.1)
 split_copied m returns t n f (j ∷ []) last p = (λ k i. ⊎_elim (λ e. subst (λ z. NeverLeaves m t (f z)) (sym e) p.1) (λ z. absurd z) i, p.2.1)
 split_copied m returns t n f (j ∷ l ∷ front) last p =
@@ -226,13 +226,13 @@ module _ (m : Meaning) (c : CallingConvention) (returns : Head → Bool) (t u : 
   pub olds_new : (k : ℕ) → In k d.olds → length t.operations ≤ k
   olds_new k i = let f = d.returns_led.from k i in new_only t d.copied d.region d.tree d.grown d.copied_tree k f.block f.holds (d.all_new f.block f.listed)
 
-  pub stays_on : (k : ℕ) → k < length d.copied.operations → (In k d.olds → ⊥) → k ≢ call → k ≢ d.may.jump → IsAsBefore d.copied u k
+  pub stays_on : (k : ℕ) → k < length d.copied.operations → (In k d.olds → ⊥) → k ≢ call → k ≢ d.may.jump → IsSameAt d.copied u k
   stays_on k lt out nc nj =
       let n : k ≢ d.new = λ e. let p = new_past in omega (arith, e, p, lt) in
       as_before_both d.copied d.led u k (d.returns_led.others k lt out) (as_before_both d.led d.made u k (d.is_made.others k n) (d.replaced.others k nc nj n))
 
   -- so does what is new once the returns are led back
-  pub led_on : (k : ℕ) → length t.operations ≤ k → k < length d.led.operations → IsAsBefore d.led u k
+  pub led_on : (k : ℕ) → length t.operations ≤ k → k < length d.led.operations → IsSameAt d.led u k
   led_on k le lt =
       let n : k ≢ d.new = λ e. let f = d.is_made.key in omega (arith, e, f, lt) in
       as_before_both d.led d.made u k (d.is_made.others k n) (d.replaced.others k (λ e. let y = call_less in omega (arith, e, y, le)) (λ e. let y = jump_less in omega (arith, e, y, le)) n)
@@ -323,7 +323,7 @@ module _ (m : Meaning) (c : CallingConvention) (returns : Head → Bool) (t u : 
 
       -- it stays where it isn't a return that was led back
       module _ (out : In k d.olds → ⊥) where
-        on : IsAsBefore d.copied u k
+        on : IsSameAt d.copied u k
         on = stays_on k within out (λ e. let x = call_less in let f = from_new in omega (arith, e, x, f)) (λ e. let x = jump_less in let f = from_new in omega (arith, e, x, f))
 
         original_is : parts.originals.operation k ≡ o.operation k
@@ -370,7 +370,7 @@ module _ (m : Meaning) (c : CallingConvention) (returns : Head → Bool) (t u : 
         never_gives never = λ ok f memo input ds e. let y = live_at t (o.operation k) original_live in never y.0 y.1 memo input ds (ap (λ z. m.act z memo input) (shape_on y.0 ok y.1 f) ∙ e)
 
     -- how it ends
-    pub ends_so : (front : List ℕ) (last : ℕ) → body_of d.copied b ≡ front ++ last ∷ [] → ((k : ℕ) → In k front → NeverLeaves m t (o.operation k)) × (ReturnsAsMany m returns t many (o.operation last) ⊎ StaysInside m returns t (o.operation last))
+    pub ends_so : (front : List ℕ) (last : ℕ) → body_of d.copied b ≡ front ++ last ∷ [] → ((k : ℕ) → In k front → NeverLeaves m t (o.operation k)) × (ReturnsAsMany m returns t many (o.operation last) ⊎ StaysWithin m returns t (o.operation last))
     ends_so front last e = split_copied m returns t many o.operation front last (subst (MayBeCopied m returns t many) ((d.copies.block_copies b le lt).body ∙ ap (map o.operation) e) (d.may.copied (o.block b) (home b le lt)))
 
     not_old : (front : List ℕ) (last k : ℕ) → body_of d.copied b ≡ front ++ last ∷ [] → In k (body_of d.copied b) → In k d.olds → k ≡ last
@@ -397,7 +397,7 @@ module _ (m : Meaning) (c : CallingConvention) (returns : Head → Bool) (t u : 
 
       -- with what closes it
       module _ (other : EndsOtherwise returns d.copied b) where
-        closes : StaysInside m returns t (o.operation last)
+        closes : StaysWithin m returns t (o.operation last)
         closes = ⊎_elim (λ q.
             let y = some_of (head_of d.copied last) (copy last in_last).live in
             absurd (other last y.0 (ap (last_of None) e ∙ last_there None front last) y.1 (q.is_return y.0 ((copy last in_last).same.head ∙ y.1)))) (λ q. q) (ends_so front last e).1
@@ -421,7 +421,7 @@ module _ (m : Meaning) (c : CallingConvention) (returns : Head → Bool) (t u : 
             let y = some_of (head_of d.copied last) (copy last in_last).live in
             absurd (q.no_return y.0 ((copy last in_last).same.head ∙ y.1) (returned y.0 y.1))) (ends_so front last e).1
 
-        on_new : IsAsBefore d.led u new
+        on_new : IsSameAt d.led u new
         on_new = led_on new (let x = d.copies.operation_count in omega (arith, x, ge)) less
 
         abbrev j : IsInPlaceOf m d.copied d.led d.may.after (original_by d.olds (length d.copied.operations) new) new

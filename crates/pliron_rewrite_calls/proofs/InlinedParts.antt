@@ -23,7 +23,7 @@ use Rattle.pliron_rewrite_inlining.proofs.CallerSteps.{stays_at, shape_same}
 use Rattle.pliron_dialect_calls.specs.Inlinable.{IsJumpHead, NeverLeaves}
 use Rattle.pliron_rewrite_calls.specs.Copying.{original_by, parts_of, originals_of, operations_of}
 use Rattle.pliron_rewrite_calls.specs.Inlining.{IsInlined}
-use Rattle.pliron_rewrite_calls.specs.InliningSteps.{HasSamePlaces, IsAsBefore, IsJumpRow}
+use Rattle.pliron_rewrite_calls.specs.InliningSteps.{HasSamePlaces, IsSameAt, IsJumpRow}
 use Rattle.pliron_rewrite_calls.proofs.CopyLists.{old_itself, new_item, original_in, original_apart}
 use Rattle.pliron_rewrite_calls.proofs.Growing.{no_some, past_row}
 use Rattle.pliron_rewrite_calls.proofs.InlinedCopies.{IsDone, o, parts, is_between_of, between_is, new_past, places, olds_new, stays_on, led_on, parent_on, arguments_on, never_left, jump_goes, jump_fits, block_copy}
@@ -146,7 +146,7 @@ module _ (m : Meaning) (c : CallingConvention) (returns : Head → Bool) (t u : 
   abbrev blocks : List ℕ
   blocks = layout_of t d.may.region
 
-  old_on : (k : ℕ) → k < length t.operations → k ≢ call → k ≢ d.may.jump → IsAsBefore t u k
+  old_on : (k : ℕ) → k < length t.operations → k ≢ call → k ≢ d.may.jump → IsSameAt t u k
   old_on k lt nc nj =
       let f = d.copies.operation_count in
       let s = stays_on m c returns t u call callee symbol d k (omega (arith, f, lt)) (λ i. let g = olds_new m c returns t u call callee symbol d k i in omega (arith, g, lt)) nc nj in
@@ -157,7 +157,7 @@ module _ (m : Meaning) (c : CallingConvention) (returns : Head → Bool) (t u : 
         parent = s.parent ∙ d.copies.parents k lt;
       }
 
-  old_live : (k : ℕ) → IsLive t k → k ≢ call → k ≢ d.may.jump → IsAsBefore t u k
+  old_live : (k : ℕ) → IsLive t k → k ≢ call → k ≢ d.may.jump → IsSameAt t u k
   old_live k live nc nj = old_on k (live-within t k live) nc nj
 
   block_in : d.may.block < length t.bodies

@@ -12,7 +12,7 @@ use Rattle.pliron_rewrite_copies.proofs.Maps.{in_map}
 use Rattle.pliron_rewrite_calls.specs.CopyTables.{block_or_copy_in}
 use Rattle.pliron_rewrite_calls.specs.Copying.{originals_of}
 use Rattle.pliron_rewrite_calls.specs.CopySteps.{MayCopy}
-use Rattle.pliron_rewrite_calls.specs.Inlining.{ReturnsAsMany, StaysInside, MayBeCopied, MayInline, IsInlined}
+use Rattle.pliron_rewrite_calls.specs.Inlining.{ReturnsAsMany, StaysWithin, MayBeCopied, MayInline, IsInlined}
 use Rattle.pliron_rewrite_calls.specs.InliningSteps.{AreReturnsBare, AreCopiesLed, IsCallReplaced}
 use Rattle.pliron_rewrite_calls.proofs.CopyLists.{original_in, original_apart}
 use Rattle.pliron_rewrite_calls.proofs.InlinedCopies.{IsDone}
@@ -24,9 +24,9 @@ childless_in m returns t n [] p k i = absurd i
 childless_in m returns t n (x ∷ []) p k i = ⊎_elim (λ e. ap (regions_of t) e ∙ p.0) (λ z. absurd z) i
 childless_in m returns t n (x ∷ y ∷ ys) p k i = ⊎_elim (λ e. ap (regions_of t) e ∙ p.0) (childless_in m returns t n (y ∷ ys) p.2 k) i
 
-end_of : (m : Meaning) (returns : Head → Bool) (t : Tree) (n : ℕ) (xs : List ℕ) → MayBeCopied m returns t n xs → (k : ℕ) → last_of None xs ≡ Some k → (regions_of t k ≡ []) × (ReturnsAsMany m returns t n k ⊎ StaysInside m returns t k)
+end_of : (m : Meaning) (returns : Head → Bool) (t : Tree) (n : ℕ) (xs : List ℕ) → MayBeCopied m returns t n xs → (k : ℕ) → last_of None xs ≡ Some k → (regions_of t k ≡ []) × (ReturnsAsMany m returns t n k ⊎ StaysWithin m returns t k)
 end_of m returns t n [] p k e = absurd p
-end_of m returns t n (x ∷ []) p k e = subst (λ z. (regions_of t z ≡ []) × (ReturnsAsMany m returns t n z ⊎ StaysInside m returns t z)) (some_is e) p
+end_of m returns t n (x ∷ []) p k e = subst (λ z. (regions_of t z ≡ []) × (ReturnsAsMany m returns t n z ⊎ StaysWithin m returns t z)) (some_is e) p
 end_of m returns t n (x ∷ y ∷ ys) p k e = end_of m returns t n (y ∷ ys) p.2 k e
 
 module _ (m : Meaning) (c : CallingConvention) (returns : Head → Bool) (t : Tree) (call callee : ℕ) (symbol : Datum) (may : MayInline m c returns t call callee symbol) (w : IsTree t) where

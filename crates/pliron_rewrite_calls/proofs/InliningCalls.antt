@@ -14,7 +14,7 @@ use Rattle.pliron_core.proofs.GrownLemmas.{get_grown, get_last, get_last_same, s
 use Rattle.pliron_core.proofs.LastLemmas.{last_in}
 use Rattle.pliron_core.proofs.TreeLemmas.{live-within}
 use Rattle.pliron_rewrite_calls.specs.CopySteps.{HasNames}
-use Rattle.pliron_rewrite_calls.specs.InliningSteps.{IsJumpMade, IsPutLast, IsErasedAlone, IsUndone, IsLastReplaced, IsCallReplaced}
+use Rattle.pliron_rewrite_calls.specs.InliningSteps.{IsJumpMade, IsPutLast, IsErasedChildless, IsTakenBack, IsLastReplaced, IsCallReplaced}
 use Rattle.pliron_rewrite_calls.proofs.CopyCalls.{operand_more, successor_more}
 use Rattle.pliron_rewrite_calls.proofs.CopyLists.{take_next}
 use Rattle.pliron_rewrite_calls.proofs.ErasedAlone.{erased_alone, alone_contained, bare_contained}
@@ -74,7 +74,7 @@ module _ (t made u : Tree) (k : ℕ) (h : Head) (xs ys : List ℕ) (w : IsTree t
   pub named_contained : IsSelfContained u k
   named_contained = bare_contained u k wu named_live (ap (λ z. z.regions) named_jump.jump.row) (ap (λ z. z.results) named_jump.jump.row)
 
-  pub named_undone : (z : Tree) → z ≡ after_erasing u k → IsUndone t z
+  pub named_undone : (z : Tree) → z ≡ after_erasing u k → IsTakenBack t z
   named_undone z g = jump_undone t u z k h xs ys w named_jump (erased_alone u k wu named_live (ap (λ z. z.regions) named_jump.jump.row) z g)
 
 -- ---- a jump that is made, as the last of a block
@@ -112,7 +112,7 @@ module _ (t u : Tree) (b new : ℕ) (h : Head) (values targets : List ℕ) (w : 
       pub old_contained : IsSelfContained v old
       old_contained = bare_contained v old wv old_stands (ap (λ z. z.regions) row_same ∙ none) (ap (λ z. z.results) row_same ∙ bare)
 
-      pub old_erased : (z : Tree) → z ≡ after_erasing v old → IsErasedAlone v z old
+      pub old_erased : (z : Tree) → z ≡ after_erasing v old → IsErasedChildless v z old
       old_erased z f = erased_alone v old wv old_stands (ap (λ z. z.regions) row_same ∙ none) z f
 
 -- the whole, in the words of the call
@@ -137,7 +137,7 @@ module _ (t : Tree) (block call jump new : ℕ) (w : IsTree t) (at : parent_of t
   apart_new = new_apart t block call jump new w at behind last free live
 
   module _ (u1 : Tree) (w1 : IsTree u1) (e1 : u1 ≡ after_erasing t jump) where
-    gone_jump : IsErasedAlone t u1 jump
+    gone_jump : IsErasedChildless t u1 jump
     gone_jump = erased_alone t jump w jump_stands bare.1 u1 e1
 
     call_row : row_of u1 call ≡ row_of t call
@@ -159,7 +159,7 @@ module _ (t : Tree) (block call jump new : ℕ) (w : IsTree t) (at : parent_of t
             (cases_eq x jump)
 
     module _ (u2 : Tree) (w2 : IsTree u2) (e2 : u2 ≡ after_erasing u1 call) where
-      gone_call : IsErasedAlone u1 u2 call
+      gone_call : IsErasedChildless u1 u2 call
       gone_call = erased_alone u1 call w1 call_stands call_plain u2 e2
 
       new_row : row_of u2 new ≡ row_of t new

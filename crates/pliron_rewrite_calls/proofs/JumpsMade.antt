@@ -16,7 +16,7 @@ use Rattle.pliron_core.proofs.LastLemmas.{last_front, last_in}
 use Rattle.pliron_core.proofs.ListLemmas.{distinct-apart, distinct-back, next_in-split, split_at, without-split}
 use Rattle.pliron_core.proofs.TreeLemmas.{live-within, block-within}
 use Rattle.pliron_rewrite_calls.specs.CopySteps.{HasNames}
-use Rattle.pliron_rewrite_calls.specs.InliningSteps.{HasSamePlaces, IsAsBefore, IsJumpMade, IsPutLast, IsErasedAlone, IsUndone, IsLastReplaced, IsCallReplaced}
+use Rattle.pliron_rewrite_calls.specs.InliningSteps.{HasSamePlaces, IsSameAt, IsJumpMade, IsPutLast, IsErasedChildless, IsTakenBack, IsLastReplaced, IsCallReplaced}
 
 -- ---- a jump more
 
@@ -30,7 +30,7 @@ module _ (t u : Tree) (h : Head) (xs ys : List ℕ) (w : IsTree t) (n : HasNames
   parent_in : (j : ℕ) → parent_of u j ≡ parent_of t j
   parent_in j = ap (λ (z : Tree). parent_of z j) n.same ∙ get_grown t.parents None j
 
-  made_others : (j : ℕ) → j ≢ length t.operations → IsAsBefore t u j
+  made_others : (j : ℕ) → j ≢ length t.operations → IsSameAt t u j
   made_others j ne = record {
     row = row_in j ∙ ⊎_elim (λ e. e) (λ e. absurd (ne e.2)) (get_last t.operations entry no_entry j);
     operands = n.other_operands j ne ∙ get_grown t.operands [] j;
@@ -74,7 +74,7 @@ new_empty t w k e =
     (get_or_past t.operations k no_entry (omega (arith, e)), get_or_past t.operands k [] (let y = x.operands in omega (arith, e, y)), get_or_past t.successors k [] (let y = x.successors in omega (arith, e, y)), get_or_past t.parents k None (let y = x.parents in omega (arith, e, y)))
 
 -- it is erased again
-pub jump_undone : (t u z : Tree) (k : ℕ) (h : Head) (xs ys : List ℕ) → IsTree t → IsJumpMade t u k h xs ys → IsErasedAlone u z k → IsUndone t z
+pub jump_undone : (t u z : Tree) (k : ℕ) (h : Head) (xs ys : List ℕ) → IsTree t → IsJumpMade t u k h xs ys → IsErasedChildless u z k → IsTakenBack t z
 jump_undone t u z k h xs ys w m g = record {
   same = record {
     operations = λ j. elim (cases_eq j k) [ inl e ↦ ap (row_of z) e ∙ g.gone ∙ sym old.0 ∙ ap (row_of t) (sym e) | inr ne ↦ (g.others j ne).row ∙ (m.others j ne).row ];
@@ -95,7 +95,7 @@ jump_undone t u z k h xs ys w m g = record {
     old : (row_of t k ≡ no_entry) × (operands_of t k ≡ []) × (successors_of t k ≡ []) × (parent_of t k ≡ None)
     old = new_empty t w k m.key
 
-pub nothing_done : (t : Tree) → IsUndone t t
+pub nothing_done : (t : Tree) → IsTakenBack t t
 nothing_done t = record {
   same = record { operations = λ j. refl; operands = λ j. refl; successors = λ j. refl; parents = λ j. refl; bodies = λ b. refl; arguments = λ b. refl; block_parents = λ b. refl; layouts = λ r. refl };
   slots = refl;
@@ -145,7 +145,7 @@ after_both t u v p q = record {
   layouts = λ r. q.layouts r ∙ p.layouts r;
 }
 
-pub as_before_both : (t u v : Tree) (j : ℕ) → IsAsBefore t u j → IsAsBefore u v j → IsAsBefore t v j
+pub as_before_both : (t u v : Tree) (j : ℕ) → IsSameAt t u j → IsSameAt u v j → IsSameAt t v j
 as_before_both t u v j p q = record {
   row = q.row ∙ p.row;
   operands = q.operands ∙ p.operands;
@@ -157,7 +157,7 @@ as_before_both t u v j p q = record {
 pub elsewhere : (t : Tree) → IsTree t → (k b c : ℕ) → parent_of t k ≡ Some b → c ≢ b → In k (body_of t c) → ⊥
 elsewhere t w k b c at ne i = ne (some_is (sym (w.bodies.owned k c i) ∙ at))
 
-pub last_replaced : (t u v z : Tree) (b old new : ℕ) (h : Head) (target : ℕ) → IsTree t → last_of None (body_of t b) ≡ Some old → IsJumpMade t u new h (operands_of t old) (target ∷ []) → IsPutLast u v new b → IsErasedAlone v z old → IsLastReplaced t z b old new h target
+pub last_replaced : (t u v z : Tree) (b old new : ℕ) (h : Head) (target : ℕ) → IsTree t → last_of None (body_of t b) ≡ Some old → IsJumpMade t u new h (operands_of t old) (target ∷ []) → IsPutLast u v new b → IsErasedChildless v z old → IsLastReplaced t z b old new h target
 last_replaced t u v z b old new h target w last m p g = record {
   key = m.key;
   front = f.0;
@@ -185,7 +185,7 @@ last_replaced t u v z b old new h target w last m p g = record {
     apart : new ≢ old
     apart e = let x = live-within t old (w.joined.all_in_place old b at).0 in let y = m.key in omega (arith, x, y, e)
 
-    own : IsAsBefore v z new
+    own : IsSameAt v z new
     own = g.others new apart
 
     out : In old f.0 → ⊥
@@ -227,7 +227,7 @@ module _ (t : Tree) (block call jump new : ℕ) (w : IsTree t) (at : parent_of t
   pub new_apart : (new ≢ call) × (new ≢ jump)
   new_apart = (λ e. not_none (sym free ∙ ap (parent_of t) e ∙ at), λ e. not_none (sym free ∙ ap (parent_of t) e ∙ jump_there))
 
-  module _ (u1 u2 u : Tree) (g : IsErasedAlone t u1 jump) (h : IsErasedAlone u1 u2 call) (p : IsPutLast u2 u new block) where
+  module _ (u1 u2 u : Tree) (g : IsErasedChildless t u1 jump) (h : IsErasedChildless u1 u2 call) (p : IsPutLast u2 u new block) where
     call_out : In call split.0 → ⊥
     call_out i = distinct-apart split.0 (call ∷ jump ∷ []) (subst IsDistinct split.1 (w.bodies.distinct block)) call i (inl refl)
 
@@ -237,7 +237,7 @@ module _ (t : Tree) (block call jump new : ℕ) (w : IsTree t) (at : parent_of t
     left : body_of u2 block ≡ split.0
     left = h.bodies block ∙ ap (without call) (g.bodies block ∙ ap (without jump) (split.1 ∙ sym (append_assoc split.0 (call ∷ []) (jump ∷ []))) ∙ without-split jump (split.0 ++ call ∷ []) [] jump_out ∙ append-nil (split.0 ++ call ∷ [])) ∙ without-split call split.0 [] call_out ∙ append-nil split.0
 
-    new_kept : IsAsBefore t u2 new
+    new_kept : IsSameAt t u2 new
     new_kept = as_before_both t u1 u2 new (g.others new new_apart.1) (h.others new new_apart.0)
 
     pub call_replaced : IsCallReplaced t u block call jump new

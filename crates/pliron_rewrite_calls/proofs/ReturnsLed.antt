@@ -14,7 +14,7 @@ use Rattle.pliron_laws.specs.Datum.{Meaning}
 use Rattle.pliron_dialect_calls.specs.Inlinable.{IsJumpHead}
 use Rattle.pliron_rewrite_calls.specs.Copying.{original_by}
 use Rattle.pliron_rewrite_calls.specs.CopySteps.{IsGrownIn}
-use Rattle.pliron_rewrite_calls.specs.InliningSteps.{IsAsBefore, IsJumpRow, IsUndone, IsLastReplaced, EndsOtherwise, IsInPlaceOf, IsEndLed, IsReturnOf, AreReturnsBare, AreReturnsLed}
+use Rattle.pliron_rewrite_calls.specs.InliningSteps.{IsSameAt, IsJumpRow, IsTakenBack, IsLastReplaced, EndsOtherwise, IsInPlaceOf, IsEndLed, IsReturnOf, AreReturnsBare, AreReturnsLed}
 use Rattle.pliron_rewrite_calls.proofs.CopyLists.{new_item, original_at}
 use Rattle.pliron_rewrite_calls.proofs.ErasedAgain.{last_there}
 use Rattle.pliron_rewrite_calls.proofs.Growing.{no_some, new_only}
@@ -54,7 +54,7 @@ more_of bs b k f = record { block = f.block; listed = In-left f.block bs (b ∷ 
 
 module _ (m : Meaning) (returns : Head → Bool) (u v : Tree) (after : ℕ) (bs olds : List ℕ) (wu : IsTree u) (a : AreReturnsLed m returns u v after bs olds) (b : ℕ) (out : In b bs → ⊥) where
   -- what is in a block that is not yet looked at is as it was
-  pub still : (k : ℕ) → parent_of u k ≡ Some b → IsAsBefore u v k
+  pub still : (k : ℕ) → parent_of u k ≡ Some b → IsSameAt u v k
   still k at = a.others k (live-within u k (wu.joined.all_in_place k b at).0) (λ i. let f = a.from k i in out (subst (λ z. In z bs) (some_is (sym f.holds ∙ at)) f.listed))
 
   pub last_still : (k : ℕ) → last_of None (body_of v b) ≡ Some k → (last_of None (body_of u b) ≡ Some k) × (parent_of u k ≡ Some b)
@@ -96,19 +96,19 @@ module _ (m : Meaning) (returns : Head → Bool) (u v : Tree) (after : ℕ) (bs 
     old_out : In old olds → ⊥
     old_out i = let f = a.from old i in out (subst (λ z. In z bs) (some_is (sym f.holds ∙ at)) f.listed)
 
-    same : IsAsBefore u v old
+    same : IsSameAt u v old
     same = still old at
 
     less : (k : ℕ) → In k olds → k < length u.operations
     less k i = let f = a.from k i in live-within u k (wu.joined.all_in_place k f.block f.holds).0
 
-    kept : (k : ℕ) → k < n → k ≢ old → IsAsBefore v w k
+    kept : (k : ℕ) → k < n → k ≢ old → IsSameAt v w k
     kept k lt ne = r.others k ne (λ e. omega (arith, lt, e))
 
     new_original : original_by (olds ++ old ∷ []) (length u.operations) n ≡ old
     new_original = original_at (olds ++ old ∷ []) olds [] old (length u.operations) n refl a.count
 
-    row_kept : (k : ℕ) (g : Head) (xs ys : List ℕ) → IsAsBefore v w k → IsJumpRow v k g xs ys → IsJumpRow w k g xs ys
+    row_kept : (k : ℕ) (g : Head) (xs ys : List ℕ) → IsSameAt v w k → IsJumpRow v k g xs ys → IsJumpRow w k g xs ys
     row_kept k g xs ys s j = record { row = s.row ∙ j.row; operands = s.operands ∙ j.operands; successors = s.successors ∙ j.successors }
 
     new_jump : IsInPlaceOf m u w after old n
@@ -215,7 +215,7 @@ module _ (m : Meaning) (returns : Head → Bool) (u v : Tree) (after : ℕ) (bs 
 
 -- ---- the region is still one that grew
 
-pub grown_undone : (t u w : Tree) (region : ℕ) → IsGrownIn t u region → IsUndone u w → IsGrownIn t w region
+pub grown_undone : (t u w : Tree) (region : ℕ) → IsGrownIn t u region → IsTakenBack u w → IsGrownIn t w region
 grown_undone t u w region h d = record {
   added = h.added;
   last = d.same.layouts region ∙ h.last;
@@ -274,7 +274,7 @@ grown_replaced t u w region b old new g target wt wu h le r = record {
     at : parent_of u old ≡ Some b
     at = wu.bodies.owned old b (subst (In old) (sym r.before) (in_end old r.front))
 
-    kept : (k : ℕ) → k < length t.operations → IsAsBefore u w k
+    kept : (k : ℕ) → k < length t.operations → IsSameAt u w k
     kept k lt =
         let x = new_only t u region wt h wu old b at le in
         let y = h.operation_count in

@@ -18,7 +18,7 @@ pub record ReturnsAsMany (m : Meaning) (returns : Head → Bool) (t : Tree) (res
   pub bare : results_of t k ≡ []
 
 -- the operation is no return, and a run neither leaves there nor comes to what stands behind it
-pub record StaysInside (m : Meaning) (returns : Head → Bool) (t : Tree) (k : ℕ) : Type 0 where
+pub record StaysWithin (m : Meaning) (returns : Head → Bool) (t : Tree) (k : ℕ) : Type 0 where
   pub no_return : (h : Head) → head_of t k ≡ Some h → IsTrue (returns h) → ⊥
   pub stays : NeverLeaves m t k
   pub closes : NeverGives m t k
@@ -27,7 +27,7 @@ pub record StaysInside (m : Meaning) (returns : Head → Bool) (t : Tree) (k : �
 -- values as the call has results; else it never gives
 abbrev pub MayBeCopied : Meaning → (Head → Bool) → Tree → (results : ℕ) → List ℕ → Type 0
 MayBeCopied m returns t results [] = ⊥
-MayBeCopied m returns t results (k ∷ []) = (regions_of t k ≡ []) × (ReturnsAsMany m returns t results k ⊎ StaysInside m returns t k)
+MayBeCopied m returns t results (k ∷ []) = (regions_of t k ≡ []) × (ReturnsAsMany m returns t results k ⊎ StaysWithin m returns t k)
 MayBeCopied m returns t results (k ∷ j ∷ ks) = (regions_of t k ≡ []) × NeverLeaves m t k × MayBeCopied m returns t results (j ∷ ks)
 
 -- the call may become a jump to a copy of the callee's blocks

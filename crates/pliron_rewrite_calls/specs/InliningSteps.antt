@@ -21,7 +21,7 @@ pub record HasSamePlaces (t u : Tree) : Type 0 where
   pub layouts : (r : ℕ) → layout_of u r ≡ layout_of t r
 
 -- the operation k is in u as in t
-pub record IsAsBefore (t u : Tree) (k : ℕ) : Type 0 where
+pub record IsSameAt (t u : Tree) (k : ℕ) : Type 0 where
   pub row : row_of u k ≡ row_of t k
   pub operands : operands_of u k ≡ operands_of t k
   pub successors : successors_of u k ≡ successors_of t k
@@ -40,7 +40,7 @@ pub record IsJumpMade (t u : Tree) (k : ℕ) (h : Head) (values targets : List �
   pub free : parent_of u k ≡ None
   pub places : HasSamePlaces t u
   pub bodies : (b : ℕ) → body_of u b ≡ body_of t b
-  pub others : (j : ℕ) → j ≢ k → IsAsBefore t u j
+  pub others : (j : ℕ) → j ≢ k → IsSameAt t u j
   pub count : length u.operations ≡ length t.operations + 1
 
 -- u is t with this operation, which was in no block, as the last of the block
@@ -52,22 +52,22 @@ pub record IsPutLast (t u : Tree) (k b : ℕ) : Type 0 where
   pub body : body_of u b ≡ body_of t b ++ k ∷ []
   pub places : HasSamePlaces t u
   pub bodies : (c : ℕ) → c ≢ b → body_of u c ≡ body_of t c
-  pub others : (j : ℕ) → j ≢ k → IsAsBefore t u j
+  pub others : (j : ℕ) → j ≢ k → IsSameAt t u j
   pub count : length u.operations ≡ length t.operations
 
 -- u is t without this operation, which has no regions
-pub record IsErasedAlone (t u : Tree) (k : ℕ) : Type 0 where
+pub record IsErasedChildless (t u : Tree) (k : ℕ) : Type 0 where
   pub gone : row_of u k ≡ no_entry
   pub no_operands : operands_of u k ≡ []
   pub no_successors : successors_of u k ≡ []
   pub no_parent : parent_of u k ≡ None
   pub places : HasSamePlaces t u
   pub bodies : (b : ℕ) → body_of u b ≡ without k (body_of t b)
-  pub others : (j : ℕ) → j ≢ k → IsAsBefore t u j
+  pub others : (j : ℕ) → j ≢ k → IsSameAt t u j
   pub count : length u.operations ≡ length t.operations
 
 -- u is t but for erased handles
-pub record IsUndone (t u : Tree) : Type 0 where
+pub record IsTakenBack (t u : Tree) : Type 0 where
   pub same : IsSameTree t u
   pub slots : u.slots ≡ t.slots
   pub definitions : u.definitions ≡ t.definitions
@@ -85,7 +85,7 @@ pub record IsLastReplaced (t u : Tree) (b old new : ℕ) (h : Head) (target : �
   pub gone : row_of u old ≡ no_entry
   pub places : HasSamePlaces t u
   pub bodies : (c : ℕ) → c ≢ b → body_of u c ≡ body_of t c
-  pub others : (j : ℕ) → j ≢ old → j ≢ new → IsAsBefore t u j
+  pub others : (j : ℕ) → j ≢ old → j ≢ new → IsSameAt t u j
   pub count : length u.operations ≡ length t.operations + 1
 
 -- the call and the jump behind it, which end the block, are now the jump `new`, which was in no block
@@ -100,7 +100,7 @@ pub record IsCallReplaced (t u : Tree) (block call jump new : ℕ) : Type 0 wher
   pub gone : (row_of u call ≡ no_entry) × (row_of u jump ≡ no_entry)
   pub places : HasSamePlaces t u
   pub bodies : (c : ℕ) → c ≢ block → body_of u c ≡ body_of t c
-  pub others : (j : ℕ) → j ≢ call → j ≢ jump → j ≢ new → IsAsBefore t u j
+  pub others : (j : ℕ) → j ≢ call → j ≢ jump → j ≢ new → IsSameAt t u j
   pub count : length u.operations ≡ length t.operations
 
 -- the block doesn't end with a return
@@ -148,7 +148,7 @@ pub record AreReturnsLed (m : Meaning) (returns : Head → Bool) (t u : Tree) (a
   pub count : length u.operations ≡ length t.operations + length olds
   pub from : (k : ℕ) → In k olds → IsReturnOf returns t bs k
   pub gone : (k : ℕ) → In k olds → row_of u k ≡ no_entry
-  pub others : (k : ℕ) → k < length t.operations → (In k olds → ⊥) → IsAsBefore t u k
+  pub others : (k : ℕ) → k < length t.operations → (In k olds → ⊥) → IsSameAt t u k
   pub jumps : (k : ℕ) → length t.operations ≤ k → k < length u.operations → IsInPlaceOf m t u after (original_by olds (length t.operations) k) k
   pub stands : (k : ℕ) → length t.operations ≤ k → k < length u.operations → (b : ℕ) × In b bs × (parent_of u k ≡ Some b)
   pub bodies : (b : ℕ) → (In b bs → ⊥) → body_of u b ≡ body_of t b

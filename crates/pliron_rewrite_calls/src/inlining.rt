@@ -10,7 +10,7 @@ ghost use Rattle.pliron_rewrite_calls.specs.CopyTables.{block_or_copy_in};
 ghost use Rattle.pliron_rewrite_calls.specs.Copying.{AreCopiedInto, KnowsCopies, operations_of};
 ghost use Rattle.pliron_rewrite_calls.specs.CopySteps.{CopySource, MayCopy, IsGrownIn, HasNames};
 ghost use Rattle.pliron_rewrite_calls.specs.Inlining.{IsInlined, MayInline};
-ghost use Rattle.pliron_rewrite_calls.specs.InliningSteps.{IsJumpMade, IsUndone, IsLastReplaced, IsReturnLed, AreReturnsBare, AreReturnsLed, IsLedBack, AreCopiesLed, IsCallReplaced};
+ghost use Rattle.pliron_rewrite_calls.specs.InliningSteps.{IsJumpMade, IsTakenBack, IsLastReplaced, IsReturnLed, AreReturnsBare, AreReturnsLed, IsLedBack, AreCopiesLed, IsCallReplaced};
 
 use crate::copies::Copies;
 use crate::copying::{copy_within_room, push_all_operations};
@@ -59,7 +59,7 @@ fn make_jump<R: Rewriter>(
     requires target { IsBlock ctx.old.tree target }
     ensures made { IfOk result (λ jump. IsJumpMade ctx.old.tree ctx.new.tree jump head values.now
         (target ∷ [])) }
-    ensures refused { OnErr result (IsUndone ctx.old.tree ctx.new.tree) }
+    ensures refused { OnErr result (IsTakenBack ctx.old.tree ctx.new.tree) }
     ensures memory { IsOkUnless result OptError.Memory }
     ensures point { R.point rewriter.new ≡ R.point rewriter.old }
 {
@@ -92,7 +92,7 @@ fn replace_last<D: InliningDialect, R: Rewriter + Room>(
     requires no_regions { regions_of ctx.old.tree last ≡ [] }
     ensures ok { OnOk result ((h : HeadOf) × IsJumpHead D.meaning (length (operands_of ctx.old.tree last))
         h × IsLastReplaced ctx.old.tree ctx.new.tree block last (length ctx.old.tree.operations) h after) }
-    ensures refused { OnErr result (IsUndone ctx.old.tree ctx.new.tree) }
+    ensures refused { OnErr result (IsTakenBack ctx.old.tree ctx.new.tree) }
     ensures memory { IsOkUnless result OptError.Memory }
     ensures point { R.point rewriter.new ≡ R.point rewriter.old }
 {
@@ -119,7 +119,7 @@ fn replace_return<D: InliningDialect, R: Rewriter + Room>(
     requires after { IsBlock ctx.old.tree after }
     requires bare { AreReturnsBare D.returns ctx.old.tree block }
     ensures ok { OnOk result (IsReturnLed D.meaning D.returns ctx.old.tree ctx.new.tree block after) }
-    ensures refused { OnErr result (IsUndone ctx.old.tree ctx.new.tree) }
+    ensures refused { OnErr result (IsTakenBack ctx.old.tree ctx.new.tree) }
     ensures memory { IsOkUnless result OptError.Memory }
     ensures point { R.point rewriter.new ≡ R.point rewriter.old }
 {
@@ -145,7 +145,7 @@ fn replace_returns<D: InliningDialect, R: Rewriter + Room>(
     requires may { MayCopy x }
     requires blocks { x.blocks ≡ blocks.now }
     requires copied { AreCopiedInto x.tree ctx.old.tree x.region x.blocks }
-    requires known { KnowsCopies x.tree ctx.old.tree x.blocks copies.now }
+    requires copies { KnowsCopies x.tree ctx.old.tree x.blocks copies.now }
     requires grown { IsGrownIn x.tree ctx.old.tree x.region }
     requires after { IsBlock x.tree after }
     requires bare { (b : ℕ) → In b x.blocks → AreReturnsBare D.returns x.tree b }
@@ -164,14 +164,21 @@ fn replace_returns<D: InliningDialect, R: Rewriter + Room>(
     Ok(())
 }
 
+// A call, the region that it stands in, and the block where the jump behind it leads.
+#[derive(Clone, Copy)]
+struct CallSite {
+    call: Ptr<Operation>,
+    region: Ptr<Region>,
+    after: Ptr<BasicBlock>,
+}
+
 // The returns at the ends of the blocks' copies become jumps, and a jump to the copy of the first one is made, in no
 // block, with the operands of the call.
 fn lead_back<D: InliningDialect, R: Rewriter + Room>(
     alloc: Global,
-    call: Ptr<Operation>,
+    site: CallSite,
     blocks: &[Ptr<BasicBlock>],
     copies: &Copies,
-    after: Ptr<BasicBlock>,
     ctx: &mut Context,
     rewriter: &mut R,
 ) -> Result<Ptr<Operation>, OptError>
@@ -179,37 +186,36 @@ fn lead_back<D: InliningDialect, R: Rewriter + Room>(
     requires may { MayCopy x }
     requires blocks { x.blocks ≡ blocks.now }
     requires copied { AreCopiedInto x.tree ctx.old.tree x.region x.blocks }
-    requires known { KnowsCopies x.tree ctx.old.tree x.blocks copies.now }
+    requires copies { KnowsCopies x.tree ctx.old.tree x.blocks copies.now }
     requires grown { IsGrownIn x.tree ctx.old.tree x.region }
-    requires after { IsBlock x.tree after }
+    requires after { IsBlock x.tree site.after }
     requires bare { (b : ℕ) → In b x.blocks → AreReturnsBare D.returns x.tree b }
-    requires call { IsLive x.tree call }
+    requires call { IsLive x.tree site.call }
     requires some { 0 < length blocks.now }
     ensures led { IfOk result (λ jump. (entry : ℕ) × (first_of blocks.now None ≡ Some entry) × IsLedBack D.meaning
-        D.returns ctx.old.tree ctx.new.tree copies.now blocks.now after (operands_of x.tree call) entry jump) }
+        D.returns ctx.old.tree ctx.new.tree copies.now blocks.now site.after (operands_of x.tree site.call)
+        entry jump) }
     ensures grown { OnErr result (IsGrownIn x.tree ctx.new.tree x.region) }
     ensures memory { IsOkUnless result OptError.Memory }
     ensures point { R.point rewriter.new ≡ R.point rewriter.old }
 {
     ctx.well_formed();
-    replace_returns::<D, R>(alloc, blocks, copies, after, ctx, rewriter)?;
+    replace_returns::<D, R>(alloc, blocks, copies, site.after, ctx, rewriter)?;
     ctx.well_formed();
     let entry = copies.block_or_copy(blocks[0]);
-    let values = all_operands(alloc, call, ctx)?;
+    let values = all_operands(alloc, site.call, ctx)?;
     let head = D::jump_head(alloc, values.len())?;
     let jump = make_jump(head, values.as_slice(), entry, ctx, rewriter)?;
     Ok(jump)
 }
 
-// Copies of the blocks, with these operations, whose returns lead to `after`, and a jump to the first one in no block, where
-// there is room for the changes, also for the way back.
+// Copies of the blocks, with these operations, whose returns lead to where the jump led, and a jump to the first one in
+// no block, where there is room for the changes, also for the way back.
 fn copy_and_lead_back<D: InliningDialect, R: Rewriter + Room>(
     alloc: Global,
-    call: Ptr<Operation>,
+    site: CallSite,
     blocks: &[Ptr<BasicBlock>],
     operations: &[Ptr<Operation>],
-    region: Ptr<Region>,
-    after: Ptr<BasicBlock>,
     ctx: &mut Context,
     rewriter: &mut R,
 ) -> Result<Ptr<Operation>, OptError>
@@ -218,21 +224,22 @@ fn copy_and_lead_back<D: InliningDialect, R: Rewriter + Room>(
     requires tree { x.tree ≡ ctx.old.tree }
     requires blocks { x.blocks ≡ blocks.now }
     requires operations { operations.now ≡ operations_of x.tree x.blocks }
-    requires region { x.region ≡ region }
-    requires after { IsBlock x.tree after }
+    requires region { x.region ≡ site.region }
+    requires after { IsBlock x.tree site.after }
     requires bare { (b : ℕ) → In b x.blocks → AreReturnsBare D.returns x.tree b }
-    requires call { IsLive x.tree call }
+    requires call { IsLive x.tree site.call }
     requires some { 0 < length blocks.now }
     ensures led { IfOk result (λ jump. (entry : ℕ) × (first_of x.blocks None ≡ Some entry) × AreCopiesLed D.meaning
-        D.returns x.tree ctx.new.tree x.region x.blocks after (operands_of x.tree call) entry jump) }
+        D.returns x.tree ctx.new.tree x.region x.blocks site.after (operands_of x.tree site.call) entry jump) }
     ensures refused { OnErr result (IsSameTree x.tree ctx.new.tree) }
     ensures memory { IsOkUnless result OptError.Memory }
     ensures point { R.point rewriter.new ≡ R.point rewriter.old }
 {
+    let region = site.region;
     let last = region.get_tail(ctx);
     let copies = copy_within_room(alloc, blocks, operations, region, ctx, rewriter)?;
     ctx.well_formed();
-    match lead_back::<D, R>(alloc, call, blocks, &copies, after, ctx, rewriter) {
+    match lead_back::<D, R>(alloc, site, blocks, &copies, ctx, rewriter) {
         Ok(jump) => Ok(jump),
         Err(refusal) => {
             erase_new_blocks(region, &last, ctx, rewriter);
@@ -255,7 +262,8 @@ fn replace_call<R: Rewriter>(
     requires last { last_of None (body_of ctx.old.tree block) ≡ Some jump }
     requires plain { regions_of ctx.old.tree call ≡ [] }
     requires bare { (results_of ctx.old.tree jump ≡ []) × (regions_of ctx.old.tree jump ≡ []) }
-    requires used_there { (k v : ℕ) → In v (results_of ctx.old.tree call) → In v (operands_of ctx.old.tree k) → k ≡ jump }
+    requires used_there { (k v : ℕ) → In v (results_of ctx.old.tree call) → In v (operands_of ctx.old.tree k) →
+        k ≡ jump }
     requires new { IsLive ctx.old.tree new }
     requires free { parent_of ctx.old.tree new ≡ None }
     requires childless { regions_of ctx.old.tree new ≡ [] }
@@ -273,9 +281,11 @@ fn replace_call<R: Rewriter>(
 /// The call and the jump behind it become a jump to a copy of the callee's blocks, in which returns jump where the old
 /// jump led. It is a whole rewrite, or none.
 ///
-/// Asks that the call is live in a block, that the last operation behind it is a jump with its results, which nothing
-/// else uses, that the callee has one region with a block, and that no operation inside has regions. Errors: allocation
-/// failure, which leaves the tree as it was, but for erased handles. Cost: linear in the callee.
+/// Asks that the call calls the callee's name and has no regions; that behind it, last in its block, is a jump with its
+/// results, which nothing else uses; that the callee runs its one region. What is inside names only what is inside, has
+/// no regions (`may_copy_blocks` tests it), and never leaves but by returns at the ends of blocks (`InliningDialect` tells
+/// it). Errors: allocation failure, which leaves the tree as it was, but for erased handles. Cost: linear in the callee.
+/// The way of MLIR's `inlineRegion`.
 pub fn inline_call<D: InliningDialect, R: Rewriter + Room>(
     alloc: Global,
     call: Ptr<Operation>,
@@ -310,13 +320,16 @@ pub fn inline_call<D: InliningDialect, R: Rewriter + Room>(
         .len()
         .saturating_add(blocks.len().saturating_mul(4));
     rewriter.room(alloc, changes.saturating_add(4))?;
-    let new = copy_and_lead_back::<D, R>(
-        alloc,
+    let site = CallSite {
         call,
-        blocks.as_slice(),
-        operations.as_slice(),
         region,
         after,
+    };
+    let new = copy_and_lead_back::<D, R>(
+        alloc,
+        site,
+        blocks.as_slice(),
+        operations.as_slice(),
         ctx,
         rewriter,
     )?;

@@ -40,14 +40,14 @@ returns-in-Ok-clause-led g c =
         known = c.in_ok-copies.ensures.copies;
         tree = c.well_formed-2.ensures.tree;
         grown = c.in_ok-copies.ensures.grown;
-        led_back = subst (λ bs. IsLedBack g.D.HasMeaning.meaning g.D.InliningDialect.returns c.copy_within_room.new.ctx.tree c.lead_back.new.ctx.tree c.in_ok-copies.copies bs c.args.after (operands_of g.x.tree c.args.call) l.0 c.in-Ok.jump) same l.2;
+        led_back = subst (λ bs. IsLedBack g.D.HasMeaning.meaning g.D.InliningDialect.returns c.copy_within_room.new.ctx.tree c.lead_back.new.ctx.tree c.in_ok-copies.copies bs c.args.site.after (operands_of g.x.tree c.args.site.call) l.0 c.in-Ok.jump) same l.2;
       },
     )
 
 pub erase_new_blocks-requires : goal.erase_new_blocks-requires
 erase_new_blocks-requires g c =
     let tree = c.requires.1.1.0.tree in
-    let into : IsRegion g.x.tree c.args.region = subst (IsRegion g.x.tree) c.requires.1.1.1.1.1.1.0 c.requires.1.1.0.into in
-    let grown : IsGrownIn g.x.tree c.lead_back.new.ctx.tree c.args.region = subst (IsGrownIn g.x.tree c.lead_back.new.ctx.tree) c.requires.1.1.1.1.1.1.0 c.in-Err.ensures.grown in
-    let last : c.get_tail-last.result ≡ last_of None (layout_of g.x.tree c.args.region) = c.get_tail-last.ensures.last ∙ ap (λ (z : Tree). last_of None (layout_of z c.args.region)) (sym c.requires.1.1.1.0) in
+    let into : IsRegion g.x.tree c.args.site.region = subst (IsRegion g.x.tree) c.requires.1.1.1.1.1.1.0 c.requires.1.1.0.into in
+    let grown : IsGrownIn g.x.tree c.lead_back.new.ctx.tree c.args.site.region = subst (IsGrownIn g.x.tree c.lead_back.new.ctx.tree) c.requires.1.1.1.1.1.1.0 c.in-Err.ensures.grown in
+    let last : c.get_tail-last.result ≡ last_of None (layout_of g.x.tree c.args.site.region) = c.get_tail-last.ensures.last ∙ ap (λ (z : Tree). last_of None (layout_of z c.args.site.region)) (sym c.requires.1.1.1.0) in
     search rules

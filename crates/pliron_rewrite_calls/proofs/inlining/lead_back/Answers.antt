@@ -10,16 +10,16 @@ use Rattle.pliron_rewrite_calls.proofs.ReturnLoops.{are_ready, entry_stands, ope
 use Rattle.pliron_rewrite_calls.proofs.inlining.lead_back.Goals as goal
 
 pub all_operands-requires : goal.all_operands-requires
-all_operands-requires g c = live_grown g.x.tree c.replace_returns.new.ctx.tree g.x.region c.requires.1.1.0.tree c.replace_returns.ensures.grown c.args.call c.requires.1.1.1.1.1.1.1.1.1.0
+all_operands-requires g c = live_grown g.x.tree c.replace_returns.new.ctx.tree g.x.region c.requires.1.1.0.tree c.replace_returns.ensures.grown c.args.site.call c.requires.1.1.1.1.1.1.1.1.1.0
 
 pub make_jump-requires-clause-values : goal.make_jump-requires-clause-values
-make_jump-requires-clause-values g c = λ v i. c.well_formed-3.ensures.tree.joined.operands c.args.call v (subst (In v) (c.as_slice.ensures.value ∙ c.in_ok-values.ensures) i)
+make_jump-requires-clause-values g c = λ v i. c.well_formed-3.ensures.tree.joined.operands c.args.site.call v (subst (In v) (c.as_slice.ensures.value ∙ c.in_ok-values.ensures) i)
 
 pub make_jump-requires-clause-target : goal.make_jump-requires-clause-target
 make_jump-requires-clause-target g c =
     let r = are_ready g.x c.requires.1.1.0 c.args.blocks.now c.requires.1.1.1.0 c.args.ctx.now.tree c.well_formed-2.ensures.tree c.args.copies.now c.requires.1.1.1.1.0 c.requires.1.1.1.1.1.0 c.requires.1.1.1.1.1.1.0 in
     let a = c.in_ok-replace_returns.ensures.led in
-    subst (IsBlock c.replace_returns.new.ctx.tree) (sym c.block_or_copy-entry.ensures) (entry_stands g.x.tree c.args.ctx.now.tree g.x.region c.args.blocks.now c.args.copies.now r g.D.HasMeaning.meaning g.D.InliningDialect.returns c.replace_returns.new.ctx.tree c.args.after a.0 a.1 c.index-blocks-0.result c.requires.1.1.1.1.1.1.1.1.1.1 c.index-blocks-0.is)
+    subst (IsBlock c.replace_returns.new.ctx.tree) (sym c.block_or_copy-entry.ensures) (entry_stands g.x.tree c.args.ctx.now.tree g.x.region c.args.blocks.now c.args.copies.now r g.D.HasMeaning.meaning g.D.InliningDialect.returns c.replace_returns.new.ctx.tree c.args.site.after a.0 a.1 c.index-blocks-0.result c.requires.1.1.1.1.1.1.1.1.1.1 c.index-blocks-0.is)
 
 pub returns-in_err-jump-clause-grown : goal.returns-in_err-jump-clause-grown
 returns-in_err-jump-clause-grown g c = on_err _ c.from_residual-in_err-jump.result (grown_undone g.x.tree c.replace_returns.new.ctx.tree c.make_jump.new.ctx.tree g.x.region c.replace_returns.ensures.grown c.in_err-jump.ensures.refused)
@@ -28,9 +28,9 @@ pub returns-clause-led : goal.returns-clause-led
 returns-clause-led g c =
     let led = c.replace_returns.new.ctx.tree in
     let a = c.in_ok-replace_returns.ensures.led in
-    let items : c.in_ok-values.values.items ≡ operands_of g.x.tree c.args.call = c.in_ok-values.ensures ∙ operands_stay g.x.tree led g.x.region c.args.call c.requires.1.1.1.1.1.1.1.1.1.0 c.replace_returns.ensures.grown in
-    let made : IsJumpMade led c.make_jump.new.ctx.tree c.in_ok-jump.jump c.in_ok-head.head (operands_of g.x.tree c.args.call) (block_or_copy_in c.args.copies.now c.index-blocks-0.result ∷ []) =
-    subst (λ b. IsJumpMade led c.make_jump.new.ctx.tree c.in_ok-jump.jump c.in_ok-head.head (operands_of g.x.tree c.args.call) (b ∷ [])) c.block_or_copy-entry.ensures
+    let items : c.in_ok-values.values.items ≡ operands_of g.x.tree c.args.site.call = c.in_ok-values.ensures ∙ operands_stay g.x.tree led g.x.region c.args.site.call c.requires.1.1.1.1.1.1.1.1.1.0 c.replace_returns.ensures.grown in
+    let made : IsJumpMade led c.make_jump.new.ctx.tree c.in_ok-jump.jump c.in_ok-head.head (operands_of g.x.tree c.args.site.call) (block_or_copy_in c.args.copies.now c.index-blocks-0.result ∷ []) =
+    subst (λ b. IsJumpMade led c.make_jump.new.ctx.tree c.in_ok-jump.jump c.in_ok-head.head (operands_of g.x.tree c.args.site.call) (b ∷ [])) c.block_or_copy-entry.ensures
     (subst (λ (xs : List ℕ). IsJumpMade led c.make_jump.new.ctx.tree c.in_ok-jump.jump c.in_ok-head.head xs (c.block_or_copy-entry.result ∷ [])) (c.as_slice.ensures.value ∙ items) c.in_ok-jump.ensures.made) in (
       c.index-blocks-0.result,
       first_is c.args.blocks.now c.index-blocks-0.result c.requires.1.1.1.1.1.1.1.1.1.1 c.index-blocks-0.is,

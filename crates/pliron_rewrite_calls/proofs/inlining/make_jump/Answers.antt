@@ -1,14 +1,14 @@
 use Rattle.std.proofs.Common.{[], ◌∷◌, ap, sym, subst}
 use Rattle.pliron_core.specs.Tree.{Tree}
 use Rattle.pliron_laws.proofs.FoldLemmas.{on_err}
-use Rattle.pliron_rewrite_calls.specs.InliningSteps.{IsUndone}
+use Rattle.pliron_rewrite_calls.specs.InliningSteps.{IsTakenBack}
 use Rattle.pliron_rewrite_calls.proofs.InliningCalls.{created_is, named_live, named_contained, named_undone}
 use Rattle.pliron_rewrite_calls.proofs.JumpsMade.{jump_made_at, nothing_done}
 use Rattle.pliron_rewrite_calls.proofs.inlining.make_jump.Goals as goal
 
 pub returns-in_err-jump-clause-refused : goal.returns-in_err-jump-clause-refused
 returns-in_err-jump-clause-refused g c =
-    on_err _ c.from_residual.result (subst (λ (z : Tree). IsUndone c.args.ctx.now.tree z) (sym (ap (λ z. z.tree) c.in_err-jump.ensures.err)) (nothing_done c.args.ctx.now.tree))
+    on_err _ c.from_residual.result (subst (λ (z : Tree). IsTakenBack c.args.ctx.now.tree z) (sym (ap (λ z. z.tree) c.in_err-jump.ensures.err)) (nothing_done c.args.ctx.now.tree))
 
 pub add_edge-requires : goal.add_edge-requires
 add_edge-requires g c =
