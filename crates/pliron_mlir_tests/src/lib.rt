@@ -13,6 +13,8 @@ mod combined;
 #[cfg(test)]
 mod edges;
 #[cfg(test)]
+mod function_tables;
+#[cfg(test)]
 mod functions;
 #[cfg(test)]
 mod identities;
@@ -22,6 +24,8 @@ mod integers;
 mod lines;
 #[cfg(test)]
 mod modules;
+#[cfg(test)]
+mod named;
 #[cfg(test)]
 mod names;
 #[cfg(test)]

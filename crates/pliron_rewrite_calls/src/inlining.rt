@@ -166,7 +166,7 @@ fn replace_returns<D: InliningDialect, R: Rewriter + Room>(
 
 // A call, the region that it stands in, and the block where the jump behind it leads.
 #[derive(Clone, Copy)]
-struct CallSite {
+struct InlineSite {
     call: Ptr<Operation>,
     region: Ptr<Region>,
     after: Ptr<BasicBlock>,
@@ -176,7 +176,7 @@ struct CallSite {
 // block, with the operands of the call.
 fn lead_back<D: InliningDialect, R: Rewriter + Room>(
     alloc: Global,
-    site: CallSite,
+    site: InlineSite,
     blocks: &[Ptr<BasicBlock>],
     copies: &Copies,
     ctx: &mut Context,
@@ -213,7 +213,7 @@ fn lead_back<D: InliningDialect, R: Rewriter + Room>(
 // no block, where there is room for the changes, also for the way back.
 fn copy_and_lead_back<D: InliningDialect, R: Rewriter + Room>(
     alloc: Global,
-    site: CallSite,
+    site: InlineSite,
     blocks: &[Ptr<BasicBlock>],
     operations: &[Ptr<Operation>],
     ctx: &mut Context,
@@ -320,7 +320,7 @@ pub fn inline_call<D: InliningDialect, R: Rewriter + Room>(
         .len()
         .saturating_add(blocks.len().saturating_mul(4));
     rewriter.room(alloc, changes.saturating_add(4))?;
-    let site = CallSite {
+    let site = InlineSite {
         call,
         region,
         after,

@@ -1,0 +1,3 @@
+pub mod Llvm
+pub mod LlvmLaws
+pub mod Examples
