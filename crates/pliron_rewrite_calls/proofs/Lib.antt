@@ -5,3 +5,12 @@ mod CopyLists
 mod CopyStages
 mod CopyCalls
 mod CopyableLemmas
+mod ErasedAlone
+mod JumpsMade
+mod ReturnsLed
+mod InlinedCopies
+mod InlinedParts
+mod InliningCalls
+mod ReturnLoops
+mod InliningAsked
+mod CallReady

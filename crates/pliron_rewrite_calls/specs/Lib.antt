@@ -3,3 +3,5 @@ pub mod CopyTables
 pub mod Copying
 pub mod CopySteps
 pub mod Copyable
+pub mod Inlining
+pub mod InliningSteps

@@ -52,7 +52,7 @@ fn push_operations(
 }
 
 // Adds the operations of these blocks, in order.
-fn push_all_operations(
+pub(crate) fn push_all_operations(
     blocks: &[Ptr<BasicBlock>],
     ctx: &Context,
     operations: &mut Vec<Ptr<Operation>>,
@@ -378,7 +378,7 @@ fn make_copies<R: Rewriter + Room>(
 }
 
 // Copies of the blocks, which have these operations, where there is room for as many changes as operations and blocks.
-fn copy_within_room<R: Rewriter + Room>(
+pub(crate) fn copy_within_room<R: Rewriter + Room>(
     alloc: Global,
     blocks: &[Ptr<BasicBlock>],
     operations: &[Ptr<Operation>],

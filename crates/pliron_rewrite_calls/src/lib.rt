@@ -1,4 +1,5 @@
-//! Calls that change a tree as inlining asks: a block is split behind an operation, and blocks are copied.
+//! Calls that change a tree as inlining asks: a block is split behind an operation, blocks are copied, and a call becomes
+//! a jump to a copy of its callee's blocks.
 //!
 //! Each is wholly done or not at all, whatever it answers. A contract here says what the tree became. Runs aren't kept yet
 //! by a call alone: a block that was split ends without a jump until the caller puts one.
@@ -10,9 +11,11 @@ mod copies;
 mod copyable;
 mod copying;
 mod erasing;
+mod inlining;
 mod splitting;
 
 pub use copies::Copies;
 pub use copyable::may_copy_blocks;
 pub use copying::copy_blocks;
+pub use inlining::inline_call;
 pub use splitting::split_block_behind;
