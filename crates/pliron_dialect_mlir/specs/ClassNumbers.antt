@@ -6,7 +6,7 @@ use Rattle.pliron_bits.specs.declared.operators.BinaryOperator.TheVariants.{Add,
 use Rattle.pliron_bits.specs.declared.operators.Cast.TheVariants.{ZeroExtend, SignExtend, Truncate}
 use Rattle.pliron_bits.specs.Operators.{number_of_operator, operator_of_number}
 use Rattle.pliron_dialect_mlir.specs.declared.kind.Class.{Class}
-use Rattle.pliron_dialect_mlir.specs.declared.kind.Class.TheVariants.{Constant, Select, Opaque, Jump, Branch, Switch, Leave, Unreachable, Effect, Regions, Root, Module, Fork, Compare, Cast, Binary}
+use Rattle.pliron_dialect_mlir.specs.declared.kind.Class.TheVariants.{Constant, Select, Opaque, Jump, Branch, Switch, Leave, Unreachable, Effect, Local, Call, Regions, Root, Function, Module, Fork, Compare, Cast, Binary}
 
 abbrev pub number_of_class : Class → ℕ
 number_of_class Constant = 0
@@ -22,11 +22,14 @@ number_of_class Regions = 9
 number_of_class Root = 10
 number_of_class Module = 11
 number_of_class Fork = 12
-number_of_class Compare = 13
-number_of_class (Cast ZeroExtend) = 14
-number_of_class (Cast SignExtend) = 15
-number_of_class (Cast Truncate) = 16
-number_of_class (Binary operator) = 17 + number_of_operator operator
+number_of_class Local = 13
+number_of_class Call = 14
+number_of_class Function = 15
+number_of_class Compare = 16
+number_of_class (Cast ZeroExtend) = 17
+number_of_class (Cast SignExtend) = 18
+number_of_class (Cast Truncate) = 19
+number_of_class (Binary operator) = 20 + number_of_operator operator
 
 abbrev pub binary_class : BinaryOperator → Class
 binary_class operator = Binary operator
@@ -46,11 +49,14 @@ class_of_number n =
     else if nat_eq n 10 then Some Root
     else if nat_eq n 11 then Some Module
     else if nat_eq n 12 then Some Fork
-    else if nat_eq n 13 then Some Compare
-    else if nat_eq n 14 then Some (Cast ZeroExtend)
-    else if nat_eq n 15 then Some (Cast SignExtend)
-    else if nat_eq n 16 then Some (Cast Truncate)
-    else option_map binary_class (operator_of_number (n - 17))
+    else if nat_eq n 13 then Some Local
+    else if nat_eq n 14 then Some Call
+    else if nat_eq n 15 then Some Function
+    else if nat_eq n 16 then Some Compare
+    else if nat_eq n 17 then Some (Cast ZeroExtend)
+    else if nat_eq n 18 then Some (Cast SignExtend)
+    else if nat_eq n 19 then Some (Cast Truncate)
+    else option_map binary_class (operator_of_number (n - 20))
 
 operator_numbered : (o : BinaryOperator) → class_of_number (number_of_class (Binary o)) ≡ Some (Binary o)
 operator_numbered Add = refl
@@ -92,4 +98,7 @@ numbered_class Compare = refl
 numbered_class (Cast ZeroExtend) = refl
 numbered_class (Cast SignExtend) = refl
 numbered_class (Cast Truncate) = refl
+numbered_class Local = refl
+numbered_class Call = refl
+numbered_class Function = refl
 numbered_class (Binary o) = operator_numbered o

@@ -12,7 +12,7 @@ use Rattle.pliron_bits.specs.declared.operators.Predicate.{Predicate}
 use Rattle.pliron_bits.specs.declared.operators.Cast.{Cast}
 use Rattle.pliron_bits.specs.Operators.{binary, comparison, cast_to, predicate_of_number}
 use Rattle.pliron_dialect_mlir.specs.declared.kind.Class.{Class}
-use Rattle.pliron_dialect_mlir.specs.declared.kind.Class.TheVariants.{Constant as ConstantClass, Select, Opaque as OpaqueClass, Jump, Branch, Switch, Leave as LeaveClass, Unreachable, Effect, Regions, Root, Module, Fork, Compare, Cast as CastClass, Binary}
+use Rattle.pliron_dialect_mlir.specs.declared.kind.Class.TheVariants.{Constant as ConstantClass, Select, Opaque as OpaqueClass, Jump, Branch, Switch, Leave as LeaveClass, Unreachable, Effect, Local, Call, Regions, Root, Function, Module, Fork, Compare, Cast as CastClass, Binary}
 use Rattle.pliron_dialect.specs.Counts.{counted_by}
 use Rattle.pliron_dialect.specs.declared.identity.Identity.{Identity}
 use Rattle.pliron_dialect_mlir.specs.IntegerIdentities.{of_cast, of_compare, identity_at}
@@ -95,8 +95,11 @@ switch_edge kind (width ∷ cases) c = option_map (edge_of_case 1 cases) (bits_a
 -- how many parts of each sort it has: any number, no regions, or nothing but one region
 abbrev pub allows_of_class : Class → Head → (a b c d : ℕ) → Bool
 allows_of_class Effect h a b c d = nat_eq d 0
+allows_of_class Local h a b c d = nat_eq d 0
+allows_of_class Call h a b c d = nat_eq d 0
 allows_of_class Fork h a b c d = nat_eq d 0
 allows_of_class Root h a b c d = nat_eq a 0 && (nat_eq b 0 && nat_eq d 1)
+allows_of_class Function h a b c d = nat_eq a 0 && (nat_eq b 0 && nat_eq d 1)
 allows_of_class Module h a b c d = nat_eq a 0 && (nat_eq b 0 && nat_eq d 1)
 allows_of_class _ h a b c d = true
 
@@ -129,8 +132,11 @@ role_of_class Switch = Chooses OfEach switch_edge
 role_of_class LeaveClass = Leaves
 role_of_class Unreachable = Stops
 role_of_class Effect = Acts true true effect_act
+role_of_class Local = Acts true true effect_act
+role_of_class Call = Acts true true effect_act
 role_of_class Regions = Acts true true region_act
 role_of_class Root = Acts true true root_act
+role_of_class Function = Acts true true root_act
 role_of_class Module = Acts true true module_act
 role_of_class Fork = Forks true fork_act
 role_of_class Compare = Folds 2 compared_by compare_identity Says
@@ -147,8 +153,11 @@ role_fits Switch s = λ i lt some h. refl
 role_fits LeaveClass s = tt
 role_fits Unreachable s = tt
 role_fits Effect s = λ h memo input. effect_fits false s memo input
+role_fits Local s = λ h memo input. effect_fits false s memo input
+role_fits Call s = λ h memo input. effect_fits false s memo input
 role_fits Regions s = λ h memo input. region_fits false s memo input
 role_fits Root s = λ h memo input. root_fits s memo input
+role_fits Function s = λ h memo input. root_fits s memo input
 role_fits Module s = λ h memo input. length-fitted s.results []
 role_fits Fork s = λ h memo input. fork_fits false s memo input
 role_fits Compare s = tt

@@ -49,6 +49,10 @@ constant_head datum form = head_of_class Constant (datum ∷ pos form ∷ [])
 abbrev pub plain_class_head : Class → ℕ → Head
 plain_class_head class form = head_of_class class (pos form ∷ [])
 
+-- a call or a function, with the number of the name
+abbrev pub named_head : Class → (symbol form : ℕ) → Head
+named_head class symbol form = head_of_class class (pos symbol ∷ pos form ∷ [])
+
 abbrev pub binary_head : BinaryOperator → ℕ → Flags → ℕ → Head
 binary_head operator width flags form = head_of_class (Binary operator) (pos width ∷ pos (number_of_flags flags) ∷ pos form ∷ [])
 

@@ -4,7 +4,7 @@ use Rattle.pliron_bits.specs.declared.operators.BinaryOperator.{BinaryOperator}
 use Rattle.pliron_bits.specs.declared.operators.BinaryOperator.TheVariants.{Add, Subtract, Multiply, UnsignedDivide, SignedDivide, UnsignedRemainder, SignedRemainder, ShiftLeft, LogicalShiftRight, ArithmeticShiftRight, And, Or, Xor, UnsignedMinimum, SignedMinimum, UnsignedMaximum, SignedMaximum, UnsignedDivideUp, SignedDivideUp, SignedDivideDown}
 use Rattle.pliron_bits.specs.declared.operators.Cast.TheVariants.{ZeroExtend, SignExtend, Truncate}
 use Rattle.pliron_dialect_mlir.specs.declared.kind.Class.{Class}
-use Rattle.pliron_dialect_mlir.specs.declared.kind.Class.TheVariants.{Constant, Select, Opaque, Jump, Branch, Switch, Leave, Unreachable, Effect, Root, Module, Compare, Cast as CastClass, Binary}
+use Rattle.pliron_dialect_mlir.specs.declared.kind.Class.TheVariants.{Constant, Select, Opaque, Jump, Branch, Switch, Leave, Unreachable, Effect, Local, Root, Module, Compare, Cast as CastClass, Binary}
 
 -- the row of this name
 abbrev pub lookup : {A : Type 0} → List (List ℕ × A) → List ℕ → Option A
@@ -171,12 +171,25 @@ is_pure_intrinsic name = is_named counting_intrinsics name || (is_named overflow
 abbrev pub is_pure : List ℕ → Bool
 is_pure name = if name_begins (codes "intr.") name then is_pure_intrinsic (drop 5 name) else (is_named pure_casts name || (is_named pure_aggregates name || is_named float_operations name))
 
--- what asks the world, as names that are none of these do
+-- what asks the world, and would do the same in another function
 abbrev pub llvm_effects : List (List ℕ)
-llvm_effects = codes "mlir.undef" ∷ codes "mlir.poison" ∷ codes "freeze" ∷ codes "alloca" ∷ codes "load" ∷ codes "store" ∷ codes "call" ∷ codes "fence" ∷ codes "atomicrmw" ∷ codes "cmpxchg" ∷ codes "inline_asm" ∷ codes "va_arg" ∷ []
+llvm_effects = codes "mlir.undef" ∷ codes "mlir.poison" ∷ codes "freeze" ∷ codes "load" ∷ codes "store" ∷ codes "call" ∷ codes "fence" ∷ codes "atomicrmw" ∷ codes "cmpxchg" ∷ []
 
-abbrev pub pure_or_effect : (pure effect : Bool) → Option Class
-pure_or_effect pure effect = if pure then Some Opaque else (if effect then Some Effect else None)
+abbrev pub effect_intrinsics : List (List ℕ)
+effect_intrinsics = codes "memcpy" ∷ codes "memcpy.inline" ∷ codes "memmove" ∷ codes "memset" ∷ codes "memset.inline" ∷ codes "assume" ∷ codes "prefetch" ∷ codes "trap" ∷ codes "debugtrap" ∷ []
+
+abbrev pub is_effect : List ℕ → Bool
+is_effect name = if name_begins (codes "intr.") name then is_named effect_intrinsics (drop 5 name) else is_named llvm_effects name
+
+-- what asks the world for memory or arguments of its function, as names that are none of these may do
+abbrev pub llvm_local : List (List ℕ)
+llvm_local = codes "alloca" ∷ codes "inline_asm" ∷ codes "va_arg" ∷ []
+
+abbrev pub acting_class : (effect is_local : Bool) → Option Class
+acting_class effect is_local = if effect then Some Effect else (if is_local then Some Local else None)
+
+abbrev pub pure_or_acting : (pure : Bool) → Option Class → Option Class
+pure_or_acting pure acting = if pure then Some Opaque else acting
 
 abbrev pub some_or : Option Class → Option Class → Option Class
 some_or (Some class) other = Some class
@@ -187,7 +200,7 @@ some_binary_or (Some operator) other = Some (Binary operator)
 some_binary_or None other = other
 
 abbrev pub llvm_class : List ℕ → Option Class
-llvm_class name = some_binary_or (lookup llvm_operators name) (some_or (lookup llvm_classes name) (pure_or_effect (is_pure name) (is_named llvm_effects name)))
+llvm_class name = some_binary_or (lookup llvm_operators name) (some_or (lookup llvm_classes name) (pure_or_acting (is_pure name) (acting_class (is_effect name) (is_named llvm_local name))))
 
 -- ---- all
 

@@ -3,7 +3,7 @@ ghost use Rattle.std.specs.Prelude.{◌≡◌, ◌+◌, ◌<◌, pos, ◌∷◌,
 ghost use Rattle.pliron_core.specs.declared.attrs.AttrObj.{AttrObj as Attribute};
 ghost use Rattle.pliron_core.specs.declared.attrs.AttrObj.TheVariants.{Int};
 ghost use Rattle.pliron_dialect_mlir.specs.Heads.{attributes, naturals, head_of_class, constant_head as constant_head_of};
-ghost use Rattle.pliron_dialect_mlir.specs.Heads.{plain_class_head as plain_head_of, binary_head as binary_head_of, compare_head as compare_head_of};
+ghost use Rattle.pliron_dialect_mlir.specs.Heads.{plain_class_head as plain_head_of, named_head as named_head_of, binary_head as binary_head_of, compare_head as compare_head_of};
 ghost use Rattle.pliron_dialect_mlir.specs.Heads.{cast_head as cast_head_of, branch_head as branch_head_of, switch_head as switch_head_of};
 
 use crate::kind::{Class, class_number};
@@ -42,6 +42,19 @@ pub fn plain_head(alloc: Global, class: Class, form: usize) -> Result<Head, Allo
     ensures { IfOk result (λ head. head ≡ plain_head_of class form) }
 {
     head_with(alloc, class, &[form as i128])
+}
+
+/// The head of a call of the function whose name has this number, or of that function. Errors: allocation failure. Cost:
+/// constant.
+pub fn named_head(
+    alloc: Global,
+    class: Class,
+    symbol: usize,
+    form: usize,
+) -> Result<Head, AllocFailed<AttrObj>>
+    ensures { IfOk result (λ head. head ≡ named_head_of class symbol form) }
+{
+    head_with(alloc, class, &[symbol as i128, form as i128])
 }
 
 /// The head of an operation that computes an integer of this width of two. Errors: allocation failure. Cost: constant.

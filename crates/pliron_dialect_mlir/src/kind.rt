@@ -36,10 +36,16 @@ pub enum Class {
     Unreachable,
     /// It asks the world for its results.
     Effect,
+    /// It asks the world for its results, and belongs to the function that it stands in.
+    Local,
+    /// It asks the world for its results, as a call of the function that its first attribute names.
+    Call,
     /// The world visits its regions as it likes.
     Regions,
     /// A function: it visits its region once.
     Root,
+    /// A function that its first attribute names.
+    Function,
     /// A module: its region is never visited.
     Module,
     /// A terminator of which nothing is known, without regions: the world says where control goes.
@@ -77,11 +83,14 @@ pub fn class_number(class: Class) -> u32
         Class::Root => 10,
         Class::Module => 11,
         Class::Fork => 12,
-        Class::Compare => 13,
-        Class::Cast(Cast::ZeroExtend) => 14,
-        Class::Cast(Cast::SignExtend) => 15,
-        Class::Cast(Cast::Truncate) => 16,
-        Class::Binary(operator) => 17 + operator.number(),
+        Class::Local => 13,
+        Class::Call => 14,
+        Class::Function => 15,
+        Class::Compare => 16,
+        Class::Cast(Cast::ZeroExtend) => 17,
+        Class::Cast(Cast::SignExtend) => 18,
+        Class::Cast(Cast::Truncate) => 19,
+        Class::Binary(operator) => 20 + operator.number(),
     }
 }
 
@@ -103,11 +112,14 @@ pub fn numbered_class(number: u32) -> Option<Class>
         10 => Some(Class::Root),
         11 => Some(Class::Module),
         12 => Some(Class::Fork),
-        13 => Some(Class::Compare),
-        14 => Some(Class::Cast(Cast::ZeroExtend)),
-        15 => Some(Class::Cast(Cast::SignExtend)),
-        16 => Some(Class::Cast(Cast::Truncate)),
-        _ => match BinaryOperator::from_number(number.saturating_sub(17)) {
+        13 => Some(Class::Local),
+        14 => Some(Class::Call),
+        15 => Some(Class::Function),
+        16 => Some(Class::Compare),
+        17 => Some(Class::Cast(Cast::ZeroExtend)),
+        18 => Some(Class::Cast(Cast::SignExtend)),
+        19 => Some(Class::Cast(Cast::Truncate)),
+        _ => match BinaryOperator::from_number(number.saturating_sub(20)) {
             Some(operator) => Some(Class::Binary(operator)),
             None => None,
         },
@@ -126,7 +138,8 @@ pub(crate) fn form(class: Class) -> Form
         Class::Branch | Class::Switch => Form::Chooses(Counting::OfEach),
         Class::Leave => Form::Leaves,
         Class::Unreachable => Form::Stops,
-        Class::Effect | Class::Regions | Class::Root | Class::Module => Form::Acts(true, true),
+        Class::Effect | Class::Local | Class::Call => Form::Acts(true, true),
+        Class::Regions | Class::Root | Class::Function | Class::Module => Form::Acts(true, true),
         Class::Fork => Form::Forks(true),
         Class::Cast(_) => Form::Folds(1, Otherwise::Says),
         Class::Compare | Class::Binary(_) => Form::Folds(2, Otherwise::Says),

@@ -3,7 +3,7 @@ ghost use Rattle.std.specs.Prelude.{◌≡◌};
 ghost use Rattle.pliron_dialect_mlir.specs.Names.{class_named as class_named_in, classes_elsewhere};
 ghost use Rattle.pliron_dialect_mlir.specs.Names.{complex_class as complex_class_of, arith_class as arith_class_of};
 ghost use Rattle.pliron_dialect_mlir.specs.Names.{arith_classes, arith_operators, llvm_class as llvm_class_of, llvm_classes};
-ghost use Rattle.pliron_dialect_mlir.specs.Names.{llvm_operators, llvm_effects, lookup, is_named, is_pure as is_pure_of};
+ghost use Rattle.pliron_dialect_mlir.specs.Names.{llvm_operators, llvm_effects, llvm_local, effect_intrinsics, lookup, is_named, is_pure as is_pure_of, is_effect as is_effect_of};
 ghost use Rattle.pliron_dialect_mlir.specs.Names.{pure_casts, pure_aggregates, float_operations, counting_intrinsics};
 ghost use Rattle.pliron_dialect_mlir.specs.Names.{overflowing_intrinsics, hinting_intrinsics, float_functions};
 ghost use Rattle.pliron_dialect_mlir.specs.Names.{float_roundings, float_others, is_pure_intrinsic as is_pure_intrinsic_of};
@@ -223,6 +223,8 @@ fn llvm_class(name: &[u8]) -> Option<Class>
         Some(Class::Opaque)
     } else if is_effect(name) {
         Some(Class::Effect)
+    } else if is_local(name) {
+        Some(Class::Local)
     } else {
         None
     }
@@ -409,20 +411,47 @@ fn is_float_intrinsic(name: &[u8]) -> bool
         || name == b"is.fpclass".as_slice()
 }
 
-// Whether it asks the world.
+// Whether it asks the world, and would do the same in another function.
 fn is_effect(name: &[u8]) -> bool
+    ensures { result ≡ is_effect_of name.now }
+{
+    match name.strip_prefix(b"intr.") {
+        Some(rest) => is_effect_intrinsic(rest),
+        None => is_plain_effect(name),
+    }
+}
+
+fn is_effect_intrinsic(name: &[u8]) -> bool
+    ensures { result ≡ is_named effect_intrinsics name.now }
+{
+    name == b"memcpy".as_slice()
+        || name == b"memcpy.inline".as_slice()
+        || name == b"memmove".as_slice()
+        || name == b"memset".as_slice()
+        || name == b"memset.inline".as_slice()
+        || name == b"assume".as_slice()
+        || name == b"prefetch".as_slice()
+        || name == b"trap".as_slice()
+        || name == b"debugtrap".as_slice()
+}
+
+fn is_plain_effect(name: &[u8]) -> bool
     ensures { result ≡ is_named llvm_effects name.now }
 {
     name == b"mlir.undef".as_slice()
         || name == b"mlir.poison".as_slice()
         || name == b"freeze".as_slice()
-        || name == b"alloca".as_slice()
         || name == b"load".as_slice()
         || name == b"store".as_slice()
         || name == b"call".as_slice()
         || name == b"fence".as_slice()
         || name == b"atomicrmw".as_slice()
         || name == b"cmpxchg".as_slice()
-        || name == b"inline_asm".as_slice()
-        || name == b"va_arg".as_slice()
+}
+
+// Whether it asks the world for memory or arguments of its function.
+fn is_local(name: &[u8]) -> bool
+    ensures { result ≡ is_named llvm_local name.now }
+{
+    name == b"alloca".as_slice() || name == b"inline_asm".as_slice() || name == b"va_arg".as_slice()
 }

@@ -63,10 +63,12 @@ impl<I: Computes> Interprets for MlirKind<I> {
         input: &[Datum],
     ) -> Result<Move, AllocError> {
         match self.class {
-            Class::Effect => effect_move(alloc, head, counts, memo, input),
+            Class::Effect | Class::Local | Class::Call => {
+                effect_move(alloc, head, counts, memo, input)
+            }
             Class::Regions => region_move(alloc, head, counts, memo, input),
             Class::Fork => fork_move(alloc, head, counts, memo, input),
-            Class::Root => root_move(alloc, counts, memo, input),
+            Class::Root | Class::Function => root_move(alloc, counts, memo, input),
             Class::Module => module_move(alloc, counts, memo, input),
             _ => Ok(Move::Trap),
         }

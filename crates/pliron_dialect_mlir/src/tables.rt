@@ -315,8 +315,10 @@ impl<I: Interpretation> Roles for MlirKind<I> {
         regions: usize,
     ) -> bool {
         match self.class {
-            Class::Effect | Class::Fork => regions == 0,
-            Class::Root | Class::Module => operands == 0 && results == 0 && regions == 1,
+            Class::Effect | Class::Local | Class::Call | Class::Fork => regions == 0,
+            Class::Root | Class::Function | Class::Module => {
+                operands == 0 && results == 0 && regions == 1
+            }
             _ => true,
         }
     }

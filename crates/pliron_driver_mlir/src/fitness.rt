@@ -23,6 +23,16 @@ pub struct Fitness {
     pub unfit: Vec<Unfit>,
 }
 
+// Whether the operation is a function, with or without a name.
+fn is_function(op: Ptr<Operation>, ctx: &Context) -> bool
+    requires { IsLive ctx.now.tree op }
+{
+    matches!(
+        class_of_head(op.head(ctx)),
+        Some(Class::Root) | Some(Class::Function)
+    )
+}
+
 // Counts the operation, where it is a function.
 fn add<D: Dialect>(
     alloc: Global,
@@ -31,7 +41,7 @@ fn add<D: Dialect>(
     fitness: &mut Fitness,
     ctx: &Context,
 ) -> Result<(), OptError> {
-    if !op.is_live(ctx) || class_of_head(op.head(ctx)) != Some(Class::Root) {
+    if !op.is_live(ctx) || !is_function(op, ctx) {
         return Ok(());
     }
     match find_violation::<D>(alloc, op, ctx)? {

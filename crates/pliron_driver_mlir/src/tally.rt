@@ -37,9 +37,11 @@ impl ClassTally {
             | Some(Class::Leave)
             | Some(Class::Unreachable)
             | Some(Class::Fork) => &mut self.terminators,
-            Some(Class::Root) => &mut self.functions,
+            Some(Class::Root) | Some(Class::Function) => &mut self.functions,
             Some(Class::Regions) | Some(Class::Module) => &mut self.regions,
-            Some(Class::Effect) | None => &mut self.effects,
+            Some(Class::Effect) | Some(Class::Local) | Some(Class::Call) | None => {
+                &mut self.effects
+            }
         };
         *count = count.saturating_add(1);
     }

@@ -23,6 +23,8 @@ mod lines;
 #[cfg(test)]
 mod modules;
 #[cfg(test)]
+mod named;
+#[cfg(test)]
 mod names;
 #[cfg(test)]
 mod outcomes;

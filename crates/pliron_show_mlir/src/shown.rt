@@ -69,7 +69,10 @@ fn message_in(alloc: Global, source: &Source, ctx: &mut Context) -> Result<Optio
 
 impl NameScopes for MlirNotation {
     fn begins_names(op: Ptr<Operation>, ctx: &Context) -> bool {
-        class_of_head(op.head(ctx)) == Some(Class::Root)
+        matches!(
+            class_of_head(op.head(ctx)),
+            Some(Class::Root) | Some(Class::Function)
+        )
     }
 }
 

@@ -4,7 +4,7 @@ ghost use Rattle.pliron_core.specs.Tree.{IsLive};
 
 use crate::constants::{form_of_datum, form_of_head};
 use pliron_core::{AttrObj, BasicBlock, Contents, Context, Head, Operation, Ptr, Region, Value};
-use pliron_dialect_mlir::{class_of_head, form_of};
+use pliron_dialect_mlir::{Class, class_of_head, form_of};
 use pliron_text_mlir_syntax::{OperationForm, Sheet};
 use std::alloc::{AllocError, Global};
 use std::collections::HashMap;
@@ -81,6 +81,14 @@ fn num_number(head: &Head) -> usize {
     } else {
         head.attrs.len()
     }
+}
+
+// Whether the head says the number of a name.
+fn has_name(head: &Head) -> bool {
+    matches!(
+        class_of_head(head),
+        Some(Class::Call) | Some(Class::Function)
+    )
 }
 
 impl Counterparts {
@@ -285,7 +293,13 @@ impl ModulePair<'_> {
             return false;
         }
         for i in 0..num_number(one) {
-            if !self.numbers_agree(number_at(one, i), number_at(other, i)) {
+            let (number, twin) = (number_at(one, i), number_at(other, i));
+            let agree = if has_name(one) {
+                self.names_agree(number, twin)
+            } else {
+                self.numbers_agree(number, twin)
+            };
+            if !agree {
                 return false;
             }
         }
@@ -310,6 +324,16 @@ impl ModulePair<'_> {
                 }
             }
             _ => one == other,
+        }
+    }
+
+    // Both are the number of one name, each in its sheet.
+    fn names_agree(&self, one: Option<i128>, other: Option<i128>) -> bool {
+        match (one, other) {
+            (Some(one), Some(other)) => {
+                self.texts_agree(usize::try_from(one).ok(), usize::try_from(other).ok())
+            }
+            _ => false,
         }
     }
 

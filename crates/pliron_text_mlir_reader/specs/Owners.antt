@@ -1,7 +1,7 @@
 -- Which names own a property that is read, as MLIR 22 has them.
 use Rattle.std.specs.Prelude.{◌||◌, ℕ, Bool, false, List, [], ◌∷◌, if◌then◌else◌, codes, bytes_eq}
 use Rattle.pliron_text_mlir_reader.specs.declared.owned.OwnedProperty.{OwnedProperty}
-use Rattle.pliron_text_mlir_reader.specs.declared.owned.OwnedProperty.TheVariants.{Nothing, Value, Zero, Predicate, LlvmOverflow, ArithOverflow, Exact, Disjoint, NonNegative, Edges}
+use Rattle.pliron_text_mlir_reader.specs.declared.owned.OwnedProperty.TheVariants.{Nothing, Value, Zero, Predicate, LlvmOverflow, ArithOverflow, Exact, Disjoint, NonNegative, Edges, Callee, Symbol}
 use Rattle.pliron_dialect_mlir.specs.Names.{is_named}
 
 abbrev pub value_owners : List (List ℕ)
@@ -22,6 +22,12 @@ exact_owners = codes "llvm.udiv" ∷ codes "llvm.sdiv" ∷ codes "llvm.lshr" ∷
 abbrev pub edges_owners : List (List ℕ)
 edges_owners = codes "llvm.cond_br" ∷ codes "cf.cond_br" ∷ codes "llvm.switch" ∷ codes "cf.switch" ∷ []
 
+abbrev pub callee_owners : List (List ℕ)
+callee_owners = codes "llvm.call" ∷ codes "func.call" ∷ []
+
+abbrev pub symbol_owners : List (List ℕ)
+symbol_owners = codes "llvm.func" ∷ codes "func.func" ∷ []
+
 abbrev pub owned_named : List ℕ → OwnedProperty
 owned_named name =
     if is_named value_owners name then Value
@@ -33,4 +39,6 @@ owned_named name =
     else if bytes_eq name (codes "llvm.or") then Disjoint
     else if bytes_eq name (codes "llvm.zext") then NonNegative
     else if is_named edges_owners name then Edges
+    else if is_named callee_owners name then Callee
+    else if is_named symbol_owners name then Symbol
     else Nothing

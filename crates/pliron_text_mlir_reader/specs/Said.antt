@@ -3,11 +3,13 @@ use Rattle.std.specs.Prelude.{◌+◌, ◌-◌, ◌/◌, ◌%◌, ◌&&◌, ◌|
 use Rattle.std.specs.List.{slice_split, list_any, starts_with}
 use Rattle.pliron_bits.specs.declared.flags.Flags.{Flags}
 use Rattle.pliron_bits.specs.declared.operators.Predicate.{Predicate}
+use Rattle.pliron_dialect_mlir.specs.declared.kind.Class.{Class}
+use Rattle.pliron_dialect_mlir.specs.declared.kind.Class.TheVariants.{Effect, Root}
 use Rattle.pliron_text_mlir_syntax.specs.declared.numbers.SignedNumber.{SignedNumber}
-use Rattle.pliron_text_mlir_syntax.specs.Numbers.{without_blanks, behind, before, is_comma, typed_written, bits_written, counts_written, dense_written}
+use Rattle.pliron_text_mlir_syntax.specs.Numbers.{without_blanks, behind, before, is_comma, is_colon, typed_written, bits_written, counts_written, dense_written}
 use Rattle.pliron_text_mlir_reader.specs.Taken.{flags_owned, predicate_said, spread_of}
 use Rattle.pliron_text_mlir_reader.specs.declared.owned.OwnedProperty.{OwnedProperty}
-use Rattle.pliron_text_mlir_reader.specs.declared.owned.OwnedProperty.TheVariants.{Predicate as OwnsPredicate}
+use Rattle.pliron_text_mlir_reader.specs.declared.owned.OwnedProperty.TheVariants.{Predicate as OwnsPredicate, Callee, Symbol}
 use Rattle.pliron_text_mlir_reader.specs.declared.taken.OperationShape.{OperationShape}
 use Rattle.pliron_text_mlir_reader.specs.declared.taken.Overflow.{Overflow}
 use Rattle.pliron_text_mlir_reader.specs.declared.taken.Entries.{Entries}
@@ -42,6 +44,32 @@ either_text (Some value) other = Some value
 -- the property list's, and where that lacks it the attribute dictionary's
 abbrev pub value_of : (name : List ℕ) → Said → Option (List ℕ)
 value_of name said = either_text (value_in name said.properties) (value_in name said.attributes)
+
+-- ---- names of functions
+
+abbrev pub is_quote : ℕ → Bool
+is_quote byte = nat_eq byte 34
+
+-- the text without any such byte
+abbrev pub without_any : (ℕ → Bool) → List ℕ → Option (List ℕ)
+without_any is text = if list_any is text then None else Some text
+
+-- what stands between quotes, if none stands inside
+abbrev pub inside_quotes : List ℕ → Option (List ℕ)
+inside_quotes text = option_and_then (without_any is_quote) (option_and_then (before (codes "\"")) (behind (codes "\"") text))
+
+-- the name in a reference behind `@`; none where it leads into another symbol
+abbrev pub name_behind_sign : List ℕ → Option (List ℕ)
+name_behind_sign rest = if starts_with nat_eq rest (codes "\"") then inside_quotes rest else without_any is_colon rest
+
+abbrev pub symbol_referred : List ℕ → Option (List ℕ)
+symbol_referred text = option_and_then name_behind_sign (behind (codes "@") text)
+
+-- the name of the function that an operation of the class calls or is, where it owns one
+abbrev pub name_said : Class → OwnedProperty → Said → Option (List ℕ)
+name_said Effect Callee said = option_and_then symbol_referred (value_of (codes "callee") said)
+name_said Root Symbol said = option_and_then inside_quotes (value_of (codes "sym_name") said)
+name_said class owned said = None
 
 -- ---- flags
 

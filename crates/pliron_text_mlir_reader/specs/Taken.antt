@@ -8,7 +8,7 @@ use Rattle.pliron_bits.specs.declared.operators.Cast.{Cast}
 use Rattle.pliron_bits.specs.declared.operators.Cast.TheVariants.{Truncate}
 use Rattle.pliron_bits.specs.Operators.{predicate_of_number}
 use Rattle.pliron_dialect_mlir.specs.declared.kind.Class.{Class}
-use Rattle.pliron_dialect_mlir.specs.declared.kind.Class.TheVariants.{Constant, Select, Opaque, Jump, Branch, Switch, Leave, Unreachable, Effect, Regions, Root, Module, Fork, Compare, Cast as CastClass, Binary}
+use Rattle.pliron_dialect_mlir.specs.declared.kind.Class.TheVariants.{Constant, Select, Opaque, Jump, Branch, Switch, Leave, Unreachable, Effect, Local, Call, Regions, Root, Function, Module, Fork, Compare, Cast as CastClass, Binary}
 use Rattle.pliron_dialect_mlir.specs.ClassNumbers.{number_of_class}
 use Rattle.pliron_dialect_mlir.specs.Heads.{plain_class_head, binary_head, compare_head, cast_head, branch_head}
 use Rattle.pliron_text_mlir_syntax.specs.declared.numbers.SignedNumber.{SignedNumber}
@@ -41,19 +41,23 @@ has_shape (CastClass cast) s = is_computation 1 1 s
 has_shape Select s = is_computation 3 1 s
 has_shape Opaque s = nat_eq s.successors 0 && nat_eq s.regions 0
 has_shape Effect s = nat_eq s.successors 0 && nat_eq s.regions 0
+has_shape Local s = nat_eq s.successors 0 && nat_eq s.regions 0
+has_shape Call s = nat_eq s.successors 0 && nat_eq s.regions 0
 has_shape Leave s = only_ends s && nat_eq s.successors 0
 has_shape Unreachable s = only_ends s && nat_eq s.successors 0
 has_shape Jump s = only_ends s && nat_eq s.successors 1
 has_shape Branch s = only_ends s && nat_eq s.successors 2
 has_shape Switch s = only_ends s && nat_lt 1 s.successors
 has_shape Root s = only_holds s
+has_shape Function s = only_holds s
 has_shape Module s = only_holds s
 has_shape Regions s = nat_eq s.successors 0
 has_shape Fork s = nat_lt 0 s.successors
 
--- what isn't known acts on the world: as a fork where it has successors, with its regions where it has any
+-- what isn't known acts on the world: as a fork where it has successors, with its regions where it has any, and as what
+-- belongs to its function where it has neither
 abbrev pub unknown_class : OperationShape → Class
-unknown_class s = if nat_lt 0 s.successors then Fork else (if nat_lt 0 s.regions then Regions else Effect)
+unknown_class s = if nat_lt 0 s.successors then Fork else (if nat_lt 0 s.regions then Regions else Local)
 
 -- a cast of integers, to a narrower type by truncation; of other types it is opaque
 abbrev pub cast_taken : Cast → (from to : ℕ) → Class
@@ -141,5 +145,11 @@ not_understood Compare = Opaque
 not_understood Constant = Opaque
 not_understood class = class
 
+-- what it is where it has a name
+abbrev pub named_class : Class → Class
+named_class Effect = Call
+named_class Root = Function
+named_class class = class
+
 abbrev pub HasClass : Class → Head → Type 0
-HasClass class head = (head.kind ≡ number_of_class class) ⊎ (head.kind ≡ number_of_class (not_understood class))
+HasClass class head = (head.kind ≡ number_of_class class) ⊎ (head.kind ≡ number_of_class (not_understood class)) ⊎ (head.kind ≡ number_of_class (named_class class))

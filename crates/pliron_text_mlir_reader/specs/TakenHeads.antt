@@ -4,14 +4,14 @@ use Rattle.pliron_core.specs.declared.attrs.Head.{Head}
 use Rattle.pliron_dialect_mlir.specs.declared.kind.Class.{Class}
 use Rattle.pliron_dialect_mlir.specs.declared.kind.Class.TheVariants.{Constant, Opaque, Branch, Switch, Effect, Fork}
 use Rattle.pliron_dialect_mlir.specs.Data.{number, other_constant}
-use Rattle.pliron_dialect_mlir.specs.Heads.{constant_head, plain_class_head, switch_head}
+use Rattle.pliron_dialect_mlir.specs.Heads.{constant_head, plain_class_head, named_head, switch_head}
 use Rattle.pliron_text_mlir_syntax.specs.declared.sheet.Sheet.{Sheet}
 use Rattle.pliron_text_mlir_syntax.specs.declared.sheet.OperationForm.{OperationForm}
 use Rattle.pliron_text_mlir_syntax.specs.Numbers.{width_written}
 use Rattle.pliron_text_mlir_syntax.specs.Sheets.{text_at, sheet_form, WrittenForm, IsFormOf}
 use Rattle.pliron_text_mlir_reader.specs.Known.{known_in_quotes}
-use Rattle.pliron_text_mlir_reader.specs.Said.{Said, flags_said, predicate_in, value_bits, counts_said, fitting, cases_said}
-use Rattle.pliron_text_mlir_reader.specs.Taken.{class_taken, bits_owned, head_taken, branch_taken}
+use Rattle.pliron_text_mlir_reader.specs.Said.{Said, name_said, flags_said, predicate_in, value_bits, counts_said, fitting, cases_said}
+use Rattle.pliron_text_mlir_reader.specs.Taken.{class_taken, bits_owned, head_taken, branch_taken, named_class}
 use Rattle.pliron_text_mlir_reader.specs.declared.known.KnownName.{KnownName}
 use Rattle.pliron_text_mlir_reader.specs.declared.owned.OwnedProperty.{OwnedProperty}
 use Rattle.pliron_text_mlir_reader.specs.declared.taken.OperationShape.{OperationShape}
@@ -60,9 +60,17 @@ IsSwitchHead sheet s said forms head =
     MatchOption (fitting s (counts_said true said)) (SaysForm sheet forms.form (plain_class_head Fork) head)
     (λ counts. SaysForm sheet forms.branch_form (switch_head counts (cases_said s said).0 (cases_said s said).1) head)
 
+-- a call says the number of the name of the function that it calls, a function that of its own
+abbrev pub IsNamedHead : Sheet → Class → (name : List ℕ) → WrittenForm → Head → Type 0
+IsNamedHead sheet class name written head = (symbol : ℕ) × (text_at sheet symbol ≡ Some name) × SaysForm sheet written (named_head (named_class class) symbol) head
+
 -- any other operation has the flags and the predicate that it owns
+abbrev pub IsPlainHead : Sheet → Class → OwnedProperty → OperationShape → Said → WrittenForm → Head → Type 0
+IsPlainHead sheet class owned s said written head = SaysForm sheet written (head_taken class s (flags_said owned said) (predicate_in owned said)) head
+
 abbrev pub IsOtherHead : Sheet → Class → OwnedProperty → OperationShape → Said → WrittenForm → Head → Type 0
-IsOtherHead sheet class owned s said written head = SaysForm sheet written (head_taken class s (flags_said owned said) (predicate_in owned said)) head
+IsOtherHead sheet class owned s said written head =
+    MatchOption (name_said class owned said) (IsPlainHead sheet class owned s said written head) (λ name. IsNamedHead sheet class name written head)
 
 abbrev pub IsHeadOf : Sheet → Class → OwnedProperty → OperationShape → Said → Forms → Head → Type 0
 IsHeadOf sheet Constant owned s said forms head = IsConstantHead sheet owned s.to said forms.form head

@@ -3,27 +3,27 @@ ghost use Rattle.std.specs.Prelude.{◌≡◌, ◌≤◌, ◌<◌, ◌^◌, ℕ,
 ghost use Rattle.std.specs.List.{slice_split, list_any};
 ghost use Rattle.pliron_dialect_mlir.specs.Heads.{plain_class_head as plain_head_of};
 ghost use Rattle.pliron_dialect_mlir.specs.declared.kind.Class.TheVariants.{Constant, Branch, Switch, Fork};
-ghost use Rattle.pliron_text_mlir_syntax.specs.Numbers.{without_blanks, is_comma, typed_written, width_written};
+ghost use Rattle.pliron_text_mlir_syntax.specs.Numbers.{without_blanks, is_comma, is_colon, typed_written, width_written};
 ghost use Rattle.pliron_text_mlir_reader.specs.Taken.{class_taken as class_taken_of, HasClass};
 ghost use Rattle.pliron_text_mlir_syntax.specs.Sheets.{IsFormOf, KeepsNumbers, texts_written, option_now};
 ghost use Rattle.pliron_text_mlir_syntax.specs.Spans.{bytes_in};
 ghost use Rattle.pliron_text_mlir_reader.specs.SaidOf.{said_of, value_text as value_text_of, entry_text, form_written, with_lists as with_lists_of, branch_form_written, forms_of, entry_behind, without_counts as without_counts_of};
 ghost use Rattle.pliron_text_mlir_reader.specs.Said.{counts_edges as counts_edges_of, value_in as value_named, value_of as value_of_said, lists_word as lists_word_in};
-ghost use Rattle.pliron_text_mlir_reader.specs.Said.{overflow_listed as overflow_listed_in, overflow_numbered as overflow_numbered_by, overflow_said as overflow_said_in, entries_in, flags_said, predicate_in, value_bits as value_bits_said};
+ghost use Rattle.pliron_text_mlir_reader.specs.Said.{overflow_listed as overflow_listed_in, overflow_numbered as overflow_numbered_by, overflow_said as overflow_said_in, entries_in, flags_said, predicate_in, value_bits as value_bits_said, name_said as name_said_of, is_quote, without_any, inside_quotes as inside_quotes_of, symbol_referred as symbol_referred_in};
 ghost use Rattle.pliron_text_mlir_reader.specs.Said.{said_counts, cases_spread, counts_said, fit_shape as fits_in, fitting, cases_said};
-ghost use Rattle.pliron_text_mlir_reader.specs.TakenHeads.{SaysForm, is_long as is_long_of, IsConstantHead, IsDatumHead, IsOtherConstant, IsBranchHead, IsSwitchHead, IsOtherHead, IsTakenFor};
+ghost use Rattle.pliron_text_mlir_reader.specs.TakenHeads.{SaysForm, is_long as is_long_of, IsConstantHead, IsDatumHead, IsOtherConstant, IsBranchHead, IsSwitchHead, IsNamedHead, IsPlainHead, IsOtherHead, IsTakenFor};
 
 use crate::known::without_quotes;
 use crate::owned::OwnedProperty;
 use crate::reader::{Entry, Pending, Reader};
 use crate::taken::{
     Entries, OperationShape, Overflow, bits_owned, branch_taken, class_taken, datum_head,
-    flags_owned, head_taken, number_head, predicate_said, spread,
+    flags_owned, head_taken, named_class, number_head, predicate_said, spread,
 };
 use crate::taken_head::TakenHead;
 use pliron_bits::{Flags, Predicate};
 use pliron_core::Head;
-use pliron_dialect_mlir::{Class, plain_head, switch_head};
+use pliron_dialect_mlir::{Class, named_head, plain_head, switch_head};
 use pliron_text_mlir_syntax::{
     ByteRange, Expectation, Fault, FormTexts, SignedNumber, array_of, bits_of, dense_of,
     trim_blanks, typed_number_of, width_of_type,
@@ -180,10 +180,52 @@ fn fits(counts: &[usize], shape: &OperationShape) -> bool
     !is_wide && counts.len() == shape.successors && operands > 0 && total == operands - 1
 }
 
+// The text, if it has no quote.
+fn without_quote(text: &[u8]) -> Option<&[u8]>
+    ensures { option_now result ≡ without_any is_quote text.now }
+{
+    if text.iter().any(|byte| *byte == b'"') {
+        None
+    } else {
+        Some(text)
+    }
+}
+
+// The text, if it has no colon.
+fn without_colon(text: &[u8]) -> Option<&[u8]>
+    ensures { option_now result ≡ without_any is_colon text.now }
+{
+    if text.iter().any(|byte| *byte == b':') {
+        None
+    } else {
+        Some(text)
+    }
+}
+
+// What stands between quotes, if none stands inside.
+fn inside_quotes(text: &[u8]) -> Option<&[u8]>
+    ensures { option_now result ≡ inside_quotes_of text.now }
+{
+    let rest = text.strip_prefix(b"\"".as_slice())?;
+    without_quote(rest.strip_suffix(b"\"".as_slice())?)
+}
+
+// The name in a reference to a symbol, if it doesn't lead into another one.
+fn symbol_referred(text: &[u8]) -> Option<&[u8]>
+    ensures { option_now result ≡ symbol_referred_in text.now }
+{
+    let rest = text.strip_prefix(b"@".as_slice())?;
+    if rest.starts_with(b"\"") {
+        inside_quotes(rest)
+    } else {
+        without_colon(rest)
+    }
+}
+
 impl<'t> Reader<'t> {
     // The value of the first entry with this name, empty for one without a value.
     #[tactic(auto, using(crate::proofs::SaidLemmas::named_here, crate::proofs::SaidLemmas::named_later, crate::proofs::SaidLemmas::named_never))]
-    fn value_in(&self, entries: &[Entry], name: &[u8]) -> Option<&[u8]>
+    fn value_in(&self, entries: &[Entry], name: &[u8]) -> Option<&'t [u8]>
         ensures { MatchOption result
             (value_named name.now (map (entry_text self.now.cursor) entries.now) ≡ None)
             (λ value. value_named name.now (map (entry_text self.now.cursor) entries.now) ≡ Some value.now) }
@@ -196,7 +238,7 @@ impl<'t> Reader<'t> {
         None
     }
 
-    fn value_text(&self, value: Option<ByteRange>) -> &[u8]
+    fn value_text(&self, value: Option<ByteRange>) -> &'t [u8]
         ensures { result.now ≡ value_text_of self.now.cursor value }
     {
         match value {
@@ -207,7 +249,7 @@ impl<'t> Reader<'t> {
 
     // The value of an attribute that the operation owns: in the property list, or where that lacks it in the attribute
     // dictionary.
-    fn value_of(&self, name: &[u8]) -> Option<&[u8]>
+    fn value_of(&self, name: &[u8]) -> Option<&'t [u8]>
         ensures { MatchOption result
             (value_of_said name.now (said_of self.now) ≡ None)
             (λ value. value_of_said name.now (said_of self.now) ≡ Some value.now) }
@@ -574,6 +616,42 @@ impl<'t> Reader<'t> {
         }
     }
 
+    // The name of the function that an operation of the class calls or is, where it owns one.
+    fn name_said(&self, class: Class, owned: OwnedProperty) -> Option<&'t [u8]>
+        ensures { MatchOption result
+            (name_said_of class owned (said_of self.now) ≡ None)
+            (λ name. name_said_of class owned (said_of self.now) ≡ Some name.now) }
+    {
+        match class {
+            Class::Effect if owned == OwnedProperty::Callee => {
+                symbol_referred(self.value_of(b"callee")?)
+            }
+            Class::Root if owned == OwnedProperty::Symbol => inside_quotes(self.value_of(
+                b"sym_name",
+            )?),
+            _ => None,
+        }
+    }
+
+    // The head of a call or of a function of this name.
+    fn head_with_name(
+        &mut self,
+        class: Class,
+        name: &[u8],
+        pending: &Pending<'t>,
+        tail: &OperationTail,
+    ) -> Result<Head, Fault>
+        ensures same { IfOk result (λ head. IsNamedHead self.new.sheet class name.now
+            (form_written self.old pending.now tail.now) head) }
+        ensures kind { IfOk result (λ head. HasClass class head) }
+        ensures kept { KeepsNumbers self.old.sheet self.new.sheet }
+    {
+        let written = self.form_texts(pending, tail);
+        let symbol = self.sheet.number(name)?;
+        let form = self.sheet.number_of_texts(&written)?;
+        Ok(named_head(self.alloc, named_class(class), symbol, form)?)
+    }
+
     // The head of an operation of the class, which isn't a constant, a branch or a switch.
     fn head(
         &mut self,
@@ -582,6 +660,24 @@ impl<'t> Reader<'t> {
         tail: &OperationTail,
     ) -> Result<Head, Fault>
         ensures same { IfOk result (λ head. IsOtherHead self.new.sheet class pending.now.known.owned tail.now.shape
+            (said_of self.old) (form_written self.old pending.now tail.now) head) }
+        ensures kind { IfOk result (λ head. HasClass class head) }
+        ensures kept { KeepsNumbers self.old.sheet self.new.sheet }
+    {
+        match self.name_said(class, pending.known.owned) {
+            Some(name) => self.head_with_name(class, name, pending, tail),
+            None => self.head_without_name(class, pending, tail),
+        }
+    }
+
+    // The same of one that has no name.
+    fn head_without_name(
+        &mut self,
+        class: Class,
+        pending: &Pending<'t>,
+        tail: &OperationTail,
+    ) -> Result<Head, Fault>
+        ensures same { IfOk result (λ head. IsPlainHead self.new.sheet class pending.now.known.owned tail.now.shape
             (said_of self.old) (form_written self.old pending.now tail.now) head) }
         ensures kind { IfOk result (λ head. HasClass class head) }
         ensures kept { KeepsNumbers self.old.sheet self.new.sheet }

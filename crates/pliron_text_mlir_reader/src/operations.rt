@@ -3,6 +3,8 @@ ghost use Rattle.std.specs.Prelude.{◌≡◌, [], None, slice_get, if◌then◌
 ghost use Rattle.pliron_text_mlir_reader.specs.TakenHeads.{IsKeptAs};
 
 use crate::heads::OperationTail;
+use crate::known::without_quotes;
+use crate::owned::OwnedProperty;
 use crate::reader::{Entry, Pending, Reader};
 use crate::taken_head::TakenHead;
 use pliron_dialect_mlir::{Class, plain_head};
@@ -188,6 +190,19 @@ impl<'t> Reader<'t> {
         Ok(Some(span))
     }
 
+    // The entry of the property list with the operation's name, where it owns one.
+    fn symbol_entry(&self, owned: OwnedProperty) -> Option<Entry> {
+        if owned != OwnedProperty::Symbol {
+            return None;
+        }
+        for entry in &self.properties {
+            if without_quotes(self.cursor.bytes(entry.name)) == b"sym_name".as_slice() {
+                return Some(*entry);
+            }
+        }
+        None
+    }
+
     /// Reads an operation, up to its first region where it has one. Errors: as `read`. Cost: linear in its text.
     pub fn operation(&mut self) -> Result<(), Fault> {
         self.cursor.skip();
@@ -218,6 +233,7 @@ impl<'t> Reader<'t> {
         let successors = self.syntax.successors.len();
         self.successors()?;
         let properties = self.property_list()?;
+        let symbol = self.symbol_entry(known.owned);
         let pending = Pending {
             number,
             place,
@@ -231,6 +247,7 @@ impl<'t> Reader<'t> {
             named,
             regions: 0,
             properties,
+            symbol,
             block: self.block,
         };
         self.set_edges(&pending, successors);

@@ -1,6 +1,6 @@
 //! The properties that operations own, by their names, as far as passes read them.
 ghost use Rattle.std.specs.Prelude.{◌≡◌};
-ghost use Rattle.pliron_text_mlir_reader.specs.Owners.{owned_named, value_owners, predicate_owners, llvm_overflow_owners, arith_overflow_owners, exact_owners, edges_owners};
+ghost use Rattle.pliron_text_mlir_reader.specs.Owners.{owned_named, value_owners, predicate_owners, llvm_overflow_owners, arith_overflow_owners, exact_owners, edges_owners, callee_owners, symbol_owners};
 ghost use Rattle.pliron_dialect_mlir.specs.Names.{is_named};
 
 /// What is read of the properties of an operation. Every other entry of its property list and attribute dictionary is
@@ -26,6 +26,10 @@ pub enum OwnedProperty {
     NonNegative,
     /// `operandSegmentSizes`, and of a switch `case_operand_segments` and `case_values`.
     Edges,
+    /// `callee`: the function that is called.
+    Callee,
+    /// `sym_name`: the name of a function.
+    Symbol,
 }
 
 fn owns_value(name: &[u8]) -> bool
@@ -82,6 +86,18 @@ fn owns_edges(name: &[u8]) -> bool
         || name == b"cf.switch".as_slice()
 }
 
+fn owns_callee(name: &[u8]) -> bool
+    ensures { result ≡ is_named callee_owners name.now }
+{
+    name == b"llvm.call".as_slice() || name == b"func.call".as_slice()
+}
+
+fn owns_symbol(name: &[u8]) -> bool
+    ensures { result ≡ is_named symbol_owners name.now }
+{
+    name == b"llvm.func".as_slice() || name == b"func.func".as_slice()
+}
+
 /// What is read of the properties of operations of this name, without quotes. Cost: constant.
 pub fn owned_by(name: &[u8]) -> OwnedProperty
     ensures { result ≡ owned_named name.now }
@@ -104,6 +120,10 @@ pub fn owned_by(name: &[u8]) -> OwnedProperty
         OwnedProperty::NonNegative
     } else if owns_edges(name) {
         OwnedProperty::Edges
+    } else if owns_callee(name) {
+        OwnedProperty::Callee
+    } else if owns_symbol(name) {
+        OwnedProperty::Symbol
     } else {
         OwnedProperty::Nothing
     }

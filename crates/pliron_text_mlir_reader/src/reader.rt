@@ -36,6 +36,8 @@ pub struct Pending<'t> {
     pub regions: usize,
     /// The text inside its property list.
     pub properties: Option<ByteRange>,
+    /// The entry of the property list with its name, where it owns one.
+    pub symbol: Option<Entry>,
     /// The block around it.
     pub block: Option<usize>,
     pub ghost by_name: { known ≡ known_in_quotes name.now },
@@ -61,7 +63,8 @@ pub struct Reader<'t> {
     pub open: Vec<Pending<'t>>,
     /// The block that is being read.
     pub block: Option<usize>,
-    /// Of the operation that is being read: properties, attributes, the type of the first operand, types of results.
+    /// Of the operation that is being read: properties, behind regions only the one with its name; attributes, the type of
+    /// the first operand, types of results.
     pub properties: Vec<Entry>,
     pub attributes: Vec<Entry>,
     pub operand: Option<ByteRange>,
@@ -210,6 +213,10 @@ impl<'t> Reader<'t> {
         }
         self.cursor.expect(b')', Expectation::RegionOrEnd)?;
         self.block = pending.block;
+        self.properties.clear();
+        if let Some(entry) = pending.symbol {
+            self.properties.push(entry)?;
+        }
         self.tail(&pending)
     }
 

@@ -2,7 +2,7 @@
 ghost use Rattle.std.specs.Prelude.{◌≡◌, ◌≤◌, IfOk, MatchOption, None, Some};
 ghost use Rattle.pliron_text_mlir_reader.specs.Classes.{ActsOnWorld};
 ghost use Rattle.pliron_text_mlir_reader.specs.Taken.{has_shape as has_shape_of, unknown_class as unknown_class_of, cast_taken as cast_taken_of, class_at as class_at_of, only_holds as only_holds_of, class_taken as class_taken_of};
-ghost use Rattle.pliron_text_mlir_reader.specs.Taken.{flags_owned as flags_owned_by, promise as promise_of, wrapping as wrapping_of, overflow_in as overflow_in_lists, predicate_said as predicate_said_by, bits_owned as bits_owned_by};
+ghost use Rattle.pliron_text_mlir_reader.specs.Taken.{flags_owned as flags_owned_by, promise as promise_of, wrapping as wrapping_of, overflow_in as overflow_in_lists, predicate_said as predicate_said_by, bits_owned as bits_owned_by, named_class as named_class_of};
 ghost use Rattle.pliron_text_mlir_reader.specs.Taken.{spread_of, head_taken as head_taken_of, branch_taken as branch_taken_of, HasClass};
 ghost use Rattle.pliron_dialect_mlir.specs.declared.kind.Class.TheVariants.{Branch};
 ghost use Rattle.pliron_dialect_mlir.specs.Data.{number as number_of, other_constant as other_constant_of};
@@ -67,12 +67,12 @@ fn has_shape(class: Class, shape: &OperationShape) -> bool
         Class::Binary(_) | Class::Compare => shape.operands == 2 && shape.results == 1 && is_plain,
         Class::Cast(_) => shape.operands == 1 && shape.results == 1 && is_plain,
         Class::Select => shape.operands == 3 && shape.results == 1 && is_plain,
-        Class::Opaque | Class::Effect => is_plain,
+        Class::Opaque | Class::Effect | Class::Local | Class::Call => is_plain,
         Class::Leave | Class::Unreachable => only_ends && shape.successors == 0,
         Class::Jump => only_ends && shape.successors == 1,
         Class::Branch => only_ends && shape.successors == 2,
         Class::Switch => only_ends && shape.successors > 1,
-        Class::Root | Class::Module => only_holds(shape),
+        Class::Root | Class::Function | Class::Module => only_holds(shape),
         Class::Regions => shape.successors == 0,
         Class::Fork => shape.successors > 0,
     }
@@ -95,7 +95,7 @@ fn unknown_class(shape: &OperationShape) -> Class
     } else if shape.regions > 0 {
         Class::Regions
     } else {
-        Class::Effect
+        Class::Local
     }
 }
 
@@ -270,6 +270,17 @@ pub fn spread(
         counts.push(*others)?;
     }
     Ok(Some(counts))
+}
+
+/// What an operation of the class is where it has a name. Cost: constant.
+pub fn named_class(class: Class) -> Class
+    ensures { result ≡ named_class_of class }
+{
+    match class {
+        Class::Effect => Class::Call,
+        Class::Root => Class::Function,
+        class => class,
+    }
 }
 
 /// The head of an operation of the class, which isn't a constant, a branch or a switch. Errors: allocation failure. Cost:
