@@ -5,8 +5,9 @@ ghost use Rattle.pliron_laws.specs.Machine.{run, sight_after as seen_of};
 ghost use Rattle.pliron_show_places.specs.Layout.{words_of};
 ghost use Rattle.pliron_evaluator.specs.Evaluator.{datum_of_value, sight_of};
 ghost use Rattle.pliron_show.specs.Faults.{TextFaults};
+ghost use Rattle.pliron_show.specs.Words.{DataWords};
 
-use crate::plain_data::{datum_of_number, write_plain_datum};
+use crate::plain_data::write_plain_datum;
 use crate::run_report::RunOptions;
 use crate::trap_reason::TrapReason;
 use pliron_core::{Context, Operation, Ptr};
@@ -111,6 +112,11 @@ pub trait ShownNotation: Notation + NameScopes {
 
 /// A notation whose operations are run for people.
 pub trait Runnable: ShownNotation {
+    // which words say inputs, and which say answers of the world
+    ghost input_words: { DataWords };
+
+    ghost answer_words: { DataWords };
+
     /// What is seen of a run of the operation, with notes of its moves. Errors: allocation failure. Cost: that of the run.
     fn run_sight(
         alloc: Global,
@@ -143,15 +149,13 @@ pub trait Runnable: ShownNotation {
     }
 
     /// The input that the word says; `None` where it says none. Errors: allocation failure. Cost: linear in the word.
-    fn input_of_word(_alloc: Global, word: &str) -> Result<Option<Datum>, AllocError> {
-        Ok(datum_of_number(word))
-    }
+    fn input_of_word(alloc: Global, word: &str) -> Result<Option<Datum>, AllocError>
+        ensures { IfOk result (λ found. IfSome found (λ datum. input_words word.now (datum_of_value datum))) };
 
     /// The answer of the world that the word says; `None` where it says none. Errors: allocation failure. Cost: linear in
     /// the word.
-    fn answer_of_word(_alloc: Global, word: &str) -> Result<Option<Datum>, AllocError> {
-        Ok(datum_of_number(word))
-    }
+    fn answer_of_word(alloc: Global, word: &str) -> Result<Option<Datum>, AllocError>
+        ensures { IfOk result (λ found. IfSome found (λ datum. answer_words word.now (datum_of_value datum))) };
 
     /// Which words say data. Cost: constant.
     fn words_of_data() -> &'static str {

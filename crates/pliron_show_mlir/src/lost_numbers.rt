@@ -1,10 +1,19 @@
 //! Why operations on integers give no number.
+ghost use Rattle.std.specs.Prelude.{◌≡◌, true, map, None, IfSome};
+ghost use Rattle.pliron_laws.specs.Datum.{Number as NumberOf};
+ghost use Rattle.pliron_evaluator.specs.Evaluator.{datum_of_value};
+ghost use Rattle.pliron_dialect.specs.Roles.{knows_in};
+ghost use Rattle.pliron_dialect_mlir.specs.Classes.{role_of_class};
+ghost use Rattle.pliron_dialect_mlir.specs.declared.kind.Class.TheVariants.{Binary, Cast as CastOf};
+ghost use Rattle.pliron_show_mlir.specs.LostNumbers.{LosesBy, LosesNumber};
+
 use crate::words::number_in;
-use pliron_bits::BinaryOperator;
+use pliron_bits::{BinaryOperator, Cast};
 use pliron_core::Head;
 use pliron_dialect::Roles;
 use pliron_dialect_mlir::{AnyMeaning, Class, MlirKind, class_of_head, counted_bits, integer_of};
 use pliron_evaluator::evaluator::Datum;
+use std::marker::PhantomData;
 
 /// What is said of flags that the operation broke.
 static BROKEN_FLAGS: &str = "its flags promise another result";
@@ -53,52 +62,75 @@ fn binary_label(operator: BinaryOperator, width: u32, second: u64) -> &'static s
 }
 
 // The number and its bits, where the datum is an integer.
-fn number_and_bits(datum: &Datum) -> Option<(i128, u32, u64)> {
+fn number_and_bits(datum: &Datum) -> Option<(i128, u32, u64)>
+    ensures { IfSome result (λ found. datum_of_value datum.now ≡ NumberOf found.0) }
+{
     let number = number_in(datum)?;
     let (width, bits) = integer_of(number)?;
     Some((number, width, bits))
 }
 
-// The same of an operation with this operator.
-fn lost_by_binary(operator: BinaryOperator, head: &Head, input: &[Datum]) -> Option<&'static str> {
-    let [first, second] = input else {
-        return None;
+// Whether the table of an operation of the class with this head gives nothing of these numbers.
+fn gives_nothing(class: Class, head: &Head, numbers: &[Option<i128>]) -> bool
+    ensures { result ≡ true → knows_in (role_of_class class) head.now numbers.now ≡ None }
+{
+    let kind = MlirKind::<AnyMeaning> {
+        class,
+        meaning: PhantomData,
     };
-    let (first, width, _) = number_and_bits(first)?;
-    let (second, other, bits) = number_and_bits(second)?;
-    let kind = MlirKind::<AnyMeaning>::from_number(head.kind)?;
-    if width != other
-        || kind
-            .fold_numbers(head, &[Some(first), Some(second)])
-            .is_some()
-    {
+    kind.fold_numbers(head, numbers).is_none()
+}
+
+// Why an operation with this operator and this head gives no number of these data, where they are numbers and it gives
+// none.
+fn lost_by_binary(operator: BinaryOperator, head: &Head, input: &[Datum]) -> Option<&'static str>
+    ensures { IfSome result (λ label. LosesBy (Binary operator) head.now (map datum_of_value input.now)) }
+{
+    if input.len() != 2 {
         return None;
     }
-    if width > 65 {
+    let (first, width, _) = number_and_bits(&input[0])?;
+    let (second, other, bits) = number_and_bits(&input[1])?;
+    let numbers = [Some(first), Some(second)];
+    if width != other || width > 65 || !gives_nothing(Class::Binary(operator), head, &numbers) {
         return None;
     }
     Some(binary_label(operator, counted_bits(width), bits))
 }
 
 // The same of a cast.
-fn lost_by_cast(head: &Head, input: &[Datum]) -> Option<&'static str> {
-    let [only] = input else {
-        return None;
-    };
-    let (number, _, _) = number_and_bits(only)?;
-    let kind = MlirKind::<AnyMeaning>::from_number(head.kind)?;
-    if kind.fold_numbers(head, &[Some(number)]).is_some() {
+fn lost_by_cast(cast: Cast, head: &Head, input: &[Datum]) -> Option<&'static str>
+    ensures { IfSome result (λ label. LosesBy (CastOf cast) head.now (map datum_of_value input.now)) }
+{
+    if input.len() != 1 {
         return None;
     }
-    Some(BROKEN_FLAGS)
+    let (number, _, _) = number_and_bits(&input[0])?;
+    if gives_nothing(Class::Cast(cast), head, &[Some(number)]) {
+        Some(BROKEN_FLAGS)
+    } else {
+        None
+    }
+}
+
+// The same of an operation of this class.
+fn lost_by_class(class: Class, head: &Head, input: &[Datum]) -> Option<&'static str>
+    ensures { IfSome result (λ label. LosesBy class head.now (map datum_of_value input.now)) }
+{
+    match class {
+        Class::Binary(operator) => lost_by_binary(operator, head, input),
+        Class::Cast(cast) => lost_by_cast(cast, head, input),
+        _ => None,
+    }
 }
 
 /// Why an operation on integers with this head gives no number, which takes numbers; `None` where it gives one or takes
 /// none. Cost: constant.
-pub fn lost_label(head: &Head, input: &[Datum]) -> Option<&'static str> {
+pub fn lost_label(head: &Head, input: &[Datum]) -> Option<&'static str>
+    ensures { IfSome result (λ label. LosesNumber head.now (map datum_of_value input.now)) }
+{
     match class_of_head(head) {
-        Some(Class::Binary(operator)) => lost_by_binary(operator, head, input),
-        Some(Class::Cast(_)) => lost_by_cast(head, input),
-        _ => None,
+        Some(class) => lost_by_class(class, head, input),
+        None => None,
     }
 }

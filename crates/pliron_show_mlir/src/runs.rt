@@ -1,14 +1,19 @@
 //! Runs of functions.
-ghost use Rattle.std.specs.Prelude.{◌≡◌};
-ghost use Rattle.pliron_core.specs.Tree.{IsLive};
+ghost use Rattle.std.specs.Prelude.{◌≡◌, true, map, IfOk, IfSome};
+ghost use Rattle.std.specs.List.{All};
+ghost use Rattle.pliron_core.specs.Tree.{IsLive, IsBlock};
 ghost use Rattle.pliron_core.specs.Writes.{no_tree};
+ghost use Rattle.pliron_show_mlir.specs.Functions.{body_block, IsFunctionHead, IsFunction, IsRunnableAt, AreFunctionsRead};
+ghost use Rattle.pliron_show_mlir.specs.RunWords.{says_input, says_answer};
 
 use crate::lost_numbers::lost_label;
 use crate::notation::MlirNotation;
 use crate::words::{WORDS, answer_of_word, datum_of_word, number_in, push_datum, push_effect};
-use pliron_core::{Context, Operation, Ptr};
+use pliron_core::{BasicBlock, Context, Head, Operation, Ptr};
 use pliron_dialect::Roles;
 use pliron_dialect_mlir::{AnyMeaning, Class, Mlir, MlirKind, class_of_head};
+use pliron_driver::Notation;
+use pliron_driver_mlir::ClosedForm;
 use pliron_evaluator::evaluator::{Datum, Notes, Sight};
 use pliron_laws::OptError;
 use pliron_laws::reads::all_operations;
@@ -46,6 +51,10 @@ fn branch_reason(
 }
 
 impl Runnable for MlirNotation {
+    ghost input_words = { says_input };
+
+    ghost answer_words = { says_answer };
+
     fn run_sight(
         alloc: Global,
         root: Ptr<Operation>,
@@ -144,13 +153,38 @@ fn symbol_of<'s>(op: Ptr<Operation>, sheet: &'s Sheet, ctx: &Context) -> &'s str
     }
 }
 
-// Whether the operation is a function with a body.
-fn has_body(op: Ptr<Operation>, ctx: &Context) -> bool
+// The first block of the operation's first region, if it has one.
+fn first_block(op: Ptr<Operation>, ctx: &Context) -> Option<Ptr<BasicBlock>>
     requires { IsLive ctx.now.tree op }
+    ensures block { result ≡ body_block ctx.now.tree op }
+    ensures liveness { IfSome result (λ block. IsBlock ctx.now.tree block) }
 {
-    class_of_head(op.head(ctx)) == Some(Class::Root)
-        && op.num_region(ctx) > 0
-        && op.get_region(ctx, 0).get_head(ctx).is_some()
+    if op.num_region(ctx) == 0 {
+        return None;
+    }
+    op.get_region(ctx, 0).get_head(ctx)
+}
+
+// Whether the head is that of a function, with a name or without.
+fn is_function_head(head: &Head) -> bool
+    ensures { result ≡ true → IsFunctionHead head.now }
+{
+    match class_of_head(head) {
+        Some(Class::Root) => true,
+        Some(Class::Function) => true,
+        _ => false,
+    }
+}
+
+// Whether the operation is a function with a body.
+fn is_function(op: Ptr<Operation>, ctx: &Context) -> bool
+    requires { IsLive ctx.now.tree op }
+    ensures { result ≡ true → IsFunction ctx.now.tree op }
+{
+    match first_block(op, ctx) {
+        Some(_) => is_function_head(op.head(ctx)),
+        None => false,
+    }
 }
 
 // The functions with a body that are directly in the operation, if it is a module.
@@ -161,18 +195,20 @@ fn functions_inside(
     ctx: &Context,
 ) -> Result<Option<Vec<FunctionPlace>>, AllocError>
     requires { IsLive ctx.now.tree root }
+    ensures { IfOk result (λ found. IfSome found (λ functions. All (IsRunnableAt ctx.now.tree root)
+        (map (λ function. function.index) functions.items))) }
 {
     let mut functions = Vec::new(alloc);
     if class_of_head(root.head(ctx)) != Some(Class::Module) || root.num_region(ctx) == 0 {
         return Ok(None);
     }
-    let Some(block) = root.get_region(ctx, 0).get_head(ctx) else {
+    let Some(block) = first_block(root, ctx) else {
         return Ok(Some(functions));
     };
     let operations = all_operations(alloc, block, ctx)?;
     for index in 0..operations.len() {
         let op = operations[index];
-        if op.is_live(ctx) && has_body(op, ctx) {
+        if op.is_live(ctx) && is_function(op, ctx) {
             let name = String::from_str(alloc, symbol_of(op, sheet, ctx))?;
             functions.push(FunctionPlace { index, name })?;
         }
@@ -182,7 +218,10 @@ fn functions_inside(
 
 /// The functions with a body that are directly in a module, in order; `None` for a text that is no module. Errors:
 /// allocation failure. Cost: that of reading the text.
-pub fn functions_of(alloc: Global, text: &[u8]) -> Result<Option<Vec<FunctionPlace>>, OptError> {
+pub fn functions_of(alloc: Global, text: &[u8]) -> Result<Option<Vec<FunctionPlace>>, OptError>
+    ensures { IfOk result (λ found. IfSome found (λ functions. AreFunctionsRead ⟦<ClosedForm as Notation>⟧.reads
+        text.now (map (λ function. function.index) functions.items))) }
+{
     let mut ctx = Context::new(alloc);
     functions_in(alloc, text, &mut ctx)
 }
@@ -194,6 +233,8 @@ fn functions_in(
     ctx: &mut Context,
 ) -> Result<Option<Vec<FunctionPlace>>, OptError>
     requires { ctx.old.tree ≡ no_tree }
+    ensures { IfOk result (λ found. IfSome found (λ functions. AreFunctionsRead ⟦<ClosedForm as Notation>⟧.reads
+        text.now (map (λ function. function.index) functions.items))) }
 {
     match read_shown::<MlirNotation>(alloc, text, ctx)? {
         Some(document) => { Ok(functions_inside(alloc, document.root, &document.sheet, ctx)?) }

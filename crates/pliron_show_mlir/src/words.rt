@@ -1,4 +1,10 @@
 //! Data of runs as people write and read them.
+ghost use Rattle.std.specs.Prelude.{◌≡◌, ◌≤◌, ◌<◌, ◌∷◌, [], length, map, MatchOption, IfOk, IfSome};
+ghost use Rattle.pliron_laws.specs.Datum.{Number as NumberOf};
+ghost use Rattle.pliron_evaluator.specs.Evaluator.{datum_of_value};
+ghost use Rattle.pliron_show.specs.Words.{SaysNumber};
+ghost use Rattle.pliron_show_mlir.specs.RunWords.{NamesWidth, value_word, type_word, SaysInteger, says_input, says_part, AreSaidBy, comma_parts, says_answer};
+
 use crate::constants::{name_of_head, push_form, push_typed};
 use pliron_core::{AttrObj, Attrs, Head};
 use pliron_dialect_mlir::{INDEX, integer_datum, integer_of, number};
@@ -14,7 +20,11 @@ an integer with its type that fits in it, as `5:i32`, `-1:i8` or `7:index`, of 1
 `true`, `false`; or `()` for what is no number. To an effect the world may answer several, with commas between them";
 
 // The width of the type of this name, if it is a type of integers.
-fn width_of_type(name: &str) -> Option<u32> {
+fn width_of_type(name: &str) -> Option<u32>
+    ensures names { IfSome result (NamesWidth name.now) }
+    ensures at_least { IfSome result (λ width. 1 ≤ width) }
+    ensures at_most { IfSome result (λ width. width ≤ 65) }
+{
     if name == "index" {
         return Some(INDEX);
     }
@@ -26,18 +36,36 @@ fn width_of_type(name: &str) -> Option<u32> {
     }
 }
 
+// The number in decimals that the word is.
+fn number_of_word(word: &str) -> Option<i128>
+    ensures { IfSome result (SaysNumber word.now) }
+{
+    word.parse::<i128>().ok()
+}
+
+// The value and the name of the type that the word says.
+fn value_and_type(word: &str) -> (&str, &str)
+    ensures value { result.0.now ≡ value_word word.now }
+    ensures type_name { result.1.now ≡ type_word word.now }
+{
+    word.split_once(':').unwrap_or((word, "i64"))
+}
+
 // The integer that the word is, with its type or of 64 bits.
-fn integer_of_word(word: &str) -> Option<i128> {
-    let (value, name) = word.split_once(':').unwrap_or((word, "i64"));
+#[tactic(auto, using(crate::proofs::WordLemmas::says_integer))]
+fn integer_of_word(word: &str) -> Option<i128>
+    ensures { IfSome result (SaysInteger word.now) }
+{
+    let (value, name) = value_and_type(word);
     let width = width_of_type(name.trim())?;
-    if width < 1 || width > INDEX {
-        return None;
-    }
-    integer_datum(width, value.trim().parse::<i128>().ok()?)
+    let value = number_of_word(value.trim())?;
+    integer_datum(width, value)
 }
 
 /// The datum that the word says, if it does. Cost: linear in it.
-pub fn datum_of_word(word: &str) -> Option<Datum> {
+pub fn datum_of_word(word: &str) -> Option<Datum>
+    ensures { IfSome result (λ datum. says_input word.now (datum_of_value datum)) }
+{
     match word {
         "()" => Some(Datum::Empty),
         "true" => Some(Datum::Number(number(1, 1))),
@@ -47,7 +75,9 @@ pub fn datum_of_word(word: &str) -> Option<Datum> {
 }
 
 // The same of a part of an answer: `^N` is the region or the successor with this number, and `end` that there is none.
-fn datum_of_part(word: &str) -> Option<Datum> {
+fn datum_of_part(word: &str) -> Option<Datum>
+    ensures { IfSome result (λ datum. says_part word.now (datum_of_value datum)) }
+{
     if word == "end" {
         return Some(Datum::Number(-1));
     }
@@ -57,19 +87,48 @@ fn datum_of_part(word: &str) -> Option<Datum> {
     }
 }
 
-/// The answer of the world that the word says, if it does: data with commas between them. Errors: allocation failure. Cost:
-/// linear in it.
-pub fn answer_of_word(alloc: Global, word: &str) -> Result<Option<Datum>, AllocError> {
+// The part of the word before its first comma, and what is behind that, if it has one.
+fn split_part(word: &str) -> Option<(&str, &str)>
+    ensures parts { MatchOption result (comma_parts word.now ≡ word.now ∷ [])
+        (λ found. comma_parts word.now ≡ found.0.now ∷ comma_parts found.1.now) }
+    ensures shorter { IfSome result (λ found. length found.1.now < length word.now) }
+{
+    word.split_once(',')
+}
+
+// The data that the parts of the word say, if each says one.
+fn data_of_parts(alloc: Global, word: &str) -> Result<Option<Vec<Datum>>, AllocError>
+    ensures { IfOk result (λ found. IfSome found (λ said. AreSaidBy (comma_parts word.now)
+        (map datum_of_value said.items))) }
+{
     let mut data = Vec::new(alloc);
-    if !word.is_empty() {
-        for part in word.split(',') {
-            match datum_of_part(part.trim()) {
-                Some(datum) => data.push(datum)?,
-                None => return Ok(None),
-            }
+    let mut rest = word;
+    while let Some((part, behind)) = split_part(rest) {
+        match datum_of_part(part.trim()) {
+            Some(datum) => data.push(datum)?,
+            None => return Ok(None),
         }
+        rest = behind;
     }
-    Ok(Some(chain_of(alloc, &data)?))
+    match datum_of_part(rest.trim()) {
+        Some(datum) => data.push(datum)?,
+        None => return Ok(None),
+    }
+    Ok(Some(data))
+}
+
+/// The answer of the world that the word says, if it does: nothing, or data with commas between them. Errors: allocation
+/// failure. Cost: linear in it.
+pub fn answer_of_word(alloc: Global, word: &str) -> Result<Option<Datum>, AllocError>
+    ensures { IfOk result (λ found. IfSome found (λ datum. says_answer word.now (datum_of_value datum))) }
+{
+    if word.is_empty() {
+        return Ok(Some(Datum::Empty));
+    }
+    match data_of_parts(alloc, word)? {
+        Some(data) => Ok(Some(chain_of(alloc, &data)?)),
+        None => Ok(None),
+    }
 }
 
 // Adds a number: an integer with its type, or a constant as its text has it.
@@ -115,7 +174,9 @@ fn push_chain(
 }
 
 /// The number that the datum is. Cost: constant.
-pub fn number_in(datum: &Datum) -> Option<i128> {
+pub fn number_in(datum: &Datum) -> Option<i128>
+    ensures { IfSome result (λ number. datum_of_value datum.now ≡ NumberOf number) }
+{
     match datum {
         Datum::Number(number) => Some(*number),
         _ => None,
