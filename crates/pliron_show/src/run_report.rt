@@ -15,6 +15,7 @@ use pliron_evaluator::evaluator::{
     Datum, Evaluate, NotedMove, Notes, RunInputs, Sight, evaluate_noting,
 };
 use pliron_laws::OptError;
+use pliron_role_runs::all_copies;
 use pliron_show_places::{
     Source, SourceMark, TextPart, mark_source_as, operation_places, place_of, push_bytes,
 };
@@ -33,17 +34,6 @@ pub struct RunOptions<'w> {
     pub trace: bool,
     /// Whether what is seen, and each move, is an object of JSON on a line.
     pub json: bool,
-}
-
-// Copies of the data.
-fn copies_of(alloc: Global, given: &[Datum]) -> Result<Vec<Datum>, AllocError>
-    ensures { IfOk result (λ copies. map datum_of_value copies.items ≡ map datum_of_value given.now) }
-{
-    let mut copies = Vec::new(alloc);
-    for datum in given {
-        copies.push(datum.copy(alloc)?)?;
-    }
-    Ok(copies)
 }
 
 // Writes the data of a list, each after a blank.
@@ -172,8 +162,8 @@ pub fn evaluated_sight<D: Evaluate>(
         (run D.meaning ctx.now.tree root (map datum_of_value options.now.inputs.now)
         (map datum_of_value options.now.world.now) options.now.steps)) }
 {
-    let inputs = copies_of(alloc, options.inputs)?;
-    let world = copies_of(alloc, options.world)?;
+    let inputs = all_copies(alloc, options.inputs)?;
+    let world = all_copies(alloc, options.world)?;
     let given = RunInputs {
         inputs,
         world,
