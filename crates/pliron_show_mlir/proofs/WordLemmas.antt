@@ -83,7 +83,7 @@ pub pushed_more : {V : Type 0} (datum_of : V → Datum) (word rest part behind t
     → says_part trimmed (datum_of value) → values' ≡ values ++ value ∷ [] → IsSaidUpTo word behind (map datum_of values')
 pushed_more datum_of word rest part behind trimmed values values' value before at is says pushed =
     subst (λ vs. IsSaidUpTo word behind vs) (sym (ap (map datum_of) pushed ∙ map-append datum_of values (value ∷ [])))
-      (one_more word rest part behind (map datum_of values) (datum_of value) before at (subst (λ w. says_part w (datum_of value)) is says))
+    (one_more word rest part behind (map datum_of values) (datum_of value) before at (subst (λ w. says_part w (datum_of value)) is says))
 
 -- and of the last one
 pub pushed_last : {V : Type 0} (datum_of : V → Datum) (word rest trimmed : List ℕ) (values values' : List V) (value : V)
@@ -91,4 +91,4 @@ pub pushed_last : {V : Type 0} (datum_of : V → Datum) (word rest trimmed : Lis
     → says_part trimmed (datum_of value) → values' ≡ values ++ value ∷ [] → AreSaidBy (comma_parts word) (map datum_of values')
 pushed_last datum_of word rest trimmed values values' value before at is says pushed =
     subst (λ vs. AreSaidBy (comma_parts word) vs) (sym (ap (map datum_of) pushed ∙ map-append datum_of values (value ∷ [])))
-      (the_last word rest (map datum_of values) (datum_of value) before at (subst (λ w. says_part w (datum_of value)) is says))
+    (the_last word rest (map datum_of values) (datum_of value) before at (subst (λ w. says_part w (datum_of value)) is says))

@@ -15,7 +15,7 @@ SaysCount digits count = IsNumeral 10 (without_leading_plus digits) × (count �
 -- the name is that of the type of integers of this width: `index`, or `i` with 1 to 64
 abbrev pub NamesWidth : (name : List ℕ) → (width : ℕ) → Type 0
 NamesWidth name width = ((name ≡ codes "index") × (width ≡ 65))
-  ⊎ ((digits : List ℕ) × (name ≡ codes "i" ++ digits) × SaysCount digits width × (1 ≤ width) × (width ≤ 64))
+    ⊎ ((digits : List ℕ) × (name ≡ codes "i" ++ digits) × SaysCount digits width × (1 ≤ width) × (width ≤ 64))
 
 -- what a word says before its first colon, and the name of the type behind it, which is `i64` without a colon
 abbrev pub value_word : List ℕ → List ℕ
@@ -27,18 +27,18 @@ type_word word = if nat_lt (position_or_len (λ byte. byte == 58) word) (length 
 -- the word is an integer with its type
 abbrev pub SaysInteger : (word : List ℕ) → (datum : ℤ) → Type 0
 SaysInteger word datum = (width : ℕ) × (value : ℤ) × NamesWidth (trim (type_word word)) width × SaysNumber (trim (value_word word)) value
-  × IsInteger width value datum
+    × IsInteger width value datum
 
 -- the words of inputs: nothing, a truth, or an integer
 abbrev pub says_input : DataWords
 says_input word datum = ((word ≡ codes "()") × (datum ≡ Empty)) ⊎ ((word ≡ codes "true") × (datum ≡ Number (number 1 1)))
-  ⊎ ((word ≡ codes "false") × (datum ≡ Number (number 1 0))) ⊎ ((n : ℤ) × SaysInteger word n × (datum ≡ Number n))
+    ⊎ ((word ≡ codes "false") × (datum ≡ Number (number 1 0))) ⊎ ((n : ℤ) × SaysInteger word n × (datum ≡ Number n))
 
 -- the words of parts of answers: also a region or a successor by its number, and that there is none
 abbrev pub says_part : DataWords
 says_part word datum = ((word ≡ codes "end") × (datum ≡ Number (negsuc 0)))
-  ⊎ ((digits : List ℕ) × (count : ℕ) × (word ≡ codes "^" ++ digits) × SaysCount digits count × (datum ≡ Number (pos count)))
-  ⊎ says_input word datum
+    ⊎ ((digits : List ℕ) × (count : ℕ) × (word ≡ codes "^" ++ digits) × SaysCount digits count × (datum ≡ Number (pos count)))
+    ⊎ says_input word datum
 
 -- each of these parts, without blanks around it, says the datum at its place
 abbrev pub AreSaidBy : (parts : List (List ℕ)) → (said : List Datum) → Type 0
@@ -53,4 +53,4 @@ comma_parts word = slice_split (λ byte. byte == 44) word
 -- the words of answers: nothing, or parts with commas between them
 abbrev pub says_answer : DataWords
 says_answer word datum = ((word ≡ []) × (datum ≡ Empty))
-  ⊎ ((said : List Datum) × AreSaidBy (comma_parts word) said × (datum ≡ chain_of said))
+    ⊎ ((said : List Datum) × AreSaidBy (comma_parts word) said × (datum ≡ chain_of said))
