@@ -13,6 +13,8 @@ mod combined;
 #[cfg(test)]
 mod edges;
 #[cfg(test)]
+mod function_tables;
+#[cfg(test)]
 mod functions;
 #[cfg(test)]
 mod identities;

@@ -1,7 +1,8 @@
 //! Classes of operations of a text, with the names of the functions that they call or are.
 use crate::lines::with_lines;
-use pliron_core::{AttrObj, Head};
-use pliron_dialect_mlir::{Class, class_of_head};
+use pliron_core::{AttrObj, Context, Head, Operation, Ptr};
+use pliron_dialect_calls::InliningDialect;
+use pliron_dialect_mlir::{AnyMeaning, Class, Mlir, class_of_head, named_head, plain_head};
 use pliron_text_mlir_reader::{ParsedModule, Sheet, parse_text};
 use std::alloc::Global;
 use std::process::Abort;
@@ -86,5 +87,101 @@ fn classes_say_names(rt: HostRuntime) {
         let (name, rest) = row.split_once(" -- ").expect(&rt, "a name");
         let (asked, wanted) = rest.split_once(" => ").expect(&rt, "a case");
         check_row(&rt, rt.alloc(), name, asked, wanted);
+    }
+}
+
+/// What an inliner asks of the head of each class: the number of the name of what it calls, the number of its own name, and
+/// whether it never leaves its function, so that it may be copied to another one.
+static ANSWERS: &str = "\
+Call => calls 7, stays
+Function => is 7
+Effect => stays
+Local =>
+Root =>
+Fork =>
+Regions =>
+Leave => returns, closes
+Jump => jumps, stays, closes
+Opaque => stays
+Unreachable => stays, closes
+";
+
+static CLASSES: [Class; 11] = [
+    Class::Call,
+    Class::Function,
+    Class::Effect,
+    Class::Local,
+    Class::Root,
+    Class::Fork,
+    Class::Regions,
+    Class::Leave,
+    Class::Jump,
+    Class::Opaque,
+    Class::Unreachable,
+];
+
+fn head_of(alloc: Global, class: Class) -> Option<Head> {
+    match class {
+        Class::Call | Class::Function => named_head(alloc, class, 7, 9).ok(),
+        _ => plain_head(alloc, class, 9).ok(),
+    }
+}
+
+fn push(line: &mut String, word: &str) -> Option<()> {
+    if !line.is_empty() {
+        line.push_str(", ").ok()?;
+    }
+    line.push_str(word).ok()
+}
+
+fn push_name(line: &mut String, word: &str, name: Option<&AttrObj>) -> Option<()> {
+    if let Some(AttrObj::Int(number)) = name {
+        push(line, word)?;
+        write!(line, " {number}").ok()?;
+    }
+    Some(())
+}
+
+fn push_answers(op: Ptr<Operation>, ctx: &Context, line: &mut String) -> Option<()> {
+    if !op.is_live(ctx) {
+        return None;
+    }
+    push_name(line, "calls", Mlir::<AnyMeaning>::callee_name(op, ctx))?;
+    push_name(line, "is", Mlir::<AnyMeaning>::symbol_name(op, ctx))?;
+    if Mlir::<AnyMeaning>::is_return(op, ctx) {
+        push(line, "returns")?;
+    }
+    if Mlir::<AnyMeaning>::is_jump(op, ctx) {
+        push(line, "jumps")?;
+    }
+    if Mlir::<AnyMeaning>::never_leaves(op, ctx) {
+        push(line, "stays")?;
+    }
+    if Mlir::<AnyMeaning>::never_gives(op, ctx) {
+        push(line, "closes")?;
+    }
+    Some(())
+}
+
+fn answered(alloc: Global, ctx: &mut Context, class: Class) -> Option<String> {
+    let op = Operation::create(ctx, head_of(alloc, class)?, 0, 0).ok()?;
+    let mut line = format!(in alloc; "{class:?} =>").ok()?;
+    let mut answers = String::new(alloc);
+    push_answers(op, ctx, &mut answers)?;
+    if !answers.is_empty() {
+        write!(line, " {answers}").ok()?;
+    }
+    Some(line)
+}
+
+fn check_class(rt: &impl Abort, alloc: Global, class: Class, wanted: &str) {
+    let line = answered(alloc, &mut Context::new(alloc), class).expect(rt, "the whole");
+    assert!(rt; line.as_str() == wanted, "{line}");
+}
+
+#[test]
+fn an_inliner_is_answered(rt: HostRuntime) {
+    for (class, wanted) in CLASSES.iter().zip(ANSWERS.lines()) {
+        check_class(&rt, rt.alloc(), *class, wanted);
     }
 }

@@ -1,3 +1,4 @@
+pub mod BracketLemmas
 pub mod PartLemmas
 pub mod FormLemmas
 pub mod BlankLemmas

@@ -1,12 +1,18 @@
 -- Parts that follow each other.
-use Rattle.std.proofs.Common.{◌≡◌, ℕ, ◌<◌, ◌≤◌, ◌-◌, ◌+◌, List, [], ◌∷◌, ◌++◌, length, get_or, take, drop, slice_range, refl, sym, ap, ◌∙◌, subst, arith}
+use Rattle.std.proofs.Common.{◌≡◌, true, false, ℕ, ◌<◌, ◌≤◌, ◌-◌, ◌+◌, List, [], ◌∷◌, ◌++◌, length, get_or, take, drop, slice_range, refl, sym, ap, ◌∙◌, subst, arith}
 use Rattle.std.proofs.Math.Seq.{drop-length, take-add, take-length}
 use Rattle.std.proofs.lemmas.List.{drop_more, drop_all, length-take-le}
 use Rattle.std.proofs.lemmas.List.Folds.{drop_split}
 use Rattle.pliron_text_llvm_syntax.specs.declared.parts.ModulePart.{ModulePart}
 use Rattle.pliron_text_llvm_syntax.specs.declared.tokens.ByteSpan.{ByteSpan}
 use Rattle.pliron_text_llvm_syntax.specs.Tokens.{bytes_of_span}
-use Rattle.pliron_text_llvm_syntax.specs.Parts.{span_of_part, bytes_of_parts, AreConsecutive}
+use Rattle.pliron_text_llvm_syntax.specs.declared.tokens.LlvmToken.{LlvmToken}
+use Rattle.pliron_text_llvm_syntax.specs.Brackets.{IsTreeAt}
+use Rattle.pliron_text_llvm_syntax.specs.declared.functions.FunctionText.{FunctionText}
+use Rattle.pliron_text_llvm_syntax.specs.declared.parts.ModulePart.TheVariants.{Function}
+use Rattle.pliron_text_llvm_syntax.specs.Functions.{is_define, HasBraces, IsFunctionAt}
+use Rattle.pliron_text_llvm_syntax.specs.Parts.{span_of_part, bytes_of_parts, AreConsecutive, IsDefineAt, AreRaw, IsRawOrFunction}
+use Rattle.pliron_text_llvm_syntax.specs.Parts.AreRaw.{Nothing, More}
 
 -- one more part behind the last
 pub consecutive_append : (start at : ℕ) (parts : List ModulePart) (part : ModulePart) → AreConsecutive start at parts → (span_of_part part).start ≡ at → at < (span_of_part part).end → AreConsecutive start (span_of_part part).end (parts ++ part ∷ [])
@@ -72,3 +78,23 @@ part_joined text joined after bytes parts i d span e less same h bytes-are after
     let grown : after ≡ take span.end text = after-is ∙ ap (λ more. joined ++ more) bytes-are ∙ ap (λ n. joined ++ slice_range text n span.end) next.0 ∙ joined_step text joined span.end same some within in
     let long : length after ≡ span.end = ap length grown ∙ length-take-le span.end text within in
     (grown ∙ ap (λ n. take n text) (sym long), subst (λ n. AreConsecutive n (length text) (drop (i + 1) parts)) (sym long) next.2)
+
+-- ---- which parts are functions
+
+pub raw_none : (text : List ℕ) (start : ℕ) → AreRaw text start start
+raw_none text start = Nothing
+
+-- one more token that isn't `define`
+pub raw_more : (text : List ℕ) (start at : ℕ) (tree : LlvmToken) → AreRaw text start at → IsTreeAt text at tree → is_define text tree ≡ false → AreRaw text start tree.span.end
+raw_more text start at tree before here other = More tree before here other
+
+-- the next token is `define`
+pub define_found : (text : List ℕ) (at : ℕ) (tree : LlvmToken) → IsTreeAt text at tree → is_define text tree ≡ true → IsDefineAt text at
+define_found text at tree here is = (tree, here, is)
+
+-- the function at a byte where the raw text before it ends
+pub function_part : (text : List ℕ) (at end : ℕ) (function : FunctionText) → at ≤ end → end ≤ at → at < length text → (end < length text → IsDefineAt text end)
+    → IsFunctionAt text at function → HasBraces text function.body → IsRawOrFunction text (Function function)
+function_part text at end function le ge less define is braces =
+    let here : end ≡ function.span.start = omega (arith, is.0) in
+    (subst (IsDefineAt text) here (define (omega arith)), subst (λ n. IsFunctionAt text n function) (sym is.0) is, braces)

@@ -1,7 +1,8 @@
 //! Brackets with all that is in them.
-ghost use Rattle.std.specs.Prelude.{◌≡◌, ◌<◌, ◌≤◌, length, IfOk, IfErr, IfSome};
+ghost use Rattle.std.specs.Prelude.{◌≡◌, ◌<◌, ◌≤◌, [], length, IfOk, IfErr, IfSome, OnOk};
 ghost use Rattle.pliron_text_llvm_syntax.specs.Tokens.{IsTokenAt, IsTokenBehind, IsFaultIn};
-ghost use Rattle.pliron_text_llvm_syntax.specs.Lexing.{is_trivia, start_of_token, AreBlanks};
+ghost use Rattle.pliron_text_llvm_syntax.specs.Lexing.{is_trivia, start_of_token, AreBlanks, IsLexedAt};
+ghost use Rattle.pliron_text_llvm_syntax.specs.Brackets.{TakesBracket, AreBracketsClosed, IsTreeAt};
 
 use crate::fault::{ExpectedSyntax, LlvmFault};
 use crate::tokens::{Bracket, ByteSpan, LlvmToken, TokenKind, token_at};
@@ -25,14 +26,15 @@ fn closing(bracket: Bracket) -> ExpectedSyntax {
 
 // Opens or closes a bracket, if the token does.
 #[tactic(auto, using(crate::proofs::FaultLemmas::fault_memory))]
-fn take(text: &[u8], token: &LlvmToken, open: &mut Vec<Bracket>) -> Result<(), LlvmFault>
+fn take(text: &[u8], token: &LlvmToken, stack: &mut Vec<Bracket>) -> Result<(), LlvmFault>
     requires { token.now.span.start ≤ length text.now }
-    ensures { IfErr result (λ fault. IsFaultIn text.now fault) }
+    ensures bracket { OnOk result (TakesBracket token.now.kind stack.old.items stack.new.items) }
+    ensures fault { IfErr result (λ fault. IsFaultIn text.now fault) }
 {
     match token.kind {
-        TokenKind::Open(bracket) => open.push(bracket)?,
+        TokenKind::Open(bracket) => stack.push(bracket)?,
         TokenKind::Close(bracket) => {
-            let last = open.pop();
+            let last = stack.pop();
             if last != Some(bracket) {
                 let expected = last.map_or(ExpectedSyntax::Opening, closing);
                 return Err(LlvmFault::Expected(token.span.start, expected));
@@ -44,27 +46,32 @@ fn take(text: &[u8], token: &LlvmToken, open: &mut Vec<Bracket>) -> Result<(), L
 }
 
 // The end of the brackets that are open at this byte.
-fn bracket_end(text: &[u8], at: usize, open: &mut Vec<Bracket>) -> Result<usize, LlvmFault>
+#[tactic(auto, using(crate::proofs::BracketLemmas::closes_more, crate::proofs::BracketLemmas::closes_all))]
+fn bracket_end(text: &[u8], at: usize, stack: &mut Vec<Bracket>) -> Result<usize, LlvmFault>
     requires { at ≤ length text.now }
     ensures end { IfOk result (λ end. (at ≤ end) × (end ≤ length text.now)) }
+    ensures closed { IfOk result (λ end. AreBracketsClosed text.now end stack.old.items at) }
     ensures fault { IfErr result (λ fault. IsFaultIn text.now fault) }
 {
     let mut end = at;
-    while end < text.len() && !open.is_empty() {
+    while end < text.len() && !stack.is_empty() {
         let token = token_at(text, end)?;
-        take(text, &token, open)?;
+        take(text, &token, stack)?;
         end = token.span.end;
     }
-    match open.last() {
+    match stack.last() {
         Some(bracket) => Err(LlvmFault::Expected(text.len(), closing(*bracket))),
         None => Ok(end),
     }
 }
 
 // The token, and where it opens a bracket all up to the end of the bracket.
+#[tactic(auto, using(crate::proofs::BracketLemmas::tree_read))]
 fn tree_of(text: &[u8], token: &LlvmToken, open: &mut Vec<Bracket>) -> Result<LlvmToken, LlvmFault>
-    requires { IsTokenAt text.now token.now.span.start token.now }
+    requires token { IsTokenAt text.now token.now.span.start token.now }
+    requires lexed { IsLexedAt text.now token.now.span.start token.now }
     ensures token { IfOk result (λ tree. IsTokenAt text.now token.now.span.start tree) }
+    ensures tree { IfOk result (λ tree. IsTreeAt text.now token.now.span.start tree) }
     ensures fault { IfErr result (λ fault. IsFaultIn text.now fault) }
 {
     open.clear();
@@ -90,6 +97,7 @@ pub fn token_tree_at(
 ) -> Result<LlvmToken, LlvmFault>
     requires { at < length text.now }
     ensures token { IfOk result (λ token. IsTokenAt text.now at token) }
+    ensures tree { IfOk result (λ tree. IsTreeAt text.now at tree) }
     ensures fault { IfErr result (λ fault. IsFaultIn text.now fault) }
 {
     let token = token_at(text, at)?;

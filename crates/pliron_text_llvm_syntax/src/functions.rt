@@ -1,7 +1,7 @@
 //! Functions of a module.
 ghost use Rattle.std.specs.Prelude.{◌≡◌, ◌<◌, ◌≤◌, length, IfOk, IfErr};
 ghost use Rattle.pliron_text_llvm_syntax.specs.Tokens.{IsTokenAt, IsFaultIn};
-ghost use Rattle.pliron_text_llvm_syntax.specs.Functions.{IsFunctionAt};
+ghost use Rattle.pliron_text_llvm_syntax.specs.Functions.{is_word_kind, is_open_brace, is_define, HasBraces, IsFunctionAt};
 
 use crate::brackets::{next_tree, token_tree_at};
 use crate::fault::{ExpectedSyntax, LlvmFault};
@@ -50,12 +50,27 @@ impl HeaderNext {
     }
 }
 
+// Whether the token is a word.
+fn is_word(kind: TokenKind) -> bool
+    ensures { result ≡ is_word_kind kind }
+{
+    matches!(kind, TokenKind::Word)
+}
+
+// Whether the token opens a brace.
+fn is_brace(kind: TokenKind) -> bool
+    ensures { result ≡ is_open_brace kind }
+{
+    matches!(kind, TokenKind::Open(Bracket::Brace))
+}
+
 /// Whether the token is the word `define`. Asks that it is a token of the text. Cost: constant.
 #[doc(hidden)]
 pub fn is_define(text: &[u8], token: &LlvmToken) -> bool
     requires { IsTokenAt text.now token.now.span.start token.now }
+    ensures { result ≡ is_define text.now token.now }
 {
-    token.kind == TokenKind::Word && bytes_of(text, token.span) == b"define".as_slice()
+    is_word(token.kind) && bytes_of(text, token.span) == b"define".as_slice()
 }
 
 // The name of the function whose header goes on here.
@@ -93,16 +108,18 @@ fn parameters_from(text: &[u8], at: usize, open: &mut Vec<Bracket>) -> Result<By
 }
 
 // The body of the function whose header goes on here.
+#[tactic(auto, using(crate::proofs::BracketLemmas::braces_read))]
 fn body_from(text: &[u8], at: usize, open: &mut Vec<Bracket>) -> Result<ByteSpan, LlvmFault>
     requires { at ≤ length text.now }
     ensures body { IfOk result (λ body. (at ≤ body.start) × (body.start < body.end) × (body.end ≤ length text.now)) }
+    ensures braces { IfOk result (λ body. HasBraces text.now body) }
     ensures fault { IfErr result (λ fault. IsFaultIn text.now fault) }
 {
     let mut end = at;
     let mut next = HeaderNext::Body;
     while end < text.len() {
         let token = token_tree_at(text, end, open)?;
-        if next == HeaderNext::Body && token.kind == TokenKind::Open(Bracket::Brace) {
+        if next == HeaderNext::Body && is_brace(token.kind) {
             return Ok(token.span);
         }
         if is_define(text, &token) {
@@ -129,6 +146,7 @@ pub fn function_at(
 ) -> Result<FunctionText, LlvmFault>
     requires { at < length text.now }
     ensures function { IfOk result (λ function. IsFunctionAt text.now at function) }
+    ensures body { IfOk result (λ function. HasBraces text.now function.body) }
     ensures fault { IfErr result (λ fault. IsFaultIn text.now fault) }
 {
     let define = token_at(text, at)?;

@@ -1,7 +1,9 @@
 //! Parts of a module.
 ghost use Rattle.std.specs.Prelude.{◌≡◌, ◌<◌, ◌≤◌, [], length, IfOk, IfErr};
 ghost use Rattle.pliron_text_llvm_syntax.specs.Tokens.{IsFaultIn};
+ghost use Rattle.std.specs.List.{All};
 ghost use Rattle.pliron_text_llvm_syntax.specs.Parts.{span_of_part, bytes_of_parts, AreConsecutive, IsPartAt};
+ghost use Rattle.pliron_text_llvm_syntax.specs.Parts.{IsDefineAt, AreRaw, IsRawOrFunction};
 
 use crate::brackets::token_tree_at;
 use crate::fault::LlvmFault;
@@ -30,9 +32,12 @@ impl ModulePart {
 }
 
 // Where the next function begins, or the end of the text.
+#[tactic(auto, using(crate::proofs::PartLemmas::raw_none, crate::proofs::PartLemmas::raw_more, crate::proofs::PartLemmas::define_found))]
 fn raw_end(text: &[u8], at: usize, open: &mut Vec<Bracket>) -> Result<usize, LlvmFault>
     requires { at ≤ length text.now }
     ensures end { IfOk result (λ end. (at ≤ end) × (end ≤ length text.now)) }
+    ensures raw { IfOk result (λ end. AreRaw text.now at end) }
+    ensures define { IfOk result (λ end. end < length text.now → IsDefineAt text.now end) }
     ensures fault { IfErr result (λ fault. IsFaultIn text.now fault) }
 {
     let mut end = at;
@@ -50,6 +55,7 @@ fn raw_end(text: &[u8], at: usize, open: &mut Vec<Bracket>) -> Result<usize, Llv
 fn part_at(text: &[u8], at: usize, open: &mut Vec<Bracket>) -> Result<ModulePart, LlvmFault>
     requires { at < length text.now }
     ensures part { IfOk result (λ part. IsPartAt text.now at part) }
+    ensures raw_or_function { IfOk result (λ part. IsRawOrFunction text.now part) }
     ensures fault { IfErr result (λ fault. IsFaultIn text.now fault) }
 {
     let end = raw_end(text, at, open)?;
@@ -69,6 +75,7 @@ fn split_into(
 ) -> Result<(), LlvmFault>
     requires { parts.old.items ≡ [] }
     ensures parts { IfOk result (λ _. AreConsecutive 0 (length text.now) parts.new.items) }
+    ensures functions { IfOk result (λ _. All (IsRawOrFunction text.now) parts.new.items) }
     ensures fault { IfErr result (λ fault. IsFaultIn text.now fault) }
 {
     let mut at = 0;
@@ -90,6 +97,7 @@ fn split_into(
 pub fn split_text(alloc: Global, text: &[u8]) -> Result<Vec<ModulePart>, LlvmFault>
     ensures consecutive { IfOk result (λ parts. AreConsecutive 0 (length text.now) parts.items) }
     ensures text { IfOk result (λ parts. bytes_of_parts text.now parts.items ≡ text.now) }
+    ensures functions { IfOk result (λ parts. All (IsRawOrFunction text.now) parts.items) }
     ensures fault { IfErr result (λ fault. IsFaultIn text.now fault) }
 {
     let mut open = Vec::new(alloc);

@@ -1,0 +1,4 @@
+pub mod NameLemmas
+pub mod TableLemmas
+pub mod AmongLemmas
+pub mod CallLemmas

@@ -1,0 +1,4 @@
+pub mod Names
+pub mod Namesakes
+pub mod FunctionNames
+pub mod CallSites

@@ -1,0 +1,3 @@
+pub mod Forwarded
+pub mod LengthenedBack
+pub mod Pushed
