@@ -1,8 +1,9 @@
 //! Runs, as users see them.
-ghost use Rattle.std.specs.Prelude.{◌≡◌, map, IfOk};
+ghost use Rattle.std.specs.Prelude.{◌≡◌, map, IfOk, string_bytes};
 ghost use Rattle.pliron_core.specs.Writes.{no_tree};
 ghost use Rattle.pliron_laws.specs.Machine.{run, sight_after as sight_seen};
 ghost use Rattle.pliron_evaluator.specs.Evaluator.{datum_of_value, sight_of};
+ghost use Rattle.pliron_show.specs.Ends.{SaysEnd, end_words};
 
 use crate::json_run::{json_text, move_object, write_effect_objects};
 use crate::lost_number::{ends_with_nothing, lost_number_text};
@@ -87,34 +88,52 @@ pub(crate) fn effects_text<N: Runnable>(
     Ok(text)
 }
 
-/// What is seen of a run: a line for each effect, as they came, and one that says how it ended.
-///
-/// Errors: allocation failure. Cost: linear in what is seen.
-pub fn sight_text<N: Runnable>(
+// How the line begins that says how a run ended.
+fn end_of_sight(sight: &Sight) -> &'static str
+    ensures { result.now ≡ end_words sight.now }
+{
+    match sight {
+        Sight::Ended(_, _) => "ended with",
+        Sight::Trapped(_) => "trapped",
+        Sight::Reached(_) => "made no further move: steps or the world's answers were used up",
+    }
+}
+
+// What comes behind that: the values that a run ended with, each after a blank.
+fn rest_of_sight<N: Runnable>(
     alloc: Global,
     sheet: &N::Sheet,
     sight: &Sight,
 ) -> Result<String, AllocError> {
     let mut text = String::new(alloc);
     match sight {
-        Sight::Ended(values, effects) => {
-            write_effects::<N>(alloc, &mut text, sheet, effects)?;
-            text.push_str("ended with")?;
+        Sight::Ended(values, _) => {
             if values.is_empty() {
                 text.push_str(" nothing")?;
             }
             write_data::<N>(alloc, &mut text, sheet, values)?;
         }
-        Sight::Trapped(effects) => {
-            write_effects::<N>(alloc, &mut text, sheet, effects)?;
-            text.push_str("trapped")?;
-        }
-        Sight::Reached(effects) => {
-            write_effects::<N>(alloc, &mut text, sheet, effects)?;
-            text.push_str("made no further move: steps or the world's answers were used up")?;
-        }
+        Sight::Trapped(_) | Sight::Reached(_) => {}
     }
     text.push_str("\n")?;
+    Ok(text)
+}
+
+/// What is seen of a run: a line for each effect, as they came, and one that says how it ended.
+///
+/// Errors: allocation failure. Cost: linear in what is seen.
+#[tactic(auto, using(crate::proofs::EndLemmas::says_end))]
+pub fn sight_text<N: Runnable>(
+    alloc: Global,
+    sheet: &N::Sheet,
+    sight: &Sight,
+) -> Result<String, AllocError>
+    ensures { IfOk result (λ text. SaysEnd sight.now (string_bytes text)) }
+{
+    let mut text = effects_text::<N>(alloc, sheet, sight, false)?;
+    let rest = rest_of_sight::<N>(alloc, sheet, sight)?;
+    text.push_str(end_of_sight(sight))?;
+    text.push_str(rest.as_str())?;
     Ok(text)
 }
 

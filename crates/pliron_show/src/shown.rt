@@ -1,10 +1,11 @@
 //! What people ask of a notation.
-ghost use Rattle.std.specs.Prelude.{◌≡◌, ◌≤◌, ◌+◌, length, map, IfOk, IfSome, string_bytes};
+ghost use Rattle.std.specs.Prelude.{◌≡◌, ◌≤◌, ◌+◌, ⊥, length, map, IfOk, IfSome, string_bytes};
 ghost use Rattle.pliron_core.specs.Tree.{IsLive};
 ghost use Rattle.pliron_laws.specs.Machine.{run, sight_after as seen_of};
 ghost use Rattle.pliron_show_places.specs.Layout.{words_of};
 ghost use Rattle.pliron_evaluator.specs.Evaluator.{datum_of_value, sight_of};
 ghost use Rattle.pliron_show.specs.Faults.{TextFaults};
+ghost use Rattle.pliron_show.specs.Lost.{Losses, LosesAt};
 ghost use Rattle.pliron_show.specs.Words.{DataWords};
 
 use crate::plain_data::write_plain_datum;
@@ -117,6 +118,9 @@ pub trait Runnable: ShownNotation {
 
     ghost answer_words: { DataWords };
 
+    // where its operations lose a number
+    ghost loses: { Losses } = { λ _ _. ⊥ };
+
     /// What is seen of a run of the operation, with notes of its moves. Errors: allocation failure. Cost: that of the run.
     fn run_sight(
         alloc: Global,
@@ -143,6 +147,7 @@ pub trait Runnable: ShownNotation {
     /// other operation. Asks that it is live (`is_live` tests it). Cost: constant.
     fn lost_number(ctx: &Context, op: Ptr<Operation>, input: &[Datum]) -> Option<&'static str>
         requires { IsLive ctx.now.tree op }
+        ensures { IfSome result (λ reason. LosesAt loses ctx.now.tree op (map datum_of_value input.now)) }
     {
         let _ = (ctx, op, input);
         None

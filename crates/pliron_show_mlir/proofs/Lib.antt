@@ -1,1 +1,3 @@
+mod FunctionLemmas
+mod LostLemmas
 mod WordLemmas

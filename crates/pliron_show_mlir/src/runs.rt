@@ -4,6 +4,7 @@ ghost use Rattle.std.specs.List.{All};
 ghost use Rattle.pliron_core.specs.Tree.{IsLive, IsBlock};
 ghost use Rattle.pliron_core.specs.Writes.{no_tree};
 ghost use Rattle.pliron_show_mlir.specs.Functions.{body_block, IsFunctionHead, IsFunction, IsRunnableAt, AreFunctionsRead};
+ghost use Rattle.pliron_show_mlir.specs.LostNumbers.{LosesNumber};
 ghost use Rattle.pliron_show_mlir.specs.RunWords.{says_input, says_answer};
 
 use crate::lost_numbers::lost_label;
@@ -54,6 +55,8 @@ impl Runnable for MlirNotation {
     ghost input_words = { says_input };
 
     ghost answer_words = { says_answer };
+
+    ghost loses = { LosesNumber };
 
     fn run_sight(
         alloc: Global,

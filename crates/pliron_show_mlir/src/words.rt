@@ -52,7 +52,6 @@ fn value_and_type(word: &str) -> (&str, &str)
 }
 
 // The integer that the word is, with its type or of 64 bits.
-#[tactic(auto, using(crate::proofs::WordLemmas::says_integer))]
 fn integer_of_word(word: &str) -> Option<i128>
     ensures { IfSome result (SaysInteger word.now) }
 {
