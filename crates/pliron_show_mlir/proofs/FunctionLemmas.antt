@@ -16,4 +16,4 @@ function_more t root block op index operations index_of functions functions' fun
     let there : slice_get (body_of t block) index ≡ Some op = subst (λ os. slice_get os index ≡ Some op) operations-are (slice_get_read operations (length operations) index op refl inside op-is) in
     let here : IsRunnableAt t root (index_of function) = subst (IsRunnableAt t root) (sym index-is) (block, op, block-is, there, is) in
     subst (λ fs. All (IsRunnableAt t root) (map index_of fs)) (sym pushed)
-    (subst (All (IsRunnableAt t root)) (sym (map-append index_of functions (function ∷ []))) (All-push (map index_of functions) (index_of function) before here))
+    (subst (All (IsRunnableAt t root)) (sym (map-append index_of functions (function ∷ []))) (All-push (IsRunnableAt t root) (map index_of functions) (index_of function) before here))

@@ -12,11 +12,11 @@ use Rattle.pliron_show.specs.Words.{SaysNumber}
 use Rattle.pliron_show_mlir.specs.RunWords.{NamesWidth, SaysInteger, type_word, value_word, AreSaidBy, says_part, comma_parts}
 
 -- a value and a type make an integer
-pub says_integer : (word name value : List ℕ) (width : ℕ) (number : ℤ) (Without : Type 0) (found : Option ℤ) → name ≡ trim (type_word word) → value ≡ trim (value_word word)
-    → NamesWidth name width → SaysNumber value number → MatchOption found Without (IsInteger width number) → IfSome found (SaysInteger word)
-says_integer word name value width number Without None name-is value-is names says is = tt
-says_integer word name value width number Without (Some datum) name-is value-is names says is =
-    (width, number, subst (λ n. NamesWidth n width) name-is names, subst (λ v. SaysNumber v number) value-is says, is)
+pub says_integer : (word name value : List ℕ) (width : ℕ) (number passed : ℤ) (Without : Type 0) (found : Option ℤ) → name ≡ trim (type_word word) → value ≡ trim (value_word word)
+    → NamesWidth name width → SaysNumber value number → passed ≡ number → MatchOption found Without (IsInteger width passed) → IfSome found (SaysInteger word)
+says_integer word name value width number passed Without None name-is value-is names says passed-is is = tt
+says_integer word name value width number passed Without (Some datum) name-is value-is names says passed-is is =
+    (width, number, subst (λ n. NamesWidth n width) name-is names, subst (λ v. SaysNumber v number) value-is says, subst (λ n. IsInteger width n datum) passed-is is)
 
 -- one more part says one more datum
 pub said_more : (parts : List (List ℕ)) (said : List Datum) (part : List ℕ) (datum : Datum) → AreSaidBy parts said → says_part (trim part) datum
