@@ -5,17 +5,21 @@ use pliron_core::{Context, Operation, Ptr};
 use pliron_evaluator::evaluator::{Datum, NotedMove, Sight};
 use pliron_laws::OptError;
 use pliron_show_places::{SourceMark, TextPart, mark_source_as, place_of};
-use std::alloc::Global;
+use std::alloc::{AllocError, Global};
 
 /// The operation that gave no number first, and why.
-#[derive(Clone, Copy)]
+#[derive(Drop)]
 struct LostNumber {
     op: Ptr<Operation>,
-    label: &'static str,
+    label: String,
 }
 
 // The first of these moves that lost a number.
-fn first_lost<N: Runnable>(ctx: &Context, moves: &[NotedMove]) -> Option<LostNumber> {
+fn first_lost<N: Runnable>(
+    alloc: Global,
+    ctx: &Context,
+    moves: &[NotedMove],
+) -> Result<Option<LostNumber>, AllocError> {
     for noted in moves {
         if !noted.op.is_live(ctx) {
             continue;
@@ -23,13 +27,14 @@ fn first_lost<N: Runnable>(ctx: &Context, moves: &[NotedMove]) -> Option<LostNum
         if let Some(input) = &noted.input
             && let Some(label) = N::lost_number(ctx, noted.op, input)
         {
-            return Some(LostNumber {
+            let label = String::from_str(alloc, label)?;
+            return Ok(Some(LostNumber {
                 op: noted.op,
                 label,
-            });
+            }));
         }
     }
-    None
+    Ok(None)
 }
 
 // The first move of the run that lost a number: its moves are noted, or else it is run again to note them.
@@ -39,10 +44,10 @@ fn lost_number<N: Runnable>(
     run: &FinishedRun,
 ) -> Result<Option<LostNumber>, OptError> {
     if run.options.trace || run.options.json {
-        return Ok(first_lost::<N>(ctx, &run.notes.moves));
+        return Ok(first_lost::<N>(alloc, ctx, &run.notes.moves)?);
     }
     let (notes, _) = run_noted::<N>(alloc, ctx, run)?;
-    Ok(first_lost::<N>(ctx, &notes.moves))
+    Ok(first_lost::<N>(alloc, ctx, &notes.moves)?)
 }
 
 /// Whether the run ended with a value that is nothing. Cost: linear in the values.
@@ -69,7 +74,7 @@ pub(crate) fn lost_number_text<N: Runnable>(
     };
     let mark = SourceMark {
         message: "no number comes of this",
-        label: lost.label,
+        label: lost.label.as_str(),
         name: run.source.name,
         start: place.start,
         len: place.len,

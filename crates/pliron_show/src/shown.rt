@@ -1,5 +1,5 @@
 //! What people ask of a notation.
-ghost use Rattle.std.specs.Prelude.{◌≡◌, ◌≤◌, ◌+◌, ⊥, length, map, IfOk, IfSome, string_bytes};
+ghost use Rattle.std.specs.Prelude.{◌≡◌, ◌≤◌, ◌+◌, length, map, IfOk, IfSome, string_bytes};
 ghost use Rattle.pliron_core.specs.Tree.{IsLive};
 ghost use Rattle.pliron_laws.specs.Machine.{run, sight_after as seen_of};
 ghost use Rattle.pliron_show_places.specs.Layout.{words_of};
@@ -149,7 +149,9 @@ pub trait Runnable: ShownNotation {
         requires { IsLive ctx.now.tree op }
         ensures { IfSome result (λ reason. LosesAt loses ctx.now.tree op (map datum_of_value input.now)) }
     {
-        let _ = (ctx, op, input);
+        let _ = ctx;
+        let _ = op;
+        let _ = input;
         None
     }
 
