@@ -1,4 +1,4 @@
--- The invariant of a tree is kept where an argument goes, or an attribute is replaced.
+-- The invariant of a tree is kept where an argument comes or goes, or an attribute is replaced.
 use Rattle.std.proofs.Common.{◌≡◌, ◌≢◌, ◌⊎◌, ℕ, zero, suc, ◌+◌, ◌-◌, ◌<◌, ◌≤◌, true, false, List, [], ◌∷◌, ◌++◌, length, Option, Some, None, IsSome, is_some, refl, sym, ap, ◌∙◌, subst, inl, inr, arith, slice_get, slice_set, take, drop, remove, true≢false}
 use Rattle.std.proofs.lemmas.Bool.{cases_eq}
 use Rattle.std.proofs.lemmas.List.{get_or-set_other, get_or-set_same, length-set}
@@ -10,10 +10,11 @@ use Rattle.pliron_core.specs.declared.context.OperationEntry.{OperationEntry}
 use Rattle.pliron_core.specs.declared.context.RegionSlot.{RegionSlot}
 use Rattle.pliron_core.specs.Tree.{Tree, In, IsListedBy, slot_of, IsLive, IsBlock, IsDefined, IsMadeBy, head_of, row_of, results_of, regions_of, operands_of, successors_of, arguments_of, block_parent_of, definition_of, no_entry}
 use Rattle.pliron_core.specs.Invariant.{HaveSameKeys, IsJoined}
-use Rattle.pliron_core.specs.Writes.{argument_definitions_from, argument_removed, with_attribute}
+use Rattle.pliron_core.specs.Writes.{argument_definitions_from, argument_pushed, argument_removed, with_attribute}
 use Rattle.pliron_core.proofs.TreeLemmas.{live-within, live_dead, in_slice, in_at, within-some}
 use Rattle.pliron_core.proofs.CreatedLemmas.{defined_kept}
 use Rattle.pliron_core.proofs.TableLemmas.{set-same, set-other}
+use Rattle.pliron_core.proofs.PlaceLemmas.{push-last, push-kept, at-push_cases, at-kept}
 
 -- values that are not renumbered keep their definition
 pub numbered_other : (ds : List Def) (b i : ℕ) (vs : List ℕ) (v : ℕ) → (In v vs → ⊥) → slice_get (argument_definitions_from ds b i vs) v ≡ slice_get ds v
@@ -187,6 +188,38 @@ module _ (t : Tree) (block i : ℕ) (keys : HaveSameKeys t) (w : IsJoined t) (is
     ordered = w.ordered;
     erased = w.erased;
     unplaced = λ b e. let x = w.unplaced b e in (other b (λ s. let f : true ≡ false = sym is ∙ ap (λ z. is_some (block_parent_of t z)) (sym s) ∙ ap is_some e in true≢false f) ∙ x.0, x.1);
+    rooted = w.rooted;
+  }
+
+-- one more argument
+module _ (t : Tree) (block : ℕ) (keys : HaveSameKeys t) (w : IsJoined t) (is : IsBlock t block) where
+  abbrev pushed : Tree
+  pushed = argument_pushed t block
+
+  pushed_within : block < length t.arguments
+  pushed_within = let h = within-some t.block_parents block is in omega (arith, h, keys.block_parents, keys.arguments)
+
+  define : (v : ℕ) (d : Def) → definition_of t v ≡ Some d → definition_of pushed v ≡ Some d
+  define v d e = push-kept t.definitions _ d v e
+
+  argument_back : (b i v : ℕ) → slice_get (arguments_of pushed b) i ≡ Some v → definition_of pushed v ≡ Some (Argument b i)
+  argument_back b i v e = elim (at-push_cases t.arguments block (length t.definitions) v b i pushed_within e) [
+    | inl c ↦ ap (slice_get pushed.definitions) (sym c.2) ∙ push-last t.definitions _ ∙ ap (λ n. Some (Argument block n)) (sym c.1) ∙ ap (λ z. Some (Argument z i)) (sym c.0)
+    | inr c ↦ define v (Argument b i) (w.arguments b i v c)
+  ]
+
+  pub kept_argument_pushed : IsJoined (argument_pushed t block)
+  kept_argument_pushed = record {
+    all_in_place = w.all_in_place;
+    placed = w.placed;
+    regions = w.regions;
+    results = λ k j v e. define v (Result k j) (w.results k j v e);
+    arguments = argument_back;
+    operands = λ k v i. defined_kept t pushed v (define v) (λ j n e. e) (λ b n e. at-kept t.arguments block (length t.definitions) v b n pushed_within e) (w.operands k v i);
+    successors = w.successors;
+    ordered = w.ordered;
+    erased = w.erased;
+    unplaced = λ b e. let x = w.unplaced b e in (get_or-set_other t.arguments block b _ [] (λ s. let f : true ≡ false = sym is ∙ ap (λ z. is_some (block_parent_of t z)) (sym s) ∙ ap is_some e in true≢false f) ∙ x.0, x.1);
     rooted = w.rooted;
   }
 

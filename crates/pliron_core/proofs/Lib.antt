@@ -17,6 +17,7 @@ pub mod LevelLemmas
 pub mod MarkLemmas
 pub mod HoleLemmas
 pub mod RelocateLemmas
+pub mod InsertLemmas
 pub mod CompactLemmas
 pub mod LeaveLemmas
 pub mod SettleLemmas

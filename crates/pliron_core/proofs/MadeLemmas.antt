@@ -4,7 +4,7 @@ use Rattle.std.specs.List.{slice_get, range_with_len}
 use Rattle.std.proofs.lemmas.Bool.{cases_eq}
 use Rattle.std.proofs.lemmas.List.{length-set}
 use Rattle.std.proofs.lemmas.List.FromFn.{length-map-range_with_len}
-use Rattle.std.proofs.lemmas.Option.{slice_get-get_or}
+use Rattle.std.proofs.lemmas.Option.{slice_get-get_or, slice_get_within}
 use Rattle.pliron_core.specs.declared.uses.Use.{Use}
 use Rattle.pliron_core.specs.declared.context.Def.{Def}
 use Rattle.pliron_core.specs.declared.context.Def.TheVariants.{Result, Argument}
@@ -16,6 +16,7 @@ use Rattle.pliron_core.specs.Arguments.{Makers, definition_now, definitions_now,
 use Rattle.pliron_core.proofs.GapLemmas.{same}
 use Rattle.pliron_core.proofs.TableLemmas.{at-within, at-same, at-other, set-other}
 use Rattle.pliron_core.proofs.MemberLemmas.{in_at}
+use Rattle.pliron_core.proofs.PlaceLemmas.{push-cases, push-last, push-kept, at-push_cases, at-pushed, at-kept}
 use Rattle.pliron_core.proofs.UserLemmas.{at-more}
 use Rattle.pliron_core.proofs.GrownLemmas.{get_last, range_at, slice_get_kept, slice_get_added, mapped_range_get}
 use Rattle.pliron_core.proofs.ArgumentLemmas.{StandOnce, numbered_at, numbered_other, length_numbered, slice_get_drop, removed_below, removed_above}
@@ -98,6 +99,13 @@ module _ (rows : List (List ℕ)) (written : List Def) (uses : List (List Use)) 
   -- and then it is what makes each value by these tables
   pub made-is : (all : List Def) → length all ≡ length written → AreNumbered rows all → ((v : ℕ) → IsFree rows v → slice_get all v ≡ slice_get written v) → AreApart rows written → AreMade rows written uses
   made-is all n argument_definitions_from free apart = record { apart = apart; count = count; numbered = subst (AreNumbered rows) (sym (defined-is all n argument_definitions_from free)) argument_definitions_from }
+
+-- two lists that end otherwise are the same elsewhere
+push-other : {A : Type 0} (xs : List A) (x y : A) (k : ℕ) → k ≢ length xs → slice_get (xs ++ x ∷ []) k ≡ slice_get (xs ++ y ∷ []) k
+push-other [] x y zero ne = absurd (ne refl)
+push-other [] x y (suc k) ne = refl
+push-other (z ∷ zs) x y zero ne = refl
+push-other (z ∷ zs) x y (suc k) ne = push-other zs x y k (λ e. ne (ap suc e))
 
 -- an argument stands at one place
 pub liveness-once : (rows : List (List ℕ)) (all : List Def) → AreNumbered rows all → (b b' i i' v : ℕ) → at rows b i ≡ Some v → at rows b' i' ≡ Some v → (b ≡ b') × (i ≡ i')
@@ -183,6 +191,41 @@ module _ (rows : List (List ℕ)) (written : List Def) (uses : List (List Use)) 
         let c = counted made-here uses' count' in
         let g = grown made-here uses' count' in
         (defined-is grown-rows (written ++ made-here) uses' agreed' c (before ++ made-here) g block-numbered free, made-is grown-rows (written ++ made-here) uses' agreed' c (before ++ made-here) g block-numbered free block-apart)
+
+  -- one more argument
+  module _ (block : ℕ) (block_within : block < length rows) where
+    abbrev added : List Def
+    added = before ++ Argument block (length (get_or rows block [])) ∷ []
+
+    abbrev written-added : List Def
+    written-added = written ++ Argument block 0 ∷ []
+
+    abbrev rows-pushed : List (List ℕ)
+    rows-pushed = set rows block (get_or rows block [] ++ length before ∷ [])
+
+    pushed-numbered : AreNumbered rows-pushed added
+    pushed-numbered b i v e = elim (at-push_cases rows block (length before) v b i block_within e) [
+      | inl k ↦ ap (slice_get added) (sym k.2) ∙ push-last before _ ∙ ap (λ n. Some (Argument block n)) (sym k.1) ∙ ap (λ z. Some (Argument z i)) (sym k.0)
+      | inr k ↦ push-kept before _ _ v (is.numbered b i v k)
+    ]
+
+    pushed-free : (v : ℕ) → IsFree rows-pushed v → slice_get added v ≡ slice_get written-added v
+    pushed-free v free = same-more before written (Argument block (length (get_or rows block [])) ∷ []) v long (defined-free rows written uses agreed is.count v (λ b i e. free b i (at-kept rows block (length before) v b i block_within e))) ∙ push-other written _ _ v (λ e. free block (length (get_or rows block [])) (at-pushed rows block (length before) block_within ∙ ap Some (long ∙ sym e)))
+
+    pushed-apart : AreApart rows-pushed written-added
+    pushed-apart v op j e b i f = elim (push-cases written (Argument block 0) (Result op j) v e) [
+      | inl k ↦ absurd (cc)
+      | inr k ↦ elim (at-push_cases rows block (length before) v b i block_within f) [
+        | inl g ↦ let h = slice_get_within written v _ k in omega (arith, h, g.2, long)
+        | inr g ↦ is.apart v op j k b i g
+      ]
+    ]
+
+    pub made-pushed : (uses' : List (List Use)) → length uses' ≡ length uses + 1 → AreAgreed rows-pushed uses' → (definitions_now written-added uses' ≡ added) × AreMade rows-pushed written-added uses'
+    made-pushed uses' n agreed' =
+        let c : length written-added ≡ length uses' = omega (arith, length-append written (Argument block 0 ∷ []), is.count, n) in
+        let g : length added ≡ length written-added = omega (arith, length-append written (Argument block 0 ∷ []), length-append before (Argument block (length (get_or rows block [])) ∷ []), long) in
+        (defined-is rows-pushed written-added uses' agreed' c added g pushed-numbered pushed-free, made-is rows-pushed written-added uses' agreed' c added g pushed-numbered pushed-free pushed-apart)
 
   -- an argument goes
   module _ (block i value : ℕ) (there : at rows block i ≡ Some value) where

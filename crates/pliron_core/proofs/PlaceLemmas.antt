@@ -218,42 +218,30 @@ pushed-holes : (rows : List (List UseSlot)) (holes : List Holes) (user : ℕ) (p
 pushed-holes rows holes user p within gapped real is =
     holes-row rows holes user _ within (subst (Tracks (get_or rows user [] ++ p ∷ [])) (sym (gapped-is (hole_of holes user) gapped)) (gap-push (get_or rows user []) (gap_of holes user) p real (has-gap rows holes user is gapped))) is
 
--- what `push` writes, by the values that it read
-module _ (rows : List (List UseSlot)) (holes : List Holes) (lists : List (List Use)) (user target at' place : ℕ) (is : AreLinked rows holes lists) (gapped : is_counted holes user ≡ false) where
-  module _ (hu : user < length (targets_in rows)) (ht : target < length lists) (list0 list1 list2 : List Use) (row0 row1 row2 : List UseSlot)
-      (l0 : list0 ≡ get_or lists target list0) (l1 : list1 ≡ get_or lists target list1) (r0 : row0 ≡ get_or rows user row0) (r1 : row1 ≡ get_or rows user row1)
-      (at_is : at' ≡ length list0) (place_is : place ≡ length row0)
-      (l2 : list2 ≡ list1 ++ record { user = user; place = place } ∷ []) where
-    within : user < length rows
-    within = omega (arith, hu, length-map rows targets_held)
+-- one more slot at the end of a user's, and one more use of its target
+module _ (rows : List (List UseSlot)) (holes : List Holes) (lists : List (List Use)) (user target : ℕ) (is : AreLinked rows holes lists) (within : user < length rows) (ht : target < length lists) where
+  real : target ≢ no_target
+  real f = omega (arith, ht, is.linked.few, f)
 
-    list_is : list2 ≡ get_or lists target [] ++ record { user = user; place = length (get_or rows user []) } ∷ []
-    list_is =
-        let a : list1 ≡ get_or lists target [] = l1 ∙ get_or_default lists target list1 [] ht in
-        let b : row0 ≡ get_or rows user [] = r0 ∙ get_or_default rows user row0 [] within in
-        rw (l2, place_is, b, a) refl
+  pub pushed-linked : is_counted holes user ≡ false → AreLinked (set rows user (get_or rows user [] ++ record { target = target; at = length (get_or lists target []) } ∷ [])) holes (set lists target (get_or lists target [] ++ record { user = user; place = length (get_or rows user []) } ∷ []))
+  pushed-linked gapped = record {
+    linked = linked-push rows lists user target within ht is.linked;
+    holes = pushed-holes rows holes user _ within gapped real is.holes;
+  }
 
-    real : target ≢ no_target
-    real f = omega (arith, ht, is.linked.few, f)
+  pub pushed-targets : targets_in (set rows user (get_or rows user [] ++ record { target = target; at = length (get_or lists target []) } ∷ [])) ≡ set (targets_in rows) user (get_or (targets_in rows) user [] ++ target ∷ [])
+  pushed-targets = targets-push rows user (record { target = target; at = length (get_or lists target []) }) real
 
-    pub pushed-linked : row2 ≡ row1 ++ record { target = target; at = at' } ∷ [] → AreLinked (set rows user row2) holes (set lists target list2)
-    pushed-linked r2 =
-        let a : row1 ≡ get_or rows user [] = r1 ∙ get_or_default rows user row1 [] within in
-        let b : list0 ≡ get_or lists target [] = l0 ∙ get_or_default lists target list0 [] ht in
-        rw (list_is, r2, at_is, b, a) (record {
-          linked = linked-push rows lists user target within ht is.linked;
-          holes = pushed-holes rows holes user _ within gapped real is.holes;
-        })
+-- a list that was written as it was, and one that was lengthened and shortened
+module _ {A : Type 0} (rows : List (List A)) (i : ℕ) (within : i < length rows) where
+  pub written-again : (row1 row2 : List A) → row1 ≡ get_or rows i row1 → row2 ≡ row1 → set rows i row2 ≡ rows
+  written-again row1 row2 r1 r2 =
+      let a : row1 ≡ get_or rows i [] = r1 ∙ get_or_default rows i row1 [] within in
+      rw (r2, a) (set-get_or rows i [])
 
-    pub pushed-targets : row2 ≡ row1 ++ record { target = target; at = at' } ∷ [] → targets_in (set rows user row2) ≡ set (targets_in rows) user (get_or (targets_in rows) user [] ++ target ∷ [])
-    pushed-targets r2 =
-        let a : row1 ≡ get_or rows user [] = r1 ∙ get_or_default rows user row1 [] within in
-        rw (r2, a) (targets-push rows user (record { target = target; at = at' }) real)
-
-    pub undone : (list3 list4 : List Use) → list3 ≡ get_or (set lists target list2) target list3 → list4 ≡ take (length list3 - 1) list3 → row2 ≡ row1 → (set rows user row2 ≡ rows) × (set (set lists target list2) target list4 ≡ lists)
-    undone list3 list4 l3 l4 r2 =
-        let a : row1 ≡ get_or rows user [] = r1 ∙ get_or_default rows user row1 [] within in
-        let b : list1 ≡ get_or lists target [] = l1 ∙ get_or_default lists target list1 [] ht in
-        let c : list3 ≡ list2 = l3 ∙ get_or-set_same lists target list2 list3 ht in
-        let d : list4 ≡ get_or lists target [] = l4 ∙ ap (λ l. take (length l - 1) l) (c ∙ l2) ∙ take-push list1 _ ∙ b in
-        (rw (r2, a) (set-get_or rows user []), rw (set-set, d) (set-get_or lists target []))
+  pub popped-again : (x : A) (row1 row2 row3 row4 : List A) → row1 ≡ get_or rows i row1 → row2 ≡ row1 ++ x ∷ [] → row3 ≡ get_or (set rows i row2) i row3 → row4 ≡ take (length row3 - 1) row3 → set (set rows i row2) i row4 ≡ rows
+  popped-again x row1 row2 row3 row4 r1 r2 r3 r4 =
+      let a : row1 ≡ get_or rows i [] = r1 ∙ get_or_default rows i row1 [] within in
+      let b : row3 ≡ row2 = r3 ∙ get_or-set_same rows i row2 row3 within in
+      let c : row4 ≡ get_or rows i [] = r4 ∙ ap (λ l. take (length l - 1) l) (b ∙ r2) ∙ take-push row1 x ∙ a in
+      rw (set-set, c) (set-get_or rows i [])

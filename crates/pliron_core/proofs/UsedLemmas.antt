@@ -1,12 +1,13 @@
 -- The invariant of a tree is kept where only operands and successors change.
 use Rattle.std.proofs.Common.{◌≡◌, ◌⊎◌, ℕ, zero, suc, ◌<◌, ◌≤◌, List, [], ◌∷◌, ◌++◌, length, map, get_or, None, refl, sym, ap, ◌∙◌, subst, inl, inr, ⊎_elim, arith, slice_set, if◌then◌else◌, remove}
+use Rattle.std.specs.List.{insert}
 use Rattle.std.proofs.lemmas.Bool.{cases_eq, eq-eqb, ne_eqb}
 use Rattle.std.proofs.lemmas.Bool.Decides.{eqb_tells}
 use Rattle.std.proofs.lemmas.List.{get_or-set_other, get_or-set_same}
 use Rattle.pliron_core.specs.Uses.{replace_target}
 use Rattle.pliron_core.specs.Tree.{Tree, In, IsLive, IsBlock, IsDefined, head_of, operands_of, successors_of}
 use Rattle.pliron_core.specs.Invariant.{IsJoined}
-use Rattle.pliron_core.specs.Writes.{operand_pushed, successor_pushed, operand_removed, after_replacing}
+use Rattle.pliron_core.specs.Writes.{operand_pushed, successor_pushed, operand_inserted, operand_removed, after_replacing}
 use Rattle.pliron_core.proofs.RemovalLemmas.{in_from-remove}
 use Rattle.pliron_core.proofs.TreeLemmas.{live_dead}
 
@@ -77,6 +78,23 @@ kept_push t op value w live d = kept_used t (slice_set t.operands op (operands_o
     (λ k v i. elim (in_changed t.operands op k v _ i) [
       | inl c ↦ elim (in_last v value (operands_of t op) c.1) [ inl j ↦ w.operands op v j | inr s ↦ subst (IsDefined t) (sym s) d ]
       | inr j ↦ w.operands k v j
+    ])
+    w.successors
+    (λ k e. let x = w.erased k e in (unchanged t t.operands op k _ live e ∙ x.0, x.1))
+
+in_put : (x y : ℕ) (xs : List ℕ) (i : ℕ) → In x (insert xs i y) → In x xs ⊎ (x ≡ y)
+in_put x y xs zero j = elim j [ inl e ↦ inr e | inr k ↦ inl k ]
+in_put x y [] (suc i) j = elim j [ inl e ↦ inr e | inr k ↦ absurd k ]
+in_put x y (z ∷ zs) (suc i) j = elim j [
+  | inl e ↦ inl (inl e)
+  | inr k ↦ elim (in_put x y zs i k) [ inl l ↦ inl (inr l) | inr e ↦ inr e ]
+]
+
+pub kept_insert : (t : Tree) (op i value : ℕ) → IsJoined t → IsLive t op → IsDefined t value → IsJoined (operand_inserted t op i value)
+kept_insert t op i value w live d = kept_used t (slice_set t.operands op (insert (operands_of t op) i value)) t.successors w
+    (λ k v j. elim (in_changed t.operands op k v _ j) [
+      | inl c ↦ elim (in_put v value (operands_of t op) i c.1) [ inl l ↦ w.operands op v l | inr s ↦ subst (IsDefined t) (sym s) d ]
+      | inr l ↦ w.operands k v l
     ])
     w.successors
     (λ k e. let x = w.erased k e in (unchanged t t.operands op k _ live e ∙ x.0, x.1))

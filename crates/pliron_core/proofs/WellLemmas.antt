@@ -1,21 +1,22 @@
 -- A context's invariant after each change of its tables.
 use Rattle.std.proofs.Common.{◌≡◌, ℕ, zero, suc, ◌+◌, List, [], ◌∷◌, ◌++◌, length, map, Option, Some, None, IsSome, refl, sym, ap, ◌∙◌, subst, arith, slice_get, slice_set, replicate, length-append, drop, remove}
 use Rattle.std.proofs.lemmas.List.{length-set}
-use Rattle.std.specs.List.{range_with_len}
+use Rattle.std.specs.List.{insert, range_with_len}
 use Rattle.pliron_core.specs.Uses.{replace_target}
 use Rattle.pliron_core.specs.declared.uses.Use.{Use}
 use Rattle.pliron_core.specs.declared.attrs.Head.{Head}
 use Rattle.pliron_core.specs.declared.context.Def.{Def}
+use Rattle.pliron_core.specs.declared.context.Def.TheVariants.{Argument}
 use Rattle.pliron_core.specs.declared.context.OperationEntry.{OperationEntry}
 use Rattle.pliron_core.specs.Tree.{Tree, View, In, IsLive, IsBlock, IsDefined, IsRegion, HoldsBlock, parent_of, operands_of, successors_of, arguments_of, results_of, regions_of, layout_of}
 use Rattle.pliron_core.specs.Invariant.{HaveSameKeys, IsJoined, IsWellFormed}
 use Rattle.pliron_core.specs.Lists.{AreOwned}
-use Rattle.pliron_core.specs.Writes.{taken_from, after_creating, block_created, argument_removed, region_slots, result_definitions, argument_definitions}
+use Rattle.pliron_core.specs.Writes.{taken_from, after_creating, block_created, argument_pushed, argument_removed, region_slots, result_definitions, argument_definitions}
 use Rattle.pliron_core.proofs.GrownLemmas.{set_last}
-use Rattle.pliron_core.proofs.UsedLemmas.{kept_push, kept_push_successor, kept_remove, kept_replace, length_map}
+use Rattle.pliron_core.proofs.UsedLemmas.{kept_push, kept_push_successor, kept_insert, kept_remove, kept_replace, length_map}
 use Rattle.pliron_core.proofs.PlacedLemmas.{kept_put, kept_taken}
 use Rattle.pliron_core.proofs.CreatedLemmas.{kept_created, kept_block_created}
-use Rattle.pliron_core.proofs.ArgumentLemmas.{kept_argument_removed, kept_entry, length_numbered}
+use Rattle.pliron_core.proofs.ArgumentLemmas.{kept_argument_pushed, kept_argument_removed, kept_entry, length_numbered}
 
 length_last : {A : Type 0} (xs : List A) (x : A) → length (xs ++ x ∷ []) ≡ suc (length xs)
 length_last [] x = refl
@@ -44,6 +45,9 @@ well_push v op value operands uses w live d = well_operands v operands _ uses w 
 
 pub well_push_successor : (v : View) (op block : ℕ) (successors : List (List ℕ)) (uses : List (List Use)) → IsWellFormed v → IsLive v.tree op → IsBlock v.tree block → successors ≡ slice_set v.tree.successors op (successors_of v.tree op ++ block ∷ []) → length uses ≡ length v.block_uses → IsWellFormed (record v { tree = record v.tree { successors = successors }; block_uses = uses })
 well_push_successor v op block successors uses w live is = well_successors v successors _ uses w (kept_push_successor v.tree op block w.joined live is) (length-set _ _ _)
+
+pub well_insert : (v : View) (op i value : ℕ) (operands : List (List ℕ)) (uses : List (List Use)) → IsWellFormed v → IsLive v.tree op → IsDefined v.tree value → operands ≡ slice_set v.tree.operands op (insert (operands_of v.tree op) i value) → length uses ≡ length v.value_uses → IsWellFormed (record v { tree = record v.tree { operands = operands }; value_uses = uses })
+well_insert v op i value operands uses w live d = well_operands v operands _ uses w (kept_insert v.tree op i value w.joined live d) (length-set _ _ _)
 
 pub well_remove : (v : View) (op i : ℕ) (operands : List (List ℕ)) (uses : List (List Use)) → IsWellFormed v → IsLive v.tree op → operands ≡ slice_set v.tree.operands op (remove (operands_of v.tree op) i) → length uses ≡ length v.value_uses → IsWellFormed (record v { tree = record v.tree { operands = operands }; value_uses = uses })
 well_remove v op i operands uses w live = well_operands v operands _ uses w (kept_remove v.tree op i w.joined live) (length-set _ _ _)
@@ -110,6 +114,14 @@ well_entry v op entry w live headed results regions = record {
   keys = record { operands = w.keys.operands ∙ sym (length-set _ _ _); successors = w.keys.successors ∙ sym (length-set _ _ _); parents = w.keys.parents ∙ sym (length-set _ _ _); arguments = w.keys.arguments; block_parents = w.keys.block_parents; slots = w.keys.slots };
   joined = kept_entry v.tree op entry w.joined live headed results regions;
   value_uses = w.value_uses;
+  block_uses = w.block_uses;
+}
+
+pub well_argument_pushed : (v : View) (block : ℕ) (uses : List (List Use)) → IsWellFormed v → IsBlock v.tree block → length uses ≡ length v.value_uses + 1 → IsWellFormed (record v { tree = argument_pushed v.tree block; value_uses = uses })
+well_argument_pushed v block uses w is n = record {
+  keys = record { operands = w.keys.operands; successors = w.keys.successors; parents = w.keys.parents; arguments = length-set _ _ _ ∙ w.keys.arguments; block_parents = w.keys.block_parents; slots = w.keys.slots };
+  joined = kept_argument_pushed v.tree block w.keys w.joined is;
+  value_uses = let a = length_last v.tree.definitions (Argument block (length (arguments_of v.tree block))) in omega (arith, a, n, w.value_uses);
   block_uses = w.block_uses;
 }
 

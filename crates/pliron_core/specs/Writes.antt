@@ -1,6 +1,6 @@
 -- What each write makes of a tree.
 use Rattle.std.specs.Prelude.{suc, ℕ, ◌+◌, List, [], ◌∷◌, ◌++◌, length, drop, Option, Some, None, slice_set, map, replicate, remove}
-use Rattle.std.specs.List.{range_with_len}
+use Rattle.std.specs.List.{insert, range_with_len}
 use Rattle.pliron_core.specs.declared.attrs.Head.{Head}
 use Rattle.pliron_core.specs.declared.attrs.AttrObj.{AttrObj}
 use Rattle.pliron_core.specs.declared.context.Def.{Def}
@@ -53,7 +53,11 @@ operand_pushed t op value = record t { operands = slice_set t.operands op (opera
 abbrev pub successor_pushed : Tree → ℕ → ℕ → Tree
 successor_pushed t op block = record t { successors = slice_set t.successors op (successors_of t op ++ block ∷ []) }
 
--- that operand is removed, that attribute is replaced
+-- one more operand, at this index: those from there on have the index behind
+abbrev pub operand_inserted : Tree → ℕ → ℕ → ℕ → Tree
+operand_inserted t op i value = record t { operands = slice_set t.operands op (insert (operands_of t op) i value) }
+
+-- that operand is removed, the head or an attribute of it is replaced
 abbrev pub operand_removed : Tree → ℕ → ℕ → Tree
 operand_removed t op i = record t { operands = slice_set t.operands op (remove (operands_of t op) i) }
 
@@ -61,8 +65,18 @@ abbrev pub with_attribute : Option Head → ℕ → AttrObj → Option Head
 with_attribute None i attr = None
 with_attribute (Some head) i attr = Some (record head { attrs = slice_set head.attrs i attr })
 
+abbrev pub head_replaced : Tree → ℕ → Head → Tree
+head_replaced t op head = record t { operations = slice_set t.operations op (record (row_of t op) { head = Some head }) }
+
 abbrev pub attribute_set : Tree → ℕ → ℕ → AttrObj → Tree
 attribute_set t op i attr = record t { operations = slice_set t.operations op (record (row_of t op) { head = with_attribute (head_of t op) i attr }) }
+
+-- one more argument, a new value
+abbrev pub argument_pushed : Tree → ℕ → Tree
+argument_pushed t block = record t {
+  arguments = slice_set t.arguments block (arguments_of t block ++ length t.definitions ∷ []);
+  definitions = t.definitions ++ Argument block (length (arguments_of t block)) ∷ [];
+}
 
 -- these values are the block's arguments from index i on
 abbrev pub argument_definitions_from : List Def → ℕ → ℕ → List ℕ → List Def

@@ -3,6 +3,7 @@ ghost use Rattle.std.specs.Prelude.{◌≡◌, ℕ, ◌+◌, ◌<◌, ◌≤◌,
 ghost use Rattle.std.specs.List.{range_with_len};
 ghost use Rattle.pliron_core.specs.Keys.{key_limit};
 ghost use Rattle.pliron_core.specs.Uses.{targets_of};
+ghost use Rattle.pliron_core.specs.declared.context.Def.TheVariants.{Argument};
 ghost use Rattle.pliron_core.specs.Arguments.{Makers, argument_row_of};
 ghost use Rattle.pliron_core.specs.Making.{made_by, definitions_of};
 ghost use Rattle.pliron_core.specs.Writes.{argument_definitions_from, result_definitions, argument_definitions};
@@ -178,6 +179,30 @@ impl Arguments {
         self.lists.agree();
         write_definitions(&mut self.written, Maker::Block(block), count);
         Ok(())
+    }
+
+    /// The block gets one more argument, a new value, behind the others.
+    ///
+    /// Asks that there is such a block. Errors: allocation failure, which changes nothing. Cost: constant,
+    /// amortised. If the arguments are counted, they are settled first.
+    pub fn push(&mut self, alloc: Global, block: Ptr<BasicBlock>) -> Result<Value, AllocError>
+        requires { block < length self.old.rows }
+        ensures value { IfOk result (λ value. value ≡ length self.old.definitions) }
+        ensures rows { OnOk result (self.new.rows ≡ slice_set self.old.rows block (argument_row_of self.old block
+            ++ length self.old.definitions ∷ [])) }
+        ensures definitions { OnOk result (self.new.definitions ≡ self.old.definitions ++ Argument block (length
+            (argument_row_of self.old block)) ∷ []) }
+        ensures err { OnErr result (self.new ≡ self.old) }
+    {
+        self.written.reserve(1)?;
+        self.lists.agree();
+        let value = self.lists.push_new(alloc, block.index())?;
+        self.lists.agree();
+        self.written.push_reserved(StoredDefinition {
+            maker: Maker::Block(block),
+            index: 0,
+        });
+        Ok(Value::new(value))
     }
 
     /// The arguments of a block are counted from now on, if there are many, so that ones far from one another

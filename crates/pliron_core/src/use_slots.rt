@@ -4,12 +4,13 @@
 //! one step each. Lists of up to 64 slots always keep their gap; where removals in a longer one are far apart,
 //! counts find the free slots (`counted_slots`).
 
-ghost use Rattle.std.specs.Prelude.{◌≡◌, ◌≢◌, ℕ, false, ◌+◌, ◌-◌, ◌^◌, ◌<◌, ◌≤◌, [], length, slice_set, vec_capacity, vec_len, slice_get, slice_index_or, Some, take, IfOk, remove};
+ghost use Rattle.std.specs.Prelude.{◌≡◌, ◌≢◌, ℕ, false, ◌+◌, ◌-◌, ◌^◌, ◌<◌, ◌≤◌, List, [], ◌∷◌, ◌++◌, length, slice_set, vec_capacity, vec_len, slice_get, slice_index_or, Some, take, IfOk, OnOk, OnErr, remove};
+ghost use Rattle.std.specs.List.{insert};
 ghost use Rattle.pliron_core.specs.Keys.{key_limit};
 ghost use Rattle.pliron_core.specs.declared.uses.Use.{Use};
 ghost use Rattle.std.specs.Option.{option_map};
 ghost use Rattle.pliron_core.specs.declared.use_slots.UseSlot.{UseSlot as PlaceOf};
-ghost use Rattle.pliron_core.specs.UseSlots.{at, put, targets_held, rank, marks, marks_in, retarget_slot, targets_in, no_target, free_place, HasGap, IsLinked, places_from};
+ghost use Rattle.pliron_core.specs.UseSlots.{at, put, targets_held, rank, marks, marks_in, retarget_slot, targets_in, uses_in, no_target, free_place, HasGap, IsLinked, places_from};
 ghost use Rattle.pliron_core.specs.Holes.{gap_of, is_counted, Tracks, HaveHoles, AreLinked, KeepRooms};
 
 use crate::inline_list::{InlineList, entry, pop_entry, set_entry};
@@ -303,6 +304,7 @@ pub(super) fn open_gap(
     ensures linked { AreLinked places.new.items holes.new.items uses.new.items }
     ensures targets { targets_in places.new.items ≡ targets_in places.old.items }
     ensures start { (gap_of holes.new.items user).start ≡ i }
+    ensures len { (gap_of holes.new.items user).len ≡ (gap_of holes.old.items user).len }
     ensures gapped { is_counted holes.new.items user ≡ false }
     ensures count { length uses.new.items ≡ length uses.old.items }
     ensures rooms { KeepRooms places.old places.new holes.old holes.new uses.old uses.new }
@@ -433,6 +435,98 @@ pub(super) fn settle_gap(
     }
     open_gap(places, holes, uses, user, count);
     close_gap(places, holes, user);
+}
+
+// One more target of the user, in a new slot at the end, and one more use of the target.
+#[inline(always)]
+pub(super) fn push_slot(
+    places: &mut Vec<InlineList<UseSlot>>,
+    uses: &mut Vec<InlineList<Use>>,
+    user: u32,
+    target: u32,
+) -> Result<(), AllocError>
+    requires user { user < length places.old.items }
+    requires target { target < length uses.old.items }
+    ensures places { OnOk result (places.new.items ≡ slice_set places.old.items user
+        (slice_index_or places.old.items user [] ++ record {
+          target = target;
+          at = length
+              (slice_index_or uses.old.items target []);
+        } ∷ [])) }
+    ensures uses { OnOk result (uses.new.items ≡ slice_set uses.old.items target
+        (slice_index_or uses.old.items target [] ++ record {
+          user = user;
+          place = length
+              (slice_index_or places.old.items user []);
+        } ∷ [])) }
+    ensures err { OnErr result ((places.new.items ≡ places.old.items) × (uses.new.items ≡ uses.old.items)) }
+    ensures rooms { (vec_len places.new ≡ vec_len places.old) × (vec_capacity places.new ≡ vec_capacity places.old)
+        × (vec_len uses.new ≡ vec_len uses.old) × (vec_capacity uses.new ≡ vec_capacity uses.old) }
+{
+    let at = uses[target as usize].count();
+    let place = places[user as usize].count();
+    uses[target as usize].push(Use { user, place })?;
+    if let Err(error) = places[user as usize].push(UseSlot { target, at }) {
+        uses[target as usize].pop();
+        return Err(error);
+    }
+    Ok(())
+}
+
+// The user has a free slot from then on, at the end where it had none.
+pub(super) fn make_gap(
+    places: &mut Vec<InlineList<UseSlot>>,
+    holes: &mut Vec<Holes>,
+    uses: &Vec<InlineList<Use>>,
+    user: u32,
+) -> Result<(), AllocError>
+    requires linked { AreLinked places.old.items holes.old.items uses.now.items }
+    requires user { user < length holes.old.items }
+    requires gapped { is_counted holes.old.items user ≡ false }
+    ensures linked { AreLinked places.new.items holes.new.items uses.now.items }
+    ensures gapped { is_counted holes.new.items user ≡ false }
+    ensures len { OnOk result (0 < (gap_of holes.new.items user).len) }
+    ensures targets { targets_in places.new.items ≡ targets_in places.old.items }
+    ensures uses { uses_in places.new.items uses.now.items ≡ uses_in places.old.items uses.now.items }
+    ensures rooms { KeepRooms places.old places.new holes.old holes.new uses.now uses.now }
+{
+    if gap_at(places, holes, user).len > 0 {
+        return Ok(());
+    }
+    let start = places[user as usize].count();
+    places[user as usize].push(FREE)?;
+    holes[user as usize] = Holes::OneGap(Gap { start, len: 1 });
+    Ok(())
+}
+
+// The last target of the user, which has a free slot, comes to an index: those from there on move up by one place.
+pub(super) fn lower_last(
+    places: &mut Vec<InlineList<UseSlot>>,
+    holes: &mut Vec<Holes>,
+    uses: &mut Vec<InlineList<Use>>,
+    user: u32,
+    i: usize,
+)
+    requires linked { AreLinked places.old.items holes.old.items uses.old.items }
+    requires user { user < length holes.old.items }
+    requires len { 0 < (gap_of holes.old.items user).len }
+    requires index { i < length (targets_held (slice_index_or places.old.items user [])) }
+    ensures linked { AreLinked places.new.items holes.new.items uses.new.items }
+    ensures targets { (before : List ℕ) (last : ℕ) → slice_index_or (targets_in places.old.items) user [] ≡ before
+        ++ last ∷ [] → targets_in places.new.items ≡ slice_set (targets_in places.old.items) user (insert before i
+        last) }
+    ensures count { length uses.new.items ≡ length uses.old.items }
+    ensures rooms { KeepRooms places.old places.new holes.old holes.new uses.old uses.new }
+{
+    open_gap(places, holes, uses, user, i);
+    let Gap { start, len } = gap_at(places, holes, user);
+    let end = places[user as usize].len() - 1;
+    relocate(places, uses, user, end, start as usize);
+    places[user as usize].truncate(end);
+    holes[user as usize] = Holes::OneGap(Gap {
+        start: start + 1,
+        len: len - 1,
+    });
 }
 
 // The slots of these uses of `old` name `new`, where the uses are now at the indices from `first` on.

@@ -1,7 +1,7 @@
 //! Operand lists and use lists: which targets each user names, in order, and where each target is used.
 
-ghost use Rattle.std.specs.Prelude.{◌≡◌, ◌≢◌, ◌+◌, ◌-◌, ◌<◌, ◌≤◌, [], ◌∷◌, ◌++◌, length, map, slice_set, vec_capacity, vec_len, slice_get, Some, OnOk, OnErr, IsOk, remove, replicate};
-ghost use Rattle.std.specs.List.{range_with_len};
+ghost use Rattle.std.specs.Prelude.{◌≡◌, ◌≢◌, ◌+◌, ◌-◌, ◌<◌, ◌≤◌, [], ◌∷◌, ◌++◌, length, map, slice_set, vec_capacity, vec_len, slice_get, Some, IfOk, OnOk, OnErr, IsOk, remove, replicate};
+ghost use Rattle.std.specs.List.{insert, range_with_len};
 ghost use Rattle.pliron_core.specs.Keys.{key_limit};
 ghost use Rattle.pliron_core.specs.Uses.{targets_of, table_uses, AreAgreed, replace_target};
 ghost use Rattle.pliron_core.specs.UseSlots.{uses_by};
@@ -11,8 +11,8 @@ use crate::counted_slots::{count_places, settle_places, take_counted};
 use crate::inline_list::{InlineList, entry, pop_entry, set_entry};
 use crate::keys::next_key;
 use crate::use_slots::{
-    Holes, NO_GAP, UseSlot, are_counted, count_at, new_places, open_gap, place_at, rank_at,
-    retarget, settle_gap, target_at, widen_gap,
+    Holes, NO_GAP, UseSlot, are_counted, count_at, lower_last, make_gap, new_places, open_gap,
+    place_at, push_slot, rank_at, retarget, settle_gap, target_at, widen_gap,
 };
 use std::alloc::{AllocError, Global};
 use std::marker::Model;
@@ -259,13 +259,58 @@ impl Uses {
         ensures err { OnErr result (self.new ≡ self.old) }
     {
         settle_places(&mut self.places, &mut self.holes, &mut self.uses, user);
-        let at = self.uses[target as usize].count();
-        let place = self.places[user as usize].count();
-        self.uses[target as usize].push(Use { user, place })?;
-        if let Err(error) = self.places[user as usize].push(UseSlot { target, at }) {
-            self.uses[target as usize].pop();
+        push_slot(&mut self.places, &mut self.uses, user, target)?;
+        Ok(())
+    }
+
+    /// The user gets one more target, at the end, which is a new one: no other user has it. Answers its key.
+    ///
+    /// Asks that there is such a user. Errors: allocation failure, which leaves users, targets and uses as they
+    /// were. Cost: constant, amortised. Counted slots are settled first.
+    pub fn push_new(&mut self, alloc: Global, user: u32) -> Result<u32, AllocError>
+        requires { user < length self.old.targets }
+        ensures key { IfOk result (λ key. key ≡ length self.old.uses) }
+        ensures targets { OnOk result (self.new.targets ≡ slice_set self.old.targets user (targets_of self.old user
+            ++ length self.old.uses ∷ [])) }
+        ensures count { OnOk result (length self.new.uses ≡ length self.old.uses + 1) }
+        ensures err { OnErr result ((self.new.targets ≡ self.old.targets) × (self.new.uses ≡ self.old.uses)) }
+    {
+        self.uses.reserve(1)?;
+        let target = next_key(self.uses.len())?;
+        settle_places(&mut self.places, &mut self.holes, &mut self.uses, user);
+        self.uses.push_reserved(InlineList::new(alloc));
+        if let Err(error) = push_slot(&mut self.places, &mut self.uses, user, target) {
+            self.uses.pop();
             return Err(error);
         }
+        Ok(target)
+    }
+
+    /// The user gets one more target, at this index. The targets from there on move up by one place.
+    ///
+    /// Asks that there are such a user and such a target, and that the index is at most the number of its targets.
+    /// Errors: allocation failure, which leaves all as it was. Cost: the number of targets from the index on, and
+    /// of those between it and the place where the user lost one last; amortised. Counted slots are settled first.
+    pub fn insert(&mut self, user: u32, place: usize, target: u32) -> Result<(), AllocError>
+        requires user { user < length self.old.targets }
+        requires place { place ≤ length (targets_of self.old user) }
+        requires target { target < length self.old.uses }
+        ensures targets { OnOk result (self.new.targets ≡ slice_set self.old.targets user (insert
+            (targets_of self.old user) place target)) }
+        ensures count { length self.new.uses ≡ length self.old.uses }
+        ensures rooms { (self.new.user_room ≡ self.old.user_room) × (self.new.target_room ≡ self.old.target_room) }
+        ensures err { OnErr result (self.new ≡ self.old) }
+    {
+        settle_places(&mut self.places, &mut self.holes, &mut self.uses, user);
+        make_gap(&mut self.places, &mut self.holes, &self.uses, user)?;
+        push_slot(&mut self.places, &mut self.uses, user, target)?;
+        lower_last(
+            &mut self.places,
+            &mut self.holes,
+            &mut self.uses,
+            user,
+            place,
+        );
         Ok(())
     }
 

@@ -1,11 +1,12 @@
 //! Operands, successors, attributes and arguments.
-ghost use Rattle.std.specs.Prelude.{◌≡◌, ◌+◌, ◌<◌, ◌≤◌, [], length, slice_get, OnOk, OnErr, IfSome, IsOk};
+ghost use Rattle.std.specs.Prelude.{◌≡◌, ◌+◌, ◌<◌, ◌≤◌, [], ◌∷◌, ◌++◌, length, slice_get, Some, IfOk, OnOk, OnErr, IfSome, IsSome, IsOk};
 ghost use Rattle.pliron_core.specs.Tree.{IsLive, IsBlock, IsDefined, In, operands_of, head_of, arguments_of, uses_of};
-ghost use Rattle.pliron_core.specs.Writes.{operand_pushed, successor_pushed, operand_removed, attribute_set, with_attribute, argument_removed, after_replacing};
+ghost use Rattle.pliron_core.specs.Writes.{operand_pushed, successor_pushed, operand_inserted, operand_removed, attribute_set, with_attribute, head_replaced, argument_pushed, argument_removed, after_replacing};
 
 use super::{Context, NoMemory};
 use crate::attrs::{AttrObj, Head};
 use crate::keys::{BasicBlock, Operation, Ptr, Value};
+use std::mem;
 
 impl Operation {
     /// One more operand, at the end.
@@ -41,6 +42,29 @@ impl Operation {
         ensures err { OnErr result (ctx.new ≡ ctx.old) }
     {
         ctx.successors.push(op.index(), block.index())?;
+        Ok(())
+    }
+
+    /// One more operand, at this index. The operands from there on move up by one place, and their uses stay theirs.
+    ///
+    /// Asks that the operation and the value are live, and that the index is at most the number of its operands.
+    /// Errors: allocation failure, which changes nothing.
+    /// Cost: the number of operands from the index on, and of those between it and the place of the last removal
+    /// from this operation; amortised. An index of the operands is dropped first, as by `settle_operands`.
+    pub fn insert_operand(
+        ctx: &mut Context,
+        op: Ptr<Operation>,
+        i: usize,
+        value: Value,
+    ) -> Result<(), NoMemory>
+        requires live { IsLive ctx.old.tree op }
+        requires index { i ≤ length (operands_of ctx.old.tree op) }
+        requires value { IsDefined ctx.old.tree value }
+        ensures ok { OnOk result (ctx.new.tree ≡ operand_inserted ctx.old.tree op i value) }
+        ensures block_uses { ctx.new.block_uses ≡ ctx.old.block_uses }
+        ensures err { OnErr result (ctx.new ≡ ctx.old) }
+    {
+        ctx.operands.insert(op.index(), i, value.index())?;
         Ok(())
     }
 
@@ -96,6 +120,29 @@ impl Operation {
     {
         set_head_attribute(&mut ctx.operations[op.index() as usize].head, i, attr);
     }
+
+    /// Gives the operation this head, and answers the one before. Nothing else changes.
+    ///
+    /// Asks that the operation is live. Takes no memory. Cost: constant.
+    pub fn replace_head(ctx: &mut Context, op: Ptr<Operation>, head: Head) -> Head
+        requires { IsLive ctx.old.tree op }
+        ensures before { head_of ctx.old.tree op ≡ Some result }
+        ensures replaced { ctx.new ≡ record ctx.old { tree = head_replaced ctx.old.tree op head } }
+    {
+        put_head(&mut ctx.operations[op.index() as usize].head, head)
+    }
+}
+
+// The head that was there, and this one in its place.
+fn put_head(place: &mut Option<Head>, head: Head) -> Head
+    requires { IsSome place.old }
+    ensures before { place.old ≡ Some result }
+    ensures now { place.new ≡ Some head }
+{
+    match mem::replace(place, Some(head)) {
+        Some(before) => before,
+        None => unreachable!(),
+    }
 }
 
 fn set_head_attribute(head: &mut Option<Head>, i: usize, attr: AttrObj)
@@ -149,6 +196,25 @@ impl BasicBlock {
         ensures { ctx.new ≡ ctx.old }
     {
         ctx.arguments.settle(block);
+    }
+
+    /// One more argument, behind the others: a new value, which has no uses. Answers it.
+    ///
+    /// Asks that the block is live. Errors: allocation failure, which changes nothing.
+    /// Cost: amortised constant. An index of the arguments is dropped first, as by `settle_arguments`.
+    pub fn push_argument(ctx: &mut Context, block: Ptr<BasicBlock>) -> Result<Value, NoMemory>
+        requires { IsBlock ctx.old.tree block }
+        ensures value { IfOk result (λ value. value ≡ length ctx.old.tree.definitions) }
+        ensures ok { OnOk result (ctx.new.tree ≡ argument_pushed ctx.old.tree block) }
+        ensures unused { OnOk result (ctx.new.value_uses ≡ ctx.old.value_uses ++ [] ∷ []) }
+        ensures block_uses { ctx.new.block_uses ≡ ctx.old.block_uses }
+        ensures err { OnErr result (ctx.new ≡ ctx.old) }
+    {
+        let alloc = ctx.alloc;
+        ctx.operands.reserve(0, 1)?;
+        let value = ctx.arguments.push(alloc, block)?;
+        ctx.operands.add_target(alloc);
+        Ok(value)
     }
 
     /// Removes an argument without uses. The later ones stay the same values, each with the index before.

@@ -9,6 +9,7 @@ invariant-loop-places l = record {
   targets : targets_in l.places.items ≡ targets_in l.fn.places.items;
   user : l.user < length l.holes.items;
   len : 0 < (gap_of l.holes.items l.user).len;
+  same : (gap_of l.holes.items l.user).len ≡ (gap_of l.fn.holes.items l.user).len;
   count : length l.uses.items ≡ length l.fn.uses.items;
   rooms : KeepRooms l.fn.places l.places l.fn.holes l.holes l.fn.uses l.uses;
 }
@@ -22,6 +23,7 @@ invariant-loop-places-2 l = record {
   targets : targets_in l.places.items ≡ targets_in l.fn.places.items;
   user : l.user < length l.holes.items;
   len : 0 < (gap_of l.holes.items l.user).len;
+  same : (gap_of l.holes.items l.user).len ≡ (gap_of l.fn.holes.items l.user).len;
   start : (gap_of l.holes.items l.user).start ≤ l.i;
   count : length l.uses.items ≡ length l.fn.uses.items;
   rooms : KeepRooms l.fn.places l.places l.fn.holes l.holes l.fn.uses l.uses;
