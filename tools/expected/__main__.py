@@ -99,6 +99,8 @@ BY_LINE = {
     CANONICALIZE + "random.rt:RANDOM": named(models.canonicalize),
     "pliron_core_tests/src/removals.rt:REMOVALS": graphs.removals,
     "pliron_core_tests/src/arguments.rt:REMOVALS": graphs.removals,
+    "pliron_core_tests/src/insertions.rt:INSERTIONS": graphs.removals,
+    "pliron_core_tests/src/insertions.rt:PUSHES": graphs.removals,
 }
 # tables of counts, with the texts that they count
 COUNTS = {

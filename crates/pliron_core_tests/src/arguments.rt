@@ -58,9 +58,33 @@ pub fn arguments_of(
     values
 }
 
-fn remove_each(rt: &impl Abort, ctx: &mut Context, block: Ptr<BasicBlock>, words: &str) {
+// One more argument, behind the others.
+fn push_argument(rt: &impl Abort, ctx: &mut Context, block: Ptr<BasicBlock>) -> Value {
+    assert!(rt; block.is_live(ctx));
+    let count = block.num_argument(ctx);
+    let value = BasicBlock::push_argument(ctx, block).expect(rt, "memory");
+    assert!(rt; argument_of(rt, ctx, block, count) == value);
+    assert!(rt; value.is_live(ctx));
+    assert!(rt; value.num_use(ctx) == 0);
+    value
+}
+
+// The steps of a case: `+` for one more argument, which is noted behind the values, or the place of one that goes.
+fn take_steps(
+    rt: &impl Abort,
+    ctx: &mut Context,
+    block: Ptr<BasicBlock>,
+    values: &mut Vec<Value>,
+    words: &str,
+) {
     for word in words.split_whitespace() {
-        remove_argument(rt, ctx, block, number(rt, word));
+        if word == "+" {
+            values
+                .push(push_argument(rt, ctx, block))
+                .expect(rt, "memory");
+        } else {
+            remove_argument(rt, ctx, block, number(rt, word));
+        }
     }
 }
 
@@ -69,8 +93,8 @@ pub fn left(rt: &impl Abort, alloc: Global, ctx: &mut Context, asked: &str) -> S
     let (count, words) = asked.split_once(" ").expect(rt, "places");
     let op = operation(rt, alloc, ctx, CONST, 0, 1);
     let block = block(rt, ctx, op, 0, number(rt, count));
-    let values = arguments_of(rt, alloc, ctx, block);
-    remove_each(rt, ctx, block, words);
+    let mut values = arguments_of(rt, alloc, ctx, block);
+    take_steps(rt, ctx, block, &mut values, words);
     let left = arguments_of(rt, alloc, ctx, block);
     places(rt, alloc, &left, &values)
 }

@@ -2,7 +2,7 @@
 
 use crate::steps::{CONST, in_new_context};
 use crate::straight::build_sum;
-use pliron_core::{AttrObj, Context, IRStatus, Operation, Ptr, Text};
+use pliron_core::{AttrObj, Attrs, Context, Head, IRStatus, Operation, Ptr, Text};
 use std::alloc::Global;
 use std::process::Abort;
 
@@ -33,6 +33,34 @@ fn read_and_set(rt: &impl Abort, alloc: Global, ctx: &mut Context) {
 #[test]
 fn reads_and_sets_attributes(rt: HostRuntime) {
     in_new_context(&rt, rt.alloc(), read_and_set)
+}
+
+// The head that was there, behind another one.
+fn replace_head(rt: &impl Abort, ctx: &mut Context, op: Ptr<Operation>, head: Head) -> Head {
+    assert!(rt; op.is_live(ctx));
+    Operation::replace_head(ctx, op, head)
+}
+
+fn replace_and_return(rt: &impl Abort, alloc: Global, ctx: &mut Context) {
+    let sum = build_sum(rt, alloc, ctx);
+    let attrs = Vec::from_array(alloc, [AttrObj::Int(9)]).expect(rt, "memory");
+    let other = Head {
+        kind: CONST,
+        ssa: true,
+        attrs: Attrs::new(attrs),
+    };
+    let before = replace_head(rt, ctx, sum.two, other);
+    check_constant(rt, ctx, sum.two, 9);
+    check_constant(rt, ctx, sum.one, 1);
+    let other = replace_head(rt, ctx, sum.two, before);
+    check_constant(rt, ctx, sum.two, 2);
+    assert!(rt; other.attrs.len() == 1);
+    assert!(rt; other.attrs.get(0).is_same(&AttrObj::Int(9)));
+}
+
+#[test]
+fn replaces_heads(rt: HostRuntime) {
+    in_new_context(&rt, rt.alloc(), replace_and_return)
 }
 
 #[test]

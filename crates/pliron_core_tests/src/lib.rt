@@ -13,6 +13,8 @@ mod deep;
 #[cfg(test)]
 mod edges;
 #[cfg(test)]
+mod insertions;
+#[cfg(test)]
 mod names;
 #[cfg(test)]
 mod reads;

@@ -56,13 +56,37 @@ pub fn remove_operand(
     deleted
 }
 
+// The value comes to this index.
+pub fn insert_operand(
+    rt: &impl Abort,
+    ctx: &mut Context,
+    op: Ptr<Operation>,
+    place: usize,
+    value: Value,
+) {
+    assert!(rt; op.is_live(ctx));
+    assert!(rt; place <= op.num_operand(ctx));
+    assert!(rt; value.is_live(ctx));
+    Operation::insert_operand(ctx, op, place, value).expect(rt, "memory");
+}
+
+// The value that a word names.
+fn named(rt: &impl Abort, values: &[Value], word: &str) -> Value {
+    let i = number(rt, word);
+    assert!(rt; i < values.len());
+    values[i]
+}
+
 // One step of a case.
 fn step(rt: &impl Abort, ctx: &mut Context, op: Ptr<Operation>, values: &[Value], word: &str) {
+    if let Some((name, place)) = word.split_once("@") {
+        let value = named(rt, values, name);
+        return insert_operand(rt, ctx, op, number(rt, place), value);
+    }
     match word.strip_prefix("+") {
         Some(name) => {
-            let i = number(rt, name);
-            assert!(rt; i < values.len());
-            add_operand(rt, ctx, op, values[i])
+            let value = named(rt, values, name);
+            add_operand(rt, ctx, op, value)
         }
         None => {
             remove_operand(rt, ctx, op, number(rt, word));
