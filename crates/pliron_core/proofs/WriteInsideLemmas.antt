@@ -1,11 +1,13 @@
 -- Writes to what stands inside an operation change only what is inside it.
 use Rattle.std.proofs.Common.{◌≡◌, ◌≢◌, ◌⊎◌, ℕ, zero, suc, ◌+◌, ◌<◌, ◌≤◌, List, [], ◌∷◌, ◌++◌, length, map, drop, get_or, if◌then◌else◌, Some, None, IsSome, slice_get, slice_set, remove, refl, sym, ap, ◌∙◌, subst, inl, inr, true≢false, arith}
+use Rattle.std.specs.List.{insert}
 use Rattle.std.specs.Option.{option_map}
 use Rattle.std.proofs.lemmas.Bool.{cases_eq, ne_eqb}
 use Rattle.std.proofs.lemmas.Option.{slice_get-map}
 use Rattle.std.proofs.lemmas.List.{get_or-set_other, get_or_past, length-map}
 use Rattle.std.proofs.Math.ListN.{get_or-map, get_or-append}
 use Rattle.pliron_core.specs.declared.attrs.AttrObj.{AttrObj}
+use Rattle.pliron_core.specs.declared.attrs.Head.{Head}
 use Rattle.pliron_core.specs.declared.context.Def.{Def}
 use Rattle.pliron_core.specs.declared.context.OperationEntry.{OperationEntry}
 use Rattle.pliron_core.specs.declared.context.Def.TheVariants.{Argument}
@@ -13,7 +15,7 @@ use Rattle.pliron_core.specs.Lists.{In}
 use Rattle.pliron_core.specs.Uses.{replace_target}
 use Rattle.pliron_core.specs.Tree.{Tree, no_entry, up_from, row_of, head_of, operands_of, successors_of, parent_of, body_of, arguments_of, block_parent_of, region_parent_of, parent_operation_of, IsLive, IsBlock, IsInside, HoldsBlock}
 use Rattle.pliron_core.specs.Invariant.{IsJoined, IsTree}
-use Rattle.pliron_core.specs.Writes.{argument_definitions, operand_pushed, successor_pushed, operand_removed, with_attribute, attribute_set, argument_definitions_from, argument_removed, after_replacing, block_created}
+use Rattle.pliron_core.specs.Writes.{argument_definitions, operand_pushed, successor_pushed, operand_inserted, operand_removed, with_attribute, attribute_set, head_replaced, argument_definitions_from, argument_pushed, argument_removed, after_replacing, block_created}
 use Rattle.pliron_core.specs.Changes.{HoldsRegion, IsDefiningOperationInside, IsDefinedInside, IsOutside, IsBlockOutside, IsValueOutside, IsKeptOperation, IsKeptBlock, IsInsideChange}
 use Rattle.pliron_core.proofs.TableLemmas.{set-other}
 use Rattle.pliron_core.proofs.PlaceLemmas.{get_or-pad}
@@ -54,6 +56,9 @@ module _ (t : Tree) (op x : ℕ) (w : IsJoined t) (i : IsInside t op x) where
 
   pub operand_pushed_inside : (value : ℕ) → IsInsideChange t (operand_pushed t x value) op
   operand_pushed_inside value = operands_inside (operands_of t x ++ value ∷ [])
+
+  pub operand_inserted_inside : (n value : ℕ) → IsInsideChange t (operand_inserted t x n value) op
+  operand_inserted_inside n value = operands_inside (insert (operands_of t x) n value)
 
   pub operand_removed_inside : (n : ℕ) → IsInsideChange t (operand_removed t x n) op
   operand_removed_inside n = operands_inside (remove (operands_of t x) n)
@@ -98,6 +103,9 @@ module _ (t : Tree) (op x : ℕ) (w : IsJoined t) (i : IsInside t op x) where
 
   pub attribute_set_inside : (n : ℕ) (attr : AttrObj) → IsInsideChange t (attribute_set t x n attr) op
   attribute_set_inside n attr = row_set_inside (record (row_of t x) { head = with_attribute (head_of t x) n attr })
+
+  pub head_replaced_inside : (head : Head) → IsInsideChange t (head_replaced t x head) op
+  head_replaced_inside head = row_set_inside (record (row_of t x) { head = Some head })
 
 -- a value defined inside op gives way
 pub replaced_inside : (t : Tree) (op old new : ℕ) → IsJoined t → IsDefinedInside t op old → IsInsideChange t (after_replacing t old new) op
@@ -173,6 +181,21 @@ module _ {A : Type 0} where
   grown_front [] ys i y e = absurd (not_none e)
   grown_front (x ∷ xs) ys zero y e = e
   grown_front (x ∷ xs) ys (suc i) y e = grown_front xs ys i y e
+
+-- a block that op holds has one more argument
+pub argument_pushed_inside : (t : Tree) (op block : ℕ) → IsJoined t → HoldsBlock t op block → IsInsideChange t (argument_pushed t block) op
+argument_pushed_inside t op block w held = change_of_kept t u op w kept (λ y o. (o.0, λ j. o.1 (inside_alike t u (λ z. refl) j))) (λ b o. (o.0, λ h. o.1 (h.0, h.1, within_alike t u (λ z. refl) h.2)))
+  where
+    u : Tree
+    u = argument_pushed t block
+
+    kept : AreKeptOutside t u op
+    kept = record {
+      operations = λ x o. same_operation t u op x refl refl refl refl;
+      blocks = λ b o. same_block t u b (get_or-set_other t.arguments block b _ [] (λ e. o.1 (subst (HoldsBlock t op) (sym e) held))) refl refl;
+      regions = λ r o. record { layout = refl; slot = refl };
+      values = λ v o. let d = maker_is t v o.0 in grown_front t.definitions _ v d.0 d.1 ∙ sym d.1;
+    }
 
 -- what has no key yet has no row
 pub past_block : (t : Tree) (b : ℕ) → IsBlock t b → b < length t.block_parents
