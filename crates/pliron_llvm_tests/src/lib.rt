@@ -26,6 +26,8 @@ mod parts;
 #[cfg(test)]
 mod readings;
 #[cfg(test)]
+mod statement_forms;
+#[cfg(test)]
 mod statements;
 #[cfg(test)]
 mod tokens;
