@@ -41,7 +41,7 @@ alike_where act G G' s s' first first' g r = record {
 }
 
 -- a branch without regions has one shape in all trees
-shape_closed : (m : Meaning) (x x' : Tree) (o : Operation) → o.regions ≡ [] → IsTrue (m.is_branch o.head) → shape_of m x o ≡ shape_of m x' o
+pub shape_closed : (m : Meaning) (x x' : Tree) (o : Operation) → o.regions ≡ [] → IsTrue (m.is_branch o.head) → shape_of m x o ≡ shape_of m x' o
 unfolding shape_of
 shape_closed m x x' o none b =
     ap₂ (λ rs z. record { head = o.head; operands = length o.operands; results = length o.results; successors = length o.successors; entry_arguments = map (λ r. count_arguments (entry_block x r)) rs; target_arguments = z }) none (aimless (m.is_branch o.head) _ b ∙ sym (aimless (m.is_branch o.head) _ b))

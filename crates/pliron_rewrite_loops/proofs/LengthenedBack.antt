@@ -5,7 +5,6 @@ use Rattle.std.proofs.lemmas.List.{get_or-set_same, set-set, set-get_or}
 use Rattle.std.proofs.lemmas.List.Edits.{length-insert}
 use Rattle.pliron_core.specs.declared.uses.Use.{Use}
 use Rattle.pliron_core.specs.Tree.{Tree, no_entry, row_of, head_of, operands_of, successors_of, results_of, regions_of}
-use Rattle.pliron_core.specs.Invariant.{IsTree}
 use Rattle.pliron_core.specs.Writes.{operand_removed}
 use Rattle.pliron_core.proofs.HoldingLemmas.{some_is, in_slice}
 use Rattle.pliron_core.proofs.TreeLemmas.{live-within}
@@ -21,12 +20,12 @@ use Rattle.pliron_dialect_edges.specs.Lengthened.{one_more, IsLengthened}
 use Rattle.pliron_rewrite_loops.specs.Lengthening.{lengthened_at, EdgeLengthened, EdgesLengthened, LengtheningLaw}
 
 -- what was inserted is there, and goes again
-insert_there : {A : Type 0} (xs : List A) (i : ℕ) (y : A) → i ≤ length xs → slice_get (insert xs i y) i ≡ Some y
+pub insert_there : {A : Type 0} (xs : List A) (i : ℕ) (y : A) → i ≤ length xs → slice_get (insert xs i y) i ≡ Some y
 insert_there xs zero y h = refl
 insert_there [] (suc i) y h = absurd (omega (arith, h))
 insert_there (x ∷ xs) (suc i) y h = insert_there xs i y (omega (arith, h))
 
-remove_insert : {A : Type 0} (xs : List A) (i : ℕ) (y : A) → i ≤ length xs → remove (insert xs i y) i ≡ xs
+pub remove_insert : {A : Type 0} (xs : List A) (i : ℕ) (y : A) → i ≤ length xs → remove (insert xs i y) i ≡ xs
 remove_insert xs zero y h = refl
 remove_insert [] (suc i) y h = absurd (omega (arith, h))
 remove_insert (x ∷ xs) (suc i) y h = ap (λ l. x ∷ l) (remove_insert xs i y (omega (arith, h)))
@@ -35,13 +34,13 @@ module _ (t : Tree) (op p y : ℕ) (h : Head) (lt : op < length t.operations) (l
   abbrev u : Tree
   u = lengthened_at t op p y h
 
-  row_at : row_of u op ≡ record (row_of t op) { head = Some h }
+  pub row_at : row_of u op ≡ record (row_of t op) { head = Some h }
   row_at = get_or-set_same t.operations op _ no_entry lt
 
-  operands_at : operands_of u op ≡ insert (operands_of t op) p y
+  pub operands_at : operands_of u op ≡ insert (operands_of t op) p y
   operands_at = get_or-set_same t.operands op _ [] lt'
 
-  stands : op_at u op ≡ Some (operation_of u op h)
+  pub stands : op_at u op ≡ Some (operation_of u op h)
   stands = make_op u op h (ap (λ z. z.head) row_at)
 
   -- the tree before
@@ -62,7 +61,7 @@ module _ (t : Tree) (op p y : ℕ) (h : Head) (lt : op < length t.operations) (l
           ∙ ap (slice_set t.operands op) (remove_insert (operands_of t op) p y le)
           ∙ set-get_or t.operands op []
 
-  shape_longer : (m : Meaning) (o : Operation) → op_at t op ≡ Some o → IsTrue (m.is_branch o.head) → IsTrue (m.is_branch h) → shape_of m u (operation_of u op h) ≡ one_more (shape_of m t o) h
+  pub shape_longer : (m : Meaning) (o : Operation) → op_at t op ≡ Some o → IsTrue (m.is_branch o.head) → IsTrue (m.is_branch h) → shape_of m u (operation_of u op h) ≡ one_more (shape_of m t o) h
   unfolding shape_of block_at region_at
   shape_longer m o e b b' =
       let s = op_shows t op o e in
@@ -80,14 +79,14 @@ module _ (t : Tree) (op p y : ℕ) (h : Head) (lt : op < length t.operations) (l
 
 module _ (m : Meaning) (can_fold : Head → Bool) (SameTests : Head → Head → Type 0) (shortened : Shape → ℕ → ℕ → Head) (law : ForwardsOperands m can_fold SameTests shortened) where
   -- the place is among the operands, or behind them
-  place_fits : (t : Tree) (edge place : ℕ) (head : Head) (o : Operation) → IsLengthened m shortened (shape_of m t o) edge place head → place < length o.operands + 1
+  pub place_fits : (t : Tree) (edge place : ℕ) (head : Head) (o : Operation) → IsLengthened m shortened (shape_of m t o) edge place head → place < length o.operands + 1
   place_fits t edge place head o longer =
       let s = one_more (shape_of m t o) head in
       let below : place < (shape_of m t o).operands + 1 = law.places s longer.admitted longer.branch edge place (in_slice (m.forwarded s edge) (length (m.forwarded (shape_of m t o) edge)) place longer.last) in
       subst (λ n. place < n + 1) (shape_operands m t o) below
 
-  lengthened_loses : (t : Tree) (op edge place y : ℕ) (head : Head) (o : Operation) → IsTree t → op_at t op ≡ Some o → IsTrue (m.is_branch o.head) → IsLengthened m shortened (shape_of m t o) edge place head → EdgeLoses m shortened (length (m.forwarded (shape_of m t o) edge)) (record { user = op; place = edge }) (lengthened_at t op place y head) t
-  lengthened_loses t op edge place y head o w e branch longer = Loses y has loses
+  lengthened_loses : (t : Tree) (op edge place y : ℕ) (head : Head) (o : Operation) → length t.operands ≡ length t.operations → op_at t op ≡ Some o → IsTrue (m.is_branch o.head) → IsLengthened m shortened (shape_of m t o) edge place head → HasPlace m (lengthened_at t op place y head) op edge (length (m.forwarded (shape_of m t o) edge)) × LosesForwarded m shortened (lengthened_at t op place y head) t op edge (length (m.forwarded (shape_of m t o) edge)) y
+  lengthened_loses t op edge place y head o w e branch longer = (has, loses)
     where
       before : Shape
       before = shape_of m t o
@@ -102,7 +101,7 @@ module _ (m : Meaning) (can_fold : Head → Bool) (SameTests : Head → Head →
       lt = live-within t op (subst IsSome (sym head_is) refl)
 
       lt' : op < length t.operands
-      lt' = let n = w.keys.operands in omega (arith, lt, n)
+      lt' = omega (arith, lt, w)
 
       fits : place < length o.operands + 1
       fits = place_fits t edge place head o longer
@@ -146,12 +145,18 @@ module _ (m : Meaning) (can_fold : Head → Bool) (SameTests : Head → Head →
       loses : LosesForwarded m shortened after t op edge last y
       loses z p ze q = subst (λ a. slice_get (m.forwarded (shape_of m after a) edge) last ≡ Some p → (slice_get a.operands p ≡ Some y) × (t ≡ with_head (operand_removed after op p) op (shortened (shape_of m after a) edge last))) (some_is (sym stands_now ∙ ze)) (loses_now p) q
 
-  one : (index : ℕ) (e : Use) (t u : Tree) → EdgeLengthened m shortened index e t u → EdgeLoses m shortened index e u t
-  one index e t u x = subst (λ z. EdgeLoses m shortened index e z t) (sym x.is) (subst (λ n. EdgeLoses m shortened n e (lengthened_at t e.user x.place x.value x.head) t) x.count (lengthened_loses t e.user e.place x.place x.value x.head x.operation x.whole x.stands x.branch x.longer))
+  -- it has the place, and is as it was once it loses that
+  pub loses_again : (index value : ℕ) (e : Use) (t u : Tree) → EdgeLengthened m shortened index value e t u → HasPlace m u e.user e.place index × LosesForwarded m shortened u t e.user e.place index value
+  loses_again index value e t u x =
+      subst (λ z. HasPlace m z e.user e.place index × LosesForwarded m shortened z t e.user e.place index value) (sym x.is)
+      (subst (λ n. HasPlace m (lengthened_at t e.user x.place value x.head) e.user e.place n × LosesForwarded m shortened (lengthened_at t e.user x.place value x.head) t e.user e.place n value) x.count (lengthened_loses t e.user e.place x.place value x.head x.operation x.rows x.stands x.branch x.longer))
 
-  all : (index : ℕ) (edges : List Use) (t u : Tree) → EdgesLengthened m shortened index edges t u → EdgesLose m shortened index edges u t
-  all index [] t u e = sym e
-  all index (e ∷ es) t u x = (x.0, one index e x.0 u x.2, all index es t x.0 x.1)
+  one : (index value : ℕ) (e : Use) (t u : Tree) → EdgeLengthened m shortened index value e t u → EdgeLoses m shortened index e u t
+  one index value e t u x = let r = loses_again index value e t u x in Loses value r.0 r.1
+
+  all : (index value : ℕ) (edges : List Use) (t u : Tree) → EdgesLengthened m shortened index value edges t u → EdgesLose m shortened index edges u t
+  all index value [] t u e = sym e
+  all index value (e ∷ es) t u x = (x.0, one index value e x.0 u x.2, all index value es t x.0 x.1)
 
   pub lengthening : LengtheningLaw m shortened
   lengthening = record { one = one; all = all }

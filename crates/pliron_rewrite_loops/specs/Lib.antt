@@ -1,3 +1,4 @@
 pub mod OneMore
 pub mod Lengthening
 pub mod Pushing
+pub mod Added

@@ -1,8 +1,8 @@
 //! The theory of loops: arguments that are added to blocks, and the uses that they take over, as where a loop's header is
 //! copied and what it defines is used behind it.
 //!
-//! As in the theory of runs, a call here does nothing when it runs: its contract is a law, for every dialect that keeps
-//! the laws which it names.
+//! As in the theory of runs, a call of this file does nothing when it runs: its contract is a law, for every dialect that
+//! keeps the laws which it names.
 //!
 //! It knows the theories of runs, of copies and of arguments that are one value, and what a dialect says of a branch that
 //! forwards one value more. It knows no graph and no optimisation.
@@ -15,6 +15,9 @@ ghost use Rattle.pliron_rewrite_loops.specs.OneMore.{ForwardedLaw};
 ghost use Rattle.pliron_rewrite_loops.specs.Lengthening.{LengtheningLaw};
 ghost use Rattle.pliron_rewrite_loops.specs.Pushing.{PushingLaw};
 
+mod adding;
+
+pub use adding::add_argument;
 use pliron_laws::Dialect;
 use pliron_rewrite_arguments::one_value_replaces_argument;
 
