@@ -8,6 +8,8 @@ mod bodies;
 #[cfg(test)]
 mod broken;
 #[cfg(test)]
+mod classes;
+#[cfg(test)]
 mod edges;
 #[cfg(test)]
 mod forms;
