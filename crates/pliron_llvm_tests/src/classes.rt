@@ -63,8 +63,8 @@ a phi of arrays -- phi [2 x i32] [ _, ^ ] => 0
 an answer -- ret i1 _ => 1
 a cast -- zext i8 _ to i32 => 8";
 
-// The bytes of the form.
-fn form_of(rt: &impl Abort, alloc: Global, text: &str) -> Vec<u8> {
+/// The bytes of the form.
+pub fn form_of(rt: &impl Abort, alloc: Global, text: &str) -> Vec<u8> {
     let mut form = Vec::new(alloc);
     for byte in text.as_bytes() {
         let mark = match *byte {
@@ -77,7 +77,8 @@ fn form_of(rt: &impl Abort, alloc: Global, text: &str) -> Vec<u8> {
     form
 }
 
-fn counts_of(form: &[u8], is_end: bool) -> FormCounts {
+/// How many operands and successors the form has.
+pub fn counts_of(form: &[u8], is_end: bool) -> FormCounts {
     FormCounts {
         operands: form.iter().filter(|byte| **byte == 0).count(),
         successors: form.iter().filter(|byte| **byte == 1).count(),

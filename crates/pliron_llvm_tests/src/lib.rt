@@ -16,6 +16,8 @@ mod forms;
 #[cfg(test)]
 mod functions;
 #[cfg(test)]
+mod heads;
+#[cfg(test)]
 mod hostile;
 #[cfg(test)]
 mod lines;
