@@ -8,11 +8,15 @@ mod bodies;
 #[cfg(test)]
 mod broken;
 #[cfg(test)]
+mod classes;
+#[cfg(test)]
 mod edges;
 #[cfg(test)]
 mod forms;
 #[cfg(test)]
 mod functions;
+#[cfg(test)]
+mod heads;
 #[cfg(test)]
 mod hostile;
 #[cfg(test)]

@@ -49,8 +49,10 @@ fn push_statement(
     line: &BodyStatement,
     out: &mut String,
 ) {
-    assert!(rt; line.first_hole <= line.end_hole && line.end_hole <= holes.len());
-    assert!(rt; line.statement.opcode.start <= line.span.end && line.span.end <= text.len());
+    assert!(rt; line.first_hole <= line.end_hole);
+    assert!(rt; line.end_hole <= holes.len());
+    assert!(rt; line.statement.opcode.start <= line.span.end);
+    assert!(rt; line.span.end <= text.len());
     let own = holes_of_statement(holes, line);
     let form = form_of_statement(alloc, text, line, own)
         .expect(rt, "memory")

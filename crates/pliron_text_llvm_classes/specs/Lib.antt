@@ -1,0 +1,3 @@
+pub mod FormWords
+pub mod Opcodes
+pub mod StatementClasses
