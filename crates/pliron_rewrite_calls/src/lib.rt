@@ -12,10 +12,12 @@ mod copyable;
 mod copying;
 mod erasing;
 mod inlining;
+mod preparing;
 mod splitting;
 
 pub use copies::Copies;
 pub use copyable::may_copy_blocks;
 pub use copying::copy_blocks;
 pub use inlining::inline_call;
+pub use preparing::prepare_call;
 pub use splitting::split_block_behind;
