@@ -64,7 +64,7 @@ shape_by m t u j k oj ok e f head operands results successors targets none none'
 
 -- ---- jumps
 
-shape_parts : (m : Meaning) (u : Tree) (o : Operation) → ((shape_of m u o).head ≡ o.head) × ((shape_of m u o).operands ≡ length o.operands) × ((shape_of m u o).results ≡ length o.results) × ((shape_of m u o).successors ≡ length o.successors)
+pub shape_parts : (m : Meaning) (u : Tree) (o : Operation) → ((shape_of m u o).head ≡ o.head) × ((shape_of m u o).operands ≡ length o.operands) × ((shape_of m u o).results ≡ length o.results) × ((shape_of m u o).successors ≡ length o.successors)
 unfolding shape_of
 shape_parts m u o = (refl, refl, refl, refl)
 
