@@ -1,9 +1,9 @@
 //! A call that is prepared for inlining.
-ghost use Rattle.std.specs.Prelude.{◌≡◌, ◌∷◌, [], Some, ℕ, IsSome, IfOk, OnOk, OnErr, IsOkUnless, length, slice_get};
+ghost use Rattle.std.specs.Prelude.{◌≡◌, ◌∷◌, ◌≤◌, [], Some, ℕ, IsSome, IfOk, OnOk, OnErr, IsOkUnless, length, slice_get};
 ghost use Rattle.pliron_core.specs.declared.attrs.Head.{Head as HeadOf};
 ghost use Rattle.pliron_core.specs.Changes.{IsSameTree};
 ghost use Rattle.pliron_core.specs.Reads.{next_of};
-ghost use Rattle.pliron_core.specs.Tree.{In, IsLive, IsBlock, IsDefined, operands_of, successors_of, results_of, regions_of, arguments_of};
+ghost use Rattle.pliron_core.specs.Tree.{Tree, In, IsLive, IsBlock, IsDefined, operands_of, successors_of, results_of, regions_of, arguments_of};
 ghost use Rattle.pliron_core.specs.Writes.{after_replacing};
 ghost use Rattle.pliron_theory.specs.Keeps.{KeepsAllRuns};
 ghost use Rattle.pliron_rewrite_blocks.specs.Pairs.{forwarded_uses};
@@ -129,6 +129,8 @@ fn split_and_lead<D: InliningDialect, R: Rewriter + Room>(
     ctx: &mut Context,
     rewriter: &mut R,
 ) -> Result<(), OptError>
+    ghost t: { Tree }
+    requires tree { t ≡ ctx.old.tree }
     requires live { IsLive ctx.old.tree call }
     requires behind { IsSome (next_of ctx.old.tree call) }
     ensures led { OnOk result (IsLedOn D.meaning ctx.old.tree ctx.new.tree call) }
