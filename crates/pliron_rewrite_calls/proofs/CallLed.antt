@@ -1,20 +1,19 @@
 -- A call whose block was split behind it: the tree before is that after, read backwards.
-use Rattle.std.proofs.Common.{◌≡◌, ◌≢◌, ◌⊎◌, inl, inr, ⊎_elim, ℕ, zero, suc, ◌+◌, ◌<◌, ◌≤◌, List, [], ◌∷◌, ◌++◌, length, map, Option, Some, None, is_some, slice_get, refl, sym, ap, ◌∙◌, subst, append_assoc, append-nil, arith}
+use Rattle.std.proofs.Common.{◌≡◌, ◌≢◌, ◌⊎◌, inl, inr, ⊎_elim, ℕ, zero, suc, ◌+◌, ◌<◌, ◌≤◌, List, [], ◌∷◌, ◌++◌, length, map, Some, None, IsSome, is_some, refl, sym, ap, ◌∙◌, subst, append_assoc, append-nil, arith}
 use Rattle.std.specs.List.{range_with_len}
 use Rattle.std.proofs.lemmas.Bool.{cases_eq}
 use Rattle.std.proofs.lemmas.List.{length-append, get_or_past}
 use Rattle.std.proofs.lemmas.List.FromFn.{length-range_with_len}
 use Rattle.std.proofs.lemmas.Option.{slice_get_within}
-use Rattle.pliron_core.specs.declared.context.Def.TheVariants.{Result, Argument}
-use Rattle.pliron_core.specs.Changes.{IsDefiningOperationInside}
+use Rattle.pliron_core.specs.declared.context.Def.TheVariants.{Result}
 use Rattle.pliron_core.specs.Invariant.{IsTree}
 use Rattle.pliron_core.specs.Lists.{IsDistinct, next_in, without}
 use Rattle.pliron_core.specs.Reads.{next_of}
-use Rattle.pliron_core.specs.Tree.{Tree, In, IsLive, IsDefined, first_of, last_of, up_from, no_entry, row_of, head_of, operands_of, successors_of, results_of, regions_of, parent_of, body_of, arguments_of, block_parent_of, layout_of, definition_of}
+use Rattle.pliron_core.specs.Tree.{Tree, In, IsLive, IsDefined, first_of, last_of, up_from, no_entry, row_of, operands_of, successors_of, results_of, regions_of, parent_of, body_of, arguments_of, block_parent_of, layout_of}
 use Rattle.pliron_core.proofs.EditLemmas.{without-out}
 use Rattle.pliron_core.proofs.GrownLemmas.{in_range}
-use Rattle.pliron_core.proofs.HoldingLemmas.{some_is, not_none, slice_in, maker_is}
-use Rattle.pliron_core.proofs.ListLemmas.{In-left, In-right, distinct-apart, distinct-back, next_in-split, without-split}
+use Rattle.pliron_core.proofs.HoldingLemmas.{slice_in, maker_is}
+use Rattle.pliron_core.proofs.ListLemmas.{In-right, distinct-apart, distinct-back, next_in-split, without-split}
 use Rattle.pliron_core.proofs.NeighbourLemmas.{first_of-In}
 use Rattle.pliron_core.proofs.RowLemmas.{last_of-append}
 use Rattle.pliron_core.proofs.TreeLemmas.{live-within, block-within}
@@ -25,6 +24,7 @@ use Rattle.pliron_rewrite_blocks.specs.Pairs.{forwarded_uses}
 use Rattle.pliron_rewrite_copies.proofs.Maps.{from_map}
 use Rattle.pliron_rewrite_calls.specs.InliningSteps.{IsJumpRow}
 use Rattle.pliron_rewrite_calls.specs.Preparing.{IsCallPrepared, IsLedOn, renamed}
+use Rattle.pliron_rewrite_calls.proofs.Growing.{no_some}
 use Rattle.pliron_rewrite_calls.proofs.HandedOver.{AreTwins, renamed_out, all_kept, all_back, all_renamed, all_shape, all_tree}
 use Rattle.pliron_rewrite_calls.proofs.InlinedCopies.{jump_goes}
 
@@ -77,6 +77,10 @@ module _ (m : Meaning) (t u : Tree) (call : ℕ) (w : IsTree t) (wu : IsTree u) 
 
   pub call_there : parent_of u call ≡ Some h.block
   call_there = h.parents call call_apart out_behind ∙ h.holds
+
+  -- something stands behind it
+  pub some_behind : IsSome (next_of t call) → h.behind ≡ [] → ⊥
+  some_behind is e = no_some (next_of t call) (ap (λ p. up_from p (λ b. next_in call (body_of t b))) h.holds ∙ ap (next_in call) h.before ∙ next_in-split call h.front h.behind out_front ∙ ap (λ xs. first_of xs None) e) is
 
   result_old : (v : ℕ) → In v rs → v < length t.definitions
   result_old v i = let s = slice_in rs v i in slice_get_within t.definitions v (Result call s.0) (w.joined.results call s.0 v s.1)

@@ -1,11 +1,11 @@
 -- Runs are kept where a call is prepared.
-use Rattle.std.proofs.Common.{◌≡◌, ◌≢◌, ◌⊎◌, inl, inr, ⊎_elim, ℕ, zero, suc, ◌+◌, Bool, false, List, [], ◌∷◌, ◌++◌, length, map, Option, Some, None, IsTrue, slice_get, refl, sym, ap, ap₂, ◌∙◌, subst, append_assoc, arith}
+use Rattle.std.proofs.Common.{◌≡◌, ◌≢◌, inl, inr, ⊎_elim, ℕ, zero, suc, ◌+◌, Bool, false, List, [], ◌∷◌, ◌++◌, length, map, Option, Some, None, Result, Ok, Err, OnOk, OnErr, IsTrue, slice_get, refl, sym, ap, ap₂, ◌∙◌, subst, append_assoc, arith}
 use Rattle.std.specs.Prelude.{pos}
 use Rattle.std.specs.Option.{option_map}
 use Rattle.std.proofs.lemmas.List.{length-map, length-append}
 use Rattle.std.proofs.lemmas.Option.{slice_get-map, slice_get_within}
 use Rattle.pliron_core.specs.declared.attrs.Head.{Head}
-use Rattle.pliron_core.specs.declared.context.Def.TheVariants.{Result, Argument}
+use Rattle.pliron_core.specs.declared.context.Def.TheVariants.{Result as ResultOf, Argument}
 use Rattle.pliron_core.specs.Changes.{IsDefiningOperationInside}
 use Rattle.pliron_core.specs.Edges.{succs_of, succs_from}
 use Rattle.pliron_core.specs.Invariant.{IsTree}
@@ -43,6 +43,10 @@ use Rattle.pliron_rewrite_calls.proofs.CallLed.{mid, call_apart, call_row, call_
 use Rattle.pliron_rewrite_calls.proofs.Growing.{holds_nothing}
 use Rattle.pliron_rewrite_calls.proofs.HandedOver.{kept, renamed_in, replaced_not, map_as, tree_replaced}
 use Rattle.pliron_rewrite_calls.proofs.InlinedCopies.{jump_goes, jump_fits, shape_parts}
+
+pub by_outcome : {T E A B P : Type 0} (r : Result T E) → OnOk r A → OnErr r B → (A → P) → (B → P) → P
+by_outcome (Ok x) a b f g = f a
+by_outcome (Err e) a b f g = g b
 
 -- ---- a jump forwards all its operands
 
@@ -179,10 +183,10 @@ behind_call front done rest call last around out e i = ⊎_elim early late (spli
         go [] q = cc
         go (y ∷ d) q = absurd (let a = ap length q in let b = length-append d (around ∷ rest) in omega (arith, a, b))
 
-same_result : (k i c l : ℕ) → Some (Result k i) ≡ Some (Result c l) → k ≡ c
+same_result : (k i c l : ℕ) → Some (ResultOf k i) ≡ Some (ResultOf c l) → k ≡ c
 same_result k i c l e = cc
 
-not_argument : (k i b l : ℕ) → Some (Result k i) ≡ Some (Argument b l) → ⊥
+not_argument : (k i b l : ℕ) → Some (ResultOf k i) ≡ Some (Argument b l) → ⊥
 not_argument k i b l e = cc
 
 module _ (m : Meaning) (t u : Tree) (call : ℕ) (w : IsTree t) (wu : IsTree u) (h : IsLedOn m t u call) where
@@ -225,7 +229,7 @@ module _ (m : Meaning) (t u : Tree) (call : ℕ) (w : IsTree t) (wu : IsTree u) 
   results_mid = ap (λ y. y.results) ((back m t u call w wu h).rows call ∙ call_row m t u call w wu h)
 
   -- a result of the call
-  result_made : (v : ℕ) → In v (results_of t call) → (i : ℕ) × (definition_of (mid m t u call w wu h) v ≡ Some (Result call i))
+  result_made : (v : ℕ) → In v (results_of t call) → (i : ℕ) × (definition_of (mid m t u call w wu h) v ≡ Some (ResultOf call i))
   result_made v i = let s = slice_in (results_of t call) v i in (s.0, (mid_tree m t u call w wu h).joined.results call s.0 v (ap (λ l. slice_get l s.0) results_mid ∙ s.1))
 
   out_front : In call h.front → ⊥
@@ -258,7 +262,7 @@ module _ (m : Meaning) (t u : Tree) (call : ℕ) (w : IsTree t) (wu : IsTree u) 
           };
         }
       where
-        home : (i : ℕ) → definition_of (mid m t u call w wu h) v ≡ Some (Result call i) → up_from (defining_block (mid m t u call w wu h) (definition_of (mid m t u call w wu h) v)) (λ d. block_parent_of (mid m t u call w wu h) d) ≡ Some h.region
+        home : (i : ℕ) → definition_of (mid m t u call w wu h) v ≡ Some (ResultOf call i) → up_from (defining_block (mid m t u call w wu h) (definition_of (mid m t u call w wu h) v)) (λ d. block_parent_of (mid m t u call w wu h) d) ≡ Some h.region
         home i e = ap (λ d. up_from (defining_block (mid m t u call w wu h) d) (λ d. block_parent_of (mid m t u call w wu h) d)) e ∙ ap (λ o. up_from o (λ d. block_parent_of (mid m t u call w wu h) d)) call_mid ∙ (back m t u call w wu h).block_parents a ∙ h.block_parents a (block_apart m t u call w wu h) ∙ h.in_region
 
         call_done : (done rest : List ℕ) → (h.front ++ call ∷ []) ++ length t.operations ∷ [] ≡ done ++ length t.operations ∷ rest → In call done
@@ -295,7 +299,7 @@ module _ (m : Meaning) (t u : Tree) (call : ℕ) (w : IsTree t) (wu : IsTree u) 
     is_result : In (renamed (arguments_of u (length t.bodies)) (results_of t call) x) (results_of t call)
     is_result = renamed_in (arguments_of u (length t.bodies)) (results_of t call) x (sym (as_many m t u call w wu h)) new
 
-    made_old : (i : ℕ) × (definition_of (mid m t u call w wu h) (renamed (arguments_of u (length t.bodies)) (results_of t call) x) ≡ Some (Result call i))
+    made_old : (i : ℕ) × (definition_of (mid m t u call w wu h) (renamed (arguments_of u (length t.bodies)) (results_of t call) x) ≡ Some (ResultOf call i))
     made_old = result_made (renamed (arguments_of u (length t.bodies)) (results_of t call) x) is_result
 
     uses_old : In (renamed (arguments_of u (length t.bodies)) (results_of t call) x) (operands_of (mid m t u call w wu h) k)
@@ -322,10 +326,10 @@ module _ (m : Meaning) (t u : Tree) (call : ℕ) (w : IsTree t) (wu : IsTree u) 
 
       region_is : h.region ≡ before_it.region
       region_is = some_is (
-      sym ((back m t u call w wu h).block_parents a ∙ h.block_parents a (block_apart m t u call w wu h) ∙ h.in_region)
-      ∙ sym (ap (λ o. up_from o (λ d. block_parent_of (mid m t u call w wu h) d)) call_mid)
-      ∙ sym (ap (λ d. up_from (defining_block (mid m t u call w wu h) d) (λ d. block_parent_of (mid m t u call w wu h) d)) made_old.1)
-      ∙ before_it.defined)
+          sym ((back m t u call w wu h).block_parents a ∙ h.block_parents a (block_apart m t u call w wu h) ∙ h.in_region)
+          ∙ sym (ap (λ o. up_from o (λ d. block_parent_of (mid m t u call w wu h) d)) call_mid)
+          ∙ sym (ap (λ d. up_from (defining_block (mid m t u call w wu h) d) (λ d. block_parent_of (mid m t u call w wu h) d)) made_old.1)
+          ∙ before_it.defined)
 
       not_behind : (done rest : List ℕ) → body_of u before_it.block ≡ done ++ before_it.around ∷ rest → In call done → ⊥
       not_behind done rest be i =

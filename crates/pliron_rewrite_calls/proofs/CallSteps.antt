@@ -170,8 +170,8 @@ module _ (t made : Tree) (w : IsTree t) (call block region new count : ℕ) (at 
 
           g' : IsJumpMade (forwarded_uses (block_created t region (length (results_of t call))) (results_of t call) (arguments_of (block_created t region (length (results_of t call))) (length t.bodies))) v (length t.operations) head (results_of t call) (length t.bodies ∷ [])
           g' = subst (λ k. IsJumpMade (forwarded_uses (block_created t region (length (results_of t call))) (results_of t call) (arguments_of (block_created t region (length (results_of t call))) (length t.bodies))) v k head (results_of t call) (length t.bodies ∷ [])) jump_is
-          (subst (λ b. IsJumpMade (forwarded_uses (block_created t region (length (results_of t call))) (results_of t call) (arguments_of (block_created t region (length (results_of t call))) b)) v jump head (results_of t call) (b ∷ [])) key
-          (subst (λ (y : Tree). IsJumpMade (forwarded_uses y (results_of y call) (arguments_of y new)) v jump head (results_of y call) (new ∷ [])) here g))
+              (subst (λ b. IsJumpMade (forwarded_uses (block_created t region (length (results_of t call))) (results_of t call) (arguments_of (block_created t region (length (results_of t call))) b)) v jump head (results_of t call) (b ∷ [])) key
+              (subst (λ (y : Tree). IsJumpMade (forwarded_uses y (results_of y call) (arguments_of y new)) v jump head (results_of y call) (new ∷ [])) here g))
 
           h' : AreMoving v q call block (length t.bodies) []
           h' = subst (λ b. AreMoving v q call block b []) key h
