@@ -110,8 +110,8 @@ module _ (m : Meaning) (t u : Tree) (call : ℕ) (w : IsTree t) (wu : IsTree u) 
   used_there k v i x = ⊎_elim
       (λ e. e)
       (λ ne.
-          let s = from_map (renamed rs ss) (operands_of t k) v (subst (In v) (h.operands k ne) x) in
-          absurd (renamed_out rs ss s.0 twins (subst (λ y. In y rs) (sym s.2) (subst (In v) (ap (λ y. y.results) call_row) i))))
+      let s = from_map (renamed rs ss) (operands_of t k) v (subst (In v) (h.operands k ne) x) in
+      absurd (renamed_out rs ss s.0 twins (subst (λ y. In y rs) (sym s.2) (subst (In v) (ap (λ y. y.results) call_row) i))))
       (cases_eq k j)
 
   pub prepared : IsCallPrepared m u call

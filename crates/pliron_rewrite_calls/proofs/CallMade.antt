@@ -158,10 +158,10 @@ handed_back t s x y xs ys twins unused e b f = record {
   definitions = ap (λ (a : Tree). a.definitions) (f ∙ all_shape x ys xs) ∙ b.definitions ∙ ap (λ (a : Tree). a.definitions) (e ∙ all_shape t xs ys);
   block_count = ap (λ (a : Tree). length a.bodies) (f ∙ all_shape x ys xs) ∙ b.block_count ∙ ap (λ (a : Tree). length a.bodies) (e ∙ all_shape t xs ys);
   longer =
-    let a : length y.operations ≡ length x.operations = ap (λ (a : Tree). length a.operations) (f ∙ all_shape x ys xs) in
-    let c : length s.operations ≡ length t.operations = ap (λ (a : Tree). length a.operations) (e ∙ all_shape t xs ys) in
-    let d = b.longer in
-    omega (arith, a, c, d);
+      let a : length y.operations ≡ length x.operations = ap (λ (a : Tree). length a.operations) (f ∙ all_shape x ys xs) in
+      let c : length s.operations ≡ length t.operations = ap (λ (a : Tree). length a.operations) (e ∙ all_shape t xs ys) in
+      let d = b.longer in
+      omega (arith, a, c, d);
 }
   where
     here : IsRenamed t (forwarded_uses t xs ys) (renamed xs ys)

@@ -167,12 +167,12 @@ behind_call front done rest call last around out e i = ⊎_elim early late (spli
     early : (r : List ℕ) × (front ++ call ∷ [] ≡ done ++ around ∷ r) → around ≡ last
     early s = ⊎_elim
         (λ p.
-            let a = ap length s.1 in
-            let b = length-append front (call ∷ []) in
-            let c = length-append done (around ∷ s.0) in
-            let d = ap length p.1 in
-            let f = length-append front (call ∷ p.0) in
-            absurd (omega (arith, a, b, c, d, f)))
+        let a = ap length s.1 in
+        let b = length-append front (call ∷ []) in
+        let c = length-append done (around ∷ s.0) in
+        let d = ap length p.1 in
+        let f = length-append front (call ∷ p.0) in
+        absurd (omega (arith, a, b, c, d, f)))
         (λ p. absurd (out (subst (In call) (sym p.1) (In-left call done p.0 i))))
         (split_append call [] done (around ∷ s.0) front (sym s.1))
 
@@ -214,10 +214,13 @@ module _ (m : Meaning) (t u : Tree) (call : ℕ) (w : IsTree t) (wu : IsTree u) 
 
   path_forth : (entry b : ℕ) (before : List ℕ) → Path u entry b before → Path (mid m t u call w wu h) entry b before
   path_forth entry b [] p = p
-  path_forth entry b (c ∷ before) p = (record {
-    successor = subst (In b) (sym (succs_same c)) p.0.successor;
-    same_region = (back m t u call w wu h).block_parents b ∙ p.0.same_region ∙ sym ((back m t u call w wu h).block_parents c);
-  }, path_forth entry c before p.1)
+  path_forth entry b (c ∷ before) p = (
+    record {
+      successor = subst (In b) (sym (succs_same c)) p.0.successor;
+      same_region = (back m t u call w wu h).block_parents b ∙ p.0.same_region ∙ sym ((back m t u call w wu h).block_parents c);
+    },
+    path_forth entry c before p.1,
+  )
 
   call_mid : parent_of (mid m t u call w wu h) call ≡ Some a
   call_mid = (back m t u call w wu h).parents call ∙ call_there m t u call w wu h

@@ -63,11 +63,11 @@ renamed_cases [] ys v = inl refl
 renamed_cases (x ∷ xs) [] v = inl refl
 renamed_cases (x ∷ xs) (y ∷ ys) v = ⊎_elim
     (λ e.
-        let s : replace_target x y v ≡ y = replaced_is x y v e in
-        ⊎_elim (λ k. inr (inl (ap (renamed xs ys) s ∙ k))) (λ i. inr (inr (subst (λ z. In (renamed xs ys z) ys) (sym s) i))) (renamed_cases xs ys y))
+    let s : replace_target x y v ≡ y = replaced_is x y v e in
+    ⊎_elim (λ k. inr (inl (ap (renamed xs ys) s ∙ k))) (λ i. inr (inr (subst (λ z. In (renamed xs ys z) ys) (sym s) i))) (renamed_cases xs ys y))
     (λ ne.
-        let s : replace_target x y v ≡ v = replaced_not x y v ne in
-        ⊎_elim (λ k. inl (ap (renamed xs ys) s ∙ k)) (λ i. inr (inr (subst (λ z. In (renamed xs ys z) ys) (sym s) i))) (renamed_cases xs ys v))
+    let s : replace_target x y v ≡ v = replaced_not x y v ne in
+    ⊎_elim (λ k. inl (ap (renamed xs ys) s ∙ k)) (λ i. inr (inr (subst (λ z. In (renamed xs ys z) ys) (sym s) i))) (renamed_cases xs ys v))
     (cases_eq v x)
 
 pub renamed_in : (xs ys : List ℕ) (v : ℕ) → length xs ≡ length ys → In v xs → In (renamed xs ys v) ys
@@ -75,11 +75,11 @@ renamed_in [] ys v e i = absurd i
 renamed_in (x ∷ xs) [] v e i = absurd (omega (arith, e))
 renamed_in (x ∷ xs) (y ∷ ys) v e i = ⊎_elim
     (λ q.
-        let s : replace_target x y v ≡ y = replaced_is x y v q in
-        ⊎_elim (λ k. inl (ap (renamed xs ys) s ∙ k)) (λ j. inr (subst (λ z. In (renamed xs ys z) ys) (sym s) j)) (renamed_cases xs ys y))
+    let s : replace_target x y v ≡ y = replaced_is x y v q in
+    ⊎_elim (λ k. inl (ap (renamed xs ys) s ∙ k)) (λ j. inr (subst (λ z. In (renamed xs ys z) ys) (sym s) j)) (renamed_cases xs ys y))
     (λ ne.
-        let s : replace_target x y v ≡ v = replaced_not x y v ne in
-        inr (subst (λ z. In (renamed xs ys z) ys) (sym s) (renamed_in xs ys v (omega (arith, e)) (⊎_elim (λ q. absurd (ne q)) (λ j. j) i))))
+    let s : replace_target x y v ≡ v = replaced_not x y v ne in
+    inr (subst (λ z. In (renamed xs ys z) ys) (sym s) (renamed_in xs ys v (omega (arith, e)) (⊎_elim (λ q. absurd (ne q)) (λ j. j) i))))
     (cases_eq v x)
 
 -- two lists as long as one another, which have no value in common, and the second one has none twice
@@ -105,12 +105,12 @@ renamed_back [] (y ∷ ys) v h out = absurd (let e = h.long in omega (arith, e))
 renamed_back (x ∷ xs) [] v h out = absurd (let e = h.long in omega (arith, e))
 renamed_back (x ∷ xs) (y ∷ ys) v h out = ⊎_elim
     (λ s.
-        let a : renamed (x ∷ xs) (y ∷ ys) v ≡ y = ap (renamed xs ys) (replaced_is x y v s) ∙ kept xs ys y (λ i. h.apart y (inr i) (inl refl)) in
-        ap (λ z. renamed ys xs (replace_target y x z)) a ∙ ap (renamed ys xs) (replaced_is y x y refl) ∙ kept ys xs x (λ i. h.apart x (inl refl) (inr i)) ∙ sym s)
+    let a : renamed (x ∷ xs) (y ∷ ys) v ≡ y = ap (renamed xs ys) (replaced_is x y v s) ∙ kept xs ys y (λ i. h.apart y (inr i) (inl refl)) in
+    ap (λ z. renamed ys xs (replace_target y x z)) a ∙ ap (renamed ys xs) (replaced_is y x y refl) ∙ kept ys xs x (λ i. h.apart x (inl refl) (inr i)) ∙ sym s)
     (λ ne.
-        let a : renamed (x ∷ xs) (y ∷ ys) v ≡ renamed xs ys v = ap (renamed xs ys) (replaced_not x y v ne) in
-        let b : renamed xs ys v ≢ y = λ q. ⊎_elim (λ k. out (inl (sym k ∙ q))) (λ i. h.distinct.0 (subst (λ z. In z ys) q i)) (renamed_cases xs ys v) in
-        ap (λ z. renamed ys xs (replace_target y x z)) a ∙ ap (renamed ys xs) (replaced_not y x (renamed xs ys v) b) ∙ renamed_back xs ys v (twins_rest x y xs ys h) (λ i. out (inr i)))
+    let a : renamed (x ∷ xs) (y ∷ ys) v ≡ renamed xs ys v = ap (renamed xs ys) (replaced_not x y v ne) in
+    let b : renamed xs ys v ≢ y = λ q. ⊎_elim (λ k. out (inl (sym k ∙ q))) (λ i. h.distinct.0 (subst (λ z. In z ys) q i)) (renamed_cases xs ys v) in
+    ap (λ z. renamed ys xs (replace_target y x z)) a ∙ ap (renamed ys xs) (replaced_not y x (renamed xs ys v) b) ∙ renamed_back xs ys v (twins_rest x y xs ys h) (λ i. out (inr i)))
     (cases_eq v x)
 
 pub map_as : (f : ℕ → ℕ) (vs : List ℕ) → ((v : ℕ) → In v vs → f v ≡ v) → map f vs ≡ vs

@@ -150,7 +150,12 @@ fn split_and_lead<D: InliningDialect, R: Rewriter + Room>(
     let head = D::jump_head(alloc, count)?;
     let moves = count_behind(call, block, ctx);
     // what moves, the uses of each result, also for the way back, the jump and the block
-    rewriter.room(alloc, moves.saturating_add(count.saturating_mul(2)).saturating_add(3))?;
+    rewriter.room(
+        alloc,
+        moves
+            .saturating_add(count.saturating_mul(2))
+            .saturating_add(3),
+    )?;
     let last = region.get_tail(ctx);
     let new = BasicBlock::create(ctx, region, count)?;
     ctx.well_formed();
