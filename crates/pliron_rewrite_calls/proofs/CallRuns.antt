@@ -92,12 +92,12 @@ module _ (m : Meaning) (law : ForwardsByPlaces m) (x : Tree) (k target : ℕ) (h
 -- ---- its arguments are the values that it forwards
 
 -- the jump k alone leads to this block, with these values for these arguments
-record IsLedTo (x : Tree) (k target : ℕ) (head : Head) (vs args : List ℕ) : Type 0 where
-  tree : IsTree x
-  row : IsJumpRow x k head vs (target ∷ [])
-  only : (l : ℕ) → In target (successors_of x l) → l ≡ k
-  no_entry : (r : ℕ) → first_of (layout_of x r) None ≢ Some target
-  arguments : arguments_of x target ≡ args
+pub record IsLedTo (x : Tree) (k target : ℕ) (head : Head) (vs args : List ℕ) : Type 0 where
+  pub tree : IsTree x
+  pub row : IsJumpRow x k head vs (target ∷ [])
+  pub only : (l : ℕ) → In target (successors_of x l) → l ≡ k
+  pub no_entry : (r : ℕ) → first_of (layout_of x r) None ≢ Some target
+  pub arguments : arguments_of x target ≡ args
 
 first_edge : (target d : ℕ) (xs : List ℕ) → xs ≡ target ∷ [] → slice_get xs d ≡ Some target → d ≡ 0
 first_edge target zero xs e f = refl
