@@ -23,7 +23,7 @@ use Rattle.pliron_theory.specs.Splicing.{IsSpliced}
 use Rattle.pliron_rewrite_blocks.specs.Pairs.{forwarded_uses}
 use Rattle.pliron_rewrite_copies.proofs.Maps.{from_map}
 use Rattle.pliron_rewrite_calls.specs.InliningSteps.{IsJumpRow}
-use Rattle.pliron_rewrite_calls.specs.Preparing.{IsCallPrepared, IsLedOn, renamed}
+use Rattle.pliron_rewrite_calls.specs.Preparing.{IsCallPrepared, IsLedOn, value_for}
 use Rattle.pliron_rewrite_calls.proofs.Growing.{no_some}
 use Rattle.pliron_rewrite_calls.proofs.HandedOver.{AreTwins, renamed_out, all_kept, all_back, all_renamed, all_shape, all_tree}
 use Rattle.pliron_rewrite_calls.proofs.InlinedCopies.{jump_goes}
@@ -110,7 +110,7 @@ module _ (m : Meaning) (t u : Tree) (call : ℕ) (w : IsTree t) (wu : IsTree u) 
   used_there k v i x = ⊎_elim
       (λ e. e)
       (λ ne.
-      let s = from_map (renamed rs ss) (operands_of t k) v (subst (In v) (h.operands k ne) x) in
+      let s = from_map (value_for rs ss) (operands_of t k) v (subst (In v) (h.operands k ne) x) in
       absurd (renamed_out rs ss s.0 twins (subst (λ y. In y rs) (sym s.2) (subst (In v) (ap (λ y. y.results) call_row) i))))
       (cases_eq k j)
 
@@ -135,19 +135,19 @@ module _ (m : Meaning) (t u : Tree) (call : ℕ) (w : IsTree t) (wu : IsTree u) 
   abbrev pub mid : Tree
   mid = forwarded_uses u (arguments_of u (length t.bodies)) (results_of t call)
 
-  pub back : IsRenamed u mid (renamed ss rs)
+  pub back : IsRenamed u mid (value_for ss rs)
   back = all_renamed u ss rs
 
   pub mid_tree : IsTree mid
   mid_tree = all_tree u ss rs wu (λ v i. wu.joined.operands j v (subst (In v) (sym h.jump.operands) i))
 
   pub mid_operands : (k : ℕ) → k ≢ j → operands_of mid k ≡ operands_of t k
-  mid_operands k ne = back.operands k ∙ ap (map (renamed ss rs)) (h.operands k ne) ∙ all_back rs ss (operands_of t k) twins (λ v i y. let a = operand_old k v i in let b = argument_new v y in omega (arith, a, b))
+  mid_operands k ne = back.operands k ∙ ap (map (value_for ss rs)) (h.operands k ne) ∙ all_back rs ss (operands_of t k) twins (λ v i y. let a = operand_old k v i in let b = argument_new v y in omega (arith, a, b))
 
   pub mid_jump : IsJumpRow mid j h.head rs (z ∷ [])
   mid_jump = record {
     row = back.rows j ∙ h.jump.row;
-    operands = back.operands j ∙ ap (map (renamed ss rs)) h.jump.operands ∙ all_kept ss rs rs (λ v i y. twins.apart v i y);
+    operands = back.operands j ∙ ap (map (value_for ss rs)) h.jump.operands ∙ all_kept ss rs rs (λ v i y. twins.apart v i y);
     successors = back.successors j ∙ h.jump.successors;
   }
 

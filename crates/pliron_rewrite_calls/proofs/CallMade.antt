@@ -18,7 +18,7 @@ use Rattle.pliron_rewrite_blocks.specs.Pairs.{forwarded_uses}
 use Rattle.pliron_dialect_calls.specs.Inlinable.{IsJumpHead}
 use Rattle.pliron_rewrite_calls.specs.Splitting.{AreMoving}
 use Rattle.pliron_rewrite_calls.specs.InliningSteps.{IsJumpMade, IsPutLast, IsTakenBack}
-use Rattle.pliron_rewrite_calls.specs.Preparing.{IsLedOn, renamed}
+use Rattle.pliron_rewrite_calls.specs.Preparing.{IsLedOn, value_for}
 use Rattle.pliron_rewrite_calls.proofs.HandedOver.{AreTwins, all_renamed, all_shape, all_back}
 
 -- ---- the block that is made
@@ -58,7 +58,7 @@ module _ (m : Meaning) (t v q u : Tree) (call block region : ℕ) (head : Head) 
   handed = forwarded_uses (block_created t region (length (results_of t call))) (results_of t call) (arguments_of (block_created t region (length (results_of t call))) (length t.bodies))
 
   module _ (jumps : IsJumpHead m (length (results_of t call)) head) (g : IsJumpMade (forwarded_uses (block_created t region (length (results_of t call))) (results_of t call) (arguments_of (block_created t region (length (results_of t call))) (length t.bodies))) v (length t.operations) head (results_of t call) (length t.bodies ∷ [])) (h : AreMoving v q call block (length t.bodies) []) (p : IsPutLast q u (length t.operations) block) where
-    r : IsRenamed made handed (renamed rs ss)
+    r : IsRenamed made handed (value_for rs ss)
     r = all_renamed made rs ss
 
     block_in : block < length t.bodies
@@ -81,7 +81,7 @@ module _ (m : Meaning) (t v q u : Tree) (call block region : ℕ) (head : Head) 
     row_back : (k : ℕ) → k ≢ length t.operations → row_of u k ≡ row_of t k
     row_back k ne = (p.others k ne).row ∙ ap (λ (y : Tree). row_of y k) h.same ∙ (g.others k ne).row ∙ r.rows k
 
-    operands_back : (k : ℕ) → k ≢ length t.operations → operands_of u k ≡ map (renamed rs ss) (operands_of t k)
+    operands_back : (k : ℕ) → k ≢ length t.operations → operands_of u k ≡ map (value_for rs ss) (operands_of t k)
     operands_back k ne = (p.others k ne).operands ∙ ap (λ (y : Tree). operands_of y k) h.same ∙ (g.others k ne).operands ∙ r.operands k
 
     successors_back : (k : ℕ) → k ≢ length t.operations → successors_of u k ≡ successors_of t k
@@ -118,7 +118,7 @@ module _ (m : Meaning) (t v q u : Tree) (call block region : ℕ) (head : Head) 
       placed = p.placed;
       new_arguments = arguments_back (length t.bodies) ∙ made_arguments t region count w;
       new_definitions = p.places.definitions ∙ ap (λ (y : Tree). y.definitions) h.same ∙ g.places.definitions ∙ ap (λ (y : Tree). y.definitions) (all_shape made rs ss);
-      operands = λ k ne. operands_back k ne ∙ ap (λ xs. map (renamed rs xs) (operands_of t k)) (sym (arguments_back (length t.bodies)));
+      operands = λ k ne. operands_back k ne ∙ ap (λ xs. map (value_for rs xs) (operands_of t k)) (sym (arguments_back (length t.bodies)));
       beside = parents_back (length t.bodies) ∙ made_parent t region count w;
       last = layouts_back region ∙ get_or-set_same t.layouts region (layout_of t region ++ length t.bodies ∷ []) [] region_in;
       operation_count = p.count ∙ ap (λ (y : Tree). length y.operations) h.same ∙ g.count ∙ ap (λ (y : Tree). length y.operations + 1) (all_shape made rs ss);
@@ -146,7 +146,7 @@ pub handed_back : (t s x y : Tree) (xs ys : List ℕ) → AreTwins xs ys → ((v
 handed_back t s x y xs ys twins unused e b f = record {
   same = record {
     operations = λ k. ap (λ (a : Tree). row_of a k) f ∙ there.rows k ∙ b.same.operations k ∙ ap (λ (a : Tree). row_of a k) e ∙ here.rows k;
-    operands = λ k. ap (λ (a : Tree). operands_of a k) f ∙ there.operands k ∙ ap (map (renamed ys xs)) (b.same.operands k ∙ ap (λ (a : Tree). operands_of a k) e ∙ here.operands k) ∙ all_back xs ys (operands_of t k) twins (λ v i o. unused v k o i);
+    operands = λ k. ap (λ (a : Tree). operands_of a k) f ∙ there.operands k ∙ ap (map (value_for ys xs)) (b.same.operands k ∙ ap (λ (a : Tree). operands_of a k) e ∙ here.operands k) ∙ all_back xs ys (operands_of t k) twins (λ v i o. unused v k o i);
     successors = λ k. ap (λ (a : Tree). successors_of a k) f ∙ there.successors k ∙ b.same.successors k ∙ ap (λ (a : Tree). successors_of a k) e ∙ here.successors k;
     parents = λ k. ap (λ (a : Tree). parent_of a k) f ∙ there.parents k ∙ b.same.parents k ∙ ap (λ (a : Tree). parent_of a k) e ∙ here.parents k;
     bodies = λ c. ap (λ (a : Tree). body_of a c) f ∙ there.bodies c ∙ b.same.bodies c ∙ ap (λ (a : Tree). body_of a c) e ∙ here.bodies c;
@@ -164,8 +164,8 @@ handed_back t s x y xs ys twins unused e b f = record {
       omega (arith, a, c, d);
 }
   where
-    here : IsRenamed t (forwarded_uses t xs ys) (renamed xs ys)
+    here : IsRenamed t (forwarded_uses t xs ys) (value_for xs ys)
     here = all_renamed t xs ys
 
-    there : IsRenamed x (forwarded_uses x ys xs) (renamed ys xs)
+    there : IsRenamed x (forwarded_uses x ys xs) (value_for ys xs)
     there = all_renamed x ys xs

@@ -38,7 +38,7 @@ use Rattle.pliron_rewrite_copies.specs.Splitting.{JumpsWell, SplittingLaw}
 use Rattle.pliron_rewrite_copies.proofs.Maps.{in_map}
 use Rattle.pliron_dialect_calls.specs.Inlinable.{IsJumpHead}
 use Rattle.pliron_rewrite_calls.specs.InliningSteps.{IsJumpRow}
-use Rattle.pliron_rewrite_calls.specs.Preparing.{IsLedOn, renamed}
+use Rattle.pliron_rewrite_calls.specs.Preparing.{IsLedOn, value_for}
 use Rattle.pliron_rewrite_calls.proofs.CallLed.{mid, call_apart, call_row, call_there, block_apart, as_many, twins, back, mid_tree, mid_jump, mid_count, mid_longer, mid_some, only, no_entry_there, spliced}
 use Rattle.pliron_rewrite_calls.proofs.Growing.{holds_nothing}
 use Rattle.pliron_rewrite_calls.proofs.HandedOver.{kept, renamed_in, replaced_not, map_as, tree_replaced}
@@ -299,33 +299,33 @@ module _ (m : Meaning) (t u : Tree) (call : ℕ) (w : IsTree t) (wu : IsTree u) 
     made_new : definition_of u x ≡ Some (Argument (length t.bodies) place.0)
     made_new = wu.joined.arguments (length t.bodies) place.0 x place.1
 
-    is_result : In (renamed (arguments_of u (length t.bodies)) (results_of t call) x) (results_of t call)
+    is_result : In (value_for (arguments_of u (length t.bodies)) (results_of t call) x) (results_of t call)
     is_result = renamed_in (arguments_of u (length t.bodies)) (results_of t call) x (sym (as_many m t u call w wu h)) new
 
-    made_old : (i : ℕ) × (definition_of (mid m t u call w wu h) (renamed (arguments_of u (length t.bodies)) (results_of t call) x) ≡ Some (ResultOf call i))
-    made_old = result_made (renamed (arguments_of u (length t.bodies)) (results_of t call) x) is_result
+    made_old : (i : ℕ) × (definition_of (mid m t u call w wu h) (value_for (arguments_of u (length t.bodies)) (results_of t call) x) ≡ Some (ResultOf call i))
+    made_old = result_made (value_for (arguments_of u (length t.bodies)) (results_of t call) x) is_result
 
-    uses_old : In (renamed (arguments_of u (length t.bodies)) (results_of t call) x) (operands_of (mid m t u call w wu h) k)
-    uses_old = subst (In (renamed (arguments_of u (length t.bodies)) (results_of t call) x)) (sym ((back m t u call w wu h).operands k)) (in_map (renamed (arguments_of u (length t.bodies)) (results_of t call)) (operands_of u k) x uses)
+    uses_old : In (value_for (arguments_of u (length t.bodies)) (results_of t call) x) (operands_of (mid m t u call w wu h) k)
+    uses_old = subst (In (value_for (arguments_of u (length t.bodies)) (results_of t call) x)) (sym ((back m t u call w wu h).operands k)) (in_map (value_for (arguments_of u (length t.bodies)) (results_of t call)) (operands_of u k) x uses)
 
     not_jump : k ≢ length t.operations
     not_jump e = (twins m t u call w wu h).apart x (subst (In x) (ap (operands_of u) e ∙ h.jump.operands) uses) new
 
-    call_inside : IsDefiningOperationInside (mid m t u call w wu h) root (definition_of (mid m t u call w wu h) (renamed (arguments_of u (length t.bodies)) (results_of t call) x)) → IsInside u root call
+    call_inside : IsDefiningOperationInside (mid m t u call w wu h) root (definition_of (mid m t u call w wu h) (value_for (arguments_of u (length t.bodies)) (results_of t call) x)) → IsInside u root call
     call_inside i = inside_back places root call (subst (IsDefiningOperationInside (mid m t u call w wu h) root) made_old.1 i)
 
     own : IsInside u root k → IsDefiningOperationInside u root (definition_of u x)
-    own i = subst (IsDefiningOperationInside u root) (sym made_new) (holds_there root (block_inside a (call_there m t u call w wu h) (call_inside (f.defined.own_values k (renamed (arguments_of u (length t.bodies)) (results_of t call) x) (inside_forth places root k i) uses_old))))
+    own i = subst (IsDefiningOperationInside u root) (sym made_new) (holds_there root (block_inside a (call_there m t u call w wu h) (call_inside (f.defined.own_values k (value_for (arguments_of u (length t.bodies)) (results_of t call) x) (inside_forth places root k i) uses_old))))
 
     no_jumper : (l : ℕ) → IsInside u root l → successors_of u l ≢ [] → In x (results_of u l) → ⊥
     no_jumper l i out r = let s = slice_in (results_of u l) x r in not_argument l s.0 (length t.bodies) place.0 (sym (wu.joined.results l s.0 x s.1) ∙ made_new)
 
     module _ (held : IsDefiningOperationInside u root (definition_of u x)) where
-      old_inside : IsDefiningOperationInside (mid m t u call w wu h) root (definition_of (mid m t u call w wu h) (renamed (arguments_of u (length t.bodies)) (results_of t call) x))
+      old_inside : IsDefiningOperationInside (mid m t u call w wu h) root (definition_of (mid m t u call w wu h) (value_for (arguments_of u (length t.bodies)) (results_of t call) x))
       old_inside = subst (IsDefiningOperationInside (mid m t u call w wu h) root) (sym made_old.1) (inside_forth places root call (inside_block a (call_there m t u call w wu h) (holds_here root (subst (IsDefiningOperationInside u root) made_new held))))
 
-      before_it : IsDominated (mid m t u call w wu h) k (renamed (arguments_of u (length t.bodies)) (results_of t call) x)
-      before_it = f.defined.dominated k (renamed (arguments_of u (length t.bodies)) (results_of t call) x) uses_old old_inside
+      before_it : IsDominated (mid m t u call w wu h) k (value_for (arguments_of u (length t.bodies)) (results_of t call) x)
+      before_it = f.defined.dominated k (value_for (arguments_of u (length t.bodies)) (results_of t call) x) uses_old old_inside
 
       region_is : h.region ≡ before_it.region
       region_is = some_is (
@@ -383,9 +383,9 @@ module _ (m : Meaning) (t u : Tree) (call : ℕ) (w : IsTree t) (wu : IsTree u) 
     }) (λ i s r e f. (i, e, f))
 
     from_mid : KeepsAllRuns m (mid m t u call w wu h) u
-    from_mid chosen = renames (with_roots m chosen) (mid m t u call w wu h) u (renamed (arguments_of u (length t.bodies)) (results_of t call)) (back m t u call w wu h) (mid_count m t u call w wu h) (back_to_mid chosen) (λ root f k x i ne. may_use (with_roots m chosen) root f k x i (is_new x ne))
+    from_mid chosen = renames (with_roots m chosen) (mid m t u call w wu h) u (value_for (arguments_of u (length t.bodies)) (results_of t call)) (back m t u call w wu h) (mid_count m t u call w wu h) (back_to_mid chosen) (λ root f k x i ne. may_use (with_roots m chosen) root f k x i (is_new x ne))
       where
-        is_new : (x : ℕ) → renamed (arguments_of u (length t.bodies)) (results_of t call) x ≢ x → In x (arguments_of u (length t.bodies))
+        is_new : (x : ℕ) → value_for (arguments_of u (length t.bodies)) (results_of t call) x ≢ x → In x (arguments_of u (length t.bodies))
         is_new x ne = ⊎_elim (λ i. i) (λ out. absurd (ne (kept (arguments_of u (length t.bodies)) (results_of t call) x out))) (decide_in x (arguments_of u (length t.bodies)))
 
     pub runs_kept : KeepsAllRuns m t u

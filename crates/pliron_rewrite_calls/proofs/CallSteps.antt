@@ -19,7 +19,7 @@ use Rattle.pliron_rewrite_copies.proofs.Maps.{from_map}
 use Rattle.pliron_dialect_calls.specs.Inlinable.{IsJumpHead}
 use Rattle.pliron_rewrite_calls.specs.CopySteps.{IsGrownIn}
 use Rattle.pliron_rewrite_calls.specs.InliningSteps.{IsJumpMade, IsPutLast, IsTakenBack}
-use Rattle.pliron_rewrite_calls.specs.Preparing.{IsLedOn, renamed}
+use Rattle.pliron_rewrite_calls.specs.Preparing.{IsLedOn, value_for}
 use Rattle.pliron_rewrite_calls.specs.Splitting.{AreMoving}
 use Rattle.pliron_rewrite_calls.proofs.CallLed.{past_definition}
 use Rattle.pliron_rewrite_calls.proofs.CallMade.{made_arguments, led_on}
@@ -70,7 +70,7 @@ call_twins t w call block long = record {
 pub results_unused : (t s x : Tree) → IsTree t → (call block : ℕ) → length (results_of t call) ≡ length (arguments_of t block) → s ≡ forwarded_uses t (results_of t call) (arguments_of t block) → IsTakenBack s x → (v k : ℕ) → In v (results_of t call) → In v (operands_of x k) → ⊥
 results_unused t s x w call block long e b v k i o =
     let r = all_renamed t (results_of t call) (arguments_of t block) in
-    let p = from_map (renamed (results_of t call) (arguments_of t block)) (operands_of t k) v (subst (In v) (b.same.operands k ∙ ap (λ (y : Tree). operands_of y k) e ∙ r.operands k) o) in
+    let p = from_map (value_for (results_of t call) (arguments_of t block)) (operands_of t k) v (subst (In v) (b.same.operands k ∙ ap (λ (y : Tree). operands_of y k) e ∙ r.operands k) o) in
     renamed_out (results_of t call) (arguments_of t block) p.0 (call_twins t w call block long) (subst (λ y. In y (results_of t call)) (sym p.2) i)
 
 pub results_still : (t s x : Tree) (call : ℕ) (xs ys : List ℕ) → s ≡ forwarded_uses t xs ys → IsTakenBack s x → results_of x call ≡ results_of t call
@@ -118,7 +118,7 @@ module _ (t made : Tree) (w : IsTree t) (call block region new count : ℕ) (at 
   -- ---- once the jump is made
 
   module _ (v : Tree) (wv : IsTree v) (jump : ℕ) (head : Head) (g : IsJumpMade (forwarded_uses made (results_of made call) (arguments_of made new)) v jump head (results_of made call) (new ∷ [])) where
-    r : IsRenamed made (forwarded_uses made (results_of made call) (arguments_of made new)) (renamed (results_of made call) (arguments_of made new))
+    r : IsRenamed made (forwarded_uses made (results_of made call) (arguments_of made new)) (value_for (results_of made call) (arguments_of made new))
     r = all_renamed made (results_of made call) (arguments_of made new)
 
     jump_is : jump ≡ length t.operations

@@ -15,7 +15,7 @@ use Rattle.pliron_theory.specs.Renaming.{IsRenamed}
 use Rattle.pliron_theory.proofs.ReplacedKeeps.{replaced_renamed}
 use Rattle.pliron_rewrite_blocks.specs.Pairs.{forwarded_uses}
 use Rattle.pliron_rewrite_copies.proofs.Maps.{from_map, map_map}
-use Rattle.pliron_rewrite_calls.specs.Preparing.{renamed}
+use Rattle.pliron_rewrite_calls.specs.Preparing.{value_for}
 
 -- ---- one value
 
@@ -52,34 +52,34 @@ defined_still t operands v d = go (definition_of t v) d
 
 -- ---- several values
 
-pub kept : (xs ys : List ℕ) (v : ℕ) → (In v xs → ⊥) → renamed xs ys v ≡ v
+pub kept : (xs ys : List ℕ) (v : ℕ) → (In v xs → ⊥) → value_for xs ys v ≡ v
 kept [] ys v out = refl
 kept (x ∷ xs) [] v out = refl
-kept (x ∷ xs) (y ∷ ys) v out = ap (renamed xs ys) (replaced_not x y v (λ e. out (inl e))) ∙ kept xs ys v (λ i. out (inr i))
+kept (x ∷ xs) (y ∷ ys) v out = ap (value_for xs ys) (replaced_not x y v (λ e. out (inl e))) ∙ kept xs ys v (λ i. out (inr i))
 
 -- what is renamed is one of the new values
-renamed_cases : (xs ys : List ℕ) (v : ℕ) → (renamed xs ys v ≡ v) ⊎ In (renamed xs ys v) ys
+renamed_cases : (xs ys : List ℕ) (v : ℕ) → (value_for xs ys v ≡ v) ⊎ In (value_for xs ys v) ys
 renamed_cases [] ys v = inl refl
 renamed_cases (x ∷ xs) [] v = inl refl
 renamed_cases (x ∷ xs) (y ∷ ys) v = ⊎_elim
     (λ e.
     let s : replace_target x y v ≡ y = replaced_is x y v e in
-    ⊎_elim (λ k. inr (inl (ap (renamed xs ys) s ∙ k))) (λ i. inr (inr (subst (λ z. In (renamed xs ys z) ys) (sym s) i))) (renamed_cases xs ys y))
+    ⊎_elim (λ k. inr (inl (ap (value_for xs ys) s ∙ k))) (λ i. inr (inr (subst (λ z. In (value_for xs ys z) ys) (sym s) i))) (renamed_cases xs ys y))
     (λ ne.
     let s : replace_target x y v ≡ v = replaced_not x y v ne in
-    ⊎_elim (λ k. inl (ap (renamed xs ys) s ∙ k)) (λ i. inr (inr (subst (λ z. In (renamed xs ys z) ys) (sym s) i))) (renamed_cases xs ys v))
+    ⊎_elim (λ k. inl (ap (value_for xs ys) s ∙ k)) (λ i. inr (inr (subst (λ z. In (value_for xs ys z) ys) (sym s) i))) (renamed_cases xs ys v))
     (cases_eq v x)
 
-pub renamed_in : (xs ys : List ℕ) (v : ℕ) → length xs ≡ length ys → In v xs → In (renamed xs ys v) ys
+pub renamed_in : (xs ys : List ℕ) (v : ℕ) → length xs ≡ length ys → In v xs → In (value_for xs ys v) ys
 renamed_in [] ys v e i = absurd i
 renamed_in (x ∷ xs) [] v e i = absurd (omega (arith, e))
 renamed_in (x ∷ xs) (y ∷ ys) v e i = ⊎_elim
     (λ q.
     let s : replace_target x y v ≡ y = replaced_is x y v q in
-    ⊎_elim (λ k. inl (ap (renamed xs ys) s ∙ k)) (λ j. inr (subst (λ z. In (renamed xs ys z) ys) (sym s) j)) (renamed_cases xs ys y))
+    ⊎_elim (λ k. inl (ap (value_for xs ys) s ∙ k)) (λ j. inr (subst (λ z. In (value_for xs ys z) ys) (sym s) j)) (renamed_cases xs ys y))
     (λ ne.
     let s : replace_target x y v ≡ v = replaced_not x y v ne in
-    inr (subst (λ z. In (renamed xs ys z) ys) (sym s) (renamed_in xs ys v (omega (arith, e)) (⊎_elim (λ q. absurd (ne q)) (λ j. j) i))))
+    inr (subst (λ z. In (value_for xs ys z) ys) (sym s) (renamed_in xs ys v (omega (arith, e)) (⊎_elim (λ q. absurd (ne q)) (λ j. j) i))))
     (cases_eq v x)
 
 -- two lists as long as one another, which have no value in common, and the second one has none twice
@@ -89,9 +89,9 @@ pub record AreTwins (xs ys : List ℕ) : Type 0 where
   pub distinct : IsDistinct ys
 
 -- no value is an old one any more
-pub renamed_out : (xs ys : List ℕ) (v : ℕ) → AreTwins xs ys → In (renamed xs ys v) xs → ⊥
+pub renamed_out : (xs ys : List ℕ) (v : ℕ) → AreTwins xs ys → In (value_for xs ys v) xs → ⊥
 renamed_out xs ys v h i = ⊎_elim
-    (λ j. h.apart (renamed xs ys v) i (renamed_in xs ys v h.long j))
+    (λ j. h.apart (value_for xs ys v) i (renamed_in xs ys v h.long j))
     (λ out. out (subst (λ z. In z xs) (kept xs ys v out) i))
     (decide_in v xs)
 
@@ -99,35 +99,35 @@ pub twins_rest : (x y : ℕ) (xs ys : List ℕ) → AreTwins (x ∷ xs) (y ∷ y
 twins_rest x y xs ys h = record { long = (let e = h.long in omega (arith, e)); apart = λ v i j. h.apart v (inr i) (inr j); distinct = h.distinct.1 }
 
 -- and what was renamed can be renamed back
-renamed_back : (xs ys : List ℕ) (v : ℕ) → AreTwins xs ys → (In v ys → ⊥) → renamed ys xs (renamed xs ys v) ≡ v
+renamed_back : (xs ys : List ℕ) (v : ℕ) → AreTwins xs ys → (In v ys → ⊥) → value_for ys xs (value_for xs ys v) ≡ v
 renamed_back [] [] v h out = refl
 renamed_back [] (y ∷ ys) v h out = absurd (let e = h.long in omega (arith, e))
 renamed_back (x ∷ xs) [] v h out = absurd (let e = h.long in omega (arith, e))
 renamed_back (x ∷ xs) (y ∷ ys) v h out = ⊎_elim
     (λ s.
-    let a : renamed (x ∷ xs) (y ∷ ys) v ≡ y = ap (renamed xs ys) (replaced_is x y v s) ∙ kept xs ys y (λ i. h.apart y (inr i) (inl refl)) in
-    ap (λ z. renamed ys xs (replace_target y x z)) a ∙ ap (renamed ys xs) (replaced_is y x y refl) ∙ kept ys xs x (λ i. h.apart x (inl refl) (inr i)) ∙ sym s)
+    let a : value_for (x ∷ xs) (y ∷ ys) v ≡ y = ap (value_for xs ys) (replaced_is x y v s) ∙ kept xs ys y (λ i. h.apart y (inr i) (inl refl)) in
+    ap (λ z. value_for ys xs (replace_target y x z)) a ∙ ap (value_for ys xs) (replaced_is y x y refl) ∙ kept ys xs x (λ i. h.apart x (inl refl) (inr i)) ∙ sym s)
     (λ ne.
-    let a : renamed (x ∷ xs) (y ∷ ys) v ≡ renamed xs ys v = ap (renamed xs ys) (replaced_not x y v ne) in
-    let b : renamed xs ys v ≢ y = λ q. ⊎_elim (λ k. out (inl (sym k ∙ q))) (λ i. h.distinct.0 (subst (λ z. In z ys) q i)) (renamed_cases xs ys v) in
-    ap (λ z. renamed ys xs (replace_target y x z)) a ∙ ap (renamed ys xs) (replaced_not y x (renamed xs ys v) b) ∙ renamed_back xs ys v (twins_rest x y xs ys h) (λ i. out (inr i)))
+    let a : value_for (x ∷ xs) (y ∷ ys) v ≡ value_for xs ys v = ap (value_for xs ys) (replaced_not x y v ne) in
+    let b : value_for xs ys v ≢ y = λ q. ⊎_elim (λ k. out (inl (sym k ∙ q))) (λ i. h.distinct.0 (subst (λ z. In z ys) q i)) (renamed_cases xs ys v) in
+    ap (λ z. value_for ys xs (replace_target y x z)) a ∙ ap (value_for ys xs) (replaced_not y x (value_for xs ys v) b) ∙ renamed_back xs ys v (twins_rest x y xs ys h) (λ i. out (inr i)))
     (cases_eq v x)
 
 pub map_as : (f : ℕ → ℕ) (vs : List ℕ) → ((v : ℕ) → In v vs → f v ≡ v) → map f vs ≡ vs
 map_as f [] same = refl
 map_as f (v ∷ vs) same = ap₂ (λ a l. a ∷ l) (same v (inl refl)) (map_as f vs (λ x i. same x (inr i)))
 
-pub all_kept : (xs ys vs : List ℕ) → ((v : ℕ) → In v vs → In v xs → ⊥) → map (renamed xs ys) vs ≡ vs
-all_kept xs ys vs out = map_as (renamed xs ys) vs (λ v i. kept xs ys v (out v i))
+pub all_kept : (xs ys vs : List ℕ) → ((v : ℕ) → In v vs → In v xs → ⊥) → map (value_for xs ys) vs ≡ vs
+all_kept xs ys vs out = map_as (value_for xs ys) vs (λ v i. kept xs ys v (out v i))
 
-pub all_back : (xs ys vs : List ℕ) → AreTwins xs ys → ((v : ℕ) → In v vs → In v ys → ⊥) → map (renamed ys xs) (map (renamed xs ys) vs) ≡ vs
-all_back xs ys vs h out = map_map (renamed ys xs) (λ v. v) (renamed xs ys) vs (λ v i. renamed_back xs ys v h (out v i)) ∙ map_as (λ v. v) vs (λ v i. refl)
+pub all_back : (xs ys vs : List ℕ) → AreTwins xs ys → ((v : ℕ) → In v vs → In v ys → ⊥) → map (value_for ys xs) (map (value_for xs ys) vs) ≡ vs
+all_back xs ys vs h out = map_map (value_for ys xs) (λ v. v) (value_for xs ys) vs (λ v i. renamed_back xs ys v h (out v i)) ∙ map_as (λ v. v) vs (λ v i. refl)
 
 -- ---- the uses of several values
 
-pub all_renamed : (t : Tree) (xs ys : List ℕ) → IsRenamed t (forwarded_uses t xs ys) (renamed xs ys)
+pub all_renamed : (t : Tree) (xs ys : List ℕ) → IsRenamed t (forwarded_uses t xs ys) (value_for xs ys)
 all_renamed t [] ys = record {
-  operands = λ k. sym (map_as (renamed [] ys) (operands_of t k) (λ v i. refl));
+  operands = λ k. sym (map_as (value_for [] ys) (operands_of t k) (λ v i. refl));
   rows = λ k. refl;
   successors = λ k. refl;
   parents = λ k. refl;
@@ -139,7 +139,7 @@ all_renamed t [] ys = record {
   definitions = λ v. refl;
 }
 all_renamed t (x ∷ xs) [] = record {
-  operands = λ k. sym (map_as (renamed (x ∷ xs) []) (operands_of t k) (λ v i. refl));
+  operands = λ k. sym (map_as (value_for (x ∷ xs) []) (operands_of t k) (λ v i. refl));
   rows = λ k. refl;
   successors = λ k. refl;
   parents = λ k. refl;
@@ -153,7 +153,7 @@ all_renamed t (x ∷ xs) [] = record {
 all_renamed t (x ∷ xs) (y ∷ ys) =
     let r = all_renamed (after_replacing t x y) xs ys in
     record {
-      operands = λ k. r.operands k ∙ ap (map (renamed xs ys)) ((replaced_renamed t x y).operands k) ∙ map_map (renamed xs ys) (renamed (x ∷ xs) (y ∷ ys)) (replace_target x y) (operands_of t k) (λ v i. refl);
+      operands = λ k. r.operands k ∙ ap (map (value_for xs ys)) ((replaced_renamed t x y).operands k) ∙ map_map (value_for xs ys) (value_for (x ∷ xs) (y ∷ ys)) (replace_target x y) (operands_of t k) (λ v i. refl);
       rows = λ k. r.rows k;
       successors = λ k. r.successors k;
       parents = λ k. r.parents k;

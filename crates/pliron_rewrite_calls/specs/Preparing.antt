@@ -30,10 +30,10 @@ pub record IsCallPrepared (m : Meaning) (t : Tree) (call : ℕ) : Type 0 where
   pub beside : block_parent_of t after ≡ block_parent_of t block
 
 -- what the value becomes where each of these, one after the other, becomes the one at its place among those
-abbrev pub renamed : (olds news : List ℕ) → ℕ → ℕ
-renamed [] ys v = v
-renamed (x ∷ xs) [] v = v
-renamed (x ∷ xs) (y ∷ ys) v = renamed xs ys (replace_target x y v)
+abbrev pub value_for : (olds news : List ℕ) → ℕ → ℕ
+value_for [] ys v = v
+value_for (x ∷ xs) [] v = v
+value_for (x ∷ xs) (y ∷ ys) v = value_for xs ys (replace_target x y v)
 
 -- the operations behind the call are those of the next block that t has no handle for yet, which is the last one of the
 -- region; the next operation is a jump to it with the results of the call, and other uses of these are uses of its
@@ -55,7 +55,7 @@ pub record IsLedOn (m : Meaning) (t u : Tree) (call : ℕ) : Type 0 where
   pub placed : parent_of u (length t.operations) ≡ Some block
   pub new_arguments : arguments_of u (length t.bodies) ≡ range_with_len (length t.definitions) (length (results_of t call))
   pub new_definitions : u.definitions ≡ t.definitions ++ argument_definitions (length t.bodies) (length (results_of t call))
-  pub operands : (k : ℕ) → k ≢ length t.operations → operands_of u k ≡ map (renamed (results_of t call) (arguments_of u (length t.bodies))) (operands_of t k)
+  pub operands : (k : ℕ) → k ≢ length t.operations → operands_of u k ≡ map (value_for (results_of t call) (arguments_of u (length t.bodies))) (operands_of t k)
   pub beside : block_parent_of u (length t.bodies) ≡ Some region
   pub last : layout_of u region ≡ layout_of t region ++ length t.bodies ∷ []
   pub operation_count : length u.operations ≡ length t.operations + 1
