@@ -1,0 +1,2 @@
+pub mod CalleeLemmas
+pub mod InTurnLemmas
