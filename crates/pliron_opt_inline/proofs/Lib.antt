@@ -1,0 +1,4 @@
+pub mod CalleeLemmas
+pub mod InTurnLemmas
+pub mod SizeLemmas
+pub mod RowLemmas
