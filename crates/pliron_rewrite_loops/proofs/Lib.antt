@@ -5,3 +5,4 @@ pub mod Longer
 pub mod ForwardedCounts
 pub mod EdgeSteps
 pub mod Added
+pub mod PassingSteps
