@@ -1,0 +1,3 @@
+pub mod CalleeLemmas
+pub mod InTurnLemmas
+pub mod SizeLemmas

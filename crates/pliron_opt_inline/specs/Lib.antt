@@ -1,0 +1,5 @@
+pub mod Copying
+pub mod Callees
+pub mod Sizes
+pub mod InTurn
+pub mod CallGraph
