@@ -15,7 +15,7 @@ use Rattle.pliron_laws.proofs.Records.{op_shows, region_entry}
 use Rattle.pliron_dialect.specs.declared.form.Otherwise.{Otherwise}
 use Rattle.pliron_dialect.specs.declared.form.Otherwise.TheVariants.{Says, Never, Traps}
 use Rattle.pliron_dialect.specs.declared.identity.Identity.{Identity}
-use Rattle.pliron_dialect.specs.Roles.{Interpretation, Role, Constant, Folds, Picks, Opaque, Jumps, Chooses, Leaves, Stops, Acts, Names, Forks, Holds, Tables, KeepsTables, role_at, by_role, form_of, act_of, no_act, meaning_by, places_by, chain_of, data_in, effect_of, folds_to, give_or_trap, complete, numbers_of, head_of_kind}
+use Rattle.pliron_dialect.specs.Roles.{Interpretation, Role, Constant, Folds, Picks, Opaque, Jumps, Chooses, Leaves, Stops, Acts, Names, Forks, Holds, Tables, KeepsTables, role_at, by_role, by_form, branches, form_of, act_of, no_act, meaning_by, places_by, chain_of, data_in, effect_of, folds_to, give_or_trap, complete, numbers_of, head_of_kind}
 use Rattle.pliron_dialect.specs.Parts.{Admits, both_true, jump_named, jumps_allowed}
 use Rattle.pliron_rewrite_inlining.specs.Inlined.{IsJumpTo, Returns, CallsByName, RunsItsRegion, NeverGives}
 use Rattle.pliron_dialect_calls.specs.CallTables.{CallTables, KeepsCalls, StaysInside}
@@ -145,10 +145,11 @@ module _ {K : Type 0} (t : Tables K) where
   unfolding meaning_by
   jump_head keeps n = record {
     admitted = both_true _ _ (subst (λ z. Admits z (branch_shape (head_of_kind (t.number_of t.jump) (t.is_ssa t.jump)) n 1)) (sym (jump_named t keeps)) refl) (jumps_allowed t keeps n);
+    branch = ap (λ z. by_form false branches (option_map form_of z)) (jump_named t keeps);
     goes = λ s same operands results successors ds long.
         ap (λ y. by_role no_act (act_of t.value) (role_at t y.kind) s Empty ds) same
         ∙ ap (λ z. by_role no_act (act_of t.value) z s Empty ds) (jump_named t keeps);
-    forwards = λ s same operands successors branch.
+    forwards = λ s same operands successors.
         ap (λ y. length (by_role [] (places_by s 0) (role_at t y.kind))) same
         ∙ ap (λ z. length (by_role [] (places_by s 0) z)) (jump_named t keeps)
         ∙ length-range_with_len 0 s.operands
