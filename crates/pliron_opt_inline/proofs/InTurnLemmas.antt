@@ -1,5 +1,5 @@
 -- Calls that are inlined one after the other.
-use Rattle.std.proofs.Common.{◌≡◌, ℕ, nat_eq, if◌then◌else◌, Bool, true, false, List, [], ◌∷◌, ◌++◌, length, ◌<◌, ◌≤◌, refl, sym, ap, ◌∙◌, subst, fun_ext}
+use Rattle.std.proofs.Common.{◌≡◌, ℕ, nat_eq, if◌then◌else◌, Bool, true, false, List, [], ◌∷◌, ◌++◌, length, ◌<◌, ◌≤◌, refl, sym, ap, ◌∙◌, subst}
 use Rattle.pliron_core.specs.Tree.{Tree, IsLive}
 use Rattle.pliron_core.specs.Invariant.{IsTree}
 use Rattle.pliron_laws.specs.Datum.{Datum, Meaning}
@@ -27,7 +27,7 @@ right_names n (x ∷ xs) ys link s = right_names n xs ys link s.1
 -- the module becomes the later tree
 twice : (p : Program) (n : ℕ) (u v : Tree) → with_module (with_module p n u) n v ≡ with_module p n v
 unfolding with_module
-twice p n u v = fun_ext (λ k. same (nat_eq k n) (p k))
+twice p n u v = λ i k. same (nat_eq k n) (p k) i
   where
     same : (b : Bool) (t : Tree) → (if b then v else (if b then u else t)) ≡ (if b then v else t)
     same true t = refl

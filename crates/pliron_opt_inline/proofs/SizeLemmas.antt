@@ -13,6 +13,12 @@ use Rattle.pliron_opt_inline.specs.Sizes.{size_at}
 pub cut_between : (a b r top : ℕ) → min (min (a + b) top + r) top ≡ min (a + (b + r)) top
 cut_between a b r top = grind arith
 
+pub cut_below : (a top : ℕ) → min a top ≤ top
+cut_below a top = grind arith
+
+pub uncut : (a top : ℕ) → a ≤ top → a ≡ min (a + 0) top
+uncut a top h = grind arith
+
 pub size_read : (size : Head → ℕ) (t : Tree) (k n : ℕ) → IsLive t k → ReadsHead size t k n → n ≡ size_at size t k
 size_read size t k n live reads = let h = some_of (head_of t k) live in reads h.0 h.1 ∙ sym (ap (λ o. option_map_or size o 0) h.1)
 
