@@ -19,9 +19,8 @@ use Rattle.pliron_laws.specs.EdgeChecks.{region_around}
 use Rattle.pliron_dialect_calls.specs.Inlinable.{NeverLeaves}
 use Rattle.pliron_rewrite_inlining.specs.Inlined.{RunsItsRegion}
 use Rattle.pliron_rewrite_calls.specs.Copying.{parts_of, operations_of}
-use Rattle.pliron_rewrite_calls.specs.Inlining.{MayBeCopied}
+use Rattle.pliron_rewrite_calls.specs.Inlining.{IsInlinable, MayBeCopied}
 use Rattle.pliron_opt_inline.specs.Copying.{FitsInCopy, EndsCopy, EndsCopyByHead, IsBlockCopyable, IsBlockCopyableByHead}
-use Rattle.pliron_opt_inline.specs.Callees.{IsInlinable}
 
 up_some : (o : Option ℕ) (f : ℕ → Option ℕ) (r : ℕ) → up_from o f ≡ Some r → (b : ℕ) × (o ≡ Some b) × (f b ≡ Some r)
 up_some None f r e = absurd (not_none e)

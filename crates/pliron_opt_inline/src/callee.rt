@@ -6,7 +6,8 @@ ghost use Rattle.pliron_laws.specs.Answers.{HeadPasses};
 ghost use Rattle.pliron_dialect_calls.specs.Inlinable.{NeverLeaves};
 ghost use Rattle.pliron_rewrite_calls.specs.Copying.{parts_of};
 ghost use Rattle.pliron_opt_inline.specs.Copying.{FitsInCopy, EndsCopy, EndsCopyByHead, IsBlockCopyable, IsBlockCopyableByHead};
-ghost use Rattle.pliron_opt_inline.specs.Callees.{IsInlinable, IsInlinableByHead};
+ghost use Rattle.pliron_rewrite_calls.specs.Inlining.{IsInlinable};
+ghost use Rattle.pliron_opt_inline.specs.Callees.{IsInlinableByHead};
 
 use pliron_core::{BasicBlock, Context, Def, Operation, Ptr, Region, Value};
 use pliron_dialect_calls::InliningDialect;

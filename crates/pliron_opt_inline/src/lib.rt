@@ -6,12 +6,14 @@
 
 mod callee;
 mod components;
+mod inlining;
 mod laws;
 mod policy;
 mod size;
 
 pub use callee::may_be_inlined;
 pub use components::call_components;
+pub use inlining::{InlinedCall, InliningOptions, inline_calls};
 pub use laws::calls_are_inlined_in_turn;
 pub use policy::InliningPolicy;
 pub use size::{may_be_copied, size_of};

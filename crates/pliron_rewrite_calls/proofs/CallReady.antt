@@ -38,12 +38,12 @@ pub record MayReplace (v : Tree) (block call jump new : ℕ) : Type 0 where
   pub childless : regions_of v new ≡ []
 
 module _ (m : Meaning) (c : CallingConvention) (returns : Head → Bool) (t : Tree) (call callee : ℕ) (symbol : Datum) (may : MayInline m c returns t call callee symbol) (w : IsTree t) where
-  module _ (region entry new : ℕ) (v : Tree) (wv : IsTree v) (in_region : block_parent_of t may.block ≡ Some region) (l : AreCopiesLed m returns t v region (layout_of t may.region) may.after (operands_of t call) entry new) where
+  module _ (region entry new : ℕ) (v : Tree) (wv : IsTree v) (in_region : block_parent_of t may.prepared.block ≡ Some region) (l : AreCopiesLed m returns t v region (layout_of t may.inlinable.region) may.prepared.after (operands_of t call) entry new) where
     abbrev os : List ℕ
-    os = layout_of t may.region
+    os = layout_of t may.inlinable.region
 
     abbrev o : Originals
-    o = originals_of t (layout_of t may.region)
+    o = originals_of t (layout_of t may.inlinable.region)
 
     abbrev led : Tree
     led = l.led_back.led
@@ -51,10 +51,10 @@ module _ (m : Meaning) (c : CallingConvention) (returns : Head → Bool) (t : Tr
     abbrev olds : List ℕ
     olds = l.led_back.olds
 
-    ready : AreReady t l.copied region (layout_of t may.region) l.copies
-    ready = record { before = w; tree = l.tree; distinct = w.layouts.distinct may.region; copied = l.are_copied; known = l.known; grown = l.grown }
+    ready : AreReady t l.copied region (layout_of t may.inlinable.region) l.copies
+    ready = record { before = w; tree = l.tree; distinct = w.layouts.distinct may.inlinable.region; copied = l.are_copied; known = l.known; grown = l.grown }
 
-    returns_led : AreReturnsLed m returns l.copied l.led_back.led may.after (map (block_or_copy_in l.copies) (layout_of t may.region)) l.led_back.olds
+    returns_led : AreReturnsLed m returns l.copied l.led_back.led may.prepared.after (map (block_or_copy_in l.copies) (layout_of t may.inlinable.region)) l.led_back.olds
     returns_led = l.led_back.returns_led
 
     made : IsJumpMade l.led_back.led v new l.led_back.head (operands_of t call) (block_or_copy_in l.copies entry ∷ [])
@@ -62,8 +62,8 @@ module _ (m : Meaning) (c : CallingConvention) (returns : Head → Bool) (t : Tr
 
     -- ---- what stood stays
 
-    copies_new_here : (b : ℕ) → In b (map (block_or_copy_in l.copies) (layout_of t may.region)) → length t.bodies ≤ b
-    copies_new_here = copies_new t l.copied region (layout_of t may.region) l.copies ready
+    copies_new_here : (b : ℕ) → In b (map (block_or_copy_in l.copies) (layout_of t may.inlinable.region)) → length t.bodies ≤ b
+    copies_new_here = copies_new t l.copied region (layout_of t may.inlinable.region) l.copies ready
 
     olds_new : (k : ℕ) → In k l.led_back.olds → length t.operations ≤ k
     olds_new k i = let f = returns_led.from k i in new_only t l.copied region w l.grown l.tree k f.block f.holds (copies_new_here f.block f.listed)
@@ -84,26 +84,26 @@ module _ (m : Meaning) (c : CallingConvention) (returns : Head → Bool) (t : Tr
     call_in : call < length t.operations
     call_in = live-within t call may.calls.live
 
-    jump_in : may.jump < length t.operations
-    jump_in = live-within t may.jump may.jumps.live
+    jump_in : may.prepared.jump < length t.operations
+    jump_in = live-within t may.prepared.jump may.prepared.jumps.live
 
-    block_in : may.block < length t.bodies
-    block_in = block-within t may.block w.keys (ap is_some in_region)
+    block_in : may.prepared.block < length t.bodies
+    block_in = block-within t may.prepared.block w.keys (ap is_some in_region)
 
-    holds : parent_of v call ≡ Some may.block
-    holds = (stays call call_in).parent ∙ may.holds
+    holds : parent_of v call ≡ Some may.prepared.block
+    holds = (stays call call_in).parent ∙ may.prepared.holds
 
-    behind : next_of v call ≡ Some may.jump
-    behind = ap (λ p. up_from p (λ b. next_in call (body_of v b))) holds ∙ ap (next_in call) (body_stays may.block block_in) ∙ sym (ap (λ p. up_from p (λ b. next_in call (body_of t b))) may.holds) ∙ may.behind
+    behind : next_of v call ≡ Some may.prepared.jump
+    behind = ap (λ p. up_from p (λ b. next_in call (body_of v b))) holds ∙ ap (next_in call) (body_stays may.prepared.block block_in) ∙ sym (ap (λ p. up_from p (λ b. next_in call (body_of t b))) may.prepared.holds) ∙ may.prepared.behind
 
-    last : last_of None (body_of v may.block) ≡ Some may.jump
-    last = ap (last_of None) (body_stays may.block block_in) ∙ may.last
+    last : last_of None (body_of v may.prepared.block) ≡ Some may.prepared.jump
+    last = ap (last_of None) (body_stays may.prepared.block block_in) ∙ may.prepared.last
 
     new_lives : IsLive v new
     new_lives = subst IsSome (sym (ap (λ z. z.head) made.jump.row)) refl
 
-    apart : call ≢ may.jump
-    apart = jump_apart v may.block call may.jump new wv holds behind last made.free new_lives
+    apart : call ≢ may.prepared.jump
+    apart = jump_apart v may.prepared.block call may.prepared.jump new wv holds behind last made.free new_lives
 
     -- ---- nothing new uses what stood
 
@@ -114,9 +114,9 @@ module _ (m : Meaning) (c : CallingConvention) (returns : Head → Bool) (t : Tr
         let p = l.grown.placed k ge live in
         let less = block-within l.copied p.0 l.tree.keys (l.tree.joined.all_in_place k p.0 p.1).1 in
         let ge' = p.2 in
-        let home : block_parent_of t (o.block p.0) ≡ Some may.region = w.layouts.owned (o.block p.0) may.region (original_in os (length t.bodies) p.0 ge' (let n = l.are_copied.block_count in omega (arith, n, less))) in
+        let home : block_parent_of t (o.block p.0) ≡ Some may.inlinable.region = w.layouts.owned (o.block p.0) may.inlinable.region (original_in os (length t.bodies) p.0 ge' (let n = l.are_copied.block_count in omega (arith, n, less))) in
         let there : In (o.operation k) (body_of t (o.block p.0)) = subst (In (o.operation k)) (sym (l.are_copied.block_copies p.0 ge' less).body) (in_map o.operation (body_of l.copied p.0) k (l.tree.bodies.listed k p.0 p.1)) in
-        let own = may.own (o.block p.0) (o.operation k) (o.value x) home there (subst (In (o.value x)) (sym copy.same.operands) (in_map o.value (operands_of l.copied k) x i)) in
+        let own = may.inlinable.own (o.block p.0) (o.operation k) (o.value x) home there (subst (In (o.value x)) (sym copy.same.operands) (in_map o.value (operands_of l.copied k) x i)) in
         elim (cases_lt x (length t.definitions)) [
           | inl lt ↦ absurd (l.are_copied.named k x ge i (subst (λ z. In z (parts_of t os).values) (old_itself (parts_of t os).values (length t.definitions) x lt) own))
           | inr past ↦ past
@@ -137,26 +137,26 @@ module _ (m : Meaning) (c : CallingConvention) (returns : Head → Bool) (t : Tr
               fresh (original_by olds (length l.copied.operations) k) x (olds_new (original_by olds (length l.copied.operations) k) here) (subst (In x) (at.operands ∙ j.jump.operands) i)
         ]
 
-    used_there : (k x : ℕ) → In x (results_of v call) → In x (operands_of v k) → k ≡ may.jump
+    used_there : (k x : ℕ) → In x (results_of v call) → In x (operands_of v k) → k ≡ may.prepared.jump
     used_there k x i j =
         let r : In x (results_of t call) = subst (In x) (ap (λ z. z.results) (stays call call_in).row) i in
         let s = slice_in (results_of t call) x r in
         let old = slice_get_within t.definitions x (Result call s.0) (w.joined.results call s.0 x s.1) in
         elim (cases_lt k (length t.operations)) [
-          | inl lt ↦ may.used_there k x r (subst (In x) (stays k lt).operands j)
+          | inl lt ↦ may.prepared.used_there k x r (subst (In x) (stays k lt).operands j)
           | inr ge ↦ elim (cases_eq k new) [
-            | inl e ↦ absurd (apart (may.used_there call x r (subst (In x) (ap (operands_of v) e ∙ made.jump.operands) j)))
+            | inl e ↦ absurd (apart (may.prepared.used_there call x r (subst (In x) (ap (operands_of v) e ∙ made.jump.operands) j)))
             | inr ne ↦ absurd (let f = fresh_after k x ge ne j in omega (arith, f, old))
           ]
         ]
 
-    pub may_replace : MayReplace v may.block call may.jump new
+    pub may_replace : MayReplace v may.prepared.block call may.prepared.jump new
     may_replace = record {
       holds = holds;
       behind = behind;
       last = last;
       plain = ap (λ z. z.regions) (stays call call_in).row ∙ may.plain;
-      bare = (ap (λ z. z.results) (stays may.jump jump_in).row ∙ may.bare.0, ap (λ z. z.regions) (stays may.jump jump_in).row ∙ may.bare.1);
+      bare = (ap (λ z. z.results) (stays may.prepared.jump jump_in).row ∙ may.prepared.bare.0, ap (λ z. z.regions) (stays may.prepared.jump jump_in).row ∙ may.prepared.bare.1);
       used_there = used_there;
       stands = new_lives;
       free = made.free;
@@ -167,19 +167,19 @@ module _ (m : Meaning) (c : CallingConvention) (returns : Head → Bool) (t : Tr
 
   -- what it reads is what may be inlined
   module _ (block jump after region inner : ℕ) (blocks : List ℕ) (at : Some block ≡ parent_of t call) (next : Some jump ≡ next_of t call) (up : Some region ≡ block_parent_of t block) (to : slice_get (successors_of t jump) 0 ≡ Some after) (has : slice_get (regions_of t callee) 0 ≡ Some inner) (listed : blocks ≡ layout_of t inner) where
-    block_is : block ≡ may.block
-    block_is = some_is (at ∙ may.holds)
+    block_is : block ≡ may.prepared.block
+    block_is = some_is (at ∙ may.prepared.holds)
 
-    jump_is : jump ≡ may.jump
-    jump_is = some_is (next ∙ may.behind)
+    jump_is : jump ≡ may.prepared.jump
+    jump_is = some_is (next ∙ may.prepared.behind)
 
-    after_is : after ≡ may.after
-    after_is = some_is (sym to ∙ ap (λ k. slice_get (successors_of t k) 0) jump_is ∙ ap (λ xs. slice_get xs 0) may.jumps.leads)
+    after_is : after ≡ may.prepared.after
+    after_is = some_is (sym to ∙ ap (λ k. slice_get (successors_of t k) 0) jump_is ∙ ap (λ xs. slice_get xs 0) may.prepared.jumps.leads)
 
-    blocks_are : blocks ≡ layout_of t may.region
-    blocks_are = listed ∙ ap (layout_of t) (some_is (sym has ∙ ap (λ xs. slice_get xs 0) may.runs.holds))
+    blocks_are : blocks ≡ layout_of t may.inlinable.region
+    blocks_are = listed ∙ ap (layout_of t) (some_is (sym has ∙ ap (λ xs. slice_get xs 0) may.inlinable.runs.holds))
 
-    in_region : block_parent_of t may.block ≡ Some region
+    in_region : block_parent_of t may.prepared.block ≡ Some region
     in_region = sym (ap (block_parent_of t) block_is) ∙ sym up
 
     pub copies_may : MayCopy (record { tree = t; blocks = blocks; region = region })
@@ -198,14 +198,14 @@ module _ (m : Meaning) (c : CallingConvention) (returns : Head → Bool) (t : Tr
     each_block = copies_may.live
 
     module _ (entry new : ℕ) (v : Tree) (wv : IsTree v) (l : AreCopiesLed m returns t v region blocks after (operands_of t call) entry new) where
-      these : AreCopiesLed m returns t v region (layout_of t may.region) may.after (operands_of t call) entry new
-      these = subst (λ z. AreCopiesLed m returns t v region (layout_of t may.region) z (operands_of t call) entry new) after_is (subst (λ (xs : List ℕ). AreCopiesLed m returns t v region xs after (operands_of t call) entry new) blocks_are l)
+      these : AreCopiesLed m returns t v region (layout_of t may.inlinable.region) may.prepared.after (operands_of t call) entry new
+      these = subst (λ z. AreCopiesLed m returns t v region (layout_of t may.inlinable.region) z (operands_of t call) entry new) after_is (subst (λ (xs : List ℕ). AreCopiesLed m returns t v region xs after (operands_of t call) entry new) blocks_are l)
 
       pub replaceable : MayReplace v block call jump new
-      replaceable = subst (λ b. MayReplace v b call jump new) (sym block_is) (subst (λ k. MayReplace v may.block call k new) (sym jump_is) (may_replace region entry new v wv in_region these))
+      replaceable = subst (λ b. MayReplace v b call jump new) (sym block_is) (subst (λ k. MayReplace v may.prepared.block call k new) (sym jump_is) (may_replace region entry new v wv in_region these))
 
       pub it_is_inlined : (u : Tree) → IsTree u → first_of blocks None ≡ Some entry → IsCallReplaced v u block call jump new → IsInlined m c t u call callee symbol
       it_is_inlined u wu first r =
-          let first' : first_of (layout_of t may.region) None ≡ Some entry = sym (ap (λ xs. first_of xs None) blocks_are) ∙ first in
-          let r' : IsCallReplaced v u may.block call may.jump new = subst (λ b. IsCallReplaced v u b call may.jump new) block_is (subst (λ k. IsCallReplaced v u block call k new) jump_is r) in
+          let first' : first_of (layout_of t may.inlinable.region) None ≡ Some entry = sym (ap (λ xs. first_of xs None) blocks_are) ∙ first in
+          let r' : IsCallReplaced v u may.prepared.block call may.prepared.jump new = subst (λ b. IsCallReplaced v u b call may.prepared.jump new) block_is (subst (λ k. IsCallReplaced v u block call k new) jump_is r) in
           call_is_inlined m c returns t call callee symbol may w region entry new in_region v u wu first' these r'

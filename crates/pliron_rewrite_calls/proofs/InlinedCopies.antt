@@ -64,7 +64,7 @@ shape_by m t u j k oj ok e f head operands results successors targets none none'
 
 -- ---- jumps
 
-shape_parts : (m : Meaning) (u : Tree) (o : Operation) → ((shape_of m u o).head ≡ o.head) × ((shape_of m u o).operands ≡ length o.operands) × ((shape_of m u o).results ≡ length o.results) × ((shape_of m u o).successors ≡ length o.successors)
+pub shape_parts : (m : Meaning) (u : Tree) (o : Operation) → ((shape_of m u o).head ≡ o.head) × ((shape_of m u o).operands ≡ length o.operands) × ((shape_of m u o).results ≡ length o.results) × ((shape_of m u o).successors ≡ length o.successors)
 unfolding shape_of
 shape_parts m u o = (refl, refl, refl, refl)
 
@@ -111,8 +111,7 @@ module _ (m : Meaning) (u : Tree) (k target : ℕ) (h : Head) (values : List ℕ
         (subst (λ n. IsTrue (m.admits h (length values) 0 1 n)) (sym z) a))));
     forwards = λ o i d e branch at.
         let t = only_item target i d (ap (λ z. slice_get z i) (sym r.successors ∙ (op_shows u k o e).successors) ∙ at) in
-        let b : IsTrue (m.is_branch h) = subst (λ z. IsTrue (m.is_branch z)) (sym (shape_parts m u o).0 ∙ its_head o e) branch in
-        ap (λ n. length (m.forwarded (shape_of m u o) n)) t.0 ∙ head.forwards (shape_of m u o) (its_head o e) (its_operands o e) (its_successors o e) b ∙ sym many ∙ ap (λ n. length (arguments_of u n)) (sym t.1);
+        ap (λ n. length (m.forwarded (shape_of m u o) n)) t.0 ∙ head.forwards (shape_of m u o) (its_head o e) (its_operands o e) (its_successors o e) ∙ sym many ∙ ap (λ n. length (arguments_of u n)) (sym t.1);
   }
 
 -- ---- blocks that may be copied
@@ -173,15 +172,15 @@ pub record IsDone (m : Meaning) (c : CallingConvention) (returns : Head → Bool
   pub may : MayInline m c returns t call callee symbol
   pub tree : IsTree t
   pub region : ℕ
-  pub in_region : block_parent_of t may.block ≡ Some region
+  pub in_region : block_parent_of t may.prepared.block ≡ Some region
   pub copied : Tree
   pub copied_tree : IsTree copied
-  pub copies : AreCopiedInto t copied region (layout_of t may.region)
+  pub copies : AreCopiedInto t copied region (layout_of t may.inlinable.region)
   pub grown : IsGrownIn t copied region
   pub led : Tree
   pub blocks : List ℕ
   pub olds : List ℕ
-  pub returns_led : AreReturnsLed m returns copied led may.after blocks olds
+  pub returns_led : AreReturnsLed m returns copied led may.prepared.after blocks olds
   pub all_new : (b : ℕ) → In b blocks → length t.bodies ≤ b
   pub all : (b : ℕ) → length t.bodies ≤ b → b < length copied.bodies → In b blocks
   pub made : Tree
@@ -191,20 +190,20 @@ pub record IsDone (m : Meaning) (c : CallingConvention) (returns : Head → Bool
   pub entry : ℕ
   pub entry_new : length t.bodies ≤ entry
   pub entry_in : entry < length copied.bodies
-  pub entry_is : (originals_of t (layout_of t may.region)).block entry ≡ may.entry
+  pub entry_is : (originals_of t (layout_of t may.inlinable.region)).block entry ≡ may.inlinable.entry
   pub is_made : IsJumpMade led made new head (operands_of t call) (entry ∷ [])
-  pub replaced : IsCallReplaced made u may.block call may.jump new
+  pub replaced : IsCallReplaced made u may.prepared.block call may.prepared.jump new
   pub done_tree : IsTree u
 
 module _ (m : Meaning) (c : CallingConvention) (returns : Head → Bool) (t u : Tree) (call callee : ℕ) (symbol : Datum) (d : IsDone m c returns t u call callee symbol) where
   abbrev pub os : List ℕ
-  os = layout_of t d.may.region
+  os = layout_of t d.may.inlinable.region
 
   abbrev pub o : Originals
-  o = originals_of t (layout_of t d.may.region)
+  o = originals_of t (layout_of t d.may.inlinable.region)
 
   abbrev pub parts : InlinedCall
-  parts = parts_by t d.copied (layout_of t d.may.region) d.olds callee d.may.region call d.may.jump d.may.after d.new d.entry
+  parts = parts_by t d.copied (layout_of t d.may.inlinable.region) d.olds callee d.may.inlinable.region call d.may.prepared.jump d.may.prepared.after d.new d.entry
 
   abbrev many : ℕ
   many = length (results_of t call)
@@ -212,8 +211,8 @@ module _ (m : Meaning) (c : CallingConvention) (returns : Head → Bool) (t u : 
   pub call_less : call < length t.operations
   call_less = live-within t call d.may.calls.live
 
-  pub jump_less : d.may.jump < length t.operations
-  jump_less = live-within t d.may.jump d.may.jumps.live
+  pub jump_less : d.may.prepared.jump < length t.operations
+  jump_less = live-within t d.may.prepared.jump d.may.prepared.jumps.live
 
   -- ---- what stays from the copying on
 
@@ -226,7 +225,7 @@ module _ (m : Meaning) (c : CallingConvention) (returns : Head → Bool) (t u : 
   pub olds_new : (k : ℕ) → In k d.olds → length t.operations ≤ k
   olds_new k i = let f = d.returns_led.from k i in new_only t d.copied d.region d.tree d.grown d.copied_tree k f.block f.holds (d.all_new f.block f.listed)
 
-  pub stays_on : (k : ℕ) → k < length d.copied.operations → (In k d.olds → ⊥) → k ≢ call → k ≢ d.may.jump → IsSameAt d.copied u k
+  pub stays_on : (k : ℕ) → k < length d.copied.operations → (In k d.olds → ⊥) → k ≢ call → k ≢ d.may.prepared.jump → IsSameAt d.copied u k
   stays_on k lt out nc nj =
       let n : k ≢ d.new = λ e. let p = new_past in omega (arith, e, p, lt) in
       as_before_both d.copied d.led u k (d.returns_led.others k lt out) (as_before_both d.led d.made u k (d.is_made.others k n) (d.replaced.others k nc nj n))
@@ -237,8 +236,8 @@ module _ (m : Meaning) (c : CallingConvention) (returns : Head → Bool) (t u : 
       let n : k ≢ d.new = λ e. let f = d.is_made.key in omega (arith, e, f, lt) in
       as_before_both d.led d.made u k (d.is_made.others k n) (d.replaced.others k (λ e. let y = call_less in omega (arith, e, y, le)) (λ e. let y = jump_less in omega (arith, e, y, le)) n)
 
-  block_less : d.may.block < length t.bodies
-  block_less = block-within t d.may.block d.tree.keys (ap is_some d.in_region)
+  block_less : d.may.prepared.block < length t.bodies
+  block_less = block-within t d.may.prepared.block d.tree.keys (ap is_some d.in_region)
 
   pub body_on : (b : ℕ) → length t.bodies ≤ b → body_of u b ≡ body_of d.led b
   body_on b le = d.replaced.bodies b (λ e. let x = block_less in omega (arith, e, x, le)) ∙ d.is_made.bodies b
@@ -246,8 +245,8 @@ module _ (m : Meaning) (c : CallingConvention) (returns : Head → Bool) (t u : 
   -- ---- a block of the copy
 
   module _ (b : ℕ) (le : length t.bodies ≤ b) (lt : b < length d.copied.bodies) where
-    pub home : block_parent_of t (o.block b) ≡ Some d.may.region
-    home = d.tree.layouts.owned (o.block b) d.may.region (original_in os (length t.bodies) b le (let e = d.copies.block_count in omega (arith, e, lt)))
+    pub home : block_parent_of t (o.block b) ≡ Some d.may.inlinable.region
+    home = d.tree.layouts.owned (o.block b) d.may.inlinable.region (original_in os (length t.bodies) b le (let e = d.copies.block_count in omega (arith, e, lt)))
 
     pub parent_on : block_parent_of u b ≡ Some d.region
     parent_on = places.block_parents b ∙ (d.copies.block_copies b le lt).parent
@@ -256,7 +255,7 @@ module _ (m : Meaning) (c : CallingConvention) (returns : Head → Bool) (t u : 
     arguments_on = (d.copies.block_copies b le lt).arguments ∙ ap (map o.value) (sym (places.arguments b))
 
     pub count_alike : count_arguments (block_at t (o.block b)) ≡ count_arguments (block_at u b)
-    count_alike = ap count_arguments (make_block t (o.block b) d.may.region home) ∙ ap length arguments_on ∙ length-map (arguments_of u b) o.value ∙ sym (ap count_arguments (make_block u b d.region parent_on))
+    count_alike = ap count_arguments (make_block t (o.block b) d.may.inlinable.region home) ∙ ap length arguments_on ∙ length-map (arguments_of u b) o.value ∙ sym (ap count_arguments (make_block u b d.region parent_on))
 
   module _ (b : ℕ) (le : length t.bodies ≤ b) (lt : b < length d.copied.bodies) where
     fresh_argument : (v : ℕ) → In v (arguments_of u b) → IsFreshKey t v
@@ -294,7 +293,7 @@ module _ (m : Meaning) (c : CallingConvention) (returns : Head → Bool) (t u : 
 
       pub fresh_operand : (v : ℕ) → In v (operands_of d.copied k) → IsFreshKey t v
       fresh_operand v j =
-          let own = d.may.own (o.block b) (o.operation k) (o.value v) (home b le lt) there (subst (In (o.value v)) (sym copy.same.operands) (in_map o.value (operands_of d.copied k) v j)) in
+          let own = d.may.inlinable.own (o.block b) (o.operation k) (o.value v) (home b le lt) there (subst (In (o.value v)) (sym copy.same.operands) (in_map o.value (operands_of d.copied k) v j)) in
           elim (cases_lt v (length t.definitions)) [
             | inl less ↦ absurd (d.copies.named k v from_new j (subst (λ z. In z (parts_of t os).values) (old_itself (parts_of t os).values (length t.definitions) v less) own))
             | inr ge ↦ ge
@@ -315,9 +314,9 @@ module _ (m : Meaning) (c : CallingConvention) (returns : Head → Bool) (t u : 
       leads_in : (s : ℕ) → In s (successors_of d.copied k) → (length t.bodies ≤ s) × (s < length d.copied.bodies)
       leads_in s j =
           let stands = block-within d.copied s d.copied_tree.keys (d.copied_tree.joined.successors k s j) in
-          let inside = d.may.inside (o.block b) (o.operation k) (o.block s) (home b le lt) there (subst (In (o.block s)) (sym copy.same.successors) (in_map o.block (successors_of d.copied k) s j)) in
+          let inside = d.may.inlinable.inside (o.block b) (o.operation k) (o.block s) (home b le lt) there (subst (In (o.block s)) (sym copy.same.successors) (in_map o.block (successors_of d.copied k) s j)) in
           elim (cases_lt s (length t.bodies)) [
-            | inl less ↦ absurd (d.copies.led k s from_new j (subst (λ z. In z os) (old_itself os (length t.bodies) s less) (d.tree.layouts.listed (o.block s) d.may.region inside)))
+            | inl less ↦ absurd (d.copies.led k s from_new j (subst (λ z. In z os) (old_itself os (length t.bodies) s less) (d.tree.layouts.listed (o.block s) d.may.inlinable.region inside)))
             | inr ge ↦ (ge, stands)
           ]
 
@@ -371,7 +370,7 @@ module _ (m : Meaning) (c : CallingConvention) (returns : Head → Bool) (t u : 
 
     -- how it ends
     pub ends_so : (front : List ℕ) (last : ℕ) → body_of d.copied b ≡ front ++ last ∷ [] → ((k : ℕ) → In k front → NeverLeaves m t (o.operation k)) × (ReturnsAsMany m returns t many (o.operation last) ⊎ StaysWithin m returns t (o.operation last))
-    ends_so front last e = split_copied m returns t many o.operation front last (subst (MayBeCopied m returns t many) ((d.copies.block_copies b le lt).body ∙ ap (map o.operation) e) (d.may.copied (o.block b) (home b le lt)))
+    ends_so front last e = split_copied m returns t many o.operation front last (subst (MayBeCopied m returns t many) ((d.copies.block_copies b le lt).body ∙ ap (map o.operation) e) (d.may.inlinable.copied (o.block b) (home b le lt)))
 
     not_old : (front : List ℕ) (last k : ℕ) → body_of d.copied b ≡ front ++ last ∷ [] → In k (body_of d.copied b) → In k d.olds → k ≡ last
     not_old front last k e i j =
@@ -424,7 +423,7 @@ module _ (m : Meaning) (c : CallingConvention) (returns : Head → Bool) (t u : 
         on_new : IsSameAt d.led u new
         on_new = led_on new (let x = d.copies.operation_count in omega (arith, x, ge)) less
 
-        abbrev j : IsInPlaceOf m d.copied d.led d.may.after (original_by d.olds (length d.copied.operations) new) new
+        abbrev j : IsInPlaceOf m d.copied d.led d.may.prepared.after (original_by d.olds (length d.copied.operations) new) new
         j = d.returns_led.jumps new ge less
 
         new_original : parts.originals.operation new ≡ o.operation last
@@ -436,7 +435,7 @@ module _ (m : Meaning) (c : CallingConvention) (returns : Head → Bool) (t u : 
         replaced : IsReturnReplaced m t u parts new
         replaced = record {
           returns = subst (Returns m t) (sym new_original) many_so.leaves;
-          jumps = jump_goes m u new d.may.after j.head (operands_of d.copied (original_by d.olds (length d.copied.operations) new)) j.jumps (record { row = on_new.row ∙ j.jump.row; operands = on_new.operands ∙ j.jump.operands; successors = on_new.successors ∙ j.jump.successors });
+          jumps = jump_goes m u new d.may.prepared.after j.head (operands_of d.copied (original_by d.olds (length d.copied.operations) new)) j.jumps (record { row = on_new.row ∙ j.jump.row; operands = on_new.operands ∙ j.jump.operands; successors = on_new.successors ∙ j.jump.successors });
           operands = ap (operands_of t) new_original ∙ (copy last in_last).same.operands ∙ ap (map o.value) (sym new_operands);
           count = ap length new_operands ∙ sym (length-map (operands_of d.copied last) o.value) ∙ ap length (sym (copy last in_last).same.operands) ∙ many_so.gives;
           fresh = λ v i. fresh_operand last in_last v (subst (In v) new_operands i);
@@ -466,7 +465,7 @@ module _ (m : Meaning) (c : CallingConvention) (returns : Head → Bool) (t u : 
         (λ y.
         let same : body_of u b ≡ body_of d.copied b = body_on b le ∙ y.1 in
         ⊎_elim
-        (λ none. absurd (none_copied m returns t many o.operation (body_of d.copied b) (subst (MayBeCopied m returns t many) (d.copies.block_copies b le lt).body (d.may.copied (o.block b) (home b le lt))) none))
+        (λ none. absurd (none_copied m returns t many o.operation (body_of d.copied b) (subst (MayBeCopied m returns t many) (d.copies.block_copies b le lt).body (d.may.inlinable.copied (o.block b) (home b le lt))) none))
         (λ s. subst (λ z. AreCopies m t u parts z × (body_of t (o.block b) ≡ map parts.originals.operation z)) (sym (same ∙ s.2)) (copies_closed s.0 s.1 s.2 y.0, body_closed s.0 s.1 s.2 y.0))
         (from_end (body_of d.copied b)))
         (λ y. subst (λ z. AreCopies m t u parts z × (body_of t (o.block b) ≡ map parts.originals.operation z)) (sym (body_on b le ∙ y.now)) (copies_led y.front y.old y.before y.new y.is_old y.is_new y.within y.returned, body_led y.front y.old y.before y.new y.is_old y.is_new y.within y.returned))

@@ -144,9 +144,9 @@ module _ (m : Meaning) (c : CallingConvention) (returns : Head → Bool) (t u : 
   x = parts m c returns t u call callee symbol d
 
   abbrev blocks : List ℕ
-  blocks = layout_of t d.may.region
+  blocks = layout_of t d.may.inlinable.region
 
-  old_on : (k : ℕ) → k < length t.operations → k ≢ call → k ≢ d.may.jump → IsSameAt t u k
+  old_on : (k : ℕ) → k < length t.operations → k ≢ call → k ≢ d.may.prepared.jump → IsSameAt t u k
   old_on k lt nc nj =
       let f = d.copies.operation_count in
       let s = stays_on m c returns t u call callee symbol d k (omega (arith, f, lt)) (λ i. let g = olds_new m c returns t u call callee symbol d k i in omega (arith, g, lt)) nc nj in
@@ -157,31 +157,31 @@ module _ (m : Meaning) (c : CallingConvention) (returns : Head → Bool) (t u : 
         parent = s.parent ∙ d.copies.parents k lt;
       }
 
-  old_live : (k : ℕ) → IsLive t k → k ≢ call → k ≢ d.may.jump → IsSameAt t u k
+  old_live : (k : ℕ) → IsLive t k → k ≢ call → k ≢ d.may.prepared.jump → IsSameAt t u k
   old_live k live nc nj = old_on k (live-within t k live) nc nj
 
-  block_in : d.may.block < length t.bodies
-  block_in = block-within t d.may.block d.tree.keys (ap is_some d.in_region)
+  block_in : d.may.prepared.block < length t.bodies
+  block_in = block-within t d.may.prepared.block d.tree.keys (ap is_some d.in_region)
 
-  jump_there : parent_of t d.may.jump ≡ Some d.may.block
-  jump_there = d.tree.bodies.owned d.may.jump d.may.block (last_in (body_of t d.may.block) d.may.jump d.may.last)
+  jump_there : parent_of t d.may.prepared.jump ≡ Some d.may.prepared.block
+  jump_there = d.tree.bodies.owned d.may.prepared.jump d.may.prepared.block (last_in (body_of t d.may.prepared.block) d.may.prepared.jump d.may.prepared.last)
 
   body_old : (b : ℕ) → b < length t.bodies → body_of d.made b ≡ body_of t b
   body_old b lt = d.is_made.bodies b ∙ d.returns_led.bodies b (λ i. let f = d.all_new b i in omega (arith, f, lt)) ∙ d.copies.bodies b lt
 
-  split : body_of t d.may.block ≡ d.replaced.front ++ call ∷ d.may.jump ∷ []
-  split = sym (body_old d.may.block block_in) ∙ d.replaced.before
+  split : body_of t d.may.prepared.block ≡ d.replaced.front ++ call ∷ d.may.prepared.jump ∷ []
+  split = sym (body_old d.may.prepared.block block_in) ∙ d.replaced.before
 
   bodies : (b : ℕ) → IsBlock t b → HasNewJump x (body_of t b) (body_of u b)
-  bodies b is = elim (cases_eq b d.may.block) [
-    | inl e ↦ subst (λ z. HasNewJump x (body_of t z) (body_of u z)) (sym e) (subst (λ z. HasNewJump x z (body_of u d.may.block)) (sym split) (subst (HasNewJump x (d.replaced.front ++ call ∷ d.may.jump ∷ [])) (sym d.replaced.now) (jumps_put x d.replaced.front (λ k i. (λ f. out k i (inl f), λ f. out k i (inr (inl f)))))))
+  bodies b is = elim (cases_eq b d.may.prepared.block) [
+    | inl e ↦ subst (λ z. HasNewJump x (body_of t z) (body_of u z)) (sym e) (subst (λ z. HasNewJump x z (body_of u d.may.prepared.block)) (sym split) (subst (HasNewJump x (d.replaced.front ++ call ∷ d.may.prepared.jump ∷ [])) (sym d.replaced.now) (jumps_put x d.replaced.front (λ k i. (λ f. out k i (inl f), λ f. out k i (inr (inl f)))))))
     | inr ne ↦
         let same : body_of u b ≡ body_of t b = d.replaced.bodies b ne ∙ body_old b (block-within t b d.tree.keys is) in
-        subst (HasNewJump x (body_of t b)) (sym same) (jumps_same x (body_of t b) (λ k i. (λ f. ne (some_is (sym (d.tree.bodies.owned k b i) ∙ ap (parent_of t) f ∙ d.may.holds)), λ f. ne (some_is (sym (d.tree.bodies.owned k b i) ∙ ap (parent_of t) f ∙ jump_there)))))
+        subst (HasNewJump x (body_of t b)) (sym same) (jumps_same x (body_of t b) (λ k i. (λ f. ne (some_is (sym (d.tree.bodies.owned k b i) ∙ ap (parent_of t) f ∙ d.may.prepared.holds)), λ f. ne (some_is (sym (d.tree.bodies.owned k b i) ∙ ap (parent_of t) f ∙ jump_there)))))
   ]
     where
-      out : (k : ℕ) → In k d.replaced.front → In k (call ∷ d.may.jump ∷ []) → ⊥
-      out k i j = distinct-apart d.replaced.front (call ∷ d.may.jump ∷ []) (subst IsDistinct split (d.tree.bodies.distinct d.may.block)) k i j
+      out : (k : ℕ) → In k d.replaced.front → In k (call ∷ d.may.prepared.jump ∷ []) → ⊥
+      out k i j = distinct-apart d.replaced.front (call ∷ d.may.prepared.jump ∷ []) (subst IsDistinct split (d.tree.bodies.distinct d.may.prepared.block)) k i j
 
   its_places : HasSamePlaces d.copied u
   its_places = places m c returns t u call callee symbol d
@@ -195,7 +195,7 @@ module _ (m : Meaning) (c : CallingConvention) (returns : Head → Bool) (t u : 
 
   layout_old : (r : ℕ) → first_of (layout_of u r) None ≡ first_of (layout_of t r) None
   layout_old r = elim (cases_eq r d.region) [
-    | inl e ↦ ap (λ z. first_of (layout_of u z) None) e ∙ ap (λ z. first_of z None) (its_places.layouts d.region ∙ d.copies.last) ∙ first_stays (layout_of t d.region) (range_with_len (length t.bodies) (length blocks)) d.may.block (d.tree.layouts.listed d.may.block d.region d.in_region) ∙ ap (λ z. first_of (layout_of t z) None) (sym e)
+    | inl e ↦ ap (λ z. first_of (layout_of u z) None) e ∙ ap (λ z. first_of z None) (its_places.layouts d.region ∙ d.copies.last) ∙ first_stays (layout_of t d.region) (range_with_len (length t.bodies) (length blocks)) d.may.prepared.block (d.tree.layouts.listed d.may.prepared.block d.region d.in_region) ∙ ap (λ z. first_of (layout_of t z) None) (sym e)
     | inr ne ↦ ap (λ z. first_of z None) (its_places.layouts r ∙ d.copies.layouts r ne)
   ]
 
@@ -203,18 +203,18 @@ module _ (m : Meaning) (c : CallingConvention) (returns : Head → Bool) (t u : 
   call_inlined = record {
     calls = d.may.calls;
     plain = d.may.plain;
-    jumps = d.may.jumps;
-    passes = d.may.passes;
-    used_there = d.may.used_there;
-    fits = d.may.fits;
-    callee = d.may.runs;
-    entry = d.may.first ∙ ap Some (sym d.entry_is);
-    takes = ap (λ z. length (arguments_of t z)) d.entry_is ∙ d.may.takes;
+    jumps = d.may.prepared.jumps;
+    passes = d.may.prepared.passes;
+    used_there = d.may.prepared.used_there;
+    fits = d.may.prepared.fits;
+    callee = d.may.inlinable.runs;
+    entry = d.may.inlinable.first ∙ ap Some (sym d.entry_is);
+    takes = ap (λ z. length (arguments_of t z)) d.entry_is ∙ d.may.inlinable.takes;
     enters = jump_goes m u d.new d.entry d.head (operands_of t call) d.jumps new_row;
     operands_passed = new_row.operands;
     entry_copied = is_between_of (length t.bodies) (length d.copied.bodies) d.entry d.entry_new d.entry_in;
     copies = λ b e. let p = between_is (length t.bodies) (length d.copied.bodies) b e in block_copy m c returns t u call callee symbol d b p.0 p.1;
-    apart = values_own t d.tree blocks (d.tree.layouts.distinct d.may.region);
+    apart = values_own t d.tree blocks (d.tree.layouts.distinct d.may.inlinable.region);
     deleted = (ap (λ z. z.head) d.replaced.gone.0, ap (λ z. z.head) d.replaced.gone.1);
     bodies = bodies;
     arguments = λ b is. its_places.arguments b ∙ d.copies.arguments b (block-within t b d.tree.keys is);
@@ -232,7 +232,7 @@ module _ (m : Meaning) (c : CallingConvention) (returns : Head → Bool) (t u : 
   record IsOld (k : ℕ) : Type 0 where
     live : IsLive t k
     not_call : k ≢ call
-    not_jump : k ≢ d.may.jump
+    not_jump : k ≢ d.may.prepared.jump
 
   -- one of a copied block: a copy, or a jump in the place of a return
   record IsNew (k : ℕ) : Type 0 where
@@ -250,7 +250,7 @@ module _ (m : Meaning) (c : CallingConvention) (returns : Head → Bool) (t u : 
   kind k live = elim (cases_lt k (length t.operations)) [
     | inl lt ↦
         let nc : k ≢ call = λ e. dead k (ap (head_of u) e ∙ ap (λ z. z.head) d.replaced.gone.0) live in
-        let nj : k ≢ d.may.jump = λ e. dead k (ap (head_of u) e ∙ ap (λ z. z.head) d.replaced.gone.1) live in
+        let nj : k ≢ d.may.prepared.jump = λ e. dead k (ap (head_of u) e ∙ ap (λ z. z.head) d.replaced.gone.1) live in
         inl (record { live = subst (λ z. IsSome z.head) (old_on k lt nc nj).row live; not_call = nc; not_jump = nj })
     | inr ge ↦ elim (cases_lt k (length d.led.operations)) [
       | inl less ↦ inr (inl (made k ge less live))
@@ -288,8 +288,8 @@ module _ (m : Meaning) (c : CallingConvention) (returns : Head → Bool) (t u : 
 
   -- ---- jumps
 
-  after_in : d.may.after < length t.bodies
-  after_in = block-within t d.may.after d.tree.keys (ap is_some (d.may.beside ∙ d.in_region))
+  after_in : d.may.prepared.after < length t.bodies
+  after_in = block-within t d.may.prepared.after d.tree.keys (ap is_some (d.may.prepared.beside ∙ d.in_region))
 
   new_jump : IsJumpOf m u d.new
   new_jump = record {
@@ -298,7 +298,7 @@ module _ (m : Meaning) (c : CallingConvention) (returns : Head → Bool) (t u : 
     target = d.entry;
     jumps = d.jumps;
     row = new_row;
-    many = sym (ap length (arguments_on m c returns t u call callee symbol d d.entry d.entry_new d.entry_in) ∙ length-map (arguments_of u d.entry) (o m c returns t u call callee symbol d).value) ∙ ap (λ z. length (arguments_of t z)) d.entry_is ∙ d.may.takes;
+    many = sym (ap length (arguments_on m c returns t u call callee symbol d d.entry d.entry_new d.entry_in) ∙ length-map (arguments_of u d.entry) (o m c returns t u call callee symbol d).value) ∙ ap (λ z. length (arguments_of t z)) d.entry_is ∙ d.may.inlinable.takes;
   }
 
   never_replaced : (k j : ℕ) → NeverLeaves m t j → Returns m t j → ⊥
@@ -342,19 +342,19 @@ module _ (m : Meaning) (c : CallingConvention) (returns : Head → Bool) (t u : 
           record {
             head = j.head;
             values = operands_of d.copied (original_by d.olds (length d.copied.operations) k);
-            target = d.may.after;
+            target = d.may.prepared.after;
             jumps = j.jumps;
             row = record { row = on.row ∙ j.jump.row; operands = operands; successors = on.successors ∙ j.jump.successors };
-            many = ap length (its_places.arguments d.may.after ∙ d.copies.arguments d.may.after after_in) ∙ d.may.fits ∙ sym r.count ∙ ap length operands;
+            many = ap length (its_places.arguments d.may.prepared.after ∙ d.copies.arguments d.may.prepared.after after_in) ∙ d.may.prepared.fits ∙ sym r.count ∙ ap length operands;
           }
 
   pub copies_beside : AreCopiesBeside m t u x
   copies_beside = record {
-    block = d.may.block;
+    block = d.may.prepared.block;
     region = d.region;
-    holds = d.may.holds;
+    holds = d.may.prepared.holds;
     in_region = d.in_region;
-    target = d.may.beside ∙ d.in_region;
+    target = d.may.prepared.beside ∙ d.in_region;
     beside = λ b e. let p = between_is (length t.bodies) (length d.copied.bodies) b e in parent_on m c returns t u call callee symbol d b p.0 p.1;
     absent = λ b e. let p = between_is (length t.bodies) (length d.copied.bodies) b e in get_or_past t.block_parents b None (let f = d.tree.keys.block_parents in let g = p.0 in omega (arith, f, g));
     absent_jump = ap (λ z. z.head) (past_row t d.new (let f = new_past m c returns t u call callee symbol d in let g = d.copies.operation_count in omega (arith, f, g)));
@@ -364,7 +364,7 @@ module _ (m : Meaning) (c : CallingConvention) (returns : Head → Bool) (t u : 
         let n = d.copies.block_count in
         let p1 = p.1 in
         let q1 = q.1 in
-        original_apart blocks (length t.bodies) b y (d.tree.layouts.distinct d.may.region) p.0 (omega (arith, n, p1)) q.0 (omega (arith, n, q1)) same;
+        original_apart blocks (length t.bodies) b y (d.tree.layouts.distinct d.may.inlinable.region) p.0 (omega (arith, n, p1)) q.0 (omega (arith, n, q1)) same;
     blocks = λ b is. elim (cases_lt b (length t.bodies)) [
       | inl lt ↦ inl (subst IsSome (its_places.block_parents b ∙ d.copies.block_parents b lt) is)
       | inr ge ↦ inr (is_between_of (length t.bodies) (length d.copied.bodies) b ge (block-within d.copied b d.copied_tree.keys (subst IsSome (its_places.block_parents b) is)))

@@ -30,57 +30,57 @@ end_of m returns t n (x ∷ []) p k e = subst (λ z. (regions_of t z ≡ []) × 
 end_of m returns t n (x ∷ y ∷ ys) p k e = end_of m returns t n (y ∷ ys) p.2 k e
 
 module _ (m : Meaning) (c : CallingConvention) (returns : Head → Bool) (t : Tree) (call callee : ℕ) (symbol : Datum) (may : MayInline m c returns t call callee symbol) (w : IsTree t) where
-  pub returns_bare : (b : ℕ) → In b (layout_of t may.region) → AreReturnsBare returns t b
+  pub returns_bare : (b : ℕ) → In b (layout_of t may.inlinable.region) → AreReturnsBare returns t b
   returns_bare b i k h last head is =
-      let e = end_of m returns t (length (results_of t call)) (body_of t b) (may.copied b (w.layouts.owned b may.region i)) k last in
+      let e = end_of m returns t (length (results_of t call)) (body_of t b) (may.inlinable.copied b (w.layouts.owned b may.inlinable.region i)) k last in
       ⊎_elim (λ q. (q.bare, e.0)) (λ q. absurd (q.no_return h head is)) e.1
 
-  pub may_copy : (region : ℕ) → block_parent_of t may.block ≡ Some region → MayCopy (record { tree = t; blocks = layout_of t may.region; region = region })
+  pub may_copy : (region : ℕ) → block_parent_of t may.prepared.block ≡ Some region → MayCopy (record { tree = t; blocks = layout_of t may.inlinable.region; region = region })
   may_copy region e = record {
     tree = w;
-    live = λ b i. ap is_some (w.layouts.owned b may.region i);
-    apart = w.layouts.distinct may.region;
-    childless = λ b k i j. childless_in m returns t (length (results_of t call)) (body_of t b) (may.copied b (w.layouts.owned b may.region i)) k j;
-    into = w.joined.placed may.block region e;
+    live = λ b i. ap is_some (w.layouts.owned b may.inlinable.region i);
+    apart = w.layouts.distinct may.inlinable.region;
+    childless = λ b k i j. childless_in m returns t (length (results_of t call)) (body_of t b) (may.inlinable.copied b (w.layouts.owned b may.inlinable.region i)) k j;
+    into = w.joined.placed may.prepared.block region e;
   }
 
-  pub after_block : IsBlock t may.after
-  after_block = w.joined.successors may.jump may.after (subst (In may.after) (sym may.jumps.leads) (inl refl))
+  pub after_block : IsBlock t may.prepared.after
+  after_block = w.joined.successors may.prepared.jump may.prepared.after (subst (In may.prepared.after) (sym may.prepared.jumps.leads) (inl refl))
 
-  pub not_empty : 0 < length (layout_of t may.region)
-  not_empty = go (layout_of t may.region) may.first
+  pub not_empty : 0 < length (layout_of t may.inlinable.region)
+  not_empty = go (layout_of t may.inlinable.region) may.inlinable.first
     where
-      go : (xs : List ℕ) → first_of xs None ≡ Some may.entry → 0 < length xs
+      go : (xs : List ℕ) → first_of xs None ≡ Some may.inlinable.entry → 0 < length xs
       go [] e = absurd (not_none e)
       go (x ∷ xs) e = omega arith
 
-  module _ (region entry new : ℕ) (in_region : block_parent_of t may.block ≡ Some region) (v u : Tree) (wu : IsTree u) (first : first_of (layout_of t may.region) None ≡ Some entry) (l : AreCopiesLed m returns t v region (layout_of t may.region) may.after (operands_of t call) entry new) (r : IsCallReplaced v u may.block call may.jump new) where
+  module _ (region entry new : ℕ) (in_region : block_parent_of t may.prepared.block ≡ Some region) (v u : Tree) (wu : IsTree u) (first : first_of (layout_of t may.inlinable.region) None ≡ Some entry) (l : AreCopiesLed m returns t v region (layout_of t may.inlinable.region) may.prepared.after (operands_of t call) entry new) (r : IsCallReplaced v u may.prepared.block call may.prepared.jump new) where
     abbrev os : List ℕ
-    os = layout_of t may.region
+    os = layout_of t may.inlinable.region
 
     abbrev copy : ℕ → ℕ
     copy = block_or_copy_in l.copies
 
-    ready : AreReady t l.copied region (layout_of t may.region) l.copies
-    ready = record { before = w; tree = l.tree; distinct = w.layouts.distinct may.region; copied = l.are_copied; known = l.known; grown = l.grown }
+    ready : AreReady t l.copied region (layout_of t may.inlinable.region) l.copies
+    ready = record { before = w; tree = l.tree; distinct = w.layouts.distinct may.inlinable.region; copied = l.are_copied; known = l.known; grown = l.grown }
 
-    of_copy : (b : ℕ) → In b (layout_of t may.region) → (length t.bodies ≤ block_or_copy_in l.copies b) × ((originals_of t (layout_of t may.region)).block (block_or_copy_in l.copies b) ≡ b) × IsBlock l.copied (block_or_copy_in l.copies b)
-    of_copy = copy_of t l.copied region (layout_of t may.region) l.copies ready
+    of_copy : (b : ℕ) → In b (layout_of t may.inlinable.region) → (length t.bodies ≤ block_or_copy_in l.copies b) × ((originals_of t (layout_of t may.inlinable.region)).block (block_or_copy_in l.copies b) ≡ b) × IsBlock l.copied (block_or_copy_in l.copies b)
+    of_copy = copy_of t l.copied region (layout_of t may.inlinable.region) l.copies ready
 
-    among : (b : ℕ) → IsBlock l.copied b → b < length t.bodies + length (layout_of t may.region)
+    among : (b : ℕ) → IsBlock l.copied b → b < length t.bodies + length (layout_of t may.inlinable.region)
     among b is = let x = block-within l.copied b l.tree.keys is in let y = l.are_copied.block_count in omega (arith, x, y)
 
-    all : (b : ℕ) → length t.bodies ≤ b → b < length l.copied.bodies → In b (map (block_or_copy_in l.copies) (layout_of t may.region))
+    all : (b : ℕ) → length t.bodies ≤ b → b < length l.copied.bodies → In b (map (block_or_copy_in l.copies) (layout_of t may.inlinable.region))
     all b le lt =
         let n = l.are_copied.block_count in
         let under : b < length t.bodies + length os = omega (arith, n, lt) in
         let i = original_in os (length t.bodies) b le under in
         let p = of_copy ((originals_of t os).block b) i in
-        let same : copy ((originals_of t os).block b) ≡ b = original_apart os (length t.bodies) (copy ((originals_of t os).block b)) b (w.layouts.distinct may.region) p.0 (among (copy ((originals_of t os).block b)) p.2) le under p.1 in
+        let same : copy ((originals_of t os).block b) ≡ b = original_apart os (length t.bodies) (copy ((originals_of t os).block b)) b (w.layouts.distinct may.inlinable.region) p.0 (among (copy ((originals_of t os).block b)) p.2) le under p.1 in
         subst (λ z. In z (map copy os)) same (in_map copy os ((originals_of t os).block b) i)
 
-    entry_in : In entry (layout_of t may.region)
-    entry_in = first_of-In entry (layout_of t may.region) first
+    entry_in : In entry (layout_of t may.inlinable.region)
+    entry_in = first_of-In entry (layout_of t may.inlinable.region) first
 
     done : IsDone m c returns t u call callee symbol
     done = record {
@@ -93,10 +93,10 @@ module _ (m : Meaning) (c : CallingConvention) (returns : Head → Bool) (t : Tr
       copies = l.are_copied;
       grown = l.grown;
       led = l.led_back.led;
-      blocks = map (block_or_copy_in l.copies) (layout_of t may.region);
+      blocks = map (block_or_copy_in l.copies) (layout_of t may.inlinable.region);
       olds = l.led_back.olds;
       returns_led = l.led_back.returns_led;
-      all_new = copies_new t l.copied region (layout_of t may.region) l.copies ready;
+      all_new = copies_new t l.copied region (layout_of t may.inlinable.region) l.copies ready;
       all = all;
       made = v;
       new = new;
@@ -105,7 +105,7 @@ module _ (m : Meaning) (c : CallingConvention) (returns : Head → Bool) (t : Tr
       entry = block_or_copy_in l.copies entry;
       entry_new = (of_copy entry entry_in).0;
       entry_in = block-within l.copied (block_or_copy_in l.copies entry) l.tree.keys (of_copy entry entry_in).2;
-      entry_is = (of_copy entry entry_in).1 ∙ some_is (sym first ∙ may.first);
+      entry_is = (of_copy entry entry_in).1 ∙ some_is (sym first ∙ may.inlinable.first);
       is_made = l.led_back.made;
       replaced = r;
       done_tree = wu;

@@ -1,4 +1,5 @@
 mod MovedBehind
+mod HandedOver
 mod Growing
 mod ErasedAgain
 mod CopyLists
@@ -14,3 +15,7 @@ mod InliningCalls
 mod ReturnLoops
 mod InliningAsked
 mod CallReady
+mod CallLed
+mod CallMade
+mod CallRuns
+mod CallSteps

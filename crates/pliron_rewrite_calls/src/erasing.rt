@@ -1,5 +1,5 @@
 //! New blocks at the end of a region are erased again.
-ghost use Rattle.std.specs.Prelude.{◌≡◌, None, Some, IsTrue, ◌↔◌};
+ghost use Rattle.std.specs.Prelude.{◌≡◌, ◌≤◌, None, Some, IsTrue, ◌↔◌, length};
 ghost use Rattle.pliron_core.specs.Tree.{Tree, IsRegion, layout_of, last_of};
 ghost use Rattle.pliron_core.specs.Invariant.{IsTree};
 ghost use Rattle.pliron_core.specs.Changes.{IsSameTree};
@@ -53,6 +53,7 @@ pub(crate) fn erase_new_blocks<R: Rewriter>(
     requires grown { IsGrownIn t ctx.old.tree region }
     requires last { last.now ≡ last_of None (layout_of t region) }
     ensures same { IsSameTree t ctx.new.tree }
+    ensures longer { length t.operations ≤ length ctx.new.tree.operations }
     ensures point { R.point rewriter.new ≡ R.point rewriter.old }
 {
     drop_new_uses(region, last, ctx);

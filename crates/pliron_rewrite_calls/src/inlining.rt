@@ -48,7 +48,7 @@ fn add_edge(
 
 // A new operation in no block, with these operands and this successor. Errors: allocation failure, after which it is
 // erased again.
-fn make_jump<R: Rewriter>(
+pub(crate) fn make_jump<R: Rewriter>(
     head: Head,
     values: &[Value],
     target: Ptr<BasicBlock>,

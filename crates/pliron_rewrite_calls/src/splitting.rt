@@ -10,7 +10,7 @@ use pliron_laws::{OptError, Room};
 use std::alloc::Global;
 
 // How many operations are behind this one in its block.
-fn count_behind(op: Ptr<Operation>, block: Ptr<BasicBlock>, ctx: &Context) -> usize
+pub(crate) fn count_behind(op: Ptr<Operation>, block: Ptr<BasicBlock>, ctx: &Context) -> usize
     requires { parent_of ctx.now.tree op ≡ Some block }
     ensures { result ≡ length (rest_from (next_of ctx.now.tree op) (body_of ctx.now.tree block)) }
 {
@@ -26,7 +26,7 @@ fn count_behind(op: Ptr<Operation>, block: Ptr<BasicBlock>, ctx: &Context) -> us
 }
 
 // The operations behind this one in its block become those of the other block, which has none.
-fn move_behind<R: Rewriter + Room>(
+pub(crate) fn move_behind<R: Rewriter + Room>(
     ctx: &mut Context,
     op: Ptr<Operation>,
     block: Ptr<BasicBlock>,

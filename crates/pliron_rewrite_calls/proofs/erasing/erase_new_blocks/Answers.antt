@@ -33,3 +33,9 @@ loop-block-smaller g c =
 
 pub returns-clause-same : goal.returns-clause-same
 returns-clause-same g c = erase_done g.t c.loop-block.ctx.tree c.args.region c.requires.1.0 c.well_formed-2.ensures.tree c.loop-block.invariant.grown (sym c.get_tail.ensures.last ∙ c.in_default.is)
+
+pub returns-then-is_block-clause-longer : goal.returns-then-is_block-clause-longer
+returns-then-is_block-clause-longer g c = c.loop-block.invariant.grown.operation_count
+
+pub returns-clause-longer : goal.returns-clause-longer
+returns-clause-longer g c = c.loop-block.invariant.grown.operation_count

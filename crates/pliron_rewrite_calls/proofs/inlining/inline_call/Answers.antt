@@ -8,11 +8,11 @@ use Rattle.pliron_rewrite_calls.proofs.inlining.inline_call.Goals as goal
 pub get_successor-after-requires-clause-index : goal.get_successor-after-requires-clause-index
 get_successor-after-requires-clause-index g c =
     let may = c.requires.1.1 in
-    let same : c.in-Some-get_next.jump ≡ may.jump = some_is (c.in-Some-get_next.ensures.next ∙ may.behind) in
-    subst (λ k. 0 < length (successors_of c.args.ctx.now.tree k)) (sym same) (subst (λ (xs : List ℕ). 0 < length xs) (sym may.jumps.leads) (omega arith))
+    let same : c.in-Some-get_next.jump ≡ may.prepared.jump = some_is (c.in-Some-get_next.ensures.next ∙ may.prepared.behind) in
+    subst (λ k. 0 < length (successors_of c.args.ctx.now.tree k)) (sym same) (subst (λ (xs : List ℕ). 0 < length xs) (sym may.prepared.jumps.leads) (omega arith))
 
 pub get_region-requires-clause-index : goal.get_region-requires-clause-index
-get_region-requires-clause-index g c = subst (λ (xs : List ℕ). 0 < length xs) (sym c.requires.1.1.runs.holds) (omega arith)
+get_region-requires-clause-index g c = subst (λ (xs : List ℕ). 0 < length xs) (sym c.requires.1.1.inlinable.runs.holds) (omega arith)
 
 pub copy_and_lead_back-requires : goal.copy_and_lead_back-requires
 copy_and_lead_back-requires g c =
