@@ -4,7 +4,7 @@ ghost use Rattle.pliron_driver_mlir.specs.Modules.{ReadsModule};
 ghost use Rattle.pliron_driver.specs.Closed.{closed_reads, closed_prints};
 
 use crate::failure::{ModuleFailure, ModuleFault};
-use crate::notation::{GenericForm, ModuleDocument};
+use crate::notation::{GenericForm, ModuleDocument, ModuleNotation};
 use pliron_core::Context;
 use pliron_dialect_mlir::{AnyMeaning, Mlir};
 use pliron_driver::{ClosedNotation, Notation};
@@ -53,4 +53,8 @@ impl Notation for ClosedForm {
     fn empty_sheet(alloc: Global) -> Sheet {
         ClosedNotation::<MlirForm>::empty_sheet(alloc)
     }
+}
+
+impl ModuleNotation for ClosedForm {
+    type Plain = ClosedForm;
 }

@@ -2,13 +2,15 @@
 ghost use Rattle.std.specs.Prelude.{◌≡◌};
 ghost use Rattle.pliron_core.specs.Writes.{no_tree};
 
+use crate::failure::ModuleFault;
 use crate::fitness::{Fitness, fitness_of};
 use crate::notation::{ModuleDocument, ModuleNotation};
 use crate::tally::ClassTally;
 use pliron_core::Context;
-use pliron_driver::{Observer, TextFailure};
+use pliron_driver::{Notation, Observer, TextFailure};
 use pliron_laws::OptError;
 use pliron_text_mlir_printer::{ModuleView, is_same_module};
+use pliron_text_mlir_reader::Sheet;
 use std::alloc::Global;
 
 /// Counts of live operations by class, before and after, and which functions are fit to run.
@@ -38,6 +40,8 @@ pub struct ModuleObserver {
     options: ModuleOptions,
     /// What was live before and after.
     pub counts: Option<ModuleCounts>,
+    /// How many calls were inlined before the passes ran.
+    pub inlined: usize,
     /// Whether what was printed says the same tree when it is read again.
     pub agrees: Option<bool>,
 }
@@ -48,6 +52,7 @@ impl ModuleObserver {
         ModuleObserver {
             options,
             counts: None,
+            inlined: 0,
             agrees: None,
         }
     }
@@ -60,6 +65,7 @@ impl<N: ModuleNotation> Observer<N> for ModuleObserver {
         document: &ModuleDocument,
         ctx: &Context,
     ) -> Result<(), OptError> {
+        self.inlined = document.sheet.inlined;
         if self.options.counts {
             let fitness = fitness_of::<N::D>(alloc, document, ctx)?;
             let before = ClassTally::of(document.root, ctx);
@@ -80,7 +86,7 @@ impl<N: ModuleNotation> Observer<N> for ModuleObserver {
         ctx: &Context,
     ) -> Result<(), OptError> {
         if self.options.checks {
-            self.agrees = Some(reads_as::<N>(alloc, printed, document, ctx)?);
+            self.agrees = Some(reads_as::<N::Plain>(alloc, printed, document, ctx)?);
         }
         if let Some(counts) = &mut self.counts {
             counts.after = ClassTally::of(document.root, ctx);
@@ -90,7 +96,7 @@ impl<N: ModuleNotation> Observer<N> for ModuleObserver {
 }
 
 // Whether this text says the module as it is now.
-fn reads_as<N: ModuleNotation>(
+fn reads_as<N: Notation<Sheet = Sheet, Fault = ModuleFault>>(
     alloc: Global,
     text: &[u8],
     document: &ModuleDocument,
@@ -101,7 +107,7 @@ fn reads_as<N: ModuleNotation>(
 }
 
 // The same, by reading it into another context.
-fn reads_as_in<N: ModuleNotation>(
+fn reads_as_in<N: Notation<Sheet = Sheet, Fault = ModuleFault>>(
     alloc: Global,
     text: &[u8],
     document: &ModuleDocument,

@@ -5,7 +5,7 @@ ghost use Rattle.pliron_driver_mlir.specs.Modules.{ReadsModule};
 use crate::failure::{ModuleFailure, ModuleFault, failure_of};
 use pliron_core::Context;
 use pliron_dialect_edges::BranchesAtOnce;
-use pliron_driver::{Document, Notation};
+use pliron_driver::{ClosedNotation, Document, Notation};
 use pliron_laws::{Dialect, OptError};
 use pliron_pass_pipeline::NoRules;
 use pliron_text_mlir_printer::print_module;
@@ -61,6 +61,15 @@ impl<D: Dialect + BranchesAtOnce> Notation for GenericForm<D> {
 }
 
 /// A notation of modules.
-pub trait ModuleNotation: Notation<Sheet = Sheet, Fault = ModuleFault> {}
+pub trait ModuleNotation: Notation<Sheet = Sheet, Fault = ModuleFault> {
+    /// The notation of the same texts in which a module is read as it is written.
+    type Plain: Notation<Sheet = Sheet, Fault = ModuleFault>;
+}
 
-impl<N: Notation<Sheet = Sheet, Fault = ModuleFault>> ModuleNotation for N {}
+impl<D: Dialect + BranchesAtOnce> ModuleNotation for GenericForm<D> {
+    type Plain = GenericForm<D>;
+}
+
+impl<N: ModuleNotation> ModuleNotation for ClosedNotation<N> {
+    type Plain = ClosedNotation<N::Plain>;
+}

@@ -65,8 +65,10 @@ fn failure_outcome(
     })
 }
 
-// Writes the report on a module that passes made: counts, whether it changed, and whether what is printed says it.
+// Writes the report on a module that passes made: counts, calls that were inlined, whether it changed, and whether what is
+// printed says it.
 fn write_made(
+    alloc: Global,
     report: &mut String,
     source: &ModuleSource,
     status: IRStatus,
@@ -76,9 +78,14 @@ fn write_made(
         write_tallies(report, &counts.before, &counts.after)?;
         write_fitness(report, &counts.fitness, source.name, source.text)?;
     }
-    report.push_str(match status {
-        IRStatus::Changed => "changed\n",
-        IRStatus::Unchanged => "unchanged\n",
+    if observer.inlined > 0 {
+        report.push_str(format!(in alloc; "inlined calls: {}\n", observer.inlined)?.as_str())?;
+    }
+    let is_changed = status == IRStatus::Changed || observer.inlined > 0;
+    report.push_str(if is_changed {
+        "changed\n"
+    } else {
+        "unchanged\n"
     })?;
     match observer.agrees {
         Some(true) => report.push_str("checked: what is printed says the same tree\n"),
@@ -99,7 +106,7 @@ fn success_outcome(
     ensures { IfOk result (Writes made.printed.items) }
 {
     let mut report = report;
-    write_made(&mut report, source, made.status, observer)?;
+    write_made(alloc, &mut report, source, made.status, observer)?;
     if has_fault || observer.agrees == Some(false) {
         return Ok(ModuleOutcome {
             output: Vec::new(alloc),

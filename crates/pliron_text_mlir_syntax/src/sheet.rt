@@ -101,6 +101,8 @@ pub struct Sheet {
     locations: Vec<(usize, usize)>,
     before: Vec<u8>,
     behind: Vec<u8>,
+    /// How many calls were inlined in the tree since its text was read.
+    pub inlined: usize,
 }
 
 impl Sheet {
@@ -117,6 +119,7 @@ impl Sheet {
             locations: Vec::new(alloc),
             before: Vec::new(alloc),
             behind: Vec::new(alloc),
+            inlined: 0,
         }
     }
 
