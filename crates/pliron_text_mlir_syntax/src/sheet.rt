@@ -93,7 +93,7 @@ fn may_be_same(first: &[u8], second: &[u8]) -> bool {
 pub struct Sheet {
     texts: Texts,
     forms: IndexSet<OperationForm>,
-    /// By the handles of values: the numbers of their types.
+    /// By the handles of values: the numbers of their types, and the greatest number where there is none.
     types: Vec<usize>,
     /// By the handles of operations: their places.
     places: Vec<usize>,
@@ -209,9 +209,30 @@ impl Sheet {
         Ok(())
     }
 
+    /// The value with this handle has the type of the other one, or none where that has none. Values without a type that
+    /// come before it have none. Errors: allocation failure. Cost: constant, and linear in those.
+    pub fn set_type_of(&mut self, key: u64, other: u64) -> Result<(), AllocError> {
+        let (key, other) = (usize::try_from(key), usize::try_from(other));
+        let (Ok(key), Ok(other)) = (key, other) else {
+            return Ok(());
+        };
+        let number = self.types.get(other).copied().unwrap_or(usize::MAX);
+        for _ in self.types.len()..key {
+            self.types.push(usize::MAX)?;
+        }
+        match self.types.get_mut(key) {
+            Some(known) => *known = number,
+            None => self.types.push(number)?,
+        }
+        Ok(())
+    }
+
     /// The type of the value with this handle, where the text said it. Cost: constant.
     pub fn type_of(&self, key: u64) -> Option<&[u8]> {
         let number = self.types.get(usize::try_from(key).ok()?).copied()?;
+        if number == usize::MAX {
+            return None;
+        }
         Some(self.texts.get(number))
     }
 
