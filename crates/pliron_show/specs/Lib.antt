@@ -1,4 +1,1 @@
-pub mod Ends
 pub mod Faults
-pub mod Lost
-pub mod Words

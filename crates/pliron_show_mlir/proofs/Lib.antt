@@ -1,3 +1,0 @@
-mod FunctionLemmas
-mod LostLemmas
-mod WordLemmas

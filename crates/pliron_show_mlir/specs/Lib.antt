@@ -1,3 +1,0 @@
-pub mod RunWords
-pub mod LostNumbers
-pub mod Functions
