@@ -50,7 +50,7 @@ impl Progress for ProcessClock<'_> {
 // What the words ask for.
 //
 // No clause speaks of what words were parsed to: this is read.
-fn request_of<'w>(matches: &'w ArgMatches<'w>, pipeline: &'w str) -> Request<'w> {
+fn request_of<'w>(matches: &ArgMatches<'w>, pipeline: &'w str) -> Request<'w> {
     let name = matches.get_str("file").unwrap_or("-");
     Request {
         pipeline,
@@ -93,7 +93,7 @@ fn run_to<'r, N: ModuleNotation, R: Read>(
 // Opens the input, of which no more is read than a byte past the longest text, and runs the program on it in this notation.
 fn act_in<'w, N: ModuleNotation>(
     rt: &HostRuntime,
-    matches: &'w ArgMatches<'w>,
+    matches: &ArgMatches<'w>,
     pipeline: &'w str,
 ) -> u8 {
     let request = request_of(matches, pipeline);
@@ -109,7 +109,7 @@ fn act_in<'w, N: ModuleNotation>(
 }
 
 // Runs the program on what the words ask for, with calls inlined first where they do.
-fn act(rt: &HostRuntime, matches: &ArgMatches) -> u8 {
+fn act<'w>(rt: &HostRuntime, matches: &ArgMatches<'w>) -> u8 {
     match split_stage(matches.get_str("pipeline").unwrap_or("")) {
         (true, pipeline) => act_in::<InlinedForm<Form>>(rt, matches, pipeline),
         (false, pipeline) => act_in::<Form>(rt, matches, pipeline),
