@@ -1,8 +1,8 @@
 //! Calls of a module that are inlined.
-ghost use Rattle.std.specs.Prelude.{◌≡◌, List, OnOk, IsOkUnless};
+ghost use Rattle.std.specs.Prelude.{◌≡◌, ℕ, List, OnOk};
 ghost use Rattle.pliron_core.specs.Tree.{IsLive};
 ghost use Rattle.pliron_laws.specs.Linked.{IsWellLinked};
-ghost use Rattle.pliron_opt_inline.specs.InTurn.{InlinedName, KeepsProgramsLinkedBy};
+ghost use Rattle.pliron_opt_inline.specs.Module.{AreInlined};
 
 use crate::types::set_types;
 use pliron_core::{Context, IRRewriter};
@@ -26,7 +26,7 @@ pub const INLINING: InliningOptions = InliningOptions {
 /// counts the calls.
 ///
 /// Asks that the module is live (`is_live` tests it). Errors: allocation failure; `VerifyAfter` where the module isn't well
-/// linked afterwards. Whatever it answers, linked runs are kept. Cost: that of `inline_calls`, and linear in the sheet's
+/// linked afterwards. Cost: that of `inline_calls`, and linear in the sheet's
 /// texts.
 pub fn inline_document<D: Dialect + InliningDialect>(
     alloc: Global,
@@ -35,8 +35,8 @@ pub fn inline_document<D: Dialect + InliningDialect>(
 ) -> Result<(), OptError>
     requires { IsLive ctx.old.tree document.old.root }
     ensures root { document.new.root ≡ document.old.root }
-    ensures programs { (names : List InlinedName) × KeepsProgramsLinkedBy D.meaning D.convention names ctx.old.tree
-        ctx.new.tree }
+    ensures inlined { OnOk result ((callees : List ℕ) × AreInlined D.meaning D.convention ctx.old.tree ctx.new.tree
+        callees) }
     ensures liveness { OnOk result (IsLive ctx.new.tree document.new.root) }
     ensures links { OnOk result (IsWellLinked D.meaning ctx.new.tree document.new.root) }
 {

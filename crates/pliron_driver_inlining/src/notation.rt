@@ -20,8 +20,7 @@ use std::marker::PhantomData;
 pub struct InlinedForm<N>(PhantomData<(N, Sheet)>);
 
 impl<D: Dialect + BranchesAtOnce + InliningDialect, N: ModuleNotation<D = D>> Notation
-    for InlinedForm<N>
-{
+    for InlinedForm<N> {
     type D = D;
 
     type Rules = N::Rules;
@@ -58,7 +57,6 @@ impl<D: Dialect + BranchesAtOnce + InliningDialect, N: ModuleNotation<D = D>> No
 }
 
 impl<D: Dialect + BranchesAtOnce + InliningDialect, N: ModuleNotation<D = D>> ModuleNotation
-    for InlinedForm<N>
-{
+    for InlinedForm<N> {
     type Plain = N::Plain;
 }

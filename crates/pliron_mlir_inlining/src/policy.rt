@@ -78,11 +78,7 @@ const NOTHING_ALLOWED: FormFacts = FormFacts {
 };
 
 // Whether the form is that of a module's flags which say that a body may be replaced when the program is loaded.
-fn says_replaced(
-    alloc: Global,
-    form: &OperationForm,
-    sheet: &Sheet,
-) -> Result<bool, AllocError> {
+fn says_replaced(alloc: Global, form: &OperationForm, sheet: &Sheet) -> Result<bool, AllocError> {
     if sheet.text(form.name) != b"\"llvm.module_flags\"".as_slice() {
         return Ok(false);
     }
@@ -185,7 +181,10 @@ impl<D: InliningDialect> InliningPolicy<D> for ModulePolicy {
         call: Ptr<Operation>,
         ctx: &Context,
     ) -> bool {
-        let (outer, inner) = (self.facts(caller, ctx).function, self.facts(callee, ctx).function);
+        let (outer, inner) = (
+            self.facts(caller, ctx).function,
+            self.facts(callee, ctx).function,
+        );
         inner.is_inlined && inner.shared == outer.shared && self.facts(call, ctx).is_plain_call
     }
 
