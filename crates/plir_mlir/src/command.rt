@@ -28,7 +28,8 @@ go to what results and arguments are), `combine` (rewrite rules),
 `thread-edges` (edges go past blocks that only jump); `repeat:N:LIST`
 runs them until nothing changes, at most N times, from 1 to 64,
 `nested:LIST` on each operation directly inside:
-`repeat:8:sccp,cse,simplify-cfg,dce`. An empty word, `''`, runs none";
+`repeat:8:sccp,cse,simplify-cfg,dce`. An empty word, `''`, runs none.
+Before them `inline;` inlines calls of the module's functions";
 
 /// What `--stats` does.
 static STATS: &str = "\

@@ -5,9 +5,6 @@
 
 ghost use Rattle.std.specs.Prelude.{None, ◌≤◌, ◌⊎◌, ◌≡◌};
 ghost use Rattle.pliron_driver.specs.Ran.{RunsAlone};
-ghost use Rattle.pliron_driver.specs.Read.{PrintsKinds};
-ghost use Rattle.pliron_driver_mlir.specs.Modules.{ReadsModule};
-ghost use Rattle.pliron_driver.specs.Closed.{closed_reads, closed_prints};
 ghost use Rattle.pliron_driver_mlir.specs.Outcomes.{EndsWithModule, EndsByWord};
 ghost use Rattle.pliron_driver_mlir.specs.Streams.{EndsOnStreams};
 
@@ -16,10 +13,9 @@ mod target;
 
 use clap::{ArgMatches, Error};
 use command::parse_arguments;
-use pliron_dialect_mlir::{AnyMeaning, Mlir};
 use pliron_driver_instrument::{InstrumentedPipeline, InstrumentedStep, Progress};
-use pliron_driver_mlir::{ClosedForm, MAX_TEXT, ModuleOptions, Request, run_on};
-use pliron_laws::HasMeaning;
+use pliron_driver_inlining::{InlinedForm, split_stage};
+use pliron_driver_mlir::{ClosedForm, MAX_TEXT, ModuleNotation, ModuleOptions, Request, run_on};
 use pliron_pass::{BenchFactKind, Pass};
 use std::env;
 use std::fs::File;
@@ -54,10 +50,10 @@ impl Progress for ProcessClock<'_> {
 // What the words ask for.
 //
 // No clause speaks of what words were parsed to: this is read.
-fn request_of<'w>(matches: &ArgMatches<'w>) -> Request<'w> {
+fn request_of<'w>(matches: &ArgMatches<'w>, pipeline: &'w str) -> Request<'w> {
     let name = matches.get_str("file").unwrap_or("-");
     Request {
-        pipeline: matches.get_str("pipeline").unwrap_or(""),
+        pipeline,
         name: if name == "-" { "standard input" } else { name },
         options: ModuleOptions {
             counts: matches.get_flag("stats"),
@@ -71,21 +67,20 @@ fn request_of<'w>(matches: &ArgMatches<'w>) -> Request<'w> {
 
 // Runs the program on what is asked for, a reader and the file that is named, or standard output, and answers its
 // status.
-fn run_to<'r, R: Read>(
+fn run_to<'r, N: ModuleNotation, R: Read>(
     rt: &'r HostRuntime,
     request: &Request,
     input: &mut R,
     file: Option<&str>,
 ) -> u8
-    ensures { EndsOnStreams (λ text. EndsByWord ⟦<InstrumentedStep<Form, ProcessClock<'r>> as Pass>⟧.name
-        (λ pipeline. EndsWithModule (closed_reads (ReadsModule ⟦<Mlir<AnyMeaning> as HasMeaning>⟧.meaning))
-        (closed_prints PrintsKinds) ⟦<Mlir<AnyMeaning> as HasMeaning>⟧.meaning (RunsAlone
-        ⟦<BenchFactKind as PartialEq>⟧.eq ⟦<InstrumentedPipeline<Form, ProcessClock<'r>> as Pass>⟧.outcome pipeline)
+    ensures { EndsOnStreams (λ text. EndsByWord ⟦<InstrumentedStep<N, ProcessClock<'r>> as Pass>⟧.name
+        (λ pipeline. EndsWithModule N.reads N.prints N.D.meaning (RunsAlone
+        ⟦<BenchFactKind as PartialEq>⟧.eq ⟦<InstrumentedPipeline<N, ProcessClock<'r>> as Pass>⟧.outcome pipeline)
         text) request.now.pipeline.now) (R.remaining input.old) None None result }
 {
     let mut target = Target::new(rt, file);
     let clock = ProcessClock { rt };
-    run_on::<Form, R, Target, _, ProcessClock>(
+    run_on::<N, R, Target, _, ProcessClock>(
         rt.alloc(),
         request,
         input,
@@ -95,17 +90,29 @@ fn run_to<'r, R: Read>(
     )
 }
 
-// Opens the input, of which no more is read than a byte past the longest text, and runs the program on it.
-fn act(rt: &HostRuntime, matches: &ArgMatches) -> u8 {
-    let request = request_of(matches);
+// Opens the input, of which no more is read than a byte past the longest text, and runs the program on it in this notation.
+fn act_in<'w, N: ModuleNotation>(
+    rt: &HostRuntime,
+    matches: &ArgMatches<'w>,
+    pipeline: &'w str,
+) -> u8 {
+    let request = request_of(matches, pipeline);
     let most = MAX_TEXT as u64 + 1;
     let file = matches.get_str("output");
     match matches.get_str("file") {
         Some(name) if name != "-" => match File::open(rt, name) {
-            Ok(opened) => run_to(rt, &request, &mut opened.take(most), file),
+            Ok(opened) => run_to::<N, _>(rt, &request, &mut opened.take(most), file),
             Err(error) => unopened_status(rt, name, &error),
         },
-        _ => run_to(rt, &request, &mut rt.stdin().take(most), file),
+        _ => run_to::<N, _>(rt, &request, &mut rt.stdin().take(most), file),
+    }
+}
+
+// Runs the program on what the words ask for, with calls inlined first where they do.
+fn act<'w>(rt: &HostRuntime, matches: &ArgMatches<'w>) -> u8 {
+    match split_stage(matches.get_str("pipeline").unwrap_or("")) {
+        (true, pipeline) => act_in::<InlinedForm<Form>>(rt, matches, pipeline),
+        (false, pipeline) => act_in::<Form>(rt, matches, pipeline),
     }
 }
 

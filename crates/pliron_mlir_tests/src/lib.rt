@@ -19,6 +19,8 @@ mod functions;
 #[cfg(test)]
 mod identities;
 #[cfg(test)]
+mod inlined;
+#[cfg(test)]
 mod integers;
 #[cfg(test)]
 mod lines;
