@@ -1,9 +1,10 @@
 -- Functions of a module, and the calls in one of them, while calls are inlined.
 use Rattle.std.proofs.Common.{◌≡◌, ◌≢◌, ◌⊎◌, inl, inr, ⊎_elim, ℕ, zero, suc, ◌+◌, ◌<◌, true, List, [], ◌∷◌, ◌++◌, length, map, Option, Some, None, IsSome, is_some, refl, sym, ap, ◌∙◌, subst, arith}
-use Rattle.std.specs.List.{slice_get}
+use Rattle.std.specs.List.{All, slice_get}
 use Rattle.std.specs.Option.{option_and_then}
 use Rattle.std.proofs.lemmas.List.{append-nil}
-use Rattle.std.proofs.lemmas.Option.{slice_get_within}
+use Rattle.std.proofs.lemmas.List.Elements.{All-nil, All-cons}
+use Rattle.std.proofs.lemmas.Option.{slice_get_within, slice_get-get_or}
 use Rattle.pliron_core.specs.declared.attrs.Head.{Head}
 use Rattle.pliron_core.specs.Tree.{Tree, In, IsDistinct, IsLive, head_of}
 use Rattle.pliron_core.proofs.GapLemmas.{slice-some}
@@ -57,6 +58,23 @@ as_many_names c t (k ∷ ks) = go (symbol_at c t k)
     go None = as_many_names c t ks
     go (Some symbol) = let h = as_many_names c t ks in omega (arith, h)
 
+pub all_live : (c : CallingConvention) (t : Tree) (ks : List ℕ) → ((k : ℕ) → In k ks → IsLive t k) → All (λ f. IsLive t f) (functions_among c t ks)
+all_live c t [] live = All-nil (λ f. IsLive t f)
+all_live c t (k ∷ ks) live = go (symbol_at c t k)
+  where
+    others : All (λ f. IsLive t f) (functions_among c t ks)
+    others = all_live c t ks (λ j i. live j (inr i))
+
+    go : (o : Option Datum) → All (λ f. IsLive t f) (with_function k o (functions_among c t ks))
+    go None = others
+    go (Some symbol) = All-cons (λ f. IsLive t f) k (functions_among c t ks) (live k (inl refl)) others
+
+pub live_in : (t : Tree) (fs : List ℕ) → All (λ f. IsLive t f) fs → (f : ℕ) → In f fs → IsLive t f
+live_in t fs all f i =
+    let at = slice_in fs f i in
+    let lt = slice_get_within fs at.0 f at.1 in
+    subst (λ z. IsLive t z) (some_is (sym (slice_get-get_or fs at.0 f lt) ∙ at.1)) (all at.0 f lt)
+
 -- ---- calls that are inlined one after the other
 
 pub none_inlined : (m : Meaning) (c : CallingConvention) (t : Tree) → AreInlined m c t t []
@@ -103,7 +121,7 @@ module _ (m : Meaning) (c : CallingConvention) (t : Tree) (functions : List ℕ)
 
     -- one function is fit now that was admitted
     pub fit_now : (i f : ℕ) (x : FunctionFacts) → slice_get functions i ≡ Some f → slice_get facts i ≡ Some x → x.is_admitted ≡ true → IsFit m u f
-    fit_now i f x at_f at_x yes = still_fit m c t u callees way.inlined f (plan.fit i f x at_f at_x yes) (function_live f (in_slice functions i f at_f))
+    fit_now i f x at_f at_x admitted = still_fit m c t u callees way.inlined f (plan.fit i f x at_f at_x admitted) (function_live f (in_slice functions i f at_f))
 
     -- the next tree, in which functions have their heads
     pub next_way : (v : Tree) (more : List ℕ) → AreInlined m c t v more → ((k : ℕ) (name : Datum) → symbol_at c u k ≡ Some name → head_of v k ≡ head_of u k) → IsUnderWay m c t v functions more
@@ -134,16 +152,17 @@ module _ (callee : Head → Option Datum) (u : Tree) (names : List Datum) where
   sites_apart : {ks : List ℕ} {sites : List CallSite} → AreCallSites callee u names ks sites → IsDistinct ks → (i j : ℕ) (a b : CallSite) → slice_get sites i ≡ Some a → slice_get sites j ≡ Some b → a.call ≡ b.call → i ≡ j
   sites_apart NoOperations d i j a b at_a at_b e = absurd (not_none at_a)
   sites_apart (CallingNone ks sites k all none) d i j a b at_a at_b e = sites_apart all (distinct-front ks (k ∷ []) d) i j a b at_a at_b e
-  sites_apart (CallingOne ks sites k site all is) d i j a b at_a at_b e = by (last_or sites site a i at_a) (last_or sites site b j at_b)
+  sites_apart (CallingOne ks sites k site all is) d i j a b at_a at_b e =
+      by (λ x y. sites_apart all (distinct-front ks (k ∷ []) d) i j a b x y e) (last_or sites site a i at_a) (last_or sites site b j at_b)
     where
       twice_there : (n : ℕ) (s : CallSite) → slice_get sites n ≡ Some s → s.call ≡ site.call → ⊥
       twice_there n s at same = distinct-apart ks (k ∷ []) d k (subst (λ z. In z ks) (same ∙ is.call) (sites_in all n s at).1) (inl refl)
 
-      by : (slice_get sites i ≡ Some a) ⊎ ((i ≡ length sites) × (a ≡ site)) → (slice_get sites j ≡ Some b) ⊎ ((j ≡ length sites) × (b ≡ site)) → i ≡ j
-      by (inl x) (inl y) = sites_apart all (distinct-front ks (k ∷ []) d) i j a b x y e
-      by (inl x) (inr y) = absurd (twice_there i a x (e ∙ ap (λ (z : CallSite). z.call) y.1))
-      by (inr x) (inl y) = absurd (twice_there j b y (sym e ∙ ap (λ (z : CallSite). z.call) x.1))
-      by (inr x) (inr y) = x.0 ∙ sym y.0
+      by : (slice_get sites i ≡ Some a → slice_get sites j ≡ Some b → i ≡ j) → (slice_get sites i ≡ Some a) ⊎ ((i ≡ length sites) × (a ≡ site)) → (slice_get sites j ≡ Some b) ⊎ ((j ≡ length sites) × (b ≡ site)) → i ≡ j
+      by before (inl x) (inl y) = before x y
+      by before (inl x) (inr y) = absurd (twice_there i a x (e ∙ ap (λ (z : CallSite). z.call) y.1))
+      by before (inr x) (inl y) = absurd (twice_there j b y (sym e ∙ ap (λ (z : CallSite). z.call) x.1))
+      by before (inr x) (inr y) = x.0 ∙ sym y.0
 
   pub apart_sites : (ks : List ℕ) (sites : List CallSite) → AreCallSites callee u names ks sites → IsDistinct ks → AreApartSites callee u names sites
   apart_sites ks sites all d = record { each = λ i s e. (sites_in all i s e).0; apart = sites_apart all d }

@@ -1,11 +1,11 @@
 -- One call is inlined: what is kept, and which heads stay.
-use Rattle.std.proofs.Common.{◌≡◌, ◌≢◌, inl, inr, ℕ, ◌<◌, ◌≤◌, Bool, true, false, MatchBool, List, [], ◌∷◌, ◌++◌, length, Option, Some, None, is_some, refl, sym, ap, ◌∙◌, subst, append_assoc, arith}
+use Rattle.std.proofs.Common.{◌≡◌, ◌≢◌, inl, inr, ℕ, ◌<◌, ◌≤◌, Bool, true, false, MatchBool, List, [], ◌∷◌, ◌++◌, length, Option, Some, None, Result, Ok, Err, OnErr, is_some, refl, sym, ap, ◌∙◌, subst, append_assoc, arith}
 use Rattle.std.specs.Option.{option_and_then}
 use Rattle.pliron_core.specs.declared.attrs.Head.{Head}
 use Rattle.pliron_core.specs.Changes.{IsSameTree}
 use Rattle.pliron_core.specs.Invariant.{IsTree}
 use Rattle.pliron_core.specs.Reads.{next_of}
-use Rattle.pliron_core.specs.Tree.{Tree, In, IsLive, IsBlock, up_from, first_of, next_in, last_of, head_of, parent_of, body_of}
+use Rattle.pliron_core.specs.Tree.{Tree, In, IsLive, IsBlock, up_from, first_of, next_in, last_of, row_of, head_of, parent_of, body_of}
 use Rattle.pliron_core.proofs.HoldingLemmas.{some_is, not_none}
 use Rattle.pliron_core.proofs.ListLemmas.{In-right}
 use Rattle.pliron_core.proofs.NeighbourLemmas.{next_in-first, next_in-other}
@@ -13,7 +13,7 @@ use Rattle.pliron_core.proofs.RowLemmas.{last_of-append}
 use Rattle.pliron_core.proofs.TreeLemmas.{live-within}
 use Rattle.pliron_laws.specs.Answers.{ReadsHead}
 use Rattle.pliron_laws.specs.Datum.{Datum, Meaning}
-use Rattle.pliron_theory.specs.Keeps.{KeepsAllRuns}
+use Rattle.pliron_theory.specs.Keeps.{IsFit, KeepsAllRuns}
 use Rattle.pliron_theory.proofs.SweptKeeps.{same_keeps}
 use Rattle.pliron_theory.proofs.WholeChanges.{all_refl}
 use Rattle.pliron_pass_linked.specs.Calls.{CallingConvention}
@@ -24,6 +24,7 @@ use Rattle.pliron_rewrite_inlining.proofs.Modules.{here_tree}
 use Rattle.pliron_rewrite_calls.specs.Inlining.{IsInlined}
 use Rattle.pliron_rewrite_calls.specs.Preparing.{IsCallPrepared, IsLedOn}
 use Rattle.pliron_graph_calls.specs.CallSites.{callee_at}
+use Rattle.pliron_graph_calls.specs.FunctionNames.{symbol_at}
 use Rattle.pliron_opt_inline.specs.InTurn.{InlinedName, KeepsProgramsLinkedBy}
 use Rattle.pliron_opt_inline.proofs.InTurnLemmas.{twice, in_turn_laws}
 
@@ -48,6 +49,10 @@ then_linked m c x t u v a b = in_turn_laws.in_turn m c [] (x ∷ []) t u v (in_t
 
 pub named_keeps : (m : Meaning) (c : CallingConvention) (x : InlinedName) (t u : Tree) → KeepsPrograms m t u → KeepsProgramsLinkedBy m c (x ∷ []) t u
 named_keeps m c x t u a = in_turn_laws.wider m c [] (x ∷ []) t u (in_turn_laws.none m c t u a)
+
+-- what is fit to run is fit where its head stays
+pub fit_kept : (m : Meaning) (t u : Tree) → KeepsAllRuns m t u → (k : ℕ) → IsFit m t k → head_of u k ≡ head_of t k → IsFit m u k
+fit_kept m t u runs k fit same = (runs m.may_be_root).stays k fit (subst (λ o. is_some o ≡ true) (sym same) fit.live)
 
 -- ---- what is read of heads
 
@@ -85,8 +90,11 @@ module _ (m : Meaning) (t u : Tree) (call : ℕ) (wu : IsTree u) (h : IsLedOn m 
   not_new : (k : ℕ) → IsLive t k → k ≢ j
   not_new k live e = let l = live-within t k live in omega (arith, l, e)
 
+  pub prepared_rows : (k : ℕ) → IsLive t k → row_of u k ≡ row_of t k
+  prepared_rows k live = h.rows k (not_new k live)
+
   pub prepared_heads : (k : ℕ) → IsLive t k → head_of u k ≡ head_of t k
-  prepared_heads k live = ap (λ r. r.head) (h.rows k (not_new k live))
+  prepared_heads k live = ap (λ r. r.head) (prepared_rows k live)
 
   -- the jump was made last, so a tree that is the same is no shorter
   pub still_longer : (v : Tree) → IsSameTree u v → length u.operations ≤ length v.operations
@@ -98,6 +106,14 @@ module _ (m : Meaning) (t u : Tree) (call : ℕ) (wu : IsTree u) (h : IsLedOn m 
 
   pub not_behind : (k : ℕ) → IsLive t k → next_of u call ≢ Some k
   not_behind k live e = not_new k live (sym (some_is (sym p.behind ∙ e)) ∙ jump_new)
+
+  -- and in the tree that comes next, where all but the call and the jump keep their heads
+  module _ (v : Tree) (stay : (k : ℕ) → IsLive u k → k ≢ call → next_of u call ≢ Some k → head_of v k ≡ head_of u k) where
+    pub both_heads : (k : ℕ) → IsLive t k → k ≢ call → head_of v k ≡ head_of t k
+    both_heads k live ne = stay k (subst (λ o. is_some o ≡ true) (sym (prepared_heads k live)) live) ne (not_behind k live) ∙ prepared_heads k live
+
+    pub both_symbols : (c : CallingConvention) → symbol_at c t call ≡ None → (k : ℕ) (name : Datum) → symbol_at c t k ≡ Some name → head_of v k ≡ head_of t k
+    both_symbols c none k name e = both_heads k (live_by c.symbol_of t k name e) (λ same. not_none (sym none ∙ ap (symbol_at c t) (sym same) ∙ e))
 
 -- ---- heads that stay where the prepared call is inlined
 
@@ -119,6 +135,10 @@ module _ (m : Meaning) (c : CallingConvention) (t u : Tree) (call callee : ℕ) 
   inlined_heads k live ne nj = ap (λ r. r.head) (h.inlined.rows k live (λ e. ne (e ∙ h.of_call)) (λ e. nj (p.behind ∙ ap Some (its_jump ∙ sym e))))
 
 -- ---- what is answered
+
+pub on_err_of : {T E P : Type 0} (r : Result T E) → P → OnErr r P
+on_err_of (Ok x) p = tt
+on_err_of (Err e) p = p
 
 pub by_case : (b : Bool) {P Q R S : Type 0} → (P → R) → (Q → S) → MatchBool b P Q → MatchBool b R S
 by_case true f g h = f h

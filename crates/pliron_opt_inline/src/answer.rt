@@ -20,7 +20,7 @@ pub struct InlinedCall {
     pub reason: InliningReason,
 }
 
-/// A value that was made, and the one that it stands for.
+/// A value that was made, and the older one that it stands for: a result of the call, or a value of the callee.
 #[derive(Clone, Copy, Debug, PartialEq, Eq, Drop)]
 pub struct MadeValue {
     pub value: Value,

@@ -28,6 +28,8 @@ use std::alloc::Global;
 pub struct InliningOptions {
     /// The greatest size of a function that is inlined for its size.
     pub threshold: u64,
+    /// The greatest size of a private function that is inlined where it is called once.
+    pub only_call: u64,
     /// The greatest size that a function may reach by copies.
     pub limit: u64,
 }
@@ -35,6 +37,7 @@ pub struct InliningOptions {
 // What inlining goes by.
 #[derive(Drop)]
 struct InliningPlan<'p, P> {
+    alloc: Global,
     table: &'p FunctionTable,
     facts: &'p [FunctionFacts],
     policy: &'p P,
@@ -49,14 +52,18 @@ struct InliningProgress {
 }
 
 // Why a call of the function is inlined, which has this size by now.
-fn reason_for(callee: &FunctionFacts, size: u64, threshold: u64) -> Option<InliningReason> {
+fn reason_for(
+    callee: &FunctionFacts,
+    size: u64,
+    options: InliningOptions,
+) -> Option<InliningReason> {
     if callee.is_asked_for {
         return Some(InliningReason::AskedFor);
     }
-    if size <= threshold {
+    if size <= options.threshold {
         return Some(InliningReason::Small);
     }
-    if callee.is_private && callee.calls == 1 {
+    if callee.is_private && callee.calls == 1 && size <= options.only_call {
         return Some(InliningReason::OnlyCall);
     }
     None
@@ -86,7 +93,7 @@ impl<P> InliningPlan<'_, P> {
         if sizes[caller].saturating_add(sizes[callee]) > self.options.limit {
             return None;
         }
-        reason_for(known, sizes[callee], self.options.threshold)
+        reason_for(known, sizes[callee], self.options)
     }
 }
 
@@ -108,7 +115,6 @@ impl InliningProgress {
 
 // The call at this site of the function at this place is inlined, if it is chosen and may be.
 fn inline_site<D: Dialect + InliningDialect, P: InliningPolicy<D>, R: Rewriter + Room>(
-    alloc: Global,
     plan: &InliningPlan<'_, P>,
     place: usize,
     site: CallSite,
@@ -128,7 +134,7 @@ fn inline_site<D: Dialect + InliningDialect, P: InliningPolicy<D>, R: Rewriter +
         (callees_in progress.new.done.calls.items)) }
     ensures refused { OnErr result ((callees : List ℕ) × AreInlined D.meaning D.convention t ctx.new.tree callees) }
     ensures sizes { vec_len progress.new.sizes ≡ length plan.now.table.now.functions }
-    ensures others { (k : ℕ) → IsLive ctx.old.tree k → k ≢ site.call → head_of ctx.new.tree k
+    ensures heads { (k : ℕ) → IsLive ctx.old.tree k → k ≢ site.call → head_of ctx.new.tree k
         ≡ head_of ctx.old.tree k }
     ensures memory { IsOkUnless result OptError.Memory }
     ensures point { R.point rewriter.new ≡ R.point rewriter.old }
@@ -142,7 +148,7 @@ fn inline_site<D: Dialect + InliningDialect, P: InliningPolicy<D>, R: Rewriter +
         return Ok(());
     }
     let values = &mut progress.done.values;
-    if !inline_one::<D, R>(alloc, site.call, callee, values, ctx, rewriter)? {
+    if !inline_one::<D, R>(plan.alloc, site.call, callee, values, ctx, rewriter)? {
         return Ok(());
     }
     progress.note(
@@ -158,7 +164,6 @@ fn inline_site<D: Dialect + InliningDialect, P: InliningPolicy<D>, R: Rewriter +
 
 // The calls in the function at this place are inlined that are chosen and may be, the last one first.
 fn inline_in<D: Dialect + InliningDialect, P: InliningPolicy<D>, R: Rewriter + Room>(
-    alloc: Global,
     plan: &InliningPlan<'_, P>,
     place: usize,
     progress: &mut InliningProgress,
@@ -181,16 +186,15 @@ fn inline_in<D: Dialect + InliningDialect, P: InliningPolicy<D>, R: Rewriter + R
 {
     ctx.well_formed();
     let caller = plan.table.functions()[place];
-    let mut sites = plan.table.call_sites::<D>(alloc, caller, ctx)?;
+    let mut sites = plan.table.call_sites::<D>(plan.alloc, caller, ctx)?;
     while let Some(site) = sites.pop() {
-        inline_site::<D, P, R>(alloc, plan, place, site, progress, ctx, rewriter)?;
+        inline_site::<D, P, R>(plan, place, site, progress, ctx, rewriter)?;
     }
     Ok(())
 }
 
 // The same in the functions at these places, one after the other.
 fn inline_in_all<D: Dialect + InliningDialect, P: InliningPolicy<D>, R: Rewriter + Room>(
-    alloc: Global,
     plan: &InliningPlan<'_, P>,
     places: &[u32],
     progress: &mut InliningProgress,
@@ -212,14 +216,13 @@ fn inline_in_all<D: Dialect + InliningDialect, P: InliningPolicy<D>, R: Rewriter
     ensures point { R.point rewriter.new ≡ R.point rewriter.old }
 {
     for place in places {
-        inline_in::<D, P, R>(alloc, plan, *place as usize, progress, ctx, rewriter)?;
+        inline_in::<D, P, R>(plan, *place as usize, progress, ctx, rewriter)?;
     }
     Ok(())
 }
 
 // The same in the functions of these components, the last component first.
 fn inline_bottom_up<D: Dialect + InliningDialect, P: InliningPolicy<D>, R: Rewriter + Room>(
-    alloc: Global,
     plan: &InliningPlan<'_, P>,
     mut components: Vec<Scc<u32>>,
     progress: &mut InliningProgress,
@@ -232,7 +235,7 @@ fn inline_bottom_up<D: Dialect + InliningDialect, P: InliningPolicy<D>, R: Rewri
     requires under_way { IsUnderWay D.meaning D.convention t ctx.old.tree plan.now.table.now.functions
         (callees_in progress.old.done.calls.items) }
     requires sizes { vec_len progress.old.sizes ≡ length plan.now.table.now.functions }
-    requires places { (c : SccOf ℕ) (v : ℕ) → Contains components.items c → Contains c.nodes.items v →
+    requires nodes { (c : SccOf ℕ) (v : ℕ) → Contains components.items c → Contains c.nodes.items v →
         v < length plan.now.table.now.functions }
     ensures inlined { (callees : List ℕ) × AreInlined D.meaning D.convention t ctx.new.tree callees
         × OnOk result (callees ≡ callees_in progress.new.done.calls.items) }
@@ -240,7 +243,7 @@ fn inline_bottom_up<D: Dialect + InliningDialect, P: InliningPolicy<D>, R: Rewri
     ensures point { R.point rewriter.new ≡ R.point rewriter.old }
 {
     while let Some(component) = components.pop() {
-        inline_in_all::<D, P, R>(alloc, plan, &component.nodes, progress, ctx, rewriter)?;
+        inline_in_all::<D, P, R>(plan, &component.nodes, progress, ctx, rewriter)?;
     }
     Ok(())
 }
@@ -255,7 +258,7 @@ fn facts_among<D: Dialect + InliningDialect, P: InliningPolicy<D>>(
 ) -> Result<Vec<FunctionFacts>, OptError>
     requires live { All (λ f. IsLive ctx.now.tree f) table.now.functions }
     requires names { length table.now.names ≡ length table.now.functions }
-    requires places { (c : SccOf ℕ) (v : ℕ) → Contains components.now c → Contains c.nodes.items v →
+    requires nodes { (c : SccOf ℕ) (v : ℕ) → Contains components.now c → Contains c.nodes.items v →
         v < length table.now.functions }
     ensures long { IfOk result (λ facts. vec_len facts ≡ length table.now.functions) }
     ensures fit { IfOk result (λ facts. (i f : ℕ) (x : FunctionFacts) → slice_get table.now.functions i ≡ Some f →
@@ -270,7 +273,6 @@ fn facts_among<D: Dialect + InliningDialect, P: InliningPolicy<D>>(
 
 // Calls are inlined by the plan, in the functions of the last component first, which have these sizes.
 fn inline_planned<D: Dialect + InliningDialect, P: InliningPolicy<D>, R: Rewriter + Room>(
-    alloc: Global,
     plan: &InliningPlan<'_, P>,
     components: Vec<Scc<u32>>,
     sizes: Vec<u64>,
@@ -281,7 +283,7 @@ fn inline_planned<D: Dialect + InliningDialect, P: InliningPolicy<D>, R: Rewrite
         (names_of plan.now.table.now.names) plan.now.facts.now }
     requires live { All (λ f. IsLive ctx.old.tree f) plan.now.table.now.functions }
     requires sizes { vec_len sizes ≡ length plan.now.table.now.functions }
-    requires places { (c : SccOf ℕ) (v : ℕ) → Contains components.items c → Contains c.nodes.items v →
+    requires nodes { (c : SccOf ℕ) (v : ℕ) → Contains components.items c → Contains c.nodes.items v →
         v < length plan.now.table.now.functions }
     ensures inlined { IfOk result (λ done. AreInlined D.meaning D.convention ctx.old.tree ctx.new.tree
         (callees_in done.calls.items)) }
@@ -293,11 +295,11 @@ fn inline_planned<D: Dialect + InliningDialect, P: InliningPolicy<D>, R: Rewrite
     let mut progress = InliningProgress {
         sizes,
         done: InlinedCalls {
-            calls: Vec::new(alloc),
-            values: Vec::new(alloc),
+            calls: Vec::new(plan.alloc),
+            values: Vec::new(plan.alloc),
         },
     };
-    inline_bottom_up::<D, P, R>(alloc, plan, components, &mut progress, ctx, rewriter)?;
+    inline_bottom_up::<D, P, R>(plan, components, &mut progress, ctx, rewriter)?;
     let InliningProgress { done, .. } = progress;
     Ok(done)
 }
@@ -325,19 +327,21 @@ fn inline_among<D: Dialect + InliningDialect, P: InliningPolicy<D>, R: Rewriter 
     let facts = facts_among::<D, P>(alloc, table, &components, policy, ctx)?;
     let sizes = all_sizes::<D, P>(alloc, table.functions(), policy, ctx)?;
     let plan = InliningPlan {
+        alloc,
         table,
         facts: &facts,
         policy,
         options: *options,
     };
-    inline_planned::<D, P, R>(alloc, &plan, components, sizes, ctx, rewriter)
+    inline_planned::<D, P, R>(&plan, components, sizes, ctx, rewriter)
 }
 
 /// Inlines calls in a module, an operation that holds functions: functions that are called come before those that call
 /// them, and in each the last call comes first. A call that stands directly inside a function is inlined where its callee
 /// is another one that doesn't call the caller, at once or over others, is fit to run, and may be copied; where the caller
 /// stays within the limit; where the policy admits it; and where there is a reason: the policy asks for the callee, the
-/// callee isn't larger than the threshold, or it is the only call of a private function. Calls that copies bring stay.
+/// callee isn't larger than the threshold, or it is the only call of a private function of at most another size. Calls that
+/// copies bring stay.
 ///
 /// In each program that has the module linked runs are kept where the names of the callees stand there for them. The answer
 /// has each call that was inlined, and each value that was made, in order. No function is erased.

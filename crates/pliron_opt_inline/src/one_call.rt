@@ -1,5 +1,5 @@
 //! One call that is inlined.
-ghost use Rattle.std.specs.Prelude.{◌≡◌, ◌≢◌, ◌∷◌, [], ℕ, Some, None, OnErr, IfOk, IsOkUnless, IsSome, IsTrue, MatchBool};
+ghost use Rattle.std.specs.Prelude.{◌≡◌, ◌≢◌, ◌∷◌, [], ℕ, Some, None, OnErr, IfOk, IsOkUnless, IsSome, IsTrue, MatchBool, MatchOption};
 ghost use Rattle.pliron_core.specs.Tree.{IsLive, head_of, regions_of, successors_of};
 ghost use Rattle.pliron_core.specs.Changes.{IsSameTree};
 ghost use Rattle.pliron_core.specs.Reads.{next_of};
@@ -16,7 +16,7 @@ use crate::callee::may_be_inlined;
 use pliron_core::{Context, Operation, Ptr, Rewriter};
 use pliron_dialect_calls::InliningDialect;
 use pliron_laws::{Dialect, HasMeaning, OptError, Room};
-use pliron_rewrite_calls::{inline_call, prepare_call};
+use pliron_rewrite_calls::{Copies, inline_call, prepare_call};
 use std::alloc::Global;
 
 // Whether the operation is in front of another one, has neither regions nor successors, and is no function.
@@ -39,25 +39,25 @@ fn is_plain_call<D: InliningDialect>(call: Ptr<Operation>, ctx: &Context) -> boo
     D::symbol_name(call, ctx).is_none()
 }
 
-// The prepared call of this name is inlined, if its callee may be. Whatever the answer, all that is live but the call and what
-// is behind it has its head.
+// The prepared call of this name is inlined, if its callee may be; the answer is what was copied. Whatever it is, all that is
+// live but the call and what is behind it has its head.
 fn inline_prepared<D: InliningDialect, R: Rewriter + Room>(
     alloc: Global,
     call: Ptr<Operation>,
     callee: Ptr<Operation>,
     ctx: &mut Context,
     rewriter: &mut R,
-) -> Result<bool, OptError>
+) -> Result<Option<Copies>, OptError>
     ghost symbol: { Datum }
     requires call { callee_at D.callee ctx.old.tree call ≡ Some symbol }
     requires childless { regions_of ctx.old.tree call ≡ [] }
     requires prepared { IsCallPrepared D.meaning ctx.old.tree call }
     requires callee { IsFit D.meaning ctx.old.tree callee }
-    ensures inlined { IfOk result (λ is_inlined. MatchBool is_inlined (KeepsProgramsLinkedBy D.meaning D.convention
-        (record { symbol = symbol; callee = callee } ∷ []) ctx.old.tree ctx.new.tree)
-        (KeepsPrograms D.meaning ctx.old.tree ctx.new.tree)) }
+    ensures inlined { IfOk result (λ copies. MatchOption copies (KeepsPrograms D.meaning ctx.old.tree ctx.new.tree)
+        (λ copies. KeepsProgramsLinkedBy D.meaning D.convention (record { symbol = symbol; callee = callee } ∷ [])
+        ctx.old.tree ctx.new.tree)) }
     ensures refused { OnErr result (IsSameTree ctx.old.tree ctx.new.tree) }
-    ensures others { (k : ℕ) → IsLive ctx.old.tree k → k ≢ call → next_of ctx.old.tree call ≢ Some k →
+    ensures heads { (k : ℕ) → IsLive ctx.old.tree k → k ≢ call → next_of ctx.old.tree call ≢ Some k →
         head_of ctx.new.tree k ≡ head_of ctx.old.tree k }
     ensures memory { IsOkUnless result OptError.Memory }
     ensures point { R.point rewriter.new ≡ R.point rewriter.old }
@@ -65,14 +65,27 @@ fn inline_prepared<D: InliningDialect, R: Rewriter + Room>(
     ctx.well_formed();
     let (operands, results) = (call.num_operand(ctx), call.num_result(ctx));
     let Some(_name) = D::callee_name(call, ctx) else {
-        return Ok(false);
+        return Ok(None);
     };
     if !may_be_inlined::<D>(callee, operands, results, ctx) {
-        return Ok(false);
+        return Ok(None);
     }
-    inline_call::<D, R>(alloc, call, callee, ctx, rewriter)?;
+    let copies = inline_call::<D, R>(alloc, call, callee, ctx, rewriter)?;
     ctx.well_formed();
-    Ok(true)
+    Ok(Some(copies))
+}
+
+// Adds the copies, which stand for what was copied.
+fn note_copies(copies: &Copies, values: &mut Vec<MadeValue>) -> Result<(), OptError>
+    ensures memory { IsOkUnless result OptError.Memory }
+{
+    for (original, value) in copies.values() {
+        values.push(MadeValue {
+            value: *value,
+            original: *original,
+        })?;
+    }
+    Ok(())
 }
 
 // Adds the arguments of the block behind the prepared call, which stand for its results.
@@ -118,8 +131,8 @@ pub(crate) fn inline_one<D: Dialect + InliningDialect, R: Rewriter + Room>(
         (KeepsPrograms D.meaning ctx.old.tree ctx.new.tree)) }
     ensures refused { OnErr result (KeepsProgramsLinkedBy D.meaning D.convention
         (record { symbol = symbol; callee = callee } ∷ []) ctx.old.tree ctx.new.tree) }
-    ensures others { (k : ℕ) → IsLive ctx.old.tree k → k ≢ call → head_of ctx.new.tree k ≡ head_of ctx.old.tree k }
-    ensures functions { (k : ℕ) (name : Datum) → symbol_at D.convention ctx.old.tree k ≡ Some name →
+    ensures heads { (k : ℕ) → IsLive ctx.old.tree k → k ≢ call → head_of ctx.new.tree k ≡ head_of ctx.old.tree k }
+    ensures symbols { (k : ℕ) (name : Datum) → symbol_at D.convention ctx.old.tree k ≡ Some name →
         head_of ctx.new.tree k ≡ head_of ctx.old.tree k }
     ensures memory { IsOkUnless result OptError.Memory }
     ensures point { R.point rewriter.new ≡ R.point rewriter.old }
@@ -134,7 +147,11 @@ pub(crate) fn inline_one<D: Dialect + InliningDialect, R: Rewriter + Room>(
     prepare_call::<D, R>(alloc, call, ctx, rewriter)?;
     ctx.well_formed();
     note_results::<D>(call, values, ctx)?;
-    let done = inline_prepared::<D, R>(alloc, call, callee, ctx, rewriter);
+    let copies = inline_prepared::<D, R>(alloc, call, callee, ctx, rewriter);
     ctx.well_formed();
-    done
+    let Some(copies) = copies? else {
+        return Ok(false);
+    };
+    note_copies(&copies, values)?;
+    Ok(true)
 }

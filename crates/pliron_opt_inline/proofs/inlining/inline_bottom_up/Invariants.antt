@@ -12,7 +12,7 @@ abbrev pub invariant-loop-component : goal.invariant-loop-component
 invariant-loop-component g l = record {
   under_way : IsUnderWay g.D.HasMeaning.meaning g.D.InliningDialect.convention g.t l.ctx.tree l.plan.table.functions (callees_in l.progress.done.calls.items);
   sizes : vec_len l.progress.sizes ≡ length l.plan.table.functions;
-  places : (c : Scc ℕ) (v : ℕ) → Contains l.components.items c → Contains c.nodes.items v → v < length l.plan.table.functions;
+  nodes : (c : Scc ℕ) (v : ℕ) → Contains l.components.items c → Contains c.nodes.items v → v < length l.plan.table.functions;
   point : g.R.Rewriter.point l.rewriter ≡ g.R.Rewriter.point l.fn.rewriter;
 }
 
