@@ -1,7 +1,7 @@
 -- Functions of a module, and the calls in one of them, while calls are inlined.
 use Rattle.std.proofs.Common.{◌≡◌, ◌≢◌, ◌⊎◌, inl, inr, ⊎_elim, ℕ, zero, suc, ◌+◌, ◌<◌, true, List, [], ◌∷◌, ◌++◌, length, map, Option, Some, None, IsSome, is_some, refl, sym, ap, ◌∙◌, subst, arith}
-use Rattle.std.specs.List.{All, slice_get}
-use Rattle.std.specs.Option.{option_and_then}
+use Rattle.std.specs.List.{All, Contains, slice_get}
+use Rattle.std.specs.Option.{option_and_then, option_map_or}
 use Rattle.std.proofs.lemmas.List.{append-nil}
 use Rattle.std.proofs.lemmas.List.Elements.{All-nil, All-cons}
 use Rattle.std.proofs.lemmas.Option.{slice_get_within, slice_get-get_or}
@@ -10,7 +10,7 @@ use Rattle.pliron_core.specs.Tree.{Tree, In, IsDistinct, IsLive, head_of}
 use Rattle.pliron_core.proofs.GapLemmas.{slice-some}
 use Rattle.pliron_core.proofs.HoldingLemmas.{some_is, not_none, some_of, in_slice, slice_in}
 use Rattle.pliron_core.proofs.ListLemmas.{In-left, In-right, In-cases, distinct-front, distinct-apart}
-use Rattle.pliron_laws.specs.Datum.{Datum, Meaning}
+use Rattle.pliron_laws.specs.Datum.{Datum, Empty, Meaning}
 use Rattle.pliron_theory.specs.Keeps.{IsFit}
 use Rattle.pliron_pass_linked.specs.Calls.{CallingConvention}
 use Rattle.pliron_pass_linked.specs.KeepsLinked.{KeepsPrograms}
@@ -23,7 +23,10 @@ use Rattle.pliron_opt_inline.specs.InTurn.{InlinedName, KeepsProgramsLinkedBy}
 use Rattle.pliron_opt_inline.specs.Module.{with_own_name, own_names, AreInlined}
 use Rattle.pliron_opt_inline.specs.Turns.{ArePlanned, IsUnderWay, AreApartSites}
 use Rattle.pliron_opt_inline.proofs.InTurnLemmas.{in_turn_laws}
+use Rattle.pliron_graph_traversal.proofs.AdjacencyLemmas.{node_below}
+use Rattle.pliron_graph_components.specs.declared.components.Scc.{Scc}
 use Rattle.pliron_graph_components.proofs.PreSentinelLemmas.{item_pushed, item_kept}
+use Rattle.pliron_opt_inline.specs.CallGraph.{AreCallComponents}
 use Rattle.pliron_opt_inline.proofs.OneCallLemmas.{unchanged, live_by}
 use Rattle.pliron_opt_inline.proofs.RowLemmas.{last_or}
 
@@ -43,31 +46,28 @@ own_names_more c t (g ∷ gs) f symbol e = ap (with_own_name g (symbol_at c t g)
 -- a function of a table and its name stand at one place
 pub name_beside : (c : CallingConvention) (t : Tree) (ks : List ℕ) (i f : ℕ) (name : Datum) → slice_get (functions_among c t ks) i ≡ Some f → slice_get (names_among c t ks) i ≡ Some name → symbol_at c t f ≡ Some name
 name_beside c t [] i f name at_f at_n = absurd (not_none at_f)
-name_beside c t (k ∷ ks) i f name = go (symbol_at c t k) refl i
+name_beside c t (k ∷ ks) i f name = go (name_beside c t ks) (symbol_at c t k) refl i
   where
-    go : (o : Option Datum) → symbol_at c t k ≡ o → (n : ℕ) → slice_get (with_function k o (functions_among c t ks)) n ≡ Some f → slice_get (with_name o (names_among c t ks)) n ≡ Some name → symbol_at c t f ≡ Some name
-    go None e n at_f at_n = name_beside c t ks n f name at_f at_n
-    go (Some symbol) e zero at_f at_n = ap (symbol_at c t) (sym (some_is at_f)) ∙ e ∙ at_n
-    go (Some symbol) e (suc n) at_f at_n = name_beside c t ks n f name at_f at_n
+    go : ((n g : ℕ) (own : Datum) → slice_get (functions_among c t ks) n ≡ Some g → slice_get (names_among c t ks) n ≡ Some own → symbol_at c t g ≡ Some own) → (o : Option Datum) → symbol_at c t k ≡ o → (n : ℕ) → slice_get (with_function k o (functions_among c t ks)) n ≡ Some f → slice_get (with_name o (names_among c t ks)) n ≡ Some name → symbol_at c t f ≡ Some name
+    go later None e n at_f at_n = later n f name at_f at_n
+    go later (Some symbol) e zero at_f at_n = ap (symbol_at c t) (sym (some_is at_f)) ∙ e ∙ at_n
+    go later (Some symbol) e (suc n) at_f at_n = later n f name at_f at_n
 
 pub as_many_names : (c : CallingConvention) (t : Tree) (ks : List ℕ) → length (names_among c t ks) ≡ length (functions_among c t ks)
 as_many_names c t [] = refl
-as_many_names c t (k ∷ ks) = go (symbol_at c t k)
+as_many_names c t (k ∷ ks) = go (as_many_names c t ks) (symbol_at c t k)
   where
-    go : (o : Option Datum) → length (with_name o (names_among c t ks)) ≡ length (with_function k o (functions_among c t ks))
-    go None = as_many_names c t ks
-    go (Some symbol) = let h = as_many_names c t ks in omega (arith, h)
+    go : length (names_among c t ks) ≡ length (functions_among c t ks) → (o : Option Datum) → length (with_name o (names_among c t ks)) ≡ length (with_function k o (functions_among c t ks))
+    go later None = later
+    go later (Some symbol) = omega (arith, later)
 
 pub all_live : (c : CallingConvention) (t : Tree) (ks : List ℕ) → ((k : ℕ) → In k ks → IsLive t k) → All (λ f. IsLive t f) (functions_among c t ks)
 all_live c t [] live = All-nil (λ f. IsLive t f)
-all_live c t (k ∷ ks) live = go (symbol_at c t k)
+all_live c t (k ∷ ks) live = go (all_live c t ks (λ j i. live j (inr i))) (symbol_at c t k)
   where
-    others : All (λ f. IsLive t f) (functions_among c t ks)
-    others = all_live c t ks (λ j i. live j (inr i))
-
-    go : (o : Option Datum) → All (λ f. IsLive t f) (with_function k o (functions_among c t ks))
-    go None = others
-    go (Some symbol) = All-cons (λ f. IsLive t f) k (functions_among c t ks) (live k (inl refl)) others
+    go : All (λ f. IsLive t f) (functions_among c t ks) → (o : Option Datum) → All (λ f. IsLive t f) (with_function k o (functions_among c t ks))
+    go later None = later
+    go later (Some symbol) = All-cons (λ f. IsLive t f) k (functions_among c t ks) (live k (inl refl)) later
 
 pub live_in : (t : Tree) (fs : List ℕ) → All (λ f. IsLive t f) fs → (f : ℕ) → In f fs → IsLive t f
 live_in t fs all f i =
@@ -123,6 +123,12 @@ module _ (m : Meaning) (c : CallingConvention) (t : Tree) (functions : List ℕ)
     pub fit_now : (i f : ℕ) (x : FunctionFacts) → slice_get functions i ≡ Some f → slice_get facts i ≡ Some x → x.is_admitted ≡ true → IsFit m u f
     fit_now i f x at_f at_x admitted = still_fit m c t u callees way.inlined f (plan.fit i f x at_f at_x admitted) (function_live f (in_slice functions i f at_f))
 
+    pub callee_fit : (i f : ℕ) → slice_get functions i ≡ Some f → ((x : FunctionFacts) → slice_get facts i ≡ Some x → x.is_admitted ≡ true) → IsFit m u f
+    callee_fit i f at_f admitted =
+        let lt : i < length facts = let a = slice_get_within functions i f at_f in let b = plan.as_many_facts in omega (arith, a, b) in
+        let x = slice-some facts i lt in
+        fit_now i f x.0 at_f x.1 (admitted x.0 x.1)
+
     -- the next tree, in which functions have their heads
     pub next_way : (v : Tree) (more : List ℕ) → AreInlined m c t v more → ((k : ℕ) (name : Datum) → symbol_at c u k ≡ Some name → head_of v k ≡ head_of u k) → IsUnderWay m c t v functions more
     next_way v more inlined stay = record {
@@ -136,7 +142,17 @@ way_begins m c t functions live = record { inlined = none_inlined m c t; live = 
 
 -- ---- the calls in a function
 
+-- the name that an operation calls
+abbrev pub called_name : Option Datum → Datum
+called_name o = option_map_or (λ (name : Datum). name) o Empty
+
 module _ (callee : Head → Option Datum) (u : Tree) (names : List Datum) where
+  pub called_by : (s : CallSite) → IsCallSite callee u names s.call s → callee_at callee u s.call ≡ Some (called_name (callee_at callee u s.call))
+  called_by s is = is.calls ∙ ap Some (sym (ap called_name is.calls))
+
+  pub called_there : (s : CallSite) → IsCallSite callee u names s.call s → slice_get names s.callee ≡ Some (called_name (callee_at callee u s.call))
+  called_there s is = is.at_place ∙ ap Some (sym (ap called_name is.calls))
+
   its_own : (k : ℕ) (s : CallSite) → IsCallSite callee u names k s → IsCallSite callee u names s.call s
   its_own k s is = record { call = refl; name = is.name; calls = subst (λ z. callee_at callee u z ≡ Some is.name) (sym is.call) is.calls; at_place = is.at_place }
 
@@ -188,3 +204,11 @@ module _ (callee : Head → Option Datum) (u : Tree) (names : List Datum) where
           record { call = refl; name = is.name; calls = ap (option_and_then callee) (others x.call live other) ∙ is.calls; at_place = is.at_place };
       apart = λ i j a b at_a at_b. h.apart i j a b (item_kept sites s i a at_a) (item_kept sites s j b at_b);
     }
+
+-- ---- the components of the graph of calls
+
+pub nodes_within : (callee : Head → Option Datum) (t : Tree) (names : List Datum) (functions : List ℕ) (components : List (Scc ℕ)) → AreCallComponents callee t names functions components → (x : Scc ℕ) (v : ℕ) → Contains components x → Contains x.nodes.items v → v < length functions
+nodes_within callee t names functions components h x v hx hv =
+    let lt = node_below (length h.graph.succ) v ((h.components_of.covers v).1 (x, hx, hv)) in
+    let long = h.rows.long in
+    omega (arith, lt, long)

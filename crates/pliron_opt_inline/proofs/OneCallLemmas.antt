@@ -1,5 +1,5 @@
 -- One call is inlined: what is kept, and which heads stay.
-use Rattle.std.proofs.Common.{◌≡◌, ◌≢◌, inl, inr, ℕ, ◌<◌, ◌≤◌, Bool, true, false, MatchBool, List, [], ◌∷◌, ◌++◌, length, Option, Some, None, Result, Ok, Err, OnErr, is_some, refl, sym, ap, ◌∙◌, subst, append_assoc, arith}
+use Rattle.std.proofs.Common.{◌≡◌, ◌≢◌, inl, inr, ℕ, ◌<◌, ◌≤◌, true, MatchOption, List, [], ◌∷◌, ◌++◌, length, Option, Some, None, Result, Ok, Err, OnErr, is_some, refl, sym, ap, ◌∙◌, subst, append_assoc, arith}
 use Rattle.std.specs.Option.{option_and_then}
 use Rattle.pliron_core.specs.declared.attrs.Head.{Head}
 use Rattle.pliron_core.specs.Changes.{IsSameTree}
@@ -140,6 +140,10 @@ pub on_err_of : {T E P : Type 0} (r : Result T E) → P → OnErr r P
 on_err_of (Ok x) p = tt
 on_err_of (Err e) p = p
 
-pub by_case : (b : Bool) {P Q R S : Type 0} → (P → R) → (Q → S) → MatchBool b P Q → MatchBool b R S
-by_case true f g h = f h
-by_case false f g h = g h
+pub match_none : {X : Type 0} (P R : Type 0) (o : Option X) → o ≡ None → MatchOption o P (λ _. R) → P
+match_none P R None e h = h
+match_none P R (Some x) e h = absurd (not_none (sym e))
+
+pub match_some : {X : Type 0} (P R : Type 0) (o : Option X) (x : X) → o ≡ Some x → MatchOption o P (λ _. R) → R
+match_some P R None x e h = absurd (not_none e)
+match_some P R (Some y) x e h = h

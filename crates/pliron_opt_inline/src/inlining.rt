@@ -313,9 +313,8 @@ fn inline_among<D: Dialect + InliningDialect, P: InliningPolicy<D>, R: Rewriter 
     ctx: &mut Context,
     rewriter: &mut R,
 ) -> Result<InlinedCalls, OptError>
-    ghost ks: { List ℕ }
     requires live { All (λ f. IsLive ctx.old.tree f) table.now.functions }
-    requires functions { AreNamedFunctions D.convention ctx.old.tree ks table.now }
+    requires functions { (ks : List ℕ) × AreNamedFunctions D.convention ctx.old.tree ks table.now }
     ensures inlined { IfOk result (λ done. AreInlined D.meaning D.convention ctx.old.tree ctx.new.tree
         (callees_in done.calls.items)) }
     ensures refused { OnErr result ((callees : List ℕ) × AreInlined D.meaning D.convention ctx.old.tree ctx.new.tree

@@ -10,9 +10,9 @@ ghost-inline_in_all g a = g.t
 
 abbrev pub invariant-loop-component : goal.invariant-loop-component
 invariant-loop-component g l = record {
-  under_way : IsUnderWay g.D.HasMeaning.meaning g.D.InliningDialect.convention g.t l.ctx.tree l.plan.table.functions (callees_in l.progress.done.calls.items);
-  sizes : vec_len l.progress.sizes ≡ length l.plan.table.functions;
-  nodes : (c : Scc ℕ) (v : ℕ) → Contains l.components.items c → Contains c.nodes.items v → v < length l.plan.table.functions;
+  under_way : IsUnderWay g.D.HasMeaning.meaning g.D.InliningDialect.convention g.t l.ctx.tree l.plan.table.now.functions (callees_in l.progress.done.calls.items);
+  sizes : vec_len l.progress.sizes ≡ length l.plan.table.now.functions;
+  nodes : (c : Scc ℕ) (v : ℕ) → Contains l.components.items c → Contains c.nodes.items v → v < length l.plan.table.now.functions;
   point : g.R.Rewriter.point l.rewriter ≡ g.R.Rewriter.point l.fn.rewriter;
 }
 

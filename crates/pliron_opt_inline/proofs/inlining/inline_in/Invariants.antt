@@ -9,9 +9,9 @@ ghost-inline_site g a = g.t
 
 abbrev pub invariant-loop-site : goal.invariant-loop-site
 invariant-loop-site g l = record {
-  under_way : IsUnderWay g.D.HasMeaning.meaning g.D.InliningDialect.convention g.t l.ctx.tree l.plan.table.functions (callees_in l.progress.done.calls.items);
-  sizes : vec_len l.progress.sizes ≡ length l.plan.table.functions;
-  sites : AreApartSites g.D.InliningDialect.callee l.ctx.tree (names_of l.plan.table.names) l.sites.items;
+  under_way : IsUnderWay g.D.HasMeaning.meaning g.D.InliningDialect.convention g.t l.ctx.tree l.plan.table.now.functions (callees_in l.progress.done.calls.items);
+  sizes : vec_len l.progress.sizes ≡ length l.plan.table.now.functions;
+  sites : AreApartSites g.D.InliningDialect.callee l.ctx.tree (names_of l.plan.table.now.names) l.sites.items;
   point : g.R.Rewriter.point l.rewriter ≡ g.R.Rewriter.point l.fn.rewriter;
 }
 

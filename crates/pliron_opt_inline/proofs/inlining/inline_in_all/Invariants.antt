@@ -8,7 +8,7 @@ ghost-inline_in g a = g.t
 
 abbrev pub invariant-loop-place : goal.invariant-loop-place
 invariant-loop-place g l = record {
-  under_way : IsUnderWay g.D.HasMeaning.meaning g.D.InliningDialect.convention g.t l.ctx.tree l.plan.table.functions (callees_in l.progress.done.calls.items);
-  sizes : vec_len l.progress.sizes ≡ length l.plan.table.functions;
+  under_way : IsUnderWay g.D.HasMeaning.meaning g.D.InliningDialect.convention g.t l.ctx.tree l.plan.table.now.functions (callees_in l.progress.done.calls.items);
+  sizes : vec_len l.progress.sizes ≡ length l.plan.table.now.functions;
   point : g.R.Rewriter.point l.rewriter ≡ g.R.Rewriter.point l.fn.rewriter;
 }
