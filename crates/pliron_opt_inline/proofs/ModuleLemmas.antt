@@ -1,10 +1,10 @@
 -- Functions of a module, and the calls in one of them, while calls are inlined.
-use Rattle.std.proofs.Common.{◌≡◌, ◌≢◌, ◌⊎◌, inl, inr, ⊎_elim, ℕ, zero, suc, ◌+◌, ◌<◌, true, List, [], ◌∷◌, ◌++◌, length, map, Option, Some, None, IsSome, is_some, refl, sym, ap, ◌∙◌, subst, arith}
+use Rattle.std.proofs.Common.{◌≡◌, ◌≢◌, ◌⊎◌, inl, inr, ⊎_elim, ℕ, zero, suc, ◌+◌, ◌<◌, Bool, true, false, MatchBool, get_or, List, [], ◌∷◌, ◌++◌, length, map, Option, Some, None, IsSome, is_some, refl, sym, ap, ◌∙◌, subst, arith}
 use Rattle.std.specs.List.{All, Contains, slice_get}
 use Rattle.std.specs.Option.{option_and_then, option_map_or}
 use Rattle.std.proofs.lemmas.List.{append-nil}
 use Rattle.std.proofs.lemmas.List.Elements.{All-nil, All-cons}
-use Rattle.std.proofs.lemmas.Option.{slice_get_within, slice_get-get_or}
+use Rattle.std.proofs.lemmas.Option.{slice_get_within, slice_get_read, slice_get-get_or}
 use Rattle.pliron_core.specs.declared.attrs.Head.{Head}
 use Rattle.pliron_core.specs.Tree.{Tree, In, IsDistinct, IsLive, head_of}
 use Rattle.pliron_core.proofs.GapLemmas.{slice-some}
@@ -23,7 +23,7 @@ use Rattle.pliron_opt_inline.specs.InTurn.{InlinedName, KeepsProgramsLinkedBy}
 use Rattle.pliron_opt_inline.specs.Module.{with_own_name, own_names, AreInlined}
 use Rattle.pliron_opt_inline.specs.Turns.{ArePlanned, IsUnderWay, AreApartSites}
 use Rattle.pliron_opt_inline.proofs.InTurnLemmas.{in_turn_laws}
-use Rattle.pliron_graph_traversal.proofs.AdjacencyLemmas.{node_below}
+use Rattle.pliron_graph_traversal.specs.Internal.AdjacencyLawful.{node_below}
 use Rattle.pliron_graph_components.specs.declared.components.Scc.{Scc}
 use Rattle.pliron_graph_components.proofs.PreSentinelLemmas.{item_pushed, item_kept}
 use Rattle.pliron_opt_inline.specs.CallGraph.{AreCallComponents}
@@ -45,7 +45,7 @@ own_names_more c t (g ∷ gs) f symbol e = ap (with_own_name g (symbol_at c t g)
 
 -- a function of a table and its name stand at one place
 pub name_beside : (c : CallingConvention) (t : Tree) (ks : List ℕ) (i f : ℕ) (name : Datum) → slice_get (functions_among c t ks) i ≡ Some f → slice_get (names_among c t ks) i ≡ Some name → symbol_at c t f ≡ Some name
-name_beside c t [] i f name at_f at_n = absurd (not_none at_f)
+name_beside c t [] i f name = λ at_f at_n. absurd (not_none at_f)
 name_beside c t (k ∷ ks) i f name = go (name_beside c t ks) (symbol_at c t k) refl i
   where
     go : ((n g : ℕ) (own : Datum) → slice_get (functions_among c t ks) n ≡ Some g → slice_get (names_among c t ks) n ≡ Some own → symbol_at c t g ≡ Some own) → (o : Option Datum) → symbol_at c t k ≡ o → (n : ℕ) → slice_get (with_function k o (functions_among c t ks)) n ≡ Some f → slice_get (with_name o (names_among c t ks)) n ≡ Some name → symbol_at c t f ≡ Some name
@@ -101,6 +101,16 @@ still_fit m c t u callees h root fit live =
 
 -- ---- the functions of a plan
 
+-- what is read at an index of an equal list
+pub read_at : (xs fs : List ℕ) (i f : ℕ) → xs ≡ fs → i < length fs → f ≡ get_or xs i f → slice_get fs i ≡ Some f
+read_at xs fs i f same lt is = slice_get_read fs (length fs) i f refl lt (is ∙ ap (λ ys. get_or ys i f) same)
+
+pub match_true : (P Q : Type 0) (b : Bool) → b ≡ true → MatchBool b P Q → P
+match_true P Q b e h = subst (λ z. MatchBool z P Q) e h
+
+pub match_false : (P Q : Type 0) (b : Bool) → b ≡ false → MatchBool b P Q → Q
+match_false P Q b e h = subst (λ z. MatchBool z P Q) e h
+
 module _ (m : Meaning) (c : CallingConvention) (t : Tree) (functions : List ℕ) (names : List Datum) (facts : List FunctionFacts) (plan : ArePlanned m c t functions names facts) where
   pub has_name : (f : ℕ) → In f functions → (name : Datum) × (symbol_at c t f ≡ Some name)
   has_name f i =
@@ -108,6 +118,13 @@ module _ (m : Meaning) (c : CallingConvention) (t : Tree) (functions : List ℕ)
       let lt : at.0 < length names = let a = slice_get_within functions at.0 f at.1 in let b = plan.as_many_names in omega (arith, a, b) in
       let name = slice-some names at.0 lt in
       (name.0, plan.named at.0 f name.0 at.1 name.1)
+
+  -- a function that is admitted, and its name
+  pub first_fit : (i f : ℕ) → slice_get functions i ≡ Some f → ((x : FunctionFacts) → slice_get facts i ≡ Some x → x.is_admitted ≡ true) → IsFit m t f
+  first_fit i f at_f admitted =
+      let lt : i < length facts = let a = slice_get_within functions i f at_f in let b = plan.as_many_facts in omega (arith, a, b) in
+      let x = slice-some facts i lt in
+      plan.fit i f x.0 at_f x.1 (admitted x.0 x.1)
 
   pub site_within : (i : ℕ) (name : Datum) → slice_get names i ≡ Some name → i < length functions
   site_within i name e = let a = slice_get_within names i name e in let b = plan.as_many_names in omega (arith, a, b)
@@ -119,15 +136,9 @@ module _ (m : Meaning) (c : CallingConvention) (t : Tree) (functions : List ℕ)
     pub symbol_now : (f : ℕ) → In f functions → (name : Datum) × (symbol_at c u f ≡ Some name)
     symbol_now f i = let n = has_name f i in (n.0, ap (option_and_then c.symbol_of) (way.heads f i) ∙ n.1)
 
-    -- one function is fit now that was admitted
-    pub fit_now : (i f : ℕ) (x : FunctionFacts) → slice_get functions i ≡ Some f → slice_get facts i ≡ Some x → x.is_admitted ≡ true → IsFit m u f
-    fit_now i f x at_f at_x admitted = still_fit m c t u callees way.inlined f (plan.fit i f x at_f at_x admitted) (function_live f (in_slice functions i f at_f))
-
+    -- it is still fit
     pub callee_fit : (i f : ℕ) → slice_get functions i ≡ Some f → ((x : FunctionFacts) → slice_get facts i ≡ Some x → x.is_admitted ≡ true) → IsFit m u f
-    callee_fit i f at_f admitted =
-        let lt : i < length facts = let a = slice_get_within functions i f at_f in let b = plan.as_many_facts in omega (arith, a, b) in
-        let x = slice-some facts i lt in
-        fit_now i f x.0 at_f x.1 (admitted x.0 x.1)
+    callee_fit i f at_f admitted = still_fit m c t u callees way.inlined f (first_fit i f at_f admitted) (function_live f (in_slice functions i f at_f))
 
     -- the next tree, in which functions have their heads
     pub next_way : (v : Tree) (more : List ℕ) → AreInlined m c t v more → ((k : ℕ) (name : Datum) → symbol_at c u k ≡ Some name → head_of v k ≡ head_of u k) → IsUnderWay m c t v functions more
