@@ -10,5 +10,4 @@ mod preparing;
 mod program;
 pub mod routine_kind;
 mod tables;
-#[cfg(test)]
 mod words;

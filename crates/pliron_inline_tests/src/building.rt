@@ -185,6 +185,21 @@ pub fn fill(
     Some(parts)
 }
 
+/// A module, which is a function of no name, with these functions, set apart by ` / `, each its word and its blocks.
+pub fn module(alloc: Global, ctx: &mut Context, written: &str) -> Option<Ptr<Operation>> {
+    let holder = function(alloc, ctx, "func", "0:")?;
+    if !holder.is_live(ctx) || holder.num_region(ctx) == 0 {
+        return None;
+    }
+    let block = holder.get_region(ctx, 0).get_head(ctx)?;
+    for part in written.split(" / ") {
+        let (word, blocks) = part.split_once(' ')?;
+        let made = function(alloc, ctx, word, blocks)?;
+        place(ctx, made, block)?;
+    }
+    Some(holder)
+}
+
 /// A function with this word for its head and these blocks, in no block.
 pub fn function(
     alloc: Global,

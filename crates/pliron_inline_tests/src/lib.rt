@@ -5,3 +5,11 @@
 mod building;
 #[cfg(test)]
 mod callees;
+#[cfg(test)]
+mod components;
+#[cfg(test)]
+mod modules;
+#[cfg(test)]
+mod policy;
+#[cfg(test)]
+mod sizes;

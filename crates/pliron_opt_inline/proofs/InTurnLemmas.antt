@@ -25,7 +25,7 @@ right_names n [] ys link s = s
 right_names n (x ∷ xs) ys link s = right_names n xs ys link s.1
 
 -- the module becomes the later tree
-twice : (p : Program) (n : ℕ) (u v : Tree) → with_module (with_module p n u) n v ≡ with_module p n v
+pub twice : (p : Program) (n : ℕ) (u v : Tree) → with_module (with_module p n u) n v ≡ with_module p n v
 unfolding with_module
 twice p n u v = λ i k. same (nat_eq k n) (p k) i
   where
@@ -35,6 +35,9 @@ twice p n u v = λ i k. same (nat_eq k n) (p k) i
 
 none : (m : Meaning) (c : CallingConvention) (t u : Tree) → KeepsPrograms m t u → KeepsProgramsLinkedBy m c [] t u
 none m c t u keeps p n e = linked_by_laws.all [] m c p (with_module p n u) (keeps c p n e)
+
+wider : (m : Meaning) (c : CallingConvention) (xs ys : List InlinedName) (t u : Tree) → KeepsProgramsLinkedBy m c xs t u → KeepsProgramsLinkedBy m c (xs ++ ys) t u
+wider m c xs ys t u a p n e = linked_by_laws.more (names_in n xs) (names_in n (xs ++ ys)) m c p (with_module p n u) (left_names n xs ys) (a p n e)
 
 in_turn : (m : Meaning) (c : CallingConvention) (xs ys : List InlinedName) (t u v : Tree) → KeepsProgramsLinkedBy m c xs t u → KeepsProgramsLinkedBy m c ys u v → KeepsProgramsLinkedBy m c (xs ++ ys) t v
 in_turn m c xs ys t u v a b p n e =
@@ -61,6 +64,7 @@ module _ (m : Meaning) (c : CallingConvention) (t u : Tree) (call callee : ℕ) 
 pub in_turn_laws : InTurnLaws
 in_turn_laws = record {
   none = none;
+  wider = wider;
   one = λ m c t u call callee symbol w w' fit h p n e. one_in m c t u call callee symbol w w' fit h p n e;
   in_turn = in_turn;
   stays_fit = λ m c t u call callee symbol w w' fit h root. stays m c t u call callee symbol w w' fit h root;

@@ -13,7 +13,7 @@ pub map_last : {A B : Type 0} (f : A → B) (xs : List A) (x : A) → map f (xs 
 map_last f [] x = refl
 map_last f (y ∷ ys) x = ap (λ zs. f y ∷ zs) (map_last f ys x)
 
-last_or : {A : Type 0} (xs : List A) (d n : A) (i : ℕ) → slice_get (xs ++ d ∷ []) i ≡ Some n → (slice_get xs i ≡ Some n) ⊎ ((i ≡ length xs) × (n ≡ d))
+pub last_or : {A : Type 0} (xs : List A) (d n : A) (i : ℕ) → slice_get (xs ++ d ∷ []) i ≡ Some n → (slice_get xs i ≡ Some n) ⊎ ((i ≡ length xs) × (n ≡ d))
 last_or [] d n zero e = inr (refl, sym (some_is e))
 last_or [] d n (suc i) e = absurd (not_none e)
 last_or (x ∷ xs) d n zero e = inl e

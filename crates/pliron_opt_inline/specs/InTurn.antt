@@ -28,6 +28,8 @@ KeepsProgramsLinkedBy m c names t u = (p : Program) (n : ℕ) → p n ≡ t → 
 pub record InTurnLaws : Type 0 where
   -- where linked runs are kept whatever names stand for, as by passes, no name is asked for
   pub none : (m : Meaning) (c : CallingConvention) (t u : Tree) → KeepsPrograms m t u → KeepsProgramsLinkedBy m c [] t u
+  -- more names may be asked for
+  pub wider : (m : Meaning) (c : CallingConvention) (xs ys : List InlinedName) (t u : Tree) → KeepsProgramsLinkedBy m c xs t u → KeepsProgramsLinkedBy m c (xs ++ ys) t u
   -- a call of a function that is fit to run is inlined
   pub one : (m : Meaning) (c : CallingConvention) (t u : Tree) (call callee : ℕ) (symbol : Datum) → IsTree t → IsTree u → IsFit m t callee
       → IsInlined m c t u call callee symbol → KeepsProgramsLinkedBy m c (record { symbol = symbol; callee = callee } ∷ []) t u

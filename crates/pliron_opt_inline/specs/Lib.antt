@@ -3,3 +3,5 @@ pub mod Callees
 pub mod Sizes
 pub mod InTurn
 pub mod CallGraph
+pub mod Module
+pub mod Turns

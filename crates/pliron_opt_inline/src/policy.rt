@@ -8,7 +8,7 @@ use pliron_core::{Context, Operation, Ptr};
 use pliron_dialect_calls::InliningDialect;
 
 /// What a driver says of inlining beside the laws of its dialect: which calls may be inlined, what may be copied, how large
-/// operations are.
+/// operations are, which functions are to be inlined, and which are private to their module.
 ///
 /// It is a value, since what it answers of a head may stand elsewhere, as in the sheet of a text. Linked runs are kept
 /// whatever it answers: it says what runs don't show, as names that a linker may give another body, attributes that two
@@ -21,6 +21,11 @@ pub trait InliningPolicy<D: InliningDialect> {
     ghost allows_copy: { Self → HeadOf → Bool };
 
     ghost size: { Self → HeadOf → ℕ };
+
+    // of the head of a function: whether its calls are to be inlined, and whether only its module calls it
+    ghost is_asked_for: { Self → HeadOf → Bool };
+
+    ghost is_private: { Self → HeadOf → Bool };
 
     /// Whether the call of this callee in this caller may be inlined. Asks that all three are live (`is_live` tests it).
     fn admits(
@@ -45,4 +50,15 @@ pub trait InliningPolicy<D: InliningDialect> {
     fn size(&self, op: Ptr<Operation>, ctx: &Context) -> u32
         requires { IsLive ctx.now.tree op }
         ensures { ReadsHead (size self.now) ctx.now.tree op result };
+
+    /// Whether calls of the function are to be inlined whatever its size, as by `always_inline`. Asks that it is live
+    /// (`is_live` tests it).
+    fn is_asked_for(&self, function: Ptr<Operation>, ctx: &Context) -> bool
+        requires { IsLive ctx.now.tree function }
+        ensures { ReadsHead (is_asked_for self.now) ctx.now.tree function result };
+
+    /// Whether nobody outside the module calls the function. Asks that it is live (`is_live` tests it).
+    fn is_private(&self, function: Ptr<Operation>, ctx: &Context) -> bool
+        requires { IsLive ctx.now.tree function }
+        ensures { ReadsHead (is_private self.now) ctx.now.tree function result };
 }

@@ -1,5 +1,6 @@
 //! What was copied, and its copies.
 ghost use Rattle.std.specs.Prelude.{◌≡◌, ℕ, None, Some, OnOk, IsOkUnless, cond, nat_eq};
+ghost use Rattle.indexmap.specs.IndexMap.{get};
 ghost use Rattle.pliron_laws.specs.Tree.{is_one_key};
 ghost use Rattle.pliron_rewrite_calls.specs.CopyTables.{block_copy, value_copy, block_or_copy_in, value_or_copy_in};
 
@@ -39,6 +40,13 @@ impl Copies {
         ensures { result ≡ value_copy self.now value }
     {
         self.values.get(&value).copied()
+    }
+
+    /// The copy of each value that was copied. Cost: constant.
+    pub fn values(&self) -> &IndexMap<Value, Value>
+        ensures { (v : ℕ) → get nat_eq result.now v ≡ value_copy self.now v }
+    {
+        &self.values
     }
 
     // The copy of the block, or the block itself.

@@ -209,6 +209,13 @@ fn lead_back<D: InliningDialect, R: Rewriter + Room>(
     Ok(jump)
 }
 
+// Copies of blocks, and a jump to the first one.
+#[derive(Drop)]
+struct LedCopies {
+    jump: Ptr<Operation>,
+    copies: Copies,
+}
+
 // Copies of the blocks, with these operations, whose returns lead to where the jump led, and a jump to the first one in
 // no block, where there is room for the changes, also for the way back.
 fn copy_and_lead_back<D: InliningDialect, R: Rewriter + Room>(
@@ -218,7 +225,7 @@ fn copy_and_lead_back<D: InliningDialect, R: Rewriter + Room>(
     operations: &[Ptr<Operation>],
     ctx: &mut Context,
     rewriter: &mut R,
-) -> Result<Ptr<Operation>, OptError>
+) -> Result<LedCopies, OptError>
     ghost x: { CopySource }
     requires may { MayCopy x }
     requires tree { x.tree ≡ ctx.old.tree }
@@ -229,8 +236,8 @@ fn copy_and_lead_back<D: InliningDialect, R: Rewriter + Room>(
     requires bare { (b : ℕ) → In b x.blocks → AreReturnsBare D.returns x.tree b }
     requires call { IsLive x.tree site.call }
     requires some { 0 < length blocks.now }
-    ensures led { IfOk result (λ jump. (entry : ℕ) × (first_of x.blocks None ≡ Some entry) × AreCopiesLed D.meaning
-        D.returns x.tree ctx.new.tree x.region x.blocks site.after (operands_of x.tree site.call) entry jump) }
+    ensures led { IfOk result (λ led. (entry : ℕ) × (first_of x.blocks None ≡ Some entry) × AreCopiesLed D.meaning
+        D.returns x.tree ctx.new.tree x.region x.blocks site.after (operands_of x.tree site.call) entry led.jump) }
     ensures refused { OnErr result (IsSameTree x.tree ctx.new.tree) }
     ensures memory { IsOkUnless result OptError.Memory }
     ensures point { R.point rewriter.new ≡ R.point rewriter.old }
@@ -240,7 +247,7 @@ fn copy_and_lead_back<D: InliningDialect, R: Rewriter + Room>(
     let copies = copy_within_room(alloc, blocks, operations, region, ctx, rewriter)?;
     ctx.well_formed();
     match lead_back::<D, R>(alloc, site, blocks, &copies, ctx, rewriter) {
-        Ok(jump) => Ok(jump),
+        Ok(jump) => Ok(LedCopies { jump, copies }),
         Err(refusal) => {
             erase_new_blocks(region, &last, ctx, rewriter);
             Err(refusal)
@@ -279,7 +286,7 @@ fn replace_call<R: Rewriter>(
 }
 
 /// The call and the jump behind it become a jump to a copy of the callee's blocks, in which returns jump where the old
-/// jump led. It is a whole rewrite, or none.
+/// jump led. It is a whole rewrite, or none. The answer is what was copied, and its copies.
 ///
 /// Asks that the call calls the callee's name and has no regions; that behind it, last in its block, is a jump with its
 /// results, which nothing else uses; that the callee runs its one region. What is inside names only what is inside, has
@@ -292,7 +299,7 @@ pub fn inline_call<D: InliningDialect, R: Rewriter + Room>(
     callee: Ptr<Operation>,
     ctx: &mut Context,
     rewriter: &mut R,
-) -> Result<(), OptError>
+) -> Result<Copies, OptError>
     ghost symbol: { Datum }
     requires { MayInline D.meaning D.convention D.returns ctx.old.tree call callee symbol }
     ensures inlined { OnOk result (IsInlined D.meaning D.convention ctx.old.tree ctx.new.tree call callee symbol) }
@@ -334,7 +341,7 @@ pub fn inline_call<D: InliningDialect, R: Rewriter + Room>(
         rewriter,
     )?;
     ctx.well_formed();
-    replace_call(call, jump, new, block, ctx, rewriter);
+    replace_call(call, jump, new.jump, block, ctx, rewriter);
     ctx.well_formed();
-    Ok(())
+    Ok(new.copies)
 }

@@ -31,7 +31,7 @@ replace_call-requires g c =
     let t = c.args.ctx.now.tree in
     let listed = c.as_slice-2.ensures.value ∙ c.in_ok-push_layout.ensures ∙ ap (λ (xs : List ℕ). xs ++ layout_of t c.get_region.result) c.new-blocks.ensures.items in
     let led = c.in_ok-new.ensures.led in
-    let r = replaceable g.D.HasMeaning.meaning g.D.InliningDialect.convention g.D.InliningDialect.returns c.args.ctx.now.tree c.args.call c.args.callee g.symbol c.requires.1.1 c.well_formed-2.ensures.tree c.in-Some.block c.in-Some-get_next.jump c.get_successor-after.result c.in-Some-get_parent_region.region c.get_region.result c.as_slice-2.result.now c.in-Some.ensures.block c.in-Some-get_next.ensures.next c.in-Some-get_parent_region.ensures.region c.get_successor-after.ensures.successor c.get_region.ensures.region listed led.0 c.in_ok-new.new c.copy_and_lead_back.new.ctx.tree c.well_formed-3.ensures.tree led.2 in
+    let r = replaceable g.D.HasMeaning.meaning g.D.InliningDialect.convention g.D.InliningDialect.returns c.args.ctx.now.tree c.args.call c.args.callee g.symbol c.requires.1.1 c.well_formed-2.ensures.tree c.in-Some.block c.in-Some-get_next.jump c.get_successor-after.result c.in-Some-get_parent_region.region c.get_region.result c.as_slice-2.result.now c.in-Some.ensures.block c.in-Some-get_next.ensures.next c.in-Some-get_parent_region.ensures.region c.get_successor-after.ensures.successor c.get_region.ensures.region listed led.0 c.in_ok-new.new.jump c.copy_and_lead_back.new.ctx.tree c.well_formed-3.ensures.tree led.2 in
     record { holds = r.holds; behind = r.behind; last = r.last; plain = r.plain; bare = r.bare; used_there = r.used_there; new = r.stands; free = r.free; childless = r.childless }
 
 pub returns-clause-inlined : goal.returns-clause-inlined
@@ -39,4 +39,4 @@ returns-clause-inlined g c =
     let t = c.args.ctx.now.tree in
     let listed = c.as_slice-2.ensures.value ∙ c.in_ok-push_layout.ensures ∙ ap (λ (xs : List ℕ). xs ++ layout_of t c.get_region.result) c.new-blocks.ensures.items in
     let led = c.in_ok-new.ensures.led in
-    it_is_inlined g.D.HasMeaning.meaning g.D.InliningDialect.convention g.D.InliningDialect.returns c.args.ctx.now.tree c.args.call c.args.callee g.symbol c.requires.1.1 c.well_formed-2.ensures.tree c.in-Some.block c.in-Some-get_next.jump c.get_successor-after.result c.in-Some-get_parent_region.region c.get_region.result c.as_slice-2.result.now c.in-Some.ensures.block c.in-Some-get_next.ensures.next c.in-Some-get_parent_region.ensures.region c.get_successor-after.ensures.successor c.get_region.ensures.region listed led.0 c.in_ok-new.new c.copy_and_lead_back.new.ctx.tree c.well_formed-3.ensures.tree led.2 c.replace_call.new.ctx.tree c.well_formed-4.ensures.tree led.1 c.replace_call.ensures.replaced
+    it_is_inlined g.D.HasMeaning.meaning g.D.InliningDialect.convention g.D.InliningDialect.returns c.args.ctx.now.tree c.args.call c.args.callee g.symbol c.requires.1.1 c.well_formed-2.ensures.tree c.in-Some.block c.in-Some-get_next.jump c.get_successor-after.result c.in-Some-get_parent_region.region c.get_region.result c.as_slice-2.result.now c.in-Some.ensures.block c.in-Some-get_next.ensures.next c.in-Some-get_parent_region.ensures.region c.get_successor-after.ensures.successor c.get_region.ensures.region listed led.0 c.in_ok-new.new.jump c.copy_and_lead_back.new.ctx.tree c.well_formed-3.ensures.tree led.2 c.replace_call.new.ctx.tree c.well_formed-4.ensures.tree led.1 c.replace_call.ensures.replaced
