@@ -13,8 +13,8 @@ mod target;
 
 use clap::{ArgMatches, Error};
 use command::parse_arguments;
-use pliron_driver_instrument::{InstrumentedPipeline, InstrumentedStep, Progress};
 use pliron_driver_inlining::{InlinedForm, split_stage};
+use pliron_driver_instrument::{InstrumentedPipeline, InstrumentedStep, Progress};
 use pliron_driver_mlir::{ClosedForm, MAX_TEXT, ModuleNotation, ModuleOptions, Request, run_on};
 use pliron_pass::{BenchFactKind, Pass};
 use std::env;

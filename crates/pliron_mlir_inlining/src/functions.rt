@@ -1,6 +1,6 @@
 //! What functions say of inlining.
 use crate::entries::ListEntry;
-use crate::policy::FunctionFacts;
+use crate::policy::FunctionMarks;
 use crate::words::{
     EXACT_LINKAGES, NEVER_INLINED, NEVER_INLINED_IN_LLVM, OWN, PASSED_OTHERWISE, PRIVATE,
 };
@@ -65,11 +65,11 @@ pub(crate) fn function_facts(
     entries: &[ListEntry],
     may_be_replaced: bool,
     shared: &mut Texts,
-) -> Result<FunctionFacts, AllocError> {
+) -> Result<FunctionMarks, AllocError> {
     let text = shared_text(alloc, entries)?;
     let is_private = entries.iter().any(says_private);
     let is_kept = is_private || has_entry(entries, b"dso_local") || !may_be_replaced;
-    Ok(FunctionFacts {
+    Ok(FunctionMarks {
         shared: shared.number(&text)?,
         is_inlined: is_kept && !entries.iter().any(forbids_inlining),
         is_private,

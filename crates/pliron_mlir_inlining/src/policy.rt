@@ -19,7 +19,7 @@ use std::alloc::{AllocError, Global};
 
 /// What a function says of inlining.
 #[derive(Clone, Copy, Debug, PartialEq, Eq)]
-pub struct FunctionFacts {
+pub struct FunctionMarks {
     /// The number of what it must share with what is inlined in it.
     pub shared: usize,
     /// Whether it may be inlined.
@@ -39,7 +39,7 @@ pub struct FormFacts {
     pub is_plain_call: bool,
     pub size: u32,
     /// What they say where they are functions.
-    pub function: FunctionFacts,
+    pub function: FunctionMarks,
 }
 
 /// What a module says of inlining, by the numbers of its operations' forms.
@@ -56,7 +56,7 @@ const NOTHING_SAID: FormFacts = FormFacts {
     allows_copy: true,
     is_plain_call: false,
     size: 0,
-    function: FunctionFacts {
+    function: FunctionMarks {
         shared: 0,
         is_inlined: false,
         is_private: false,
@@ -69,7 +69,7 @@ const NOTHING_ALLOWED: FormFacts = FormFacts {
     allows_copy: false,
     is_plain_call: false,
     size: 1,
-    function: FunctionFacts {
+    function: FunctionMarks {
         shared: 0,
         is_inlined: false,
         is_private: false,

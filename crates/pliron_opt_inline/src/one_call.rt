@@ -53,7 +53,7 @@ fn inline_prepared<D: InliningDialect, R: Rewriter + Room>(
     requires childless { regions_of ctx.old.tree call ≡ [] }
     requires prepared { IsCallPrepared D.meaning ctx.old.tree call }
     requires callee { IsFit D.meaning ctx.old.tree callee }
-    ensures inlined { IfOk result (λ copies. MatchOption copies (KeepsPrograms D.meaning ctx.old.tree ctx.new.tree)
+    ensures keeps { IfOk result (λ copies. MatchOption copies (KeepsPrograms D.meaning ctx.old.tree ctx.new.tree)
         (λ copies. KeepsProgramsLinkedBy D.meaning D.convention (record { symbol = symbol; callee = callee } ∷ [])
         ctx.old.tree ctx.new.tree)) }
     ensures refused { OnErr result (IsSameTree ctx.old.tree ctx.new.tree) }

@@ -96,7 +96,7 @@ returns-in_default-clause-inlined g c =
     let t = c.args.ctx.now.tree in
     let u = c.prepare_call.new.ctx.tree in
     let v = c.inline_prepared-copies.new.ctx.tree in
-    both_keep m t u v (by_runs m t u c.prepare_call.ensures.runs) (match_none _ _ c.in_ok-copies.field-0 c.in_default.is c.in_ok-copies.ensures.inlined)
+    both_keep m t u v (by_runs m t u c.prepare_call.ensures.runs) (match_none _ _ c.in_ok-copies.field-0 c.in_default.is c.in_ok-copies.ensures.keeps)
 
 pub returns-in_err-note_copies-clause-refused : goal.returns-in_err-note_copies-clause-refused
 returns-in_err-note_copies-clause-refused g c =
@@ -104,7 +104,7 @@ returns-in_err-note_copies-clause-refused g c =
     let t = c.args.ctx.now.tree in
     let u = c.prepare_call.new.ctx.tree in
     let v = c.inline_prepared-copies.new.ctx.tree in
-    let kept = then_linked m g.D.InliningDialect.convention (record { symbol = g.symbol; callee = c.args.callee }) t u v (by_runs m t u c.prepare_call.ensures.runs) (match_some _ _ c.in_ok-copies.field-0 c.in-Some.copies c.in-Some.is c.in_ok-copies.ensures.inlined) in
+    let kept = then_linked m g.D.InliningDialect.convention (record { symbol = g.symbol; callee = c.args.callee }) t u v (by_runs m t u c.prepare_call.ensures.runs) (match_some _ _ c.in_ok-copies.field-0 c.in-Some.copies c.in-Some.is c.in_ok-copies.ensures.keeps) in
     on_err_of c.from_residual-in_err-note_copies.result kept
 
 pub returns-clause-inlined : goal.returns-clause-inlined
@@ -113,5 +113,5 @@ returns-clause-inlined g c =
     let t = c.args.ctx.now.tree in
     let u = c.prepare_call.new.ctx.tree in
     let v = c.inline_prepared-copies.new.ctx.tree in
-    let kept = then_linked m g.D.InliningDialect.convention (record { symbol = g.symbol; callee = c.args.callee }) t u v (by_runs m t u c.prepare_call.ensures.runs) (match_some _ _ c.in_ok-copies.field-0 c.in-Some.copies c.in-Some.is c.in_ok-copies.ensures.inlined) in
+    let kept = then_linked m g.D.InliningDialect.convention (record { symbol = g.symbol; callee = c.args.callee }) t u v (by_runs m t u c.prepare_call.ensures.runs) (match_some _ _ c.in_ok-copies.field-0 c.in-Some.copies c.in-Some.is c.in_ok-copies.ensures.keeps) in
     kept
