@@ -2,3 +2,4 @@ pub mod OneMore
 pub mod Lengthening
 pub mod Pushing
 pub mod Added
+pub mod Passing
