@@ -87,8 +87,9 @@ fn use_arguments(
 /// Asks what `add_argument` asks, that the operations are live and may use arguments of the block, as where the block
 /// dominates them, and that some operation that leads to the block isn't among them. Errors: allocation failure, which
 /// leaves the tree as it was, or with the argument and some of these uses changed; runs are kept in any case. Cost: that
-/// of `add_argument`, and for each of these uses the operands of its operation. Source: R. Cytron and others, Efficiently
-/// Computing Static Single Assignment Form and the Control Dependence Graph, 1991 (uses are renamed behind a φ function).
+/// of `add_argument`, one step for each operand of these operations, and for each use that changes the operands of its
+/// operation. Source: R. Cytron and others, Efficiently Computing Static Single Assignment Form and the Control Dependence
+/// Graph, 1991 (uses are renamed behind a φ function).
 pub fn pass_value<D: LengthensEdges>(
     alloc: Global,
     block: Ptr<BasicBlock>,
