@@ -48,14 +48,14 @@ last_there : {A : Type 0} (xs : List A) (x : A) → slice_get (xs ++ x ∷ []) (
 last_there [] x = refl
 last_there (y ∷ ys) x = last_there ys x
 
-front_there : {A : Type 0} (xs ys : List A) (i : ℕ) (x : A) → slice_get xs i ≡ Some x → slice_get (xs ++ ys) i ≡ Some x
+pub front_there : {A : Type 0} (xs ys : List A) (i : ℕ) (x : A) → slice_get xs i ≡ Some x → slice_get (xs ++ ys) i ≡ Some x
 front_there [] ys i x e = absurd (grind (arith, e))
 front_there (z ∷ zs) ys zero x e = e
 front_there (z ∷ zs) ys (suc i) x e = front_there zs ys i x e
 
 -- ---- what may be used may still be used, where places, successors and definitions stay
 
-record KeepsWays (t u : Tree) (v : ℕ) : Type 0 where
+pub record KeepsWays (t u : Tree) (v : ℕ) : Type 0 where
   pub parents : (k : ℕ) → parent_of u k ≡ parent_of t k
   pub block_parents : (b : ℕ) → block_parent_of u b ≡ block_parent_of t b
   pub slots : (r : ℕ) → slot_of u r ≡ slot_of t r
@@ -66,7 +66,7 @@ record KeepsWays (t u : Tree) (v : ℕ) : Type 0 where
   pub definition : definition_of u v ≡ definition_of t v
 
 module _ (t u : Tree) (v : ℕ) (h : KeepsWays t u v) where
-  places : KeepsPlaces t u
+  pub places : KeepsPlaces t u
   places = record { parents = h.parents; block_parents = h.block_parents; slots = h.slots }
 
   made_forth : (root : ℕ) (d : Option Def) → IsDefiningOperationInside t root d → IsDefiningOperationInside u root d
@@ -86,7 +86,7 @@ module _ (t u : Tree) (v : ℕ) (h : KeepsWays t u v) where
       go None = refl
       go (Some k) = h.successors k
 
-  path_back : (a b : ℕ) (before : List ℕ) → Path u a b before → Path t a b before
+  pub path_back : (a b : ℕ) (before : List ℕ) → Path u a b before → Path t a b before
   path_back a b [] p = p
   path_back a b (c ∷ before) p = (record { successor = subst (In b) (succs_same c) p.0.successor; same_region = sym (h.block_parents b) ∙ p.0.same_region ∙ h.block_parents c }, path_back a c before p.1)
 
@@ -117,7 +117,7 @@ module _ (t u : Tree) (v : ℕ) (h : KeepsWays t u v) where
     passes = λ entry before done rest fe pe be. subst (λ x. HasPassed u x before d.block done) (sym h.definition) (passed_forth (definition_of t v) before d.block done (d.passes entry before done rest (ap (λ xs. first_of xs None) (sym (h.layouts d.region)) ∙ fe) (path_back entry d.block before pe) (sym (h.bodies d.block) ∙ be)));
   }
 
-  usable_forth : (root user : ℕ) → MayUse t root user v → MayUse u root user v
+  pub usable_forth : (root user : ℕ) → MayUse t root user v → MayUse u root user v
   usable_forth root user a = record {
     own = λ i. subst (IsDefiningOperationInside u root) (sym h.definition) (made_forth root (definition_of t v) (a.own (inside_back places root user i)));
     no_jumper = λ k i ne j. a.no_jumper k (inside_back places root k i) (λ e. ne (h.successors k ∙ e)) (subst (In v) (h.results k) j);
@@ -162,21 +162,21 @@ module _ (m : Meaning) (can_fold : Head → Bool) (SameTests : Head → Head →
         same : shape_of m t x.operation ≡ shape_of m (argument_pushed t block) x.operation
         same = shape_closed m t (argument_pushed t block) x.operation none x.branch
 
-    lengthened_pushed : (edges : List Use) (t u : Tree) → EdgesLengthened m shortened index value edges t u → EdgesLengthened m shortened index value edges (argument_pushed t block) (argument_pushed u block)
+    pub lengthened_pushed : (edges : List Use) (t u : Tree) → EdgesLengthened m shortened index value edges t u → EdgesLengthened m shortened index value edges (argument_pushed t block) (argument_pushed u block)
     lengthened_pushed [] t u x = ap (λ z. argument_pushed z block) x
     lengthened_pushed (e ∷ es) t u x = (argument_pushed x.0 block, lengthened_pushed es t x.0 x.1, lengthened_pushed_one e x.0 u x.2)
 
-  module _ (back : LengtheningLaw m shortened) (t u : Tree) (value argument : ℕ) (w : IsTree t) (w' : IsTree u) (is : IsBlock t block) (entry : (r : ℕ) → block_parent_of t block ≡ Some r → first_of (layout_of t r) None ≢ Some block) (x : IsArgumentAdded m shortened t u block value argument) where
+  module _ (back : LengtheningLaw m shortened) (t u : Tree) (value argument : ℕ) (w : IsTree t) (is : IsBlock t block) (entry : (r : ℕ) → block_parent_of t block ≡ Some r → first_of (layout_of t r) None ≢ Some block) (x : IsArgumentAdded m shortened t u block value argument) where
     abbrev index : ℕ
     index = length (arguments_of t block)
 
     abbrev fresh : ℕ
     fresh = length t.definitions
 
-    frame : IsFramed t x.longer
+    pub frame : IsFramed t x.longer
     frame = framed m can_fold SameTests shortened law index value x.edges t x.longer x.lengthened
 
-    own : arguments_of u block ≡ arguments_of t block ++ fresh ∷ []
+    pub own : arguments_of u block ≡ arguments_of t block ++ fresh ∷ []
     own =
         ap (λ z. arguments_of z block) x.pushed
         ∙ get_or-set_same x.longer.arguments block _ [] within
@@ -186,7 +186,7 @@ module _ (m : Meaning) (can_fold : Head → Bool) (SameTests : Head → Head →
         within : block < length x.longer.arguments
         within = subst (λ z. block < length z) (sym (same_arguments t x.longer frame)) (rows_hold t block w is)
 
-    other : (b : ℕ) → b ≢ block → arguments_of u b ≡ arguments_of t b
+    pub other : (b : ℕ) → b ≢ block → arguments_of u b ≡ arguments_of t b
     other b ne = ap (λ z. arguments_of z b) x.pushed ∙ pushed_other x.longer block b ne ∙ ap (λ z. slice_index_or z b []) (same_arguments t x.longer frame)
 
     successors : (k : ℕ) → successors_of u k ≡ successors_of t k
@@ -215,7 +215,14 @@ module _ (m : Meaning) (can_fold : Head → Bool) (SameTests : Head → Head →
     among : (k : ℕ) → In block (successors_of t k) → (i : ℕ) × Among k i x.edges
     among k i = let a = slice_in (successors_of t k) block i in (a.0, x.to.complete k a.0 a.1)
 
-    forwarded_more : IsForwardedMore m shortened t u block index fresh
+    -- the new value isn't used before
+    pub new_unused : (k : ℕ) → In fresh (operands_of t k) → ⊥
+    new_unused k i = let d = maker_is t fresh (w.joined.operands k fresh i) in past (slice_get_within t.definitions fresh d.0 d.1)
+      where
+        past : fresh < length t.definitions → ⊥
+        past l = absurd (omega (arith, l))
+
+    pub forwarded_more : IsForwardedMore m shortened t u block index fresh
     forwarded_more = record {
       edges = x.edges;
       shorter = argument_pushed t block;
@@ -235,18 +242,12 @@ module _ (m : Meaning) (can_fold : Head → Bool) (SameTests : Head → Head →
         layouts = λ r. refl;
         slots = λ r. refl;
       };
-      unused = λ k i. not_defined k i;
+      unused = new_unused;
       branches = λ k i. let a = among k (subst (In block) (successors k) i) in λ h hd. branches m can_fold SameTests shortened law index value x.edges t x.longer x.lengthened k a.0 a.1 h (ap (λ z. head_of z k) (sym x.pushed) ∙ hd);
       no_entry = λ r e q. entry r (block_parent_before r e) (ap (λ z. first_of z None) (sym (layout_same r)) ∙ q);
     }
-      where
-        not_defined : (k : ℕ) → In fresh (operands_of t k) → ⊥
-        not_defined k i = let d = maker_is t fresh (w.joined.operands k fresh i) in absurd (past (slice_get_within t.definitions fresh d.0 d.1))
-          where
-            past : fresh < length t.definitions → ⊥
-            past l = absurd (omega (arith, l))
 
-    ways : (v : ℕ) (d : Def) → definition_of t v ≡ Some d → KeepsWays t u v
+    pub ways : (v : ℕ) (d : Def) → definition_of t v ≡ Some d → KeepsWays t u v
     ways v d e = record {
       parents = λ k. ap (λ z. parent_of z k) x.pushed ∙ ap (λ z. parent_of z k) frame.tables;
       block_parents = block_parents_same;
@@ -258,7 +259,7 @@ module _ (m : Meaning) (can_fold : Head → Bool) (SameTests : Head → Head →
       definition = ap (λ z. definition_of z v) x.pushed ∙ front_there x.longer.definitions _ v d (ap (λ z. slice_get z v) (same_definitions t x.longer frame) ∙ e) ∙ sym e;
     }
 
-    named_more : (k y : ℕ) → In y (operands_of u k) → In y (operands_of t k) ⊎ (y ≡ value)
+    pub named_more : (k y : ℕ) → In y (operands_of u k) → In y (operands_of t k) ⊎ (y ≡ value)
     named_more k y i = named m can_fold SameTests shortened law index value x.edges t x.longer x.lengthened k y (subst (λ z. In y (operands_of z k)) x.pushed i)
 
     may_name : (root k : ℕ) → (d : Def) → definition_of t value ≡ Some d → MayUse t root k value → MayNameMore t u root k
@@ -311,8 +312,8 @@ module _ (m : Meaning) (can_fold : Head → Bool) (SameTests : Head → Head →
             let is_now : y.now ≡ z = some_is (sym stands_now ∙ e) in
             ap (λ a. length (m.forwarded (shape_of m u a) j)) (sym is_now) ∙ ap (λ a. length (m.forwarded a j)) (sym same_shape) ∙ led j c (ap (λ a. slice_get a j) (sym (successors k) ∙ (op_shows u k z e).successors) ∙ q) (cases_eq c block)
 
-    pub keeps : ForwardedLaw m shortened → ((root k : ℕ) → IsFit m t root → In block (successors_of t k) → MayUse t root k value) → (d : Def) → definition_of t value ≡ Some d → KeepsRuns m t u × KeepsRuns m u t
-    keeps added usable d e = added t u block index fresh w w' forwarded_more (λ root f k i. may_name root k d e (usable root k f i)) (λ root f k inside i. fits root k f inside i)
+    pub keeps : IsTree u → ForwardedLaw m shortened → ((root k : ℕ) → IsFit m t root → In block (successors_of t k) → MayUse t root k value) → (d : Def) → definition_of t value ≡ Some d → KeepsRuns m t u × KeepsRuns m u t
+    keeps w' added usable d e = added t u block index fresh w w' forwarded_more (λ root f k i. may_name root k d e (usable root k f i)) (λ root f k inside i. fits root k f inside i)
 
 -- ---- whichever heads may be those of roots
 
@@ -352,4 +353,4 @@ added_keeps_all m can_fold SameTests shortened law tests t u block value argumen
     both chosen =
         let here = forwards_operands m chosen can_fold SameTests shortened law in
         let d = maker_is t value made in
-        keeps (with_roots m chosen) can_fold SameTests shortened here block (lengthening (with_roots m chosen) can_fold SameTests shortened here) t u value argument w w' is entry (chosen_added m chosen shortened t u block value argument x) (forwarded_keeps (with_roots m chosen) can_fold SameTests shortened here tests) (usable chosen) d.0 d.1
+        keeps (with_roots m chosen) can_fold SameTests shortened here block (lengthening (with_roots m chosen) can_fold SameTests shortened here) t u value argument w is entry (chosen_added m chosen shortened t u block value argument x) w' (forwarded_keeps (with_roots m chosen) can_fold SameTests shortened here tests) (usable chosen) d.0 d.1

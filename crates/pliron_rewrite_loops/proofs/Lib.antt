@@ -5,3 +5,8 @@ pub mod Longer
 pub mod ForwardedCounts
 pub mod EdgeSteps
 pub mod Added
+pub mod Forwards
+pub mod PassingSteps
+pub mod Passed
+pub mod PassedInTurn
+pub mod Closed

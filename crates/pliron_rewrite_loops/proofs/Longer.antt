@@ -1,5 +1,5 @@
 -- What stays where edges forward one value more, and what each of them forwards.
-use Rattle.std.proofs.Common.{◌≡◌, ◌≢◌, ◌⊎◌, inl, inr, ⊎_elim, ℕ, zero, suc, ◌+◌, ◌-◌, ◌<◌, ◌≤◌, Bool, true, false, nat_eq, if◌then◌else◌, List, [], ◌∷◌, length, Option, Some, None, IsSome, IsTrue, slice_get, slice_index_or, remove, refl, sym, ap, ◌∙◌, subst, arith}
+use Rattle.std.proofs.Common.{◌≡◌, ◌≢◌, ◌⊎◌, inl, inr, ⊎_elim, ℕ, zero, suc, ◌+◌, ◌-◌, ◌<◌, ◌≤◌, Bool, true, false, nat_eq, if◌then◌else◌, List, [], ◌∷◌, length, map, Option, Some, None, IsSome, IsTrue, slice_get, slice_index_or, remove, refl, sym, ap, ◌∙◌, subst, arith}
 use Rattle.std.specs.List.{insert}
 use Rattle.std.proofs.lemmas.Bool.{cases_eq, eq-eqb}
 use Rattle.std.proofs.lemmas.List.{get_or-set_other, length-set, length-map}
@@ -85,7 +85,7 @@ module _ (m : Meaning) (can_fold : Head → Bool) (SameTests : Head → Head →
     lt' : e.user < length t.operands
     lt' = let n = x.rows in let l = lt in omega (arith, l, n)
 
-    le : x.place ≤ length (operands_of t e.user)
+    pub le : x.place ≤ length (operands_of t e.user)
     le =
         let fits : x.place < length x.operation.operands + 1 = place_fits m can_fold SameTests shortened law t e.place x.place x.head x.operation x.longer in
         let n = ap length (op_shows t e.user x.operation x.stands).operands in omega (arith, fits, n)
@@ -99,10 +99,10 @@ module _ (m : Meaning) (can_fold : Head → Bool) (SameTests : Head → Head →
     row_other : (k : ℕ) → k ≢ e.user → row_of u k ≡ row_of t k
     row_other k ne = ap (λ z. row_of z k) x.is ∙ get_or-set_other t.operations e.user k _ no_entry ne
 
-    operands_there : operands_of u e.user ≡ insert (operands_of t e.user) x.place value
+    pub operands_there : operands_of u e.user ≡ insert (operands_of t e.user) x.place value
     operands_there = ap (λ z. operands_of z e.user) x.is ∙ operands_at t e.user x.place value x.head lt lt' le
 
-    operands_other : (k : ℕ) → k ≢ e.user → operands_of u k ≡ operands_of t k
+    pub operands_other : (k : ℕ) → k ≢ e.user → operands_of u k ≡ operands_of t k
     operands_other k ne = ap (λ z. operands_of z k) x.is ∙ get_or-set_other t.operands e.user k _ [] ne
 
     pub framed_one : IsFramed t u
@@ -133,13 +133,13 @@ module _ (m : Meaning) (can_fold : Head → Bool) (SameTests : Head → Head →
     pub stands_there : op_at u e.user ≡ Some (operation_of u e.user x.head)
     stands_there = subst (λ z. op_at z e.user ≡ Some (operation_of z e.user x.head)) (sym x.is) (stands t e.user x.place value x.head lt lt' le)
 
-    shape_there : shape_of m u (operation_of u e.user x.head) ≡ new
+    pub shape_there : shape_of m u (operation_of u e.user x.head) ≡ new
     shape_there = subst (λ z. shape_of m z (operation_of z e.user x.head) ≡ new) (sym x.is) (shape_longer t e.user x.place value x.head lt lt' le m x.operation x.stands x.branch x.longer.branch)
 
-    op_other : (k : ℕ) → k ≢ e.user → op_at u k ≡ op_at t k
+    pub op_other : (k : ℕ) → k ≢ e.user → op_at u k ≡ op_at t k
     op_other k ne = op_kept t u k (row_other k ne) (operands_other k ne) (ap (λ z. slice_index_or z k []) (same_successors t u framed_one)) (ap (λ z. slice_index_or z.parents k None) framed_one.tables)
 
-    shape_other : (o : Operation) → shape_of m u o ≡ shape_of m t o
+    pub shape_other : (o : Operation) → shape_of m u o ≡ shape_of m t o
     unfolding shape_of block_at region_at
     shape_other o = subst (λ z. shape_of m z o ≡ shape_of m t o) (sym x.is) (same o)
       where
@@ -168,6 +168,10 @@ module _ (m : Meaning) (can_fold : Head → Bool) (SameTests : Head → Head →
 
       lengths : (i : ℕ) (b : Bool) → nat_eq i e.place ≡ b → length (m.forwarded old i) ≡ length (if b then remove (m.forwarded new i) (length (m.forwarded old e.place)) else m.forwarded new i)
       lengths i b q = ap (λ z. length (m.forwarded z i)) (sym was) ∙ ap length (loses.same_edges i) ∙ length-map _ (moved_up x.place) ∙ ap (λ z. length (if z then remove (m.forwarded new i) (length (m.forwarded old e.place)) else m.forwarded new i)) q
+
+      -- what is forwarded along another edge stands one further where it stood behind
+      pub places_other : (i : ℕ) → i ≢ e.place → m.forwarded old i ≡ map (moved_up x.place) (m.forwarded new i)
+      places_other i ne = ap (λ z. m.forwarded z i) (sym was) ∙ loses.same_edges i ∙ ap (λ z. map (moved_up x.place) (if z then remove (m.forwarded new i) (length (m.forwarded old e.place)) else m.forwarded new i)) (not_is i e.place (λ q. ne (sym q)))
 
       pub length_other : (i : ℕ) → i ≢ e.place → length (m.forwarded new i) ≡ length (m.forwarded old i)
       length_other i ne = sym (lengths i false (not_is i e.place (λ q. ne (sym q))))

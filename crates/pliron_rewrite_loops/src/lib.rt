@@ -14,10 +14,13 @@ ghost use Rattle.pliron_theory.specs.Keeps.{with_roots};
 ghost use Rattle.pliron_rewrite_loops.specs.OneMore.{ForwardedLaw};
 ghost use Rattle.pliron_rewrite_loops.specs.Lengthening.{LengtheningLaw};
 ghost use Rattle.pliron_rewrite_loops.specs.Pushing.{PushingLaw};
+ghost use Rattle.pliron_rewrite_loops.specs.Closing.{ClosingLaw};
 
 mod adding;
+mod passing;
 
 pub use adding::add_argument;
+pub use passing::{pass_value, pass_values};
 use pliron_laws::Dialect;
 use pliron_rewrite_arguments::one_value_replaces_argument;
 
@@ -43,3 +46,10 @@ pub fn arguments_are_pushed<D: Dialect>()
 {
     one_value_replaces_argument::<D>()
 }
+
+/// Values of a block that is left along two edges, as a loop's header, are used by operations of that block alone once
+/// `pass_values` passed them along both, where each of their uses was there, or was behind one of the two and passed.
+/// Cost: constant, as of each law.
+pub fn passed_values_are_closed<D: Dialect>()
+    ensures { ClosingLaw D.meaning }
+{}
