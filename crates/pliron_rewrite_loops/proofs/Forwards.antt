@@ -5,8 +5,8 @@ use Rattle.std.specs.Option.{option_map}
 use Rattle.std.proofs.lemmas.Bool.{cases_eq}
 use Rattle.std.proofs.lemmas.Option.{slice_get-map}
 use Rattle.pliron_core.specs.declared.uses.Use.{Use}
-use Rattle.pliron_core.specs.Tree.{Tree, operands_of, successors_of}
-use Rattle.pliron_core.proofs.HoldingLemmas.{some_is, not_none}
+use Rattle.pliron_core.specs.Tree.{Tree, In, operands_of, successors_of}
+use Rattle.pliron_core.proofs.HoldingLemmas.{some_is, not_none, in_slice}
 use Rattle.pliron_core.proofs.TreeLemmas.{cases_lt}
 use Rattle.pliron_laws.specs.Datum.{Head, Shape, Meaning}
 use Rattle.pliron_laws.specs.Tree.{Operation, op_at, shape_of}
@@ -18,7 +18,7 @@ use Rattle.pliron_theory.proofs.ShortenedBranches.{Among}
 use Rattle.pliron_dialect_edges.specs.Lengthened.{one_more}
 use Rattle.pliron_rewrite_loops.specs.Lengthening.{EdgeLengthened, EdgesLengthened}
 use Rattle.pliron_rewrite_loops.proofs.LengthenedBack.{insert_there}
-use Rattle.pliron_rewrite_loops.proofs.Longer.{same_successors, framed, operands_there, stands_there, shape_there, op_other, shape_other, le, places_other}
+use Rattle.pliron_rewrite_loops.proofs.Longer.{same_successors, framed, operands_there, stands_there, shape_there, op_other, shape_other, le, places_other, operands_other}
 
 -- what stood behind the place stands one further, what stood before it stays
 behind_inserted : {A : Type 0} (xs : List A) (i : ℕ) (y : A) (p : ℕ) → i ≤ length xs → i ≤ p → slice_get (insert xs i y) (suc p) ≡ slice_get xs p
@@ -127,3 +127,10 @@ module _ (m : Meaning) (can_fold : Head → Bool) (SameTests : Head → Head →
       behind : ((e ≡ record { user = k; place = i }) → ⊥) → Among k i (e ∷ es) → Among k i es
       behind ne (zero, r) = absurd (ne (some_is r))
       behind ne (suc n, r) = (n, r)
+
+  -- what doesn't lead to the block has the operands that it had
+  pub untouched : (block : ℕ) (edges : List Use) (t u : Tree) → ((n : ℕ) (e : Use) → slice_get edges n ≡ Some e → slice_get (successors_of t e.user) e.place ≡ Some block) → EdgesLengthened m shortened index value edges t u → (k : ℕ) → (In block (successors_of t k) → ⊥) → operands_of u k ≡ operands_of t k
+  untouched block [] t u listed x k out = ap (λ z. operands_of z k) x
+  untouched block (e ∷ es) t u listed x k out =
+      operands_other m can_fold SameTests shortened law index value e x.0 u x.2 k (λ q. out (subst (λ z. In block (successors_of t z)) (sym q) (in_slice (successors_of t e.user) e.place block (listed zero e refl))))
+      ∙ untouched block es t x.0 (λ n. listed (suc n)) x.1 k out

@@ -9,3 +9,4 @@ pub mod Forwards
 pub mod PassingSteps
 pub mod Passed
 pub mod PassedInTurn
+pub mod Closed

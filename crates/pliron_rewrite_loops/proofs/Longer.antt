@@ -102,7 +102,7 @@ module _ (m : Meaning) (can_fold : Head → Bool) (SameTests : Head → Head →
     pub operands_there : operands_of u e.user ≡ insert (operands_of t e.user) x.place value
     operands_there = ap (λ z. operands_of z e.user) x.is ∙ operands_at t e.user x.place value x.head lt lt' le
 
-    operands_other : (k : ℕ) → k ≢ e.user → operands_of u k ≡ operands_of t k
+    pub operands_other : (k : ℕ) → k ≢ e.user → operands_of u k ≡ operands_of t k
     operands_other k ne = ap (λ z. operands_of z k) x.is ∙ get_or-set_other t.operands e.user k _ [] ne
 
     pub framed_one : IsFramed t u

@@ -9,6 +9,7 @@ use Rattle.pliron_core.specs.Invariant.{IsTree}
 use Rattle.pliron_core.specs.Tree.{Tree, In, IsBlock, IsDefined, IsLive, IsMadeBy, HoldsBlock, first_of, head_of, operands_of, successors_of, results_of, arguments_of, block_parent_of, layout_of, definition_of, up_from}
 use Rattle.pliron_core.specs.Uses.{replace_target}
 use Rattle.pliron_core.specs.Writes.{argument_pushed}
+use Rattle.pliron_core.proofs.ListLemmas.{decide_in}
 use Rattle.pliron_core.proofs.HoldingLemmas.{some_is, in_slice, slice_in, maker_is, past_live}
 use Rattle.pliron_laws.specs.Datum.{Head, Shape, Meaning}
 use Rattle.pliron_laws.specs.Tree.{Operation, op_at, shape_of}
@@ -31,7 +32,7 @@ use Rattle.pliron_rewrite_loops.specs.Pushing.{PushingLaw}
 use Rattle.pliron_rewrite_loops.specs.Passing.{StandsBehind, MayUseArguments, UsesArgument, MayPass}
 use Rattle.pliron_rewrite_loops.proofs.LengthenedBack.{lengthening}
 use Rattle.pliron_rewrite_loops.proofs.Added.{front_there, KeepsWays, places, path_back, usable_forth, lengthened_pushed, frame, own, other, new_unused, forwarded_more, named_more, ways}
-use Rattle.pliron_rewrite_loops.proofs.Forwards.{ForwardsThere, forwarded_at, mapped_from, each_forwards}
+use Rattle.pliron_rewrite_loops.proofs.Forwards.{ForwardsThere, forwarded_at, mapped_from, each_forwards, untouched}
 
 -- what leads somewhere is live
 leader_live : (t : Tree) → IsTree t → (k b : ℕ) → In b (successors_of t k) → (h : Head) × (head_of t k ≡ Some h)
@@ -119,7 +120,7 @@ module _ (m : Meaning) (can_fold : Head → Bool) (SameTests : Head → Head →
     defined : definition_of u argument ≡ Some (Argument block index)
     defined = w'.joined.arguments block index argument there
 
-    defined_still : (v : ℕ) → IsDefined t v → IsDefined u v
+    pub defined_still : (v : ℕ) → IsDefined t v → IsDefined u v
     defined_still v h = subst (IsMadeBy u v) (sym (keeps_ways v h).definition) (go (definition_of t v) h)
       where
         go : (d : Option Def) → IsMadeBy t v d → IsMadeBy u v d
@@ -128,10 +129,13 @@ module _ (m : Meaning) (can_fold : Head → Bool) (SameTests : Head → Head →
         go (Some (Argument b i)) j = ap (λ z. slice_get z i) (sym (r.arguments b)) ∙ arguments_more v b i j
 
     -- operations name what they named, the value, or the argument
-    pub named_still : (k v : ℕ) → argument ≢ v → In v (operands_of u k) → In v (operands_of t k) ⊎ (v ≡ value)
-    named_still k v ne i =
+    named_before : (k v : ℕ) → argument ≢ v → In v (operands_of u k) → In v (operands_of s k)
+    named_before k v ne i =
         let same : rename v ≡ v = ap (λ b. if b then value else v) (ne_eqb v argument (λ q. ne (sym q))) in
-        named_more m can_fold SameTests shortened law block (lengthening m can_fold SameTests shortened law) t s value argument w is entry x k v (subst (In v) (sym (r.operands k)) (subst (λ z. In z (map rename (operands_of u k))) same (in_map rename (operands_of u k) v i)))
+        subst (In v) (sym (r.operands k)) (subst (λ z. In z (map rename (operands_of u k))) same (in_map rename (operands_of u k) v i))
+
+    named_still : (k v : ℕ) → argument ≢ v → In v (operands_of u k) → In v (operands_of t k) ⊎ (v ≡ value)
+    named_still k v ne i = named_more m can_fold SameTests shortened law block (lengthening m can_fold SameTests shortened law) t s value argument w is entry x k v (named_before k v ne i)
 
     -- ---- each edge forwards the value, or the argument in its place
 
@@ -210,21 +214,21 @@ module _ (m : Meaning) (can_fold : Head → Bool) (SameTests : Head → Head →
     kept : KeepsPlaces t u
     kept = places t u value stay
 
-    held_forth : (root : ℕ) → HoldsBlock t root block → HoldsBlock u root block
-    held_forth root h = (h.0, same_block_holder kept block ∙ h.1, within_forth kept root h.0 h.2)
+    held_forth : (root b : ℕ) → HoldsBlock t root b → HoldsBlock u root b
+    held_forth root b h = (h.0, same_block_holder kept b ∙ h.1, within_forth kept root h.0 h.2)
 
-    held_back : (root : ℕ) → HoldsBlock u root block → HoldsBlock t root block
-    held_back root h = (h.0, sym (same_block_holder kept block) ∙ h.1, within_back kept root h.0 h.2)
+    held_back : (root b : ℕ) → HoldsBlock u root b → HoldsBlock t root b
+    held_back root b h = (h.0, sym (same_block_holder kept b) ∙ h.1, within_back kept root h.0 h.2)
 
-    behind_still : (k : ℕ) → StandsBehind t block k → StandsBehind u block k
-    behind_still k b = record {
+    behind_still : (c k : ℕ) → StandsBehind t c k → StandsBehind u c k
+    behind_still c k b = record {
       around = b.around;
       holds = within_forth kept b.around k b.holds;
       stands = b.stands;
       region = b.region;
       in_block = stay.parents b.around ∙ b.in_block;
       in_region = stay.block_parents b.stands ∙ b.in_region;
-      beside = stay.block_parents block ∙ b.beside;
+      beside = stay.block_parents c ∙ b.beside;
       passes = λ first before fe pe. b.passes first before (ap (λ z. first_of z None) (sym (stay.layouts b.region)) ∙ fe) (path_back t u value stay first b.stands before pe);
     }
 
@@ -240,17 +244,17 @@ module _ (m : Meaning) (can_fold : Head → Bool) (SameTests : Head → Head →
       passes = λ first before done rest fe pe be. subst (λ d. HasPassed u d before b.stands done) (sym defined) (b.passes first before fe pe);
     }
 
-    pub may_use_still : (root k : ℕ) → MayUseArguments t root block k → MayUseArguments u root block k
-    may_use_still root k a = record {
-      own = λ i. held_forth root (a.own (inside_back kept root k i));
-      behind = λ h. behind_still k (a.behind (held_back root h));
+    may_use_still : (root c k : ℕ) → MayUseArguments t root c k → MayUseArguments u root c k
+    may_use_still root c k a = record {
+      own = λ i. held_forth root c (a.own (inside_back kept root k i));
+      behind = λ h. behind_still c k (a.behind (held_back root c h));
     }
 
     may_use_argument : (root k : ℕ) → MayUseArguments t root block k → MayUse u root k argument
     may_use_argument root k a = record {
-      own = λ i. subst (IsDefiningOperationInside u root) (sym defined) (held_forth root (a.own (inside_back kept root k i)));
+      own = λ i. subst (IsDefiningOperationInside u root) (sym defined) (held_forth root block (a.own (inside_back kept root k i)));
       no_jumper = λ j i ne n. let q = slice_in (results_of u j) argument n in absurd (differ (some_is (sym defined ∙ w'.joined.results j q.0 argument q.1)));
-      dominated = λ d. dominated k (behind_still k (a.behind (held_back root (subst (IsDefiningOperationInside u root) defined d))));
+      dominated = λ d. dominated k (behind_still block k (a.behind (held_back root block (subst (IsDefiningOperationInside u root) defined d))));
     }
       where
         differ : {b i j n : ℕ} → Argument b i ≡ Result j n → ⊥
@@ -264,19 +268,29 @@ module _ (m : Meaning) (can_fold : Head → Bool) (SameTests : Head → Head →
         both : (chosen : Head → Bool) → KeepsRuns (with_roots m chosen) s u × KeepsRuns (with_roots m chosen) u s
         both chosen = push chosen s u block index value w' (one_value some) y.back (λ root f k i. may_use_argument root k (behind chosen root k (fit_back (with_roots m chosen) t s (forth chosen) (back chosen) root f) (y.alone k i)))
 
-    -- ---- another value may be passed then
+    -- ---- other values may be passed then
 
-    module _ (values : List ℕ) (may : MayPass m t block values users) (forth : KeepsAllRuns m t u) (back : KeepsAllRuns m u t) where
+    pub successors_still : (k : ℕ) → successors_of u k ≡ successors_of t k
+    successors_still = stay.successors
+
+    -- operations name what they named, the value where they lead to the block, or the argument
+    pub named_leading : (k v : ℕ) → argument ≢ v → In v (operands_of u k) → In v (operands_of t k) ⊎ ((v ≡ value) × In block (successors_of t k))
+    named_leading k v ne i = ⊎_elim
+        (λ leads. ⊎_elim (λ j. inl j) (λ q. inr (q, leads)) (named_still k v ne i))
+        (λ out. inl (subst (In v) (untouched m can_fold SameTests shortened law index value block x.edges t x.longer x.to.listed x.lengthened k out) (subst (λ z. In v (operands_of z k)) x.pushed (named_before k v ne i))))
+        (decide_in block (successors_of t k))
+
+    module _ (b : ℕ) (values others : List ℕ) (may : MayPass m t b values others) (forth : KeepsAllRuns m t u) (back : KeepsAllRuns m u t) where
       before : (chosen : Head → Bool) (root : ℕ) → IsFit (with_roots m chosen) u root → IsFit (with_roots m chosen) t root
       before chosen root f = fit_back (with_roots m chosen) t u (forth chosen) (back chosen) root f
 
-      pub may_still : MayPass m u block values users
+      pub may_still : MayPass m u b values others
       may_still = record {
-        stands = subst IsSome (sym (stay.block_parents block)) may.stands;
-        no_entry = λ e. may.no_entry (e.0, sym (stay.block_parents block) ∙ e.1, ap (λ z. first_of z None) (sym (stay.layouts e.0)) ∙ e.2);
+        stands = subst IsSome (sym (stay.block_parents b)) may.stands;
+        no_entry = λ e. may.no_entry (e.0, sym (stay.block_parents b) ∙ e.1, ap (λ z. first_of z None) (sym (stay.layouts e.0)) ∙ e.2);
         defined = λ v i. defined_still v (may.defined v i);
-        may_use = λ chosen root k v f j i. usable_forth t u v (keeps_ways v (may.defined v i)) root k (may.may_use chosen root k v (before chosen root f) (subst (In block) (stay.successors k) j) i);
-        some_edge = (may.some_edge.0, subst (In block) (sym (stay.successors may.some_edge.0)) may.some_edge.1, may.some_edge.2);
+        may_use = λ chosen root k v f j i. usable_forth t u v (keeps_ways v (may.defined v i)) root k (may.may_use chosen root k v (before chosen root f) (subst (In b) (stay.successors k) j) i);
+        some_edge = (may.some_edge.0, subst (In b) (sym (stay.successors may.some_edge.0)) may.some_edge.1, may.some_edge.2);
         live = λ k i. subst (λ z. IsSome z.head) (r.rows k) (live_still k (may.live k i));
-        behind = λ chosen root k f i. may_use_still root k (may.behind chosen root k (before chosen root f) i);
+        behind = λ chosen root k f i. may_use_still root b k (may.behind chosen root k (before chosen root f) i);
       }

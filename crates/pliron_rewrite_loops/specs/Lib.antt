@@ -3,3 +3,4 @@ pub mod Lengthening
 pub mod Pushing
 pub mod Added
 pub mod Passing
+pub mod Closing

@@ -73,3 +73,10 @@ pub record AreSomePassed (m : Meaning) (shortened : Shape → ℕ → ℕ → He
   pub whole : Tree
   pub passed : AreValuesPassed m shortened t whole block (take count values) users
   pub next : (u ≡ whole) ⊎ ((v argument : ℕ) × (slice_get values count ≡ Some v) × IsPassedInPart m shortened whole u block v argument users)
+
+-- other values may be passed where they might be; and what an operation named before, it names still, or it leads to the
+-- block and names one of the values more
+pub record KeepsPassing (m : Meaning) (t u : Tree) (block : ℕ) (values : List ℕ) : Type 0 where
+  pub successors : (k : ℕ) → successors_of u k ≡ successors_of t k
+  pub named : (k v : ℕ) → IsDefined t v → In v (operands_of u k) → In v (operands_of t k) ⊎ (In v values × In block (successors_of t k))
+  pub may_pass : (b : ℕ) (others users : List ℕ) → MayPass m t b others users → MayPass m u b others users

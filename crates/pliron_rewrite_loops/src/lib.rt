@@ -16,9 +16,11 @@ ghost use Rattle.pliron_rewrite_loops.specs.Lengthening.{LengtheningLaw};
 ghost use Rattle.pliron_rewrite_loops.specs.Pushing.{PushingLaw};
 
 mod adding;
+mod closing;
 mod passing;
 
 pub use adding::add_argument;
+pub use closing::close_header;
 pub use passing::{pass_value, pass_values};
 use pliron_laws::Dialect;
 use pliron_rewrite_arguments::one_value_replaces_argument;

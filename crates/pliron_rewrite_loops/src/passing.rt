@@ -5,7 +5,7 @@ ghost use Rattle.pliron_laws.specs.Datum.{Head};
 ghost use Rattle.pliron_theory.specs.Keeps.{IsFit, KeepsAllRuns, with_roots};
 ghost use Rattle.pliron_theory.specs.Renaming.{MayUse};
 ghost use Rattle.pliron_rewrite_arguments.specs.Finding.{IsEntry};
-ghost use Rattle.pliron_rewrite_loops.specs.Passing.{MayUseArguments, UsesArgument, operand_put, IsValuePassed, IsPassedInPart, MayPass, AreValuesPassed, AreSomePassed};
+ghost use Rattle.pliron_rewrite_loops.specs.Passing.{MayUseArguments, UsesArgument, operand_put, IsValuePassed, IsPassedInPart, MayPass, AreValuesPassed, AreSomePassed, KeepsPassing};
 
 use crate::adding::add_argument;
 use crate::arguments_are_pushed;
@@ -143,6 +143,7 @@ pub fn pass_values<D: LengthensEdges>(
         block values.now users.now) }
     ensures unused { IfOk result (λ all. IsTrue all → (k v : ℕ) → In k users.now → In v values.now → In v (operands_of
         ctx.new.tree k) → ⊥) }
+    ensures keeps { IfOk result (λ all. IsTrue all → KeepsPassing D.meaning ctx.old.tree ctx.new.tree block values.now) }
     ensures some { AreSomePassed D.meaning D.shortened ctx.old.tree ctx.new.tree block values.now users.now }
     ensures memory { IsOkUnless result OptError.Memory }
     ensures runs { KeepsAllRuns D.meaning ctx.old.tree ctx.new.tree }

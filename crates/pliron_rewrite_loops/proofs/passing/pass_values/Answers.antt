@@ -6,7 +6,7 @@ use Rattle.pliron_core.proofs.HoldingLemmas.{some_is, in_slice, slice_in}
 use Rattle.pliron_theory.specs.Keeps.{with_roots}
 use Rattle.pliron_theory.proofs.Keeping.{keeps_refl, keeps_trans}
 use Rattle.pliron_rewrite_loops.specs.Passing.{IsValuePassed, AreValuesPassed}
-use Rattle.pliron_rewrite_loops.proofs.Passed.{apart_from, named_still, may_still}
+use Rattle.pliron_rewrite_loops.proofs.Passed.{apart_from, defined_still, successors_still, named_leading, may_still}
 use Rattle.pliron_rewrite_loops.proofs.PassedInTurn.{take_past, one_more_passed}
 use Rattle.pliron_rewrite_loops.proofs.passing.pass_values.Goals as goal
 
@@ -14,7 +14,8 @@ pub loop-i-init : goal.loop-i-init
 loop-i-init g c =
     record {
       tree = c.well_formed-2.ensures.tree;
-      may = c.requires;
+      keeps = record { successors = λ k. refl; named = λ k y d i. inl i; may_pass = λ b others users q. q };
+      defined = λ y d. d;
       forth = λ chosen. keeps_refl (with_roots g.D.HasMeaning.meaning chosen) c.args.ctx.now.tree;
       back = λ chosen. keeps_refl (with_roots g.D.HasMeaning.meaning chosen) c.args.ctx.now.tree;
       passed = refl;
@@ -23,37 +24,37 @@ loop-i-init g c =
 
 pub pass_value-requires-clause-block : goal.pass_value-requires-clause-block
 pass_value-requires-clause-block g c =
-    c.loop-i.invariant.may.stands
+    (c.loop-i.invariant.keeps.may_pass c.args.block c.args.values.now c.args.users.now c.requires).stands
 
 pub pass_value-requires-clause-value : goal.pass_value-requires-clause-value
 pass_value-requires-clause-value g c =
     let h = c.loop-i-test.true in
     let v = c.index-values-i.result in
     let at = slice_get_read c.args.values.now (length c.args.values.now) c.loop-i.i v refl (omega (arith, h)) c.index-values-i.is in
-    c.loop-i.invariant.may.defined v (in_slice c.args.values.now c.loop-i.i v at)
+    (c.loop-i.invariant.keeps.may_pass c.args.block c.args.values.now c.args.users.now c.requires).defined v (in_slice c.args.values.now c.loop-i.i v at)
 
 pub pass_value-requires-clause-no_entry : goal.pass_value-requires-clause-no_entry
 pass_value-requires-clause-no_entry g c =
-    c.loop-i.invariant.may.no_entry
+    (c.loop-i.invariant.keeps.may_pass c.args.block c.args.values.now c.args.users.now c.requires).no_entry
 
 pub pass_value-requires-clause-may_use : goal.pass_value-requires-clause-may_use
 pass_value-requires-clause-may_use g c =
     let h = c.loop-i-test.true in
     let v = c.index-values-i.result in
     let at = slice_get_read c.args.values.now (length c.args.values.now) c.loop-i.i v refl (omega (arith, h)) c.index-values-i.is in
-    λ chosen root k f j. c.loop-i.invariant.may.may_use chosen root k v f j (in_slice c.args.values.now c.loop-i.i v at)
+    λ chosen root k f j. (c.loop-i.invariant.keeps.may_pass c.args.block c.args.values.now c.args.users.now c.requires).may_use chosen root k v f j (in_slice c.args.values.now c.loop-i.i v at)
 
 pub pass_value-requires-clause-users : goal.pass_value-requires-clause-users
 pass_value-requires-clause-users g c =
-    c.loop-i.invariant.may.live
+    (c.loop-i.invariant.keeps.may_pass c.args.block c.args.values.now c.args.users.now c.requires).live
 
 pub pass_value-requires-clause-may_use_arguments : goal.pass_value-requires-clause-may_use_arguments
 pass_value-requires-clause-may_use_arguments g c =
-    c.loop-i.invariant.may.behind
+    (c.loop-i.invariant.keeps.may_pass c.args.block c.args.values.now c.args.users.now c.requires).behind
 
 pub pass_value-requires-clause-some_edge : goal.pass_value-requires-clause-some_edge
 pass_value-requires-clause-some_edge g c =
-    c.loop-i.invariant.may.some_edge
+    (c.loop-i.invariant.keeps.may_pass c.args.block c.args.values.now c.args.users.now c.requires).some_edge
 
 pub returns-in_err-pass_value-clause-some : goal.returns-in_err-pass_value-clause-some
 returns-in_err-pass_value-clause-some g c =
@@ -88,11 +89,19 @@ loop-i-preserved g c =
     let law = g.met.D.Dialect.forwards_operands in
     let w' = c.well_formed-in-loop-i.ensures.tree in
     let p = subst (λ o. IfSome o (λ a. IsValuePassed m sh c.loop-i.ctx.tree c.pass_value.new.ctx.tree c.args.block v a c.args.users.now)) c.in-Some.is c.in_ok-pass_value.ensures.passed in
-    let d = c.loop-i.invariant.may.defined v (in_slice c.args.values.now c.loop-i.i v at) in
-    let entry : (r : ℕ) → block_parent_of c.loop-i.ctx.tree c.args.block ≡ Some r → first_of (layout_of c.loop-i.ctx.tree r) None ≢ Some c.args.block = λ r e q. c.loop-i.invariant.may.no_entry (r, e, q) in
+    let d = (c.loop-i.invariant.keeps.may_pass c.args.block c.args.values.now c.args.users.now c.requires).defined v (in_slice c.args.values.now c.loop-i.i v at) in
+    let entry : (r : ℕ) → block_parent_of c.loop-i.ctx.tree c.args.block ≡ Some r → first_of (layout_of c.loop-i.ctx.tree r) None ≢ Some c.args.block = λ r e q. (c.loop-i.invariant.keeps.may_pass c.args.block c.args.values.now c.args.users.now c.requires).no_entry (r, e, q) in
     record {
       tree = w';
-      may = may_still m _ _ sh law c.loop-i.ctx.tree p.passed.middle c.args.block v _ c.loop-i.invariant.tree c.loop-i.invariant.may.stands d entry p.passed.added c.pass_value.new.ctx.tree c.args.users.now w' p.passed.used c.args.values.now c.loop-i.invariant.may c.in_ok-pass_value.ensures.runs c.in_ok-pass_value.ensures.runs_back;
+      keeps = record {
+        successors = λ k. successors_still m _ _ sh law c.loop-i.ctx.tree p.passed.middle c.args.block v _ c.loop-i.invariant.tree (c.loop-i.invariant.keeps.may_pass c.args.block c.args.values.now c.args.users.now c.requires).stands d entry p.passed.added c.pass_value.new.ctx.tree c.args.users.now w' p.passed.used k ∙ c.loop-i.invariant.keeps.successors k;
+        named = λ k y q j. ⊎_elim
+            (λ n. c.loop-i.invariant.keeps.named k y q n)
+            (λ e. inr (subst (λ z. In z c.args.values.now) (sym e.0) (in_slice c.args.values.now c.loop-i.i v at), subst (In c.args.block) (c.loop-i.invariant.keeps.successors k) e.1))
+            (named_leading m _ _ sh law c.loop-i.ctx.tree p.passed.middle c.args.block v _ c.loop-i.invariant.tree (c.loop-i.invariant.keeps.may_pass c.args.block c.args.values.now c.args.users.now c.requires).stands d entry p.passed.added c.pass_value.new.ctx.tree c.args.users.now w' p.passed.used k y (apart_from m _ _ sh law c.loop-i.ctx.tree p.passed.middle c.args.block v _ c.loop-i.invariant.tree (c.loop-i.invariant.keeps.may_pass c.args.block c.args.values.now c.args.users.now c.requires).stands d entry p.passed.added y (c.loop-i.invariant.defined y q)) j);
+        may_pass = λ b others users q. may_still m _ _ sh law c.loop-i.ctx.tree p.passed.middle c.args.block v _ c.loop-i.invariant.tree (c.loop-i.invariant.keeps.may_pass c.args.block c.args.values.now c.args.users.now c.requires).stands d entry p.passed.added c.pass_value.new.ctx.tree c.args.users.now w' p.passed.used b others users (c.loop-i.invariant.keeps.may_pass b others users q) c.in_ok-pass_value.ensures.runs c.in_ok-pass_value.ensures.runs_back;
+      };
+      defined = λ y q. defined_still m _ _ sh law c.loop-i.ctx.tree p.passed.middle c.args.block v _ c.loop-i.invariant.tree (c.loop-i.invariant.keeps.may_pass c.args.block c.args.values.now c.args.users.now c.requires).stands d entry p.passed.added c.pass_value.new.ctx.tree c.args.users.now w' p.passed.used y (c.loop-i.invariant.defined y q);
       forth = λ chosen. keeps_trans (with_roots g.D.HasMeaning.meaning chosen) c.args.ctx.now.tree c.loop-i.ctx.tree c.pass_value.new.ctx.tree (c.loop-i.invariant.forth chosen) (c.in_ok-pass_value.ensures.runs chosen);
       back = λ chosen. keeps_trans (with_roots g.D.HasMeaning.meaning chosen) c.pass_value.new.ctx.tree c.loop-i.ctx.tree c.args.ctx.now.tree (c.in_ok-pass_value.ensures.runs_back chosen) (c.loop-i.invariant.back chosen);
       passed = one_more_passed m sh c.args.block c.args.users.now c.args.values.now c.loop-i.i v _ c.args.ctx.now.tree c.loop-i.ctx.tree c.pass_value.new.ctx.tree at c.loop-i.invariant.passed p;
@@ -103,8 +112,8 @@ loop-i-preserved g c =
           (λ q. same (some_is (sym there ∙ ap (slice_get c.args.values.now) q ∙ at)))
           (λ apart. c.loop-i.invariant.unused k y j (omega (arith, less, apart)) there i n)
           (cases_eq j c.loop-i.i))
-          same
-          (named_still m _ _ sh law c.loop-i.ctx.tree p.passed.middle c.args.block v _ c.loop-i.invariant.tree c.loop-i.invariant.may.stands d entry p.passed.added c.pass_value.new.ctx.tree c.args.users.now w' p.passed.used k y (apart_from m _ _ sh law c.loop-i.ctx.tree p.passed.middle c.args.block v _ c.loop-i.invariant.tree c.loop-i.invariant.may.stands d entry p.passed.added y (c.loop-i.invariant.may.defined y (in_slice c.args.values.now j y there))) z);
+          (λ e. same e.0)
+          (named_leading m _ _ sh law c.loop-i.ctx.tree p.passed.middle c.args.block v _ c.loop-i.invariant.tree (c.loop-i.invariant.keeps.may_pass c.args.block c.args.values.now c.args.users.now c.requires).stands d entry p.passed.added c.pass_value.new.ctx.tree c.args.users.now w' p.passed.used k y (apart_from m _ _ sh law c.loop-i.ctx.tree p.passed.middle c.args.block v _ c.loop-i.invariant.tree (c.loop-i.invariant.keeps.may_pass c.args.block c.args.values.now c.args.users.now c.requires).stands d entry p.passed.added y ((c.loop-i.invariant.keeps.may_pass c.args.block c.args.values.now c.args.users.now c.requires).defined y (in_slice c.args.values.now j y there))) z);
     }
 
 pub returns-clause-passed : goal.returns-clause-passed
@@ -118,6 +127,9 @@ returns-clause-unused g c =
     let s = slice_in c.args.values.now y j in
     let l = slice_get_within c.args.values.now s.0 y s.1 in
     c.loop-i.invariant.unused k y s.0 (omega (arith, l, past)) s.1 i n
+
+pub returns-clause-keeps : goal.returns-clause-keeps
+returns-clause-keeps g c = λ z. c.loop-i.invariant.keeps
 
 pub returns-clause-some : goal.returns-clause-some
 returns-clause-some g c =
