@@ -1,0 +1,18 @@
+//! Functions of LLVM's textual IR as trees: operations with heads of the dialect of MLIR, blocks whose arguments are
+//! parameters and phis, and a constant for each of its texts; what the text says beside the tree goes to a sheet.
+#![tactic(auto)]
+
+mod build;
+mod connect;
+mod function;
+mod names;
+mod notes;
+mod plan;
+mod statements;
+mod stop;
+mod values;
+
+pub use function::build_function;
+pub use plan::{FunctionPlan, FunctionSource, PlannedArgument, PlannedOperation, plan_function};
+pub use stop::{BuildStop, KeptForBuilding};
+pub use values::{PlannedValue, plan_value};
