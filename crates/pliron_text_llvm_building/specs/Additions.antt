@@ -9,21 +9,21 @@ use Rattle.pliron_text_llvm_classes.specs.declared.class.FormCounts.{FormCounts}
 use Rattle.pliron_text_llvm_heads.specs.StatementHeads.{head_of_statement, head_of_constant}
 
 -- the head of a statement with some form, whose edges pass so many operands
-abbrev pub IsStatementHead : Head → Type 0
-IsStatementHead head =
+abbrev pub IsTextStatementHead : Head → Type 0
+IsTextStatementHead head =
     (form : List ℕ) × (counts : FormCounts) × (passed : List ℕ) × (number : ℕ)
     × (head ≡ head_of_statement form counts passed number)
 
 -- the head of a constant with some text, of a type with this width
-abbrev pub IsConstantHead : Head → Type 0
-IsConstantHead head = (width : ℕ) × (text : List ℕ) × (number : ℕ) × (head ≡ head_of_constant width text number)
+abbrev pub IsTextConstantHead : Head → Type 0
+IsTextConstantHead head = (width : ℕ) × (text : List ℕ) × (number : ℕ) × (head ≡ head_of_constant width text number)
 
 -- the head of a function
-abbrev pub IsFunctionHead : Head → Type 0
-IsFunctionHead head = (form : ℕ) × (head ≡ plain_class_head Root form)
+abbrev pub IsTextFunctionHead : Head → Type 0
+IsTextFunctionHead head = (form : ℕ) × (head ≡ plain_class_head Root form)
 
 abbrev pub IsTextHead : Head → Type 0
-IsTextHead head = IsStatementHead head ⊎ (IsConstantHead head ⊎ IsFunctionHead head)
+IsTextHead head = IsTextStatementHead head ⊎ (IsTextConstantHead head ⊎ IsTextFunctionHead head)
 
 abbrev pub HasTextHead : OperationEntry → Type 0
 HasTextHead entry = (head : Head) × (entry.head ≡ Some head) × IsTextHead head

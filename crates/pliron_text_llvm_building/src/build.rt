@@ -3,12 +3,12 @@
 ghost use Rattle.std.specs.Prelude.{◌≡◌, IfOk};
 ghost use Rattle.pliron_text_llvm_building.specs.Additions.{IsTextHead, AddsText};
 
-use crate::notes::num_argument;
-use crate::plan::{FunctionPlan, FunctionSource, PlannedOperation};
 use crate::stop::{BuildStop, KeptForBuilding};
-use crate::values::PlannedValue;
 use pliron_core::{BasicBlock, Context, Head, IRRewriter, Operation, Ptr, Rewriter, Value};
 use pliron_text_llvm_heads::{head_of_constant, head_of_statement};
+use pliron_text_llvm_plans::{
+    FunctionPlan, FunctionSource, OperationPlan, PlannedValue, num_argument,
+};
 use pliron_text_llvm_sheets::LlvmSheet;
 use std::alloc::Global;
 
@@ -271,7 +271,7 @@ pub fn add_constants(
 fn operation_head(
     alloc: Global,
     plan: &FunctionPlan,
-    planned: &PlannedOperation,
+    planned: &OperationPlan,
     sheet: &LlvmSheet,
 ) -> Result<Head, BuildStop>
     ensures { IfOk result (λ head. IsTextHead head) }
@@ -288,7 +288,7 @@ fn operation_head(
 // Makes the planned operation.
 fn add_operation(
     plan: &FunctionPlan,
-    planned: &PlannedOperation,
+    planned: &OperationPlan,
     sheet: &LlvmSheet,
     ctx: &mut Context,
     built: &mut BuiltParts,

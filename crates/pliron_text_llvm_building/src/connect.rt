@@ -2,9 +2,9 @@
 ghost use Rattle.std.specs.Prelude.{◌≡◌};
 
 use crate::build::BuiltParts;
-use crate::plan::{FunctionPlan, PlannedOperation};
 use crate::stop::{BuildStop, KeptForBuilding};
 use pliron_core::{BasicBlock, Context, Operation, Ptr, Value};
+use pliron_text_llvm_plans::{FunctionPlan, OperationPlan};
 
 // Adds the operand, where it is made.
 fn add_operand(
@@ -43,7 +43,7 @@ fn add_successor(
 // Gives the operation its operands.
 fn connect_operands(
     plan: &FunctionPlan,
-    planned: &PlannedOperation,
+    planned: &OperationPlan,
     op: Ptr<Operation>,
     ctx: &mut Context,
     built: &BuiltParts,
@@ -64,7 +64,7 @@ fn connect_operands(
 // Gives the operation its successors.
 fn connect_successors(
     plan: &FunctionPlan,
-    planned: &PlannedOperation,
+    planned: &OperationPlan,
     op: Ptr<Operation>,
     ctx: &mut Context,
     built: &BuiltParts,

@@ -6,13 +6,12 @@ ghost use Rattle.pliron_text_llvm_building.specs.Additions.{AddsText};
 
 use crate::build::{BuiltParts, add_blocks, add_constants, add_operations};
 use crate::connect::connect_all;
-use crate::notes::note_all;
-use crate::plan::{FunctionPlan, FunctionSource, plan_function};
 use crate::stop::{BuildStop, KeptForBuilding};
 use pliron_core::{Context, Operation, Ptr};
 use pliron_dialect_mlir::{Class, plain_head};
 use pliron_laws::{Dialect, is_well_linked};
 use pliron_text_llvm_names::bytes_in;
+use pliron_text_llvm_plans::{FunctionPlan, FunctionSource, note_all, plan_function};
 use pliron_text_llvm_sheets::LlvmSheet;
 use pliron_text_llvm_syntax::{ByteSpan, FunctionText};
 use std::alloc::Global;

@@ -5,14 +5,7 @@
 mod build;
 mod connect;
 mod function;
-mod names;
-mod notes;
-mod plan;
-mod statements;
 mod stop;
-mod values;
 
 pub use function::build_function;
-pub use plan::{FunctionPlan, FunctionSource, PlannedArgument, PlannedOperation, plan_function};
 pub use stop::{BuildStop, KeptForBuilding};
-pub use values::{PlannedValue, plan_value};

@@ -1,8 +1,10 @@
 //! What stops building a function.
 ghost use Rattle.std.specs.Prelude.{◌≡◌};
+ghost use Rattle.pliron_text_llvm_building.specs.Stops.{stop_of_plan};
 ghost use Rattle.pliron_text_llvm_building.specs.declared.stop.BuildStop.TheVariants.{NoMemory};
 
 use pliron_core::NoMemory as FullContext;
+use pliron_text_llvm_plans::{KeptForPlan, PlanStop};
 use pliron_text_llvm_syntax::LlvmFault;
 use std::alloc::{AllocError, AllocFailed};
 use thiserror::Error;
@@ -11,10 +13,8 @@ use thiserror::Error;
 #[doc(hidden)]
 #[derive(Clone, Copy, Debug, Drop, PartialEq, Eq, Error)]
 pub enum KeptForBuilding {
-    #[error("a statement that has no form")]
-    Form,
-    #[error("a phi with a comment or a string")]
-    Phi,
+    #[error("{0}")]
+    Plan(KeptForPlan),
     #[error("a value that no operation gives")]
     Value,
     #[error("a block that isn't made")]
@@ -65,5 +65,17 @@ impl From<LlvmFault> for BuildStop {
 
     fn from(_fault: LlvmFault) -> BuildStop {
         BuildStop::NoMemory
+    }
+}
+
+/// What stops a plan stops building by it.
+impl From<PlanStop> for BuildStop {
+    ghost from_gives = { λ stop e. e ≡ stop_of_plan stop };
+
+    fn from(stop: PlanStop) -> BuildStop {
+        match stop {
+            PlanStop::Keep(place, reason) => BuildStop::Keep(place, KeptForBuilding::Plan(reason)),
+            PlanStop::NoMemory => BuildStop::NoMemory,
+        }
     }
 }

@@ -8,6 +8,6 @@ abbrev pub constant_at : ConstantTable → ℕ → Option TextConstant
 constant_at table number = slice_get table.constants.keys number
 
 -- a number that has a constant keeps it
-abbrev pub KeepsConstants : ConstantTable → ConstantTable → Type 0
-KeepsConstants old new =
+abbrev pub KeepsTextConstants : ConstantTable → ConstantTable → Type 0
+KeepsTextConstants old new =
     (number : ℕ) (constant : TextConstant) → constant_at old number ≡ Some constant → constant_at new number ≡ Some constant

@@ -5,8 +5,8 @@ use Rattle.pliron_text_llvm_sheets.specs.declared.sheet.ValueNote.{ValueNote}
 use Rattle.pliron_text_llvm_sheets.specs.declared.sheet.LlvmSheet.{LlvmSheet}
 
 -- the text of this number, if one has it
-abbrev pub text_of : LlvmSheet → ℕ → Option (List ℕ)
-text_of sheet number = text_in sheet.texts number
+abbrev pub sheet_text : LlvmSheet → ℕ → Option (List ℕ)
+sheet_text sheet number = text_in sheet.texts number
 
 -- a number that has a text keeps it
 abbrev pub KeepsSheetTexts : LlvmSheet → LlvmSheet → Type 0

@@ -23,7 +23,7 @@ pub struct ConstantTable {
 }
 
 impl ConstantTable {
-    ghost use Rattle.pliron_text_llvm_sheets.specs.Constants.{constant_at, KeepsConstants};
+    ghost use Rattle.pliron_text_llvm_sheets.specs.Constants.{constant_at, KeepsTextConstants};
 
     /// None yet. Takes no memory. Cost: constant.
     pub fn new(alloc: Global) -> ConstantTable
@@ -39,7 +39,7 @@ impl ConstantTable {
     #[tactic(auto, using(pliron_text_mlir_syntax::proofs::SheetLemmas::keys_kept))]
     pub fn number(&mut self, constant: TextConstant) -> Result<usize, AllocError>
         ensures numbered { IfOk result (λ number. constant_at self.new number ≡ Some constant) }
-        ensures kept { KeepsConstants self.old self.new }
+        ensures kept { KeepsTextConstants self.old self.new }
     {
         let (number, _) = self.constants.insert_full(constant)?;
         Ok(number)

@@ -37,7 +37,7 @@ pub struct LlvmSheet {
 }
 
 impl LlvmSheet {
-    ghost use Rattle.pliron_text_llvm_sheets.specs.Sheets.{text_of, KeepsSheetTexts, value_notes, block_names};
+    ghost use Rattle.pliron_text_llvm_sheets.specs.Sheets.{sheet_text, KeepsSheetTexts, value_notes, block_names};
 
     /// An empty one. Takes no memory. Cost: constant.
     pub fn new(alloc: Global) -> LlvmSheet
@@ -54,7 +54,7 @@ impl LlvmSheet {
     /// The number of a text, which gets one where it is new. Others keep theirs. Errors: allocation failure. Cost: its
     /// length.
     pub fn number(&mut self, text: &[u8]) -> Result<usize, AllocError>
-        ensures numbered { IfOk result (λ number. text_of self.new number ≡ Some text.now) }
+        ensures numbered { IfOk result (λ number. sheet_text self.new number ≡ Some text.now) }
         ensures kept { KeepsSheetTexts self.old self.new }
         ensures values { value_notes self.new ≡ value_notes self.old }
         ensures blocks { block_names self.new ≡ block_names self.old }
@@ -64,7 +64,7 @@ impl LlvmSheet {
 
     /// The text of this number, empty where none has it. Cost: constant.
     pub fn text(&self, number: usize) -> &[u8]
-        ensures { result.now ≡ unwrap_or (text_of self.now number) [] }
+        ensures { result.now ≡ unwrap_or (sheet_text self.now number) [] }
     {
         self.texts.get(number)
     }

@@ -12,40 +12,40 @@ use Rattle.pliron_text_llvm_edges.specs.declared.phis.PhiPlace.{PhiPlace}
 use Rattle.pliron_text_llvm_edges.specs.Numbers.{numbers_passing}
 use Rattle.pliron_text_llvm_edges.proofs.NumberLemmas.{passing_true, passing_false}
 use Rattle.pliron_text_llvm_trees.specs.declared.arguments.TreeArgument.{TreeArgument}
-use Rattle.pliron_text_llvm_trees.specs.Arguments.{IsArgument, AreArguments, is_phi_of, phi_numbers, ArePhisByBlock, with_number}
+use Rattle.pliron_text_llvm_trees.specs.Arguments.{IsArgument, AreTreeArguments, is_phi_of, phi_numbers, ArePhisByBlock, with_phi_number}
 use Rattle.pliron_text_llvm_trees.proofs.OperandLemmas.{passing_last}
 
 -- ---- arguments
 
-pub arguments_none : (definitions : List LocalDefinition) (phis : List BlockPhi) (found : List TreeArgument) → found ≡ [] → AreArguments definitions (take 0 phis) found
+pub arguments_none : (definitions : List LocalDefinition) (phis : List BlockPhi) (found : List TreeArgument) → found ≡ [] → AreTreeArguments definitions (take 0 phis) found
 arguments_none definitions phis found e = (ap (map (λ argument. argument.place)) e, subst (All (IsArgument definitions)) (sym e) (All-nil (IsArgument definitions)))
 
-pub arguments_more : (definitions : List LocalDefinition) (phis : List BlockPhi) (i : ℕ) (d : BlockPhi) (argument : TreeArgument) (found after : List TreeArgument) → i < length phis → AreArguments definitions (take i phis) found
-    → argument.place ≡ (get_or phis i d).place → IsArgument definitions argument → after ≡ found ++ argument ∷ [] → AreArguments definitions (take (i + 1) phis) after
+pub arguments_more : (definitions : List LocalDefinition) (phis : List BlockPhi) (i : ℕ) (d : BlockPhi) (argument : TreeArgument) (found after : List TreeArgument) → i < length phis → AreTreeArguments definitions (take i phis) found
+    → argument.place ≡ (get_or phis i d).place → IsArgument definitions argument → after ≡ found ++ argument ∷ [] → AreTreeArguments definitions (take (i + 1) phis) after
 arguments_more definitions phis i d argument found after less h at one grown = (
   ap (map (λ argument. argument.place)) grown
-  ∙ map-append (λ argument. argument.place) found (argument ∷ [])
-  ∙ ap (λ xs. xs ++ argument.place ∷ []) h.0
-  ∙ ap (λ x. map (λ phi. phi.place) (take i phis) ++ x ∷ []) at
-  ∙ sym (map-append (λ phi. phi.place) (take i phis) (get_or phis i d ∷ []))
-  ∙ sym (ap (map (λ phi. phi.place)) (take_more phis i d less)),
+      ∙ map-append (λ argument. argument.place) found (argument ∷ [])
+      ∙ ap (λ xs. xs ++ argument.place ∷ []) h.0
+      ∙ ap (λ x. map (λ phi. phi.place) (take i phis) ++ x ∷ []) at
+      ∙ sym (map-append (λ phi. phi.place) (take i phis) (get_or phis i d ∷ []))
+      ∙ sym (ap (map (λ phi. phi.place)) (take_more phis i d less)),
   subst (All (IsArgument definitions)) (sym grown) (All-push (IsArgument definitions) found argument h.1 one),
 )
 
-pub arguments_all : (definitions : List LocalDefinition) (phis : List BlockPhi) (i : ℕ) (found : List TreeArgument) → length phis ≤ i → AreArguments definitions (take i phis) found → AreArguments definitions phis found
-arguments_all definitions phis i found past h = subst (λ ps. AreArguments definitions ps found) (take_all i phis past) h
+pub arguments_all : (definitions : List LocalDefinition) (phis : List BlockPhi) (i : ℕ) (found : List TreeArgument) → length phis ≤ i → AreTreeArguments definitions (take i phis) found → AreTreeArguments definitions phis found
+arguments_all definitions phis i found past h = subst (λ ps. AreTreeArguments definitions ps found) (take_all i phis past) h
 
 -- ---- lists of numbers
 
 -- the list of the block is there
 pub number_put : {A : Type 0} (f : A → List ℕ) (lists : List A) (block number : ℕ) (list d : A) → block < length lists → f list ≡ f (get_or lists block d) ++ number ∷ []
-    → map f (set lists block list) ≡ with_number block number (map f lists)
+    → map f (set lists block list) ≡ with_phi_number block number (map f lists)
 number_put f lists block number list d less grown =
     map-set f lists block list
     ∙ ap (λ xs. set (map f lists) block xs) (grown ∙ ap (λ xs. xs ++ number ∷ []) (sym (get_or-map f lists block d [] less)))
 
 -- it isn't
-pub number_past : {A : Type 0} (f : A → List ℕ) (lists : List A) (block number : ℕ) → length lists ≤ block → map f lists ≡ with_number block number (map f lists)
+pub number_past : {A : Type 0} (f : A → List ℕ) (lists : List A) (block number : ℕ) → length lists ≤ block → map f lists ≡ with_phi_number block number (map f lists)
 number_past f lists block number past = sym (set_past (map f lists) block _ (omega (arith, past, length-map lists f)))
 
 -- a phi of the block, or of another one
@@ -71,7 +71,7 @@ of_another phis i block d less ne = ap (is_phi_of block) (slice_get-get_or phis 
 
 -- one list, a phi more
 list_more : (count : ℕ) (phis : List BlockPhi) (i : ℕ) (d : BlockPhi) (lists : List (List ℕ)) (block : ℕ) → i < length phis → block < count → AreNumbersBelow count phis i lists
-    → get_or (with_number (get_or phis i d).place.block i lists) block [] ≡ numbers_passing (of_block phis block) 0 (suc i)
+    → get_or (with_phi_number (get_or phis i d).place.block i lists) block [] ≡ numbers_passing (of_block phis block) 0 (suc i)
 list_more count phis i d lists block less within h =
     let own : ℕ = (get_or phis i d).place.block in
     elim (cases_eq own block) [
@@ -91,7 +91,7 @@ list_more count phis i d lists block less within h =
 
 -- a phi more
 pub lists_more : (count : ℕ) (phis : List BlockPhi) (i : ℕ) (d : BlockPhi) (before after : List (List ℕ)) → i < length phis → AreNumbersBelow count phis i before
-    → after ≡ with_number (get_or phis i d).place.block i before → AreNumbersBelow count phis (i + 1) after
+    → after ≡ with_phi_number (get_or phis i d).place.block i before → AreNumbersBelow count phis (i + 1) after
 lists_more count phis i d before after less h grown =
     let own : ℕ = (get_or phis i d).place.block in
     let next : suc i ≡ i + 1 = omega arith in record {

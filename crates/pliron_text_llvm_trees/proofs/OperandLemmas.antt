@@ -1,5 +1,5 @@
 -- Numbers that pass a test, added one after another.
-use Rattle.std.proofs.Common.{append-nil, ◌≡◌, ℕ, zero, suc, ◌+◌, ◌-◌, ◌<◌, ◌≤◌, Bool, List, [], ◌∷◌, ◌++◌, refl, sym, ap, ◌∙◌, append_assoc, arith, if◌then◌else◌}
+use Rattle.std.proofs.Common.{append-nil, ◌≡◌, ℕ, zero, suc, ◌+◌, ◌-◌, ◌<◌, ◌≤◌, Bool, true, false, List, [], ◌∷◌, ◌++◌, refl, sym, ap, ◌∙◌, append_assoc, arith, if◌then◌else◌}
 use Rattle.pliron_text_llvm_edges.specs.Numbers.{numbers_passing}
 use Rattle.pliron_text_llvm_edges.proofs.NumberLemmas.{passing_first}
 
@@ -28,7 +28,8 @@ operands_all test number end whole found past e =
 -- ---- the last one of so many
 
 first_apart : (b : Bool) (number : ℕ) (rest : List ℕ) → (if b then number ∷ rest else rest) ≡ (if b then number ∷ [] else []) ++ rest
-first_apart b number rest = elim b as (λ v. (if v then number ∷ rest else rest) ≡ (if v then number ∷ [] else []) ++ rest) [ true ↦ refl | false ↦ refl ]
+first_apart true number rest = refl
+first_apart false number rest = refl
 
 passing_cons : (test : ℕ → Bool) (number count : ℕ) → numbers_passing test number (suc count) ≡ numbers_passing test number 1 ++ numbers_passing test (number + 1) count
 passing_cons test number count = first_apart (test number) number (numbers_passing test (number + 1) count)

@@ -1,9 +1,9 @@
 -- Values that edges pass, added one after another.
 use Rattle.std.proofs.Common.{◌≡◌, ℕ, suc, ◌+◌, ◌<◌, ◌≤◌, List, [], ◌∷◌, ◌++◌, length, map, get_or, take, refl, sym, ap, ◌∙◌, subst, arith}
-use Rattle.std.specs.Prelude.{false, slice_get, Some, None}
+use Rattle.std.specs.Prelude.{false, slice_get, Option, Some, None, IfSome}
 use Rattle.std.specs.List.{All}
 use Rattle.std.specs.Option.{option_map, unwrap_or}
-use Rattle.std.proofs.lemmas.Option.{slice_get-map, unwrap_or-slice_get}
+use Rattle.std.proofs.lemmas.Option.{slice_get-get_or, slice_get-map, unwrap_or-slice_get}
 use Rattle.std.proofs.lemmas.List.{map-append, take_all, take_more}
 use Rattle.std.proofs.lemmas.List.Elements.{All-nil, All-push, All-more}
 use Rattle.pliron_text_llvm_functions.specs.declared.function.FunctionReading.{FunctionReading}
@@ -11,9 +11,14 @@ use Rattle.pliron_text_llvm_edges.specs.declared.edges.BlockEdge.{BlockEdge}
 use Rattle.pliron_text_llvm_edges.specs.declared.phis.BlockPhi.{BlockPhi}
 use Rattle.pliron_text_llvm_trees.specs.declared.passed.TreeEdge.{TreeEdge}
 use Rattle.pliron_text_llvm_trees.specs.Operands.{is_undefined_at}
-use Rattle.pliron_text_llvm_trees.specs.Passed.{IsPassedToNumber, ArePassed, AreSame, IsTreeEdge, AreTreeEdges}
+use Rattle.pliron_text_llvm_trees.specs.Passed.{IsPassedTo, IsPassedToNumber, ArePassed, AreSame, IsTreeEdge, AreTreeEdges}
 
 -- ---- values
+
+pub passed_at : (phis : List BlockPhi) (edge : BlockEdge) (number : ℕ) (d phi : BlockPhi) (found : Option ℕ) → number < length phis → phi ≡ get_or phis number d → IfSome found (λ hole. IsPassedTo edge phi hole)
+    → IfSome found (λ hole. IsPassedToNumber phis edge number hole)
+passed_at phis edge number d phi None less at h = tt
+passed_at phis edge number d phi (Some hole) less at h = (phi, slice_get-get_or phis number d less ∙ ap Some (sym at), h)
 
 pub passed_none : (phis : List BlockPhi) (edge : BlockEdge) (numbers holes : List ℕ) → holes ≡ [] → ArePassed phis edge (take 0 numbers) holes
 passed_none phis edge numbers holes e = subst (ArePassed phis edge []) (sym e) tt
@@ -66,10 +71,10 @@ pub edges_more : (text : List ℕ) (reading : FunctionReading) (phis : List Bloc
     → AreTreeEdges text reading phis lists (take (i + 1) edges) after
 edges_more text reading phis lists edges i d edge found after less h at one grown = (
   ap (map (λ edge. edge.edge)) grown
-  ∙ map-append (λ edge. edge.edge) found (edge ∷ [])
-  ∙ ap (λ xs. xs ++ edge.edge ∷ []) h.0
-  ∙ ap (λ x. take i edges ++ x ∷ []) at
-  ∙ sym (take_more edges i d less),
+      ∙ map-append (λ edge. edge.edge) found (edge ∷ [])
+      ∙ ap (λ xs. xs ++ edge.edge ∷ []) h.0
+      ∙ ap (λ x. take i edges ++ x ∷ []) at
+      ∙ sym (take_more edges i d less),
   subst (All (IsTreeEdge text reading phis lists)) (sym grown) (All-push (IsTreeEdge text reading phis lists) found edge h.1 one),
 )
 

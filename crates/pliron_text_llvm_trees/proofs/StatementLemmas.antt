@@ -10,12 +10,12 @@ use Rattle.pliron_text_llvm_functions.specs.declared.function.FunctionReading.{F
 use Rattle.pliron_text_llvm_edges.specs.Numbers.{numbers_passing, in_block, in_blocks}
 use Rattle.pliron_text_llvm_edges.proofs.NumberLemmas.{one_pushed, none_pushed, blocks_begun}
 use Rattle.pliron_text_llvm_trees.specs.declared.statements.TreeStatement.{TreeStatement}
-use Rattle.pliron_text_llvm_trees.specs.Operands.{operands_of}
+use Rattle.pliron_text_llvm_trees.specs.Operands.{statement_operands}
 use Rattle.pliron_text_llvm_trees.specs.Results.{HasResult}
 use Rattle.pliron_text_llvm_trees.specs.Statements.{place_of_statement, IsServed, IsTreeStatement}
 
 pub statement_is : (text : List ℕ) (reading : FunctionReading) (line : BodyStatement) (statement : TreeStatement) → slice_get reading.body.lines.items statement.line ≡ Some (Statement line) → IsServed line.statement
-    → statement.operands.items ≡ operands_of text reading line → HasResult reading.definitions.items statement.line line.statement.gives statement.result → IsTreeStatement text reading statement
+    → statement.operands.items ≡ statement_operands text reading line → HasResult reading.definitions.items statement.line line.statement.gives statement.result → IsTreeStatement text reading statement
 statement_is text reading line statement at served operands result = record { line = line; at = at; served = served; operands = operands; result = result }
 
 pub statement_pushed : (test : ℕ → Bool) (block line : ℕ) (statement : TreeStatement) (found after : List TreeStatement) → test line ≡ true → place_of_statement statement ≡ (block, line) → after ≡ found ++ statement ∷ []

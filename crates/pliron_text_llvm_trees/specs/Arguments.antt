@@ -12,8 +12,8 @@ abbrev pub IsArgument : List LocalDefinition → TreeArgument → Type 0
 IsArgument definitions argument = IsResultAt definitions argument.place.line argument.definition
 
 -- the arguments that are these phis, in their order
-abbrev pub AreArguments : List LocalDefinition → List BlockPhi → List TreeArgument → Type 0
-AreArguments definitions phis arguments =
+abbrev pub AreTreeArguments : List LocalDefinition → List BlockPhi → List TreeArgument → Type 0
+AreTreeArguments definitions phis arguments =
     (map (λ argument. argument.place) arguments ≡ map (λ phi. phi.place) phis) × All (IsArgument definitions) arguments
 
 abbrev pub is_phi_of : ℕ → Option BlockPhi → Bool
@@ -30,5 +30,5 @@ ArePhisByBlock count phis lists =
     (length lists ≡ count) × ((block : ℕ) → block < count → slice_index_or lists block [] ≡ phi_numbers phis block)
 
 -- the block has the number behind those before, if there is such a list
-abbrev pub with_number : ℕ → ℕ → List (List ℕ) → List (List ℕ)
-with_number block number lists = slice_set lists block (slice_index_or lists block [] ++ number ∷ [])
+abbrev pub with_phi_number : ℕ → ℕ → List (List ℕ) → List (List ℕ)
+with_phi_number block number lists = slice_set lists block (slice_index_or lists block [] ++ number ∷ [])

@@ -18,6 +18,6 @@ is_operand_at text reading hole =
     not (is_successor_at reading.body.holes.items hole) && not (is_undefined_at text reading hole)
 
 -- the operands of a statement, by the numbers of their holes
-abbrev pub operands_of : List ℕ → FunctionReading → BodyStatement → List ℕ
-operands_of text reading line =
+abbrev pub statement_operands : List ℕ → FunctionReading → BodyStatement → List ℕ
+statement_operands text reading line =
     numbers_passing (is_operand_at text reading) line.first_hole (line.end_hole - line.first_hole)

@@ -13,7 +13,7 @@ use Rattle.pliron_text_llvm_functions.specs.declared.function.FunctionReading.{F
 use Rattle.pliron_text_llvm_edges.specs.Numbers.{numbers_passing, in_blocks}
 use Rattle.pliron_text_llvm_edges.specs.Phis.{is_phi_layout}
 use Rattle.pliron_text_llvm_trees.specs.declared.statements.TreeStatement.{TreeStatement}
-use Rattle.pliron_text_llvm_trees.specs.Operands.{operands_of}
+use Rattle.pliron_text_llvm_trees.specs.Operands.{statement_operands}
 use Rattle.pliron_text_llvm_trees.specs.Results.{HasResult}
 
 -- ---- where operations are
@@ -50,7 +50,7 @@ pub record IsTreeStatement (text : List ℕ) (reading : FunctionReading) (statem
   pub line : BodyStatement
   pub at : slice_get reading.body.lines.items statement.line ≡ Some (Statement line)
   pub served : IsServed line.statement
-  pub operands : statement.operands.items ≡ operands_of text reading line
+  pub operands : statement.operands.items ≡ statement_operands text reading line
   pub result : HasResult reading.definitions.items statement.line line.statement.gives statement.result
 
 -- the operations of a function, in the order of the text

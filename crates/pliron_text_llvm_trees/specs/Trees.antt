@@ -7,14 +7,14 @@ use Rattle.pliron_text_llvm_trees.specs.declared.function.TreeForm.{TreeForm}
 use Rattle.pliron_text_llvm_trees.specs.declared.function.TreeForm.TheVariants.{Made, Kept}
 use Rattle.pliron_text_llvm_trees.specs.Results.{is_parameter}
 use Rattle.pliron_text_llvm_trees.specs.Statements.{AreTreeStatements}
-use Rattle.pliron_text_llvm_trees.specs.Arguments.{AreArguments, ArePhisByBlock}
+use Rattle.pliron_text_llvm_trees.specs.Arguments.{AreTreeArguments, ArePhisByBlock}
 use Rattle.pliron_text_llvm_trees.specs.Passed.{AreTreeEdges}
 
 -- the arguments of a function's blocks: its parameters are the first definitions, and its phis follow
 abbrev pub HasArguments : FunctionReading → FunctionEdges → FunctionTree → Type 0
 HasArguments reading found tree =
     (tree.parameters ≡ length (take_while is_parameter reading.definitions.items))
-    × AreArguments reading.definitions.items found.phis.items tree.arguments.items
+    × AreTreeArguments reading.definitions.items found.phis.items tree.arguments.items
     × ArePhisByBlock (length reading.body.blocks.items) found.phis.items (map (λ list. list.items) tree.by_block.items)
 
 -- its edges, with what they pass to those arguments

@@ -1,7 +1,7 @@
 //! Arguments of blocks, which are the phis of the text.
 ghost use Rattle.std.specs.Prelude.{◌≡◌, [], map, replicate, IfOk, OnOk};
 ghost use Rattle.pliron_text_llvm_trees.specs.Results.{IsResultAt};
-ghost use Rattle.pliron_text_llvm_trees.specs.Arguments.{with_number, IsArgument, AreArguments, ArePhisByBlock};
+ghost use Rattle.pliron_text_llvm_trees.specs.Arguments.{with_phi_number, IsArgument, AreTreeArguments, ArePhisByBlock};
 
 use crate::results::result_at;
 use crate::stop::{KeptForTree, TreeStop};
@@ -53,7 +53,7 @@ pub fn push_arguments(
     arguments: &mut Vec<TreeArgument>,
 ) -> Result<(), TreeStop>
     requires { arguments.old.items ≡ [] }
-    ensures { OnOk result (AreArguments reading.now.definitions.items phis.now arguments.new.items) }
+    ensures { OnOk result (AreTreeArguments reading.now.definitions.items phis.now arguments.new.items) }
 {
     for phi in phis {
         let argument = argument_at(reading, phi.place)?;
@@ -77,7 +77,7 @@ fn empty_lists(alloc: Global, count: usize) -> Result<Vec<Vec<usize>>, AllocErro
 #[tactic(auto, using(crate::proofs::ArgumentLemmas::number_put, crate::proofs::ArgumentLemmas::number_past))]
 fn add_number(lists: &mut Vec<Vec<usize>>, block: usize, number: usize) -> Result<(), AllocError>
     ensures { OnOk result (map (λ list. list.items) lists.new.items
-        ≡ with_number block number (map (λ list. list.items) lists.old.items)) }
+        ≡ with_phi_number block number (map (λ list. list.items) lists.old.items)) }
 {
     if block < lists.len() {
         lists[block].push(number)?;

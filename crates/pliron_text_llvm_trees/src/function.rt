@@ -1,6 +1,6 @@
 //! The tree of a function, by numbers.
 ghost use Rattle.std.specs.Prelude.{◌≡◌, [], length, map, IfOk, OnOk};
-ghost use Rattle.pliron_text_llvm_trees.specs.Arguments.{AreArguments};
+ghost use Rattle.pliron_text_llvm_trees.specs.Arguments.{AreTreeArguments};
 ghost use Rattle.pliron_text_llvm_trees.specs.Statements.{AreTreeStatements};
 ghost use Rattle.pliron_text_llvm_trees.specs.Trees.{HasEdges, IsTreeOf, IsTreeForm};
 
@@ -53,7 +53,7 @@ fn fill_tree(
     ensures parameters { tree.new.parameters ≡ tree.old.parameters }
     ensures by_block { tree.new.by_block ≡ tree.old.by_block }
     ensures arguments { OnOk result
-        (AreArguments reading.now.definitions.items found.now.phis.items tree.new.arguments.items) }
+        (AreTreeArguments reading.now.definitions.items found.now.phis.items tree.new.arguments.items) }
     ensures statements { OnOk result (AreTreeStatements text.now reading.now tree.new.statements.items) }
     ensures edges { OnOk result (HasEdges text.now reading.now found.now tree.new) }
 {

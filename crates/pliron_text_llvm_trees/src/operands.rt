@@ -1,7 +1,7 @@
 //! The values that statements read.
 ghost use Rattle.std.specs.Prelude.{◌≡◌, ◌++◌, [], IfOk, OnOk};
 ghost use Rattle.pliron_text_llvm_edges.specs.Numbers.{numbers_passing};
-ghost use Rattle.pliron_text_llvm_trees.specs.Operands.{is_undefined_at, is_operand_at, operands_of};
+ghost use Rattle.pliron_text_llvm_trees.specs.Operands.{is_undefined_at, is_operand_at, statement_operands};
 
 use pliron_text_llvm_classes::names_undef;
 use pliron_text_llvm_edges::{bytes_at, is_successor_at, target_at};
@@ -73,7 +73,7 @@ pub fn push_operands(
     operands: &mut Vec<usize>,
 ) -> Result<(), AllocError>
     requires { operands.old.items ≡ [] }
-    ensures { OnOk result (operands.new.items ≡ operands_of text.now reading.now line.now) }
+    ensures { OnOk result (operands.new.items ≡ statement_operands text.now reading.now line.now) }
 {
     for hole in line.first_hole..line.end_hole {
         push_operand(alloc, text, reading, hole, operands)?;

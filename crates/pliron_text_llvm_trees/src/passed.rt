@@ -47,10 +47,10 @@ fn value_passed(edge: BlockEdge, phi: &BlockPhi) -> Option<usize>
 fn value_for(phis: &[BlockPhi], edge: BlockEdge, number: usize) -> Option<usize>
     ensures { IfSome result (λ hole. IsPassedToNumber phis.now edge number hole) }
 {
-    match phis.get(number) {
-        Some(phi) => value_passed(edge, phi),
-        None => None,
+    if number >= phis.len() {
+        return None;
     }
+    value_passed(edge, &phis[number])
 }
 
 // Adds what the edge passes to the phis of these numbers to nothing.
@@ -117,11 +117,17 @@ fn read_edge(
     edge: BlockEdge,
 ) -> Result<TreeEdge, TreeStop>
     ensures edge { IfOk result (λ found. found.edge ≡ edge) }
-    ensures passed { IfOk result (λ found.
+    ensures tree { IfOk result (λ found.
         IsTreeEdge text.now reading.now phis.now (map (λ list. list.items) by_block.now) found) }
 {
     let mut passed = Vec::new(alloc);
-    push_values(reading, phis, edge, numbers_into(by_block, edge.to), &mut passed)?;
+    push_values(
+        reading,
+        phis,
+        edge,
+        numbers_into(by_block, edge.to),
+        &mut passed,
+    )?;
     match expect_same(alloc, text, reading, &passed) {
         Ok(()) => Ok(TreeEdge { edge, passed }),
         Err(stop) => Err(stop),

@@ -1,5 +1,5 @@
 //! The definitions of what lines give, and of parameters.
-ghost use Rattle.std.specs.Prelude.{◌≡◌, ◌≤◌, length, take_while, IfSome};
+ghost use Rattle.std.specs.Prelude.{◌≡◌, ◌≤◌, true, length, take_while, IfSome};
 ghost use Rattle.pliron_text_llvm_trees.specs.Results.{is_parameter, IsResultAt};
 
 use pliron_text_llvm_names::{DefinitionKind, LocalDefinition};
@@ -34,7 +34,10 @@ pub fn result_at(definitions: &[LocalDefinition], line: usize) -> Option<usize>
     ensures { IfSome result (λ number. IsResultAt definitions.now line number) }
 {
     let rank = rank_of(DefinitionKind::Result(line));
-    let number = match definitions.binary_search_by_key(&rank, |definition| rank_of(definition.what)) {
+    let number = match definitions.binary_search_by_key(
+        &rank,
+        |definition| rank_of(definition.what),
+    ) {
         Ok(number) => number,
         Err(number) => number,
     };

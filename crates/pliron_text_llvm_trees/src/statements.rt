@@ -3,7 +3,7 @@ ghost use Rattle.std.specs.Prelude.{◌≡◌, ◌++◌, ◌-◌, [], true, fals
 ghost use Rattle.std.specs.List.{All};
 ghost use Rattle.pliron_text_llvm_reader.specs.declared.body.BodyLine.TheVariants.{Statement};
 ghost use Rattle.pliron_text_llvm_edges.specs.Numbers.{in_block, numbers_passing};
-ghost use Rattle.pliron_text_llvm_trees.specs.Operands.{operands_of};
+ghost use Rattle.pliron_text_llvm_trees.specs.Operands.{statement_operands};
 ghost use Rattle.pliron_text_llvm_trees.specs.Results.{HasResult};
 ghost use Rattle.pliron_text_llvm_trees.specs.Statements.{place_of_statement, is_operation_at, operations_of_block, IsServed, IsTreeStatement, AreTreeStatements};
 
@@ -84,13 +84,13 @@ fn result_of(
 }
 
 // The operands of the statement.
-fn operands_of(
+fn statement_operands(
     alloc: Global,
     text: &[u8],
     reading: &FunctionReading,
     line: &BodyStatement,
 ) -> Result<Vec<usize>, AllocError>
-    ensures { IfOk result (λ operands. operands.items ≡ operands_of text.now reading.now line.now) }
+    ensures { IfOk result (λ operands. operands.items ≡ statement_operands text.now reading.now line.now) }
 {
     let mut operands = Vec::new(alloc);
     match push_operands(alloc, text, reading, line, &mut operands) {
@@ -114,7 +114,7 @@ fn read_operation(
 {
     expect_served(line)?;
     let result = result_of(reading, line, place.line)?;
-    let operands = operands_of(alloc, text, reading, line)?;
+    let operands = statement_operands(alloc, text, reading, line)?;
     Ok(TreeStatement {
         block: place.block,
         line: place.line,

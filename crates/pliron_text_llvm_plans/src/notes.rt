@@ -1,7 +1,7 @@
 //! What a sheet notes of values and blocks, in the order in which they are made.
 use crate::names::{name_of, name_of_block, name_of_parameter};
 use crate::plan::{FunctionPlan, FunctionSource};
-use crate::stop::{BuildStop, KeptForBuilding};
+use crate::stop::{PlanStop, KeptForPlan};
 use pliron_text_llvm_sheets::{LlvmSheet, ValueNote, ValueOrigin};
 use std::alloc::Global;
 
@@ -24,7 +24,7 @@ fn note_parameter(
     number: usize,
     next: u32,
     sheet: &mut LlvmSheet,
-) -> Result<u32, BuildStop> {
+) -> Result<u32, PlanStop> {
     let definition = source.reading.definitions.get(number);
     let (name, behind) = name_of_parameter(alloc, source.text, definition, next, sheet)?;
     sheet.push_value(ValueNote {
@@ -39,7 +39,7 @@ fn note_parameters(
     alloc: Global,
     source: FunctionSource<'_>,
     sheet: &mut LlvmSheet,
-) -> Result<(), BuildStop> {
+) -> Result<(), PlanStop> {
     let mut next = 0;
     for number in 0..source.tree.parameters {
         next = note_parameter(alloc, source, number, next, sheet)?;
@@ -53,7 +53,7 @@ fn note_definition(
     number: usize,
     origin: ValueOrigin,
     sheet: &mut LlvmSheet,
-) -> Result<(), BuildStop> {
+) -> Result<(), PlanStop> {
     let name = name_of(source.text, source.reading.definitions.get(number), sheet)?;
     Ok(sheet.push_value(ValueNote { origin, name })?)
 }
@@ -64,10 +64,10 @@ fn note_phis(
     plan: &FunctionPlan,
     block: usize,
     sheet: &mut LlvmSheet,
-) -> Result<(), BuildStop> {
+) -> Result<(), PlanStop> {
     for i in 0..num_argument(source, block) {
         let Some(argument) = plan.argument_of(source, block, i) else {
-            return Err(BuildStop::Keep(0, KeptForBuilding::Block));
+            return Err(PlanStop::Keep(0, KeptForPlan::Arguments));
         };
         note_definition(source, argument.definition, ValueOrigin::Phi(argument.form), sheet)?;
     }
@@ -81,7 +81,7 @@ fn note_block(
     plan: &FunctionPlan,
     number: usize,
     sheet: &mut LlvmSheet,
-) -> Result<(), BuildStop> {
+) -> Result<(), PlanStop> {
     let body = &source.reading.body;
     let line = body.blocks.get(number).map_or(0, |block| block.start);
     let name = name_of_block(source.text, body, line, sheet)?;
@@ -99,7 +99,7 @@ fn note_blocks(
     source: FunctionSource<'_>,
     plan: &FunctionPlan,
     sheet: &mut LlvmSheet,
-) -> Result<(), BuildStop> {
+) -> Result<(), PlanStop> {
     for number in 0..source.reading.body.blocks.len() {
         note_block(alloc, source, plan, number, sheet)?;
     }
@@ -107,7 +107,7 @@ fn note_blocks(
 }
 
 // Notes the constants, which have no names.
-fn note_constants(plan: &FunctionPlan, sheet: &mut LlvmSheet) -> Result<(), BuildStop> {
+fn note_constants(plan: &FunctionPlan, sheet: &mut LlvmSheet) -> Result<(), PlanStop> {
     for _ in 0..plan.constants.num_constant() {
         sheet.push_value(ValueNote {
             origin: ValueOrigin::Constant,
@@ -122,7 +122,7 @@ fn note_results(
     source: FunctionSource<'_>,
     plan: &FunctionPlan,
     sheet: &mut LlvmSheet,
-) -> Result<(), BuildStop> {
+) -> Result<(), PlanStop> {
     for planned in &plan.operations {
         if let Some(definition) = planned.result {
             note_definition(source, definition, ValueOrigin::Result, sheet)?;
@@ -138,7 +138,7 @@ pub fn note_all(
     source: FunctionSource<'_>,
     plan: &FunctionPlan,
     sheet: &mut LlvmSheet,
-) -> Result<(), BuildStop> {
+) -> Result<(), PlanStop> {
     note_blocks(alloc, source, plan, sheet)?;
     note_constants(plan, sheet)?;
     note_results(source, plan, sheet)

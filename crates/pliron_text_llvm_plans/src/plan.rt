@@ -1,6 +1,6 @@
 //! What is to be built, by numbers.
 use crate::statements::read_form;
-use crate::stop::{BuildStop, KeptForBuilding};
+use crate::stop::{PlanStop, KeptForPlan};
 use crate::values::{PlannedValue, plan_value};
 use pliron_text_llvm_classes::{FormCounts, operand_widths_of_form};
 use pliron_text_llvm_functions::FunctionReading;
@@ -33,7 +33,7 @@ pub struct PlannedArgument {
 /// An operation that is to be made.
 #[doc(hidden)]
 #[derive(Clone, Copy, Debug)]
-pub struct PlannedOperation {
+pub struct OperationPlan {
     /// Where it is in the text.
     pub place: usize,
     /// The number of its block.
@@ -57,7 +57,7 @@ pub struct FunctionPlan {
     /// By the numbers of the phis.
     pub arguments: Vec<PlannedArgument>,
     /// In the order of the text.
-    pub operations: Vec<PlannedOperation>,
+    pub operations: Vec<OperationPlan>,
     /// The operands of all operations.
     pub operands: Vec<PlannedValue>,
     /// The numbers of the blocks to which the edges of all operations lead.
@@ -97,10 +97,10 @@ impl FunctionPlan {
 }
 
 // The statement that is the line of this number.
-fn statement_at<'t>(source: FunctionSource<'t>, line: usize) -> Result<&'t BodyStatement, BuildStop> {
+fn statement_at<'t>(source: FunctionSource<'t>, line: usize) -> Result<&'t BodyStatement, PlanStop> {
     match source.reading.body.lines.get(line) {
         Some(BodyLine::Statement(statement)) => Ok(statement),
-        Some(BodyLine::Label(_)) | None => Err(BuildStop::Keep(0, KeptForBuilding::Form)),
+        Some(BodyLine::Label(_)) | None => Err(PlanStop::Keep(0, KeptForPlan::Form)),
     }
 }
 
@@ -115,11 +115,11 @@ fn plan_argument(
     source: FunctionSource<'_>,
     argument: TreeArgument,
     sheet: &mut LlvmSheet,
-) -> Result<PlannedArgument, BuildStop> {
+) -> Result<PlannedArgument, PlanStop> {
     let line = statement_at(source, argument.place.line)?;
     let form = read_form(alloc, source.text, source.reading, line)?;
     if form.iter().any(|byte| is_of_other_text(*byte)) {
-        return Err(BuildStop::Keep(line.span.start, KeptForBuilding::Phi));
+        return Err(PlanStop::Keep(line.span.start, KeptForPlan::Phi));
     }
     let widths = operand_widths_of_form(alloc, &form)?;
     Ok(PlannedArgument {
@@ -135,7 +135,7 @@ fn plan_arguments(
     source: FunctionSource<'_>,
     sheet: &mut LlvmSheet,
     plan: &mut FunctionPlan,
-) -> Result<(), BuildStop> {
+) -> Result<(), PlanStop> {
     for argument in &source.tree.arguments {
         let planned = plan_argument(alloc, source, *argument, sheet)?;
         plan.arguments.push(planned)?;
@@ -150,7 +150,7 @@ fn push_operand(
     hole: usize,
     sheet: &mut LlvmSheet,
     plan: &mut FunctionPlan,
-) -> Result<(), BuildStop> {
+) -> Result<(), PlanStop> {
     let value = plan_value(
         source.text,
         source.reading,
@@ -170,7 +170,7 @@ fn push_operands(
     holes: &[usize],
     sheet: &mut LlvmSheet,
     plan: &mut FunctionPlan,
-) -> Result<(), BuildStop> {
+) -> Result<(), PlanStop> {
     for i in 0..holes.len() {
         let width = widths.get(i).copied().unwrap_or(0);
         push_operand(source, width, holes[i], sheet, plan)?;
@@ -192,7 +192,7 @@ fn push_edge(
     edge: &TreeEdge,
     sheet: &mut LlvmSheet,
     plan: &mut FunctionPlan,
-) -> Result<(), BuildStop> {
+) -> Result<(), PlanStop> {
     for i in 0..edge.passed.len() {
         let width = width_of_argument(source, plan, edge.edge.to, i);
         push_operand(source, width, edge.passed[i], sheet, plan)?;
@@ -208,7 +208,7 @@ fn push_edges_from(
     block: usize,
     sheet: &mut LlvmSheet,
     plan: &mut FunctionPlan,
-) -> Result<(), BuildStop> {
+) -> Result<(), PlanStop> {
     for number in plan.successors.len()..source.tree.edges.len() {
         match source.tree.edges.get(number) {
             Some(edge) if edge.edge.from == block => push_edge(source, edge, sheet, plan)?,
@@ -226,7 +226,7 @@ fn plan_with_form(
     form: &[u8],
     sheet: &mut LlvmSheet,
     plan: &mut FunctionPlan,
-) -> Result<(), BuildStop> {
+) -> Result<(), PlanStop> {
     let line = statement_at(source, statement.line)?;
     let widths = operand_widths_of_form(alloc, form)?;
     let number = sheet.number(form)?;
@@ -237,7 +237,7 @@ fn plan_with_form(
         push_edges_from(source, statement.block, sheet, plan)?;
     }
     let successors = plan.successors.len().saturating_sub(first_edge);
-    plan.operations.push(PlannedOperation {
+    plan.operations.push(OperationPlan {
         place: line.span.start,
         block: statement.block,
         form: number,
@@ -260,7 +260,7 @@ fn plan_statement(
     statement: &TreeStatement,
     sheet: &mut LlvmSheet,
     plan: &mut FunctionPlan,
-) -> Result<(), BuildStop> {
+) -> Result<(), PlanStop> {
     let line = statement_at(source, statement.line)?;
     let form = read_form(alloc, source.text, source.reading, line)?;
     plan_with_form(alloc, source, statement, &form, sheet, plan)
@@ -272,7 +272,7 @@ fn plan_statements(
     source: FunctionSource<'_>,
     sheet: &mut LlvmSheet,
     plan: &mut FunctionPlan,
-) -> Result<(), BuildStop> {
+) -> Result<(), PlanStop> {
     for statement in &source.tree.statements {
         plan_statement(alloc, source, statement, sheet, plan)?;
     }
@@ -289,7 +289,7 @@ pub fn plan_function(
     source: FunctionSource<'_>,
     sheet: &mut LlvmSheet,
     plan: &mut FunctionPlan,
-) -> Result<(), BuildStop> {
+) -> Result<(), PlanStop> {
     plan_arguments(alloc, source, sheet, plan)?;
     plan_statements(alloc, source, sheet, plan)
 }

@@ -1,5 +1,5 @@
 //! Names of values and blocks as a sheet has them.
-use crate::stop::BuildStop;
+use crate::stop::PlanStop;
 use pliron_text_llvm_names::{LocalDefinition, LocalName, bytes_in, label_name, local_name};
 use pliron_text_llvm_reader::{BodyLine, FunctionBody};
 use pliron_text_llvm_sheets::LlvmSheet;
@@ -43,7 +43,7 @@ pub fn name_of_parameter(
     definition: Option<&LocalDefinition>,
     next: u32,
     sheet: &mut LlvmSheet,
-) -> Result<(usize, u32), BuildStop> {
+) -> Result<(usize, u32), PlanStop> {
     match definition {
         Some(
             LocalDefinition {

@@ -1,8 +1,8 @@
 //! Operands, by what they are.
 ghost use Rattle.std.specs.Prelude.{◌≡◌, IfOk};
-ghost use Rattle.pliron_text_llvm_sheets.specs.Constants.{KeepsConstants};
+ghost use Rattle.pliron_text_llvm_sheets.specs.Constants.{KeepsTextConstants};
 ghost use Rattle.pliron_text_llvm_sheets.specs.Sheets.{KeepsSheetTexts};
-ghost use Rattle.pliron_text_llvm_building.specs.Values.{IsPlannedValue};
+ghost use Rattle.pliron_text_llvm_plans.specs.Values.{IsPlannedValue};
 
 use pliron_text_llvm_edges::{bytes_at, target_at};
 use pliron_text_llvm_functions::FunctionReading;
@@ -32,7 +32,7 @@ pub fn plan_value(
     ensures value { IfOk result (λ value.
         IsPlannedValue text.now reading.now sheet.new constants.new width hole value) }
     ensures texts { KeepsSheetTexts sheet.old sheet.new }
-    ensures constants { KeepsConstants constants.old constants.new }
+    ensures constants { KeepsTextConstants constants.old constants.new }
 {
     match target_at(reading, hole) {
         Some(number) => Ok(PlannedValue::Defined(number)),

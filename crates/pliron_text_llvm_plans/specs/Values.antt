@@ -7,15 +7,15 @@ use Rattle.pliron_text_llvm_sheets.specs.declared.constants.ConstantTable.{Const
 use Rattle.pliron_text_llvm_sheets.specs.declared.constants.TextConstant.{TextConstant}
 use Rattle.pliron_text_llvm_sheets.specs.declared.sheet.LlvmSheet.{LlvmSheet}
 use Rattle.pliron_text_llvm_sheets.specs.Constants.{constant_at}
-use Rattle.pliron_text_llvm_sheets.specs.Sheets.{text_of}
-use Rattle.pliron_text_llvm_building.specs.declared.values.PlannedValue.{PlannedValue}
-use Rattle.pliron_text_llvm_building.specs.declared.values.PlannedValue.TheVariants.{Defined, Constant}
+use Rattle.pliron_text_llvm_sheets.specs.Sheets.{sheet_text}
+use Rattle.pliron_text_llvm_plans.specs.declared.values.PlannedValue.{PlannedValue}
+use Rattle.pliron_text_llvm_plans.specs.declared.values.PlannedValue.TheVariants.{Defined, Constant}
 
 -- the constant of this number has this width and this text
 abbrev pub HasConstant : LlvmSheet → ConstantTable → ℕ → ℕ → List ℕ → Type 0
 HasConstant sheet constants number width text =
     (constant : TextConstant)
-    × (constant_at constants number ≡ Some constant) × (constant.width ≡ width) × (text_of sheet constant.text ≡ Some text)
+    × (constant_at constants number ≡ Some constant) × (constant.width ≡ width) × (sheet_text sheet constant.text ≡ Some text)
 
 -- what is in a hole whose type has this width: the value that it names, or the constant of its text
 abbrev pub IsPlannedValue : List ℕ → FunctionReading → LlvmSheet → ConstantTable → ℕ → ℕ → PlannedValue → Type 0
