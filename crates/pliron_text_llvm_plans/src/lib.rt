@@ -10,7 +10,7 @@ mod stop;
 mod values;
 
 pub use notes::{note_all, num_argument};
-pub use plan::{FunctionPlan, FunctionSource, PlannedArgument, OperationPlan, plan_function};
+pub use plan::{FunctionPlan, FunctionSource, OperationPlan, PlannedArgument, plan_function};
 pub use statements::read_form;
 pub use stop::{KeptForPlan, PlanStop};
 pub use values::{PlannedValue, plan_value};

@@ -1,7 +1,7 @@
 //! What a sheet notes of values and blocks, in the order in which they are made.
 use crate::names::{name_of, name_of_block, name_of_parameter};
 use crate::plan::{FunctionPlan, FunctionSource};
-use crate::stop::{PlanStop, KeptForPlan};
+use crate::stop::{KeptForPlan, PlanStop};
 use pliron_text_llvm_sheets::{LlvmSheet, ValueNote, ValueOrigin};
 use std::alloc::Global;
 
@@ -69,7 +69,12 @@ fn note_phis(
         let Some(argument) = plan.argument_of(source, block, i) else {
             return Err(PlanStop::Keep(0, KeptForPlan::Arguments));
         };
-        note_definition(source, argument.definition, ValueOrigin::Phi(argument.form), sheet)?;
+        note_definition(
+            source,
+            argument.definition,
+            ValueOrigin::Phi(argument.form),
+            sheet,
+        )?;
     }
     Ok(())
 }

@@ -1,6 +1,6 @@
 //! What is to be built, by numbers.
 use crate::statements::read_form;
-use crate::stop::{PlanStop, KeptForPlan};
+use crate::stop::{KeptForPlan, PlanStop};
 use crate::values::{PlannedValue, plan_value};
 use pliron_text_llvm_classes::{FormCounts, operand_widths_of_form};
 use pliron_text_llvm_functions::FunctionReading;
@@ -97,7 +97,10 @@ impl FunctionPlan {
 }
 
 // The statement that is the line of this number.
-fn statement_at<'t>(source: FunctionSource<'t>, line: usize) -> Result<&'t BodyStatement, PlanStop> {
+fn statement_at<'t>(
+    source: FunctionSource<'t>,
+    line: usize,
+) -> Result<&'t BodyStatement, PlanStop> {
     match source.reading.body.lines.get(line) {
         Some(BodyLine::Statement(statement)) => Ok(statement),
         Some(BodyLine::Label(_)) | None => Err(PlanStop::Keep(0, KeptForPlan::Form)),
@@ -179,7 +182,12 @@ fn push_operands(
 }
 
 // The width of the type of the argument with this index of the block.
-fn width_of_argument(source: FunctionSource<'_>, plan: &FunctionPlan, block: usize, i: usize) -> u32 {
+fn width_of_argument(
+    source: FunctionSource<'_>,
+    plan: &FunctionPlan,
+    block: usize,
+    i: usize,
+) -> u32 {
     match plan.argument_of(source, block, i) {
         Some(argument) => argument.width,
         None => 0,

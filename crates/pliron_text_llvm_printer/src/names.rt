@@ -102,10 +102,12 @@ impl LocalNumbers {
 
     // Gives the value a number, if it has no name; a parameter keeps its own.
     fn add_value(&mut self, value: Value, sheet: &LlvmSheet) -> Result<(), PrintStop> {
-        if let Some(ValueNote {
-            name: Some(name),
-            ..
-        }) = note_of(value, sheet)
+        if let Some(
+            ValueNote {
+                name: Some(name),
+                ..
+            },
+        ) = note_of(value, sheet)
         {
             self.next = number_behind(sheet.text(name), self.next).max(self.next);
             return Ok(());

@@ -210,12 +210,7 @@ impl FunctionView<'_> {
 
 impl FunctionView<'_> {
     // Appends the entry of the phi that is the argument with this index, for the edge.
-    fn write_entry(
-        self,
-        edge: PassingEdge,
-        i: usize,
-        out: &mut Vec<u8>,
-    ) -> Result<(), PrintStop> {
+    fn write_entry(self, edge: PassingEdge, i: usize, out: &mut Vec<u8>) -> Result<(), PrintStop> {
         out.extend_from_slice(b"[ ")?;
         self.write_operand(edge.op, edge.first.saturating_add(i), out)?;
         out.extend_from_slice(b", ")?;
@@ -278,11 +273,7 @@ impl FunctionView<'_> {
     }
 
     // Appends the lines of the block's operations.
-    fn write_operations(
-        self,
-        block: Ptr<BasicBlock>,
-        out: &mut Vec<u8>,
-    ) -> Result<(), PrintStop> {
+    fn write_operations(self, block: Ptr<BasicBlock>, out: &mut Vec<u8>) -> Result<(), PrintStop> {
         let mut next = first_operation(block, self.ctx);
         // Each turn takes an operation, or is the last.
         for _ in 0..u64::MAX {
@@ -316,11 +307,7 @@ impl FunctionView<'_> {
     }
 
     // Appends the blocks.
-    fn write_blocks(
-        self,
-        blocks: &[Ptr<BasicBlock>],
-        out: &mut Vec<u8>,
-    ) -> Result<(), PrintStop> {
+    fn write_blocks(self, blocks: &[Ptr<BasicBlock>], out: &mut Vec<u8>) -> Result<(), PrintStop> {
         for i in 0..blocks.len() {
             if i == 0 {
                 self.write_first(blocks[i], out)?;
