@@ -41,10 +41,12 @@ fn written(alloc: Global, components: &[Scc<u32>]) -> Option<String> {
 }
 
 fn components_in(alloc: Global, table: &FunctionTable, ctx: &Context) -> Option<String> {
-    for function in table.functions() {
-        if !function.is_live(ctx) {
-            return None;
-        }
+    if !table
+        .functions()
+        .iter()
+        .all(|function| function.is_live(ctx))
+    {
+        return None;
     }
     let components = call_components::<Routines>(alloc, table, ctx).ok()?;
     written(alloc, &components)
