@@ -8,7 +8,7 @@
 mod module;
 
 use clap::ArgMatches;
-use module::module_outcome;
+use module::{is_module_named, module_outcome};
 use pliron_show_commands::{BenchNotation, Outcome};
 use pliron_show_program::{Program, run_program};
 use std::io;
@@ -53,6 +53,19 @@ impl Program for Plir {
     fn dialect_help() -> &'static str {
         "What the text is written in: `bench`, or `mlir`, the generic form of MLIR, as it is for a FILE that ends \
          with `.mlir`"
+    }
+
+    fn data_help() -> (&'static str, &'static str) {
+        (
+            "A value for the text's operation; once for each, in order. For a function of MLIR with its type, as \
+             `-1:i8`, `7:index` or `true`; 64 bits without one",
+            "What the world answers to an effect; once for each, in order. For MLIR as for `--input`, with commas \
+             between several",
+        )
+    }
+
+    fn takes_other_data(run: &ArgMatches) -> bool {
+        is_module_named(run, run.get_str("file").unwrap_or("-"))
     }
 
     fn other_outcome(

@@ -1,6 +1,6 @@
 //! Runs before and after passes, worked by hand. `|` stands for the end of a line.
 use crate::lines::in_one_line;
-use pliron_show_commands::{BenchNotation, CompareOptions, RunOptions, Source, compare};
+use pliron_show_commands::{BenchNotation, CompareOptions, Datum, RunOptions, Source, compare};
 use std::alloc::Global;
 use std::process::Abort;
 
@@ -15,8 +15,8 @@ fn expect_compared(rt: &impl Abort, alloc: Global, pipeline: &str, text: &str, w
         text: text.as_bytes(),
     };
     let run = RunOptions {
-        inputs: &[3],
-        world: &[7, 8],
+        inputs: &[Datum::Number(3)],
+        world: &[Datum::Number(7), Datum::Number(8)],
         steps: 20,
         trace: false,
         json: false,

@@ -3,7 +3,7 @@ use crate::lines::in_one_line;
 use crate::optimised::plain;
 use pliron_driver_instrument::Timeless;
 use pliron_show_commands::{
-    BenchNotation, ExplainOptions, Outcome, RunOptions, Source, explain, opt, run,
+    BenchNotation, Datum, ExplainOptions, Outcome, RunOptions, Source, explain, opt, run,
 };
 use std::alloc::{AllocError, Global};
 use std::process::Abort;
@@ -38,8 +38,8 @@ fn outcome_of(alloc: Global, words: &str, source: &Source) -> Result<Outcome, Al
     match command {
         "run" => {
             let options = RunOptions {
-                inputs: &[3],
-                world: &[7],
+                inputs: &[Datum::Number(3)],
+                world: &[Datum::Number(7)],
                 steps: 20,
                 trace: true,
                 json: true,

@@ -64,18 +64,16 @@ edge [fontname=\"monospace\"];|  \
 dot 1 => function { b0(): a = lit 2; return a } => 2 error: no region `1`|\
 help: `0.2.0` is region 0 of operation 2 of region 0 of the text's operation|";
 
-/// A run without inputs, in a world without answers.
-const WITHOUT_INPUTS: RunOptions<'static> = RunOptions {
-    inputs: &[],
-    world: &[],
-    steps: 100,
-    trace: false,
-    json: false,
-};
-
 // What the command answers.
 fn outcome_of(alloc: Global, words: &str, source: &Source) -> Result<Outcome, AllocError> {
     let (command, word) = words.split_once(' ').unwrap_or((words, ""));
+    let without_inputs = RunOptions {
+        inputs: &[],
+        world: &[],
+        steps: 100,
+        trace: false,
+        json: false,
+    };
     match command {
         "check" => check::<Arithmetic>(alloc, source),
         "explain" => {
@@ -86,10 +84,10 @@ fn outcome_of(alloc: Global, words: &str, source: &Source) -> Result<Outcome, Al
             };
             explain::<Arithmetic>(alloc, source, &options)
         }
-        "run" => run::<Arithmetic>(alloc, source, &WITHOUT_INPUTS),
+        "run" => run::<Arithmetic>(alloc, source, &without_inputs),
         "compare" => {
             let options = CompareOptions {
-                run: WITHOUT_INPUTS,
+                run: without_inputs,
                 pipeline: word,
             };
             compare::<Arithmetic>(alloc, source, &options)

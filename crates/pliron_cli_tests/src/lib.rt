@@ -12,6 +12,8 @@ mod diagnostics;
 #[cfg(test)]
 mod flows;
 #[cfg(test)]
+mod functions;
+#[cfg(test)]
 mod graphs;
 #[cfg(test)]
 mod json;

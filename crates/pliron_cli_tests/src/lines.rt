@@ -18,3 +18,12 @@ pub fn in_one_line(alloc: Global, text: &[u8]) -> Result<String, AllocError> {
     }
     Ok(line)
 }
+
+/// The text with a quote for each `~`.
+pub fn with_quotes(alloc: Global, text: &str) -> Result<String, AllocError> {
+    let mut quoted = String::new(alloc);
+    for letter in text.chars() {
+        quoted.push(if letter == '~' { '"' } else { letter })?;
+    }
+    Ok(quoted)
+}

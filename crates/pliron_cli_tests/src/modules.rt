@@ -1,5 +1,5 @@
 //! The commands on modules of MLIR, worked by hand. `|` stands for the end of a line, and `~` for a quote.
-use crate::lines::in_one_line;
+use crate::lines::{in_one_line, with_quotes};
 use crate::optimised::plain;
 use pliron_driver_instrument::{PipelineText, Timeless};
 use pliron_show_changes::{StageOptions, StageReport, run_stages, write_renamed_answer};
@@ -30,15 +30,6 @@ dot 0 => ~builtin.module~() ({ ~func.func~() <{function_type = (i32) -> i32, sym
 opt sccp,dce => ~func.func~() <{function_type = () -> i32, sym_name = ~f~}> ({ %a = ~arith.constant~() <{value = 2 : i32}> : () -> i32 %b = ~arith.constant~() <{value = 3 : i32}> : () -> i32 %s = ~arith.addi~(%a, %b) : (i32, i32) -> i32 ~func.return~(%s) : (i32) -> () }) : () -> () => 0 ~func.func~() <{function_type = () -> i32, sym_name = ~f~}> ({|  %3 = ~arith.constant~() <{value = 5 : i32}> : () -> i32|  ~func.return~(%3) : (i32) -> ()|}) : () -> ()|
 opt cse => func.func @f() { => 2 text:1:1: error: unreadable text: expected the name of an operation in quotes; print with --mlir-print-op-generic|
 explain cse => ~func.func~() <{function_type = () -> i32, sym_name = ~f~}> ({ ~test.two~() : () -> (i32, i32) %h = ~arith.constant~() <{value = 5.000000e-01 : f32}> : () -> f32 %i = ~arith.constant~() <{value = 5.000000e-01 : f32}> : () -> f32 ~test.use~(%h, %i) : (f32, f32) -> () loc(~a b~) %a = ~arith.constant~() <{value = 1 : i32}> : () -> i32 ~func.return~(%a) : (i32) -> () }) : () -> () => 0 1:163 %i = ~arith.constant~() <{value = 5.000000e-01 : f32}> : ()  ..: computed already, as %h (cse)|1:230 ~test.use~(%h, %i) : (f32, f32) -> () loc(~a b~): takes %h for %i (cse)|";
-
-// The text with a quote for each `~`.
-fn with_quotes(alloc: Global, text: &str) -> Result<String, AllocError> {
-    let mut quoted = String::new(alloc);
-    for letter in text.chars() {
-        quoted.push(if letter == '~' { '"' } else { letter })?;
-    }
-    Ok(quoted)
-}
 
 // What the command answers.
 fn outcome_of(alloc: Global, words: &str, source: &Source) -> Result<Outcome, AllocError> {

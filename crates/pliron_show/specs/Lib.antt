@@ -1,1 +1,4 @@
+pub mod Ends
 pub mod Faults
+pub mod Lost
+pub mod Words

@@ -1,7 +1,9 @@
 //! The notation of `Bench`.
 ghost use Rattle.pliron_show.specs.Faults.{faults_as_unreadable};
+ghost use Rattle.pliron_show.specs.Words.{says_long_number};
 
 use crate::bench_traps::{reason_by_input, reason_without_input};
+use crate::plain_data::datum_of_number;
 use crate::renaming::{LETTERS, print_renamed};
 use crate::run_report::{RunOptions, evaluated_sight};
 use crate::shown::{NameScopes, NameSource, NewNames, Runnable, ShownNotation};
@@ -107,6 +109,10 @@ impl ShownNotation for BenchNotation {
 }
 
 impl Runnable for BenchNotation {
+    ghost input_words = { says_long_number };
+
+    ghost answer_words = { says_long_number };
+
     fn run_sight(
         alloc: Global,
         root: Ptr<Operation>,
@@ -127,5 +133,13 @@ impl Runnable for BenchNotation {
             Some(input) => reason_by_input(alloc, ctx, op, input),
             None => Ok(reason_without_input(op, ctx)),
         }
+    }
+
+    fn input_of_word(_alloc: Global, word: &str) -> Result<Option<Datum>, AllocError> {
+        Ok(datum_of_number(word))
+    }
+
+    fn answer_of_word(_alloc: Global, word: &str) -> Result<Option<Datum>, AllocError> {
+        Ok(datum_of_number(word))
     }
 }

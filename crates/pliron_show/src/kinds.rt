@@ -1,7 +1,9 @@
 //! The notations of dialects by roles.
 ghost use Rattle.pliron_core.specs.Tree.{IsLive};
 ghost use Rattle.pliron_show.specs.Faults.{faults_as_unreadable};
+ghost use Rattle.pliron_show.specs.Words.{says_long_number};
 
+use crate::plain_data::datum_of_number;
 use crate::renaming::{LETTERS, print_renamed};
 use crate::run_report::{RunOptions, evaluated_sight};
 use crate::shown::{NameScopes, NameSource, NewNames, Runnable, ShownNotation};
@@ -115,6 +117,10 @@ impl<K: Grammar, L: Rules<ByRoles<K>>> ShownNotation for KindNotation<K, L> {
 }
 
 impl<K: Grammar + Interprets, L: Rules<ByRoles<K>>> Runnable for KindNotation<K, L> {
+    ghost input_words = { says_long_number };
+
+    ghost answer_words = { says_long_number };
+
     fn run_sight(
         alloc: Global,
         root: Ptr<Operation>,
@@ -132,5 +138,13 @@ impl<K: Grammar + Interprets, L: Rules<ByRoles<K>>> Runnable for KindNotation<K,
         _input: Option<&[Datum]>,
     ) -> Result<TrapReason, OptError> {
         Ok(TrapReason::Unknown)
+    }
+
+    fn input_of_word(_alloc: Global, word: &str) -> Result<Option<Datum>, AllocError> {
+        Ok(datum_of_number(word))
+    }
+
+    fn answer_of_word(_alloc: Global, word: &str) -> Result<Option<Datum>, AllocError> {
+        Ok(datum_of_number(word))
     }
 }

@@ -1,18 +1,22 @@
 //! Runs, as users see them.
-ghost use Rattle.std.specs.Prelude.{◌≡◌, map, IfOk};
+ghost use Rattle.std.specs.Prelude.{◌≡◌, map, IfOk, string_bytes};
 ghost use Rattle.pliron_core.specs.Writes.{no_tree};
-ghost use Rattle.pliron_laws.specs.Datum.{Number as NumberOf};
 ghost use Rattle.pliron_laws.specs.Machine.{run, sight_after as sight_seen};
 ghost use Rattle.pliron_evaluator.specs.Evaluator.{datum_of_value, sight_of};
+ghost use Rattle.pliron_show.specs.Ends.{SaysEnd, end_words};
 
 use crate::json_run::{json_text, move_object, write_effect_objects};
+use crate::lost_number::{ends_with_nothing, lost_number_text};
+use crate::reading::read_shown;
 use crate::shown::Runnable;
 use crate::trap_reason::{TrapReason, reason_by_kind, reason_of};
 use pliron_core::{Context, Operation, Ptr};
+use pliron_driver::Document;
 use pliron_evaluator::evaluator::{
     Datum, Evaluate, NotedMove, Notes, RunInputs, Sight, evaluate_noting,
 };
 use pliron_laws::OptError;
+use pliron_role_runs::all_copies;
 use pliron_show_places::{
     Source, SourceMark, TextPart, mark_source_as, operation_places, place_of, push_bytes,
 };
@@ -22,9 +26,9 @@ use std::alloc::{AllocError, Global};
 #[derive(Clone, Copy)]
 pub struct RunOptions<'w> {
     /// The values that the operation gets.
-    pub inputs: &'w [i64],
+    pub inputs: &'w [Datum],
     /// What the world answers to its effects, in order.
-    pub world: &'w [i64],
+    pub world: &'w [Datum],
     /// The most moves that it makes.
     pub steps: usize,
     /// Whether each move is reported.
@@ -33,50 +37,31 @@ pub struct RunOptions<'w> {
     pub json: bool,
 }
 
-// The numbers as data.
-fn data(alloc: Global, numbers: &[i64]) -> Result<Vec<Datum>, AllocError>
-    ensures { IfOk result (λ made. map datum_of_value made.items ≡ map NumberOf numbers.now) }
-{
-    let mut data = Vec::new(alloc);
-    for number in numbers {
-        data.push(Datum::Number(i128::from(*number)))?;
-    }
-    Ok(data)
-}
-
-// Writes a datum: a number, a word, or data in brackets.
-fn write_datum(text: &mut String, datum: &Datum) -> Result<(), AllocError> {
-    match datum {
-        Datum::Empty => text.push_str("()"),
-        Datum::Number(number) => {
-            let number = *number;
-            write!(text, "{number}")
-        }
-        Datum::Text(word) => text.push_str(word.as_str()),
-        Datum::Join(first, others) => {
-            text.push_str("(")?;
-            write_datum(text, first)?;
-            text.push_str(" ")?;
-            write_datum(text, others)?;
-            text.push_str(")")
-        }
-    }
-}
-
 // Writes the data of a list, each after a blank.
-fn write_data(text: &mut String, data: &[Datum]) -> Result<(), AllocError> {
-    for datum in data {
-        text.push_str(" ")?;
-        write_datum(text, datum)?;
+fn write_data<N: Runnable>(
+    alloc: Global,
+    text: &mut String,
+    sheet: &N::Sheet,
+    data: &[Datum],
+) -> Result<(), AllocError> {
+    for i in 0..data.len() {
+        let is_listed = i > 0 && N::has_worded_data();
+        text.push_str(if is_listed { ", " } else { " " })?;
+        N::write_datum(alloc, text, sheet, &data[i])?;
     }
     Ok(())
 }
 
 // Writes the effects, of which the latest is first, each on a line.
-fn write_effects(text: &mut String, effects: &[Datum]) -> Result<(), AllocError> {
+fn write_effects<N: Runnable>(
+    alloc: Global,
+    text: &mut String,
+    sheet: &N::Sheet,
+    effects: &[Datum],
+) -> Result<(), AllocError> {
     for effect in effects.iter().rev() {
         text.push_str("effect ")?;
-        write_datum(text, effect)?;
+        N::write_effect(alloc, text, sheet, effect)?;
         text.push_str("\n")?;
     }
     Ok(())
@@ -84,8 +69,9 @@ fn write_effects(text: &mut String, effects: &[Datum]) -> Result<(), AllocError>
 
 // The effects of a run, each on a line, as they came, as objects of JSON or in words. Errors: allocation failure. Cost:
 // linear in them.
-pub(crate) fn effects_text(
+pub(crate) fn effects_text<N: Runnable>(
     alloc: Global,
+    sheet: &N::Sheet,
     sight: &Sight,
     is_json: bool,
 ) -> Result<String, AllocError> {
@@ -93,39 +79,61 @@ pub(crate) fn effects_text(
     match sight {
         Sight::Ended(_, effects) | Sight::Trapped(effects) | Sight::Reached(effects) => {
             if is_json {
-                write_effect_objects(alloc, &mut text, effects)?;
+                write_effect_objects::<N>(alloc, &mut text, sheet, effects)?;
             } else {
-                write_effects(&mut text, effects)?;
+                write_effects::<N>(alloc, &mut text, sheet, effects)?;
             }
         }
     }
     Ok(text)
 }
 
-/// What is seen of a run: a line for each effect, as they came, and one that says how it ended.
-///
-/// Errors: allocation failure. Cost: linear in what is seen.
-pub fn sight_text(alloc: Global, sight: &Sight) -> Result<String, AllocError> {
+// How the line begins that says how a run ended.
+fn end_of_sight(sight: &Sight) -> &'static str
+    ensures { result.now ≡ end_words sight.now }
+{
+    match sight {
+        Sight::Ended(_, _) => "ended with",
+        Sight::Trapped(_) => "trapped",
+        Sight::Reached(_) => "made no further move: steps or the world's answers were used up",
+    }
+}
+
+// What comes behind that: the values that a run ended with, each after a blank.
+fn rest_of_sight<N: Runnable>(
+    alloc: Global,
+    sheet: &N::Sheet,
+    sight: &Sight,
+) -> Result<String, AllocError> {
     let mut text = String::new(alloc);
     match sight {
-        Sight::Ended(values, effects) => {
-            write_effects(&mut text, effects)?;
-            text.push_str("ended with")?;
+        Sight::Ended(values, _) => {
             if values.is_empty() {
                 text.push_str(" nothing")?;
             }
-            write_data(&mut text, values)?;
+            write_data::<N>(alloc, &mut text, sheet, values)?;
         }
-        Sight::Trapped(effects) => {
-            write_effects(&mut text, effects)?;
-            text.push_str("trapped")?;
-        }
-        Sight::Reached(effects) => {
-            write_effects(&mut text, effects)?;
-            text.push_str("made no further move: steps or the world's answers were used up")?;
-        }
+        Sight::Trapped(_) | Sight::Reached(_) => {}
     }
     text.push_str("\n")?;
+    Ok(text)
+}
+
+/// What is seen of a run: a line for each effect, as they came, and one that says how it ended.
+///
+/// Errors: allocation failure. Cost: linear in what is seen.
+#[tactic(auto, using(crate::proofs::EndLemmas::says_end))]
+pub fn sight_text<N: Runnable>(
+    alloc: Global,
+    sheet: &N::Sheet,
+    sight: &Sight,
+) -> Result<String, AllocError>
+    ensures { IfOk result (λ text. SaysEnd sight.now (string_bytes text)) }
+{
+    let mut text = effects_text::<N>(alloc, sheet, sight, false)?;
+    let rest = rest_of_sight::<N>(alloc, sheet, sight)?;
+    text.push_str(end_of_sight(sight))?;
+    text.push_str(rest.as_str())?;
     Ok(text)
 }
 
@@ -170,11 +178,11 @@ pub fn evaluated_sight<D: Evaluate>(
     notes: &mut Notes,
 ) -> Result<Sight, AllocError>
     ensures { IfOk result (λ sight. sight_of sight ≡ sight_seen
-        (run D.meaning ctx.now.tree root (map NumberOf options.now.inputs.now) (map NumberOf options.now.world.now)
-        options.now.steps)) }
+        (run D.meaning ctx.now.tree root (map datum_of_value options.now.inputs.now)
+        (map datum_of_value options.now.world.now) options.now.steps)) }
 {
-    let inputs = data(alloc, options.inputs)?;
-    let world = data(alloc, options.world)?;
+    let inputs = all_copies(alloc, options.inputs)?;
+    let world = all_copies(alloc, options.world)?;
     let given = RunInputs {
         inputs,
         world,
@@ -184,9 +192,11 @@ pub fn evaluated_sight<D: Evaluate>(
 }
 
 // Writes a move: where its operation is, how it is written, and the data that it takes.
-fn write_move(
+fn write_move<N: Runnable>(
+    alloc: Global,
     report: &mut String,
     source: &Source,
+    sheet: &N::Sheet,
     place: Option<TextPart>,
     noted: &NotedMove,
 ) -> Result<(), AllocError> {
@@ -197,7 +207,7 @@ fn write_move(
     match &noted.input {
         Some(input) if !input.is_empty() => {
             report.push_str(" <-")?;
-            write_data(report, input)?;
+            write_data::<N>(alloc, report, sheet, input)?;
         }
         _ => {}
     }
@@ -205,10 +215,11 @@ fn write_move(
 }
 
 // Writes each move that is noted, where the options ask for it.
-fn write_moves(
+fn write_moves<N: Runnable>(
     alloc: Global,
     report: &mut String,
     run: &FinishedRun,
+    sheet: &N::Sheet,
     places: &[TextPart],
 ) -> Result<(), AllocError> {
     if !run.options.trace {
@@ -217,10 +228,10 @@ fn write_moves(
     for noted in &run.notes.moves {
         let place = place_of(places, run.root, noted.op);
         if run.options.json {
-            let object = move_object(alloc, run.source, place, noted)?;
+            let object = move_object::<N>(alloc, run.source, sheet, place, noted)?;
             object.write_line(report)?;
         } else {
-            write_move(report, run.source, place, noted)?;
+            write_move::<N>(alloc, report, run.source, sheet, place, noted)?;
         }
     }
     Ok(())
@@ -240,11 +251,15 @@ pub(crate) struct FinishedRun<'r> {
 }
 
 // What is seen of the run, in words or as objects of JSON. Errors: allocation failure. Cost: linear in what is seen.
-pub(crate) fn seen_text(alloc: Global, run: &FinishedRun) -> Result<String, AllocError> {
+pub(crate) fn seen_text<N: Runnable>(
+    alloc: Global,
+    run: &FinishedRun,
+    sheet: &N::Sheet,
+) -> Result<String, AllocError> {
     if run.options.json {
-        json_text(alloc, run.sight, run.notes.moves.len())
+        json_text::<N>(alloc, sheet, run.sight, run.notes.moves.len())
     } else {
-        sight_text(alloc, run.sight)
+        sight_text::<N>(alloc, sheet, run.sight)
     }
 }
 
@@ -254,6 +269,24 @@ struct LastMove {
     severity: &'static str,
     message: &'static str,
     label: String,
+    /// Whether what it branched on was no number.
+    lacks_number: bool,
+}
+
+// The run again, up to so many moves, each of which is noted, and what is seen of it. Errors: allocation failure. Cost: that
+// of the run.
+pub(crate) fn run_noted<N: Runnable>(
+    alloc: Global,
+    ctx: &Context,
+    run: &FinishedRun,
+) -> Result<(Notes, Sight), AllocError> {
+    let mut notes = Notes::of_all(alloc);
+    let options = RunOptions {
+        steps: run.options.steps.min(MOST_NOTED),
+        ..*run.options
+    };
+    let sight = N::run_sight(alloc, run.root, ctx, &options, &mut notes)?;
+    Ok((notes, sight))
 }
 
 // Why the run trapped: its moves are noted, or else it is run again to note them.
@@ -265,12 +298,8 @@ fn trap_reason<N: Runnable>(
     if run.options.trace || run.options.json {
         return reason_of::<N>(alloc, ctx, &run.notes.moves);
     }
-    let mut notes = Notes::of_all(alloc);
-    let options = RunOptions {
-        steps: run.options.steps.min(MOST_NOTED),
-        ..*run.options
-    };
-    match N::run_sight(alloc, run.root, ctx, &options, &mut notes)? {
+    let (notes, sight) = run_noted::<N>(alloc, ctx, run)?;
+    match sight {
         Sight::Trapped(_) => reason_of::<N>(alloc, ctx, &notes.moves),
         _ => match run.notes.last {
             Some(op) => reason_by_kind::<N>(alloc, ctx, op),
@@ -287,43 +316,52 @@ fn last_move<N: Runnable>(
 ) -> Result<Option<LastMove>, OptError> {
     Ok(match run.sight {
         Sight::Ended(_, _) => None,
-        Sight::Trapped(_) => Some(LastMove {
-            severity: "error",
-            message: "the run trapped",
-            label: trap_reason::<N>(alloc, ctx, run)?.label(alloc)?,
-        }),
-        Sight::Reached(effects) if effects.len() > run.options.world.len() => Some(LastMove {
+        Sight::Trapped(_) => {
+            let reason = trap_reason::<N>(alloc, ctx, run)?;
+            Some(LastMove {
+                severity: "error",
+                message: "the run trapped",
+                label: reason.label(alloc)?,
+                lacks_number: reason == TrapReason::NoNumber,
+            })
+        }
+        Sight::Reached(effects) => Some(LastMove {
             severity: "note",
             message: "the run was cut off",
-            label: format!(in alloc; "the world has no answer to effect {}", effects.len())?,
-        }),
-        Sight::Reached(_) => Some(LastMove {
-            severity: "note",
-            message: "the run was cut off",
-            label: format!(in alloc;
-                "the {} moves that it may make were made",
-                run.options.steps
-            )?,
+            label: cut_label(alloc, run.options, effects)?,
+            lacks_number: false,
         }),
     })
 }
 
+// What cut off the run with these effects.
+fn cut_label(alloc: Global, options: &RunOptions, effects: &[Datum]) -> Result<String, AllocError> {
+    if effects.len() > options.world.len() {
+        return format!(in alloc; "the world has no answer to effect {}", effects.len());
+    }
+    format!(in alloc; "the {} moves that it may make were made", options.steps)
+}
+
 // What is reported beside what is seen: the moves that are noted, and a mark under the operation that made the last one
-// where the run didn't end with values. Errors: allocation failure. Cost: linear in the text and the moves, and where
-// the run trapped that of running it again.
+// where the run didn't end with values; and one under the operation that lost a number first, where the run ended with
+// nothing for a value, or branched on that. Errors: allocation failure. Cost: linear in the text and the moves, and where
+// the run trapped or lost a number that of running it again.
 pub(crate) fn report_of<N: Runnable>(
     alloc: Global,
     ctx: &Context,
     run: &FinishedRun,
+    sheet: &N::Sheet,
 ) -> Result<String, OptError> {
-    let places = operation_places(alloc, run.source.text)?;
+    let parts = N::parts(alloc, run.source.text)?;
+    let places = operation_places(alloc, run.source.text, &parts)?;
     let mut report = String::new(alloc);
-    write_moves(alloc, &mut report, run, &places)?;
+    write_moves::<N>(alloc, &mut report, run, sheet, &places)?;
     let place = match run.notes.last {
         Some(op) => place_of(&places, run.root, op),
         None => None,
     };
-    if let Some(last) = last_move::<N>(alloc, ctx, run)?
+    let last = last_move::<N>(alloc, ctx, run)?;
+    if let Some(last) = &last
         && let Some(place) = place
     {
         let mark = SourceMark {
@@ -335,6 +373,10 @@ pub(crate) fn report_of<N: Runnable>(
         };
         let marked = mark_source_as(alloc, last.severity, run.source.text, &mark)?;
         report.push_str(marked.as_str())?;
+    }
+    if ends_with_nothing(run.sight) || last.is_some_and(|last| last.lacks_number) {
+        let lost = lost_number_text::<N>(alloc, ctx, run, &places)?;
+        report.push_str(lost.as_str())?;
     }
     Ok(report)
 }
@@ -360,10 +402,10 @@ fn run_text_in<N: Runnable>(
 ) -> Result<Option<RunReport>, OptError>
     requires { ctx.old.tree ≡ no_tree }
 {
-    let Some(root) = N::read(alloc, source.text, ctx)? else {
+    let Some(document) = read_shown::<N>(alloc, source.text, ctx)? else {
         return Ok(None);
     };
-    Ok(Some(report_of_run::<N>(alloc, source, options, root, ctx)?))
+    Ok(Some(report_of_run::<N>(alloc, source, options, &document, ctx)?))
 }
 
 // The notes that the options ask for. Cost: constant.
@@ -375,14 +417,15 @@ pub(crate) fn notes_for(alloc: Global, options: &RunOptions) -> Notes {
     }
 }
 
-// What is reported of the run of the operation, which was read from the text.
+// What is reported of the run of the document's operation, which was read from the text.
 fn report_of_run<N: Runnable>(
     alloc: Global,
     source: &Source,
     options: &RunOptions,
-    root: Ptr<Operation>,
+    document: &Document<N::Sheet>,
     ctx: &Context,
 ) -> Result<RunReport, OptError> {
+    let root = document.root;
     let mut notes = notes_for(alloc, options);
     let sight = N::run_sight(alloc, root, ctx, options, &mut notes)?;
     let run = FinishedRun {
@@ -392,8 +435,8 @@ fn report_of_run<N: Runnable>(
         notes: &notes,
         sight: &sight,
     };
-    let report = report_of::<N>(alloc, ctx, &run)?;
-    let seen = seen_text(alloc, &run)?;
+    let report = report_of::<N>(alloc, ctx, &run, &document.sheet)?;
+    let seen = seen_text::<N>(alloc, &run, &document.sheet)?;
     Ok(RunReport {
         seen,
         report,

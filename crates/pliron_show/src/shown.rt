@@ -1,12 +1,14 @@
 //! What people ask of a notation.
 ghost use Rattle.std.specs.Prelude.{◌≡◌, ◌≤◌, ◌+◌, length, map, IfOk, IfSome, string_bytes};
 ghost use Rattle.pliron_core.specs.Tree.{IsLive};
-ghost use Rattle.pliron_laws.specs.Datum.{Number as NumberOf};
 ghost use Rattle.pliron_laws.specs.Machine.{run, sight_after as seen_of};
 ghost use Rattle.pliron_show_places.specs.Layout.{words_of};
-ghost use Rattle.pliron_evaluator.specs.Evaluator.{sight_of};
+ghost use Rattle.pliron_evaluator.specs.Evaluator.{datum_of_value, sight_of};
 ghost use Rattle.pliron_show.specs.Faults.{TextFaults};
+ghost use Rattle.pliron_show.specs.Lost.{Losses, LosesAt};
+ghost use Rattle.pliron_show.specs.Words.{DataWords};
 
+use crate::plain_data::write_plain_datum;
 use crate::run_report::RunOptions;
 use crate::trap_reason::TrapReason;
 use pliron_core::{Context, Operation, Ptr};
@@ -109,8 +111,16 @@ pub trait ShownNotation: Notation + NameScopes {
         ensures { IfSome result (λ part. part.start + part.len ≤ length words.now) };
 }
 
-/// A notation whose operations are run for people, on numbers.
+/// A notation whose operations are run for people.
 pub trait Runnable: ShownNotation {
+    // which words say inputs, and which say answers of the world
+    ghost input_words: { DataWords };
+
+    ghost answer_words: { DataWords };
+
+    // where its operations lose a number
+    ghost loses: { Losses } = { λ _ _. ⊥ };
+
     /// What is seen of a run of the operation, with notes of its moves. Errors: allocation failure. Cost: that of the run.
     fn run_sight(
         alloc: Global,
@@ -120,8 +130,8 @@ pub trait Runnable: ShownNotation {
         notes: &mut Notes,
     ) -> Result<Sight, AllocError>
         ensures { IfOk result (λ sight. sight_of sight ≡ seen_of
-            (run Self.D.meaning ctx.now.tree root (map NumberOf options.now.inputs.now)
-            (map NumberOf options.now.world.now) options.now.steps)) };
+            (run Self.D.meaning ctx.now.tree root (map datum_of_value options.now.inputs.now)
+            (map datum_of_value options.now.world.now) options.now.steps)) };
 
     /// Why the operation that took this input traps; without an input, why it may. Asks that it is live (`is_live` tests
     /// it). Errors: allocation failure. Cost: linear in its operands.
@@ -132,4 +142,56 @@ pub trait Runnable: ShownNotation {
         input: Option<&[Datum]>,
     ) -> Result<TrapReason, OptError>
         requires { IsLive ctx.now.tree op };
+
+    /// Why the operation that took these numbers gives none, where it computes one; `None` where it gives one, and of any
+    /// other operation. Asks that it is live (`is_live` tests it). Cost: constant.
+    fn lost_number(ctx: &Context, op: Ptr<Operation>, input: &[Datum]) -> Option<&'static str>
+        requires { IsLive ctx.now.tree op }
+        ensures { IfSome result (λ reason. LosesAt loses ctx.now.tree op (map datum_of_value input.now)) }
+    {
+        let _ = ctx;
+        let _ = op;
+        let _ = input;
+        None
+    }
+
+    /// The input that the word says; `None` where it says none. Errors: allocation failure. Cost: linear in the word.
+    fn input_of_word(alloc: Global, word: &str) -> Result<Option<Datum>, AllocError>
+        ensures { IfOk result (λ found. IfSome found (λ datum. input_words word.now (datum_of_value datum))) };
+
+    /// The answer of the world that the word says; `None` where it says none. Errors: allocation failure. Cost: linear in
+    /// the word.
+    fn answer_of_word(alloc: Global, word: &str) -> Result<Option<Datum>, AllocError>
+        ensures { IfOk result (λ found. IfSome found (λ datum. answer_words word.now (datum_of_value datum))) };
+
+    /// Which words say data. Cost: constant.
+    fn words_of_data() -> &'static str {
+        "a number from -9223372036854775808 to 9223372036854775807"
+    }
+
+    /// Whether a datum is written as words: commas are between such, and JSON has them as strings. Else blanks are, and
+    /// JSON has a number, a string, `null` or an array of two. Cost: constant.
+    fn has_worded_data() -> bool {
+        false
+    }
+
+    /// Writes a datum as people read it. Errors: allocation failure. Cost: linear in it.
+    fn write_datum(
+        _alloc: Global,
+        text: &mut String,
+        _sheet: &Self::Sheet,
+        datum: &Datum,
+    ) -> Result<(), AllocError> {
+        write_plain_datum(text, datum)
+    }
+
+    /// Writes an effect as people read it. Errors: allocation failure. Cost: linear in it.
+    fn write_effect(
+        _alloc: Global,
+        text: &mut String,
+        _sheet: &Self::Sheet,
+        effect: &Datum,
+    ) -> Result<(), AllocError> {
+        write_plain_datum(text, effect)
+    }
 }

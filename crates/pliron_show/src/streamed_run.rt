@@ -2,11 +2,13 @@
 ghost use Rattle.std.specs.Prelude.{◌≡◌};
 ghost use Rattle.pliron_core.specs.Writes.{no_tree};
 
+use crate::reading::read_shown;
 use crate::run_report::{
     FinishedRun, RunOptions, RunReport, effects_text, end_of, notes_for, report_of, seen_text,
 };
 use crate::shown::Runnable;
-use pliron_core::{Context, Operation, Ptr};
+use pliron_core::Context;
+use pliron_driver::Document;
 use pliron_evaluator::evaluator::{Notes, Sight};
 use pliron_laws::OptError;
 use pliron_show_places::Source;
@@ -45,14 +47,15 @@ fn bytes_behind(text: &String, reported: usize) -> &[u8] {
 
 impl RunPart {
     // Gives the sink the effects that it wasn't given yet, and answers whether more are wanted.
-    fn report_effects<S: EffectSink>(
+    fn report_effects<N: Runnable, S: EffectSink>(
         &mut self,
         alloc: Global,
+        sheet: &N::Sheet,
         sight: &Sight,
         is_json: bool,
         sink: &mut S,
     ) -> Result<bool, AllocError> {
-        let text = effects_text(alloc, sight, is_json)?;
+        let text = effects_text::<N>(alloc, sheet, sight, is_json)?;
         let lines = bytes_behind(&text, self.reported);
         let is_heard = lines.is_empty() || sink.accept(lines);
         self.reported = text.len();
@@ -65,26 +68,30 @@ impl RunPart {
         alloc: Global,
         ctx: &Context,
         run: &FinishedRun,
+        sheet: &N::Sheet,
     ) -> Result<RunReport, OptError> {
-        let seen = seen_text(alloc, run)?;
+        let seen = seen_text::<N>(alloc, run, sheet)?;
         let rest = std::str::from_utf8(bytes_behind(&seen, self.reported)).unwrap_or("");
         Ok(RunReport {
             seen: String::from_str(alloc, rest)?,
-            report: report_of::<N>(alloc, ctx, run)?,
+            report: report_of::<N>(alloc, ctx, run, sheet)?,
             end: end_of(run.sight),
         })
     }
 }
 
-// What is reported of the run of the operation, which was read from the text, once its effects were given to the sink.
+// What is reported of the run of the document's operation, which was read from the text, once its effects were given to
+// the sink.
 fn report_of_parts<N: Runnable, S: EffectSink>(
     alloc: Global,
     source: &Source,
     options: &RunOptions,
-    root: Ptr<Operation>,
+    document: &Document<N::Sheet>,
     ctx: &Context,
     sink: &mut S,
 ) -> Result<Option<RunReport>, OptError> {
+    let root = document.root;
+    let sheet = &document.sheet;
     let mut part = RunPart {
         moves: FIRST_MOVES.min(options.steps),
         reported: 0,
@@ -97,7 +104,7 @@ fn report_of_parts<N: Runnable, S: EffectSink>(
         };
         let mut notes: Notes = notes_for(alloc, &own);
         let sight = N::run_sight(alloc, root, ctx, &own, &mut notes)?;
-        let is_heard = part.report_effects(alloc, &sight, options.json, sink)?;
+        let is_heard = part.report_effects::<N, S>(alloc, sheet, &sight, options.json, sink)?;
         if is_heard && continues(&sight, options, part.moves) {
             part.moves = part.moves.saturating_mul(4).min(options.steps);
             continue;
@@ -109,7 +116,7 @@ fn report_of_parts<N: Runnable, S: EffectSink>(
             notes: &notes,
             sight: &sight,
         };
-        return Ok(Some(part.report::<N>(alloc, ctx, &run)?));
+        return Ok(Some(part.report::<N>(alloc, ctx, &run, sheet)?));
     }
     Ok(None)
 }
@@ -138,8 +145,8 @@ fn run_streamed_in<N: Runnable, S: EffectSink>(
 ) -> Result<Option<RunReport>, OptError>
     requires { ctx.old.tree ≡ no_tree }
 {
-    match N::read(alloc, source.text, ctx)? {
-        Some(root) => report_of_parts::<N, S>(alloc, source, options, root, ctx, sink),
+    match read_shown::<N>(alloc, source.text, ctx)? {
+        Some(document) => report_of_parts::<N, S>(alloc, source, options, &document, ctx, sink),
         None => Ok(None),
     }
 }

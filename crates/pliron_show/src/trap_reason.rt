@@ -18,6 +18,10 @@ pub enum TrapReason {
     QuotientTooLarge,
     /// It divides, and one of these two holds.
     Division,
+    /// It branches on what is no number.
+    NoNumber,
+    /// It is never to be reached.
+    Unreachable,
     /// It branches to a block that takes another number of values than it passes.
     Count { passed: usize, taken: usize },
     Unknown,
@@ -38,6 +42,8 @@ impl TrapReason {
             TrapReason::Division => {
                 format!(in alloc; "the divisor is 0, or the quotient doesn't fit in 64 bits")
             }
+            TrapReason::NoNumber => format!(in alloc; "what it branches on is no number"),
+            TrapReason::Unreachable => format!(in alloc; "no run is to come here"),
             TrapReason::Count { passed, taken } => {
                 format!(in alloc; "it passes {passed}, and its block takes {taken}")
             }

@@ -1,7 +1,7 @@
 //! Runs before and after passes.
 ghost use Rattle.std.specs.Prelude.{◌≡◌, map, IfOk, IfSome, string_bytes};
 ghost use Rattle.pliron_core.specs.Writes.{no_tree};
-ghost use Rattle.pliron_laws.specs.Datum.{Number as NumberOf};
+ghost use Rattle.pliron_evaluator.specs.Evaluator.{datum_of_value};
 ghost use Rattle.pliron_driver.specs.Ran.{RunsAlone};
 ghost use Rattle.pliron_show_commands.specs.Asked.{EndsByPlannedRuns, EndsByListWord};
 ghost use Rattle.pliron_show_commands.specs.Compared.{AreSightsSeen, EndsCompared, EndsWith, are_same_sights, are_same_so_far, effects_of_sight, is_cut_off as was_cut_off, is_start as is_start_of};
@@ -12,7 +12,7 @@ use crate::optimising::misspelling_outcome;
 use crate::outcome::{Outcome, failure_outcome, no_passes_outcome};
 use crate::refusal::refused_outcome;
 use pliron_core::Context;
-use pliron_driver::run_alone;
+use pliron_driver::{Document, run_alone};
 use pliron_driver_instrument::{
     InstrumentationOptions, InstrumentedPipeline, InstrumentedStep, PipelineText, PlanError,
     Timeless, instrumented_pipeline,
@@ -20,7 +20,7 @@ use pliron_driver_instrument::{
 use pliron_evaluator::evaluator::{Datum, Notes, Sight};
 use pliron_laws::OptError;
 use pliron_pass::{BenchFactKind, Pass};
-use pliron_show::{RunOptions, Runnable, sight_text};
+use pliron_show::{RunOptions, Runnable, read_shown, sight_text};
 use pliron_show_places::Source;
 use std::alloc::{AllocError, Global};
 
@@ -38,6 +38,13 @@ pub struct CompareOptions<'w> {
 pub struct Sights {
     pub before: Sight,
     pub after: Sight,
+}
+
+/// What is seen of the runs of a text, and what it says beside the tree.
+#[derive(Drop)]
+pub struct SeenRuns<S> {
+    pub sights: Sights,
+    pub sheet: S,
 }
 
 /// How two runs compare.
@@ -119,7 +126,7 @@ fn likeness_of(sights: &Sights) -> Likeness
 }
 
 /// Reads a text of any notation into the context, and answers what is seen of a run of its operation, and of one after
-/// the passes of the pipeline; `None` for an unreadable text.
+/// the passes of the pipeline, with its sheet; `None` for an unreadable text.
 ///
 /// Asks that the context is empty. Errors: those of the passes; allocation failure. Cost: reading, two runs, and the
 /// passes.
@@ -130,20 +137,24 @@ pub fn compare_text<N: Runnable>(
     options: &RunOptions,
     pipeline: &mut InstrumentedPipeline<N, Timeless>,
     ctx: &mut Context,
-) -> Result<Option<Sights>, OptError>
+) -> Result<Option<SeenRuns<N::Sheet>>, OptError>
     requires { ctx.old.tree ≡ no_tree }
-    ensures { IfOk result (λ found. IfSome found (AreSightsSeen N.reads N.D.meaning
-        (map NumberOf options.now.inputs.now) (map NumberOf options.now.world.now)
+    ensures { IfOk result (λ found. IfSome found (λ seen. AreSightsSeen N.reads N.D.meaning
+        (map datum_of_value options.now.inputs.now) (map datum_of_value options.now.world.now)
         options.now.steps (RunsAlone ⟦<BenchFactKind as PartialEq>⟧.eq
-        ⟦<InstrumentedPipeline<N, Timeless> as Pass>⟧.outcome pipeline.old) text.now)) }
+        ⟦<InstrumentedPipeline<N, Timeless> as Pass>⟧.outcome pipeline.old) text.now seen.sights)) }
 {
-    let Some(root) = N::read(alloc, text, ctx)? else {
+    let Some(document) = read_shown::<N>(alloc, text, ctx)? else {
         return Ok(None);
     };
+    let Document { root, sheet } = document;
     let before = N::run_sight(alloc, root, ctx, options, &mut Notes::of_last(alloc))?;
     let _status = run_alone(alloc, pipeline, root, ctx)?;
     let after = N::run_sight(alloc, root, ctx, options, &mut Notes::of_last(alloc))?;
-    Ok(Some(Sights { before, after }))
+    Ok(Some(SeenRuns {
+        sights: Sights { before, after },
+        sheet,
+    }))
 }
 
 // The last line of what is written.
@@ -158,12 +169,17 @@ fn line_of(likeness: Likeness) -> &'static str
 }
 
 // What is seen: once where it is the same of both.
-fn seen_text(alloc: Global, sights: &Sights, likeness: Likeness) -> Result<String, AllocError> {
-    let before = sight_text(alloc, &sights.before)?;
+fn seen_text<N: Runnable>(
+    alloc: Global,
+    sights: &Sights,
+    sheet: &N::Sheet,
+    likeness: Likeness,
+) -> Result<String, AllocError> {
+    let before = sight_text::<N>(alloc, sheet, &sights.before)?;
     match likeness {
         Likeness::Same => Ok(before),
         Likeness::SoFar | Likeness::Different => {
-            let after = sight_text(alloc, &sights.after)?;
+            let after = sight_text::<N>(alloc, sheet, &sights.after)?;
             format!(in alloc; "before: {before}after: {after}")
         }
     }
@@ -171,14 +187,15 @@ fn seen_text(alloc: Global, sights: &Sights, likeness: Likeness) -> Result<Strin
 
 // What is written of the runs: what is seen, and whether it is the same.
 #[tactic(auto, using(crate::proofs::CommandLemmas::ends_with))]
-fn comparison_text(
+fn comparison_text<N: Runnable>(
     alloc: Global,
     sights: &Sights,
+    sheet: &N::Sheet,
     likeness: Likeness,
 ) -> Result<Vec<u8>, AllocError>
     ensures { IfOk result (λ text. EndsWith (last_line likeness) text.items) }
 {
-    let mut text = seen_text(alloc, sights, likeness)?;
+    let mut text = seen_text::<N>(alloc, sights, sheet, likeness)?;
     text.push_str(line_of(likeness))?;
     Ok(text.into_bytes())
 }
@@ -196,12 +213,16 @@ fn status_of(likeness: Likeness) -> u8
 
 // The outcome of these runs.
 #[tactic(auto, using(crate::proofs::CommandLemmas::reported_likeness))]
-fn outcome_of(alloc: Global, sights: &Sights) -> Result<Outcome, AllocError>
+fn outcome_of<N: Runnable>(
+    alloc: Global,
+    sights: &Sights,
+    sheet: &N::Sheet,
+) -> Result<Outcome, AllocError>
     ensures { IfOk result (EndsLike ⟦<Sight as PartialEq>⟧.eq ⟦<Datum as PartialEq>⟧.eq sights.now) }
 {
     let likeness = likeness_of(sights);
     Ok(Outcome {
-        output: comparison_text(alloc, sights, likeness)?,
+        output: comparison_text::<N>(alloc, sights, sheet, likeness)?,
         report: String::new(alloc),
         status: status_of(likeness),
     })
@@ -218,14 +239,14 @@ fn compare_in<N: Runnable>(
     ctx: &mut Context,
 ) -> Result<Outcome, AllocError>
     requires { ctx.old.tree ≡ no_tree }
-    ensures { IfOk result (EndsCompared N.reads N.D.meaning (map NumberOf options.now.inputs.now)
-        (map NumberOf options.now.world.now) options.now.steps N.faults
+    ensures { IfOk result (EndsCompared N.reads N.D.meaning (map datum_of_value options.now.inputs.now)
+        (map datum_of_value options.now.world.now) options.now.steps N.faults
         ⟦<Sight as PartialEq>⟧.eq ⟦<Datum as PartialEq>⟧.eq (RunsAlone ⟦<BenchFactKind as PartialEq>⟧.eq
         ⟦<InstrumentedPipeline<N, Timeless> as Pass>⟧.outcome pipeline.old)
         source.now.text.now) }
 {
     match compare_text(alloc, source.text, options, pipeline, ctx) {
-        Ok(Some(sights)) => outcome_of(alloc, &sights),
+        Ok(Some(seen)) => outcome_of::<N>(alloc, &seen.sights, &seen.sheet),
         Ok(None) => failure_outcome::<N>(alloc, CommandFailure::Text, source),
         Err(error) => refused_outcome::<N>(alloc, source, error, plan),
     }
@@ -239,8 +260,8 @@ fn compare_with<N: Runnable>(
     plan: &PipelineText,
     pipeline: &mut InstrumentedPipeline<N, Timeless>,
 ) -> Result<Outcome, AllocError>
-    ensures { IfOk result (EndsCompared N.reads N.D.meaning (map NumberOf options.now.inputs.now)
-        (map NumberOf options.now.world.now) options.now.steps N.faults
+    ensures { IfOk result (EndsCompared N.reads N.D.meaning (map datum_of_value options.now.inputs.now)
+        (map datum_of_value options.now.world.now) options.now.steps N.faults
         ⟦<Sight as PartialEq>⟧.eq ⟦<Datum as PartialEq>⟧.eq (RunsAlone ⟦<BenchFactKind as PartialEq>⟧.eq
         ⟦<InstrumentedPipeline<N, Timeless> as Pass>⟧.outcome pipeline.old)
         source.now.text.now) }
@@ -258,8 +279,8 @@ fn compare_by<N: Runnable>(
     plan: &PipelineText,
 ) -> Result<Outcome, AllocError>
     ensures { IfOk result (EndsByPlannedRuns ⟦<InstrumentedStep<N, Timeless> as Pass>⟧.name
-        (λ pipeline. EndsCompared N.reads N.D.meaning (map NumberOf options.now.inputs.now)
-        (map NumberOf options.now.world.now) options.now.steps N.faults ⟦<Sight as PartialEq>⟧.eq
+        (λ pipeline. EndsCompared N.reads N.D.meaning (map datum_of_value options.now.inputs.now)
+        (map datum_of_value options.now.world.now) options.now.steps N.faults ⟦<Sight as PartialEq>⟧.eq
         ⟦<Datum as PartialEq>⟧.eq (RunsAlone ⟦<BenchFactKind as PartialEq>⟧.eq
         ⟦<InstrumentedPipeline<N, Timeless> as Pass>⟧.outcome pipeline) source.now.text.now)
         plan.now.runs plan.now.nested (map (λ name. name.now) plan.now.names.items)) }
@@ -285,8 +306,8 @@ pub fn compare<N: Runnable>(
     options: &CompareOptions,
 ) -> Result<Outcome, AllocError>
     ensures { IfOk result (EndsByListWord ⟦<InstrumentedStep<N, Timeless> as Pass>⟧.name
-        (λ pipeline. EndsCompared N.reads N.D.meaning (map NumberOf options.now.run.inputs.now)
-        (map NumberOf options.now.run.world.now) options.now.run.steps N.faults ⟦<Sight as PartialEq>⟧.eq
+        (λ pipeline. EndsCompared N.reads N.D.meaning (map datum_of_value options.now.run.inputs.now)
+        (map datum_of_value options.now.run.world.now) options.now.run.steps N.faults ⟦<Sight as PartialEq>⟧.eq
         ⟦<Datum as PartialEq>⟧.eq (RunsAlone ⟦<BenchFactKind as PartialEq>⟧.eq
         ⟦<InstrumentedPipeline<N, Timeless> as Pass>⟧.outcome pipeline) source.now.text.now)
         (N.faults source.now.text.now) options.now.pipeline.now) }

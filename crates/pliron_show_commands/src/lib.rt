@@ -25,7 +25,7 @@ mod unfit_report;
 mod violation_message;
 
 pub use checking::{CheckOutcome, check, check_text};
-pub use comparing::{CompareOptions, Sights, compare, compare_text};
+pub use comparing::{CompareOptions, SeenRuns, Sights, compare, compare_text};
 pub use drawing::{draw_flow, draw_graph};
 pub use explaining::{ExplainOptions, explain};
 pub use failure::CommandFailure;
@@ -33,6 +33,7 @@ pub use optimising::{OptOptions, misspelling_outcome, opt};
 pub use outcome::Outcome;
 pub use pliron_driver::BenchNotation;
 pub use pliron_driver_instrument::{InstrumentationOptions, PipelineText, PlanError, Progress};
+pub use pliron_evaluator::evaluator::Datum;
 pub use pliron_show::{EffectSink, RunOptions, Runnable, ShownNotation};
 pub use pliron_show_graphs::FlowOptions;
 pub use pliron_show_places::{

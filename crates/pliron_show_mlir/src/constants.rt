@@ -22,8 +22,8 @@ pub fn push_integer(out: &mut Vec<u8>, width: u32, bits: u64) -> Result<(), Allo
     write_signed(width, bits, out)
 }
 
-// Adds the integer with its type; a truth needs none.
-fn push_typed(out: &mut Vec<u8>, width: u32, bits: u64) -> Result<(), AllocError> {
+/// Adds the integer with its type; a truth needs none. Errors: allocation failure. Cost: constant.
+pub fn push_typed(out: &mut Vec<u8>, width: u32, bits: u64) -> Result<(), AllocError> {
     write_signed(width, bits, out)?;
     if width != 1 {
         out.extend_from_slice(b" : ")?;
@@ -32,8 +32,9 @@ fn push_typed(out: &mut Vec<u8>, width: u32, bits: u64) -> Result<(), AllocError
     Ok(())
 }
 
-// Adds a constant that is no integer, as its text has it: its value, or else its name with its properties.
-fn push_form(out: &mut Vec<u8>, form: OperationForm, sheet: &Sheet) -> Result<(), AllocError> {
+/// Adds a constant that is no integer, as its text has it: its value, or else its name with its properties. Errors:
+/// allocation failure. Cost: linear in the text.
+pub fn push_form(out: &mut Vec<u8>, form: OperationForm, sheet: &Sheet) -> Result<(), AllocError> {
     let listed = match form.properties.or(form.attributes) {
         Some(number) => sheet.text(number),
         None => &[],

@@ -3,3 +3,4 @@ pub mod Isolated
 pub mod Layout
 pub mod Messages
 pub mod Laid
+pub mod Places

@@ -24,14 +24,26 @@ fn flag<'a>(alloc: Global, name: &'a str, help: &'a str) -> Arg<'a> {
         .help(help)
 }
 
-fn numbers<'a>(alloc: Global, name: &'a str, help: &'a str) -> Arg<'a> {
-    Arg::new(alloc, name)
+/// What the data of runs are.
+#[derive(Clone, Copy, PartialEq, Eq)]
+enum DataWords {
+    /// Numbers of 64 signed bits.
+    Numbers,
+    Any,
+}
+
+fn data<'a>(alloc: Global, name: &'a str, help: &'a str, words: DataWords) -> Arg<'a> {
+    let arg = Arg::new(alloc, name)
         .long(name)
         .value_name("N")
         .action(ArgAction::Append)
-        .allow_negative_numbers(true)
-        .value_parser(value_parser!(i64))
-        .help(help)
+        .help(help);
+    match words {
+        DataWords::Numbers => arg
+            .allow_negative_numbers(true)
+            .value_parser(value_parser!(i64)),
+        DataWords::Any => arg.allow_hyphen_values(true),
+    }
 }
 
 fn steps<'a>(alloc: Global) -> Arg<'a> {
@@ -95,22 +107,15 @@ static RUN_STATUSES: &str =
      can't be used; 3 where the run traps or is cut off. With --compare: 0 where both runs end or trap and the \
      same is seen; 3 where one is cut off or something differs.";
 
-fn run<'a, P: Program>(alloc: Global) -> Result<Command<'a>, AllocError> {
+fn run<'a, P: Program>(alloc: Global, words: DataWords) -> Result<Command<'a>, AllocError> {
+    let (input, world) = P::data_help();
     let run = Command::new(alloc, "run")
         .about("Runs a text, and writes its effects as they come and how it ends")
         .after_help(RUN_STATUSES)
         .arg(file(alloc))?
         .arg(output(alloc))?
-        .arg(numbers(
-            alloc,
-            "input",
-            "A value for the text's operation; once for each, in order",
-        ))?
-        .arg(numbers(
-            alloc,
-            "world",
-            "What the world answers to an effect; once for each, in order",
-        ))?
+        .arg(data(alloc, "input", input, words))?
+        .arg(data(alloc, "world", world, words))?
         .arg(steps(alloc))?
         .arg(flag(
             alloc,
@@ -395,14 +400,18 @@ fn with<'a>(
     }
 }
 
-fn command<'a, P: Program>(alloc: Global, name: &'a str) -> Result<Command<'a>, AllocError> {
+fn command<'a, P: Program>(
+    alloc: Global,
+    name: &'a str,
+    words: DataWords,
+) -> Result<Command<'a>, AllocError> {
     let all = Command::new(alloc, name)
         .version("0.1.0")
         .about(P::about())
         .after_help(P::beside())
         .subcommand_required(true)
         .arg_required_else_help(true);
-    let all = with(all, run::<P>(alloc))?;
+    let all = with(all, run::<P>(alloc, words))?;
     let all = with(all, check::<P>(alloc))?;
     let all = with(all, opt::<P>(alloc))?;
     let all = with(all, dot::<P>(alloc))?;
@@ -420,5 +429,30 @@ pub fn parse_arguments<'a, P: Program>(
         Some(word) => word.as_str(),
         None => "",
     };
-    command::<P>(alloc, name)?.try_get_matches_from(words)
+    let numbers = command::<P>(alloc, name, DataWords::Numbers)?;
+    match numbers.try_get_matches_from(words) {
+        Err(error) => match other_matches::<P>(alloc, name, words)? {
+            Some(matches) => Ok(matches),
+            None => Err(error),
+        },
+        matches => matches,
+    }
+}
+
+// What the words ask for where `run` takes other data than numbers, if they do.
+fn other_matches<'a, P: Program>(
+    alloc: Global,
+    name: &'a str,
+    words: &'a [String],
+) -> Result<Option<ArgMatches<'a>>, Error> {
+    match command::<P>(alloc, name, DataWords::Any)?.try_get_matches_from(words) {
+        Ok(matches) => {
+            let takes = match matches.subcommand() {
+                Some((command, inner)) => command == "run" && P::takes_other_data(inner),
+                None => false,
+            };
+            Ok(if takes { Some(matches) } else { None })
+        }
+        Err(_) => Ok(None),
+    }
 }

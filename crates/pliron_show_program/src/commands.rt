@@ -8,22 +8,55 @@ use crate::pipeline::{pipeline_and_file, without_blanks};
 use crate::program::Program;
 use clap::ArgMatches;
 use pliron_show_commands::{
-    CompareOptions, EffectSink, ExplainOptions, FlowOptions, JsonObject, Outcome, RunOptions,
-    Runnable, ShownNotation, Source, TextRange, check, compare, draw_flow, draw_graph, explain,
-    run, run_streamed, unfit_warning,
+    CompareOptions, Datum, EffectSink, ExplainOptions, FlowOptions, JsonObject, Outcome,
+    RunOptions, Runnable, ShownNotation, Source, TextRange, check, compare, draw_flow, draw_graph,
+    explain, run, run_streamed, unfit_warning,
 };
 use std::alloc::{AllocError, Global};
 use std::io;
 
-// The numbers that an option was given.
-fn numbers(alloc: Global, matches: &ArgMatches, id: &str) -> io::Result<Vec<i64>> {
-    let mut numbers = Vec::new(alloc);
-    if let Some(words) = matches.get_strs(id) {
+/// The data that a run is given, or the option and the word that say none.
+#[derive(Drop)]
+enum Given<'a> {
+    Data(Vec<Datum>),
+    Word(&'static str, &'a str),
+}
+
+// The values that the operation gets.
+fn inputs_of<'a, N: Runnable>(alloc: Global, matches: &ArgMatches<'a>) -> io::Result<Given<'a>> {
+    let mut data = Vec::new(alloc);
+    if let Some(words) = matches.get_strs("input") {
         for word in words {
-            numbers.push(word.parse::<i64>().unwrap_or(0))?;
+            match N::input_of_word(alloc, *word)? {
+                Some(datum) => data.push(datum)?,
+                None => return Ok(Given::Word("input", *word)),
+            }
         }
     }
-    Ok(numbers)
+    Ok(Given::Data(data))
+}
+
+// The answers of the world.
+fn world_of<'a, N: Runnable>(alloc: Global, matches: &ArgMatches<'a>) -> io::Result<Given<'a>> {
+    let mut data = Vec::new(alloc);
+    if let Some(words) = matches.get_strs("world") {
+        for word in words {
+            match N::answer_of_word(alloc, *word)? {
+                Some(datum) => data.push(datum)?,
+                None => return Ok(Given::Word("world", *word)),
+            }
+        }
+    }
+    Ok(Given::Data(data))
+}
+
+// The outcome of a run that was given a word which says no datum.
+fn no_datum_outcome<N: Runnable>(alloc: Global, option: &str, word: &str) -> io::Result<Outcome> {
+    let help = N::words_of_data();
+    let report = format!(in alloc;
+        "error: `{word}` says nothing for --{option}\nhelp: give {help}\n"
+    )?;
+    Ok(input_failure(alloc, report))
 }
 
 // Runs the text with these options, before and after these passes.
@@ -53,18 +86,37 @@ impl EffectSink for Effects<'_> {
     }
 }
 
-// Runs the text as the words ask, or before and after passes.
-fn run_as_asked<N: Runnable>(
+/// Runs the text as the words ask, or before and after passes. Errors: those of the streams; allocation failure. Cost: that
+/// of the runs.
+pub fn run_as_asked<N: Runnable>(
     rt: &HostRuntime,
     source: &Source,
     matches: &ArgMatches,
 ) -> io::Result<Outcome> {
     let alloc = rt.alloc();
-    let inputs = numbers(alloc, matches, "input")?;
-    let world = numbers(alloc, matches, "world")?;
+    let inputs = match inputs_of::<N>(alloc, matches)? {
+        Given::Data(inputs) => inputs,
+        Given::Word(option, word) => return no_datum_outcome::<N>(alloc, option, word),
+    };
+    let world = match world_of::<N>(alloc, matches)? {
+        Given::Data(world) => world,
+        Given::Word(option, word) => return no_datum_outcome::<N>(alloc, option, word),
+    };
+    run_on::<N>(rt, source, matches, &inputs, &world)
+}
+
+// Runs the text on these inputs in a world that answers so.
+fn run_on<N: Runnable>(
+    rt: &HostRuntime,
+    source: &Source,
+    matches: &ArgMatches,
+    inputs: &[Datum],
+    world: &[Datum],
+) -> io::Result<Outcome> {
+    let alloc = rt.alloc();
     let options = RunOptions {
-        inputs: &inputs,
-        world: &world,
+        inputs,
+        world,
         steps: matches.get_one::<usize>("steps").unwrap_or(100_000),
         trace: matches.get_flag("trace"),
         json: matches.get_flag("json"),

@@ -16,7 +16,7 @@ mod output;
 mod pipeline;
 mod program;
 
-pub use commands::{input_failure, no_operation_outcome, outcome_in, unread_outcome};
+pub use commands::{input_failure, no_operation_outcome, outcome_in, run_as_asked, unread_outcome};
 pub use format::TextFormat;
 pub use host::run_program;
 pub use input::{CommandInput, bytes_of, input_name};

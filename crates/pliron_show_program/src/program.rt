@@ -43,6 +43,19 @@ pub trait Program {
         ""
     }
 
+    /// What its help says of the options `--input` and `--world` of `run`, in turn. Cost: constant.
+    fn data_help() -> (&'static str, &'static str) {
+        (
+            "A value for the text's operation; once for each, in order",
+            "What the world answers to an effect; once for each, in order",
+        )
+    }
+
+    /// Whether `run` takes other data by these words than numbers of 64 signed bits. Cost: constant.
+    fn takes_other_data(_run: &ArgMatches) -> bool {
+        false
+    }
+
     /// What the command makes of an input that isn't in the notation of its texts; `None` for one that is. Errors: those
     /// of the input; allocation failure. Cost: that of the command.
     fn other_outcome(

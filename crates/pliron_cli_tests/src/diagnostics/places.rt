@@ -1,12 +1,13 @@
 //! Where operations are in texts, in which `|` stands for the end of a line.
 use crate::diagnostics::lines::with_lines;
-use pliron_show_places::operation_places;
+use pliron_show_places::{operation_places, parts_of};
 use std::alloc::Global;
 use std::process::Abort;
 
 fn expect_places(rt: &impl Abort, alloc: Global, text: &str, wanted: &str) {
     let lines = with_lines(alloc, text).expect(rt, "memory");
-    let places = operation_places(alloc, lines.as_bytes()).expect(rt, "memory");
+    let parts = parts_of(alloc, lines.as_bytes()).expect(rt, "memory");
+    let places = operation_places(alloc, lines.as_bytes(), &parts).expect(rt, "memory");
     let mut reported = String::new(alloc);
     for place in &places {
         let place = *place;

@@ -2,6 +2,7 @@
 //! the end of a line.
 use crate::diagnostics::lines::with_lines;
 use pliron_driver::BenchNotation;
+use pliron_evaluator::evaluator::Datum;
 use pliron_show::{EffectSink, End, RunOptions, run_text, run_text_streamed};
 use pliron_show_places::Source;
 use std::alloc::Global;
@@ -35,8 +36,8 @@ func { b0(x, y): z = const 0; w = div x z; ret w } => trapped|";
 #[test]
 fn runs_are_seen(rt: HostRuntime) {
     let options = RunOptions {
-        inputs: &[3, 4],
-        world: &[7, 8],
+        inputs: &[Datum::Number(3), Datum::Number(4)],
+        world: &[Datum::Number(7), Datum::Number(8)],
         steps: 20,
         trace: false,
         json: false,
@@ -65,8 +66,8 @@ fn expect_last_move(rt: &impl Abort, alloc: Global, text: &str, wanted: &str) {
         text: text.as_bytes(),
     };
     let options = RunOptions {
-        inputs: &[3, 4],
-        world: &[7, 8],
+        inputs: &[Datum::Number(3), Datum::Number(4)],
+        world: &[Datum::Number(7), Datum::Number(8)],
         steps: 20,
         trace: false,
         json: false,
@@ -130,7 +131,7 @@ fn moves_and_traps_are_reported(rt: HostRuntime) {
         text: TURNS.as_bytes(),
     };
     let options = RunOptions {
-        inputs: &[1],
+        inputs: &[Datum::Number(1)],
         world: &[],
         steps: 100,
         trace: true,
@@ -195,8 +196,8 @@ static LONG: &str =
 fn effects_come_while_a_run_continues(rt: HostRuntime) {
     for steps in [3, 4100, 100_000] {
         let options = RunOptions {
-            inputs: &[3],
-            world: &[7, 8],
+            inputs: &[Datum::Number(3)],
+            world: &[Datum::Number(7), Datum::Number(8)],
             steps,
             trace: false,
             json: false,

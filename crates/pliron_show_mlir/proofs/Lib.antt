@@ -1,0 +1,3 @@
+mod FunctionLemmas
+mod LostLemmas
+mod WordLemmas

@@ -1,0 +1,3 @@
+pub mod RunWords
+pub mod LostNumbers
+pub mod Functions
