@@ -1,0 +1,4 @@
+pub mod Kept
+pub mod Erasing
+pub mod ErasedStates
+pub mod Rows
