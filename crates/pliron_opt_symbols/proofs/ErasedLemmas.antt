@@ -17,7 +17,7 @@ use Rattle.pliron_theory.specs.Sweeping.{IsSwept, AreNotLive, AreAway, GivesNow}
 use Rattle.pliron_theory.proofs.Keeping.{keeps_refl, keeps_trans}
 use Rattle.pliron_theory.proofs.ErasedKeeps.{op_erased, block_erased_with, erased_swept, erased_gone, erased_keeps}
 use Rattle.pliron_theory.proofs.SweptParts.{place_forth, within_forth, made_same, user_lives, jumper_lives, block_place_back, within_back, lives, gone_away}
-use Rattle.pliron_opt_symbols.specs.Erasing.{erased_in_turn, AreErasable, IsNoRoot}
+use Rattle.pliron_opt_symbols.specs.Erasing.{erased_in_turn, AreErasableFunctions, IsNoRoot}
 use Rattle.pliron_opt_symbols.specs.ErasedStates.{AreErased}
 
 pub turn_more : (t : Tree) (fs : List ℕ) (f : ℕ) → erased_in_turn t (fs ++ f ∷ []) ≡ after_erasing (erased_in_turn t fs) f
@@ -109,7 +109,7 @@ module _ (u v : Tree) (holder f : ℕ) (w : IsTree u) (w' : IsTree v) (is : v �
         (within_forth u v (λ k. op_erased u f k) (λ b. block_erased_with u f b) w w' swept g x l (h.blocks x b j (holds_back g b within))).0;
   }
 
-  pub rest_erasable : (rest : List ℕ) → AreErasable u holder (f ∷ rest) → AreErasable v holder rest
+  pub rest_erasable : (rest : List ℕ) → AreErasableFunctions u holder (f ∷ rest) → AreErasableFunctions v holder rest
   rest_erasable rest h = record {
     parents = λ g i. sibling_stays g (h.parents g (inr i)) (λ e. h.distinct.0 (subst (λ z. In z rest) e i));
     contained = λ g i. contained_stays g (h.contained g (inr i));

@@ -14,7 +14,7 @@ use Rattle.pliron_pass_linked.specs.Calls.{Call, CallingConvention}
 use Rattle.pliron_rewrite_symbols.specs.ErasedFunctions.{IsFunctionIn, MayCall, CallNoErased}
 use Rattle.pliron_rewrite_symbols.specs.Callers.{CallOnlyCallees}
 use Rattle.pliron_rewrite_symbols.proofs.ErasedFunctions.{functions_erased}
-use Rattle.pliron_opt_symbols.specs.Kept.{SymbolReads, IsKept, IsKept.Called, AreUnkept, IsTracedModule}
+use Rattle.pliron_opt_symbols.specs.Kept.{SymbolReads, IsKeptInModule, IsKeptInModule.Called, AreUnkept, IsTracedModule}
 use Rattle.pliron_opt_symbols.specs.Erasing.{IsNoRoot, KeepsRunsInside}
 use Rattle.pliron_opt_symbols.specs.ErasedStates.{AreErased}
 
@@ -43,7 +43,7 @@ module _ (m : Meaning) (c : CallingConvention) (s : SymbolReads) (t u : Tree) (h
       calls : option_and_then s.callee (head_of t k) ≡ Some name
       calls = ap (option_and_then s.callee) before ∙ callee_shown m c s chosen u k name callers may (module_is.traced f k own a (erased.within f k within) may.operation.head before)
 
-      go : IsKept c s t holder f → IsLive u g
+      go : IsKeptInModule c s t holder f → IsLive u g
       go kept = held_live u w' g holder (erased.left g b.parent (λ i. unkept.unkept g i (Called f k g name kept (erased.within f k within) calls b)))
 
   pub runs_kept_inside : KeepsRunsInside m c t u holder

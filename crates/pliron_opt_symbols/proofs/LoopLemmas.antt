@@ -11,7 +11,7 @@ use Rattle.pliron_laws.specs.Datum.{Datum}
 use Rattle.pliron_graph_traversal.specs.Adjacency.{row}
 use Rattle.pliron_pass_linked.specs.Calls.{CallingConvention}
 use Rattle.pliron_opt_symbols.specs.Kept.{SymbolReads}
-use Rattle.pliron_opt_symbols.specs.Rows.{IsNodeCalledIn, IsNodeCalledBeside, IsAlone, IsStayingNode, AreSorted, Gets, OfOne, AreRows}
+use Rattle.pliron_opt_symbols.specs.Rows.{IsNodeCalledIn, IsNodeCalledBeside, IsAlone, IsStayingNode, AreSorted, Gets, OfOne, AreCallRows}
 use Rattle.pliron_opt_symbols.proofs.RowLemmas.{gets_by, gets_push, gets_then}
 
 below_more : (i n : ℕ) → i < n + 1 → (i < n) ⊎ (i ≡ n)
@@ -94,7 +94,7 @@ module _ (c : CallingConvention) (s : SymbolReads) (t : Tree) (holder : ℕ) (fu
       head : row (rows ++ r ∷ []) 0 ≡ row rows 0
       head = row_kept rows r 0 (let l = h.long in omega (arith, l))
 
-  pub rows_end : (rows : List (List ℕ)) → RowsSoFar (length functions) rows → AreRows c s t holder functions names rows
+  pub rows_end : (rows : List (List ℕ)) → RowsSoFar (length functions) rows → AreCallRows c s t holder functions names rows
   rows_end rows h = record { long = h.long; first = h.first; sorted = h.sorted; each = λ i f at v. h.each i f (slice_get_within functions i f at) at v }
 
 pub map_last : {A B : Type 0} (f : A → B) (xs : List A) (x : A) → map f (xs ++ x ∷ []) ≡ map f xs ++ f x ∷ []

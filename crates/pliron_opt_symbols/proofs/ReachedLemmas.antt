@@ -16,8 +16,8 @@ use Rattle.pliron_graph_calls.specs.CallSites.{callee_at}
 use Rattle.pliron_graph_calls.specs.FunctionNames.{symbol_at, functions_among, names_among}
 use Rattle.pliron_graph_calls.specs.Namesakes.{HasNamesakes}
 use Rattle.pliron_rewrite_symbols.specs.ErasedFunctions.{IsFunctionIn}
-use Rattle.pliron_opt_symbols.specs.Kept.{SymbolReads, MayGo, IsKept, IsKept.Stays, IsKept.Called}
-use Rattle.pliron_opt_symbols.specs.Rows.{IsCalleeNode, IsNodeCalledIn, AreRows}
+use Rattle.pliron_opt_symbols.specs.Kept.{SymbolReads, MayBeErased, IsKeptInModule, IsKeptInModule.Stays, IsKeptInModule.Called}
+use Rattle.pliron_opt_symbols.specs.Rows.{IsCalleeNode, IsNodeCalledIn, AreCallRows}
 use Rattle.pliron_opt_symbols.proofs.FunctionLemmas.{listed_at, place_of_function, function_at, is_function, has_symbol, is_child}
 
 -- one edge more
@@ -28,11 +28,11 @@ path_more g (x ∷ ws) u v w p e = (p.0, path_more g ws x v w p.1 e)
 reached_more : (g : Digraph ℕ) (roots : List ℕ) (v w : ℕ) → IsReached g roots v → Contains (g.succ v) w → IsReached g roots w
 reached_more g roots v w r e = (r.0, r.1, (r.2.0 ++ w ∷ [], path_more g r.2.0 r.0 v w r.2.1 e))
 
-kept_parent : (c : CallingConvention) (s : SymbolReads) (t : Tree) (holder x : ℕ) → IsKept c s t holder x → parent_operation_of t x ≡ Some holder
+kept_parent : (c : CallingConvention) (s : SymbolReads) (t : Tree) (holder x : ℕ) → IsKeptInModule c s t holder x → parent_operation_of t x ≡ Some holder
 kept_parent c s t holder x (Stays y e cannot) = e
 kept_parent c s t holder f (Called x k g name kept i e function) = function.parent
 
-module _ (c : CallingConvention) (s : SymbolReads) (t : Tree) (w : IsTree t) (holder : ℕ) (rows : List (List ℕ)) (h : AreRows c s t holder (functions_among c t (children t holder)) (names_among c t (children t holder)) rows) where
+module _ (c : CallingConvention) (s : SymbolReads) (t : Tree) (w : IsTree t) (holder : ℕ) (rows : List (List ℕ)) (h : AreCallRows c s t holder (functions_among c t (children t holder)) (names_among c t (children t holder)) rows) where
   abbrev functions : List ℕ
   functions = functions_among c t (children t holder)
 
@@ -41,17 +41,17 @@ module _ (c : CallingConvention) (s : SymbolReads) (t : Tree) (w : IsTree t) (ho
 
   -- the first node, or that of a function that is kept
   abbrev Good : ℕ → Type 0
-  Good v = (v ≡ 0) ⊎ ((i : ℕ) × (f : ℕ) × (v ≡ suc i) × (slice_get functions i ≡ Some f) × IsKept c s t holder f)
+  Good v = (v ≡ 0) ⊎ ((i : ℕ) × (f : ℕ) × (v ≡ suc i) × (slice_get functions i ≡ Some f) × IsKeptInModule c s t holder f)
 
-  called_kept : (x v : ℕ) → IsKept c s t holder x → IsNodeCalledIn s.callee t names x v → Good v
+  called_kept : (x v : ℕ) → IsKeptInModule c s t holder x → IsNodeCalledIn s.callee t names x v → Good v
   called_kept x v kept y =
       let f = function_at c t (children t holder) y.2.place y.2.name y.2.named in
       inr (y.2.place, f.0, y.2.node, f.1, Called x y.0 f.0 y.2.name kept y.1 y.2.calls (is_function c t w holder f.0 y.2.name f.3 f.2))
 
   step_good : (u v : ℕ) → Good u → Contains (row rows u) v → Good v
   step_good u v (inl e) there = ⊎_elim
-      (λ x. called_kept x.0 v (Stays x.0 ((In-children t w x.0 holder).0 x.1) (λ (go : MayGo c s t holder x.0). not_none (sym x.2.0 ∙ has_symbol c t holder x.0 go.name go.function))) x.2.1)
-      (λ x. inr (x.0, x.1, x.2, x.3, Stays x.1 ((In-children t w x.1 holder).0 (listed_at c t (children t holder) x.0 x.1 x.3).listed) (λ (go : MayGo c s t holder x.1). x.4 (go.private, go.contained))))
+      (λ x. called_kept x.0 v (Stays x.0 ((In-children t w x.0 holder).0 x.1) (λ (go : MayBeErased c s t holder x.0). not_none (sym x.2.0 ∙ has_symbol c t holder x.0 go.name go.function))) x.2.1)
+      (λ x. inr (x.0, x.1, x.2, x.3, Stays x.1 ((In-children t w x.1 holder).0 (listed_at c t (children t holder) x.0 x.1 x.3).listed) (λ (go : MayBeErased c s t holder x.1). x.4 (go.private, go.contained))))
       ((h.first v).0 (subst (λ z. Contains (row rows z) v) e there))
   step_good u v (inr x) there = called_kept x.1 v x.4 ((h.each x.0 x.1 x.3 v).0 (subst (λ z. Contains (row rows z) v) x.2 there))
 
@@ -67,10 +67,10 @@ module _ (c : CallingConvention) (s : SymbolReads) (t : Tree) (w : IsTree t) (ho
     roots_first r i = let lt = i.1 in let at : i.0 ≡ 0 = omega (arith, lt) in sym (subst (λ k. slice_index_or (0 ∷ []) k r ≡ r) at i.2)
 
     -- a function whose node is reached is kept
-    pub reached_kept : (i f : ℕ) → slice_get functions i ≡ Some f → IsReached (graph_of g) (option_to_list (graph_of g).entry) (suc i) → IsKept c s t holder f
+    pub reached_kept : (i f : ℕ) → slice_get functions i ≡ Some f → IsReached (graph_of g) (option_to_list (graph_of g).entry) (suc i) → IsKeptInModule c s t holder f
     reached_kept i f at r = ⊎_elim
         (λ e. absurd (grind (arith, e)))
-        (λ x. let same : i ≡ x.0 = let e = x.2 in omega (arith, e) in subst (IsKept c s t holder) (same_Some x.1 f (sym x.3 ∙ ap (slice_get functions) (sym same) ∙ at)) x.4)
+        (λ x. let same : i ≡ x.0 = let e = x.2 in omega (arith, e) in subst (IsKeptInModule c s t holder) (same_Some x.1 f (sym x.3 ∙ ap (slice_get functions) (sym same) ∙ at)) x.4)
         (path_good r.2.0 r.0 (suc i) (inl (roots_first r.0 (subst (λ xs. Contains xs r.0) entry r.1))) r.2.1)
 
     abbrev Reached : ℕ → Type 0
@@ -93,7 +93,7 @@ module _ (c : CallingConvention) (s : SymbolReads) (t : Tree) (w : IsTree t) (ho
         record { place = i; node = refl; name = name; calls = e; named = x.named ∙ sym x.symbol ∙ own }
 
     -- the node of a function that is kept is reached
-    pub kept_reached : (x : ℕ) → IsKept c s t holder x → (i : ℕ) → slice_get functions i ≡ Some x → Reached (suc i)
+    pub kept_reached : (x : ℕ) → IsKeptInModule c s t holder x → (i : ℕ) → slice_get functions i ≡ Some x → Reached (suc i)
     kept_reached x (Stays y e cannot) i at = follows 0 (suc i) starts ((h.first (suc i)).1 (inr (i, x, refl, at, λ alone. let y = listed_at c t (children t holder) i x at in cannot (record { name = y.name; function = is_function c t w holder x y.name y.listed y.symbol; private = alone.0; contained = alone.1 }))))
     kept_reached f (Called x k g name kept within e function) i at = go (symbol_at c t x) refl (λ j there. kept_reached x kept j there)
       where

@@ -22,9 +22,9 @@ use Rattle.pliron_graph_calls.specs.FunctionNames.{NamedFunctions, AreNamedFunct
 use Rattle.pliron_graph_calls.specs.Names.{names_of}
 use Rattle.pliron_rewrite_symbols.specs.ErasedFunctions.{IsFunctionIn}
 use Rattle.pliron_graph_calls.specs.Namesakes.{HasNamesakes}
-use Rattle.pliron_opt_symbols.specs.Kept.{SymbolReads, IsKept, AreUnkept, IsTracedModule}
-use Rattle.pliron_opt_symbols.specs.Rows.{AreRows, IsAlone, AreAtOnePlace, AreUnlisted, IsReachedOrGone}
-use Rattle.pliron_opt_symbols.specs.Erasing.{AreErasable}
+use Rattle.pliron_opt_symbols.specs.Kept.{SymbolReads, IsKeptInModule, AreUnkept, IsTracedModule}
+use Rattle.pliron_opt_symbols.specs.Rows.{AreCallRows, IsAlone, AreAtOnePlace, AreUnlisted, IsReachedOrGone}
+use Rattle.pliron_opt_symbols.specs.Erasing.{AreErasableFunctions}
 use Rattle.pliron_opt_symbols.proofs.FunctionLemmas.{listed_at, place_of_function, one_place, is_function, has_symbol, is_child}
 use Rattle.pliron_opt_symbols.proofs.ReachedLemmas.{reached_kept, kept_reached, first_reached as kept_first}
 
@@ -61,7 +61,7 @@ module _ (functions found : List ℕ) where
       (λ y. subst (AreUnlisted functions found (n + 1)) (sym y.1) (unlisted_more once n f old at y.0 h))
       step
 
-module _ (c : CallingConvention) (s : SymbolReads) (t : Tree) (w : IsTree t) (holder : ℕ) (apart : HasNamesakes (names_among c t (children t holder)) → ⊥) (rows : List (List ℕ)) (h : AreRows c s t holder (functions_among c t (children t holder)) (names_among c t (children t holder)) rows) (g : Adjacency) (is : g.succ ≡ rows) where
+module _ (c : CallingConvention) (s : SymbolReads) (t : Tree) (w : IsTree t) (holder : ℕ) (apart : HasNamesakes (names_among c t (children t holder)) → ⊥) (rows : List (List ℕ)) (h : AreCallRows c s t holder (functions_among c t (children t holder)) (names_among c t (children t holder)) rows) (g : Adjacency) (is : g.succ ≡ rows) where
   abbrev Reached : ℕ → Type 0
   Reached v = IsReached (graph_of g) (option_to_list (graph_of g).entry) v
 
@@ -90,7 +90,7 @@ module _ (c : CallingConvention) (s : SymbolReads) (t : Tree) (w : IsTree t) (ho
     alone f i = let x = found.each f i in
         ⊎_elim (λ there. absurd (x.3 ((listed (suc x.0)).1 (kept_first c s t w holder rows h g is (suc x.0) there)))) (λ a. a) (h.sorted x.0 f x.1 x.2)
 
-    pub unreached_erasable : AreErasable t holder gone
+    pub unreached_erasable : AreErasableFunctions t holder gone
     unreached_erasable = record {
       parents = λ f i. let x = found.each f i in (In-children t w f holder).0 (listed_at c t (children t holder) x.0 f x.2).listed;
       contained = λ f i. (alone f i).1;
@@ -109,9 +109,9 @@ module _ (c : CallingConvention) (s : SymbolReads) (t : Tree) (w : IsTree t) (ho
       let y = listed_at c t (children t holder) j f (subst (λ xs. slice_get xs j ≡ Some f) a.functions at_j) in
       one_place (names_among c t (children t holder)) no_namesakes i j x.name x.named (y.named ∙ sym y.symbol ∙ x.symbol)
 
-  module _ (rows : List (List ℕ)) (h : AreRows c s t holder found.functions (names_of found.names) rows) (g : Adjacency) (is : g.succ ≡ rows) (nodes gone : List ℕ) (listed : (v : ℕ) → IsListed nat_eq nodes v ↔ IsReached (graph_of g) (option_to_list (graph_of g).entry) v) (u : AreUnlisted found.functions nodes (length found.functions) gone) where
-    rows_of : AreRows c s t holder (functions_among c t (children t holder)) (names_among c t (children t holder)) rows
-    rows_of = subst (λ xs. AreRows c s t holder xs (names_among c t (children t holder)) rows) a.functions (subst (λ xs. AreRows c s t holder found.functions xs rows) a.names h)
+  module _ (rows : List (List ℕ)) (h : AreCallRows c s t holder found.functions (names_of found.names) rows) (g : Adjacency) (is : g.succ ≡ rows) (nodes gone : List ℕ) (listed : (v : ℕ) → IsListed nat_eq nodes v ↔ IsReached (graph_of g) (option_to_list (graph_of g).entry) v) (u : AreUnlisted found.functions nodes (length found.functions) gone) where
+    rows_of : AreCallRows c s t holder (functions_among c t (children t holder)) (names_among c t (children t holder)) rows
+    rows_of = subst (λ xs. AreCallRows c s t holder xs (names_among c t (children t holder)) rows) a.functions (subst (λ xs. AreCallRows c s t holder found.functions xs rows) a.names h)
 
     unlisted_of : AreUnlisted (functions_among c t (children t holder)) nodes (length (functions_among c t (children t holder))) gone
     unlisted_of = subst (λ xs. AreUnlisted xs nodes (length xs) gone) a.functions u
@@ -119,7 +119,7 @@ module _ (c : CallingConvention) (s : SymbolReads) (t : Tree) (w : IsTree t) (ho
     pub table_unkept : AreUnkept c s t holder gone
     table_unkept = unreached_unkept c s t w holder no_namesakes rows rows_of g is nodes gone listed unlisted_of
 
-    pub table_erasable : AreErasable t holder gone
+    pub table_erasable : AreErasableFunctions t holder gone
     table_erasable = unreached_erasable c s t w holder no_namesakes rows rows_of g is nodes gone listed unlisted_of
 
   -- a function of the table is one directly in the operation
@@ -144,5 +144,5 @@ module _ (c : CallingConvention) (s : SymbolReads) (t : Tree) (w : IsTree t) (ho
   pub traced_functions : IsTracedModule c s t holder → (f k : ℕ) → In f found.functions → IsWithin t f k → HeadPasses s.is_traced t k
   traced_functions m f k i within = let x = in_table f i in m.traced f k x.0 x.1 within
 
-pub none_erasable : (t : Tree) (holder : ℕ) → AreErasable t holder []
+pub none_erasable : (t : Tree) (holder : ℕ) → AreErasableFunctions t holder []
 none_erasable t holder = record { parents = λ f i. absurd i; contained = λ f i. absurd i; distinct = tt }

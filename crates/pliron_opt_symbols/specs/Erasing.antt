@@ -25,7 +25,7 @@ pub record KeepsRunsInside (m : Meaning) (c : CallingConvention) (t u : Tree) (h
   pub linked : (chosen : Head → Bool) → IsNoRoot chosen t holder → KeepsProgramsWithout (with_roots m chosen) c t u holder
 
 -- these are directly in the operation, each once, and nothing outside one uses anything of it
-pub record AreErasable (t : Tree) (holder : ℕ) (fs : List ℕ) : Type 0 where
+pub record AreErasableFunctions (t : Tree) (holder : ℕ) (fs : List ℕ) : Type 0 where
   pub parents : (f : ℕ) → In f fs → parent_operation_of t f ≡ Some holder
   pub contained : (f : ℕ) → In f fs → IsSelfContained t f
   pub distinct : IsDistinct fs

@@ -23,7 +23,7 @@ abbrev pub symbol_reads : (Head → Option Datum) → (is_private is_traced : He
 symbol_reads callee is_private is_traced = record { callee = callee; is_private = is_private; is_traced = is_traced }
 
 -- a private function directly in the operation, of which nothing outside uses anything
-pub record MayGo (c : CallingConvention) (s : SymbolReads) (t : Tree) (holder f : ℕ) : Type 0 where
+pub record MayBeErased (c : CallingConvention) (s : SymbolReads) (t : Tree) (holder f : ℕ) : Type 0 where
   pub name : Datum
   pub function : IsFunctionIn c t holder f name
   pub private : HeadPasses s.is_private t f
@@ -31,15 +31,15 @@ pub record MayGo (c : CallingConvention) (s : SymbolReads) (t : Tree) (holder f 
 
 -- the least set of what is directly in the operation that has all but such functions, and each function that is called by its
 -- name within what the set has
-pub data IsKept (c : CallingConvention) (s : SymbolReads) (t : Tree) (holder : ℕ) : ℕ → Type 0 where
-  Stays : (x : ℕ) → parent_operation_of t x ≡ Some holder → (MayGo c s t holder x → ⊥) → IsKept c s t holder x
-  Called : (x k f : ℕ) (name : Datum) → IsKept c s t holder x → IsWithin t x k → callee_at s.callee t k ≡ Some name → IsFunctionIn c t holder f name → IsKept c s t holder f
+pub data IsKeptInModule (c : CallingConvention) (s : SymbolReads) (t : Tree) (holder : ℕ) : ℕ → Type 0 where
+  Stays : (x : ℕ) → parent_operation_of t x ≡ Some holder → (MayBeErased c s t holder x → ⊥) → IsKeptInModule c s t holder x
+  Called : (x k f : ℕ) (name : Datum) → IsKeptInModule c s t holder x → IsWithin t x k → callee_at s.callee t k ≡ Some name → IsFunctionIn c t holder f name → IsKeptInModule c s t holder f
 
 -- these are the functions directly in the operation that aren't kept
 pub record AreUnkept (c : CallingConvention) (s : SymbolReads) (t : Tree) (holder : ℕ) (gone : List ℕ) : Type 0 where
   pub functions : (f : ℕ) → In f gone → (name : Datum) × IsFunctionIn c t holder f name
-  pub unkept : (f : ℕ) → In f gone → IsKept c s t holder f → ⊥
-  pub others : (f : ℕ) (name : Datum) → IsFunctionIn c t holder f name → In f gone ⊎ IsKept c s t holder f
+  pub unkept : (f : ℕ) → In f gone → IsKeptInModule c s t holder f → ⊥
+  pub others : (f : ℕ) (name : Datum) → IsFunctionIn c t holder f name → In f gone ⊎ IsKeptInModule c s t holder f
 
 -- the operation is in no block, no two functions directly in it have one name, and all within these call their callees alone
 pub record IsTracedModule (c : CallingConvention) (s : SymbolReads) (t : Tree) (holder : ℕ) : Type 0 where

@@ -54,7 +54,7 @@ abbrev pub OfOne : List ℕ → (ℕ → ℕ → Type 0) → ℕ → Type 0
 OfOne ks of v = (k : ℕ) × In k ks × of k v
 
 -- a function leads to what is called in it; the first node to what is called in what is no function, and to functions that can't go
-pub record AreRows (c : CallingConvention) (s : SymbolReads) (t : Tree) (holder : ℕ) (functions : List ℕ) (names : List Datum) (rows : List (List ℕ)) : Type 0 where
+pub record AreCallRows (c : CallingConvention) (s : SymbolReads) (t : Tree) (holder : ℕ) (functions : List ℕ) (names : List Datum) (rows : List (List ℕ)) : Type 0 where
   pub long : length rows ≡ suc (length functions)
   pub first : (v : ℕ) → Contains (row rows 0) v ↔ (OfOne (children t holder) (IsNodeCalledBeside c s.callee t names) v ⊎ IsStayingNode s t functions v)
   pub sorted : AreSorted s t functions (length functions) (row rows 0)

@@ -7,7 +7,7 @@ ghost use Rattle.pliron_core.specs.Walks.{children};
 ghost use Rattle.pliron_graph_calls.specs.FunctionNames.{AreNamedFunctions};
 ghost use Rattle.pliron_opt_symbols.specs.Kept.{symbol_reads, AreUnkept, AreUnkeptInModule};
 ghost use Rattle.pliron_opt_symbols.specs.Rows.{AreAtOnePlace, AreUnlisted, IsReachedOrGone};
-ghost use Rattle.pliron_opt_symbols.specs.Erasing.{erased_in_turn, AreErasable, KeepsRunsInside};
+ghost use Rattle.pliron_opt_symbols.specs.Erasing.{erased_in_turn, AreErasableFunctions, KeepsRunsInside};
 
 use crate::policy::SymbolPolicy;
 use crate::rows::{node_of, symbol_rows};
@@ -37,7 +37,7 @@ fn push_if_unreached(
 }
 
 // The functions whose nodes aren't reached.
-fn unreached(
+fn unreached_functions(
     alloc: Global,
     functions: &[Ptr<Operation>],
     search: &DFSTraversal<u32>,
@@ -66,7 +66,7 @@ fn unkept_among<D: InliningDialect, P: SymbolPolicy<D>>(
     requires all_live { All (λ f. IsLive ctx.now.tree f) table.now.functions }
     ensures unkept { IfOk result (λ gone. AreUnkept D.convention (symbol_reads D.callee (P.is_private policy.now)
         (P.is_traced policy.now)) ctx.now.tree holder gone.items) }
-    ensures erasable { IfOk result (λ gone. AreErasable ctx.now.tree holder gone.items) }
+    ensures erasable { IfOk result (λ gone. AreErasableFunctions ctx.now.tree holder gone.items) }
     ensures memory { IsOkUnless result OptError.Memory }
 {
     ctx.well_formed();
@@ -75,11 +75,12 @@ fn unkept_among<D: InliningDialect, P: SymbolPolicy<D>>(
         return Err(OptError::Memory);
     };
     let search = DFSTraversal::new(alloc, &(), &graph)?;
-    let gone = unreached(alloc, table.functions(), &search)?;
+    let gone = unreached_functions(alloc, table.functions(), &search)?;
     Ok(gone)
 }
 
-// The functions directly in the operation, which is in no block, that aren't kept, where they can call nothing but callees.
+// The functions directly in the operation, which is in no block, that aren't kept, where they can call nothing but
+// callees.
 fn unkept_in_free<D: InliningDialect, P: SymbolPolicy<D>>(
     alloc: Global,
     holder: Ptr<Operation>,
@@ -88,9 +89,9 @@ fn unkept_in_free<D: InliningDialect, P: SymbolPolicy<D>>(
 ) -> Result<Vec<Ptr<Operation>>, OptError>
     requires live { IsLive ctx.now.tree holder }
     requires free { parent_of ctx.now.tree holder ≡ None }
-    ensures unkept { IfOk result (λ gone. AreUnkeptInModule D.convention (symbol_reads D.callee (P.is_private policy.now)
-        (P.is_traced policy.now)) ctx.now.tree holder gone.items) }
-    ensures erasable { IfOk result (λ gone. AreErasable ctx.now.tree holder gone.items) }
+    ensures unkept { IfOk result (λ gone. AreUnkeptInModule D.convention (symbol_reads D.callee
+        (P.is_private policy.now) (P.is_traced policy.now)) ctx.now.tree holder gone.items) }
+    ensures erasable { IfOk result (λ gone. AreErasableFunctions ctx.now.tree holder gone.items) }
     ensures memory { IsOkUnless result OptError.Memory }
 {
     ctx.well_formed();
@@ -104,8 +105,8 @@ fn unkept_in_free<D: InliningDialect, P: SymbolPolicy<D>>(
     Ok(gone)
 }
 
-// The functions directly in the operation that aren't kept, where it is a module all of whose functions can call nothing but
-// callees.
+// The functions directly in the operation that aren't kept, where it is a module all of whose functions can call
+// nothing but callees.
 fn unkept_functions<D: InliningDialect, P: SymbolPolicy<D>>(
     alloc: Global,
     holder: Ptr<Operation>,
@@ -113,9 +114,9 @@ fn unkept_functions<D: InliningDialect, P: SymbolPolicy<D>>(
     ctx: &Context,
 ) -> Result<Vec<Ptr<Operation>>, OptError>
     requires { IsLive ctx.now.tree holder }
-    ensures unkept { IfOk result (λ gone. AreUnkeptInModule D.convention (symbol_reads D.callee (P.is_private policy.now)
-        (P.is_traced policy.now)) ctx.now.tree holder gone.items) }
-    ensures erasable { IfOk result (λ gone. AreErasable ctx.now.tree holder gone.items) }
+    ensures unkept { IfOk result (λ gone. AreUnkeptInModule D.convention (symbol_reads D.callee
+        (P.is_private policy.now) (P.is_traced policy.now)) ctx.now.tree holder gone.items) }
+    ensures erasable { IfOk result (λ gone. AreErasableFunctions ctx.now.tree holder gone.items) }
     ensures memory { IsOkUnless result OptError.Memory }
 {
     match holder.get_parent_block(ctx) {
@@ -136,19 +137,20 @@ fn erase_function<R: Rewriter>(function: Ptr<Operation>, ctx: &mut Context, rewr
     ctx.well_formed();
 }
 
-/// Erases the functions of a module that nothing names: those that are not in the least set which has whatever is directly in the
-/// operation and is no private function, or is one of which something outside uses anything, and the functions that are called
-/// by name within what the set has, at any depth. So two private functions that call each other go if nothing else calls
-/// them.
+/// Erases the functions of a module that nothing names. Those that stay are the least set which has whatever is directly
+/// in the operation and is no private function, or one of which something outside uses anything, and the functions that
+/// are called by name within what the set has, at any depth. So two private functions that call each other go if nothing
+/// else calls them.
 ///
-/// Nothing goes where the operation is in a block, where two functions directly in it have one name, or where an operation
-/// within a function may call another function than its callee. It answers the functions that went, in their order.
+/// Nothing goes where the operation is in a block, where two functions directly in it have one name, or where an
+/// operation within a function may call another function than its callee. It answers the functions that went.
 ///
-/// Whatever it answers, runs of all roots but such with the operation's own head are kept. So are linked runs in each program
-/// that has the module, where the names by which other modules and the world call stand for what is left.
+/// Whatever it answers, runs of all roots but such with the operation's own head are kept. So are linked runs in each
+/// program that has the module, where the names by which other modules and the world call stand for what is left.
 ///
-/// Asks that the operation is live (`is_live` tests it). Errors: allocation failure, which changes nothing, also where there
-/// are more functions than numbers of 32 bits. Cost: linear in the module.
+/// Asks that the operation is live (`is_live` tests it). Errors: allocation failure, which changes nothing, also where
+/// there are more functions than numbers of 32 bits. Cost: linear in the module, and for each use of a value or a block
+/// of a private function as many steps as the user is deep.
 pub fn symbol_dce<D: InliningDialect, P: SymbolPolicy<D>, R: Rewriter + Room>(
     alloc: Global,
     holder: Ptr<Operation>,
@@ -157,8 +159,8 @@ pub fn symbol_dce<D: InliningDialect, P: SymbolPolicy<D>, R: Rewriter + Room>(
     rewriter: &mut R,
 ) -> Result<Vec<Ptr<Operation>>, OptError>
     requires { IsLive ctx.old.tree holder }
-    ensures gone { IfOk result (λ gone. AreUnkeptInModule D.convention (symbol_reads D.callee (P.is_private policy.now)
-        (P.is_traced policy.now)) ctx.old.tree holder gone.items) }
+    ensures gone { IfOk result (λ gone. AreUnkeptInModule D.convention (symbol_reads D.callee
+        (P.is_private policy.now) (P.is_traced policy.now)) ctx.old.tree holder gone.items) }
     ensures erased { IfOk result (λ gone. ctx.new.tree ≡ erased_in_turn ctx.old.tree gone.items) }
     ensures refused { OnErr result (ctx.new ≡ ctx.old) }
     ensures kept { KeepsRunsInside D.meaning D.convention ctx.old.tree ctx.new.tree holder }

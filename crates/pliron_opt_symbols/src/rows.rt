@@ -6,7 +6,7 @@ ghost use Rattle.pliron_graph_calls.specs.Names.{names_of};
 ghost use Rattle.pliron_graph_calls.specs.Namesakes.{HasNamesakes};
 ghost use Rattle.pliron_graph_calls.specs.FunctionNames.{AreNamedFunctions};
 ghost use Rattle.pliron_opt_symbols.specs.Kept.{symbol_reads};
-ghost use Rattle.pliron_opt_symbols.specs.Rows.{IsCalleeNode, IsNodeCalledIn, IsNodeCalledBeside, IsAlone, IsStayingNode, AreSorted, Gets, MayGet, OfOne, AreRows};
+ghost use Rattle.pliron_opt_symbols.specs.Rows.{IsCalleeNode, IsNodeCalledIn, IsNodeCalledBeside, IsAlone, IsStayingNode, AreSorted, Gets, MayGet, OfOne, AreCallRows};
 
 use crate::policy::SymbolPolicy;
 use crate::within::{all_directly_in, all_within};
@@ -35,7 +35,7 @@ fn push_callee<D: InliningDialect>(
     row: &mut Vec<u32>,
 ) -> Result<(), OptError>
     requires live { IsLive ctx.now.tree op }
-    requires apart { HasNamesakes (names_of table.now.names) → ⊥ }
+    requires no_namesakes { HasNamesakes (names_of table.now.names) → ⊥ }
     ensures row { OnOk result (Gets row.old.items row.new.items (IsCalleeNode D.callee ctx.now.tree
         (names_of table.now.names) op)) }
     ensures memory { IsOkUnless result OptError.Memory }
@@ -59,7 +59,7 @@ fn push_callees_in<D: InliningDialect>(
     row: &mut Vec<u32>,
 ) -> Result<(), OptError>
     requires live { IsLive ctx.now.tree op }
-    requires apart { HasNamesakes (names_of table.now.names) → ⊥ }
+    requires no_namesakes { HasNamesakes (names_of table.now.names) → ⊥ }
     ensures row { OnOk result (Gets row.old.items row.new.items (IsNodeCalledIn D.callee ctx.now.tree
         (names_of table.now.names) op)) }
     ensures memory { IsOkUnless result OptError.Memory }
@@ -79,7 +79,7 @@ fn callee_row<D: InliningDialect>(
     ctx: &Context,
 ) -> Result<Vec<u32>, OptError>
     requires live { IsLive ctx.now.tree function }
-    requires apart { HasNamesakes (names_of table.now.names) → ⊥ }
+    requires no_namesakes { HasNamesakes (names_of table.now.names) → ⊥ }
     ensures row { IfOk result (λ row. (v : ℕ) → Contains row.items v ↔ IsNodeCalledIn D.callee ctx.now.tree
         (names_of table.now.names) function v) }
     ensures memory { IsOkUnless result OptError.Memory }
@@ -98,7 +98,7 @@ fn push_callees_of_other<D: InliningDialect>(
     row: &mut Vec<u32>,
 ) -> Result<(), OptError>
     requires live { IsLive ctx.now.tree op }
-    requires apart { HasNamesakes (names_of table.now.names) → ⊥ }
+    requires no_namesakes { HasNamesakes (names_of table.now.names) → ⊥ }
     ensures row { OnOk result (Gets row.old.items row.new.items (IsNodeCalledBeside D.convention D.callee ctx.now.tree
         (names_of table.now.names) op)) }
     ensures memory { IsOkUnless result OptError.Memory }
@@ -119,7 +119,7 @@ fn push_callees_beside<D: InliningDialect>(
     row: &mut Vec<u32>,
 ) -> Result<(), OptError>
     requires live { IsLive ctx.now.tree holder }
-    requires apart { HasNamesakes (names_of table.now.names) → ⊥ }
+    requires no_namesakes { HasNamesakes (names_of table.now.names) → ⊥ }
     ensures row { OnOk result (Gets row.old.items row.new.items (OfOne (children ctx.now.tree holder)
         (IsNodeCalledBeside D.convention D.callee ctx.now.tree (names_of table.now.names)))) }
     ensures memory { IsOkUnless result OptError.Memory }
@@ -198,7 +198,7 @@ fn kept_row<D: InliningDialect, P: SymbolPolicy<D>>(
     ctx: &Context,
 ) -> Result<Vec<u32>, OptError>
     requires live { IsLive ctx.now.tree holder }
-    requires apart { HasNamesakes (names_of table.now.names) → ⊥ }
+    requires no_namesakes { HasNamesakes (names_of table.now.names) → ⊥ }
     requires all_live { All (λ f. IsLive ctx.now.tree f) table.now.functions }
     ensures row { IfOk result (λ row. (v : ℕ) → Contains row.items v ↔ (OfOne (children ctx.now.tree holder)
         (IsNodeCalledBeside D.convention D.callee ctx.now.tree (names_of table.now.names)) v
@@ -225,7 +225,7 @@ pub(crate) fn symbol_rows<D: InliningDialect, P: SymbolPolicy<D>>(
     requires live { IsLive ctx.now.tree holder }
     requires functions { AreNamedFunctions D.convention ctx.now.tree (children ctx.now.tree holder) table.now }
     requires all_live { All (λ f. IsLive ctx.now.tree f) table.now.functions }
-    ensures rows { IfOk result (λ rows. AreRows D.convention (symbol_reads D.callee (P.is_private policy.now)
+    ensures rows { IfOk result (λ rows. AreCallRows D.convention (symbol_reads D.callee (P.is_private policy.now)
         (P.is_traced policy.now)) ctx.now.tree holder table.now.functions (names_of table.now.names)
         (map (λ r. r.items) rows.items)) }
     ensures memory { IsOkUnless result OptError.Memory }

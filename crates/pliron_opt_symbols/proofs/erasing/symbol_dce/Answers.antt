@@ -3,7 +3,7 @@ use Rattle.std.proofs.lemmas.List.{take_more, take_all}
 use Rattle.pliron_core.specs.Tree.{Tree, IsLive}
 use Rattle.pliron_core.proofs.WalkLemmas.{held_live}
 use Rattle.pliron_opt_symbols.specs.Kept.{symbol_reads}
-use Rattle.pliron_opt_symbols.specs.Erasing.{AreErasable, KeepsRunsInside}
+use Rattle.pliron_opt_symbols.specs.Erasing.{AreErasableFunctions, KeepsRunsInside}
 use Rattle.pliron_opt_symbols.specs.ErasedStates.{AreErased}
 use Rattle.pliron_opt_symbols.proofs.ErasedLemmas.{none_erased, one_erased, rest_erasable, rest_step}
 use Rattle.pliron_opt_symbols.proofs.KeptLemmas.{nothing_erased, runs_kept_inside}
@@ -27,7 +27,7 @@ loop-function-init g c =
     let free = ⊎_elim (λ x. x.0.free) (λ x. absurd (some (ap length x.0))) c.in_ok-gone.ensures.unkept in
     record {
       done = none_erased g.D.HasMeaning.meaning t c.args.holder c.well_formed-2.ensures.tree free;
-      rest = subst (AreErasable t c.args.holder) (sym same) c.in_ok-gone.ensures.erasable;
+      rest = subst (AreErasableFunctions t c.args.holder) (sym same) c.in_ok-gone.ensures.erasable;
       point = c.room.ensures.point;
     }
 
@@ -36,7 +36,7 @@ erase_function-requires-clause-live g c =
     let u = c.loop-function.ctx.tree in
     let fs = c.deref-function-items.result.now in
     let f = c.function-item.result in
-    let rest = subst (AreErasable u c.args.holder) (rest_step fs c.loop-function.function-index f c.loop-function-test.true c.function-item.is) c.loop-function.invariant.rest in
+    let rest = subst (AreErasableFunctions u c.args.holder) (rest_step fs c.loop-function.function-index f c.loop-function-test.true c.function-item.is) c.loop-function.invariant.rest in
     held_live u c.loop-function.invariant.done.is_tree f c.args.holder (rest.parents f (inl refl))
 
 pub erase_function-requires-clause-contained : goal.erase_function-requires-clause-contained
@@ -44,7 +44,7 @@ erase_function-requires-clause-contained g c =
     let u = c.loop-function.ctx.tree in
     let fs = c.deref-function-items.result.now in
     let f = c.function-item.result in
-    let rest = subst (AreErasable u c.args.holder) (rest_step fs c.loop-function.function-index f c.loop-function-test.true c.function-item.is) c.loop-function.invariant.rest in
+    let rest = subst (AreErasableFunctions u c.args.holder) (rest_step fs c.loop-function.function-index f c.loop-function-test.true c.function-item.is) c.loop-function.invariant.rest in
     rest.contained f (inl refl)
 
 pub loop-function-preserved : goal.loop-function-preserved
@@ -58,7 +58,7 @@ loop-function-preserved g c =
     let i = c.loop-function.function-index in
     let f = c.function-item.result in
     let done = c.loop-function.invariant.done in
-    let rest = subst (AreErasable u holder) (rest_step fs i f c.loop-function-test.true c.function-item.is) c.loop-function.invariant.rest in
+    let rest = subst (AreErasableFunctions u holder) (rest_step fs i f c.loop-function-test.true c.function-item.is) c.loop-function.invariant.rest in
     let parent = rest.parents f (inl refl) in
     let contained = rest.contained f (inl refl) in
     let more = take_more fs i f c.loop-function-test.true ∙ ap (λ z. take i fs ++ z ∷ []) (sym c.function-item.is) in

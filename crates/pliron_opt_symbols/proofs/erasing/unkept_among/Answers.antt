@@ -6,8 +6,8 @@ use Rattle.pliron_opt_symbols.specs.Rows.{AreAtOnePlace, AreUnlisted}
 use Rattle.pliron_opt_symbols.proofs.UnkeptLemmas.{table_once, table_unkept, table_erasable}
 use Rattle.pliron_opt_symbols.proofs.erasing.unkept_among.Goals as goal
 
-pub unreached-requires : goal.unreached-requires
-unreached-requires g c = subst AreAtOnePlace (sym c.functions.ensures)
+pub unreached_functions-requires : goal.unreached_functions-requires
+unreached_functions-requires g c = subst AreAtOnePlace (sym c.functions.ensures)
     (table_once g.D.InliningDialect.convention (symbol_reads g.D.InliningDialect.callee (g.P.SymbolPolicy.is_private c.args.policy.now) (g.P.SymbolPolicy.is_traced c.args.policy.now)) c.args.ctx.now.tree c.well_formed-2.ensures.tree c.args.holder c.args.table.now c.requires.functions)
 
 pub returns-clause-unkept : goal.returns-clause-unkept

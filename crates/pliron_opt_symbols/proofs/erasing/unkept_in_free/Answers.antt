@@ -4,7 +4,7 @@ use Rattle.std.proofs.lemmas.Option.{MatchOption-at_some}
 use Rattle.pliron_core.specs.Tree.{IsLive}
 use Rattle.pliron_laws.proofs.AnswerLemmas.{refuted}
 use Rattle.pliron_opt_symbols.specs.Kept.{symbol_reads}
-use Rattle.pliron_opt_symbols.specs.Erasing.{AreErasable}
+use Rattle.pliron_opt_symbols.specs.Erasing.{AreErasableFunctions}
 use Rattle.pliron_opt_symbols.proofs.UnkeptLemmas.{table_live, untraced_module, traced_functions, none_erasable}
 use Rattle.pliron_core.specs.Tree.{In, IsWithin}
 use Rattle.pliron_laws.specs.Answers.{HeadPasses}
@@ -23,7 +23,7 @@ returns-then-not-branch-clause-unkept g c = inr (
 )
 
 pub returns-then-not-branch-clause-erasable : goal.returns-then-not-branch-clause-erasable
-returns-then-not-branch-clause-erasable g c = subst (AreErasable c.args.ctx.now.tree c.args.holder) (sym c.new-then-not-branch.ensures.items) (none_erasable c.args.ctx.now.tree c.args.holder)
+returns-then-not-branch-clause-erasable g c = subst (AreErasableFunctions c.args.ctx.now.tree c.args.holder) (sym c.new-then-not-branch.ensures.items) (none_erasable c.args.ctx.now.tree c.args.holder)
 
 pub unkept_among-requires-clause-all_live : goal.unkept_among-requires-clause-all_live
 unkept_among-requires-clause-all_live g c =

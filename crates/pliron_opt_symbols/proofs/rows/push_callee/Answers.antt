@@ -24,4 +24,4 @@ returns-clause-row g c =
     (record { place = place; node = c.in_ok-node_of.ensures.node; name = name; calls = at; named = found })
     (λ v (p : IsCalleeNode callee t names c.args.op v).
     let same : p.name ≡ name = same_Some p.name name (sym p.calls ∙ at) in
-    p.node ∙ ap suc (one_place names c.requires.apart p.place place name (p.named ∙ ap Some same) found) ∙ sym c.in_ok-node_of.ensures.node))
+    p.node ∙ ap suc (one_place names c.requires.no_namesakes p.place place name (p.named ∙ ap Some same) found) ∙ sym c.in_ok-node_of.ensures.node))

@@ -2,7 +2,7 @@ use Rattle.std.proofs.Common.{◌≡◌, ◌+◌, ◌≤◌, length, refl, arith
 use Rattle.std.proofs.lemmas.Option.{slice_get_read}
 use Rattle.pliron_opt_symbols.specs.Rows.{AreUnlisted}
 use Rattle.pliron_opt_symbols.proofs.UnkeptLemmas.{unlisted_none, unlisted_step}
-use Rattle.pliron_opt_symbols.proofs.erasing.unreached.Goals as goal
+use Rattle.pliron_opt_symbols.proofs.erasing.unreached_functions.Goals as goal
 
 pub loop-place-init : goal.loop-place-init
 loop-place-init c = subst (AreUnlisted c.args.functions.now c.args.search.now.pre 0) (sym c.new-gone.ensures.items) (unlisted_none c.args.functions.now c.args.search.now.pre)
