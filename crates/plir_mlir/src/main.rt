@@ -14,7 +14,7 @@ mod target;
 use clap::{ArgMatches, Error};
 use command::parse_arguments;
 use pliron_driver::without_blanks;
-use pliron_driver_inlining::{InlinedForm, split_stage};
+use pliron_driver_inlining::{INLINING_STAGE, InlinedForm, split_stage};
 use pliron_driver_instrument::{InstrumentedPipeline, InstrumentedStep, Progress};
 use pliron_driver_mlir::{ClosedForm, MAX_TEXT, ModuleNotation, ModuleOptions, Request, run_on};
 use pliron_pass::{BenchFactKind, Pass};
@@ -111,7 +111,7 @@ fn act(rt: &HostRuntime, matches: &ArgMatches<'_>) -> u8 {
     let Ok(word) = without_blanks(rt.alloc(), matches.get_str("pipeline").unwrap_or("")) else {
         return refused_status(rt);
     };
-    match split_stage(word.as_str()) {
+    match split_stage(word.as_str(), INLINING_STAGE) {
         (true, pipeline) => act_in::<InlinedForm<Form>>(rt, matches, pipeline),
         (false, pipeline) => act_in::<Form>(rt, matches, pipeline),
     }

@@ -1,5 +1,5 @@
 //! Passes on a module of MLIR.
-ghost use Rattle.std.specs.Prelude.{◌≡◌, ◌≢◌, ◌⊎◌, ◌≤◌, ◌++◌, map, IfOk, IfErr, MatchOption};
+ghost use Rattle.std.specs.Prelude.{◌≡◌, ◌≢◌, ◌⊎◌, ◌≤◌, ◌++◌, map, codes, IfOk, IfErr, MatchOption};
 ghost use Rattle.pliron_driver.specs.Answered.{IsOptimised, status_line};
 ghost use Rattle.pliron_driver.specs.Ran.{RunsAlone};
 ghost use Rattle.pliron_driver_buffers.specs.Fills.{Fills};
@@ -17,7 +17,7 @@ use pliron_dialect_edges::BranchesAtOnce;
 use pliron_driver::{
     NoObserver, Notation, Observer, OptimisedText, TextFailure, optimise, passes_of,
 };
-use pliron_driver_inlining::{InlinedForm, split_stage};
+use pliron_driver_inlining::{INLINING_STAGE, InlinedForm, split_stage};
 use pliron_driver_instrument::{
     InstrumentationOptions, InstrumentedPipeline, InstrumentedStep, PipelineText, PlanError,
     Timeless, instrumented_pipeline, is_short,
@@ -205,12 +205,12 @@ fn run_behind_stage_into<N: ModuleNotation>(
 
 // The passes that the word asks for behind the stage that inlines calls, if it asks for that.
 fn behind_stage(word: &[u8]) -> Option<&str>
-    ensures { MatchOption result (HasNoStage word.now) (λ passes. IsStaged word.now passes.now) }
+    ensures { MatchOption result (HasNoStage word.now) (λ passes. IsStaged (codes "inline") word.now passes.now) }
 {
     let Ok(word) = str::from_utf8(word) else {
         return None;
     };
-    match split_stage(word) {
+    match split_stage(word, INLINING_STAGE) {
         (true, passes) => Some(passes),
         (false, _) => None,
     }

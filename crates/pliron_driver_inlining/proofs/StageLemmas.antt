@@ -15,9 +15,9 @@ begins_otherwise start text lacks rest e = lacks rest e
 pub passes_follow : (rest t list passes : List ℕ) → t ≡ trim rest → t ≡ codes ";" ++ list → passes ≡ trim list → AsksBehind rest passes
 passes_follow rest t list passes is begins trimmed = Passes list (sym is ∙ begins) trimmed
 
-pub staged : (word t rest passes : List ℕ) → t ≡ trim word → t ≡ codes "inline" ++ rest → AsksBehind rest passes → IsStaged word passes
-staged word t rest passes is begins asks = record { rest = rest; stage = sym is ∙ begins; behind = asks }
+pub staged : (stage word t rest passes : List ℕ) → t ≡ trim word → t ≡ stage ++ rest → AsksBehind rest passes → IsStaged stage word passes
+staged stage word t rest passes is begins asks = record { rest = rest; begins = sym is ∙ begins; behind = asks }
 
--- where nothing is asked for behind the stage, the word hasn't the stage
-pub not_staged : (word t rest : List ℕ) → t ≡ trim word → t ≡ codes "inline" ++ rest → ((passes : List ℕ) → AsksBehind rest passes → ⊥) → (passes : List ℕ) → IsStaged word passes → ⊥
-not_staged word t rest is begins never passes s = never passes (subst (λ r. AsksBehind r passes) (append_cancel_left (codes "inline") s.rest rest (sym s.stage ∙ sym is ∙ begins)) s.behind)
+-- where nothing is asked for behind the name of the stage, the word hasn't the stage
+pub not_staged : (stage word t rest : List ℕ) → t ≡ trim word → t ≡ stage ++ rest → ((passes : List ℕ) → AsksBehind rest passes → ⊥) → (passes : List ℕ) → IsStaged stage word passes → ⊥
+not_staged stage word t rest is begins never passes s = never passes (subst (λ r. AsksBehind r passes) (append_cancel_left stage s.rest rest (sym s.begins ∙ sym is ∙ begins)) s.behind)
