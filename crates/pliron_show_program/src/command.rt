@@ -32,12 +32,11 @@ enum DataWords {
     Any,
 }
 
-fn data<'a>(alloc: Global, name: &'a str, help: &'a str, words: DataWords) -> Arg<'a> {
+fn data<'a>(alloc: Global, name: &'a str, words: DataWords) -> Arg<'a> {
     let arg = Arg::new(alloc, name)
         .long(name)
         .value_name("N")
-        .action(ArgAction::Append)
-        .help(help);
+        .action(ArgAction::Append);
     match words {
         DataWords::Numbers => arg
             .allow_negative_numbers(true)
@@ -113,8 +112,8 @@ fn run<'a, P: Program>(alloc: Global, words: DataWords) -> Result<Command<'a>, A
         .after_help(RUN_STATUSES)
         .arg(file(alloc))?
         .arg(output(alloc))?
-        .arg(data(alloc, "input", P::input_help(), words))?
-        .arg(data(alloc, "world", P::world_help(), words))?
+        .arg(data(alloc, "input", words).help(P::input_help()))?
+        .arg(data(alloc, "world", words).help(P::world_help()))?
         .arg(steps(alloc))?
         .arg(flag(
             alloc,
