@@ -67,7 +67,7 @@ pub fn close_header<D: LengthensEdges>(
         exit.now.users.items }
     ensures closed { IfOk result (λ all. IsTrue all → (header : ℕ) → IsHeaderCovered ctx.old.tree header body.now.block
         exit.now.block values.now body.now.users.items exit.now.users.items → IsClosedBlock ctx.new.tree header) }
-    ensures besides { IsClosing D.meaning ctx.old.tree ctx.new.tree body.now.block exit.now.block body.now.users.items
+    ensures closing { IsClosing D.meaning ctx.old.tree ctx.new.tree body.now.block exit.now.block body.now.users.items
         exit.now.users.items }
     ensures memory { IsOkUnless result OptError.Memory }
     ensures runs { KeepsAllRuns D.meaning ctx.old.tree ctx.new.tree }
