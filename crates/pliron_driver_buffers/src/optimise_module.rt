@@ -204,15 +204,17 @@ fn run_behind_stage_into<N: ModuleNotation>(
 }
 
 // The passes that the word asks for behind the stage that inlines calls, if it asks for that.
-fn behind_stage(word: &[u8]) -> Option<&str>
+fn behind_stage(word: &[u8]) -> Option<&[u8]>
     ensures { MatchOption result (HasNoStage word.now) (λ passes. IsStaged (codes "inline") word.now passes.now) }
 {
     let Ok(word) = str::from_utf8(word) else {
         return None;
     };
-    match split_stage(word, INLINING_STAGE) {
-        (true, passes) => Some(passes),
-        (false, _) => None,
+    let (is_staged, passes) = split_stage(word, INLINING_STAGE);
+    if is_staged {
+        Some(passes.as_bytes())
+    } else {
+        None
     }
 }
 
@@ -237,11 +239,11 @@ pub fn optimise_module_into<
     changed: &mut u32,
 ) -> Status
     ensures { Fills (λ answer. ByStage word.now
-        (λ passes. OptimisesModule ⟦<ModulePass<N> as Pass>⟧.name N.reads N.prints N.D.meaning
+        (λ passes. OptimisesModule ⟦<ModulePass<N> as Pass>⟧.name N.reads N.prints D.meaning
         (RunsAlone ⟦<BenchFactKind as PartialEq>⟧.eq ⟦<ModulePipeline<N> as Pass>⟧.outcome)
         passes text.now changed.new answer)
         (λ passes. OptimisesBehindStage ⟦<ModulePass<InlinedForm<N>> as Pass>⟧.name
-        ⟦<InlinedForm<N> as Notation>⟧.reads N.prints N.D.meaning
+        ⟦<InlinedForm<N> as Notation>⟧.reads N.prints D.meaning
         (RunsAlone ⟦<BenchFactKind as PartialEq>⟧.eq ⟦<ModulePipeline<InlinedForm<N>> as Pass>⟧.outcome)
         passes text.now changed.new answer))
         (λ failure. Explains (ByStage word.now (IsWord ⟦<ModulePass<N> as Pass>⟧.name
@@ -252,7 +254,6 @@ pub fn optimise_module_into<
 {
     match behind_stage(word) {
         Some(passes) => {
-            let passes = passes.as_bytes();
             run_behind_stage_into::<InlinedForm<N>>(alloc, passes, text, output, needed, changed)
         }
         None => run_passes_into::<N>(alloc, word, text, output, needed, changed),
