@@ -56,14 +56,14 @@ fn lead_in<R: Rewriter + Room>(
     rewriter: &mut R,
 ) -> Result<(), OptError>
     ghost x: { EnteredHeader }
-    requires source { IsEnteredHeader x }
+    requires entered { IsEnteredHeader x }
     requires entering { In op x.entering }
     requires header { x.header ≡ header }
     requires copy { copy_of x ≡ copy }
     requires leading { IsLeadingIn x ctx.old.tree }
     ensures leading { OnOk result (IsLeadingIn x ctx.new.tree) }
-    ensures gone { OnOk result (IsLive ctx.new.tree op → ⊥) }
-    ensures fewer { OnOk result ((k : ℕ) → In k x.entering → IsLive ctx.new.tree k → IsLive ctx.old.tree k) }
+    ensures not_live { OnOk result (IsLive ctx.new.tree op → ⊥) }
+    ensures live_before { OnOk result ((k : ℕ) → In k x.entering → IsLive ctx.new.tree k → IsLive ctx.old.tree k) }
     ensures bound { OnOk result (length ctx.new.tree.operations ≤ length ctx.old.tree.operations + 1) }
     ensures refused { OnErr result (IsLeadingStopped x ctx.new.tree) }
     ensures memory { IsOkUnless result OptError.Memory }
@@ -89,13 +89,13 @@ fn lead_all_in<R: Rewriter + Room>(
     rewriter: &mut R,
 ) -> Result<(), OptError>
     ghost x: { EnteredHeader }
-    requires source { IsEnteredHeader x }
+    requires entered { IsEnteredHeader x }
     requires entering { x.entering ≡ entering.now }
     requires header { x.header ≡ header }
     requires copy { copy_of x ≡ copy }
     requires leading { IsLeadingIn x ctx.old.tree }
     ensures leading { OnOk result (IsLeadingIn x ctx.new.tree) }
-    ensures gone { OnOk result ((k : ℕ) → In k x.entering → IsLive ctx.new.tree k → ⊥) }
+    ensures none_live { OnOk result ((k : ℕ) → In k x.entering → IsLive ctx.new.tree k → ⊥) }
     ensures bound { OnOk result (length ctx.new.tree.operations ≤ length ctx.old.tree.operations + length
         entering.now) }
     ensures refused { OnErr result (IsLeadingStopped x ctx.new.tree) }
@@ -119,12 +119,12 @@ fn copy_and_lead_in<R: Rewriter + Room>(
     rewriter: &mut R,
 ) -> Result<Ptr<BasicBlock>, OptError>
     ghost x: { EnteredHeader }
-    requires source { IsEnteredHeader x }
+    requires entered { IsEnteredHeader x }
     requires tree { x.tree ≡ ctx.old.tree }
     requires header { x.header ≡ header }
     requires region { x.region ≡ region }
     requires entering { x.entering ≡ entering.now }
-    ensures copied { IfOk result (λ copy. AreLeadingIn x ctx.new.tree copy) }
+    ensures leading { IfOk result (λ copy. AreLeadingIn x ctx.new.tree copy) }
     ensures refused { OnErr result (IsCopyingStopped x ctx.new.tree) }
     ensures memory { IsOkUnless result OptError.Memory }
 {

@@ -18,8 +18,8 @@ lead_all_in-requires g c κs within =
     let key : copy_of g.x ≡ c.in-Some.copy = sym (is_copy g.x source c.copy_blocks.new.ctx.tree c.well_formed-3.ensures.tree copied c.in-Some.copy known.2 (subst (λ (z : Tree). length z.bodies ≤ c.in-Some.copy) (sym same_tree) known.0)) in
     search rules
 
-pub returns-clause-copied : goal.returns-clause-copied
-returns-clause-copied g c =
+pub returns-clause-leading : goal.returns-clause-leading
+returns-clause-leading g c =
     let source : IsEnteredHeader g.x = c.requires.1.0 in
     let same_tree : g.x.tree ≡ c.args.ctx.now.tree = c.requires.1.1.0 in
     let same_header : g.x.header ≡ c.args.header = c.requires.1.1.1.0 in
@@ -34,6 +34,6 @@ returns-clause-copied g c =
     record {
       key = sym (is_copy g.x source c.copy_blocks.new.ctx.tree c.well_formed-3.ensures.tree copied c.in-Some.copy known.2 (subst (λ (z : Tree). length z.bodies ≤ c.in-Some.copy) (sym same_tree) known.0));
       leading = c.in_ok-lead_all_in.ensures.leading;
-      gone = c.in_ok-lead_all_in.ensures.gone;
+      gone = c.in_ok-lead_all_in.ensures.none_live;
       bound = omega (arith, many, more, entering);
     }

@@ -23,14 +23,14 @@ loop-i-preserved g c =
       tree = c.well_formed-in-loop-i.ensures.tree;
       leading = c.in_ok-lead_in.ensures.leading;
       gone = λ n k lt there live. ⊎_elim
-          (λ e. c.in_ok-lead_in.ensures.gone (subst (IsLive c.lead_in.new.ctx.tree) (some_is (sym there ∙ ap (slice_get c.args.entering.now) e ∙ at)) live))
-          (λ ne. c.loop-i.invariant.gone n k (omega (arith, lt, ne)) there (c.in_ok-lead_in.ensures.fewer k (subst (In k) (sym c.requires.1.1.0) (in_slice c.args.entering.now n k there)) live))
+          (λ e. c.in_ok-lead_in.ensures.not_live (subst (IsLive c.lead_in.new.ctx.tree) (some_is (sym there ∙ ap (slice_get c.args.entering.now) e ∙ at)) live))
+          (λ ne. c.loop-i.invariant.gone n k (omega (arith, lt, ne)) there (c.in_ok-lead_in.ensures.live_before k (subst (In k) (sym c.requires.1.1.0) (in_slice c.args.entering.now n k there)) live))
           (cases_eq n c.loop-i.i);
       bound = (let old = c.loop-i.invariant.bound in let more = c.in_ok-lead_in.ensures.bound in omega (arith, old, more));
     }
 
-pub returns-clause-gone : goal.returns-clause-gone
-returns-clause-gone g c = λ k i live.
+pub returns-clause-none_live : goal.returns-clause-none_live
+returns-clause-none_live g c = λ k i live.
     let past = c.loop-i-test.false in
     let s = slice_in c.args.entering.now k (subst (In k) c.requires.1.1.0 i) in
     let lt = slice_get_within c.args.entering.now s.0 k s.1 in

@@ -30,13 +30,13 @@ returns-clause-leading g c =
     let live : IsLive c.args.ctx.now.tree c.args.op = c.is_live.ensures.0 c.if-not-is_live.false in
     (led_in g.x c.requires.1.0 c.args.ctx.now.tree c.well_formed-2.ensures.tree c.requires.1.1.1.1.1 c.args.op c.requires.1.1.0 live c.args.header c.args.copy c.requires.1.1.1.0 c.requires.1.1.1.1.0 c.in_ok-targets.targets.items c.in_ok-targets.ensures.ok c.lead_elsewhere-led.new.ctx.tree c.well_formed-3.ensures.tree c.in_ok-led.ensures.ok).leading
 
-pub returns-clause-gone : goal.returns-clause-gone
-returns-clause-gone g c =
+pub returns-clause-not_live : goal.returns-clause-not_live
+returns-clause-not_live g c =
     let live : IsLive c.args.ctx.now.tree c.args.op = c.is_live.ensures.0 c.if-not-is_live.false in
     (led_in g.x c.requires.1.0 c.args.ctx.now.tree c.well_formed-2.ensures.tree c.requires.1.1.1.1.1 c.args.op c.requires.1.1.0 live c.args.header c.args.copy c.requires.1.1.1.0 c.requires.1.1.1.1.0 c.in_ok-targets.targets.items c.in_ok-targets.ensures.ok c.lead_elsewhere-led.new.ctx.tree c.well_formed-3.ensures.tree c.in_ok-led.ensures.ok).gone
 
-pub returns-clause-fewer : goal.returns-clause-fewer
-returns-clause-fewer g c =
+pub returns-clause-live_before : goal.returns-clause-live_before
+returns-clause-live_before g c =
     let live : IsLive c.args.ctx.now.tree c.args.op = c.is_live.ensures.0 c.if-not-is_live.false in
     (led_in g.x c.requires.1.0 c.args.ctx.now.tree c.well_formed-2.ensures.tree c.requires.1.1.1.1.1 c.args.op c.requires.1.1.0 live c.args.header c.args.copy c.requires.1.1.1.0 c.requires.1.1.1.1.0 c.in_ok-targets.targets.items c.in_ok-targets.ensures.ok c.lead_elsewhere-led.new.ctx.tree c.well_formed-3.ensures.tree c.in_ok-led.ensures.ok).fewer
 
