@@ -32,12 +32,11 @@ enum DataWords {
     Any,
 }
 
-fn data<'a>(alloc: Global, name: &'a str, help: &'a str, words: DataWords) -> Arg<'a> {
+fn data<'a>(alloc: Global, name: &'a str, words: DataWords) -> Arg<'a> {
     let arg = Arg::new(alloc, name)
         .long(name)
         .value_name("N")
-        .action(ArgAction::Append)
-        .help(help);
+        .action(ArgAction::Append);
     match words {
         DataWords::Numbers => arg
             .allow_negative_numbers(true)
@@ -108,14 +107,13 @@ static RUN_STATUSES: &str =
      same is seen; 3 where one is cut off or something differs.";
 
 fn run<'a, P: Program>(alloc: Global, words: DataWords) -> Result<Command<'a>, AllocError> {
-    let (input, world) = P::data_help();
     let run = Command::new(alloc, "run")
         .about("Runs a text, and writes its effects as they come and how it ends")
         .after_help(RUN_STATUSES)
         .arg(file(alloc))?
         .arg(output(alloc))?
-        .arg(data(alloc, "input", input, words))?
-        .arg(data(alloc, "world", world, words))?
+        .arg(data(alloc, "input", words).help(P::input_help()))?
+        .arg(data(alloc, "world", words).help(P::world_help()))?
         .arg(steps(alloc))?
         .arg(flag(
             alloc,

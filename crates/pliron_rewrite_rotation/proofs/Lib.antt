@@ -1,0 +1,9 @@
+pub mod OriginalLists
+pub mod LedAway
+pub mod LeadingSteps
+pub mod CopiedHeader
+pub mod CopiedLinks
+pub mod GateHolders
+pub mod Rotated
+pub mod HeaderRuns
+pub mod LedSteps

@@ -1,0 +1,4 @@
+pub mod Entering
+pub mod HeaderCopied
+pub mod HeaderSteps
+pub mod Rotation

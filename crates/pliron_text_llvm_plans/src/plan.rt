@@ -1,0 +1,111 @@
+//! What is to be built, by numbers.
+use crate::values::PlannedValue;
+use pliron_text_llvm_classes::FormCounts;
+use pliron_text_llvm_functions::FunctionReading;
+use pliron_text_llvm_sheets::{ConstantTable, ValueNote};
+use pliron_text_llvm_trees::FunctionTree;
+use std::alloc::Global;
+
+/// A function that was read, as what its tree is built of.
+#[doc(hidden)]
+#[derive(Clone, Copy)]
+pub struct FunctionSource<'t> {
+    pub text: &'t [u8],
+    pub reading: &'t FunctionReading,
+    pub tree: &'t FunctionTree,
+}
+
+/// A value that is to be made.
+#[doc(hidden)]
+#[derive(Clone, Copy, Debug, Drop, PartialEq, Eq)]
+pub struct PlannedDefinition {
+    /// The number of the definition that it is.
+    pub number: usize,
+    /// What the sheet notes of it.
+    pub note: ValueNote,
+}
+
+/// An argument that is to be made.
+#[doc(hidden)]
+#[derive(Clone, Copy, Debug, Drop, PartialEq, Eq)]
+pub struct PlannedArgument {
+    pub definition: PlannedDefinition,
+    /// The width of its type: 0 of what is no integer of at most 64 bits, and of parameters.
+    pub width: u32,
+}
+
+/// A block that is to be made.
+#[doc(hidden)]
+#[derive(Clone, Copy, Debug, Drop, PartialEq, Eq)]
+pub struct PlannedBlock {
+    /// The number of its name; none of what is called by a number.
+    pub name: Option<usize>,
+    /// The first of its arguments, and how many.
+    pub arguments: (usize, usize),
+}
+
+/// An operation that is to be made.
+#[doc(hidden)]
+#[derive(Clone, Copy, Debug)]
+pub struct OperationPlan {
+    /// Where it is in the text.
+    pub place: usize,
+    /// The number of its block.
+    pub block: usize,
+    /// The number of its form.
+    pub form: usize,
+    pub counts: FormCounts,
+    /// The first of its operands, and how many: its own, and behind them those that its edges pass.
+    pub operands: (usize, usize),
+    /// The first of its edges, and how many.
+    pub edges: (usize, usize),
+    /// What it gives.
+    pub result: Option<PlannedDefinition>,
+}
+
+/// What is to be built of a function.
+#[doc(hidden)]
+#[derive(Drop)]
+pub struct FunctionPlan {
+    pub constants: ConstantTable,
+    /// In the order of the text.
+    pub blocks: Vec<PlannedBlock>,
+    /// The arguments of all blocks: parameters, and phis.
+    pub arguments: Vec<PlannedArgument>,
+    /// In the order of the text.
+    pub operations: Vec<OperationPlan>,
+    /// The operands of all operations.
+    pub operands: Vec<PlannedValue>,
+    /// The numbers of the blocks to which the edges of all operations lead.
+    pub successors: Vec<usize>,
+    /// How many operands each of these edges passes.
+    pub passed: Vec<usize>,
+}
+
+impl FunctionPlan {
+    /// Nothing yet. Takes no memory. Cost: constant.
+    pub fn new(alloc: Global) -> FunctionPlan {
+        FunctionPlan {
+            constants: ConstantTable::new(alloc),
+            blocks: Vec::new(alloc),
+            arguments: Vec::new(alloc),
+            operations: Vec::new(alloc),
+            operands: Vec::new(alloc),
+            successors: Vec::new(alloc),
+            passed: Vec::new(alloc),
+        }
+    }
+
+    /// The argument with this index of the block. Cost: constant.
+    pub fn argument(&self, block: usize, i: usize) -> Option<PlannedArgument> {
+        match self.blocks.get(block) {
+            Some(
+                PlannedBlock {
+                    arguments: (first, count),
+                    ..
+                },
+            ) if i < *count => { self.arguments.get(first.saturating_add(i)).copied() }
+            _ => None,
+        }
+    }
+}

@@ -1,0 +1,3 @@
+pub mod Constants
+pub mod Notes
+pub mod Sheets
