@@ -16,7 +16,7 @@ use Rattle.pliron_graph_calls.specs.CallSites.{callee_at}
 use Rattle.pliron_graph_calls.specs.FunctionNames.{symbol_at, functions_among, names_among}
 use Rattle.pliron_graph_calls.specs.Namesakes.{HasNamesakes}
 use Rattle.pliron_rewrite_symbols.specs.ErasedFunctions.{IsFunctionIn}
-use Rattle.pliron_opt_symbols.specs.Kept.{SymbolReads, MayBeErased, IsKeptInModule, IsKeptInModule.Stays, IsKeptInModule.Called}
+use Rattle.pliron_opt_symbols.specs.Kept.{SymbolReads, IsErasableFunction, IsKeptInModule, IsKeptInModule.Stays, IsKeptInModule.Called}
 use Rattle.pliron_opt_symbols.specs.Rows.{IsCalleeNode, IsNodeCalledIn, AreCallRows}
 use Rattle.pliron_opt_symbols.proofs.FunctionLemmas.{listed_at, place_of_function, function_at, is_function, has_symbol, is_child}
 
@@ -50,8 +50,8 @@ module _ (c : CallingConvention) (s : SymbolReads) (t : Tree) (w : IsTree t) (ho
 
   step_good : (u v : ℕ) → Good u → Contains (row rows u) v → Good v
   step_good u v (inl e) there = ⊎_elim
-      (λ x. called_kept x.0 v (Stays x.0 ((In-children t w x.0 holder).0 x.1) (λ (go : MayBeErased c s t holder x.0). not_none (sym x.2.0 ∙ has_symbol c t holder x.0 go.name go.function))) x.2.1)
-      (λ x. inr (x.0, x.1, x.2, x.3, Stays x.1 ((In-children t w x.1 holder).0 (listed_at c t (children t holder) x.0 x.1 x.3).listed) (λ (go : MayBeErased c s t holder x.1). x.4 (go.private, go.contained))))
+      (λ x. called_kept x.0 v (Stays x.0 ((In-children t w x.0 holder).0 x.1) (λ (go : IsErasableFunction c s t holder x.0). not_none (sym x.2.0 ∙ has_symbol c t holder x.0 go.name go.function))) x.2.1)
+      (λ x. inr (x.0, x.1, x.2, x.3, Stays x.1 ((In-children t w x.1 holder).0 (listed_at c t (children t holder) x.0 x.1 x.3).listed) (λ (go : IsErasableFunction c s t holder x.1). x.4 (go.private, go.contained))))
       ((h.first v).0 (subst (λ z. Contains (row rows z) v) e there))
   step_good u v (inr x) there = called_kept x.1 v x.4 ((h.each x.0 x.1 x.3 v).0 (subst (λ z. Contains (row rows z) v) x.2 there))
 

@@ -23,7 +23,7 @@ abbrev pub symbol_reads : (Head → Option Datum) → (is_private is_traced : He
 symbol_reads callee is_private is_traced = record { callee = callee; is_private = is_private; is_traced = is_traced }
 
 -- a private function directly in the operation, of which nothing outside uses anything
-pub record MayBeErased (c : CallingConvention) (s : SymbolReads) (t : Tree) (holder f : ℕ) : Type 0 where
+pub record IsErasableFunction (c : CallingConvention) (s : SymbolReads) (t : Tree) (holder f : ℕ) : Type 0 where
   pub name : Datum
   pub function : IsFunctionIn c t holder f name
   pub private : HeadPasses s.is_private t f
@@ -32,7 +32,7 @@ pub record MayBeErased (c : CallingConvention) (s : SymbolReads) (t : Tree) (hol
 -- the least set of what is directly in the operation that has all but such functions, and each function that is called by its
 -- name within what the set has
 pub data IsKeptInModule (c : CallingConvention) (s : SymbolReads) (t : Tree) (holder : ℕ) : ℕ → Type 0 where
-  Stays : (x : ℕ) → parent_operation_of t x ≡ Some holder → (MayBeErased c s t holder x → ⊥) → IsKeptInModule c s t holder x
+  Stays : (x : ℕ) → parent_operation_of t x ≡ Some holder → (IsErasableFunction c s t holder x → ⊥) → IsKeptInModule c s t holder x
   Called : (x k f : ℕ) (name : Datum) → IsKeptInModule c s t holder x → IsWithin t x k → callee_at s.callee t k ≡ Some name → IsFunctionIn c t holder f name → IsKeptInModule c s t holder f
 
 -- these are the functions directly in the operation that aren't kept
