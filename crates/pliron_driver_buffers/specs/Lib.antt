@@ -3,4 +3,3 @@ pub mod Fills
 pub mod Optimises
 pub mod Modules
 pub mod Faults
-pub mod Stages
