@@ -10,6 +10,8 @@ mod broken;
 #[cfg(test)]
 mod classes;
 #[cfg(test)]
+mod documents;
+#[cfg(test)]
 mod edges;
 #[cfg(test)]
 mod forms;
