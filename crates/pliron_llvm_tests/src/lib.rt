@@ -32,8 +32,12 @@ mod parts;
 #[cfg(test)]
 mod readings;
 #[cfg(test)]
+mod round_trips;
+#[cfg(test)]
 mod statement_forms;
 #[cfg(test)]
 mod statements;
 #[cfg(test)]
 mod tokens;
+#[cfg(test)]
+mod trees;
