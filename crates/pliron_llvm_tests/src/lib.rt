@@ -35,3 +35,5 @@ mod statement_forms;
 mod statements;
 #[cfg(test)]
 mod tokens;
+#[cfg(test)]
+mod trees;

@@ -9,7 +9,7 @@ first_apart true number rest = refl
 first_apart false number rest = refl
 
 -- the first of the numbers, and those behind it
-passing_first : (test : ℕ → Bool) (number end : ℕ) → number < end
+pub passing_first : (test : ℕ → Bool) (number end : ℕ) → number < end
     → numbers_passing test number (end - number) ≡ numbers_passing test number 1 ++ numbers_passing test (number + 1) (end - (number + 1))
 passing_first test number end less =
     let count : end - number ≡ suc (end - (number + 1)) = omega (arith, less) in

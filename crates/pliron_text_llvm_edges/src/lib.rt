@@ -15,3 +15,4 @@ pub use function::{EdgeForm, FunctionEdges, read_edges};
 pub use incoming::incoming_edges;
 pub use phis::{BlockPhi, PhiPlace, push_phis};
 pub use stop::{EdgeFault, EdgeRefusal, EdgeStop, KeptForEdges};
+pub use targets::{bytes_at, is_successor_at, place_of_hole, target_at};

@@ -10,8 +10,9 @@ use pliron_text_llvm_names::{DefinitionKind, LocalDefinition, bytes_in};
 use pliron_text_llvm_reader::BlockLines;
 use pliron_text_llvm_syntax::{Hole, HoleKind};
 
-// The number of the definition that the hole names, if it names one.
-fn target_at(reading: &FunctionReading, hole: usize) -> Option<usize>
+/// The number of the definition that the hole names, if it names one. Cost: constant.
+#[doc(hidden)]
+pub fn target_at(reading: &FunctionReading, hole: usize) -> Option<usize>
     ensures { result ≡ target_at reading.now hole }
 {
     match reading.targets.get(hole) {
@@ -68,6 +69,7 @@ pub fn block_named(reading: &FunctionReading, hole: usize) -> Option<usize>
 }
 
 /// Whether a successor is in the hole. Cost: constant.
+#[doc(hidden)]
 pub fn is_successor_at(holes: &[Hole], number: usize) -> bool
     ensures { result ≡ is_successor_at holes.now number }
 {
@@ -78,6 +80,7 @@ pub fn is_successor_at(holes: &[Hole], number: usize) -> bool
 }
 
 /// Where the hole is in the text. Cost: constant.
+#[doc(hidden)]
 pub fn place_of_hole(reading: &FunctionReading, hole: usize) -> usize {
     match reading.body.holes.get(hole) {
         Some(hole) => hole.span.start,
@@ -85,8 +88,9 @@ pub fn place_of_hole(reading: &FunctionReading, hole: usize) -> usize {
     }
 }
 
-// The bytes in the hole.
-fn bytes_at<'t>(text: &'t [u8], holes: &[Hole], hole: usize) -> &'t [u8]
+/// The bytes in the hole. Cost: constant.
+#[doc(hidden)]
+pub fn bytes_at<'t>(text: &'t [u8], holes: &[Hole], hole: usize) -> &'t [u8]
     ensures { result.now ≡ bytes_in_hole text.now (slice_get holes.now hole) }
 {
     match holes.get(hole) {

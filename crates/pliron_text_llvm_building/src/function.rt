@@ -1,0 +1,134 @@
+//! The tree of a function.
+ghost use Rattle.std.specs.Prelude.{◌≡◌, IfOk};
+ghost use Rattle.pliron_core.specs.Tree.{IsLive};
+ghost use Rattle.pliron_laws.specs.Linked.{IsWellLinked};
+ghost use Rattle.pliron_text_llvm_building.specs.Additions.{AddsText};
+
+use crate::build::{BuiltParts, add_blocks, add_constants, add_operations};
+use crate::connect::connect_all;
+use crate::stop::{BuildStop, KeptForBuilding};
+use pliron_core::{Context, Operation, Ptr};
+use pliron_dialect_mlir::{Class, plain_head};
+use pliron_laws::{Dialect, is_well_linked};
+use pliron_text_llvm_names::bytes_in;
+use pliron_text_llvm_plans::{FunctionPlan, FunctionSource, note_all, plan_function};
+use pliron_text_llvm_sheets::LlvmSheet;
+use pliron_text_llvm_syntax::{ByteSpan, FunctionText};
+use std::alloc::Global;
+
+// The number of the text before the body of the function.
+fn number_of_header(
+    text: &[u8],
+    function: &FunctionText,
+    sheet: &mut LlvmSheet,
+) -> Result<usize, BuildStop> {
+    let header = ByteSpan {
+        start: function.span.start,
+        end: function.body.start,
+    };
+    Ok(sheet.number(bytes_in(text, header))?)
+}
+
+// Makes the operation of a function whose text before the body has this number, without blocks.
+#[tactic(auto, using(crate::proofs::AdditionLemmas::adds_none, crate::proofs::AdditionLemmas::adds_one, crate::proofs::AdditionLemmas::function_head))]
+fn make_root(alloc: Global, header: usize, ctx: &mut Context) -> Result<Ptr<Operation>, BuildStop>
+    ensures { AddsText ctx.old.tree ctx.new.tree }
+{
+    let head = plain_head(alloc, Class::Root, header)?;
+    Ok(Operation::create(ctx, head, 0, 1)?)
+}
+
+// Makes all that is in the function.
+#[tactic(auto, using(crate::proofs::AdditionLemmas::adds_none, crate::proofs::AdditionLemmas::adds_more, crate::proofs::AdditionLemmas::adds_before_none, crate::proofs::AdditionLemmas::adds_behind_none))]
+fn build_inside(
+    source: FunctionSource<'_>,
+    plan: &FunctionPlan,
+    sheet: &LlvmSheet,
+    root: Ptr<Operation>,
+    ctx: &mut Context,
+    built: &mut BuiltParts,
+) -> Result<(), BuildStop>
+    ensures { AddsText ctx.old.tree ctx.new.tree }
+{
+    add_blocks(source, plan, root, ctx, built)?;
+    add_constants(plan, sheet, ctx, built)?;
+    add_operations(plan, sheet, ctx, built)?;
+    connect_all(plan, ctx, built)
+}
+
+// Makes the function by its plan, whose text before the body has this number.
+#[tactic(auto, using(crate::proofs::AdditionLemmas::adds_more))]
+fn build_planned(
+    alloc: Global,
+    source: FunctionSource<'_>,
+    plan: &FunctionPlan,
+    header: usize,
+    sheet: &LlvmSheet,
+    ctx: &mut Context,
+) -> Result<Ptr<Operation>, BuildStop>
+    ensures { AddsText ctx.old.tree ctx.new.tree }
+{
+    let root = make_root(alloc, header, ctx)?;
+    let mut built = BuiltParts::new(alloc);
+    match build_inside(source, plan, sheet, root, ctx, &mut built) {
+        Ok(()) => Ok(root),
+        Err(stop) => Err(stop),
+    }
+}
+
+// Plans the function, notes what the sheet has beside the tree, and answers the number of the text before the body.
+fn plan_and_note(
+    alloc: Global,
+    source: FunctionSource<'_>,
+    function: &FunctionText,
+    sheet: &mut LlvmSheet,
+    plan: &mut FunctionPlan,
+) -> Result<usize, BuildStop> {
+    plan_function(alloc, source, sheet, plan)?;
+    note_all(alloc, source, plan, sheet)?;
+    number_of_header(source.text, function, sheet)
+}
+
+// Builds the function by a new plan.
+#[tactic(auto, using(crate::proofs::AdditionLemmas::adds_none))]
+fn build_source(
+    alloc: Global,
+    source: FunctionSource<'_>,
+    function: &FunctionText,
+    sheet: &mut LlvmSheet,
+    ctx: &mut Context,
+) -> Result<Ptr<Operation>, BuildStop>
+    ensures { AddsText ctx.old.tree ctx.new.tree }
+{
+    let mut plan = FunctionPlan::new(alloc);
+    match plan_and_note(alloc, source, function, sheet, &mut plan) {
+        Ok(header) => build_planned(alloc, source, &plan, header, sheet, ctx),
+        Err(stop) => Err(stop),
+    }
+}
+
+/// Builds the tree of a function: its operation, which is in no block and is well linked; and adds what the text says
+/// beside it to the sheet. The sheet notes values and blocks in the order of their handles, so it has to be that of the
+/// whole context.
+///
+/// Asks for what was made of the function. Errors: a statement has no form, or no tree of the dialect has what the
+/// function has, and so it is kept as it is written; allocation failure. A part of it may be live then. Cost: linear in
+/// the function.
+pub fn build_function<D: Dialect>(
+    alloc: Global,
+    source: FunctionSource<'_>,
+    function: &FunctionText,
+    sheet: &mut LlvmSheet,
+    ctx: &mut Context,
+) -> Result<Ptr<Operation>, BuildStop>
+    ensures liveness { IfOk result (λ root. IsLive ctx.new.tree root) }
+    ensures linked { IfOk result (λ root. IsWellLinked D.meaning ctx.new.tree root) }
+    ensures heads { AddsText ctx.old.tree ctx.new.tree }
+{
+    let root = build_source(alloc, source, function, sheet, ctx)?;
+    if root.is_live(ctx) && is_well_linked::<D>(root, ctx) {
+        Ok(root)
+    } else {
+        Err(BuildStop::Keep(function.span.start, KeptForBuilding::Unfit))
+    }
+}

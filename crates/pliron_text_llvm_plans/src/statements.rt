@@ -1,0 +1,113 @@
+//! Forms of statements whose operands a tree has.
+ghost use Rattle.std.specs.Prelude.{◌≡◌, ◌++◌, [], IfOk, OnOk};
+ghost use Rattle.pliron_text_llvm_edges.specs.Numbers.{numbers_passing};
+ghost use Rattle.pliron_text_llvm_forms.specs.StatementForms.{text_up_to, IsForm};
+ghost use Rattle.pliron_text_llvm_plans.specs.Forms.{is_tree_hole_at, holes_numbered, tree_holes_of};
+
+use crate::stop::{KeptForPlan, PlanStop};
+use pliron_text_llvm_edges::is_successor_at;
+use pliron_text_llvm_forms::form_of_statement;
+use pliron_text_llvm_functions::FunctionReading;
+use pliron_text_llvm_reader::BodyStatement;
+use pliron_text_llvm_syntax::Hole;
+use pliron_text_llvm_trees::is_undefined_at;
+use std::alloc::{AllocError, Global};
+
+// Whether the tree has what is in the hole.
+fn is_tree_hole_at(
+    alloc: Global,
+    text: &[u8],
+    reading: &FunctionReading,
+    number: usize,
+) -> Result<bool, AllocError>
+    ensures { IfOk result (λ is_tree_hole. is_tree_hole ≡ is_tree_hole_at text.now reading.now number) }
+{
+    if is_successor_at(&reading.body.holes, number) {
+        return Ok(true);
+    }
+    let is_undefined = is_undefined_at(alloc, text, reading, number)?;
+    Ok(!is_undefined)
+}
+
+// Adds the hole, if there is one and the tree has what is in it.
+#[tactic(auto, using(crate::proofs::FormLemmas::hole_left, crate::proofs::FormLemmas::hole_put, crate::proofs::FormLemmas::hole_missing))]
+fn push_hole(
+    alloc: Global,
+    text: &[u8],
+    reading: &FunctionReading,
+    number: usize,
+    holes: &mut Vec<Hole>,
+) -> Result<(), AllocError>
+    ensures { OnOk result (holes.new.items ≡ holes.old.items ++ holes_numbered reading.now.body.holes.items
+        (numbers_passing (is_tree_hole_at text.now reading.now) number 1)) }
+{
+    if !is_tree_hole_at(alloc, text, reading, number)? {
+        return Ok(());
+    }
+    match reading.body.holes.get(number) {
+        Some(hole) => {
+            holes.push(*hole)?;
+            Ok(())
+        }
+        None => Ok(()),
+    }
+}
+
+// Adds the operands and successors of the statement that the tree has to none.
+#[tactic(auto, using(crate::proofs::FormLemmas::holes_begun, crate::proofs::FormLemmas::holes_all))]
+fn push_holes(
+    alloc: Global,
+    text: &[u8],
+    reading: &FunctionReading,
+    line: &BodyStatement,
+    holes: &mut Vec<Hole>,
+) -> Result<(), AllocError>
+    requires { holes.old.items ≡ [] }
+    ensures { OnOk result (holes.new.items ≡ tree_holes_of text.now reading.now line.now) }
+{
+    for number in line.first_hole..line.end_hole {
+        push_hole(alloc, text, reading, number, holes)?;
+    }
+    Ok(())
+}
+
+// The form of the statement with these holes.
+fn form_with(
+    alloc: Global,
+    text: &[u8],
+    line: &BodyStatement,
+    holes: &[Hole],
+) -> Result<Vec<u8>, PlanStop>
+    ensures { IfOk result (λ form.
+        IsForm (text_up_to text.now line.now) line.now.statement.opcode.start holes.now form.items) }
+{
+    let start = line.statement.opcode.start;
+    if start > line.span.end || line.span.end > text.len() {
+        return Err(PlanStop::Keep(start, KeptForPlan::Form));
+    }
+    match form_of_statement(alloc, text, line, holes)? {
+        Some(form) => Ok(form),
+        None => Err(PlanStop::Keep(start, KeptForPlan::Form)),
+    }
+}
+
+/// The form of a statement: its text from its opcode on, with a mark for each operand and each successor that the tree
+/// has. A constant that names `undef` stays in it.
+///
+/// Errors: it has none, and so the function is kept as it is written; allocation failure. Cost: linear in it.
+#[doc(hidden)]
+pub fn read_form(
+    alloc: Global,
+    text: &[u8],
+    reading: &FunctionReading,
+    line: &BodyStatement,
+) -> Result<Vec<u8>, PlanStop>
+    ensures { IfOk result (λ form. IsForm (text_up_to text.now line.now) line.now.statement.opcode.start
+        (tree_holes_of text.now reading.now line.now) form.items) }
+{
+    let mut holes = Vec::new(alloc);
+    match push_holes(alloc, text, reading, line, &mut holes) {
+        Ok(()) => form_with(alloc, text, line, &holes),
+        Err(_) => Err(PlanStop::NoMemory),
+    }
+}

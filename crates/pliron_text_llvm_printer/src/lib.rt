@@ -1,0 +1,14 @@
+//! Printing functions as LLVM's textual IR: statements by the forms that the sheet has, values by their names or by new
+//! numbers, arguments of blocks as phis, and constants where they are read.
+#![tactic(auto)]
+
+mod forms;
+mod incoming;
+mod integers;
+mod names;
+mod print;
+mod stop;
+mod walk;
+
+pub use print::print_function;
+pub use stop::PrintStop;

@@ -1,0 +1,250 @@
+//! What values and blocks are called.
+use crate::stop::PrintStop;
+use crate::walk::{first_operation, next_operation, num_argument};
+use indexmap::IndexMap;
+use itoa::Buffer;
+use pliron_core::{BasicBlock, Context, Def, Operation, Ptr, Value};
+use pliron_dialect_mlir::{Class, class_of_head};
+use pliron_text_llvm_sheets::{LlvmSheet, ValueNote, ValueOrigin};
+use std::alloc::{AllocError, Global};
+
+/// Numbers of values and blocks that have no name.
+#[derive(Drop)]
+pub struct LocalNumbers {
+    values: IndexMap<u64, u64>,
+    blocks: IndexMap<u64, u64>,
+    next: u64,
+}
+
+/// Appends the number in digits. Errors: allocation failure. Cost: constant.
+pub fn write_number(number: u64, out: &mut Vec<u8>) -> Result<(), AllocError> {
+    let mut buffer = Buffer::new();
+    out.extend_from_slice(buffer.format(number).as_bytes())
+}
+
+/// What the sheet notes of the value; none of what a pass made. Cost: constant.
+pub fn note_of(value: Value, sheet: &LlvmSheet) -> Option<ValueNote> {
+    match usize::try_from(value.key()) {
+        Ok(key) => sheet.value(key),
+        Err(_) => None,
+    }
+}
+
+/// The operation that gives the value, if one does. Cost: constant.
+pub fn maker(value: Value, ctx: &Context) -> Option<Ptr<Operation>> {
+    if !value.is_live(ctx) {
+        return None;
+    }
+    match value.def(ctx) {
+        Def::Result(op, _) => Some(op),
+        _ => None,
+    }
+}
+
+/// The only result of the operation, if it has one. Cost: constant.
+pub fn result_of(op: Ptr<Operation>, ctx: &Context) -> Option<Value> {
+    if op.is_live(ctx) && op.num_result(ctx) > 0 {
+        Some(op.get_result(ctx, 0))
+    } else {
+        None
+    }
+}
+
+/// Whether the operation is a constant, which stands where it is read. Cost: constant.
+pub fn is_constant(op: Ptr<Operation>, sheet: &LlvmSheet, ctx: &Context) -> bool {
+    if op.is_live(ctx) && class_of_head(op.head(ctx)) == Some(Class::Constant) {
+        return true;
+    }
+    match result_of(op, ctx) {
+        Some(value) => match note_of(value, sheet) {
+            Some(note) => note.origin == ValueOrigin::Constant,
+            None => false,
+        },
+        None => false,
+    }
+}
+
+// The number that the digits are.
+fn number_of(digits: &[u8]) -> Option<u64> {
+    match std::str::from_utf8(digits) {
+        Ok(text) => text.parse().ok(),
+        Err(_) => None,
+    }
+}
+
+// The number behind that of the name, where it is `%` and digits, and else `next`.
+fn number_behind(name: &[u8], next: u64) -> u64 {
+    match name {
+        [b'%', digits @ ..] => match number_of(digits) {
+            Some(number) => number.saturating_add(1),
+            None => next,
+        },
+        _ => next,
+    }
+}
+
+impl LocalNumbers {
+    /// No numbers yet. Takes no memory. Cost: constant.
+    pub fn new(alloc: Global) -> LocalNumbers {
+        LocalNumbers {
+            values: IndexMap::new(alloc),
+            blocks: IndexMap::new(alloc),
+            next: 0,
+        }
+    }
+
+    // The next number.
+    fn take(&mut self) -> u64 {
+        let number = self.next;
+        self.next = number.saturating_add(1);
+        number
+    }
+
+    // Gives the value a number, if it has no name; a parameter keeps its own.
+    fn add_value(&mut self, value: Value, sheet: &LlvmSheet) -> Result<(), PrintStop> {
+        if let Some(
+            ValueNote {
+                name: Some(name),
+                ..
+            },
+        ) = note_of(value, sheet)
+        {
+            self.next = number_behind(sheet.text(name), self.next).max(self.next);
+            return Ok(());
+        }
+        let number = self.take();
+        let _ = self.values.insert(value.key(), number)?;
+        Ok(())
+    }
+
+    // Gives the block a number, if it has no name.
+    fn add_block(&mut self, block: Ptr<BasicBlock>, sheet: &LlvmSheet) -> Result<(), PrintStop> {
+        if name_of_block(block, sheet).is_some() {
+            return Ok(());
+        }
+        let number = self.take();
+        let _ = self.blocks.insert(block.key(), number)?;
+        Ok(())
+    }
+
+    // Gives the arguments of the block numbers.
+    fn add_arguments(
+        &mut self,
+        block: Ptr<BasicBlock>,
+        sheet: &LlvmSheet,
+        ctx: &Context,
+    ) -> Result<(), PrintStop> {
+        for i in 0..num_argument(block, ctx) {
+            if block.is_live(ctx) && i < block.num_argument(ctx) {
+                self.add_value(block.get_argument(ctx, i), sheet)?;
+            }
+        }
+        Ok(())
+    }
+
+    // Gives the result of the operation a number, if it is printed.
+    fn add_result(
+        &mut self,
+        op: Ptr<Operation>,
+        sheet: &LlvmSheet,
+        ctx: &Context,
+    ) -> Result<(), PrintStop> {
+        match result_of(op, ctx) {
+            Some(value) if !is_constant(op, sheet, ctx) => self.add_value(value, sheet),
+            _ => Ok(()),
+        }
+    }
+
+    // Gives the results of the block's operations numbers.
+    fn add_results(
+        &mut self,
+        block: Ptr<BasicBlock>,
+        sheet: &LlvmSheet,
+        ctx: &Context,
+    ) -> Result<(), PrintStop> {
+        let mut next = first_operation(block, ctx);
+        // Each turn takes an operation, or is the last.
+        for _ in 0..u64::MAX {
+            let Some(op) = next else {
+                break;
+            };
+            self.add_result(op, sheet, ctx)?;
+            next = next_operation(op, ctx);
+        }
+        Ok(())
+    }
+
+    /// Gives what has no name in the blocks of a function a number, in the order in which it is printed: behind the
+    /// parameters blocks, their arguments, and what their operations give. Errors: allocation failure. Cost: linear in
+    /// them.
+    pub fn add_all(
+        &mut self,
+        blocks: &[Ptr<BasicBlock>],
+        sheet: &LlvmSheet,
+        ctx: &Context,
+    ) -> Result<(), PrintStop> {
+        for i in 0..blocks.len() {
+            let block = blocks[i];
+            if i == 0 {
+                self.add_arguments(block, sheet, ctx)?;
+                self.add_block(block, sheet)?;
+            } else {
+                self.add_block(block, sheet)?;
+                self.add_arguments(block, sheet, ctx)?;
+            }
+            self.add_results(block, sheet, ctx)?;
+        }
+        Ok(())
+    }
+
+    /// Appends the name of the value with its `%`. Errors: it has none; allocation failure. Cost: its length.
+    pub fn write_value(
+        &self,
+        value: Value,
+        sheet: &LlvmSheet,
+        out: &mut Vec<u8>,
+    ) -> Result<(), PrintStop> {
+        if let Some(number) = self.values.get(&value.key()) {
+            out.push(b'%')?;
+            return Ok(write_number(*number, out)?);
+        }
+        match note_of(value, sheet) {
+            Some(
+                ValueNote {
+                    name: Some(name),
+                    ..
+                },
+            ) => Ok(out.extend_from_slice(sheet.text(name))?),
+            _ => Err(PrintStop::Textless),
+        }
+    }
+
+    /// Whether the block has no name, but a number. Cost: constant.
+    pub fn is_numbered(&self, block: Ptr<BasicBlock>) -> bool {
+        self.blocks.get(&block.key()).is_some()
+    }
+
+    /// Appends the name of the block without a mark. Errors: it has none; allocation failure. Cost: its length.
+    pub fn write_block(
+        &self,
+        block: Ptr<BasicBlock>,
+        sheet: &LlvmSheet,
+        out: &mut Vec<u8>,
+    ) -> Result<(), PrintStop> {
+        if let Some(number) = self.blocks.get(&block.key()) {
+            return Ok(write_number(*number, out)?);
+        }
+        match name_of_block(block, sheet) {
+            Some(name) => Ok(out.extend_from_slice(sheet.text(name))?),
+            None => Err(PrintStop::Textless),
+        }
+    }
+}
+
+// The number of the block's name, if it has one.
+fn name_of_block(block: Ptr<BasicBlock>, sheet: &LlvmSheet) -> Option<usize> {
+    match usize::try_from(block.key()) {
+        Ok(key) => sheet.block(key),
+        Err(_) => None,
+    }
+}

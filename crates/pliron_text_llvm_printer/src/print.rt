@@ -1,0 +1,378 @@
+//! Printing a function.
+use crate::forms::{before_entries, behind_entries};
+use crate::incoming::{PassingEdge, edges_between, first_edge_to, form_text};
+use crate::integers::IntegerText;
+use crate::names::{LocalNumbers, is_constant, maker, note_of, result_of, write_number};
+use crate::stop::PrintStop;
+use crate::walk::{blocks_of, first_operation, next_operation, num_argument};
+use pliron_core::{AttrObj, BasicBlock, Context, Head, Operation, Ptr, Value};
+use pliron_dialect_mlir::{Class, class_of_head, form_of_constant, integer_of};
+use pliron_text_llvm_sheets::{LlvmSheet, ValueOrigin};
+use pliron_text_llvm_syntax::{HoleKind, is_mark};
+use std::alloc::{AllocError, Global};
+
+/// What printing a function reads.
+#[derive(Clone, Copy)]
+struct FunctionView<'s> {
+    sheet: &'s LlvmSheet,
+    numbers: &'s LocalNumbers,
+    edges: &'s [PassingEdge],
+    ctx: &'s Context,
+}
+
+// The datum of a constant with this head; none of any other operation.
+fn datum_of(head: &Head) -> Option<i128> {
+    if class_of_head(head) != Some(Class::Constant) || head.attrs.is_empty() {
+        return None;
+    }
+    match head.attrs.get(0) {
+        AttrObj::Int(datum) => Some(*datum),
+        AttrObj::Text(_) => None,
+    }
+}
+
+// Appends the number of these bits, read as signed, and a truth as a word.
+fn write_signed(width: u32, bits: u64, out: &mut Vec<u8>) -> Result<(), AllocError> {
+    if width == 1 {
+        return out.extend_from_slice(if bits == 1 {
+            b"true".as_slice()
+        } else {
+            b"false".as_slice()
+        });
+    }
+    let unused = if width > 0 && width < 64 {
+        64 - width
+    } else {
+        0
+    };
+    let signed = (bits << unused).cast_signed() >> unused;
+    if signed < 0 {
+        out.push(b'-')?;
+    }
+    write_number(signed.unsigned_abs(), out)
+}
+
+// Appends the text of the constant with this datum.
+fn write_datum(datum: i128, sheet: &LlvmSheet, out: &mut Vec<u8>) -> Result<(), PrintStop> {
+    if let Some((width, bits)) = integer_of(datum) {
+        return Ok(write_signed(width, bits, out)?);
+    }
+    let number = match form_of_constant(datum) {
+        Some(form) => usize::try_from(form).unwrap_or(usize::MAX),
+        None => usize::MAX,
+    };
+    match sheet.text(number) {
+        [] => Err(PrintStop::Textless),
+        text => Ok(out.extend_from_slice(text)?),
+    }
+}
+
+impl FunctionView<'_> {
+    // Appends the text of the constant that the operation is.
+    fn write_constant(self, op: Ptr<Operation>, out: &mut Vec<u8>) -> Result<(), PrintStop> {
+        if !op.is_live(self.ctx) {
+            return Err(PrintStop::Textless);
+        }
+        match datum_of(op.head(self.ctx)) {
+            Some(datum) => write_datum(datum, self.sheet, out),
+            None => match form_text(op, self.sheet, self.ctx) {
+                Some(text) => Ok(out.extend_from_slice(text)?),
+                None => Err(PrintStop::Textless),
+            },
+        }
+    }
+
+    // Appends what stands where the value is read: its name, or the text of the constant that it is.
+    fn write_value(self, value: Value, out: &mut Vec<u8>) -> Result<(), PrintStop> {
+        match maker(value, self.ctx) {
+            Some(op) if is_constant(op, self.sheet, self.ctx) => self.write_constant(op, out),
+            _ => self.numbers.write_value(value, self.sheet, out),
+        }
+    }
+
+    // Appends what stands for the operand with this index.
+    fn write_operand(
+        self,
+        op: Ptr<Operation>,
+        i: usize,
+        out: &mut Vec<u8>,
+    ) -> Result<(), PrintStop> {
+        if !op.is_live(self.ctx) || i >= op.num_operand(self.ctx) {
+            return Err(PrintStop::Textless);
+        }
+        self.write_value(op.get_operand(self.ctx, i), out)
+    }
+
+    // Appends the name of the block with its `%`.
+    fn write_label(self, block: Ptr<BasicBlock>, out: &mut Vec<u8>) -> Result<(), PrintStop> {
+        out.push(b'%')?;
+        self.numbers.write_block(block, self.sheet, out)
+    }
+
+    // Appends what stands for the successor with this index.
+    fn write_successor(
+        self,
+        op: Ptr<Operation>,
+        i: usize,
+        out: &mut Vec<u8>,
+    ) -> Result<(), PrintStop> {
+        if !op.is_live(self.ctx) || i >= op.num_successor(self.ctx) {
+            return Err(PrintStop::Textless);
+        }
+        self.write_label(op.get_successor(self.ctx, i), out)
+    }
+
+    // Appends the form with what stands for its marks.
+    fn write_form(
+        self,
+        op: Ptr<Operation>,
+        form: &[u8],
+        out: &mut Vec<u8>,
+    ) -> Result<(), PrintStop> {
+        let mut operand: usize = 0;
+        let mut successor: usize = 0;
+        for byte in form {
+            if !is_mark(*byte) {
+                out.push(*byte)?;
+            } else if *byte == HoleKind::Operand.mark() {
+                self.write_operand(op, operand, out)?;
+                operand = operand.saturating_add(1);
+            } else {
+                self.write_successor(op, successor, out)?;
+                successor = successor.saturating_add(1);
+            }
+        }
+        Ok(())
+    }
+
+    // Appends an operation on integers that a pass made.
+    fn write_integer(
+        self,
+        op: Ptr<Operation>,
+        text: IntegerText,
+        out: &mut Vec<u8>,
+    ) -> Result<(), PrintStop> {
+        text.write_before(out)?;
+        if !op.is_live(self.ctx) {
+            return Err(PrintStop::Textless);
+        }
+        for i in 0..op.num_operand(self.ctx) {
+            out.extend_from_slice(if i == 0 {
+                b" ".as_slice()
+            } else {
+                b", ".as_slice()
+            })?;
+            self.write_operand(op, i, out)?;
+        }
+        Ok(text.write_behind(out)?)
+    }
+
+    // Appends an operation that a pass made.
+    fn write_made(self, op: Ptr<Operation>, out: &mut Vec<u8>) -> Result<(), PrintStop> {
+        if !op.is_live(self.ctx) {
+            return Err(PrintStop::Textless);
+        }
+        if let Some(text) = IntegerText::of_head(op.head(self.ctx)) {
+            return self.write_integer(op, text, out);
+        }
+        if class_of_head(op.head(self.ctx)) != Some(Class::Jump) {
+            return Err(PrintStop::Textless);
+        }
+        out.extend_from_slice(b"br label ")?;
+        self.write_successor(op, 0, out)
+    }
+
+    // Appends the name of the result and `=`, if the operation gives one.
+    fn write_result(self, op: Ptr<Operation>, out: &mut Vec<u8>) -> Result<(), PrintStop> {
+        match result_of(op, self.ctx) {
+            Some(value) => {
+                self.numbers.write_value(value, self.sheet, out)?;
+                Ok(out.extend_from_slice(b" = ")?)
+            }
+            None => Ok(()),
+        }
+    }
+
+    // Appends the line of the operation, if it has one.
+    fn write_operation(self, op: Ptr<Operation>, out: &mut Vec<u8>) -> Result<(), PrintStop> {
+        if is_constant(op, self.sheet, self.ctx) {
+            return Ok(());
+        }
+        out.extend_from_slice(b"  ")?;
+        self.write_result(op, out)?;
+        match form_text(op, self.sheet, self.ctx) {
+            Some(form) => self.write_form(op, form, out)?,
+            None => self.write_made(op, out)?,
+        }
+        Ok(out.push(b'\n')?)
+    }
+}
+
+impl FunctionView<'_> {
+    // Appends the entry of the phi that is the argument with this index, for the edge.
+    fn write_entry(self, edge: PassingEdge, i: usize, out: &mut Vec<u8>) -> Result<(), PrintStop> {
+        out.extend_from_slice(b"[ ")?;
+        self.write_operand(edge.op, edge.first.saturating_add(i), out)?;
+        out.extend_from_slice(b", ")?;
+        self.write_label(edge.from, out)?;
+        Ok(out.extend_from_slice(b" ]")?)
+    }
+
+    // Appends the entries of the phi that is the argument with this index of the block.
+    fn write_entries(
+        self,
+        block: Ptr<BasicBlock>,
+        i: usize,
+        out: &mut Vec<u8>,
+    ) -> Result<(), PrintStop> {
+        let first = first_edge_to(self.edges, block);
+        for at in first..self.edges.len() {
+            match self.edges.get(at) {
+                Some(edge) if edge.to == block => {
+                    if at > first {
+                        out.extend_from_slice(b", ")?;
+                    }
+                    self.write_entry(*edge, i, out)?;
+                }
+                _ => break,
+            }
+        }
+        Ok(())
+    }
+
+    // The form of the phi that the value is.
+    fn form_of_phi(&self, value: Value) -> Option<&[u8]> {
+        match note_of(value, self.sheet)?.origin {
+            ValueOrigin::Phi(form) => Some(self.sheet.text(form)),
+            _ => None,
+        }
+    }
+
+    // Appends the line of the phi that is the argument with this index of the block.
+    fn write_phi(
+        self,
+        block: Ptr<BasicBlock>,
+        i: usize,
+        out: &mut Vec<u8>,
+    ) -> Result<(), PrintStop> {
+        if !block.is_live(self.ctx) || i >= block.num_argument(self.ctx) {
+            return Err(PrintStop::Textless);
+        }
+        let value = block.get_argument(self.ctx, i);
+        let form = self.form_of_phi(value).unwrap_or(&[]);
+        let (Some(before), Some(behind)) = (before_entries(form), behind_entries(form)) else {
+            return Err(PrintStop::Textless);
+        };
+        out.extend_from_slice(b"  ")?;
+        self.numbers.write_value(value, self.sheet, out)?;
+        out.extend_from_slice(b" = ")?;
+        out.extend_from_slice(before)?;
+        self.write_entries(block, i, out)?;
+        out.extend_from_slice(behind)?;
+        Ok(out.push(b'\n')?)
+    }
+
+    // Appends the lines of the block's operations.
+    fn write_operations(self, block: Ptr<BasicBlock>, out: &mut Vec<u8>) -> Result<(), PrintStop> {
+        let mut next = first_operation(block, self.ctx);
+        // Each turn takes an operation, or is the last.
+        for _ in 0..u64::MAX {
+            let Some(op) = next else {
+                break;
+            };
+            self.write_operation(op, out)?;
+            next = next_operation(op, self.ctx);
+        }
+        Ok(())
+    }
+
+    // Appends a block that isn't the first one.
+    fn write_block(self, block: Ptr<BasicBlock>, out: &mut Vec<u8>) -> Result<(), PrintStop> {
+        out.push(b'\n')?;
+        self.numbers.write_block(block, self.sheet, out)?;
+        out.extend_from_slice(b":\n")?;
+        for i in 0..num_argument(block, self.ctx) {
+            self.write_phi(block, i, out)?;
+        }
+        self.write_operations(block, out)
+    }
+
+    // Appends the first block, whose arguments are the parameters.
+    fn write_first(self, block: Ptr<BasicBlock>, out: &mut Vec<u8>) -> Result<(), PrintStop> {
+        if !self.numbers.is_numbered(block) {
+            self.numbers.write_block(block, self.sheet, out)?;
+            out.extend_from_slice(b":\n")?;
+        }
+        self.write_operations(block, out)
+    }
+
+    // Appends the blocks.
+    fn write_blocks(self, blocks: &[Ptr<BasicBlock>], out: &mut Vec<u8>) -> Result<(), PrintStop> {
+        for i in 0..blocks.len() {
+            if i == 0 {
+                self.write_first(blocks[i], out)?;
+            } else {
+                self.write_block(blocks[i], out)?;
+            }
+        }
+        Ok(())
+    }
+}
+
+// Appends the function whose blocks these are.
+fn write_function(
+    root: Ptr<Operation>,
+    blocks: &[Ptr<BasicBlock>],
+    view: FunctionView<'_>,
+    out: &mut Vec<u8>,
+) -> Result<(), PrintStop> {
+    match form_text(root, view.sheet, view.ctx) {
+        Some(header) => out.extend_from_slice(header)?,
+        None => return Err(PrintStop::Textless),
+    }
+    out.extend_from_slice(b"{\n")?;
+    view.write_blocks(blocks, out)?;
+    Ok(out.push(b'}')?)
+}
+
+// Appends the function whose blocks these are, by new numbers.
+fn write_numbered(
+    alloc: Global,
+    root: Ptr<Operation>,
+    blocks: &[Ptr<BasicBlock>],
+    sheet: &LlvmSheet,
+    ctx: &Context,
+    out: &mut Vec<u8>,
+) -> Result<(), PrintStop> {
+    let edges = edges_between(alloc, blocks, sheet, ctx)?;
+    let mut numbers = LocalNumbers::new(alloc);
+    match numbers.add_all(blocks, sheet, ctx) {
+        Ok(()) => {
+            let view = FunctionView {
+                sheet,
+                numbers: &numbers,
+                edges: &edges,
+                ctx,
+            };
+            write_function(root, blocks, view, out)
+        }
+        Err(stop) => Err(stop),
+    }
+}
+
+/// Appends the text of a function: what was before its body, and its blocks. A statement has its form, with what stands
+/// for its operands and successors: a name that the text had, a new number, or the text of a constant. An argument of
+/// each block but the first is a phi.
+///
+/// Errors: a pass made something of it for which no text is known; allocation failure. A part of the text may be
+/// appended then. Cost: linear in what is printed, and a sort of the edges.
+pub fn print_function(
+    alloc: Global,
+    root: Ptr<Operation>,
+    sheet: &LlvmSheet,
+    ctx: &Context,
+    out: &mut Vec<u8>,
+) -> Result<(), PrintStop> {
+    let blocks = blocks_of(alloc, root, ctx)?;
+    write_numbered(alloc, root, &blocks, sheet, ctx, out)
+}

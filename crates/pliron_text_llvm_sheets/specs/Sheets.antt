@@ -1,0 +1,21 @@
+-- What the numbers of a sheet of functions stand for.
+use Rattle.std.specs.Prelude.{ℕ, List, Option}
+use Rattle.pliron_text_mlir_syntax.specs.Sheets.{text_in, KeepsTexts}
+use Rattle.pliron_text_llvm_sheets.specs.declared.sheet.ValueNote.{ValueNote}
+use Rattle.pliron_text_llvm_sheets.specs.declared.sheet.LlvmSheet.{LlvmSheet}
+
+-- the text of this number, if one has it
+abbrev pub sheet_text : LlvmSheet → ℕ → Option (List ℕ)
+sheet_text sheet number = text_in sheet.texts number
+
+-- a number that has a text keeps it
+abbrev pub KeepsSheetTexts : LlvmSheet → LlvmSheet → Type 0
+KeepsSheetTexts old new = KeepsTexts old.texts new.texts
+
+-- what is noted of values, by their handles
+abbrev pub value_notes : LlvmSheet → List ValueNote
+value_notes sheet = sheet.values.items
+
+-- the names of blocks, by their handles
+abbrev pub block_names : LlvmSheet → List (Option ℕ)
+block_names sheet = sheet.blocks.items

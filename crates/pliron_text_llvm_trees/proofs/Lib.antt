@@ -1,0 +1,4 @@
+pub mod OperandLemmas
+pub mod StatementLemmas
+pub mod ArgumentLemmas
+pub mod PassedLemmas
