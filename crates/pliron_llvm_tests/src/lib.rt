@@ -30,6 +30,8 @@ mod parts;
 #[cfg(test)]
 mod readings;
 #[cfg(test)]
+mod round_trips;
+#[cfg(test)]
 mod statement_forms;
 #[cfg(test)]
 mod statements;
