@@ -38,7 +38,6 @@ pub struct LlvmSheet {
 }
 
 // At this number there is this note from now on, or the one that there was.
-#[tactic(auto, using(crate::proofs::NoteLemmas::note_there, crate::proofs::NoteLemmas::note_put, crate::proofs::NoteLemmas::note_behind))]
 fn put_note<T: Copy + Drop>(
     notes: &mut Vec<Option<T>>,
     number: usize,
