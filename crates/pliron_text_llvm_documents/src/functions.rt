@@ -1,7 +1,8 @@
 //! Parts of a module, of which functions become trees.
-ghost use Rattle.std.specs.Prelude.{◌≡◌, [], map, OnOk};
+ghost use Rattle.std.specs.Prelude.{◌≡◌, [], map, IfOk, OnOk};
+ghost use Rattle.pliron_text_llvm_sheets.specs.Sheets.{KeepsSheet};
 ghost use Rattle.pliron_text_llvm_modules.specs.Modules.{module_part_of};
-ghost use Rattle.pliron_text_llvm_documents.specs.Documents.{ArePartsOf, IsOneMore};
+ghost use Rattle.pliron_text_llvm_documents.specs.Documents.{ArePartsOf, IsOneMore, IsMadeOf, KeepsHeads};
 
 use crate::addresses::TakenAddresses;
 use crate::stop::{DocumentFault, KeptPart, KeptReason};
@@ -40,13 +41,19 @@ fn kept_at(place: usize, reason: KeptReason) -> DocumentFunction {
 }
 
 // Builds the function.
+#[tactic(auto, using(crate::proofs::PartLemmas::heads_kept, crate::proofs::PartLemmas::heads_added, pliron_text_llvm_sheets::proofs::KeepingLemmas::sheet_kept))]
 fn build_made<D: Dialect>(
     alloc: Global,
     source: FunctionSource<'_>,
     function: &FunctionText,
     ctx: &mut Context,
     sheet: &mut LlvmSheet,
-) -> Result<DocumentFunction, AllocError> {
+) -> Result<DocumentFunction, AllocError>
+    ensures made { IfOk result (λ made.
+        IsMadeOf source.entry.text.now function.now sheet.new ctx.new.tree made) }
+    ensures heads { KeepsHeads ctx.old.tree ctx.new.tree }
+    ensures sheet { KeepsSheet sheet.old sheet.new }
+{
     match build_function::<D>(alloc, source, function, ctx, sheet) {
         Ok(root) => Ok(DocumentFunction::Tree(root)),
         Err(BuildStop::Keep(place, reason)) => Ok(kept_at(place, KeptReason::Building(reason))),
@@ -55,6 +62,7 @@ fn build_made<D: Dialect>(
 }
 
 // Builds the function that was read, where it is a tree.
+#[tactic(auto, using(crate::proofs::PartLemmas::heads_kept, crate::proofs::PartLemmas::heads_added, pliron_text_llvm_sheets::proofs::KeepingLemmas::sheet_kept))]
 fn build_read<D: Dialect>(
     text: &[u8],
     function: &FunctionText,
@@ -62,6 +70,10 @@ fn build_read<D: Dialect>(
     ctx: &mut Context,
     document: &mut DocumentParts,
 ) -> Result<DocumentFunction, AllocError>
+    ensures made { IfOk result (λ made.
+        IsMadeOf text.now function.now document.new.sheet.functions ctx.new.tree made) }
+    ensures heads { KeepsHeads ctx.old.tree ctx.new.tree }
+    ensures sheet { KeepsSheet document.old.sheet.functions document.new.sheet.functions }
     ensures parts { document.new.sheet.parts ≡ document.old.sheet.parts }
     ensures text { document.new.sheet.text ≡ document.old.sheet.text }
 {
@@ -80,6 +92,7 @@ fn build_read<D: Dialect>(
 }
 
 // Builds the function, where it was read and no other text names its blocks.
+#[tactic(auto, using(crate::proofs::PartLemmas::heads_kept, crate::proofs::PartLemmas::heads_added, pliron_text_llvm_sheets::proofs::KeepingLemmas::sheet_kept))]
 fn build_function_of<D: Dialect>(
     text: &[u8],
     function: &FunctionText,
@@ -87,6 +100,10 @@ fn build_function_of<D: Dialect>(
     ctx: &mut Context,
     document: &mut DocumentParts,
 ) -> Result<DocumentFunction, AllocError>
+    ensures made { IfOk result (λ made.
+        IsMadeOf text.now function.now document.new.sheet.functions ctx.new.tree made) }
+    ensures heads { KeepsHeads ctx.old.tree ctx.new.tree }
+    ensures sheet { KeepsSheet document.old.sheet.functions document.new.sheet.functions }
     ensures parts { document.new.sheet.parts ≡ document.old.sheet.parts }
     ensures text { document.new.sheet.text ≡ document.old.sheet.text }
 {
@@ -102,14 +119,17 @@ fn build_function_of<D: Dialect>(
 }
 
 // Adds the part, and what its function becomes.
+#[tactic(auto, using(crate::proofs::PartLemmas::heads_kept, crate::proofs::PartLemmas::heads_added, pliron_text_llvm_sheets::proofs::KeepingLemmas::sheet_kept))]
 fn push_part<D: Dialect>(
     text: &[u8],
     part: &ReadPart,
     ctx: &mut Context,
     document: &mut DocumentParts,
 ) -> Result<(), DocumentFault>
-    ensures part { OnOk result (IsOneMore (module_part_of part.now) document.old.sheet.parts.items
-        document.new.sheet.parts.items) }
+    ensures part { OnOk result (IsOneMore text.now document.new.sheet.functions ctx.new.tree
+        (module_part_of part.now) document.old.sheet.parts.items document.new.sheet.parts.items) }
+    ensures heads { KeepsHeads ctx.old.tree ctx.new.tree }
+    ensures sheet { KeepsSheet document.old.sheet.functions document.new.sheet.functions }
     ensures text { document.new.sheet.text ≡ document.old.sheet.text }
 {
     match part {
@@ -141,7 +161,8 @@ pub fn build_parts<D: Dialect>(
     document: &mut DocumentParts,
 ) -> Result<(), DocumentFault>
     requires { document.old.sheet.parts.items ≡ [] }
-    ensures parts { OnOk result (ArePartsOf (map module_part_of parts.now) document.new.sheet.parts.items) }
+    ensures parts { OnOk result (ArePartsOf text.now document.new.sheet.functions ctx.new.tree
+        (map module_part_of parts.now) document.new.sheet.parts.items) }
     ensures text { document.new.sheet.text ≡ document.old.sheet.text }
 {
     for part in parts {
