@@ -65,3 +65,5 @@ adds_keep_head t u op head a is = ap (λ xs. (get_or xs op no_entry).head) a.1 �
 pub function_is : (text : List ℕ) (function : FunctionText) (old new : LlvmSheet) (t : Tree) (op number : ℕ) → sheet_text old number ≡ Some (header_of text function) → KeepsSheet old new → head_of t op ≡ Some (plain_class_head Root number)
     → IsFunctionOf text function new t op
 function_is text function old new t op number named kept is = (number, is, kept.texts number (header_of text function) named)
+
+pub ruleset addition_steps = (adds_none, adds_more, adds_before_none, adds_behind_none, adds_one)

@@ -8,7 +8,7 @@ use crate::parts::BuiltParts;
 use crate::stop::{BuildStop, no_block, no_value};
 use pliron_core::{BasicBlock, Context, Head, IRRewriter, Operation, Ptr, Rewriter, Value};
 use pliron_text_llvm_heads::{head_of_constant, head_of_statement};
-use pliron_text_llvm_plans::{BlockPlan, FunctionPlan, OperationPlan};
+use pliron_text_llvm_plans::{FunctionPlan, OperationPlan, PlannedBlock};
 use pliron_text_llvm_sheets::{LlvmSheet, ValueNote, ValueOrigin};
 use std::alloc::Global;
 
@@ -28,7 +28,7 @@ fn make_block(
 }
 
 // The argument of the block with this index is the planned one.
-#[tactic(auto, using(pliron_text_llvm_sheets::proofs::KeepingLemmas::sheet_kept, pliron_text_llvm_sheets::proofs::KeepingLemmas::sheet_kept_on))]
+#[tactic(auto, using(pliron_text_llvm_sheets::proofs::KeepingLemmas::sheet_steps))]
 fn define_argument(
     plan: &FunctionPlan,
     number: usize,
@@ -46,7 +46,7 @@ fn define_argument(
 }
 
 // The arguments of the block are the planned ones.
-#[tactic(auto, using(pliron_text_llvm_sheets::proofs::KeepingLemmas::sheet_kept, pliron_text_llvm_sheets::proofs::KeepingLemmas::sheet_kept_on))]
+#[tactic(auto, using(pliron_text_llvm_sheets::proofs::KeepingLemmas::sheet_steps))]
 fn define_arguments(
     plan: &FunctionPlan,
     number: usize,
@@ -67,9 +67,9 @@ fn define_arguments(
 }
 
 // Notes the name of the block.
-#[tactic(auto, using(pliron_text_llvm_sheets::proofs::KeepingLemmas::sheet_kept, pliron_text_llvm_sheets::proofs::KeepingLemmas::sheet_kept_on))]
+#[tactic(auto, using(pliron_text_llvm_sheets::proofs::KeepingLemmas::sheet_steps))]
 fn note_name(
-    planned: BlockPlan,
+    planned: PlannedBlock,
     block: Ptr<BasicBlock>,
     sheet: &mut LlvmSheet,
 ) -> Result<(), BuildStop>
@@ -82,7 +82,7 @@ fn note_name(
 }
 
 // Makes the block of this number with its arguments.
-#[tactic(auto, using(pliron_text_llvm_sheets::proofs::KeepingLemmas::sheet_kept, pliron_text_llvm_sheets::proofs::KeepingLemmas::sheet_kept_on))]
+#[tactic(auto, using(pliron_text_llvm_sheets::proofs::KeepingLemmas::sheet_steps))]
 fn add_block(
     plan: &FunctionPlan,
     number: usize,
@@ -107,7 +107,7 @@ fn add_block(
 
 /// Makes the blocks of a function in this operation, each with its arguments. Errors: the operation has no region;
 /// allocation failure. Cost: linear in the blocks and arguments.
-#[tactic(auto, using(pliron_text_llvm_sheets::proofs::KeepingLemmas::sheet_kept, pliron_text_llvm_sheets::proofs::KeepingLemmas::sheet_kept_on))]
+#[tactic(auto, using(pliron_text_llvm_sheets::proofs::KeepingLemmas::sheet_steps))]
 pub fn add_blocks(
     plan: &FunctionPlan,
     root: Ptr<Operation>,
@@ -142,7 +142,7 @@ fn append(
 }
 
 // Makes an operation with this head, last in the block of this number.
-#[tactic(auto, using(crate::proofs::AdditionLemmas::adds_none, crate::proofs::AdditionLemmas::adds_one, crate::proofs::AdditionLemmas::adds_before_none))]
+#[tactic(auto, using(crate::proofs::AdditionLemmas::addition_steps))]
 fn make_operation(
     head: Head,
     results: usize,
@@ -188,7 +188,7 @@ fn constant_head(
 }
 
 // Makes the constant of this number.
-#[tactic(auto, using(pliron_text_llvm_sheets::proofs::KeepingLemmas::sheet_kept, pliron_text_llvm_sheets::proofs::KeepingLemmas::sheet_kept_on))]
+#[tactic(auto, using(crate::proofs::AdditionLemmas::addition_steps, pliron_text_llvm_sheets::proofs::KeepingLemmas::sheet_steps))]
 fn add_constant(
     plan: &FunctionPlan,
     number: usize,
@@ -209,7 +209,7 @@ fn add_constant(
 
 /// Makes the constants of a function, at the end of its first block, which has nothing yet. Errors: allocation failure.
 /// Cost: linear in their texts.
-#[tactic(auto, using(crate::proofs::AdditionLemmas::adds_none, crate::proofs::AdditionLemmas::adds_more, pliron_text_llvm_sheets::proofs::KeepingLemmas::sheet_kept, pliron_text_llvm_sheets::proofs::KeepingLemmas::sheet_kept_on))]
+#[tactic(auto, using(crate::proofs::AdditionLemmas::addition_steps, pliron_text_llvm_sheets::proofs::KeepingLemmas::sheet_steps))]
 pub fn add_constants(
     plan: &FunctionPlan,
     ctx: &mut Context,
@@ -244,7 +244,7 @@ fn operation_head(
 }
 
 // What the operation gives is what is planned.
-#[tactic(auto, using(pliron_text_llvm_sheets::proofs::KeepingLemmas::sheet_kept, pliron_text_llvm_sheets::proofs::KeepingLemmas::sheet_kept_on))]
+#[tactic(auto, using(pliron_text_llvm_sheets::proofs::KeepingLemmas::sheet_steps))]
 fn define_result(
     planned: &OperationPlan,
     op: Ptr<Operation>,
@@ -261,7 +261,7 @@ fn define_result(
 }
 
 // Makes the planned operation.
-#[tactic(auto, using(pliron_text_llvm_sheets::proofs::KeepingLemmas::sheet_kept, pliron_text_llvm_sheets::proofs::KeepingLemmas::sheet_kept_on))]
+#[tactic(auto, using(crate::proofs::AdditionLemmas::addition_steps, pliron_text_llvm_sheets::proofs::KeepingLemmas::sheet_steps))]
 fn add_operation(
     plan: &FunctionPlan,
     planned: &OperationPlan,
@@ -282,7 +282,7 @@ fn add_operation(
 }
 
 /// Makes the operations of a function, each last in its block. Errors: allocation failure. Cost: linear in their forms.
-#[tactic(auto, using(crate::proofs::AdditionLemmas::adds_none, crate::proofs::AdditionLemmas::adds_more, pliron_text_llvm_sheets::proofs::KeepingLemmas::sheet_kept, pliron_text_llvm_sheets::proofs::KeepingLemmas::sheet_kept_on))]
+#[tactic(auto, using(crate::proofs::AdditionLemmas::addition_steps, pliron_text_llvm_sheets::proofs::KeepingLemmas::sheet_steps))]
 pub fn add_operations(
     plan: &FunctionPlan,
     ctx: &mut Context,

@@ -22,7 +22,7 @@ use pliron_text_llvm_syntax::{ByteSpan, FunctionText};
 use std::alloc::Global;
 
 // The number of the text before the body of the function.
-#[tactic(auto, using(pliron_text_llvm_sheets::proofs::KeepingLemmas::sheet_kept, pliron_text_llvm_sheets::proofs::KeepingLemmas::sheet_kept_on))]
+#[tactic(auto, using(pliron_text_llvm_sheets::proofs::KeepingLemmas::sheet_steps))]
 fn number_of_header(
     text: &[u8],
     function: &FunctionText,
@@ -39,7 +39,7 @@ fn number_of_header(
 }
 
 // Makes the operation of a function whose text before the body has this number, without blocks.
-#[tactic(auto, using(crate::proofs::AdditionLemmas::adds_none, crate::proofs::AdditionLemmas::adds_one, crate::proofs::AdditionLemmas::function_head, crate::proofs::AdditionLemmas::created_head))]
+#[tactic(auto, using(crate::proofs::AdditionLemmas::addition_steps, crate::proofs::AdditionLemmas::function_head, crate::proofs::AdditionLemmas::created_head))]
 fn make_root(alloc: Global, header: usize, ctx: &mut Context) -> Result<Ptr<Operation>, BuildStop>
     ensures head { IfOk result (λ root. head_of ctx.new.tree root ≡ Some (plain_class_head Root header)) }
     ensures added { AddsText ctx.old.tree ctx.new.tree }
@@ -49,7 +49,7 @@ fn make_root(alloc: Global, header: usize, ctx: &mut Context) -> Result<Ptr<Oper
 }
 
 // Makes all that is in the function.
-#[tactic(auto, using(crate::proofs::AdditionLemmas::adds_none, crate::proofs::AdditionLemmas::adds_more, crate::proofs::AdditionLemmas::adds_before_none, crate::proofs::AdditionLemmas::adds_behind_none, pliron_text_llvm_sheets::proofs::KeepingLemmas::sheet_kept, pliron_text_llvm_sheets::proofs::KeepingLemmas::sheet_kept_on))]
+#[tactic(auto, using(crate::proofs::AdditionLemmas::addition_steps, pliron_text_llvm_sheets::proofs::KeepingLemmas::sheet_steps))]
 fn build_inside(
     plan: &FunctionPlan,
     root: Ptr<Operation>,
@@ -67,7 +67,7 @@ fn build_inside(
 }
 
 // Makes the function by its plan, whose text before the body has this number.
-#[tactic(auto, using(crate::proofs::AdditionLemmas::adds_more, crate::proofs::AdditionLemmas::adds_keep_head, pliron_text_llvm_sheets::proofs::KeepingLemmas::sheet_kept, pliron_text_llvm_sheets::proofs::KeepingLemmas::sheet_kept_on))]
+#[tactic(auto, using(crate::proofs::AdditionLemmas::addition_steps, crate::proofs::AdditionLemmas::adds_keep_head, pliron_text_llvm_sheets::proofs::KeepingLemmas::sheet_steps))]
 fn build_planned(
     alloc: Global,
     plan: &FunctionPlan,
@@ -88,7 +88,7 @@ fn build_planned(
 }
 
 // Plans the function, and answers the number of the text before the body.
-#[tactic(auto, using(pliron_text_llvm_sheets::proofs::KeepingLemmas::sheet_kept, pliron_text_llvm_sheets::proofs::KeepingLemmas::sheet_kept_on))]
+#[tactic(auto, using(pliron_text_llvm_sheets::proofs::KeepingLemmas::sheet_steps))]
 fn plan_with_header(
     alloc: Global,
     source: FunctionSource<'_>,
@@ -105,7 +105,7 @@ fn plan_with_header(
 }
 
 // Builds the function by a new plan.
-#[tactic(auto, using(crate::proofs::AdditionLemmas::adds_none, crate::proofs::AdditionLemmas::function_is, pliron_text_llvm_sheets::proofs::KeepingLemmas::sheet_kept, pliron_text_llvm_sheets::proofs::KeepingLemmas::sheet_kept_on))]
+#[tactic(auto, using(crate::proofs::AdditionLemmas::addition_steps, crate::proofs::AdditionLemmas::function_is, pliron_text_llvm_sheets::proofs::KeepingLemmas::sheet_steps))]
 fn build_source(
     alloc: Global,
     source: FunctionSource<'_>,
@@ -131,7 +131,7 @@ fn build_source(
 /// Asks for what was made of the function. Errors: a statement has no form, or no tree of the dialect has what the
 /// function has, and so it is kept as it is written; allocation failure. A part of it may be live then, in no block. Cost:
 /// linear in the function.
-#[tactic(auto, using(pliron_text_llvm_sheets::proofs::KeepingLemmas::sheet_kept, pliron_text_llvm_sheets::proofs::KeepingLemmas::sheet_kept_on))]
+#[tactic(auto, using(pliron_text_llvm_sheets::proofs::KeepingLemmas::sheet_steps))]
 pub fn build_function<D: Dialect>(
     alloc: Global,
     source: FunctionSource<'_>,

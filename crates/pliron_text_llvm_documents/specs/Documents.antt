@@ -50,15 +50,15 @@ pub record KeepsHeads (t u : Tree) : Type 0 where
   pub heads : (op : ℕ) (head : Head) → head_of t op ≡ Some head → head_of u op ≡ Some head
 
 -- the operations that are functions, in the order of the text
-abbrev pub operation_of : SheetPart → List ℕ
-operation_of (Raw span) = []
-operation_of (Function op) = op ∷ []
+abbrev pub function_of : SheetPart → List ℕ
+function_of (Raw span) = []
+function_of (Function op) = op ∷ []
 
-abbrev pub operations_of : List SheetPart → List ℕ
-operations_of parts = flat_map operation_of parts
+abbrev pub functions_of : List SheetPart → List ℕ
+functions_of parts = flat_map function_of parts
 
 -- the operation has one block, and in it these functions alone
-abbrev pub HoldsAll : Tree → ℕ → List SheetPart → Type 0
-HoldsAll t root parts =
+abbrev pub HoldsFunctions : Tree → ℕ → List SheetPart → Type 0
+HoldsFunctions t root parts =
     (region : ℕ) × (block : ℕ)
-    × (regions_of t root ≡ region ∷ []) × (layout_of t region ≡ block ∷ []) × (body_of t block ≡ operations_of parts)
+    × (regions_of t root ≡ region ∷ []) × (layout_of t region ≡ block ∷ []) × (body_of t block ≡ functions_of parts)

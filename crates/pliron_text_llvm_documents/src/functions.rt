@@ -5,7 +5,7 @@ ghost use Rattle.pliron_text_llvm_modules.specs.Modules.{module_part_of};
 ghost use Rattle.pliron_text_llvm_documents.specs.Documents.{ArePartsOf, IsOneMore, IsMadeOf, KeepsHeads};
 
 use crate::addresses::TakenAddresses;
-use crate::stop::{DocumentFault, KeptPart, KeptReason};
+use crate::stop::{DocumentFault, KeptForDocument, KeptPart};
 use pliron_core::{Context, Operation, Ptr};
 use pliron_laws::Dialect;
 use pliron_text_llvm_building::{BuildStop, build_function};
@@ -36,7 +36,7 @@ enum DocumentFunction {
 }
 
 // A function that is kept for what is at this byte.
-fn kept_at(place: usize, reason: KeptReason) -> DocumentFunction {
+fn kept_at(place: usize, reason: KeptForDocument) -> DocumentFunction {
     DocumentFunction::Kept(KeptPart { place, reason })
 }
 
@@ -56,7 +56,10 @@ fn build_made<D: Dialect>(
 {
     match build_function::<D>(alloc, source, function, ctx, sheet) {
         Ok(root) => Ok(DocumentFunction::Tree(root)),
-        Err(BuildStop::Keep(place, reason)) => Ok(kept_at(place, KeptReason::Building(reason))),
+        Err(BuildStop::Keep(place, reason)) => Ok(kept_at(
+            place,
+            KeptForDocument::Building(reason),
+        )),
         Err(BuildStop::NoMemory) => Err(AllocError),
     }
 }
@@ -87,7 +90,7 @@ fn build_read<D: Dialect>(
             };
             build_made::<D>(alloc, source, function, ctx, &mut document.sheet.functions)
         }
-        TreeForm::Kept(place, reason) => Ok(kept_at(place, KeptReason::Tree(reason))),
+        TreeForm::Kept(place, reason) => Ok(kept_at(place, KeptForDocument::Tree(reason))),
     }
 }
 
@@ -110,11 +113,14 @@ fn build_function_of<D: Dialect>(
     match read {
         ModuleFunction::Read(read) => {
             if document.taken.has(bytes_in(text, function.name))? {
-                return Ok(kept_at(function.span.start, KeptReason::Named));
+                return Ok(kept_at(function.span.start, KeptForDocument::Named));
             }
             build_read::<D>(text, function, read, ctx, document)
         }
-        ModuleFunction::Kept(place, reason) => Ok(kept_at(*place, KeptReason::Reading(*reason))),
+        ModuleFunction::Kept(place, reason) => Ok(kept_at(
+            *place,
+            KeptForDocument::Reading(*reason),
+        )),
     }
 }
 

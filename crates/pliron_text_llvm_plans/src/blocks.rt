@@ -2,7 +2,7 @@
 ghost use Rattle.pliron_text_llvm_sheets.specs.Sheets.{KeepsSheet};
 
 use crate::names::{name_of, name_of_block, name_of_parameter};
-use crate::plan::{ArgumentPlan, BlockPlan, FunctionPlan, FunctionSource, PlannedDefinition};
+use crate::plan::{FunctionPlan, FunctionSource, PlannedArgument, PlannedBlock, PlannedDefinition};
 use crate::statements::{read_form, statement_at};
 use crate::stop::{KeptForPlan, PlanStop};
 use pliron_text_llvm_classes::operand_widths_of_form;
@@ -12,7 +12,7 @@ use std::alloc::Global;
 
 // Plans the parameter that is the definition of this number, where `next` is the next number. Answers the one that is next
 // behind it.
-#[tactic(auto, using(pliron_text_llvm_sheets::proofs::KeepingLemmas::sheet_kept, pliron_text_llvm_sheets::proofs::KeepingLemmas::sheet_kept_on))]
+#[tactic(auto, using(pliron_text_llvm_sheets::proofs::KeepingLemmas::sheet_steps))]
 fn plan_parameter(
     alloc: Global,
     source: FunctionSource<'_>,
@@ -29,7 +29,7 @@ fn plan_parameter(
         origin: ValueOrigin::Parameter,
         name: Some(name),
     };
-    plan.arguments.push(ArgumentPlan {
+    plan.arguments.push(PlannedArgument {
         definition: PlannedDefinition { number, note },
         width: 0,
     })?;
@@ -37,7 +37,7 @@ fn plan_parameter(
 }
 
 // Plans the parameters, which are the first definitions.
-#[tactic(auto, using(pliron_text_llvm_sheets::proofs::KeepingLemmas::sheet_kept, pliron_text_llvm_sheets::proofs::KeepingLemmas::sheet_kept_on))]
+#[tactic(auto, using(pliron_text_llvm_sheets::proofs::KeepingLemmas::sheet_steps))]
 fn plan_parameters(
     alloc: Global,
     source: FunctionSource<'_>,
@@ -59,21 +59,21 @@ fn is_of_other_text(byte: u8) -> bool {
 }
 
 // The argument that is the phi with this form.
-#[tactic(auto, using(pliron_text_llvm_sheets::proofs::KeepingLemmas::sheet_kept, pliron_text_llvm_sheets::proofs::KeepingLemmas::sheet_kept_on))]
+#[tactic(auto, using(pliron_text_llvm_sheets::proofs::KeepingLemmas::sheet_steps))]
 fn argument_with_form(
     alloc: Global,
     source: FunctionSource<'_>,
     argument: TreeArgument,
     form: &[u8],
     sheet: &mut LlvmSheet,
-) -> Result<ArgumentPlan, PlanStop>
+) -> Result<PlannedArgument, PlanStop>
     ensures { KeepsSheet sheet.old sheet.new }
 {
     let widths = operand_widths_of_form(alloc, form)?;
     let origin = ValueOrigin::Phi(sheet.number(form)?);
     let number = argument.definition;
     let name = name_of(source.text, source.reading.definitions.get(number), sheet)?;
-    Ok(ArgumentPlan {
+    Ok(PlannedArgument {
         definition: PlannedDefinition {
             number,
             note: ValueNote { origin, name },
@@ -83,13 +83,13 @@ fn argument_with_form(
 }
 
 // The argument that is the phi.
-#[tactic(auto, using(pliron_text_llvm_sheets::proofs::KeepingLemmas::sheet_kept, pliron_text_llvm_sheets::proofs::KeepingLemmas::sheet_kept_on))]
+#[tactic(auto, using(pliron_text_llvm_sheets::proofs::KeepingLemmas::sheet_steps))]
 fn plan_argument(
     alloc: Global,
     source: FunctionSource<'_>,
     argument: TreeArgument,
     sheet: &mut LlvmSheet,
-) -> Result<ArgumentPlan, PlanStop>
+) -> Result<PlannedArgument, PlanStop>
     ensures { KeepsSheet sheet.old sheet.new }
 {
     let line = statement_at(source, argument.place.line)?;
@@ -101,7 +101,7 @@ fn plan_argument(
 }
 
 // Plans the phi of this number.
-#[tactic(auto, using(pliron_text_llvm_sheets::proofs::KeepingLemmas::sheet_kept, pliron_text_llvm_sheets::proofs::KeepingLemmas::sheet_kept_on))]
+#[tactic(auto, using(pliron_text_llvm_sheets::proofs::KeepingLemmas::sheet_steps))]
 fn plan_phi(
     alloc: Global,
     source: FunctionSource<'_>,
@@ -122,7 +122,7 @@ fn plan_phi(
 }
 
 // Plans the phis of the block of this number.
-#[tactic(auto, using(pliron_text_llvm_sheets::proofs::KeepingLemmas::sheet_kept, pliron_text_llvm_sheets::proofs::KeepingLemmas::sheet_kept_on))]
+#[tactic(auto, using(pliron_text_llvm_sheets::proofs::KeepingLemmas::sheet_steps))]
 fn plan_phis(
     alloc: Global,
     source: FunctionSource<'_>,
@@ -143,7 +143,7 @@ fn plan_phis(
 }
 
 // Plans the arguments of the block of this number: of the first one the parameters, of each other one its phis.
-#[tactic(auto, using(pliron_text_llvm_sheets::proofs::KeepingLemmas::sheet_kept, pliron_text_llvm_sheets::proofs::KeepingLemmas::sheet_kept_on))]
+#[tactic(auto, using(pliron_text_llvm_sheets::proofs::KeepingLemmas::sheet_steps))]
 fn plan_arguments(
     alloc: Global,
     source: FunctionSource<'_>,
@@ -161,7 +161,7 @@ fn plan_arguments(
 }
 
 // Plans the block of this number, and its arguments.
-#[tactic(auto, using(pliron_text_llvm_sheets::proofs::KeepingLemmas::sheet_kept, pliron_text_llvm_sheets::proofs::KeepingLemmas::sheet_kept_on))]
+#[tactic(auto, using(pliron_text_llvm_sheets::proofs::KeepingLemmas::sheet_steps))]
 fn plan_block(
     alloc: Global,
     source: FunctionSource<'_>,
@@ -177,7 +177,7 @@ fn plan_block(
     let first = plan.arguments.len();
     plan_arguments(alloc, source, number, sheet, plan)?;
     let count = plan.arguments.len().saturating_sub(first);
-    plan.blocks.push(BlockPlan {
+    plan.blocks.push(PlannedBlock {
         name,
         arguments: (first, count),
     })?;
@@ -186,7 +186,7 @@ fn plan_block(
 
 /// Plans the blocks of a function, each with its arguments. Errors: a phi has no form, or a comment or a string in it, and
 /// so the function is kept as it is written; allocation failure. Cost: linear in the blocks and the phis.
-#[tactic(auto, using(pliron_text_llvm_sheets::proofs::KeepingLemmas::sheet_kept, pliron_text_llvm_sheets::proofs::KeepingLemmas::sheet_kept_on))]
+#[tactic(auto, using(pliron_text_llvm_sheets::proofs::KeepingLemmas::sheet_steps))]
 pub fn plan_blocks(
     alloc: Global,
     source: FunctionSource<'_>,

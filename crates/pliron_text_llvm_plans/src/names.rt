@@ -13,7 +13,7 @@ use std::alloc::{AllocError, Global};
 
 /// The number of the name of what has this definition: none of what is called by a number. Errors: allocation failure.
 /// Cost: linear in the name.
-#[tactic(auto, using(pliron_text_llvm_sheets::proofs::KeepingLemmas::sheet_kept, pliron_text_llvm_sheets::proofs::KeepingLemmas::sheet_kept_on))]
+#[tactic(auto, using(pliron_text_llvm_sheets::proofs::KeepingLemmas::sheet_steps))]
 pub fn name_of(
     text: &[u8],
     definition: Option<&LocalDefinition>,
@@ -47,7 +47,7 @@ fn number_behind(text: &[u8], span: ByteSpan, next: u32) -> u32 {
 
 /// The number of the name of a parameter, where `next` is the next number, and the one that is next behind it. It keeps
 /// its number, since the text before the body does. Errors: allocation failure. Cost: linear in the name.
-#[tactic(auto, using(pliron_text_llvm_sheets::proofs::KeepingLemmas::sheet_kept, pliron_text_llvm_sheets::proofs::KeepingLemmas::sheet_kept_on))]
+#[tactic(auto, using(pliron_text_llvm_sheets::proofs::KeepingLemmas::sheet_steps))]
 pub fn name_of_parameter(
     alloc: Global,
     text: &[u8],
@@ -88,7 +88,7 @@ fn without_colon(text: &[u8], span: ByteSpan) -> &[u8]
 
 /// The number of the name of the block that begins with the line: none of what is called by a number. Errors: allocation
 /// failure. Cost: linear in the name.
-#[tactic(auto, using(pliron_text_llvm_sheets::proofs::KeepingLemmas::sheet_kept, pliron_text_llvm_sheets::proofs::KeepingLemmas::sheet_kept_on))]
+#[tactic(auto, using(pliron_text_llvm_sheets::proofs::KeepingLemmas::sheet_steps))]
 pub fn name_of_block(
     text: &[u8],
     body: &FunctionBody,

@@ -13,7 +13,7 @@ use pliron_text_llvm_trees::{TreeEdge, TreeStatement};
 use std::alloc::{AllocError, Global};
 
 // Adds the operand that is in the hole, whose type has this width.
-#[tactic(auto, using(pliron_text_llvm_sheets::proofs::KeepingLemmas::sheet_kept, pliron_text_llvm_sheets::proofs::KeepingLemmas::sheet_kept_on))]
+#[tactic(auto, using(pliron_text_llvm_sheets::proofs::KeepingLemmas::sheet_steps))]
 fn push_operand(
     source: FunctionSource<'_>,
     width: u32,
@@ -36,7 +36,7 @@ fn push_operand(
 }
 
 // Adds the operands in the holes, whose types have these widths.
-#[tactic(auto, using(pliron_text_llvm_sheets::proofs::KeepingLemmas::sheet_kept, pliron_text_llvm_sheets::proofs::KeepingLemmas::sheet_kept_on))]
+#[tactic(auto, using(pliron_text_llvm_sheets::proofs::KeepingLemmas::sheet_steps))]
 fn push_operands(
     source: FunctionSource<'_>,
     widths: &[u32],
@@ -54,7 +54,7 @@ fn push_operands(
 }
 
 // Adds the edge, and what it passes.
-#[tactic(auto, using(pliron_text_llvm_sheets::proofs::KeepingLemmas::sheet_kept, pliron_text_llvm_sheets::proofs::KeepingLemmas::sheet_kept_on))]
+#[tactic(auto, using(pliron_text_llvm_sheets::proofs::KeepingLemmas::sheet_steps))]
 fn push_edge(
     source: FunctionSource<'_>,
     edge: &TreeEdge,
@@ -75,7 +75,7 @@ fn push_edge(
 }
 
 // Adds the edges from the block that come next, from as many as there are already on.
-#[tactic(auto, using(pliron_text_llvm_sheets::proofs::KeepingLemmas::sheet_kept, pliron_text_llvm_sheets::proofs::KeepingLemmas::sheet_kept_on))]
+#[tactic(auto, using(pliron_text_llvm_sheets::proofs::KeepingLemmas::sheet_steps))]
 fn push_edges_from(
     source: FunctionSource<'_>,
     block: usize,
@@ -94,7 +94,7 @@ fn push_edges_from(
 }
 
 // What the statement gives, if something.
-#[tactic(auto, using(pliron_text_llvm_sheets::proofs::KeepingLemmas::sheet_kept, pliron_text_llvm_sheets::proofs::KeepingLemmas::sheet_kept_on))]
+#[tactic(auto, using(pliron_text_llvm_sheets::proofs::KeepingLemmas::sheet_steps))]
 fn plan_result(
     source: FunctionSource<'_>,
     given: Option<usize>,
@@ -114,7 +114,7 @@ fn plan_result(
 }
 
 // Adds the operands of the statement, its own and those that its edges pass, and its edges.
-#[tactic(auto, using(pliron_text_llvm_sheets::proofs::KeepingLemmas::sheet_kept, pliron_text_llvm_sheets::proofs::KeepingLemmas::sheet_kept_on))]
+#[tactic(auto, using(pliron_text_llvm_sheets::proofs::KeepingLemmas::sheet_steps))]
 fn push_uses(
     alloc: Global,
     source: FunctionSource<'_>,
@@ -136,7 +136,7 @@ fn push_uses(
 }
 
 // Plans the statement, whose form this is.
-#[tactic(auto, using(pliron_text_llvm_sheets::proofs::KeepingLemmas::sheet_kept, pliron_text_llvm_sheets::proofs::KeepingLemmas::sheet_kept_on))]
+#[tactic(auto, using(pliron_text_llvm_sheets::proofs::KeepingLemmas::sheet_steps))]
 fn plan_with_form(
     alloc: Global,
     source: FunctionSource<'_>,
@@ -171,7 +171,7 @@ fn plan_with_form(
 }
 
 // Plans the statement.
-#[tactic(auto, using(pliron_text_llvm_sheets::proofs::KeepingLemmas::sheet_kept, pliron_text_llvm_sheets::proofs::KeepingLemmas::sheet_kept_on))]
+#[tactic(auto, using(pliron_text_llvm_sheets::proofs::KeepingLemmas::sheet_steps))]
 fn plan_statement(
     alloc: Global,
     source: FunctionSource<'_>,
@@ -187,7 +187,7 @@ fn plan_statement(
 }
 
 // Plans the statements.
-#[tactic(auto, using(pliron_text_llvm_sheets::proofs::KeepingLemmas::sheet_kept, pliron_text_llvm_sheets::proofs::KeepingLemmas::sheet_kept_on))]
+#[tactic(auto, using(pliron_text_llvm_sheets::proofs::KeepingLemmas::sheet_steps))]
 fn plan_statements(
     alloc: Global,
     source: FunctionSource<'_>,
@@ -207,7 +207,7 @@ fn plan_statements(
 ///
 /// Errors: something of it has no form, and so it is kept as it is written; allocation failure. Cost: linear in it.
 #[doc(hidden)]
-#[tactic(auto, using(pliron_text_llvm_sheets::proofs::KeepingLemmas::sheet_kept, pliron_text_llvm_sheets::proofs::KeepingLemmas::sheet_kept_on))]
+#[tactic(auto, using(pliron_text_llvm_sheets::proofs::KeepingLemmas::sheet_steps))]
 pub fn plan_function(
     alloc: Global,
     source: FunctionSource<'_>,

@@ -21,7 +21,7 @@ pub enum PlannedValue {
 
 /// What is in the hole, whose type has this width: a value of the function, or a constant, which gets a number where it
 /// is new. Errors: allocation failure. Cost: linear in its text.
-#[tactic(auto, using(pliron_text_llvm_sheets::proofs::KeepingLemmas::sheet_kept, pliron_text_llvm_sheets::proofs::KeepingLemmas::sheet_kept_on))]
+#[tactic(auto, using(pliron_text_llvm_sheets::proofs::KeepingLemmas::sheet_steps))]
 pub fn plan_value(
     text: &[u8],
     reading: &FunctionReading,

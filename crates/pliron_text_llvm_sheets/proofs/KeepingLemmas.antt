@@ -11,3 +11,5 @@ sheet_kept_on a b c first second = record {
   values = λ number note is. second.values number note (first.values number note is);
   blocks = λ number name is. second.blocks number name (first.blocks number name is);
 }
+
+pub ruleset sheet_steps = (sheet_kept, sheet_kept_on)
