@@ -35,11 +35,6 @@ enum DocumentFunction {
     Kept(KeptPart),
 }
 
-// A function that is kept for what is at this byte.
-fn kept_at(place: usize, reason: KeptForDocument) -> DocumentFunction {
-    DocumentFunction::Kept(KeptPart { place, reason })
-}
-
 // Builds the function.
 #[tactic(auto, using(crate::proofs::PartLemmas::heads_kept, crate::proofs::PartLemmas::heads_added, pliron_text_llvm_sheets::proofs::KeepingLemmas::sheet_kept))]
 fn build_made<D: Dialect>(
@@ -56,10 +51,10 @@ fn build_made<D: Dialect>(
 {
     match build_function::<D>(alloc, source, function, ctx, sheet) {
         Ok(root) => Ok(DocumentFunction::Tree(root)),
-        Err(BuildStop::Keep(place, reason)) => Ok(kept_at(
+        Err(BuildStop::Keep(place, reason)) => Ok(DocumentFunction::Kept(KeptPart {
             place,
-            KeptForDocument::Building(reason),
-        )),
+            reason: KeptForDocument::Building(reason),
+        })),
         Err(BuildStop::NoMemory) => Err(AllocError),
     }
 }
@@ -90,7 +85,10 @@ fn build_read<D: Dialect>(
             };
             build_made::<D>(alloc, source, function, ctx, &mut document.sheet.functions)
         }
-        TreeForm::Kept(place, reason) => Ok(kept_at(place, KeptForDocument::Tree(reason))),
+        TreeForm::Kept(place, reason) => Ok(DocumentFunction::Kept(KeptPart {
+            place,
+            reason: KeptForDocument::Tree(reason),
+        })),
     }
 }
 
@@ -113,14 +111,17 @@ fn build_function_of<D: Dialect>(
     match read {
         ModuleFunction::Read(read) => {
             if document.taken.has(bytes_in(text, function.name))? {
-                return Ok(kept_at(function.span.start, KeptForDocument::Named));
+                return Ok(DocumentFunction::Kept(KeptPart {
+                    place: function.span.start,
+                    reason: KeptForDocument::Named,
+                }));
             }
             build_read::<D>(text, function, read, ctx, document)
         }
-        ModuleFunction::Kept(place, reason) => Ok(kept_at(
-            *place,
-            KeptForDocument::Reading(*reason),
-        )),
+        ModuleFunction::Kept(place, reason) => Ok(DocumentFunction::Kept(KeptPart {
+            place: *place,
+            reason: KeptForDocument::Reading(*reason),
+        })),
     }
 }
 
