@@ -1,4 +1,7 @@
 //! The edges that lead to the blocks of a function, and the operands that they pass.
+ghost use Rattle.std.specs.Prelude.{IfSome};
+ghost use Rattle.pliron_text_llvm_printer.specs.PrintedFunctions.{HasForm};
+
 use crate::stop::PrintStop;
 use crate::walk::{last_operation, num_argument};
 use pliron_core::{BasicBlock, Context, Operation, Ptr};
@@ -19,17 +22,17 @@ pub struct PassingEdge {
     pub first: usize,
 }
 
-/// The form of the operation, if it has one. Cost: constant.
-pub fn form_text<'s>(op: Ptr<Operation>, sheet: &'s LlvmSheet, ctx: &Context) -> Option<&'s [u8]> {
+/// The text of the operation's form, if it has one. Cost: constant.
+pub fn form_text<'s>(op: Ptr<Operation>, sheet: &'s LlvmSheet, ctx: &Context) -> Option<&'s [u8]>
+    ensures { IfSome result (λ text. HasForm sheet.now ctx.now.tree op text.now) }
+{
     if !op.is_live(ctx) {
         return None;
     }
-    match form_of(op.head(ctx)) {
-        Some(number) => match usize::try_from(number) {
-            Ok(number) if !sheet.text(number).is_empty() => Some(sheet.text(number)),
-            _ => None,
-        },
-        None => None,
+    let number = usize::try_from(form_of(op.head(ctx))?).ok()?;
+    match sheet.text(number) {
+        [] => None,
+        text => Some(text),
     }
 }
 

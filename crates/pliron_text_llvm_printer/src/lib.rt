@@ -5,10 +5,12 @@
 mod forms;
 mod incoming;
 mod integers;
+mod module;
 mod names;
 mod print;
 mod stop;
 mod walk;
 
+pub use module::print_module;
 pub use print::print_function;
 pub use stop::PrintStop;

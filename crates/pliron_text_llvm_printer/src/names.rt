@@ -1,4 +1,8 @@
 //! What values and blocks are called.
+ghost use Rattle.std.specs.Prelude.{◌≡◌, ◌++◌, OnOk, nat_eq, decimal};
+ghost use Rattle.indexmap.specs.IndexMap.{get};
+ghost use Rattle.pliron_text_llvm_printer.specs.Apart.{AreBelow, AreApart, ShareNone};
+
 use crate::stop::PrintStop;
 use crate::walk::{first_operation, next_operation, num_argument};
 use indexmap::IndexMap;
@@ -8,16 +12,23 @@ use pliron_dialect_mlir::{Class, class_of_head};
 use pliron_text_llvm_sheets::{LlvmSheet, ValueNote, ValueOrigin};
 use std::alloc::{AllocError, Global};
 
-/// Numbers of values and blocks that have no name.
+/// Numbers of values and blocks that have no name, by their handles. No two have one number.
 #[derive(Drop)]
 pub struct LocalNumbers {
-    values: IndexMap<u64, u64>,
-    blocks: IndexMap<u64, u64>,
-    next: u64,
+    values: IndexMap<u64, u32>,
+    blocks: IndexMap<u64, u32>,
+    next: u32,
+    ghost values_below: { AreBelow (get nat_eq values) next },
+    ghost blocks_below: { AreBelow (get nat_eq blocks) next },
+    ghost values_apart: { AreApart (get nat_eq values) },
+    ghost blocks_apart: { AreApart (get nat_eq blocks) },
+    ghost none_shared: { ShareNone (get nat_eq values) (get nat_eq blocks) },
 }
 
 /// Appends the number in digits. Errors: allocation failure. Cost: constant.
-pub fn write_number(number: u64, out: &mut Vec<u8>) -> Result<(), AllocError> {
+pub fn write_number(number: u64, out: &mut Vec<u8>) -> Result<(), AllocError>
+    ensures { OnOk result (out.new.items ≡ out.old.items ++ decimal number) }
+{
     let mut buffer = Buffer::new();
     out.extend_from_slice(buffer.format(number).as_bytes())
 }
@@ -65,25 +76,28 @@ pub fn is_constant(op: Ptr<Operation>, sheet: &LlvmSheet, ctx: &Context) -> bool
 }
 
 // The number that the digits are.
-fn number_of(digits: &[u8]) -> Option<u64> {
+fn number_of(digits: &[u8]) -> Option<u32> {
     match std::str::from_utf8(digits) {
         Ok(text) => text.parse().ok(),
         Err(_) => None,
     }
 }
 
-// The number behind that of the name, where it is `%` and digits, and else `next`.
-fn number_behind(name: &[u8], next: u64) -> u64 {
+// The number behind that of the name, where it is `%` and digits, and else `next`; none behind the last one.
+fn number_behind(name: &[u8], next: u32) -> Option<u32> {
     match name {
         [b'%', digits @ ..] => match number_of(digits) {
-            Some(number) => number.saturating_add(1),
-            None => next,
+            Some(number) => number.checked_add(1),
+            None => Some(next),
         },
-        _ => next,
+        _ => Some(next),
     }
 }
 
 impl LocalNumbers {
+    ghost use Rattle.std.specs.Prelude.{◌≡◌, ◌≤◌, OnOk};
+    ghost use Rattle.pliron_text_llvm_printer.specs.LocalNumbers.{AddsNumbers};
+
     /// No numbers yet. Takes no memory. Cost: constant.
     pub fn new(alloc: Global) -> LocalNumbers {
         LocalNumbers {
@@ -93,38 +107,71 @@ impl LocalNumbers {
         }
     }
 
-    // The next number.
-    fn take(&mut self) -> u64 {
+    // No number below this one is given from now on.
+    fn skip_to(&mut self, least: u32)
+        ensures { AddsNumbers self.old self.new }
+    {
+        if self.next < least {
+            self.next = least;
+        }
+    }
+
+    // Gives the value the next number.
+    fn number_value(&mut self, value: Value) -> Result<(), PrintStop>
+        ensures { OnOk result (AddsNumbers self.old self.new) }
+    {
         let number = self.next;
-        self.next = number.saturating_add(1);
-        number
+        let Some(next) = number.checked_add(1) else {
+            return Err(PrintStop::Textless);
+        };
+        self.next = next;
+        let _ = self.values.insert(value.key(), number)?;
+        Ok(())
+    }
+
+    // Gives the block the next number.
+    fn number_block(&mut self, block: Ptr<BasicBlock>) -> Result<(), PrintStop>
+        ensures { OnOk result (AddsNumbers self.old self.new) }
+    {
+        let number = self.next;
+        let Some(next) = number.checked_add(1) else {
+            return Err(PrintStop::Textless);
+        };
+        self.next = next;
+        let _ = self.blocks.insert(block.key(), number)?;
+        Ok(())
     }
 
     // Gives the value a number, if it has no name; a parameter keeps its own.
-    fn add_value(&mut self, value: Value, sheet: &LlvmSheet) -> Result<(), PrintStop> {
-        if let Some(
+    fn add_value(&mut self, value: Value, sheet: &LlvmSheet) -> Result<(), PrintStop>
+        ensures { OnOk result (AddsNumbers self.old self.new) }
+    {
+        let Some(
             ValueNote {
                 name: Some(name),
                 ..
             },
         ) = note_of(value, sheet)
-        {
-            self.next = number_behind(sheet.text(name), self.next).max(self.next);
-            return Ok(());
+        else {
+            return self.number_value(value);
+        };
+        match number_behind(sheet.text(name), self.next) {
+            Some(least) => {
+                self.skip_to(least);
+                Ok(())
+            }
+            None => Err(PrintStop::Textless),
         }
-        let number = self.take();
-        let _ = self.values.insert(value.key(), number)?;
-        Ok(())
     }
 
     // Gives the block a number, if it has no name.
-    fn add_block(&mut self, block: Ptr<BasicBlock>, sheet: &LlvmSheet) -> Result<(), PrintStop> {
+    fn add_block(&mut self, block: Ptr<BasicBlock>, sheet: &LlvmSheet) -> Result<(), PrintStop>
+        ensures { OnOk result (AddsNumbers self.old self.new) }
+    {
         if name_of_block(block, sheet).is_some() {
             return Ok(());
         }
-        let number = self.take();
-        let _ = self.blocks.insert(block.key(), number)?;
-        Ok(())
+        self.number_block(block)
     }
 
     // Gives the arguments of the block numbers.
@@ -206,7 +253,7 @@ impl LocalNumbers {
     ) -> Result<(), PrintStop> {
         if let Some(number) = self.values.get(&value.key()) {
             out.push(b'%')?;
-            return Ok(write_number(*number, out)?);
+            return Ok(write_number(u64::from(*number), out)?);
         }
         match note_of(value, sheet) {
             Some(
@@ -232,7 +279,7 @@ impl LocalNumbers {
         out: &mut Vec<u8>,
     ) -> Result<(), PrintStop> {
         if let Some(number) = self.blocks.get(&block.key()) {
-            return Ok(write_number(*number, out)?);
+            return Ok(write_number(u64::from(*number), out)?);
         }
         match name_of_block(block, sheet) {
             Some(name) => Ok(out.extend_from_slice(sheet.text(name))?),

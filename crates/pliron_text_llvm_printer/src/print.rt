@@ -1,4 +1,7 @@
 //! Printing a function.
+ghost use Rattle.std.specs.Prelude.{OnOk};
+ghost use Rattle.pliron_text_llvm_printer.specs.PrintedFunctions.{AppendsFunction};
+
 use crate::forms::{before_entries, behind_entries};
 use crate::incoming::{PassingEdge, edges_between, first_edge_to, form_text};
 use crate::integers::IntegerText;
@@ -319,30 +322,32 @@ impl FunctionView<'_> {
     }
 }
 
-// Appends the function whose blocks these are.
+// Appends a function with this body, behind the text that was before its body.
 fn write_function(
     root: Ptr<Operation>,
-    blocks: &[Ptr<BasicBlock>],
-    view: FunctionView<'_>,
+    body: &[u8],
+    sheet: &LlvmSheet,
+    ctx: &Context,
     out: &mut Vec<u8>,
-) -> Result<(), PrintStop> {
-    match form_text(root, view.sheet, view.ctx) {
+) -> Result<(), PrintStop>
+    ensures { OnOk result (AppendsFunction sheet.now ctx.now.tree root out.old.items out.new.items) }
+{
+    match form_text(root, sheet, ctx) {
         Some(header) => out.extend_from_slice(header)?,
         None => return Err(PrintStop::Textless),
     }
     out.extend_from_slice(b"{\n")?;
-    view.write_blocks(blocks, out)?;
+    out.extend_from_slice(body)?;
     Ok(out.push(b'}')?)
 }
 
-// Appends the function whose blocks these are, by new numbers.
-fn write_numbered(
+// The text of the blocks, by new numbers.
+fn text_of_blocks(
     alloc: Global,
-    root: Ptr<Operation>,
     blocks: &[Ptr<BasicBlock>],
     sheet: &LlvmSheet,
     ctx: &Context,
-    out: &mut Vec<u8>,
+    body: &mut Vec<u8>,
 ) -> Result<(), PrintStop> {
     let edges = edges_between(alloc, blocks, sheet, ctx)?;
     let mut numbers = LocalNumbers::new(alloc);
@@ -354,7 +359,7 @@ fn write_numbered(
                 edges: &edges,
                 ctx,
             };
-            write_function(root, blocks, view, out)
+            view.write_blocks(blocks, body)
         }
         Err(stop) => Err(stop),
     }
@@ -372,7 +377,13 @@ pub fn print_function(
     sheet: &LlvmSheet,
     ctx: &Context,
     out: &mut Vec<u8>,
-) -> Result<(), PrintStop> {
+) -> Result<(), PrintStop>
+    ensures { OnOk result (AppendsFunction sheet.now ctx.now.tree root out.old.items out.new.items) }
+{
     let blocks = blocks_of(alloc, root, ctx)?;
-    write_numbered(alloc, root, &blocks, sheet, ctx, out)
+    let mut body = Vec::new(alloc);
+    match text_of_blocks(alloc, &blocks, sheet, ctx, &mut body) {
+        Ok(()) => write_function(root, &body, sheet, ctx, out),
+        Err(stop) => Err(stop),
+    }
 }

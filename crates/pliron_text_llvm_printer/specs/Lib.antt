@@ -1,0 +1,4 @@
+pub mod Apart
+pub mod LocalNumbers
+pub mod PrintedFunctions
+pub mod PrintedModules

@@ -1,0 +1,56 @@
+//! Printing a module.
+ghost use Rattle.std.specs.Prelude.{◌≡◌, [], IfOk, OnOk};
+ghost use Rattle.pliron_text_llvm_printer.specs.PrintedModules.{AppendsPart, IsModuleText};
+
+use crate::print::print_function;
+use crate::stop::PrintStop;
+use pliron_core::Context;
+use pliron_text_llvm_names::bytes_in;
+use pliron_text_llvm_parts::{ModuleSheet, SheetPart};
+use std::alloc::Global;
+
+// Appends the part.
+fn write_part(
+    alloc: Global,
+    part: SheetPart,
+    sheet: &ModuleSheet,
+    ctx: &Context,
+    out: &mut Vec<u8>,
+) -> Result<(), PrintStop>
+    ensures { OnOk result (AppendsPart sheet.now ctx.now.tree part out.old.items out.new.items) }
+{
+    match part {
+        SheetPart::Raw(span) => Ok(out.extend_from_slice(bytes_in(&sheet.text, span))?),
+        SheetPart::Function(root) => print_function(alloc, root, &sheet.functions, ctx, out),
+    }
+}
+
+// Appends the parts to nothing.
+fn write_parts(
+    alloc: Global,
+    sheet: &ModuleSheet,
+    ctx: &Context,
+    out: &mut Vec<u8>,
+) -> Result<(), PrintStop>
+    requires { out.old.items ≡ [] }
+    ensures { OnOk result (IsModuleText sheet.now ctx.now.tree out.new.items) }
+{
+    for part in &sheet.parts {
+        write_part(alloc, *part, sheet, ctx, out)?;
+    }
+    Ok(())
+}
+
+/// The text of a module, which is that of its parts in their order: raw text as it was, and each function printed.
+///
+/// Errors: a pass made something of a function for which no text is known; allocation failure. Cost: that of
+/// `print_function` for each function, and linear in the rest of the text.
+pub fn print_module(alloc: Global, sheet: &ModuleSheet, ctx: &Context) -> Result<Vec<u8>, PrintStop>
+    ensures { IfOk result (λ printed. IsModuleText sheet.now ctx.now.tree printed.items) }
+{
+    let mut printed = Vec::with_capacity(alloc, sheet.text.len())?;
+    match write_parts(alloc, sheet, ctx, &mut printed) {
+        Ok(()) => Ok(printed),
+        Err(stop) => Err(stop),
+    }
+}
