@@ -10,6 +10,8 @@ mod broken;
 #[cfg(test)]
 mod classes;
 #[cfg(test)]
+mod documents;
+#[cfg(test)]
 mod edges;
 #[cfg(test)]
 mod forms;
@@ -29,6 +31,8 @@ mod names;
 mod parts;
 #[cfg(test)]
 mod readings;
+#[cfg(test)]
+mod round_trips;
 #[cfg(test)]
 mod statement_forms;
 #[cfg(test)]

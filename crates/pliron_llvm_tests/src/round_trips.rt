@@ -45,8 +45,7 @@ fn printed_of_tree(
     ctx: &mut Context,
 ) -> String {
     let mut sheet = LlvmSheet::new(alloc);
-    let built =
-        build_function::<Mlir<AnyMeaning>>(alloc, source, function, &mut sheet, ctx);
+    let built = build_function::<Mlir<AnyMeaning>>(alloc, source, function, ctx, &mut sheet);
     match built {
         Ok(root) => {
             let mut out = Vec::new(alloc);

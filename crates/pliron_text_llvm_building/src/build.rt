@@ -1,123 +1,21 @@
 //! From a plan to a tree. What a call asks of its arguments is tested before it, so that nothing has to be known of the
 //! plan.
 ghost use Rattle.std.specs.Prelude.{◌≡◌, IfOk};
+ghost use Rattle.pliron_text_llvm_sheets.specs.Sheets.{KeepsSheet};
 ghost use Rattle.pliron_text_llvm_building.specs.Additions.{IsTextHead, AddsText};
 
-use crate::stop::{BuildStop, KeptForBuilding};
+use crate::parts::BuiltParts;
+use crate::stop::{BuildStop, no_block, no_value};
 use pliron_core::{BasicBlock, Context, Head, IRRewriter, Operation, Ptr, Rewriter, Value};
 use pliron_text_llvm_heads::{head_of_constant, head_of_statement};
-use pliron_text_llvm_plans::{
-    FunctionPlan, FunctionSource, OperationPlan, PlannedValue, num_argument,
-};
-use pliron_text_llvm_sheets::LlvmSheet;
+use pliron_text_llvm_plans::{BlockPlan, FunctionPlan, OperationPlan};
+use pliron_text_llvm_sheets::{LlvmSheet, ValueNote, ValueOrigin};
 use std::alloc::Global;
 
-/// What is built so far of a function.
-#[derive(Drop)]
-pub struct BuiltParts {
-    alloc: Global,
-    /// By the numbers of blocks.
-    blocks: Vec<Ptr<BasicBlock>>,
-    /// By the numbers of definitions.
-    values: Vec<Option<Value>>,
-    /// By the numbers of constants.
-    constants: Vec<Value>,
-    /// By the numbers of planned operations.
-    operations: Vec<Ptr<Operation>>,
-}
-
-impl BuiltParts {
-    /// Nothing yet. Takes no memory. Cost: constant.
-    pub fn new(alloc: Global) -> BuiltParts {
-        BuiltParts {
-            alloc,
-            blocks: Vec::new(alloc),
-            values: Vec::new(alloc),
-            constants: Vec::new(alloc),
-            operations: Vec::new(alloc),
-        }
-    }
-
-    // The definition of this number is the value.
-    fn define(&mut self, definition: usize, value: Value) {
-        if let Some(place) = self.values.get_mut(definition) {
-            *place = Some(value);
-        }
-    }
-
-    /// The block of this number, if it is made. Cost: constant.
-    pub fn block(&self, number: usize) -> Option<Ptr<BasicBlock>> {
-        self.blocks.get(number).copied()
-    }
-
-    /// The operation of this number, if it is made. Cost: constant.
-    pub fn operation(&self, number: usize) -> Option<Ptr<Operation>> {
-        self.operations.get(number).copied()
-    }
-
-    /// The value that is planned, if it is made. Cost: constant.
-    pub fn value(&self, planned: PlannedValue) -> Option<Value> {
-        match planned {
-            PlannedValue::Defined(number) => match self.values.get(number) {
-                Some(value) => *value,
-                None => None,
-            },
-            PlannedValue::Constant(number) => self.constants.get(number).copied(),
-        }
-    }
-}
-
-// A value that no operation gives.
-fn no_value(place: usize) -> BuildStop {
-    BuildStop::Keep(place, KeptForBuilding::Value)
-}
-
-// A block that isn't made.
-fn no_block(place: usize) -> BuildStop {
-    BuildStop::Keep(place, KeptForBuilding::Block)
-}
-
-// The number of the definition that is the argument with this index of the block.
-fn definition_of_argument(
-    source: FunctionSource<'_>,
-    plan: &FunctionPlan,
-    block: usize,
-    i: usize,
-) -> Option<usize> {
-    if block == 0 {
-        return Some(i);
-    }
-    match plan.argument_of(source, block, i) {
-        Some(argument) => Some(argument.definition),
-        None => None,
-    }
-}
-
-// The arguments of the block are what their definitions are.
-fn define_arguments(
-    source: FunctionSource<'_>,
-    plan: &FunctionPlan,
-    number: usize,
-    block: Ptr<BasicBlock>,
-    ctx: &Context,
-    built: &mut BuiltParts,
-) -> Result<(), BuildStop> {
-    if !block.is_live(ctx) {
-        return Err(no_block(0));
-    }
-    for i in 0..block.num_argument(ctx) {
-        if let Some(definition) = definition_of_argument(source, plan, number, i) {
-            built.define(definition, block.get_argument(ctx, i));
-        }
-    }
-    Ok(())
-}
-
-// Makes the block of this number, which is the function's last one.
+// Makes a block with so many arguments, the last one of the operation.
 fn make_block(
-    source: FunctionSource<'_>,
-    number: usize,
     root: Ptr<Operation>,
+    arguments: usize,
     ctx: &mut Context,
 ) -> Result<Ptr<BasicBlock>, BuildStop>
     ensures { ctx.new.tree.operations ≡ ctx.old.tree.operations }
@@ -126,22 +24,79 @@ fn make_block(
         return Err(no_block(0));
     }
     let region = root.get_region(ctx, 0);
-    Ok(BasicBlock::create(ctx, region, num_argument(source, number))?)
+    Ok(BasicBlock::create(ctx, region, arguments)?)
+}
+
+// The argument of the block with this index is the planned one.
+fn define_argument(
+    plan: &FunctionPlan,
+    number: usize,
+    i: usize,
+    value: Value,
+    sheet: &mut LlvmSheet,
+    built: &mut BuiltParts,
+) -> Result<(), BuildStop>
+    ensures { KeepsSheet sheet.old sheet.new }
+{
+    match plan.argument(number, i) {
+        Some(argument) => built.define(argument.definition, value, sheet),
+        None => Err(no_value(0)),
+    }
+}
+
+// The arguments of the block are the planned ones.
+fn define_arguments(
+    plan: &FunctionPlan,
+    number: usize,
+    block: Ptr<BasicBlock>,
+    ctx: &Context,
+    sheet: &mut LlvmSheet,
+    built: &mut BuiltParts,
+) -> Result<(), BuildStop>
+    ensures { KeepsSheet sheet.old sheet.new }
+{
+    if !block.is_live(ctx) {
+        return Err(no_block(0));
+    }
+    for i in 0..block.num_argument(ctx) {
+        define_argument(plan, number, i, block.get_argument(ctx, i), sheet, built)?;
+    }
+    Ok(())
+}
+
+// Notes the name of the block.
+fn note_name(
+    planned: BlockPlan,
+    block: Ptr<BasicBlock>,
+    sheet: &mut LlvmSheet,
+) -> Result<(), BuildStop>
+    ensures { KeepsSheet sheet.old sheet.new }
+{
+    match planned.name {
+        Some(name) => Ok(sheet.note_block(block.key() as usize, name)?),
+        None => Ok(()),
+    }
 }
 
 // Makes the block of this number with its arguments.
 fn add_block(
-    source: FunctionSource<'_>,
     plan: &FunctionPlan,
     number: usize,
     root: Ptr<Operation>,
     ctx: &mut Context,
+    sheet: &mut LlvmSheet,
     built: &mut BuiltParts,
 ) -> Result<(), BuildStop>
-    ensures { ctx.new.tree.operations ≡ ctx.old.tree.operations }
+    ensures operations { ctx.new.tree.operations ≡ ctx.old.tree.operations }
+    ensures sheet { KeepsSheet sheet.old sheet.new }
 {
-    let block = make_block(source, number, root, ctx)?;
-    define_arguments(source, plan, number, block, ctx, built)?;
+    let Some(planned) = plan.blocks.get(number).copied() else {
+        return Err(no_block(0));
+    };
+    let (_, count) = planned.arguments;
+    let block = make_block(root, count, ctx)?;
+    note_name(planned, block, sheet)?;
+    define_arguments(plan, number, block, ctx, sheet, built)?;
     built.blocks.push(block)?;
     Ok(())
 }
@@ -149,19 +104,17 @@ fn add_block(
 /// Makes the blocks of a function in this operation, each with its arguments. Errors: the operation has no region;
 /// allocation failure. Cost: linear in the blocks and arguments.
 pub fn add_blocks(
-    source: FunctionSource<'_>,
     plan: &FunctionPlan,
     root: Ptr<Operation>,
     ctx: &mut Context,
+    sheet: &mut LlvmSheet,
     built: &mut BuiltParts,
 ) -> Result<(), BuildStop>
-    ensures { ctx.new.tree.operations ≡ ctx.old.tree.operations }
+    ensures operations { ctx.new.tree.operations ≡ ctx.old.tree.operations }
+    ensures sheet { KeepsSheet sheet.old sheet.new }
 {
-    for _ in &source.reading.definitions {
-        built.values.push(None)?;
-    }
-    for number in 0..source.reading.body.blocks.len() {
-        add_block(source, plan, number, root, ctx, built)?;
+    for number in 0..plan.blocks.len() {
+        add_block(plan, number, root, ctx, sheet, built)?;
     }
     Ok(())
 }
@@ -233,19 +186,17 @@ fn constant_head(
 fn add_constant(
     plan: &FunctionPlan,
     number: usize,
-    sheet: &LlvmSheet,
     ctx: &mut Context,
+    sheet: &mut LlvmSheet,
     built: &mut BuiltParts,
 ) -> Result<(), BuildStop>
-    ensures { AddsText ctx.old.tree ctx.new.tree }
+    ensures heads { AddsText ctx.old.tree ctx.new.tree }
+    ensures sheet { KeepsSheet sheet.old sheet.new }
 {
     let head = constant_head(built.alloc, plan, number, sheet)?;
     let op = make_operation(head, 1, built.block(0), 0, ctx)?;
     match first_result(op, ctx) {
-        Some(value) => {
-            built.constants.push(value)?;
-            Ok(())
-        }
+        Some(value) => built.push_constant(value, sheet),
         None => Err(no_value(0)),
     }
 }
@@ -255,14 +206,15 @@ fn add_constant(
 #[tactic(auto, using(crate::proofs::AdditionLemmas::adds_none, crate::proofs::AdditionLemmas::adds_more))]
 pub fn add_constants(
     plan: &FunctionPlan,
-    sheet: &LlvmSheet,
     ctx: &mut Context,
+    sheet: &mut LlvmSheet,
     built: &mut BuiltParts,
 ) -> Result<(), BuildStop>
-    ensures { AddsText ctx.old.tree ctx.new.tree }
+    ensures heads { AddsText ctx.old.tree ctx.new.tree }
+    ensures sheet { KeepsSheet sheet.old sheet.new }
 {
     for number in 0..plan.constants.num_constant() {
-        add_constant(plan, number, sheet, ctx, built)?;
+        add_constant(plan, number, ctx, sheet, built)?;
     }
     Ok(())
 }
@@ -285,23 +237,38 @@ fn operation_head(
     Ok(head_of_statement(alloc, form, planned.counts, passed, planned.form)?)
 }
 
+// What the operation gives is what is planned.
+fn define_result(
+    planned: &OperationPlan,
+    op: Ptr<Operation>,
+    ctx: &Context,
+    sheet: &mut LlvmSheet,
+    built: &mut BuiltParts,
+) -> Result<(), BuildStop>
+    ensures { KeepsSheet sheet.old sheet.new }
+{
+    match (planned.result, first_result(op, ctx)) {
+        (Some(definition), Some(value)) => built.define(definition, value, sheet),
+        _ => Ok(()),
+    }
+}
+
 // Makes the planned operation.
 fn add_operation(
     plan: &FunctionPlan,
     planned: &OperationPlan,
-    sheet: &LlvmSheet,
     ctx: &mut Context,
+    sheet: &mut LlvmSheet,
     built: &mut BuiltParts,
 ) -> Result<(), BuildStop>
-    ensures { AddsText ctx.old.tree ctx.new.tree }
+    ensures heads { AddsText ctx.old.tree ctx.new.tree }
+    ensures sheet { KeepsSheet sheet.old sheet.new }
 {
     let head = operation_head(built.alloc, plan, planned, sheet)?;
     let results = if planned.result.is_some() { 1 } else { 0 };
     let block = built.block(planned.block);
     let op = make_operation(head, results, block, planned.place, ctx)?;
-    if let (Some(definition), Some(value)) = (planned.result, first_result(op, ctx)) {
-        built.define(definition, value);
-    }
+    define_result(planned, op, ctx, sheet, built)?;
     built.operations.push(op)?;
     Ok(())
 }
@@ -310,14 +277,15 @@ fn add_operation(
 #[tactic(auto, using(crate::proofs::AdditionLemmas::adds_none, crate::proofs::AdditionLemmas::adds_more))]
 pub fn add_operations(
     plan: &FunctionPlan,
-    sheet: &LlvmSheet,
     ctx: &mut Context,
+    sheet: &mut LlvmSheet,
     built: &mut BuiltParts,
 ) -> Result<(), BuildStop>
-    ensures { AddsText ctx.old.tree ctx.new.tree }
+    ensures heads { AddsText ctx.old.tree ctx.new.tree }
+    ensures sheet { KeepsSheet sheet.old sheet.new }
 {
     for planned in &plan.operations {
-        add_operation(plan, planned, sheet, ctx, built)?;
+        add_operation(plan, planned, ctx, sheet, built)?;
     }
     Ok(())
 }

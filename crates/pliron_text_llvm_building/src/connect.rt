@@ -1,7 +1,7 @@
 //! Operands and successors of operations that are made.
 ghost use Rattle.std.specs.Prelude.{◌≡◌};
 
-use crate::build::BuiltParts;
+use crate::parts::BuiltParts;
 use crate::stop::{BuildStop, KeptForBuilding};
 use pliron_core::{BasicBlock, Context, Operation, Ptr, Value};
 use pliron_text_llvm_plans::{FunctionPlan, OperationPlan};

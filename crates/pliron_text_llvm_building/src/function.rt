@@ -2,16 +2,18 @@
 ghost use Rattle.std.specs.Prelude.{◌≡◌, IfOk};
 ghost use Rattle.pliron_core.specs.Tree.{IsLive};
 ghost use Rattle.pliron_laws.specs.Linked.{IsWellLinked};
+ghost use Rattle.pliron_text_llvm_sheets.specs.Sheets.{KeepsSheet};
 ghost use Rattle.pliron_text_llvm_building.specs.Additions.{AddsText};
 
-use crate::build::{BuiltParts, add_blocks, add_constants, add_operations};
+use crate::build::{add_blocks, add_constants, add_operations};
 use crate::connect::connect_all;
+use crate::parts::BuiltParts;
 use crate::stop::{BuildStop, KeptForBuilding};
 use pliron_core::{Context, Operation, Ptr};
 use pliron_dialect_mlir::{Class, plain_head};
 use pliron_laws::{Dialect, is_well_linked};
 use pliron_text_llvm_names::bytes_in;
-use pliron_text_llvm_plans::{FunctionPlan, FunctionSource, note_all, plan_function};
+use pliron_text_llvm_plans::{FunctionPlan, FunctionSource, plan_function};
 use pliron_text_llvm_sheets::LlvmSheet;
 use pliron_text_llvm_syntax::{ByteSpan, FunctionText};
 use std::alloc::Global;
@@ -21,7 +23,9 @@ fn number_of_header(
     text: &[u8],
     function: &FunctionText,
     sheet: &mut LlvmSheet,
-) -> Result<usize, BuildStop> {
+) -> Result<usize, BuildStop>
+    ensures { KeepsSheet sheet.old sheet.new }
+{
     let header = ByteSpan {
         start: function.span.start,
         end: function.body.start,
@@ -41,18 +45,18 @@ fn make_root(alloc: Global, header: usize, ctx: &mut Context) -> Result<Ptr<Oper
 // Makes all that is in the function.
 #[tactic(auto, using(crate::proofs::AdditionLemmas::adds_none, crate::proofs::AdditionLemmas::adds_more, crate::proofs::AdditionLemmas::adds_before_none, crate::proofs::AdditionLemmas::adds_behind_none))]
 fn build_inside(
-    source: FunctionSource<'_>,
     plan: &FunctionPlan,
-    sheet: &LlvmSheet,
     root: Ptr<Operation>,
     ctx: &mut Context,
+    sheet: &mut LlvmSheet,
     built: &mut BuiltParts,
 ) -> Result<(), BuildStop>
-    ensures { AddsText ctx.old.tree ctx.new.tree }
+    ensures heads { AddsText ctx.old.tree ctx.new.tree }
+    ensures sheet { KeepsSheet sheet.old sheet.new }
 {
-    add_blocks(source, plan, root, ctx, built)?;
-    add_constants(plan, sheet, ctx, built)?;
-    add_operations(plan, sheet, ctx, built)?;
+    add_blocks(plan, root, ctx, sheet, built)?;
+    add_constants(plan, ctx, sheet, built)?;
+    add_operations(plan, ctx, sheet, built)?;
     connect_all(plan, ctx, built)
 }
 
@@ -60,32 +64,33 @@ fn build_inside(
 #[tactic(auto, using(crate::proofs::AdditionLemmas::adds_more))]
 fn build_planned(
     alloc: Global,
-    source: FunctionSource<'_>,
     plan: &FunctionPlan,
     header: usize,
-    sheet: &LlvmSheet,
     ctx: &mut Context,
+    sheet: &mut LlvmSheet,
 ) -> Result<Ptr<Operation>, BuildStop>
-    ensures { AddsText ctx.old.tree ctx.new.tree }
+    ensures heads { AddsText ctx.old.tree ctx.new.tree }
+    ensures sheet { KeepsSheet sheet.old sheet.new }
 {
     let root = make_root(alloc, header, ctx)?;
     let mut built = BuiltParts::new(alloc);
-    match build_inside(source, plan, sheet, root, ctx, &mut built) {
+    match build_inside(plan, root, ctx, sheet, &mut built) {
         Ok(()) => Ok(root),
         Err(stop) => Err(stop),
     }
 }
 
-// Plans the function, notes what the sheet has beside the tree, and answers the number of the text before the body.
-fn plan_and_note(
+// Plans the function, and answers the number of the text before the body.
+fn plan_with_header(
     alloc: Global,
     source: FunctionSource<'_>,
     function: &FunctionText,
     sheet: &mut LlvmSheet,
     plan: &mut FunctionPlan,
-) -> Result<usize, BuildStop> {
+) -> Result<usize, BuildStop>
+    ensures { KeepsSheet sheet.old sheet.new }
+{
     plan_function(alloc, source, sheet, plan)?;
-    note_all(alloc, source, plan, sheet)?;
     number_of_header(source.text, function, sheet)
 }
 
@@ -95,37 +100,38 @@ fn build_source(
     alloc: Global,
     source: FunctionSource<'_>,
     function: &FunctionText,
-    sheet: &mut LlvmSheet,
     ctx: &mut Context,
+    sheet: &mut LlvmSheet,
 ) -> Result<Ptr<Operation>, BuildStop>
-    ensures { AddsText ctx.old.tree ctx.new.tree }
+    ensures heads { AddsText ctx.old.tree ctx.new.tree }
+    ensures sheet { KeepsSheet sheet.old sheet.new }
 {
     let mut plan = FunctionPlan::new(alloc);
-    match plan_and_note(alloc, source, function, sheet, &mut plan) {
-        Ok(header) => build_planned(alloc, source, &plan, header, sheet, ctx),
+    match plan_with_header(alloc, source, function, sheet, &mut plan) {
+        Ok(header) => build_planned(alloc, &plan, header, ctx, sheet),
         Err(stop) => Err(stop),
     }
 }
 
 /// Builds the tree of a function: its operation, which is in no block and is well linked; and adds what the text says
-/// beside it to the sheet. The sheet notes values and blocks in the order of their handles, so it has to be that of the
-/// whole context.
+/// beside it to the sheet, which notes its values and blocks by their handles.
 ///
 /// Asks for what was made of the function. Errors: a statement has no form, or no tree of the dialect has what the
-/// function has, and so it is kept as it is written; allocation failure. A part of it may be live then. Cost: linear in
-/// the function.
+/// function has, and so it is kept as it is written; allocation failure. A part of it may be live then, in no block. Cost:
+/// linear in the function.
 pub fn build_function<D: Dialect>(
     alloc: Global,
     source: FunctionSource<'_>,
     function: &FunctionText,
-    sheet: &mut LlvmSheet,
     ctx: &mut Context,
+    sheet: &mut LlvmSheet,
 ) -> Result<Ptr<Operation>, BuildStop>
     ensures liveness { IfOk result (λ root. IsLive ctx.new.tree root) }
     ensures linked { IfOk result (λ root. IsWellLinked D.meaning ctx.new.tree root) }
     ensures heads { AddsText ctx.old.tree ctx.new.tree }
+    ensures sheet { KeepsSheet sheet.old sheet.new }
 {
-    let root = build_source(alloc, source, function, sheet, ctx)?;
+    let root = build_source(alloc, source, function, ctx, sheet)?;
     if root.is_live(ctx) && is_well_linked::<D>(root, ctx) {
         Ok(root)
     } else {

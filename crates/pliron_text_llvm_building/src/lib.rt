@@ -5,6 +5,7 @@
 mod build;
 mod connect;
 mod function;
+mod parts;
 mod stop;
 
 pub use function::build_function;

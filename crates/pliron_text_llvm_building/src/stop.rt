@@ -32,6 +32,16 @@ pub enum BuildStop {
     NoMemory,
 }
 
+/// A value that no operation gives. Cost: constant.
+pub fn no_value(place: usize) -> BuildStop {
+    BuildStop::Keep(place, KeptForBuilding::Value)
+}
+
+/// A block that isn't made. Cost: constant.
+pub fn no_block(place: usize) -> BuildStop {
+    BuildStop::Keep(place, KeptForBuilding::Block)
+}
+
 /// A failed allocation is reported as `NoMemory`.
 impl From<AllocError> for BuildStop {
     ghost from_gives = { λ _ e. e ≡ NoMemory };

@@ -2,15 +2,18 @@
 //! what they pass, and a constant for each type and text; and what a sheet notes of values and blocks.
 #![tactic(auto)]
 
+mod blocks;
 mod names;
-mod notes;
+mod operations;
 mod plan;
 mod statements;
 mod stop;
 mod values;
 
-pub use notes::{note_all, num_argument};
-pub use plan::{FunctionPlan, FunctionSource, OperationPlan, PlannedArgument, plan_function};
+pub use operations::plan_function;
+pub use plan::{
+    ArgumentPlan, BlockPlan, FunctionPlan, FunctionSource, OperationPlan, PlannedDefinition,
+};
 pub use statements::read_form;
 pub use stop::{KeptForPlan, PlanStop};
 pub use values::{PlannedValue, plan_value};

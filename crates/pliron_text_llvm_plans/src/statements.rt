@@ -4,14 +4,26 @@ ghost use Rattle.pliron_text_llvm_edges.specs.Numbers.{numbers_passing};
 ghost use Rattle.pliron_text_llvm_forms.specs.StatementForms.{text_up_to, IsForm};
 ghost use Rattle.pliron_text_llvm_plans.specs.Forms.{is_tree_hole_at, holes_numbered, tree_holes_of};
 
+use crate::plan::FunctionSource;
 use crate::stop::{KeptForPlan, PlanStop};
 use pliron_text_llvm_edges::is_successor_at;
 use pliron_text_llvm_forms::form_of_statement;
 use pliron_text_llvm_functions::FunctionReading;
-use pliron_text_llvm_reader::BodyStatement;
+use pliron_text_llvm_reader::{BodyLine, BodyStatement};
 use pliron_text_llvm_syntax::Hole;
 use pliron_text_llvm_trees::is_undefined_at;
 use std::alloc::{AllocError, Global};
+
+/// The statement that is the line of this number. Errors: there is none. Cost: constant.
+pub fn statement_at<'t>(
+    source: FunctionSource<'t>,
+    line: usize,
+) -> Result<&'t BodyStatement, PlanStop> {
+    match source.reading.body.lines.get(line) {
+        Some(BodyLine::Statement(statement)) => Ok(statement),
+        Some(BodyLine::Label(_)) | None => Err(PlanStop::Keep(0, KeptForPlan::Form)),
+    }
+}
 
 // Whether the tree has what is in the hole.
 fn is_tree_hole_at(

@@ -1,2 +1,3 @@
 pub mod Constants
+pub mod Notes
 pub mod Sheets

@@ -3,6 +3,7 @@ use Rattle.std.specs.Prelude.{ℕ, List, Option}
 use Rattle.pliron_text_mlir_syntax.specs.Sheets.{text_in, KeepsTexts}
 use Rattle.pliron_text_llvm_sheets.specs.declared.sheet.ValueNote.{ValueNote}
 use Rattle.pliron_text_llvm_sheets.specs.declared.sheet.LlvmSheet.{LlvmSheet}
+use Rattle.pliron_text_llvm_sheets.specs.Notes.{KeepsNotes}
 
 -- the text of this number, if one has it
 abbrev pub sheet_text : LlvmSheet → ℕ → Option (List ℕ)
@@ -13,9 +14,14 @@ abbrev pub KeepsSheetTexts : LlvmSheet → LlvmSheet → Type 0
 KeepsSheetTexts old new = KeepsTexts old.texts new.texts
 
 -- what is noted of values, by their handles
-abbrev pub value_notes : LlvmSheet → List ValueNote
+abbrev pub value_notes : LlvmSheet → List (Option ValueNote)
 value_notes sheet = sheet.values.items
 
 -- the names of blocks, by their handles
 abbrev pub block_names : LlvmSheet → List (Option ℕ)
 block_names sheet = sheet.blocks.items
+
+-- texts keep their numbers, and values and blocks their notes
+abbrev pub KeepsSheet : LlvmSheet → LlvmSheet → Type 0
+KeepsSheet old new =
+    KeepsSheetTexts old new × KeepsNotes (value_notes old) (value_notes new) × KeepsNotes (block_names old) (block_names new)

@@ -1,5 +1,6 @@
 //! The sheet of functions.
-ghost use Rattle.std.specs.Prelude.{◌≡◌, ◌++◌, ◌∷◌, [], Some, slice_get, unwrap_or, option_and_then, IfOk, OnOk};
+ghost use Rattle.std.specs.Prelude.{◌≡◌, [], Some, unwrap_or, IfOk, OnOk};
+ghost use Rattle.pliron_text_llvm_sheets.specs.Notes.{note_at, KeepsNotes};
 
 use pliron_text_mlir_syntax::Texts;
 use std::alloc::{AllocError, Global};
@@ -31,9 +32,28 @@ pub struct ValueNote {
 pub struct LlvmSheet {
     texts: Texts,
     /// By the handles of values.
-    values: Vec<ValueNote>,
+    values: Vec<Option<ValueNote>>,
     /// By the handles of blocks: the numbers of their names, without the `:`.
     blocks: Vec<Option<usize>>,
+}
+
+// At this number there is this note from now on, or the one that there was.
+fn put_note<T: Copy + Drop>(
+    notes: &mut Vec<Option<T>>,
+    number: usize,
+    note: T,
+) -> Result<(), AllocError>
+    ensures noted { OnOk result (note_at notes.new.items number
+        ≡ Some (unwrap_or (note_at notes.old.items number) note)) }
+    ensures kept { KeepsNotes notes.old.items notes.new.items }
+{
+    if number >= notes.len() {
+        notes.resize(number, None)?;
+        notes.push(Some(note))?;
+    } else if notes[number].is_none() {
+        notes[number] = Some(note);
+    }
+    Ok(())
 }
 
 impl LlvmSheet {
@@ -69,35 +89,46 @@ impl LlvmSheet {
         self.texts.get(number)
     }
 
-    /// The next value in the order of handles has this note. Errors: allocation failure. Cost: constant.
-    pub fn push_value(&mut self, note: ValueNote) -> Result<(), AllocError>
-        ensures { OnOk result (value_notes self.new ≡ value_notes self.old ++ note ∷ []) }
+    /// The value of this handle has this note, or the one that it has already. Others keep theirs. Errors: allocation
+    /// failure. Cost: constant, amortised, where handles rise; else the number of handles that are passed over.
+    pub fn note_value(&mut self, value: usize, note: ValueNote) -> Result<(), AllocError>
+        ensures noted { OnOk result (note_at (value_notes self.new) value
+            ≡ Some (unwrap_or (note_at (value_notes self.old) value) note)) }
+        ensures kept { KeepsNotes (value_notes self.old) (value_notes self.new) }
+        ensures blocks { block_names self.new ≡ block_names self.old }
+        ensures texts { self.new.texts ≡ self.old.texts }
     {
-        self.values.push(note)?;
-        Ok(())
+        put_note(&mut self.values, value, note)
     }
 
-    /// What is noted of the value of this number in the order of handles. Cost: constant.
-    pub fn value(&self, number: usize) -> Option<ValueNote>
-        ensures { result ≡ slice_get (value_notes self.now) number }
+    /// What is noted of the value of this handle. Cost: constant.
+    pub fn value(&self, value: usize) -> Option<ValueNote>
+        ensures { result ≡ note_at (value_notes self.now) value }
     {
-        self.values.get(number).copied()
+        match self.values.get(value) {
+            Some(note) => *note,
+            None => None,
+        }
     }
 
-    /// The next block in the order of handles has the name of this number, or none. Errors: allocation failure. Cost:
-    /// constant.
-    pub fn push_block(&mut self, name: Option<usize>) -> Result<(), AllocError>
-        ensures { OnOk result (block_names self.new ≡ block_names self.old ++ name ∷ []) }
+    /// The block of this handle has the name of this number, or the one that it has already. Others keep theirs. Errors:
+    /// allocation failure. Cost: constant, amortised, where handles rise; else the number of handles that are passed
+    /// over.
+    pub fn note_block(&mut self, block: usize, name: usize) -> Result<(), AllocError>
+        ensures noted { OnOk result (note_at (block_names self.new) block
+            ≡ Some (unwrap_or (note_at (block_names self.old) block) name)) }
+        ensures kept { KeepsNotes (block_names self.old) (block_names self.new) }
+        ensures values { value_notes self.new ≡ value_notes self.old }
+        ensures texts { self.new.texts ≡ self.old.texts }
     {
-        self.blocks.push(name)?;
-        Ok(())
+        put_note(&mut self.blocks, block, name)
     }
 
-    /// The number of the name of the block of this number in the order of handles, where it has one. Cost: constant.
-    pub fn block(&self, number: usize) -> Option<usize>
-        ensures { result ≡ option_and_then (λ name. name) (slice_get (block_names self.now) number) }
+    /// The number of the name of the block of this handle, where it has one. Cost: constant.
+    pub fn block(&self, block: usize) -> Option<usize>
+        ensures { result ≡ note_at (block_names self.now) block }
     {
-        match self.blocks.get(number) {
+        match self.blocks.get(block) {
             Some(name) => *name,
             None => None,
         }

@@ -1,0 +1,151 @@
+//! Parts of a module, of which functions become trees.
+ghost use Rattle.std.specs.Prelude.{◌≡◌, [], map, OnOk};
+ghost use Rattle.pliron_text_llvm_modules.specs.Modules.{module_part_of};
+ghost use Rattle.pliron_text_llvm_documents.specs.Documents.{ArePartsOf, IsOneMore};
+
+use crate::addresses::TakenAddresses;
+use crate::stop::{DocumentFault, KeptPart, KeptReason};
+use pliron_core::{Context, Operation, Ptr};
+use pliron_laws::Dialect;
+use pliron_text_llvm_building::{BuildStop, build_function};
+use pliron_text_llvm_modules::{ModuleFunction, ReadFunction, ReadPart};
+use pliron_text_llvm_names::bytes_in;
+use pliron_text_llvm_parts::{ModuleSheet, SheetPart};
+use pliron_text_llvm_plans::FunctionSource;
+use pliron_text_llvm_sheets::LlvmSheet;
+use pliron_text_llvm_syntax::FunctionText;
+use pliron_text_llvm_trees::{TreeForm, read_tree};
+use std::alloc::{AllocError, Global};
+
+/// What is built so far of a module.
+#[doc(hidden)]
+#[derive(Drop)]
+pub struct DocumentParts {
+    pub alloc: Global,
+    pub sheet: ModuleSheet,
+    pub kept: Vec<KeptPart>,
+    pub taken: TakenAddresses,
+}
+
+/// What a function of a module becomes.
+#[derive(Clone, Copy)]
+enum DocumentFunction {
+    Tree(Ptr<Operation>),
+    Kept(KeptPart),
+}
+
+// A function that is kept for what is at this byte.
+fn kept_at(place: usize, reason: KeptReason) -> DocumentFunction {
+    DocumentFunction::Kept(KeptPart { place, reason })
+}
+
+// Builds the function.
+fn build_made<D: Dialect>(
+    alloc: Global,
+    source: FunctionSource<'_>,
+    function: &FunctionText,
+    ctx: &mut Context,
+    sheet: &mut LlvmSheet,
+) -> Result<DocumentFunction, AllocError> {
+    match build_function::<D>(alloc, source, function, ctx, sheet) {
+        Ok(root) => Ok(DocumentFunction::Tree(root)),
+        Err(BuildStop::Keep(place, reason)) => Ok(kept_at(place, KeptReason::Building(reason))),
+        Err(BuildStop::NoMemory) => Err(AllocError),
+    }
+}
+
+// Builds the function that was read, where it is a tree.
+fn build_read<D: Dialect>(
+    text: &[u8],
+    function: &FunctionText,
+    read: &ReadFunction,
+    ctx: &mut Context,
+    document: &mut DocumentParts,
+) -> Result<DocumentFunction, AllocError>
+    ensures parts { document.new.sheet.parts ≡ document.old.sheet.parts }
+    ensures text { document.new.sheet.text ≡ document.old.sheet.text }
+{
+    let alloc = document.alloc;
+    match read_tree(alloc, text, &read.reading, &read.edges)? {
+        TreeForm::Made(tree) => {
+            let source = FunctionSource {
+                text,
+                reading: &read.reading,
+                tree: &tree,
+            };
+            build_made::<D>(alloc, source, function, ctx, &mut document.sheet.functions)
+        }
+        TreeForm::Kept(place, reason) => Ok(kept_at(place, KeptReason::Tree(reason))),
+    }
+}
+
+// Builds the function, where it was read and no other text names its blocks.
+fn build_function_of<D: Dialect>(
+    text: &[u8],
+    function: &FunctionText,
+    read: &ModuleFunction,
+    ctx: &mut Context,
+    document: &mut DocumentParts,
+) -> Result<DocumentFunction, AllocError>
+    ensures parts { document.new.sheet.parts ≡ document.old.sheet.parts }
+    ensures text { document.new.sheet.text ≡ document.old.sheet.text }
+{
+    match read {
+        ModuleFunction::Read(read) => {
+            if document.taken.has(bytes_in(text, function.name))? {
+                return Ok(kept_at(function.span.start, KeptReason::Named));
+            }
+            build_read::<D>(text, function, read, ctx, document)
+        }
+        ModuleFunction::Kept(place, reason) => Ok(kept_at(*place, KeptReason::Reading(*reason))),
+    }
+}
+
+// Adds the part, and what its function becomes.
+fn push_part<D: Dialect>(
+    text: &[u8],
+    part: &ReadPart,
+    ctx: &mut Context,
+    document: &mut DocumentParts,
+) -> Result<(), DocumentFault>
+    ensures part { OnOk result (IsOneMore (module_part_of part.now) document.old.sheet.parts.items
+        document.new.sheet.parts.items) }
+    ensures text { document.new.sheet.text ≡ document.old.sheet.text }
+{
+    match part {
+        ReadPart::Raw(span) => document.sheet.parts.push(SheetPart::Raw(*span))?,
+        ReadPart::Function(function, read) => {
+            match build_function_of::<D>(text, function, read, ctx, document)? {
+                DocumentFunction::Tree(op) => document.sheet.parts.push(SheetPart::Function(op))?,
+                DocumentFunction::Kept(kept) => {
+                    document.kept.push(kept)?;
+                    document.sheet.parts.push(SheetPart::Raw(function.span))?
+                }
+            }
+        }
+    }
+    Ok(())
+}
+
+/// Adds the parts of a module to none: functions that become trees, which are in no block, and text that is kept as it is
+/// written.
+///
+/// Asks that there is no part yet. Errors: allocation failure. A part of what is built may be live then. Cost: linear in the
+/// text, with a look-up for each name and a sort of the entries of each phi.
+#[doc(hidden)]
+#[tactic(auto, using(crate::proofs::PartLemmas::parts_none, crate::proofs::PartLemmas::parts_more, crate::proofs::PartLemmas::parts_all))]
+pub fn build_parts<D: Dialect>(
+    text: &[u8],
+    parts: &[ReadPart],
+    ctx: &mut Context,
+    document: &mut DocumentParts,
+) -> Result<(), DocumentFault>
+    requires { document.old.sheet.parts.items ≡ [] }
+    ensures parts { OnOk result (ArePartsOf (map module_part_of parts.now) document.new.sheet.parts.items) }
+    ensures text { document.new.sheet.text ≡ document.old.sheet.text }
+{
+    for part in parts {
+        push_part::<D>(text, part, ctx, document)?;
+    }
+    Ok(())
+}

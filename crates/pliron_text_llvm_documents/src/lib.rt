@@ -1,0 +1,16 @@
+//! Modules of LLVM's textual IR as trees: an operation that holds the functions that became trees, and a sheet with the parts
+//! of the text, which says what is printed as it is written.
+//!
+//! A function is kept as it is written where something of it isn't in the table, or it is no tree of the dialect; where the
+//! address of a block of it is taken; and, in a text that counts uses, each one.
+#![tactic(auto)]
+
+mod addresses;
+mod functions;
+mod module;
+mod stop;
+
+pub use addresses::{TakenAddresses, taken_addresses};
+pub use functions::{DocumentParts, build_parts};
+pub use module::{LlvmModule, read_module};
+pub use stop::{DocumentFault, KeptPart, KeptReason};

@@ -1,0 +1,173 @@
+//! Plans of blocks and their arguments.
+use crate::names::{name_of, name_of_block, name_of_parameter};
+use crate::plan::{ArgumentPlan, BlockPlan, FunctionPlan, FunctionSource, PlannedDefinition};
+use crate::statements::{read_form, statement_at};
+use crate::stop::{KeptForPlan, PlanStop};
+use pliron_text_llvm_classes::operand_widths_of_form;
+use pliron_text_llvm_sheets::{LlvmSheet, ValueNote, ValueOrigin};
+use pliron_text_llvm_trees::TreeArgument;
+use std::alloc::Global;
+
+// Plans the parameter that is the definition of this number, where `next` is the next number. Answers the one that is next
+// behind it.
+fn plan_parameter(
+    alloc: Global,
+    source: FunctionSource<'_>,
+    number: usize,
+    next: u32,
+    sheet: &mut LlvmSheet,
+    plan: &mut FunctionPlan,
+) -> Result<u32, PlanStop> {
+    let definition = source.reading.definitions.get(number);
+    let (name, behind) = name_of_parameter(alloc, source.text, definition, next, sheet)?;
+    let note = ValueNote {
+        origin: ValueOrigin::Parameter,
+        name: Some(name),
+    };
+    plan.arguments.push(ArgumentPlan {
+        definition: PlannedDefinition { number, note },
+        width: 0,
+    })?;
+    Ok(behind)
+}
+
+// Plans the parameters, which are the first definitions.
+fn plan_parameters(
+    alloc: Global,
+    source: FunctionSource<'_>,
+    sheet: &mut LlvmSheet,
+    plan: &mut FunctionPlan,
+) -> Result<(), PlanStop> {
+    let mut next = 0;
+    for number in 0..source.tree.parameters {
+        next = plan_parameter(alloc, source, number, next, sheet, plan)?;
+    }
+    Ok(())
+}
+
+// Whether the byte may begin or end a comment or a string.
+fn is_of_other_text(byte: u8) -> bool {
+    byte == b'"' || byte == b';' || byte == b'/'
+}
+
+// The argument that is the phi with this form.
+fn argument_with_form(
+    alloc: Global,
+    source: FunctionSource<'_>,
+    argument: TreeArgument,
+    form: &[u8],
+    sheet: &mut LlvmSheet,
+) -> Result<ArgumentPlan, PlanStop> {
+    let widths = operand_widths_of_form(alloc, form)?;
+    let origin = ValueOrigin::Phi(sheet.number(form)?);
+    let number = argument.definition;
+    let name = name_of(source.text, source.reading.definitions.get(number), sheet)?;
+    Ok(ArgumentPlan {
+        definition: PlannedDefinition {
+            number,
+            note: ValueNote { origin, name },
+        },
+        width: widths.first().copied().unwrap_or(0),
+    })
+}
+
+// The argument that is the phi.
+fn plan_argument(
+    alloc: Global,
+    source: FunctionSource<'_>,
+    argument: TreeArgument,
+    sheet: &mut LlvmSheet,
+) -> Result<ArgumentPlan, PlanStop> {
+    let line = statement_at(source, argument.place.line)?;
+    let form = read_form(alloc, source.text, source.reading, line)?;
+    if form.iter().any(|byte| is_of_other_text(*byte)) {
+        return Err(PlanStop::Keep(line.span.start, KeptForPlan::Phi));
+    }
+    argument_with_form(alloc, source, argument, &form, sheet)
+}
+
+// Plans the phi of this number.
+fn plan_phi(
+    alloc: Global,
+    source: FunctionSource<'_>,
+    number: usize,
+    sheet: &mut LlvmSheet,
+    plan: &mut FunctionPlan,
+) -> Result<(), PlanStop> {
+    match source.tree.arguments.get(number) {
+        Some(argument) => {
+            let planned = plan_argument(alloc, source, *argument, sheet)?;
+            plan.arguments.push(planned)?;
+            Ok(())
+        }
+        None => Err(PlanStop::Keep(0, KeptForPlan::Arguments)),
+    }
+}
+
+// Plans the phis of the block of this number.
+fn plan_phis(
+    alloc: Global,
+    source: FunctionSource<'_>,
+    block: usize,
+    sheet: &mut LlvmSheet,
+    plan: &mut FunctionPlan,
+) -> Result<(), PlanStop> {
+    let numbers: &[usize] = match source.tree.by_block.get(block) {
+        Some(numbers) => numbers,
+        None => &[],
+    };
+    for number in numbers {
+        plan_phi(alloc, source, *number, sheet, plan)?;
+    }
+    Ok(())
+}
+
+// Plans the arguments of the block of this number: of the first one the parameters, of each other one its phis.
+fn plan_arguments(
+    alloc: Global,
+    source: FunctionSource<'_>,
+    block: usize,
+    sheet: &mut LlvmSheet,
+    plan: &mut FunctionPlan,
+) -> Result<(), PlanStop> {
+    if block == 0 {
+        plan_parameters(alloc, source, sheet, plan)
+    } else {
+        plan_phis(alloc, source, block, sheet, plan)
+    }
+}
+
+// Plans the block of this number, and its arguments.
+fn plan_block(
+    alloc: Global,
+    source: FunctionSource<'_>,
+    number: usize,
+    sheet: &mut LlvmSheet,
+    plan: &mut FunctionPlan,
+) -> Result<(), PlanStop> {
+    let body = &source.reading.body;
+    let line = body.blocks.get(number).map_or(0, |block| block.start);
+    let name = name_of_block(source.text, body, line, sheet)?;
+    let first = plan.arguments.len();
+    plan_arguments(alloc, source, number, sheet, plan)?;
+    let count = plan.arguments.len().saturating_sub(first);
+    plan.blocks.push(BlockPlan {
+        name,
+        arguments: (first, count),
+    })?;
+    Ok(())
+}
+
+/// Plans the blocks of a function, each with its arguments. Errors: a phi has no form, or a comment or a string in it, and
+/// so the function is kept as it is written; allocation failure. Cost: linear in the blocks and the phis.
+pub fn plan_blocks(
+    alloc: Global,
+    source: FunctionSource<'_>,
+    sheet: &mut LlvmSheet,
+    plan: &mut FunctionPlan,
+) -> Result<(), PlanStop> {
+    for number in 0..source.reading.body.blocks.len() {
+        plan_block(alloc, source, number, sheet, plan)?;
+    }
+    Ok(())
+}

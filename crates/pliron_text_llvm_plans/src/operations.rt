@@ -1,0 +1,189 @@
+//! Plans of operations, with what their edges pass.
+use crate::blocks::plan_blocks;
+use crate::names::name_of;
+use crate::plan::{FunctionPlan, FunctionSource, OperationPlan, PlannedDefinition};
+use crate::statements::{read_form, statement_at};
+use crate::stop::PlanStop;
+use crate::values::plan_value;
+use pliron_text_llvm_classes::{FormCounts, operand_widths_of_form};
+use pliron_text_llvm_sheets::{LlvmSheet, ValueNote, ValueOrigin};
+use pliron_text_llvm_trees::{TreeEdge, TreeStatement};
+use std::alloc::{AllocError, Global};
+
+// Adds the operand that is in the hole, whose type has this width.
+fn push_operand(
+    source: FunctionSource<'_>,
+    width: u32,
+    hole: usize,
+    sheet: &mut LlvmSheet,
+    plan: &mut FunctionPlan,
+) -> Result<(), PlanStop> {
+    let value = plan_value(
+        source.text,
+        source.reading,
+        width,
+        hole,
+        sheet,
+        &mut plan.constants,
+    )?;
+    plan.operands.push(value)?;
+    Ok(())
+}
+
+// Adds the operands in the holes, whose types have these widths.
+fn push_operands(
+    source: FunctionSource<'_>,
+    widths: &[u32],
+    holes: &[usize],
+    sheet: &mut LlvmSheet,
+    plan: &mut FunctionPlan,
+) -> Result<(), PlanStop> {
+    for i in 0..holes.len() {
+        let width = widths.get(i).copied().unwrap_or(0);
+        push_operand(source, width, holes[i], sheet, plan)?;
+    }
+    Ok(())
+}
+
+// Adds the edge, and what it passes.
+fn push_edge(
+    source: FunctionSource<'_>,
+    edge: &TreeEdge,
+    sheet: &mut LlvmSheet,
+    plan: &mut FunctionPlan,
+) -> Result<(), PlanStop> {
+    for i in 0..edge.passed.len() {
+        let width = plan
+            .argument(edge.edge.to, i)
+            .map_or(0, |argument| argument.width);
+        push_operand(source, width, edge.passed[i], sheet, plan)?;
+    }
+    plan.successors.push(edge.edge.to)?;
+    plan.passed.push(edge.passed.len())?;
+    Ok(())
+}
+
+// Adds the edges from the block that come next, from as many as there are already on.
+fn push_edges_from(
+    source: FunctionSource<'_>,
+    block: usize,
+    sheet: &mut LlvmSheet,
+    plan: &mut FunctionPlan,
+) -> Result<(), PlanStop> {
+    for number in plan.successors.len()..source.tree.edges.len() {
+        match source.tree.edges.get(number) {
+            Some(edge) if edge.edge.from == block => push_edge(source, edge, sheet, plan)?,
+            _ => break,
+        }
+    }
+    Ok(())
+}
+
+// What the statement gives, if something.
+fn plan_result(
+    source: FunctionSource<'_>,
+    given: Option<usize>,
+    sheet: &mut LlvmSheet,
+) -> Result<Option<PlannedDefinition>, AllocError> {
+    let Some(number) = given else {
+        return Ok(None);
+    };
+    let name = name_of(source.text, source.reading.definitions.get(number), sheet)?;
+    let note = ValueNote {
+        origin: ValueOrigin::Result,
+        name,
+    };
+    Ok(Some(PlannedDefinition { number, note }))
+}
+
+// Adds the operands of the statement, its own and those that its edges pass, and its edges.
+fn push_uses(
+    alloc: Global,
+    source: FunctionSource<'_>,
+    statement: &TreeStatement,
+    form: &[u8],
+    sheet: &mut LlvmSheet,
+    plan: &mut FunctionPlan,
+) -> Result<(), PlanStop> {
+    let line = statement_at(source, statement.line)?;
+    let widths = operand_widths_of_form(alloc, form)?;
+    push_operands(source, &widths, &statement.operands, sheet, plan)?;
+    if line.statement.row.is_terminator {
+        push_edges_from(source, statement.block, sheet, plan)
+    } else {
+        Ok(())
+    }
+}
+
+// Plans the statement, whose form this is.
+fn plan_with_form(
+    alloc: Global,
+    source: FunctionSource<'_>,
+    statement: &TreeStatement,
+    form: &[u8],
+    sheet: &mut LlvmSheet,
+    plan: &mut FunctionPlan,
+) -> Result<(), PlanStop> {
+    let line = statement_at(source, statement.line)?;
+    let number = sheet.number(form)?;
+    let result = plan_result(source, statement.result, sheet)?;
+    let first = plan.operands.len();
+    let first_edge = plan.successors.len();
+    push_uses(alloc, source, statement, form, sheet, plan)?;
+    let successors = plan.successors.len().saturating_sub(first_edge);
+    plan.operations.push(OperationPlan {
+        place: line.span.start,
+        block: statement.block,
+        form: number,
+        counts: FormCounts {
+            operands: statement.operands.len(),
+            successors,
+            is_end: line.statement.row.is_terminator,
+        },
+        operands: (first, plan.operands.len().saturating_sub(first)),
+        edges: (first_edge, successors),
+        result,
+    })?;
+    Ok(())
+}
+
+// Plans the statement.
+fn plan_statement(
+    alloc: Global,
+    source: FunctionSource<'_>,
+    statement: &TreeStatement,
+    sheet: &mut LlvmSheet,
+    plan: &mut FunctionPlan,
+) -> Result<(), PlanStop> {
+    let line = statement_at(source, statement.line)?;
+    let form = read_form(alloc, source.text, source.reading, line)?;
+    plan_with_form(alloc, source, statement, &form, sheet, plan)
+}
+
+// Plans the statements.
+fn plan_statements(
+    alloc: Global,
+    source: FunctionSource<'_>,
+    sheet: &mut LlvmSheet,
+    plan: &mut FunctionPlan,
+) -> Result<(), PlanStop> {
+    for statement in &source.tree.statements {
+        plan_statement(alloc, source, statement, sheet, plan)?;
+    }
+    Ok(())
+}
+
+/// Plans a function: adds what is to be built of it to nothing, and its forms, names and the texts of its constants to the
+/// sheet.
+///
+/// Errors: something of it has no form, and so it is kept as it is written; allocation failure. Cost: linear in it.
+#[doc(hidden)]
+pub fn plan_function(
+    alloc: Global,
+    source: FunctionSource<'_>,
+    sheet: &mut LlvmSheet,
+    plan: &mut FunctionPlan,
+) -> Result<(), PlanStop> {
+    plan_blocks(alloc, source, sheet, plan)?;
+    plan_statements(alloc, source, sheet, plan)
+}
