@@ -1,0 +1,83 @@
+//! LLVM's textual IR, as passes know texts.
+ghost use Rattle.pliron_driver.specs.Read.{PrintsKinds};
+ghost use Rattle.pliron_driver_mlir.specs.Modules.{ReadsModule};
+
+use crate::failure::{LlvmFailure, LlvmTextFault, error_of, failure_of};
+use pliron_core::Context;
+use pliron_dialect_edges::BranchesAtOnce;
+use pliron_driver::{Document, Notation};
+use pliron_laws::{Dialect, OptError};
+use pliron_pass_pipeline::NoRules;
+use pliron_text_llvm_documents::{KeptPart, read_module};
+use pliron_text_llvm_parts::ModuleSheet;
+use pliron_text_llvm_printer::print_module;
+use std::alloc::Global;
+use std::marker::PhantomData;
+
+/// What the text of a module says beside its tree, and which of its functions are kept as they are written.
+#[derive(Drop)]
+pub struct ModuleNotes {
+    pub sheet: ModuleSheet,
+    pub kept: Vec<KeptPart>,
+}
+
+/// A module that was read.
+pub type LlvmDocument = Document<ModuleNotes>;
+
+/// LLVM's textual IR as a notation of a dialect of its operations. Its type names the sheet of its texts: what checks
+/// borrows looks for the types of a notation there.
+pub struct LlvmText<D>(PhantomData<(D, ModuleNotes)>);
+
+impl<D: Dialect + BranchesAtOnce> Notation for LlvmText<D> {
+    type D = D;
+
+    type Rules = NoRules;
+
+    type Sheet = ModuleNotes;
+
+    type Fault = LlvmTextFault;
+
+    ghost reads = { ReadsModule D.meaning };
+
+    ghost prints = { PrintsKinds };
+
+    fn read_document(
+        alloc: Global,
+        text: &[u8],
+        ctx: &mut Context,
+    ) -> Result<LlvmDocument, LlvmFailure> {
+        match read_module::<D>(alloc, text, ctx) {
+            Ok(module) => Ok(Document {
+                root: module.root,
+                sheet: ModuleNotes {
+                    sheet: module.sheet,
+                    kept: module.kept,
+                },
+            }),
+            Err(fault) => Err(failure_of(fault)),
+        }
+    }
+
+    fn print_document(
+        alloc: Global,
+        document: &LlvmDocument,
+        ctx: &Context,
+    ) -> Result<Vec<u8>, OptError> {
+        match print_module(alloc, &document.sheet.sheet, ctx) {
+            Ok(printed) => Ok(printed),
+            Err(stop) => Err(error_of(stop)),
+        }
+    }
+
+    fn empty_sheet(alloc: Global) -> ModuleNotes {
+        ModuleNotes {
+            sheet: ModuleSheet::new(alloc),
+            kept: Vec::new(alloc),
+        }
+    }
+}
+
+/// A notation of modules in LLVM's textual IR.
+pub trait LlvmNotation: Notation<Sheet = ModuleNotes, Fault = LlvmTextFault> {}
+
+impl<D: Dialect + BranchesAtOnce> LlvmNotation for LlvmText<D> {}
