@@ -1,0 +1,2 @@
+pub mod FunctionLemmas
+pub mod ModuleLemmas

@@ -8,7 +8,7 @@ use Rattle.pliron_text_llvm_sheets.specs.Sheets.{sheet_text}
 use Rattle.pliron_text_llvm_sheets.specs.declared.sheet.LlvmSheet.{LlvmSheet}
 
 -- the operation has a form, which has this text
-pub record HasForm (sheet : LlvmSheet) (tree : Tree) (op : ℕ) (text : List ℕ) : Type 0 where
+pub record HasFormText (sheet : LlvmSheet) (tree : Tree) (op : ℕ) (text : List ℕ) : Type 0 where
   pub head : Head
   pub form : ℕ
   pub has_head : head_of tree op ≡ Some head
@@ -19,7 +19,7 @@ pub record HasForm (sheet : LlvmSheet) (tree : Tree) (op : ℕ) (text : List ℕ
 pub record IsFunctionText (sheet : LlvmSheet) (tree : Tree) (function : ℕ) (text : List ℕ) : Type 0 where
   pub header : List ℕ
   pub body : List ℕ
-  pub before : HasForm sheet tree function header
+  pub before : HasFormText sheet tree function header
   pub is : text ≡ header ++ (123 ∷ 10 ∷ []) ++ body ++ 125 ∷ []
 
 -- such a text is behind what was there

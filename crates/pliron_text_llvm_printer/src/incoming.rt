@@ -1,6 +1,6 @@
 //! The edges that lead to the blocks of a function, and the operands that they pass.
 ghost use Rattle.std.specs.Prelude.{IfSome};
-ghost use Rattle.pliron_text_llvm_printer.specs.PrintedFunctions.{HasForm};
+ghost use Rattle.pliron_text_llvm_printer.specs.PrintedFunctions.{HasFormText};
 
 use crate::stop::PrintStop;
 use crate::walk::{last_operation, num_argument};
@@ -24,7 +24,7 @@ pub struct PassingEdge {
 
 /// The text of the operation's form, if it has one. Cost: constant.
 pub fn form_text<'s>(op: Ptr<Operation>, sheet: &'s LlvmSheet, ctx: &Context) -> Option<&'s [u8]>
-    ensures { IfSome result (λ text. HasForm sheet.now ctx.now.tree op text.now) }
+    ensures { IfSome result (λ text. HasFormText sheet.now ctx.now.tree op text.now) }
 {
     if !op.is_live(ctx) {
         return None;
@@ -105,18 +105,25 @@ fn push_all(
     edges.sort_by_key(|edge| edge.to.key())
 }
 
-/// Where the edges to the block begin. Cost: a search among them.
-pub fn first_edge_to(edges: &[PassingEdge], block: Ptr<BasicBlock>) -> usize {
-    let key = block.key();
-    let found = edges.binary_search_by(|edge| {
+// Where the first edge is that leads to no block before the one with this key.
+fn first_edge_from(edges: &[PassingEdge], key: u64) -> usize {
+    match edges.binary_search_by(|edge| {
         if edge.to.key() < key {
             Ordering::Less
         } else {
             Ordering::Greater
         }
-    });
-    match found {
+    }) {
         Ok(at) => at,
         Err(at) => at,
     }
+}
+
+/// The edges that lead to the block, of those that are sorted by the blocks to which they lead. Cost: a search among them.
+pub fn edges_to(edges: &[PassingEdge], block: Ptr<BasicBlock>) -> &[PassingEdge] {
+    let behind = edges
+        .get(first_edge_from(edges, block.key())..)
+        .unwrap_or(&[]);
+    let count = behind.iter().take_while(|edge| edge.to == block).count();
+    behind.get(..count).unwrap_or(&[])
 }

@@ -1,5 +1,7 @@
 //! Printing a module.
 ghost use Rattle.std.specs.Prelude.{◌≡◌, [], IfOk, OnOk};
+ghost use Rattle.pliron_text_llvm_parts.specs.PrintedParts.{ArePrintedParts};
+ghost use Rattle.pliron_text_llvm_printer.specs.PrintedFunctions.{IsFunctionText};
 ghost use Rattle.pliron_text_llvm_printer.specs.PrintedModules.{AppendsPart, IsModuleText};
 
 use crate::print::print_function;
@@ -26,16 +28,19 @@ fn write_part(
 }
 
 // Appends the parts to nothing.
+#[tactic(auto, using(crate::proofs::ModuleLemmas::printed_none, crate::proofs::ModuleLemmas::printed_more, crate::proofs::ModuleLemmas::printed_all))]
 fn write_parts(
     alloc: Global,
+    parts: &[SheetPart],
     sheet: &ModuleSheet,
     ctx: &Context,
     out: &mut Vec<u8>,
 ) -> Result<(), PrintStop>
     requires { out.old.items ≡ [] }
-    ensures { OnOk result (IsModuleText sheet.now ctx.now.tree out.new.items) }
+    ensures { OnOk result (ArePrintedParts sheet.now.text.items (IsFunctionText sheet.now.functions ctx.now.tree)
+        parts.now out.new.items) }
 {
-    for part in &sheet.parts {
+    for part in parts {
         write_part(alloc, *part, sheet, ctx, out)?;
     }
     Ok(())
@@ -49,7 +54,7 @@ pub fn print_module(alloc: Global, sheet: &ModuleSheet, ctx: &Context) -> Result
     ensures { IfOk result (λ printed. IsModuleText sheet.now ctx.now.tree printed.items) }
 {
     let mut printed = Vec::with_capacity(alloc, sheet.text.len())?;
-    match write_parts(alloc, sheet, ctx, &mut printed) {
+    match write_parts(alloc, &sheet.parts, sheet, ctx, &mut printed) {
         Ok(()) => Ok(printed),
         Err(stop) => Err(stop),
     }

@@ -1,7 +1,7 @@
 //! What values and blocks are called.
 ghost use Rattle.std.specs.Prelude.{◌≡◌, ◌++◌, OnOk, nat_eq, decimal};
 ghost use Rattle.indexmap.specs.IndexMap.{get};
-ghost use Rattle.pliron_text_llvm_printer.specs.Apart.{AreBelow, AreApart, ShareNone};
+ghost use Rattle.pliron_text_llvm_printer.specs.Apart.{NumbersBelow, NumbersApart, ShareNone};
 
 use crate::stop::PrintStop;
 use crate::walk::{first_operation, next_operation, num_argument};
@@ -18,10 +18,10 @@ pub struct LocalNumbers {
     values: IndexMap<u64, u32>,
     blocks: IndexMap<u64, u32>,
     next: u32,
-    ghost values_below: { AreBelow (get nat_eq values) next },
-    ghost blocks_below: { AreBelow (get nat_eq blocks) next },
-    ghost values_apart: { AreApart (get nat_eq values) },
-    ghost blocks_apart: { AreApart (get nat_eq blocks) },
+    ghost values_below: { NumbersBelow (get nat_eq values) next },
+    ghost blocks_below: { NumbersBelow (get nat_eq blocks) next },
+    ghost values_apart: { NumbersApart (get nat_eq values) },
+    ghost blocks_apart: { NumbersApart (get nat_eq blocks) },
     ghost none_shared: { ShareNone (get nat_eq values) (get nat_eq blocks) },
 }
 
@@ -95,8 +95,8 @@ fn number_behind(name: &[u8], next: u32) -> Option<u32> {
 }
 
 impl LocalNumbers {
-    ghost use Rattle.std.specs.Prelude.{◌≡◌, ◌≤◌, OnOk};
-    ghost use Rattle.pliron_text_llvm_printer.specs.LocalNumbers.{AddsNumbers};
+    ghost use Rattle.std.specs.Prelude.{◌≡◌, ◌<◌, ◌≤◌, ◌++◌, ◌∷◌, Some, OnOk, decimal};
+    ghost use Rattle.pliron_text_llvm_printer.specs.LocalNumbers.{number_of_value, number_of_block};
 
     /// No numbers yet. Takes no memory. Cost: constant.
     pub fn new(alloc: Global) -> LocalNumbers {
@@ -109,7 +109,10 @@ impl LocalNumbers {
 
     // No number below this one is given from now on.
     fn skip_to(&mut self, least: u32)
-        ensures { AddsNumbers self.old self.new }
+        ensures behind { least ≤ self.new.next }
+        ensures rises { self.old.next ≤ self.new.next }
+        ensures values { self.new.values ≡ self.old.values }
+        ensures blocks { self.new.blocks ≡ self.old.blocks }
     {
         if self.next < least {
             self.next = least;
@@ -118,7 +121,8 @@ impl LocalNumbers {
 
     // Gives the value the next number.
     fn number_value(&mut self, value: Value) -> Result<(), PrintStop>
-        ensures { OnOk result (AddsNumbers self.old self.new) }
+        ensures number { OnOk result (number_of_value self.new value ≡ Some self.old.next) }
+        ensures rises { OnOk result (self.old.next < self.new.next) }
     {
         let number = self.next;
         let Some(next) = number.checked_add(1) else {
@@ -131,7 +135,8 @@ impl LocalNumbers {
 
     // Gives the block the next number.
     fn number_block(&mut self, block: Ptr<BasicBlock>) -> Result<(), PrintStop>
-        ensures { OnOk result (AddsNumbers self.old self.new) }
+        ensures number { OnOk result (number_of_block self.new block ≡ Some self.old.next) }
+        ensures rises { OnOk result (self.old.next < self.new.next) }
     {
         let number = self.next;
         let Some(next) = number.checked_add(1) else {
@@ -144,7 +149,7 @@ impl LocalNumbers {
 
     // Gives the value a number, if it has no name; a parameter keeps its own.
     fn add_value(&mut self, value: Value, sheet: &LlvmSheet) -> Result<(), PrintStop>
-        ensures { OnOk result (AddsNumbers self.old self.new) }
+        ensures { OnOk result (self.old.next ≤ self.new.next) }
     {
         let Some(
             ValueNote {
@@ -166,7 +171,7 @@ impl LocalNumbers {
 
     // Gives the block a number, if it has no name.
     fn add_block(&mut self, block: Ptr<BasicBlock>, sheet: &LlvmSheet) -> Result<(), PrintStop>
-        ensures { OnOk result (AddsNumbers self.old self.new) }
+        ensures { OnOk result (self.old.next ≤ self.new.next) }
     {
         if name_of_block(block, sheet).is_some() {
             return Ok(());

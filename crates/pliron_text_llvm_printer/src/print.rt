@@ -3,7 +3,7 @@ ghost use Rattle.std.specs.Prelude.{OnOk};
 ghost use Rattle.pliron_text_llvm_printer.specs.PrintedFunctions.{AppendsFunction};
 
 use crate::forms::{before_entries, behind_entries};
-use crate::incoming::{PassingEdge, edges_between, first_edge_to, form_text};
+use crate::incoming::{PassingEdge, edges_between, edges_to, form_text};
 use crate::integers::IntegerText;
 use crate::names::{LocalNumbers, is_constant, maker, note_of, result_of, write_number};
 use crate::stop::PrintStop;
@@ -221,24 +221,23 @@ impl FunctionView<'_> {
         Ok(out.extend_from_slice(b" ]")?)
     }
 
-    // Appends the entries of the phi that is the argument with this index of the block.
+    // Appends the entries of the phi that is the argument with this index of the block. A block to which no edge leads has
+    // none, and LLVM takes no such phi.
     fn write_entries(
         self,
         block: Ptr<BasicBlock>,
         i: usize,
         out: &mut Vec<u8>,
     ) -> Result<(), PrintStop> {
-        let first = first_edge_to(self.edges, block);
-        for at in first..self.edges.len() {
-            match self.edges.get(at) {
-                Some(edge) if edge.to == block => {
-                    if at > first {
-                        out.extend_from_slice(b", ")?;
-                    }
-                    self.write_entry(*edge, i, out)?;
-                }
-                _ => break,
+        let edges = edges_to(self.edges, block);
+        if edges.is_empty() {
+            return Err(PrintStop::Textless);
+        }
+        for (at, edge) in edges.iter().enumerate() {
+            if at > 0 {
+                out.extend_from_slice(b", ")?;
             }
+            self.write_entry(*edge, i, out)?;
         }
         Ok(())
     }
@@ -323,6 +322,7 @@ impl FunctionView<'_> {
 }
 
 // Appends a function with this body, behind the text that was before its body.
+#[tactic(auto, using(crate::proofs::FunctionLemmas::appends_function))]
 fn write_function(
     root: Ptr<Operation>,
     body: &[u8],
