@@ -28,7 +28,7 @@ fn write_part(
 }
 
 // Appends the parts to nothing.
-#[tactic(auto, using(crate::proofs::ModuleLemmas::printed_none, crate::proofs::ModuleLemmas::printed_more, crate::proofs::ModuleLemmas::printed_all))]
+#[tactic(auto, using(crate::proofs::ModuleLemmas::printed_all))]
 fn write_parts(
     alloc: Global,
     parts: &[SheetPart],
