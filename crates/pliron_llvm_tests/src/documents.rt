@@ -15,10 +15,10 @@ raw text alone -- @g = global i32 1|declare void @h()| => raw 0..36; 0 functions
 a function alone -- define void @f() {|  ret void|} => tree; 1 functions
 functions between raw parts -- @g = global i32 1|define void @f() {|  ret void|}|define i32 @h(i32 %x) {|  ret i32 %x|}|!0 = !{}| => raw 0..18; tree; raw 49..50; tree; raw 88..98; 2 functions
 an unknown word -- define void @f() {|  %x = frobnicate i32 1, 2|  ret void|} define void @g() {|  ret void|} => raw 0..58; raw 58..59; tree; 1 functions; 2:3 an unknown word
-an invoke that gives -- define i32 @f() personality ptr @p {|  %r = invoke i32 @g() to label %n unwind label %u|n:|  ret i32 %r|u:|  %l = landingpad { ptr, i32 } cleanup|  resume { ptr, i32 } %l|} => raw 0..172; 0 functions; 2:3 a terminator that gives a value
-an address of a block -- @t = global ptr blockaddress(@f, %a)|define void @f() {|  br label %a|a:|  ret void|}|define void @g() {|  ret void|} => raw 0..37; raw 37..86; raw 86..87; tree; 1 functions; 2:1 a block whose address is taken, or whose uses are counted
-a name in quotes -- @t = global ptr blockaddress( @\"f\" , %a)|define void @f() {|  br label %a|a:|  ret void|}|define void @ff() {|  ret void|} => raw 0..42; raw 42..91; raw 91..92; tree; 1 functions; 2:1 a block whose address is taken, or whose uses are counted
-a name with an escape -- @t = global ptr blockaddress(@\"\\66\", %a)|define void @f() {|  br label %a|a:|  ret void|} => raw 0..41; raw 41..90; 0 functions; 2:1 a block whose address is taken, or whose uses are counted
+an invoke that gives -- define i32 @f() personality ptr @p {|  %r = invoke i32 @g() to label %n unwind label %u|n:|  ret i32 %r|u:|  %l = landingpad { ptr, i32 } cleanup|  resume { ptr, i32 } %l|} => raw 0..172; 0 functions; 2:3 a value that is given by what ends a block
+an address of a block -- @t = global ptr blockaddress(@f, %a)|define void @f() {|  br label %a|a:|  ret void|}|define void @g() {|  ret void|} => raw 0..37; raw 37..85; raw 85..86; tree; 1 functions; 2:1 a block whose address is taken, or whose uses are counted
+a name in quotes -- @t = global ptr blockaddress( @\"f\" , %a)|define void @f() {|  br label %a|a:|  ret void|}|define void @ff() {|  ret void|} => raw 0..41; raw 41..89; raw 89..90; tree; 1 functions; 2:1 a block whose address is taken, or whose uses are counted
+a name with an escape -- @t = global ptr blockaddress(@\"\\66\", %a)|define void @f() {|  br label %a|a:|  ret void|} => raw 0..41; raw 41..89; 0 functions; 2:1 a block whose address is taken, or whose uses are counted
 a word in a name -- declare void @blockaddress_of(ptr)|define void @f() {|  ret void|} => raw 0..35; tree; 1 functions
 counted uses -- @g = global i32 1|define void @f() {|  ret void|}|uselistorder ptr @g, { 1, 0 }| => raw 0..18; raw 18..49; raw 49..80; 0 functions; 2:1 a block whose address is taken, or whose uses are counted";
 

@@ -1,14 +1,20 @@
 -- Adding operations.
-use Rattle.std.proofs.Common.{◌≡◌, ℕ, [], ◌∷◌, ◌++◌, List, Option, Some, None, refl, sym, ap, ◌∙◌, append_assoc, append-nil, inl, inr}
+use Rattle.std.proofs.Common.{◌≡◌, ℕ, zero, suc, [], ◌∷◌, ◌++◌, List, Option, Some, None, length, get_or, refl, arith, sym, ap, ◌∙◌, append_assoc, append-nil, inl, inr}
+use Rattle.std.proofs.Math.Seq.{get_or-append_seam}
 use Rattle.std.proofs.lemmas.List.Elements.{All-nil, All-cons, All-append}
 use Rattle.pliron_core.specs.declared.attrs.Head.{Head}
-use Rattle.pliron_core.specs.Tree.{Tree, parent_of}
+use Rattle.pliron_core.specs.declared.context.OperationEntry.{OperationEntry}
+use Rattle.pliron_core.specs.Tree.{Tree, head_of, no_entry, parent_of}
 use Rattle.pliron_core.specs.Writes.{after_creating, moved_last, taken_from}
 use Rattle.pliron_dialect_mlir.specs.declared.kind.Class.TheVariants.{Root}
 use Rattle.pliron_dialect_mlir.specs.Heads.{plain_class_head}
 use Rattle.pliron_text_llvm_classes.specs.declared.class.FormCounts.{FormCounts}
 use Rattle.pliron_text_llvm_heads.specs.StatementHeads.{head_of_statement, head_of_constant}
+use Rattle.pliron_text_llvm_syntax.specs.declared.functions.FunctionText.{FunctionText}
+use Rattle.pliron_text_llvm_sheets.specs.declared.sheet.LlvmSheet.{LlvmSheet}
+use Rattle.pliron_text_llvm_sheets.specs.Sheets.{sheet_text, KeepsSheet}
 use Rattle.pliron_text_llvm_building.specs.Additions.{IsTextHead, HasTextHead, AddsText}
+use Rattle.pliron_text_llvm_building.specs.Functions.{header_of, IsFunctionOf}
 
 pub adds_none : (t u : Tree) → u.operations ≡ t.operations → AddsText t u
 adds_none t u same = ([], same ∙ sym (append-nil t.operations), All-nil HasTextHead)
@@ -41,3 +47,23 @@ constant_text_head head width text number e = inr (inl (width, text, number, e))
 
 pub function_head : (head : Head) (form : ℕ) → head ≡ plain_class_head Root form → IsTextHead head
 function_head head form e = inr (inr (form, e))
+
+-- ---- heads that stay
+
+pub created_head : (t u : Tree) (op : ℕ) (head : Head) (results regions : ℕ) → op ≡ length t.operations → u ≡ after_creating t head results regions → head_of u op ≡ Some head
+created_head t u op head results regions is made =
+    ap (λ z. head_of z op) made ∙ ap (head_of (after_creating t head results regions)) is ∙ ap (λ entry. entry.head) (get_or-append_seam t.operations _ [] _)
+
+head_within : (xs ys : List OperationEntry) (op : ℕ) (head : Head) → (get_or xs op no_entry).head ≡ Some head → (get_or (xs ++ ys) op no_entry).head ≡ Some head
+head_within [] ys op head is = cc
+head_within (x ∷ xs) ys zero head is = is
+head_within (x ∷ xs) ys (suc op) head is = head_within xs ys op head is
+
+pub adds_keep_head : (t u : Tree) (op : ℕ) (head : Head) → AddsText t u → head_of t op ≡ Some head → head_of u op ≡ Some head
+adds_keep_head t u op head a is = ap (λ xs. (get_or xs op no_entry).head) a.1 ∙ head_within t.operations a.0 op head is
+
+pub function_is : (text : List ℕ) (function : FunctionText) (old new : LlvmSheet) (t : Tree) (op number : ℕ) → sheet_text old number ≡ Some (header_of text function) → KeepsSheet old new → head_of t op ≡ Some (plain_class_head Root number)
+    → IsFunctionOf text function new t op
+function_is text function old new t op number named kept is = (number, is, kept.texts number (header_of text function) named)
+
+pub ruleset addition_steps = (adds_none, adds_more, adds_before_none, adds_behind_none, adds_one)

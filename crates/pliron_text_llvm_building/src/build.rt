@@ -8,7 +8,7 @@ use crate::parts::BuiltParts;
 use crate::stop::{BuildStop, no_block, no_value};
 use pliron_core::{BasicBlock, Context, Head, IRRewriter, Operation, Ptr, Rewriter, Value};
 use pliron_text_llvm_heads::{head_of_constant, head_of_statement};
-use pliron_text_llvm_plans::{BlockPlan, FunctionPlan, OperationPlan};
+use pliron_text_llvm_plans::{FunctionPlan, OperationPlan, PlannedBlock};
 use pliron_text_llvm_sheets::{LlvmSheet, ValueNote, ValueOrigin};
 use std::alloc::Global;
 
@@ -28,6 +28,7 @@ fn make_block(
 }
 
 // The argument of the block with this index is the planned one.
+#[tactic(auto, using(pliron_text_llvm_sheets::proofs::KeepingLemmas::sheet_steps))]
 fn define_argument(
     plan: &FunctionPlan,
     number: usize,
@@ -45,6 +46,7 @@ fn define_argument(
 }
 
 // The arguments of the block are the planned ones.
+#[tactic(auto, using(pliron_text_llvm_sheets::proofs::KeepingLemmas::sheet_steps))]
 fn define_arguments(
     plan: &FunctionPlan,
     number: usize,
@@ -65,8 +67,9 @@ fn define_arguments(
 }
 
 // Notes the name of the block.
+#[tactic(auto, using(pliron_text_llvm_sheets::proofs::KeepingLemmas::sheet_steps))]
 fn note_name(
-    planned: BlockPlan,
+    planned: PlannedBlock,
     block: Ptr<BasicBlock>,
     sheet: &mut LlvmSheet,
 ) -> Result<(), BuildStop>
@@ -79,6 +82,7 @@ fn note_name(
 }
 
 // Makes the block of this number with its arguments.
+#[tactic(auto, using(pliron_text_llvm_sheets::proofs::KeepingLemmas::sheet_steps))]
 fn add_block(
     plan: &FunctionPlan,
     number: usize,
@@ -103,6 +107,7 @@ fn add_block(
 
 /// Makes the blocks of a function in this operation, each with its arguments. Errors: the operation has no region;
 /// allocation failure. Cost: linear in the blocks and arguments.
+#[tactic(auto, using(pliron_text_llvm_sheets::proofs::KeepingLemmas::sheet_steps))]
 pub fn add_blocks(
     plan: &FunctionPlan,
     root: Ptr<Operation>,
@@ -137,7 +142,7 @@ fn append(
 }
 
 // Makes an operation with this head, last in the block of this number.
-#[tactic(auto, using(crate::proofs::AdditionLemmas::adds_none, crate::proofs::AdditionLemmas::adds_one, crate::proofs::AdditionLemmas::adds_before_none))]
+#[tactic(auto, using(crate::proofs::AdditionLemmas::addition_steps))]
 fn make_operation(
     head: Head,
     results: usize,
@@ -183,6 +188,7 @@ fn constant_head(
 }
 
 // Makes the constant of this number.
+#[tactic(auto, using(crate::proofs::AdditionLemmas::addition_steps, pliron_text_llvm_sheets::proofs::KeepingLemmas::sheet_steps))]
 fn add_constant(
     plan: &FunctionPlan,
     number: usize,
@@ -190,7 +196,7 @@ fn add_constant(
     sheet: &mut LlvmSheet,
     built: &mut BuiltParts,
 ) -> Result<(), BuildStop>
-    ensures heads { AddsText ctx.old.tree ctx.new.tree }
+    ensures added { AddsText ctx.old.tree ctx.new.tree }
     ensures sheet { KeepsSheet sheet.old sheet.new }
 {
     let head = constant_head(built.alloc, plan, number, sheet)?;
@@ -203,14 +209,14 @@ fn add_constant(
 
 /// Makes the constants of a function, at the end of its first block, which has nothing yet. Errors: allocation failure.
 /// Cost: linear in their texts.
-#[tactic(auto, using(crate::proofs::AdditionLemmas::adds_none, crate::proofs::AdditionLemmas::adds_more))]
+#[tactic(auto, using(crate::proofs::AdditionLemmas::addition_steps, pliron_text_llvm_sheets::proofs::KeepingLemmas::sheet_steps))]
 pub fn add_constants(
     plan: &FunctionPlan,
     ctx: &mut Context,
     sheet: &mut LlvmSheet,
     built: &mut BuiltParts,
 ) -> Result<(), BuildStop>
-    ensures heads { AddsText ctx.old.tree ctx.new.tree }
+    ensures added { AddsText ctx.old.tree ctx.new.tree }
     ensures sheet { KeepsSheet sheet.old sheet.new }
 {
     for number in 0..plan.constants.num_constant() {
@@ -238,6 +244,7 @@ fn operation_head(
 }
 
 // What the operation gives is what is planned.
+#[tactic(auto, using(pliron_text_llvm_sheets::proofs::KeepingLemmas::sheet_steps))]
 fn define_result(
     planned: &OperationPlan,
     op: Ptr<Operation>,
@@ -254,6 +261,7 @@ fn define_result(
 }
 
 // Makes the planned operation.
+#[tactic(auto, using(crate::proofs::AdditionLemmas::addition_steps, pliron_text_llvm_sheets::proofs::KeepingLemmas::sheet_steps))]
 fn add_operation(
     plan: &FunctionPlan,
     planned: &OperationPlan,
@@ -261,7 +269,7 @@ fn add_operation(
     sheet: &mut LlvmSheet,
     built: &mut BuiltParts,
 ) -> Result<(), BuildStop>
-    ensures heads { AddsText ctx.old.tree ctx.new.tree }
+    ensures added { AddsText ctx.old.tree ctx.new.tree }
     ensures sheet { KeepsSheet sheet.old sheet.new }
 {
     let head = operation_head(built.alloc, plan, planned, sheet)?;
@@ -274,14 +282,14 @@ fn add_operation(
 }
 
 /// Makes the operations of a function, each last in its block. Errors: allocation failure. Cost: linear in their forms.
-#[tactic(auto, using(crate::proofs::AdditionLemmas::adds_none, crate::proofs::AdditionLemmas::adds_more))]
+#[tactic(auto, using(crate::proofs::AdditionLemmas::addition_steps, pliron_text_llvm_sheets::proofs::KeepingLemmas::sheet_steps))]
 pub fn add_operations(
     plan: &FunctionPlan,
     ctx: &mut Context,
     sheet: &mut LlvmSheet,
     built: &mut BuiltParts,
 ) -> Result<(), BuildStop>
-    ensures heads { AddsText ctx.old.tree ctx.new.tree }
+    ensures added { AddsText ctx.old.tree ctx.new.tree }
     ensures sheet { KeepsSheet sheet.old sheet.new }
 {
     for planned in &plan.operations {

@@ -1,9 +1,12 @@
 //! The tree of a function.
-ghost use Rattle.std.specs.Prelude.{◌≡◌, IfOk};
-ghost use Rattle.pliron_core.specs.Tree.{IsLive};
+ghost use Rattle.std.specs.Prelude.{◌≡◌, Some, IfOk};
+ghost use Rattle.pliron_core.specs.Tree.{IsLive, head_of};
+ghost use Rattle.pliron_dialect_mlir.specs.declared.kind.Class.TheVariants.{Root};
+ghost use Rattle.pliron_dialect_mlir.specs.Heads.{plain_class_head};
 ghost use Rattle.pliron_laws.specs.Linked.{IsWellLinked};
-ghost use Rattle.pliron_text_llvm_sheets.specs.Sheets.{KeepsSheet};
+ghost use Rattle.pliron_text_llvm_sheets.specs.Sheets.{sheet_text, KeepsSheet};
 ghost use Rattle.pliron_text_llvm_building.specs.Additions.{AddsText};
+ghost use Rattle.pliron_text_llvm_building.specs.Functions.{header_of, IsFunctionOf};
 
 use crate::build::{add_blocks, add_constants, add_operations};
 use crate::connect::connect_all;
@@ -19,12 +22,14 @@ use pliron_text_llvm_syntax::{ByteSpan, FunctionText};
 use std::alloc::Global;
 
 // The number of the text before the body of the function.
+#[tactic(auto, using(pliron_text_llvm_sheets::proofs::KeepingLemmas::sheet_steps))]
 fn number_of_header(
     text: &[u8],
     function: &FunctionText,
     sheet: &mut LlvmSheet,
 ) -> Result<usize, BuildStop>
-    ensures { KeepsSheet sheet.old sheet.new }
+    ensures header { IfOk result (λ number. sheet_text sheet.new number ≡ Some (header_of text.now function.now)) }
+    ensures sheet { KeepsSheet sheet.old sheet.new }
 {
     let header = ByteSpan {
         start: function.span.start,
@@ -34,16 +39,17 @@ fn number_of_header(
 }
 
 // Makes the operation of a function whose text before the body has this number, without blocks.
-#[tactic(auto, using(crate::proofs::AdditionLemmas::adds_none, crate::proofs::AdditionLemmas::adds_one, crate::proofs::AdditionLemmas::function_head))]
+#[tactic(auto, using(crate::proofs::AdditionLemmas::addition_steps, crate::proofs::AdditionLemmas::function_head, crate::proofs::AdditionLemmas::created_head))]
 fn make_root(alloc: Global, header: usize, ctx: &mut Context) -> Result<Ptr<Operation>, BuildStop>
-    ensures { AddsText ctx.old.tree ctx.new.tree }
+    ensures head { IfOk result (λ root. head_of ctx.new.tree root ≡ Some (plain_class_head Root header)) }
+    ensures added { AddsText ctx.old.tree ctx.new.tree }
 {
     let head = plain_head(alloc, Class::Root, header)?;
     Ok(Operation::create(ctx, head, 0, 1)?)
 }
 
 // Makes all that is in the function.
-#[tactic(auto, using(crate::proofs::AdditionLemmas::adds_none, crate::proofs::AdditionLemmas::adds_more, crate::proofs::AdditionLemmas::adds_before_none, crate::proofs::AdditionLemmas::adds_behind_none))]
+#[tactic(auto, using(crate::proofs::AdditionLemmas::addition_steps, pliron_text_llvm_sheets::proofs::KeepingLemmas::sheet_steps))]
 fn build_inside(
     plan: &FunctionPlan,
     root: Ptr<Operation>,
@@ -51,7 +57,7 @@ fn build_inside(
     sheet: &mut LlvmSheet,
     built: &mut BuiltParts,
 ) -> Result<(), BuildStop>
-    ensures heads { AddsText ctx.old.tree ctx.new.tree }
+    ensures added { AddsText ctx.old.tree ctx.new.tree }
     ensures sheet { KeepsSheet sheet.old sheet.new }
 {
     add_blocks(plan, root, ctx, sheet, built)?;
@@ -61,7 +67,7 @@ fn build_inside(
 }
 
 // Makes the function by its plan, whose text before the body has this number.
-#[tactic(auto, using(crate::proofs::AdditionLemmas::adds_more))]
+#[tactic(auto, using(crate::proofs::AdditionLemmas::addition_steps, crate::proofs::AdditionLemmas::adds_keep_head, pliron_text_llvm_sheets::proofs::KeepingLemmas::sheet_steps))]
 fn build_planned(
     alloc: Global,
     plan: &FunctionPlan,
@@ -69,7 +75,8 @@ fn build_planned(
     ctx: &mut Context,
     sheet: &mut LlvmSheet,
 ) -> Result<Ptr<Operation>, BuildStop>
-    ensures heads { AddsText ctx.old.tree ctx.new.tree }
+    ensures head { IfOk result (λ root. head_of ctx.new.tree root ≡ Some (plain_class_head Root header)) }
+    ensures added { AddsText ctx.old.tree ctx.new.tree }
     ensures sheet { KeepsSheet sheet.old sheet.new }
 {
     let root = make_root(alloc, header, ctx)?;
@@ -81,6 +88,7 @@ fn build_planned(
 }
 
 // Plans the function, and answers the number of the text before the body.
+#[tactic(auto, using(pliron_text_llvm_sheets::proofs::KeepingLemmas::sheet_steps))]
 fn plan_with_header(
     alloc: Global,
     source: FunctionSource<'_>,
@@ -88,14 +96,16 @@ fn plan_with_header(
     sheet: &mut LlvmSheet,
     plan: &mut FunctionPlan,
 ) -> Result<usize, BuildStop>
-    ensures { KeepsSheet sheet.old sheet.new }
+    ensures header { IfOk result (λ number.
+        sheet_text sheet.new number ≡ Some (header_of source.entry.text.now function.now)) }
+    ensures sheet { KeepsSheet sheet.old sheet.new }
 {
     plan_function(alloc, source, sheet, plan)?;
     number_of_header(source.text, function, sheet)
 }
 
 // Builds the function by a new plan.
-#[tactic(auto, using(crate::proofs::AdditionLemmas::adds_none))]
+#[tactic(auto, using(crate::proofs::AdditionLemmas::addition_steps, crate::proofs::AdditionLemmas::function_is, pliron_text_llvm_sheets::proofs::KeepingLemmas::sheet_steps))]
 fn build_source(
     alloc: Global,
     source: FunctionSource<'_>,
@@ -103,7 +113,9 @@ fn build_source(
     ctx: &mut Context,
     sheet: &mut LlvmSheet,
 ) -> Result<Ptr<Operation>, BuildStop>
-    ensures heads { AddsText ctx.old.tree ctx.new.tree }
+    ensures function { IfOk result (λ root.
+        IsFunctionOf source.entry.text.now function.now sheet.new ctx.new.tree root) }
+    ensures added { AddsText ctx.old.tree ctx.new.tree }
     ensures sheet { KeepsSheet sheet.old sheet.new }
 {
     let mut plan = FunctionPlan::new(alloc);
@@ -119,6 +131,7 @@ fn build_source(
 /// Asks for what was made of the function. Errors: a statement has no form, or no tree of the dialect has what the
 /// function has, and so it is kept as it is written; allocation failure. A part of it may be live then, in no block. Cost:
 /// linear in the function.
+#[tactic(auto, using(pliron_text_llvm_sheets::proofs::KeepingLemmas::sheet_steps))]
 pub fn build_function<D: Dialect>(
     alloc: Global,
     source: FunctionSource<'_>,
@@ -128,7 +141,9 @@ pub fn build_function<D: Dialect>(
 ) -> Result<Ptr<Operation>, BuildStop>
     ensures liveness { IfOk result (λ root. IsLive ctx.new.tree root) }
     ensures linked { IfOk result (λ root. IsWellLinked D.meaning ctx.new.tree root) }
-    ensures heads { AddsText ctx.old.tree ctx.new.tree }
+    ensures function { IfOk result (λ root.
+        IsFunctionOf source.entry.text.now function.now sheet.new ctx.new.tree root) }
+    ensures added { AddsText ctx.old.tree ctx.new.tree }
     ensures sheet { KeepsSheet sheet.old sheet.new }
 {
     let root = build_source(alloc, source, function, ctx, sheet)?;

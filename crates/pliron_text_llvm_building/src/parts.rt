@@ -47,6 +47,7 @@ impl BuiltParts {
 
     /// The definition is the value, of which the sheet notes what is planned. Errors: allocation failure. Cost: constant,
     /// amortised.
+    #[tactic(auto, using(pliron_text_llvm_sheets::proofs::KeepingLemmas::sheet_steps))]
     pub fn define(
         &mut self,
         definition: PlannedDefinition,
@@ -60,6 +61,7 @@ impl BuiltParts {
     }
 
     /// The next constant is the value, which the sheet notes. Errors: allocation failure. Cost: constant, amortised.
+    #[tactic(auto, using(pliron_text_llvm_sheets::proofs::KeepingLemmas::sheet_steps))]
     pub fn push_constant(&mut self, value: Value, sheet: &mut LlvmSheet) -> Result<(), BuildStop>
         ensures { KeepsSheet sheet.old sheet.new }
     {

@@ -1,10 +1,11 @@
 //! Parts of a module, of which functions become trees.
-ghost use Rattle.std.specs.Prelude.{◌≡◌, [], map, OnOk};
+ghost use Rattle.std.specs.Prelude.{◌≡◌, [], map, IfOk, OnOk};
+ghost use Rattle.pliron_text_llvm_sheets.specs.Sheets.{KeepsSheet};
 ghost use Rattle.pliron_text_llvm_modules.specs.Modules.{module_part_of};
-ghost use Rattle.pliron_text_llvm_documents.specs.Documents.{ArePartsOf, IsOneMore};
+ghost use Rattle.pliron_text_llvm_documents.specs.Documents.{ArePartsOf, IsOneMore, IsMadeOf, KeepsHeads};
 
 use crate::addresses::TakenAddresses;
-use crate::stop::{DocumentFault, KeptPart, KeptReason};
+use crate::stop::{DocumentFault, KeptForDocument, KeptPart};
 use pliron_core::{Context, Operation, Ptr};
 use pliron_laws::Dialect;
 use pliron_text_llvm_building::{BuildStop, build_function};
@@ -35,26 +36,36 @@ enum DocumentFunction {
 }
 
 // A function that is kept for what is at this byte.
-fn kept_at(place: usize, reason: KeptReason) -> DocumentFunction {
+fn kept_at(place: usize, reason: KeptForDocument) -> DocumentFunction {
     DocumentFunction::Kept(KeptPart { place, reason })
 }
 
 // Builds the function.
+#[tactic(auto, using(crate::proofs::PartLemmas::heads_kept, crate::proofs::PartLemmas::heads_added, pliron_text_llvm_sheets::proofs::KeepingLemmas::sheet_kept))]
 fn build_made<D: Dialect>(
     alloc: Global,
     source: FunctionSource<'_>,
     function: &FunctionText,
     ctx: &mut Context,
     sheet: &mut LlvmSheet,
-) -> Result<DocumentFunction, AllocError> {
+) -> Result<DocumentFunction, AllocError>
+    ensures made { IfOk result (λ made.
+        IsMadeOf source.entry.text.now function.now sheet.new ctx.new.tree made) }
+    ensures heads { KeepsHeads ctx.old.tree ctx.new.tree }
+    ensures sheet { KeepsSheet sheet.old sheet.new }
+{
     match build_function::<D>(alloc, source, function, ctx, sheet) {
         Ok(root) => Ok(DocumentFunction::Tree(root)),
-        Err(BuildStop::Keep(place, reason)) => Ok(kept_at(place, KeptReason::Building(reason))),
+        Err(BuildStop::Keep(place, reason)) => Ok(kept_at(
+            place,
+            KeptForDocument::Building(reason),
+        )),
         Err(BuildStop::NoMemory) => Err(AllocError),
     }
 }
 
 // Builds the function that was read, where it is a tree.
+#[tactic(auto, using(crate::proofs::PartLemmas::heads_kept, crate::proofs::PartLemmas::heads_added, pliron_text_llvm_sheets::proofs::KeepingLemmas::sheet_kept))]
 fn build_read<D: Dialect>(
     text: &[u8],
     function: &FunctionText,
@@ -62,6 +73,10 @@ fn build_read<D: Dialect>(
     ctx: &mut Context,
     document: &mut DocumentParts,
 ) -> Result<DocumentFunction, AllocError>
+    ensures made { IfOk result (λ made.
+        IsMadeOf text.now function.now document.new.sheet.functions ctx.new.tree made) }
+    ensures heads { KeepsHeads ctx.old.tree ctx.new.tree }
+    ensures sheet { KeepsSheet document.old.sheet.functions document.new.sheet.functions }
     ensures parts { document.new.sheet.parts ≡ document.old.sheet.parts }
     ensures text { document.new.sheet.text ≡ document.old.sheet.text }
 {
@@ -75,11 +90,12 @@ fn build_read<D: Dialect>(
             };
             build_made::<D>(alloc, source, function, ctx, &mut document.sheet.functions)
         }
-        TreeForm::Kept(place, reason) => Ok(kept_at(place, KeptReason::Tree(reason))),
+        TreeForm::Kept(place, reason) => Ok(kept_at(place, KeptForDocument::Tree(reason))),
     }
 }
 
 // Builds the function, where it was read and no other text names its blocks.
+#[tactic(auto, using(crate::proofs::PartLemmas::heads_kept, crate::proofs::PartLemmas::heads_added, pliron_text_llvm_sheets::proofs::KeepingLemmas::sheet_kept))]
 fn build_function_of<D: Dialect>(
     text: &[u8],
     function: &FunctionText,
@@ -87,29 +103,39 @@ fn build_function_of<D: Dialect>(
     ctx: &mut Context,
     document: &mut DocumentParts,
 ) -> Result<DocumentFunction, AllocError>
+    ensures made { IfOk result (λ made.
+        IsMadeOf text.now function.now document.new.sheet.functions ctx.new.tree made) }
+    ensures heads { KeepsHeads ctx.old.tree ctx.new.tree }
+    ensures sheet { KeepsSheet document.old.sheet.functions document.new.sheet.functions }
     ensures parts { document.new.sheet.parts ≡ document.old.sheet.parts }
     ensures text { document.new.sheet.text ≡ document.old.sheet.text }
 {
     match read {
         ModuleFunction::Read(read) => {
             if document.taken.has(bytes_in(text, function.name))? {
-                return Ok(kept_at(function.span.start, KeptReason::Named));
+                return Ok(kept_at(function.span.start, KeptForDocument::Named));
             }
             build_read::<D>(text, function, read, ctx, document)
         }
-        ModuleFunction::Kept(place, reason) => Ok(kept_at(*place, KeptReason::Reading(*reason))),
+        ModuleFunction::Kept(place, reason) => Ok(kept_at(
+            *place,
+            KeptForDocument::Reading(*reason),
+        )),
     }
 }
 
 // Adds the part, and what its function becomes.
+#[tactic(auto, using(crate::proofs::PartLemmas::heads_kept, crate::proofs::PartLemmas::heads_added, pliron_text_llvm_sheets::proofs::KeepingLemmas::sheet_kept))]
 fn push_part<D: Dialect>(
     text: &[u8],
     part: &ReadPart,
     ctx: &mut Context,
     document: &mut DocumentParts,
 ) -> Result<(), DocumentFault>
-    ensures part { OnOk result (IsOneMore (module_part_of part.now) document.old.sheet.parts.items
-        document.new.sheet.parts.items) }
+    ensures part { OnOk result (IsOneMore text.now document.new.sheet.functions ctx.new.tree
+        (module_part_of part.now) document.old.sheet.parts.items document.new.sheet.parts.items) }
+    ensures heads { KeepsHeads ctx.old.tree ctx.new.tree }
+    ensures sheet { KeepsSheet document.old.sheet.functions document.new.sheet.functions }
     ensures text { document.new.sheet.text ≡ document.old.sheet.text }
 {
     match part {
@@ -141,7 +167,8 @@ pub fn build_parts<D: Dialect>(
     document: &mut DocumentParts,
 ) -> Result<(), DocumentFault>
     requires { document.old.sheet.parts.items ≡ [] }
-    ensures parts { OnOk result (ArePartsOf (map module_part_of parts.now) document.new.sheet.parts.items) }
+    ensures parts { OnOk result (ArePartsOf text.now document.new.sheet.functions ctx.new.tree
+        (map module_part_of parts.now) document.new.sheet.parts.items) }
     ensures text { document.new.sheet.text ≡ document.old.sheet.text }
 {
     for part in parts {

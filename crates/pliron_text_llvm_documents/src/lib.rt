@@ -13,4 +13,4 @@ mod stop;
 pub use addresses::{TakenAddresses, taken_addresses};
 pub use functions::{DocumentParts, build_parts};
 pub use module::{LlvmModule, read_module};
-pub use stop::{DocumentFault, KeptPart, KeptReason};
+pub use stop::{DocumentFault, KeptForDocument, KeptPart};

@@ -3,7 +3,7 @@ ghost use Rattle.std.specs.Prelude.{◌≡◌, ◌++◌, ◌<◌, ◌∷◌, [],
 ghost use Rattle.pliron_core.specs.Tree.{IsLive, body_of};
 ghost use Rattle.pliron_laws.specs.Linked.{IsWellLinked};
 ghost use Rattle.pliron_text_llvm_modules.specs.Modules.{module_part_of};
-ghost use Rattle.pliron_text_llvm_documents.specs.Documents.{operations_of, ArePartsOf, HoldsAll, IsSheetOf};
+ghost use Rattle.pliron_text_llvm_documents.specs.Documents.{functions_of, ArePartsOf, HoldsFunctions, IsSheetOf, KeepsHeads};
 
 use crate::addresses::taken_addresses;
 use crate::functions::{DocumentParts, build_parts};
@@ -55,7 +55,7 @@ fn append_part(
     ensures layouts { ctx.new.tree.layouts ≡ ctx.old.tree.layouts }
     ensures blocks { length ctx.new.tree.bodies ≡ length ctx.old.tree.bodies }
     ensures body { OnOk result (block < length ctx.old.tree.bodies
-        → body_of ctx.new.tree block ≡ body_of ctx.old.tree block ++ operations_of (part ∷ [])) }
+        → body_of ctx.new.tree block ≡ body_of ctx.old.tree block ++ functions_of (part ∷ [])) }
 {
     match part {
         SheetPart::Function(op) => append(op, block, ctx),
@@ -73,7 +73,7 @@ fn append_parts(
     requires empty { body_of ctx.old.tree block ≡ [] }
     ensures operations { ctx.new.tree.operations ≡ ctx.old.tree.operations }
     ensures layouts { ctx.new.tree.layouts ≡ ctx.old.tree.layouts }
-    ensures body { OnOk result (body_of ctx.new.tree block ≡ operations_of parts.now) }
+    ensures body { OnOk result (body_of ctx.new.tree block ≡ functions_of parts.now) }
 {
     for part in parts {
         append_part(*part, block, ctx)?;
@@ -87,8 +87,10 @@ fn make_root(
     parts: &[SheetPart],
     ctx: &mut Context,
 ) -> Result<Ptr<Operation>, DocumentFault>
-    ensures { IfOk result (λ root. HoldsAll ctx.new.tree root parts.now) }
+    ensures functions { IfOk result (λ root. HoldsFunctions ctx.new.tree root parts.now) }
+    ensures heads { OnOk result (KeepsHeads ctx.old.tree ctx.new.tree) }
 {
+    ctx.well_formed();
     let head = plain_head(alloc, Class::Module, 0)?;
     let root = Operation::create(ctx, head, 0, 1)?;
     let region = root.get_region(ctx, 0);
@@ -105,7 +107,8 @@ fn linked_root<D: Dialect>(
 ) -> Result<Ptr<Operation>, DocumentFault>
     ensures liveness { IfOk result (λ root. IsLive ctx.new.tree root) }
     ensures linked { IfOk result (λ root. IsWellLinked D.meaning ctx.new.tree root) }
-    ensures functions { IfOk result (λ root. HoldsAll ctx.new.tree root parts.now) }
+    ensures functions { IfOk result (λ root. HoldsFunctions ctx.new.tree root parts.now) }
+    ensures heads { OnOk result (KeepsHeads ctx.old.tree ctx.new.tree) }
 {
     let root = make_root(alloc, parts, ctx)?;
     if root.is_live(ctx) && is_well_linked::<D>(root, ctx) {
@@ -125,8 +128,9 @@ fn build_module<D: Dialect>(
     requires { document.old.sheet.parts.items ≡ [] }
     ensures liveness { IfOk result (λ root. IsLive ctx.new.tree root) }
     ensures linked { IfOk result (λ root. IsWellLinked D.meaning ctx.new.tree root) }
-    ensures functions { IfOk result (λ root. HoldsAll ctx.new.tree root document.new.sheet.parts.items) }
-    ensures parts { OnOk result (ArePartsOf (map module_part_of read.now) document.new.sheet.parts.items) }
+    ensures functions { IfOk result (λ root. HoldsFunctions ctx.new.tree root document.new.sheet.parts.items) }
+    ensures parts { OnOk result (ArePartsOf text.now document.new.sheet.functions ctx.new.tree
+        (map module_part_of read.now) document.new.sheet.parts.items) }
     ensures text { document.new.sheet.text ≡ document.old.sheet.text }
 {
     build_parts::<D>(text, read, ctx, document)?;
@@ -158,8 +162,9 @@ fn module_of_parts<D: Dialect>(
     requires { document.sheet.parts.items ≡ [] }
     ensures liveness { IfOk result (λ made. IsLive ctx.new.tree made.root) }
     ensures linked { IfOk result (λ made. IsWellLinked D.meaning ctx.new.tree made.root) }
-    ensures functions { IfOk result (λ made. HoldsAll ctx.new.tree made.root made.sheet.parts.items) }
-    ensures parts { IfOk result (λ made. ArePartsOf (map module_part_of read.now) made.sheet.parts.items) }
+    ensures functions { IfOk result (λ made. HoldsFunctions ctx.new.tree made.root made.sheet.parts.items) }
+    ensures parts { IfOk result (λ made. ArePartsOf text.now made.sheet.functions ctx.new.tree
+        (map module_part_of read.now) made.sheet.parts.items) }
     ensures text { IfOk result (λ made. made.sheet.text ≡ document.sheet.text) }
 {
     match build_module::<D>(text, read, ctx, &mut document) {
@@ -186,8 +191,8 @@ pub fn read_module<D: Dialect>(
 ) -> Result<LlvmModule, DocumentFault>
     ensures liveness { IfOk result (λ made. IsLive ctx.new.tree made.root) }
     ensures linked { IfOk result (λ made. IsWellLinked D.meaning ctx.new.tree made.root) }
-    ensures functions { IfOk result (λ made. HoldsAll ctx.new.tree made.root made.sheet.parts.items) }
-    ensures parts { IfOk result (λ made. IsSheetOf text.now made.sheet) }
+    ensures functions { IfOk result (λ made. HoldsFunctions ctx.new.tree made.root made.sheet.parts.items) }
+    ensures sheet { IfOk result (λ made. IsSheetOf text.now ctx.new.tree made.sheet) }
 {
     let read = read_parts(alloc, text)?;
     let document = no_parts(alloc, text)?;

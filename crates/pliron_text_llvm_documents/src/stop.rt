@@ -15,7 +15,7 @@ use thiserror::Error;
 /// Why a function is kept as it is written.
 #[doc(hidden)]
 #[derive(Clone, Copy, Debug, Drop, PartialEq, Eq, Error)]
-pub enum KeptReason {
+pub enum KeptForDocument {
     #[error("{0}")]
     Reading(KeptFunction),
     #[error("{0}")]
@@ -32,7 +32,7 @@ pub enum KeptReason {
 pub struct KeptPart {
     /// The byte of the text for which it is kept.
     pub place: usize,
-    pub reason: KeptReason,
+    pub reason: KeptForDocument,
 }
 
 /// Why a module isn't read.

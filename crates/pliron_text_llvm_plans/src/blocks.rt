@@ -1,6 +1,8 @@
 //! Plans of blocks and their arguments.
+ghost use Rattle.pliron_text_llvm_sheets.specs.Sheets.{KeepsSheet};
+
 use crate::names::{name_of, name_of_block, name_of_parameter};
-use crate::plan::{ArgumentPlan, BlockPlan, FunctionPlan, FunctionSource, PlannedDefinition};
+use crate::plan::{FunctionPlan, FunctionSource, PlannedArgument, PlannedBlock, PlannedDefinition};
 use crate::statements::{read_form, statement_at};
 use crate::stop::{KeptForPlan, PlanStop};
 use pliron_text_llvm_classes::operand_widths_of_form;
@@ -10,6 +12,7 @@ use std::alloc::Global;
 
 // Plans the parameter that is the definition of this number, where `next` is the next number. Answers the one that is next
 // behind it.
+#[tactic(auto, using(pliron_text_llvm_sheets::proofs::KeepingLemmas::sheet_steps))]
 fn plan_parameter(
     alloc: Global,
     source: FunctionSource<'_>,
@@ -17,14 +20,16 @@ fn plan_parameter(
     next: u32,
     sheet: &mut LlvmSheet,
     plan: &mut FunctionPlan,
-) -> Result<u32, PlanStop> {
+) -> Result<u32, PlanStop>
+    ensures { KeepsSheet sheet.old sheet.new }
+{
     let definition = source.reading.definitions.get(number);
     let (name, behind) = name_of_parameter(alloc, source.text, definition, next, sheet)?;
     let note = ValueNote {
         origin: ValueOrigin::Parameter,
         name: Some(name),
     };
-    plan.arguments.push(ArgumentPlan {
+    plan.arguments.push(PlannedArgument {
         definition: PlannedDefinition { number, note },
         width: 0,
     })?;
@@ -32,12 +37,15 @@ fn plan_parameter(
 }
 
 // Plans the parameters, which are the first definitions.
+#[tactic(auto, using(pliron_text_llvm_sheets::proofs::KeepingLemmas::sheet_steps))]
 fn plan_parameters(
     alloc: Global,
     source: FunctionSource<'_>,
     sheet: &mut LlvmSheet,
     plan: &mut FunctionPlan,
-) -> Result<(), PlanStop> {
+) -> Result<(), PlanStop>
+    ensures { KeepsSheet sheet.old sheet.new }
+{
     let mut next = 0;
     for number in 0..source.tree.parameters {
         next = plan_parameter(alloc, source, number, next, sheet, plan)?;
@@ -51,18 +59,21 @@ fn is_of_other_text(byte: u8) -> bool {
 }
 
 // The argument that is the phi with this form.
+#[tactic(auto, using(pliron_text_llvm_sheets::proofs::KeepingLemmas::sheet_steps))]
 fn argument_with_form(
     alloc: Global,
     source: FunctionSource<'_>,
     argument: TreeArgument,
     form: &[u8],
     sheet: &mut LlvmSheet,
-) -> Result<ArgumentPlan, PlanStop> {
+) -> Result<PlannedArgument, PlanStop>
+    ensures { KeepsSheet sheet.old sheet.new }
+{
     let widths = operand_widths_of_form(alloc, form)?;
     let origin = ValueOrigin::Phi(sheet.number(form)?);
     let number = argument.definition;
     let name = name_of(source.text, source.reading.definitions.get(number), sheet)?;
-    Ok(ArgumentPlan {
+    Ok(PlannedArgument {
         definition: PlannedDefinition {
             number,
             note: ValueNote { origin, name },
@@ -72,12 +83,15 @@ fn argument_with_form(
 }
 
 // The argument that is the phi.
+#[tactic(auto, using(pliron_text_llvm_sheets::proofs::KeepingLemmas::sheet_steps))]
 fn plan_argument(
     alloc: Global,
     source: FunctionSource<'_>,
     argument: TreeArgument,
     sheet: &mut LlvmSheet,
-) -> Result<ArgumentPlan, PlanStop> {
+) -> Result<PlannedArgument, PlanStop>
+    ensures { KeepsSheet sheet.old sheet.new }
+{
     let line = statement_at(source, argument.place.line)?;
     let form = read_form(alloc, source.text, source.reading, line)?;
     if form.iter().any(|byte| is_of_other_text(*byte)) {
@@ -87,13 +101,16 @@ fn plan_argument(
 }
 
 // Plans the phi of this number.
+#[tactic(auto, using(pliron_text_llvm_sheets::proofs::KeepingLemmas::sheet_steps))]
 fn plan_phi(
     alloc: Global,
     source: FunctionSource<'_>,
     number: usize,
     sheet: &mut LlvmSheet,
     plan: &mut FunctionPlan,
-) -> Result<(), PlanStop> {
+) -> Result<(), PlanStop>
+    ensures { KeepsSheet sheet.old sheet.new }
+{
     match source.tree.arguments.get(number) {
         Some(argument) => {
             let planned = plan_argument(alloc, source, *argument, sheet)?;
@@ -105,13 +122,16 @@ fn plan_phi(
 }
 
 // Plans the phis of the block of this number.
+#[tactic(auto, using(pliron_text_llvm_sheets::proofs::KeepingLemmas::sheet_steps))]
 fn plan_phis(
     alloc: Global,
     source: FunctionSource<'_>,
     block: usize,
     sheet: &mut LlvmSheet,
     plan: &mut FunctionPlan,
-) -> Result<(), PlanStop> {
+) -> Result<(), PlanStop>
+    ensures { KeepsSheet sheet.old sheet.new }
+{
     let numbers: &[usize] = match source.tree.by_block.get(block) {
         Some(numbers) => numbers,
         None => &[],
@@ -123,13 +143,16 @@ fn plan_phis(
 }
 
 // Plans the arguments of the block of this number: of the first one the parameters, of each other one its phis.
+#[tactic(auto, using(pliron_text_llvm_sheets::proofs::KeepingLemmas::sheet_steps))]
 fn plan_arguments(
     alloc: Global,
     source: FunctionSource<'_>,
     block: usize,
     sheet: &mut LlvmSheet,
     plan: &mut FunctionPlan,
-) -> Result<(), PlanStop> {
+) -> Result<(), PlanStop>
+    ensures { KeepsSheet sheet.old sheet.new }
+{
     if block == 0 {
         plan_parameters(alloc, source, sheet, plan)
     } else {
@@ -138,20 +161,23 @@ fn plan_arguments(
 }
 
 // Plans the block of this number, and its arguments.
+#[tactic(auto, using(pliron_text_llvm_sheets::proofs::KeepingLemmas::sheet_steps))]
 fn plan_block(
     alloc: Global,
     source: FunctionSource<'_>,
     number: usize,
     sheet: &mut LlvmSheet,
     plan: &mut FunctionPlan,
-) -> Result<(), PlanStop> {
+) -> Result<(), PlanStop>
+    ensures { KeepsSheet sheet.old sheet.new }
+{
     let body = &source.reading.body;
     let line = body.blocks.get(number).map_or(0, |block| block.start);
     let name = name_of_block(source.text, body, line, sheet)?;
     let first = plan.arguments.len();
     plan_arguments(alloc, source, number, sheet, plan)?;
     let count = plan.arguments.len().saturating_sub(first);
-    plan.blocks.push(BlockPlan {
+    plan.blocks.push(PlannedBlock {
         name,
         arguments: (first, count),
     })?;
@@ -160,12 +186,15 @@ fn plan_block(
 
 /// Plans the blocks of a function, each with its arguments. Errors: a phi has no form, or a comment or a string in it, and
 /// so the function is kept as it is written; allocation failure. Cost: linear in the blocks and the phis.
+#[tactic(auto, using(pliron_text_llvm_sheets::proofs::KeepingLemmas::sheet_steps))]
 pub fn plan_blocks(
     alloc: Global,
     source: FunctionSource<'_>,
     sheet: &mut LlvmSheet,
     plan: &mut FunctionPlan,
-) -> Result<(), PlanStop> {
+) -> Result<(), PlanStop>
+    ensures { KeepsSheet sheet.old sheet.new }
+{
     for number in 0..source.reading.body.blocks.len() {
         plan_block(alloc, source, number, sheet, plan)?;
     }

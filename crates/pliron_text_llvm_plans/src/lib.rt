@@ -12,7 +12,7 @@ mod values;
 
 pub use operations::plan_function;
 pub use plan::{
-    ArgumentPlan, BlockPlan, FunctionPlan, FunctionSource, OperationPlan, PlannedDefinition,
+    FunctionPlan, FunctionSource, OperationPlan, PlannedArgument, PlannedBlock, PlannedDefinition,
 };
 pub use statements::read_form;
 pub use stop::{KeptForPlan, PlanStop};

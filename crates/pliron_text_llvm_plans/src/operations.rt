@@ -1,4 +1,6 @@
 //! Plans of operations, with what their edges pass.
+ghost use Rattle.pliron_text_llvm_sheets.specs.Sheets.{KeepsSheet};
+
 use crate::blocks::plan_blocks;
 use crate::names::name_of;
 use crate::plan::{FunctionPlan, FunctionSource, OperationPlan, PlannedDefinition};
@@ -11,13 +13,16 @@ use pliron_text_llvm_trees::{TreeEdge, TreeStatement};
 use std::alloc::{AllocError, Global};
 
 // Adds the operand that is in the hole, whose type has this width.
+#[tactic(auto, using(pliron_text_llvm_sheets::proofs::KeepingLemmas::sheet_steps))]
 fn push_operand(
     source: FunctionSource<'_>,
     width: u32,
     hole: usize,
     sheet: &mut LlvmSheet,
     plan: &mut FunctionPlan,
-) -> Result<(), PlanStop> {
+) -> Result<(), PlanStop>
+    ensures { KeepsSheet sheet.old sheet.new }
+{
     let value = plan_value(
         source.text,
         source.reading,
@@ -31,13 +36,16 @@ fn push_operand(
 }
 
 // Adds the operands in the holes, whose types have these widths.
+#[tactic(auto, using(pliron_text_llvm_sheets::proofs::KeepingLemmas::sheet_steps))]
 fn push_operands(
     source: FunctionSource<'_>,
     widths: &[u32],
     holes: &[usize],
     sheet: &mut LlvmSheet,
     plan: &mut FunctionPlan,
-) -> Result<(), PlanStop> {
+) -> Result<(), PlanStop>
+    ensures { KeepsSheet sheet.old sheet.new }
+{
     for i in 0..holes.len() {
         let width = widths.get(i).copied().unwrap_or(0);
         push_operand(source, width, holes[i], sheet, plan)?;
@@ -46,12 +54,15 @@ fn push_operands(
 }
 
 // Adds the edge, and what it passes.
+#[tactic(auto, using(pliron_text_llvm_sheets::proofs::KeepingLemmas::sheet_steps))]
 fn push_edge(
     source: FunctionSource<'_>,
     edge: &TreeEdge,
     sheet: &mut LlvmSheet,
     plan: &mut FunctionPlan,
-) -> Result<(), PlanStop> {
+) -> Result<(), PlanStop>
+    ensures { KeepsSheet sheet.old sheet.new }
+{
     for i in 0..edge.passed.len() {
         let width = plan
             .argument(edge.edge.to, i)
@@ -64,12 +75,15 @@ fn push_edge(
 }
 
 // Adds the edges from the block that come next, from as many as there are already on.
+#[tactic(auto, using(pliron_text_llvm_sheets::proofs::KeepingLemmas::sheet_steps))]
 fn push_edges_from(
     source: FunctionSource<'_>,
     block: usize,
     sheet: &mut LlvmSheet,
     plan: &mut FunctionPlan,
-) -> Result<(), PlanStop> {
+) -> Result<(), PlanStop>
+    ensures { KeepsSheet sheet.old sheet.new }
+{
     for number in plan.successors.len()..source.tree.edges.len() {
         match source.tree.edges.get(number) {
             Some(edge) if edge.edge.from == block => push_edge(source, edge, sheet, plan)?,
@@ -80,11 +94,14 @@ fn push_edges_from(
 }
 
 // What the statement gives, if something.
+#[tactic(auto, using(pliron_text_llvm_sheets::proofs::KeepingLemmas::sheet_steps))]
 fn plan_result(
     source: FunctionSource<'_>,
     given: Option<usize>,
     sheet: &mut LlvmSheet,
-) -> Result<Option<PlannedDefinition>, AllocError> {
+) -> Result<Option<PlannedDefinition>, AllocError>
+    ensures { KeepsSheet sheet.old sheet.new }
+{
     let Some(number) = given else {
         return Ok(None);
     };
@@ -97,6 +114,7 @@ fn plan_result(
 }
 
 // Adds the operands of the statement, its own and those that its edges pass, and its edges.
+#[tactic(auto, using(pliron_text_llvm_sheets::proofs::KeepingLemmas::sheet_steps))]
 fn push_uses(
     alloc: Global,
     source: FunctionSource<'_>,
@@ -104,7 +122,9 @@ fn push_uses(
     form: &[u8],
     sheet: &mut LlvmSheet,
     plan: &mut FunctionPlan,
-) -> Result<(), PlanStop> {
+) -> Result<(), PlanStop>
+    ensures { KeepsSheet sheet.old sheet.new }
+{
     let line = statement_at(source, statement.line)?;
     let widths = operand_widths_of_form(alloc, form)?;
     push_operands(source, &widths, &statement.operands, sheet, plan)?;
@@ -116,6 +136,7 @@ fn push_uses(
 }
 
 // Plans the statement, whose form this is.
+#[tactic(auto, using(pliron_text_llvm_sheets::proofs::KeepingLemmas::sheet_steps))]
 fn plan_with_form(
     alloc: Global,
     source: FunctionSource<'_>,
@@ -123,7 +144,9 @@ fn plan_with_form(
     form: &[u8],
     sheet: &mut LlvmSheet,
     plan: &mut FunctionPlan,
-) -> Result<(), PlanStop> {
+) -> Result<(), PlanStop>
+    ensures { KeepsSheet sheet.old sheet.new }
+{
     let line = statement_at(source, statement.line)?;
     let number = sheet.number(form)?;
     let result = plan_result(source, statement.result, sheet)?;
@@ -148,25 +171,31 @@ fn plan_with_form(
 }
 
 // Plans the statement.
+#[tactic(auto, using(pliron_text_llvm_sheets::proofs::KeepingLemmas::sheet_steps))]
 fn plan_statement(
     alloc: Global,
     source: FunctionSource<'_>,
     statement: &TreeStatement,
     sheet: &mut LlvmSheet,
     plan: &mut FunctionPlan,
-) -> Result<(), PlanStop> {
+) -> Result<(), PlanStop>
+    ensures { KeepsSheet sheet.old sheet.new }
+{
     let line = statement_at(source, statement.line)?;
     let form = read_form(alloc, source.text, source.reading, line)?;
     plan_with_form(alloc, source, statement, &form, sheet, plan)
 }
 
 // Plans the statements.
+#[tactic(auto, using(pliron_text_llvm_sheets::proofs::KeepingLemmas::sheet_steps))]
 fn plan_statements(
     alloc: Global,
     source: FunctionSource<'_>,
     sheet: &mut LlvmSheet,
     plan: &mut FunctionPlan,
-) -> Result<(), PlanStop> {
+) -> Result<(), PlanStop>
+    ensures { KeepsSheet sheet.old sheet.new }
+{
     for statement in &source.tree.statements {
         plan_statement(alloc, source, statement, sheet, plan)?;
     }
@@ -178,12 +207,15 @@ fn plan_statements(
 ///
 /// Errors: something of it has no form, and so it is kept as it is written; allocation failure. Cost: linear in it.
 #[doc(hidden)]
+#[tactic(auto, using(pliron_text_llvm_sheets::proofs::KeepingLemmas::sheet_steps))]
 pub fn plan_function(
     alloc: Global,
     source: FunctionSource<'_>,
     sheet: &mut LlvmSheet,
     plan: &mut FunctionPlan,
-) -> Result<(), PlanStop> {
+) -> Result<(), PlanStop>
+    ensures { KeepsSheet sheet.old sheet.new }
+{
     plan_blocks(alloc, source, sheet, plan)?;
     plan_statements(alloc, source, sheet, plan)
 }

@@ -28,7 +28,7 @@ pub struct PlannedDefinition {
 /// An argument that is to be made.
 #[doc(hidden)]
 #[derive(Clone, Copy, Debug, Drop, PartialEq, Eq)]
-pub struct ArgumentPlan {
+pub struct PlannedArgument {
     pub definition: PlannedDefinition,
     /// The width of its type: 0 of what is no integer of at most 64 bits, and of parameters.
     pub width: u32,
@@ -37,7 +37,7 @@ pub struct ArgumentPlan {
 /// A block that is to be made.
 #[doc(hidden)]
 #[derive(Clone, Copy, Debug, Drop, PartialEq, Eq)]
-pub struct BlockPlan {
+pub struct PlannedBlock {
     /// The number of its name; none of what is called by a number.
     pub name: Option<usize>,
     /// The first of its arguments, and how many.
@@ -69,9 +69,9 @@ pub struct OperationPlan {
 pub struct FunctionPlan {
     pub constants: ConstantTable,
     /// In the order of the text.
-    pub blocks: Vec<BlockPlan>,
+    pub blocks: Vec<PlannedBlock>,
     /// The arguments of all blocks: parameters, and phis.
-    pub arguments: Vec<ArgumentPlan>,
+    pub arguments: Vec<PlannedArgument>,
     /// In the order of the text.
     pub operations: Vec<OperationPlan>,
     /// The operands of all operations.
@@ -97,10 +97,10 @@ impl FunctionPlan {
     }
 
     /// The argument with this index of the block. Cost: constant.
-    pub fn argument(&self, block: usize, i: usize) -> Option<ArgumentPlan> {
+    pub fn argument(&self, block: usize, i: usize) -> Option<PlannedArgument> {
         match self.blocks.get(block) {
             Some(
-                BlockPlan {
+                PlannedBlock {
                     arguments: (first, count),
                     ..
                 },

@@ -1,7 +1,7 @@
 //! Operands, by what they are.
 ghost use Rattle.std.specs.Prelude.{◌≡◌, IfOk};
 ghost use Rattle.pliron_text_llvm_sheets.specs.Constants.{KeepsTextConstants};
-ghost use Rattle.pliron_text_llvm_sheets.specs.Sheets.{KeepsSheetTexts};
+ghost use Rattle.pliron_text_llvm_sheets.specs.Sheets.{KeepsSheet};
 ghost use Rattle.pliron_text_llvm_plans.specs.Values.{IsPlannedValue};
 
 use pliron_text_llvm_edges::{bytes_at, target_at};
@@ -21,6 +21,7 @@ pub enum PlannedValue {
 
 /// What is in the hole, whose type has this width: a value of the function, or a constant, which gets a number where it
 /// is new. Errors: allocation failure. Cost: linear in its text.
+#[tactic(auto, using(pliron_text_llvm_sheets::proofs::KeepingLemmas::sheet_steps))]
 pub fn plan_value(
     text: &[u8],
     reading: &FunctionReading,
@@ -31,7 +32,7 @@ pub fn plan_value(
 ) -> Result<PlannedValue, AllocError>
     ensures value { IfOk result (λ value.
         IsPlannedValue text.now reading.now sheet.new constants.new width hole value) }
-    ensures texts { KeepsSheetTexts sheet.old sheet.new }
+    ensures sheet { KeepsSheet sheet.old sheet.new }
     ensures constants { KeepsTextConstants constants.old constants.new }
 {
     match target_at(reading, hole) {

@@ -22,6 +22,7 @@ abbrev pub block_names : LlvmSheet → List (Option ℕ)
 block_names sheet = sheet.blocks.items
 
 -- texts keep their numbers, and values and blocks their notes
-abbrev pub KeepsSheet : LlvmSheet → LlvmSheet → Type 0
-KeepsSheet old new =
-    KeepsSheetTexts old new × KeepsNotes (value_notes old) (value_notes new) × KeepsNotes (block_names old) (block_names new)
+pub record KeepsSheet (old new : LlvmSheet) : Type 0 where
+  pub texts : KeepsSheetTexts old new
+  pub values : KeepsNotes (value_notes old) (value_notes new)
+  pub blocks : KeepsNotes (block_names old) (block_names new)

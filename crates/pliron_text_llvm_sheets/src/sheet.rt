@@ -57,7 +57,7 @@ fn put_note<T: Copy + Drop>(
 }
 
 impl LlvmSheet {
-    ghost use Rattle.pliron_text_llvm_sheets.specs.Sheets.{sheet_text, KeepsSheetTexts, value_notes, block_names};
+    ghost use Rattle.pliron_text_llvm_sheets.specs.Sheets.{sheet_text, KeepsSheet, value_notes, block_names};
 
     /// An empty one. Takes no memory. Cost: constant.
     pub fn new(alloc: Global) -> LlvmSheet
@@ -75,7 +75,7 @@ impl LlvmSheet {
     /// length.
     pub fn number(&mut self, text: &[u8]) -> Result<usize, AllocError>
         ensures numbered { IfOk result (λ number. sheet_text self.new number ≡ Some text.now) }
-        ensures kept { KeepsSheetTexts self.old self.new }
+        ensures kept { KeepsSheet self.old self.new }
         ensures values { value_notes self.new ≡ value_notes self.old }
         ensures blocks { block_names self.new ≡ block_names self.old }
     {
@@ -94,7 +94,7 @@ impl LlvmSheet {
     pub fn note_value(&mut self, value: usize, note: ValueNote) -> Result<(), AllocError>
         ensures noted { OnOk result (note_at (value_notes self.new) value
             ≡ Some (unwrap_or (note_at (value_notes self.old) value) note)) }
-        ensures kept { KeepsNotes (value_notes self.old) (value_notes self.new) }
+        ensures kept { KeepsSheet self.old self.new }
         ensures blocks { block_names self.new ≡ block_names self.old }
         ensures texts { self.new.texts ≡ self.old.texts }
     {
@@ -117,7 +117,7 @@ impl LlvmSheet {
     pub fn note_block(&mut self, block: usize, name: usize) -> Result<(), AllocError>
         ensures noted { OnOk result (note_at (block_names self.new) block
             ≡ Some (unwrap_or (note_at (block_names self.old) block) name)) }
-        ensures kept { KeepsNotes (block_names self.old) (block_names self.new) }
+        ensures kept { KeepsSheet self.old self.new }
         ensures values { value_notes self.new ≡ value_notes self.old }
         ensures texts { self.new.texts ≡ self.old.texts }
     {
