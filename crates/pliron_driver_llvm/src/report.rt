@@ -2,12 +2,12 @@
 use pliron_driver::Notation;
 use pliron_driver_instrument::{InstrumentedStep, Progress};
 use pliron_driver_mlir::ClassTally;
-use pliron_text_llvm_documents::{KeptPart, KeptReason};
+use pliron_text_llvm_documents::{KeptForDocument, KeptPart};
 use pliron_text_positions::position_of;
 use std::alloc::AllocError;
 
 // Writes why a function is kept.
-fn write_reason(report: &mut String, reason: KeptReason) -> Result<(), AllocError> {
+fn write_reason(report: &mut String, reason: KeptForDocument) -> Result<(), AllocError> {
     write!(report, "{reason}\n")
 }
 
