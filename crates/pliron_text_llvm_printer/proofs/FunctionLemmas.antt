@@ -1,5 +1,5 @@
 -- Texts of functions that are put together.
-use Rattle.std.proofs.Common.{◌≡◌, ℕ, List, [], ◌∷◌, ◌++◌, refl, sym, ap, ◌∙◌, append_assoc}
+use Rattle.std.proofs.Common.{◌≡◌, ℕ, List, [], ◌∷◌, ◌++◌, refl, ap, ◌∙◌, append_assoc}
 use Rattle.pliron_core.specs.Tree.{Tree}
 use Rattle.pliron_text_llvm_sheets.specs.declared.sheet.LlvmSheet.{LlvmSheet}
 use Rattle.pliron_text_llvm_printer.specs.PrintedFunctions.{HasFormText, IsFunctionText, AppendsFunction}

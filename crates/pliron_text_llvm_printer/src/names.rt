@@ -1,6 +1,8 @@
 //! What values and blocks are called.
 ghost use Rattle.std.specs.Prelude.{◌≡◌, ◌++◌, OnOk, nat_eq, decimal};
 ghost use Rattle.indexmap.specs.IndexMap.{get};
+ghost use Rattle.pliron_text_llvm_sheets.specs.Notes.{note_at};
+ghost use Rattle.pliron_text_llvm_sheets.specs.Sheets.{value_notes, block_names};
 ghost use Rattle.pliron_text_llvm_printer.specs.Apart.{NumbersBelow, NumbersApart, ShareNone};
 
 use crate::stop::PrintStop;
@@ -34,7 +36,9 @@ pub fn write_number(number: u64, out: &mut Vec<u8>) -> Result<(), AllocError>
 }
 
 /// What the sheet notes of the value; none of what a pass made. Cost: constant.
-pub fn note_of(value: Value, sheet: &LlvmSheet) -> Option<ValueNote> {
+pub fn note_of(value: Value, sheet: &LlvmSheet) -> Option<ValueNote>
+    ensures { result ≡ note_at (value_notes sheet.now) value }
+{
     match usize::try_from(value.key()) {
         Ok(key) => sheet.value(key),
         Err(_) => None,
@@ -95,7 +99,8 @@ fn number_behind(name: &[u8], next: u32) -> Option<u32> {
 }
 
 impl LocalNumbers {
-    ghost use Rattle.std.specs.Prelude.{◌≡◌, ◌<◌, ◌≤◌, ◌++◌, ◌∷◌, Some, OnOk, decimal};
+    ghost use Rattle.std.specs.Prelude.{◌≡◌, ◌<◌, ◌≤◌, ◌++◌, Some, OnOk};
+    ghost use Rattle.pliron_text_llvm_printer.specs.LocalNames.{value_name, block_name};
     ghost use Rattle.pliron_text_llvm_printer.specs.LocalNumbers.{number_of_value, number_of_block};
 
     /// No numbers yet. Takes no memory. Cost: constant.
@@ -255,7 +260,9 @@ impl LocalNumbers {
         value: Value,
         sheet: &LlvmSheet,
         out: &mut Vec<u8>,
-    ) -> Result<(), PrintStop> {
+    ) -> Result<(), PrintStop>
+        ensures { OnOk result (out.new.items ≡ out.old.items ++ value_name sheet.now self.now value) }
+    {
         if let Some(number) = self.values.get(&value.key()) {
             out.push(b'%')?;
             return Ok(write_number(u64::from(*number), out)?);
@@ -282,7 +289,9 @@ impl LocalNumbers {
         block: Ptr<BasicBlock>,
         sheet: &LlvmSheet,
         out: &mut Vec<u8>,
-    ) -> Result<(), PrintStop> {
+    ) -> Result<(), PrintStop>
+        ensures { OnOk result (out.new.items ≡ out.old.items ++ block_name sheet.now self.now block) }
+    {
         if let Some(number) = self.blocks.get(&block.key()) {
             return Ok(write_number(u64::from(*number), out)?);
         }
@@ -294,7 +303,9 @@ impl LocalNumbers {
 }
 
 // The number of the block's name, if it has one.
-fn name_of_block(block: Ptr<BasicBlock>, sheet: &LlvmSheet) -> Option<usize> {
+fn name_of_block(block: Ptr<BasicBlock>, sheet: &LlvmSheet) -> Option<usize>
+    ensures { result ≡ note_at (block_names sheet.now) block }
+{
     match usize::try_from(block.key()) {
         Ok(key) => sheet.block(key),
         Err(_) => None,

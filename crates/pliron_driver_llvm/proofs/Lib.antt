@@ -1,0 +1,2 @@
+mod OutcomeLemmas
+mod StreamLemmas
