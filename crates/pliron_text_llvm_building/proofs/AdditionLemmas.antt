@@ -17,20 +17,27 @@ use Rattle.pliron_text_llvm_building.specs.Additions.{IsTextHead, HasTextHead, A
 use Rattle.pliron_text_llvm_building.specs.Functions.{header_of, IsFunctionOf}
 
 pub adds_none : (t u : Tree) → u.operations ≡ t.operations → AddsText t u
-adds_none t u same = ([], same ∙ sym (append-nil t.operations), All-nil HasTextHead)
+adds_none t u same = record { added = []; grown = same ∙ sym (append-nil t.operations); heads = All-nil HasTextHead }
 
 pub adds_more : (t u v : Tree) → AddsText t u → AddsText u v → AddsText t v
-adds_more t u v a b =
-    (a.0 ++ b.0, b.1 ∙ ap (λ xs. xs ++ b.0) a.1 ∙ append_assoc t.operations a.0 b.0, All-append HasTextHead a.0 b.0 a.2 b.2)
+adds_more t u v a b = record {
+  added = a.added ++ b.added;
+  grown = b.grown ∙ ap (λ xs. xs ++ b.added) a.grown ∙ append_assoc t.operations a.added b.added;
+  heads = All-append HasTextHead a.added b.added a.heads b.heads;
+}
 
 pub adds_before_none : (t u v : Tree) → AddsText t u → v.operations ≡ u.operations → AddsText t v
-adds_before_none t u v a same = (a.0, same ∙ a.1, a.2)
+adds_before_none t u v a same = record { added = a.added; grown = same ∙ a.grown; heads = a.heads }
 
 pub adds_behind_none : (t u v : Tree) → u.operations ≡ t.operations → AddsText u v → AddsText t v
-adds_behind_none t u v same b = (b.0, b.1 ∙ ap (λ xs. xs ++ b.0) same, b.2)
+adds_behind_none t u v same b = record { added = b.added; grown = b.grown ∙ ap (λ xs. xs ++ b.added) same; heads = b.heads }
 
 pub adds_one : (t u : Tree) (head : Head) (results regions : ℕ) → IsTextHead head → u ≡ after_creating t head results regions → AddsText t u
-adds_one t u head results regions is made = (_ ∷ [], ap (λ z. z.operations) made, All-cons HasTextHead _ [] (head, refl, is) (All-nil HasTextHead))
+adds_one t u head results regions is made = record {
+  added = _ ∷ [];
+  grown = ap (λ z. z.operations) made;
+  heads = All-cons HasTextHead _ [] (head, refl, is) (All-nil HasTextHead);
+}
 
 moved_from : (t : Tree) (op : ℕ) (o : Option ℕ) → (taken_from t op o).operations ≡ t.operations
 moved_from t op None = refl
@@ -60,7 +67,7 @@ head_within (x ∷ xs) ys zero head is = is
 head_within (x ∷ xs) ys (suc op) head is = head_within xs ys op head is
 
 pub adds_keep_head : (t u : Tree) (op : ℕ) (head : Head) → AddsText t u → head_of t op ≡ Some head → head_of u op ≡ Some head
-adds_keep_head t u op head a is = ap (λ xs. (get_or xs op no_entry).head) a.1 ∙ head_within t.operations a.0 op head is
+adds_keep_head t u op head a is = ap (λ xs. (get_or xs op no_entry).head) a.grown ∙ head_within t.operations a.added op head is
 
 pub function_is : (text : List ℕ) (function : FunctionText) (old new : LlvmSheet) (t : Tree) (op number : ℕ) → sheet_text old number ≡ Some (header_of text function) → KeepsSheet old new → head_of t op ≡ Some (plain_class_head Root number)
     → IsFunctionOf text function new t op

@@ -30,5 +30,7 @@ HasTextHead entry = (head : Head) × (entry.head ≡ Some head) × IsTextHead he
 
 -- the second tree has the operations of the first one, with the same heads, and behind them some whose heads are those of
 -- statements, constants and functions
-abbrev pub AddsText : Tree → Tree → Type 0
-AddsText t u = (added : List OperationEntry) × (u.operations ≡ t.operations ++ added) × All HasTextHead added
+pub record AddsText (t u : Tree) : Type 0 where
+  pub added : List OperationEntry
+  pub grown : u.operations ≡ t.operations ++ added
+  pub heads : All HasTextHead added

@@ -1,29 +1,34 @@
 -- The operation of a module, and what it holds.
-use Rattle.std.proofs.Common.{◌≡◌, ℕ, ◌+◌, ◌<◌, ◌≤◌, List, [], ◌∷◌, ◌++◌, length, map, get_or, set, replicate, Option, Some, None, refl, sym, ap, ◌∙◌, subst, arith, length-append}
-use Rattle.std.specs.Prelude.{slice_get}
+use Rattle.std.proofs.Common.{◌≡◌, ℕ, zero, suc, ◌+◌, ◌<◌, ◌≤◌, List, [], ◌∷◌, ◌++◌, length, map, get_or, set, replicate, take, append_assoc, append-nil, Option, Some, None, refl, sym, ap, ◌∙◌, subst, arith, length-append}
+use Rattle.std.specs.Prelude.{slice_get, flat_map}
 use Rattle.std.proofs.Math.Seq.{get_or-append_seam}
-use Rattle.std.proofs.lemmas.List.{length-set, get_or-set_same}
+use Rattle.std.proofs.lemmas.List.{length-set, get_or-set_same, take_all, take_more}
 use Rattle.pliron_core.specs.declared.attrs.Head.{Head}
-use Rattle.pliron_core.specs.Tree.{Tree, regions_of, layout_of, body_of, parent_of}
+use Rattle.pliron_core.specs.declared.context.OperationEntry.{OperationEntry}
+use Rattle.pliron_core.specs.Tree.{Tree, head_of, no_entry, regions_of, layout_of, body_of, parent_of}
 use Rattle.pliron_core.specs.Writes.{after_creating, block_created, moved_last, put_last, taken_from}
 use Rattle.pliron_core.specs.Invariant.{HaveSameKeys}
+use Rattle.pliron_text_llvm_parts.specs.declared.parts.SheetPart.{SheetPart}
+use Rattle.pliron_text_llvm_documents.specs.Documents.{function_of, functions_of, HoldsFunctions, KeepsHeads}
 
 -- ---- an operation that is in no block moves into one
 
 moved_is : (t : Tree) (op block : ℕ) → parent_of t op ≡ None → moved_last t op block ≡ put_last t op block
 moved_is t op block free = ap (λ o. put_last (taken_from t op o) op block) free
 
-pub moved_operations : (t u : Tree) (op block : ℕ) → parent_of t op ≡ None → u ≡ moved_last t op block → u.operations ≡ t.operations
-moved_operations t u op block free is = ap (λ z. z.operations) (is ∙ moved_is t op block free)
+pub moved_operations : (t : Tree) (op block : ℕ) → parent_of t op ≡ None → (moved_last t op block).operations ≡ t.operations
+moved_operations t op block free = ap (λ z. z.operations) (moved_is t op block free)
 
-pub moved_layouts : (t u : Tree) (op block : ℕ) → parent_of t op ≡ None → u ≡ moved_last t op block → u.layouts ≡ t.layouts
-moved_layouts t u op block free is = ap (λ z. z.layouts) (is ∙ moved_is t op block free)
+pub moved_layouts : (t : Tree) (op block : ℕ) → parent_of t op ≡ None → (moved_last t op block).layouts ≡ t.layouts
+moved_layouts t op block free = ap (λ z. z.layouts) (moved_is t op block free)
 
-pub moved_blocks : (t u : Tree) (op block : ℕ) → parent_of t op ≡ None → u ≡ moved_last t op block → length u.bodies ≡ length t.bodies
-moved_blocks t u op block free is = ap (λ z. length z.bodies) (is ∙ moved_is t op block free) ∙ length-set t.bodies block (body_of t block ++ op ∷ [])
+pub moved_blocks : (t : Tree) (op block : ℕ) → parent_of t op ≡ None → length (moved_last t op block).bodies ≡ length t.bodies
+moved_blocks t op block free = ap (λ z. length z.bodies) (moved_is t op block free) ∙ length-set t.bodies block (body_of t block ++ op ∷ [])
 
-pub moved_body : (t u : Tree) (op block : ℕ) → parent_of t op ≡ None → u ≡ moved_last t op block → block < length t.bodies → body_of u block ≡ body_of t block ++ op ∷ []
-moved_body t u op block free is less = ap (λ z. body_of z block) (is ∙ moved_is t op block free) ∙ get_or-set_same t.bodies block (body_of t block ++ op ∷ []) [] less
+pub moved_body : (t : Tree) (op block : ℕ) → parent_of t op ≡ None → block < length t.bodies → body_of (moved_last t op block) block ≡ body_of t block ++ op ∷ []
+moved_body t op block free less = ap (λ z. body_of z block) (moved_is t op block free) ∙ get_or-set_same t.bodies block (body_of t block ++ op ∷ []) [] less
+
+pub ruleset moved_steps = (moved_operations, moved_layouts, moved_blocks, moved_body)
 
 -- ---- a new operation, and its first block
 
@@ -56,3 +61,45 @@ root_holds t head u v root region block keys is_root made at is_block grown =
       body = ap (λ z. body_of z block) grown ∙ ap (λ b. get_or (u.bodies ++ [] ∷ []) b []) is_block ∙ get_or-append_seam u.bodies [] [] [];
       within = subst (λ z. block < length z.bodies) (sym grown) (omega (arith, is_block, length-append u.bodies ([] ∷ [])));
     }
+
+-- ---- functions that are put into it
+
+pub nothing_more : (body : List ℕ) → body ≡ body ++ []
+nothing_more body = sym (append-nil body)
+
+pub functions_none : (parts : List SheetPart) → [] ≡ functions_of (take 0 parts)
+functions_none parts = refl
+
+functions_append : (parts others : List SheetPart) → functions_of (parts ++ others) ≡ functions_of parts ++ functions_of others
+functions_append [] others = refl
+functions_append (part ∷ parts) others = ap (λ xs. function_of part ++ xs) (functions_append parts others) ∙ sym (append_assoc (function_of part) (functions_of parts) (functions_of others))
+
+pub functions_more : (parts : List SheetPart) (i : ℕ) (d : SheetPart) (body after : List ℕ) → i < length parts → body ≡ functions_of (take i parts) → after ≡ body ++ functions_of (get_or parts i d ∷ []) → after ≡ functions_of (take (i + 1) parts)
+functions_more parts i d body after less is grown =
+    grown ∙ ap (λ xs. xs ++ functions_of (get_or parts i d ∷ [])) is ∙ sym (functions_append (take i parts) (get_or parts i d ∷ [])) ∙ sym (ap functions_of (take_more parts i d less))
+
+pub functions_all : (parts : List SheetPart) (i : ℕ) (body : List ℕ) → length parts ≤ i → body ≡ functions_of (take i parts) → body ≡ functions_of parts
+functions_all parts i body past is = is ∙ ap functions_of (take_all i parts past)
+
+-- ---- the whole
+
+pub root_holds_functions : (t u : Tree) (root region block : ℕ) (parts : List SheetPart) → HasEmptyBlock t root region block → u.operations ≡ t.operations → u.layouts ≡ t.layouts → body_of u block ≡ functions_of parts
+    → HoldsFunctions u root parts
+root_holds_functions t u root region block parts has operations layouts body = (
+  region,
+  block,
+  ap (λ xs. (get_or xs root no_entry).regions) operations ∙ has.regions,
+  ap (λ xs. get_or xs region []) layouts ∙ has.layout,
+  body,
+)
+
+head_within : (xs ys : List OperationEntry) (op : ℕ) (head : Head) → (get_or xs op no_entry).head ≡ Some head → (get_or (xs ++ ys) op no_entry).head ≡ Some head
+head_within [] ys op head is = cc
+head_within (x ∷ xs) ys zero head is = is
+head_within (x ∷ xs) ys (suc op) head is = head_within xs ys op head is
+
+pub root_keeps_heads : (t u v w : Tree) (head : Head) (region : ℕ) → u ≡ after_creating t head 0 1 → v ≡ block_created u region 0 → w.operations ≡ v.operations → KeepsHeads t w
+root_keeps_heads t u v w head region made grown same = record {
+  heads = λ op h is.
+      ap (λ xs. (get_or xs op no_entry).head) (same ∙ ap (λ z. z.operations) grown ∙ ap (λ z. z.operations) made) ∙ head_within t.operations _ op h is;
+}

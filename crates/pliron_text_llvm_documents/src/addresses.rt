@@ -86,15 +86,16 @@ enum Behind<'t> {
     Other,
 }
 
-// The name that stands behind the bracket.
-fn name_inside(bytes: &[u8]) -> Behind<'_> {
-    match behind_blanks(bytes) {
-        [b'@', name @ ..] => match length_of_name(name) {
-            Some(length) if length < name.len() => Behind::Name(
-                &behind_blanks(bytes)[..length + 1],
-            ),
-            _ => Behind::Other,
-        },
+// The name with its `@` with which the bytes begin, where something stands behind it.
+fn name_before(bytes: &[u8]) -> Behind<'_> {
+    let length = match bytes {
+        [b'@', name @ ..] => length_of_name(name),
+        _ => None,
+    };
+    match length {
+        Some(length) if length.saturating_add(1) < bytes.len() => {
+            Behind::Name(bytes.get(..length.saturating_add(1)).unwrap_or(&[]))
+        }
         _ => Behind::Other,
     }
 }
@@ -102,7 +103,7 @@ fn name_inside(bytes: &[u8]) -> Behind<'_> {
 // What stands behind the word.
 fn behind_word(bytes: &[u8]) -> Behind<'_> {
     match behind_blanks(bytes) {
-        [b'(', inside @ ..] => name_inside(inside),
+        [b'(', inside @ ..] => name_before(behind_blanks(inside)),
         [b';' | b'/', ..] => Behind::Other,
         _ => Behind::Nothing,
     }
@@ -126,12 +127,9 @@ impl TakenAddresses {
 
     // Adds what stands behind each of the words that take an address.
     fn add_all(&mut self, text: &[u8]) -> Result<(), AllocError> {
-        let mut rest = text;
-        while let Some(at) = memmem::find(rest, ADDRESS_WORD) {
-            rest = rest
-                .get(at.saturating_add(ADDRESS_WORD.len())..)
-                .unwrap_or(&[]);
-            self.add(rest)?;
+        for at in memmem::find_iter(text, ADDRESS_WORD) {
+            let behind = at.saturating_add(ADDRESS_WORD.len());
+            self.add(text.get(behind..).unwrap_or(&[]))?;
         }
         Ok(())
     }

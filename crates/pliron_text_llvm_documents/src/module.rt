@@ -24,6 +24,7 @@ pub struct LlvmModule {
 }
 
 // Puts the operation last into the block.
+#[tactic(auto, using(crate::proofs::HolderLemmas::moved_steps))]
 fn append(
     op: Ptr<Operation>,
     block: Ptr<BasicBlock>,
@@ -35,17 +36,20 @@ fn append(
     ensures body { OnOk result (block < length ctx.old.tree.bodies
         → body_of ctx.new.tree block ≡ body_of ctx.old.tree block ++ op ∷ []) }
 {
-    if !op.is_live(ctx) || !block.is_live(ctx) {
+    if !op.is_live(ctx) || !block.is_live(ctx) || op.holds_block(block, ctx) {
         return Err(DocumentFault::Unfit);
     }
-    if op.holds_block(block, ctx) || op.get_parent_block(ctx).is_some() {
-        return Err(DocumentFault::Unfit);
+    match op.get_parent_block(ctx) {
+        Some(_) => Err(DocumentFault::Unfit),
+        None => {
+            IRRewriter::new().move_operation_to_end(ctx, op, block);
+            Ok(())
+        }
     }
-    IRRewriter::new().move_operation_to_end(ctx, op, block);
-    Ok(())
 }
 
 // Puts the function of the part, if it is one, last into the block.
+#[tactic(auto, using(crate::proofs::HolderLemmas::nothing_more))]
 fn append_part(
     part: SheetPart,
     block: Ptr<BasicBlock>,
@@ -64,6 +68,7 @@ fn append_part(
 }
 
 // Puts the functions of the parts into the block, which is empty.
+#[tactic(auto, using(crate::proofs::HolderLemmas::functions_none, crate::proofs::HolderLemmas::functions_more, crate::proofs::HolderLemmas::functions_all))]
 fn append_parts(
     parts: &[SheetPart],
     block: Ptr<BasicBlock>,
@@ -82,6 +87,7 @@ fn append_parts(
 }
 
 // Makes the operation of a module that holds the functions of the parts.
+#[tactic(auto, using(crate::proofs::HolderLemmas::root_holds, crate::proofs::HolderLemmas::root_holds_functions, crate::proofs::HolderLemmas::root_keeps_heads))]
 fn make_root(
     alloc: Global,
     parts: &[SheetPart],
@@ -119,6 +125,7 @@ fn linked_root<D: Dialect>(
 }
 
 // Builds the module of the parts.
+#[tactic(auto, using(crate::proofs::PartLemmas::parts_kept, pliron_text_llvm_sheets::proofs::KeepingLemmas::sheet_kept))]
 fn build_module<D: Dialect>(
     text: &[u8],
     read: &[ReadPart],

@@ -1,5 +1,5 @@
 //! Forms of statements whose operands a tree has.
-ghost use Rattle.std.specs.Prelude.{◌≡◌, ◌++◌, [], IfOk, OnOk};
+ghost use Rattle.std.specs.Prelude.{◌≡◌, ◌++◌, [], slice_get, IfOk, OnOk};
 ghost use Rattle.pliron_text_llvm_edges.specs.Numbers.{numbers_passing};
 ghost use Rattle.pliron_text_llvm_forms.specs.StatementForms.{text_up_to, IsForm};
 ghost use Rattle.pliron_text_llvm_plans.specs.Forms.{is_tree_hole_at, holes_numbered, tree_holes_of};
@@ -41,6 +41,13 @@ fn is_tree_hole_at(
     Ok(!is_undefined)
 }
 
+// The hole of this number, if there is one.
+fn hole_at(holes: &[Hole], number: usize) -> Option<Hole>
+    ensures { result ≡ slice_get holes.now number }
+{
+    holes.get(number).copied()
+}
+
 // Adds the hole, if there is one and the tree has what is in it.
 #[tactic(auto, using(crate::proofs::FormLemmas::hole_left, crate::proofs::FormLemmas::hole_put, crate::proofs::FormLemmas::hole_missing))]
 fn push_hole(
@@ -56,9 +63,9 @@ fn push_hole(
     if !is_tree_hole_at(alloc, text, reading, number)? {
         return Ok(());
     }
-    match reading.body.holes.get(number) {
+    match hole_at(&reading.body.holes, number) {
         Some(hole) => {
-            holes.push(*hole)?;
+            holes.push(hole)?;
             Ok(())
         }
         None => Ok(()),
