@@ -24,6 +24,17 @@ names in quotes -- define i32 @\"odd name\"(i32 %\"a b\", i32 %\"5\") {|  %x = a
 floats that are one -- define float @f(float %a, i1 %c) {|  %x = fadd fast float %a, 0.0|  %y = select i1 %c, float %x, float 0x7FF8000000000000|  br i1 %c, label %t, label %e||t:|  br label %e||e:|  %z = phi nnan float [ 1.0, %t ], [ 1.0, %0 ]|  ret float %z|} => define float @f(float %a, i1 %c) {|  br i1 %c, label %t, label %e||t:|  br label %e||e:|  ret float 1.0|}
 a switch on a number without its sign -- define void @f(i8 %x) {|  switch i8 200, label %d [|    i8 -56, label %m|    i8 100, label %d|  ]||m:|  call void @g()|  br label %d||d:|  ret void|} => define void @f(i8 %x) {|  call void @g()|  ret void|}";
 
+/// Modules that are printed as they are written where no pass runs.
+static MODULES: &str = "\
+an empty text -- 
+raw text alone -- ; a comment|@g = global i32 1|declare void @h()|
+text around functions -- @g = global i32 1||define i32 @f(i32 %x) {|  %y = add i32 %x, 1|  ret i32 %y|}| ; between|define void @h() {|  ret void|}|!0 = !{i32 1}|
+two functions on a line -- define void @f() {|  ret void|} define void @g() {|  ret void|}
+a function that isn't understood -- define void @f() {|  %x =   frobnicate i32 1, 2|  ret void|}||define void @g() {|  ret void|}|
+a debug record -- define void @f(i32 %x) {|    #dbg_value(i32 %x, !1, !DIExpression(), !2)|  ret void|}|
+an address of a block -- @t = global ptr blockaddress(@f, %a)|define void @f() {|  br label   %a|a:|  ret void|}|
+attributes and metadata -- define dso_local noundef i32 @f(ptr noundef %0) local_unnamed_addr #0 !dbg !3 {|  %2 = load i32, ptr %0, align 4, !tbaa !5|  ret i32 %2|}||attributes #0 = { nounwind }|!5 = !{!6, !6, i64 0}|";
+
 /// What is looked at around passes: nothing.
 static NOTHING: LlvmOptions = LlvmOptions {
     counts: false,
@@ -42,9 +53,9 @@ fn with_lines(rt: &impl Abort, alloc: Global, text: &str) -> String {
     lines
 }
 
-// What the passes leave of the text, or what is reported.
-fn optimised(rt: &impl Abort, alloc: Global, text: &str) -> String {
-    let Ok(plan) = read_plan(alloc, PIPELINE) else {
+// What the passes of the word leave of the text, or what is reported.
+fn optimised(rt: &impl Abort, alloc: Global, word: &str, text: &str) -> String {
+    let Ok(plan) = read_plan(alloc, word) else {
         return String::from_str(alloc, "no passes").expect(rt, "memory");
     };
     let source = ModuleSource {
@@ -69,7 +80,17 @@ fn optimises_functions(rt: HostRuntime) {
         let before = with_lines(&rt, rt.alloc(), text);
         let wanted = if answer == "same" { text } else { answer };
         let after = with_lines(&rt, rt.alloc(), wanted);
-        let found = optimised(&rt, rt.alloc(), before.as_str());
+        let found = optimised(&rt, rt.alloc(), PIPELINE, before.as_str());
         assert!(rt; found.as_str() == after.as_str(), "{name}: {found}");
+    }
+}
+
+#[test]
+fn prints_modules_as_they_are(rt: HostRuntime) {
+    for case in MODULES.lines() {
+        let (name, row) = case.split_once(" -- ").expect(&rt, "a name");
+        let text = with_lines(&rt, rt.alloc(), row);
+        let found = optimised(&rt, rt.alloc(), "", text.as_str());
+        assert!(rt; found.as_str() == text.as_str(), "{name}: {found}");
     }
 }
