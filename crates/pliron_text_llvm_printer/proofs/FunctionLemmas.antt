@@ -2,7 +2,7 @@
 use Rattle.std.proofs.Common.{◌≡◌, ℕ, List, [], ◌∷◌, ◌++◌, refl, ap, ◌∙◌, append_assoc}
 use Rattle.pliron_core.specs.Tree.{Tree}
 use Rattle.pliron_text_llvm_sheets.specs.declared.sheet.LlvmSheet.{LlvmSheet}
-use Rattle.pliron_text_llvm_printer.specs.PrintedFunctions.{HasFormText, IsFunctionText, AppendsFunction}
+use Rattle.pliron_text_llvm_printer.specs.PrintedFunctions.{HasFormText, AppendsFunction}
 
 -- four lists behind a first one, one after another
 behind_first : (a b c d e : List ℕ) → a ++ b ++ c ++ d ++ e ≡ a ++ (b ++ c ++ d ++ e)
