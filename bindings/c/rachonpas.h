@@ -94,12 +94,12 @@ plir_status plir_find_fault(const char *text, size_t text_length, char *output, 
 
 /* Runs the passes of `pipeline` on `text`, a module of MLIR in the generic form (mlir-opt --mlir-print-op-generic). The
  * answer is the module that they leave, and nothing else: what `plir_mlir PIPELINE` writes to standard output for the
- * text, byte for byte. `*changed` is 1 where the passes changed the module, also with PLIR_TOO_SMALL, and 0 where they
- * didn't and with every status without an answer.
+ * text, byte for byte. `*changed` is 1 where the module changed, also with PLIR_TOO_SMALL, and 0 where it didn't and with
+ * every status without an answer.
  * `pipeline` is a list of sccp, dce, simplify-cfg, cse, canonicalize, combine and thread-edges, joined by commas; `nested:LIST` or
  * `nested(LIST)` runs it on each operation directly inside the module, and `repeat:N:..` or `repeat<N>(..)` until nothing
- * changes, at most N times, 1 to 64. An empty one runs no pass: the module is read and printed. Faults are found in this
- * order: pipeline, text, passes. */
+ * changes, at most N times, 1 to 64. An empty one runs no pass: the module is read and printed. With `inline;` before the
+ * list, or `inline` alone, calls are inlined first. Faults are found in this order: pipeline, text, passes. */
 plir_status plir_optimise_mlir(const char *pipeline, size_t pipeline_length, const char *text, size_t text_length,
                                char *output, size_t output_capacity, size_t *needed, uint32_t *changed);
 

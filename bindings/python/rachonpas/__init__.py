@@ -200,7 +200,7 @@ def optimise_mlir(pipeline: str, module: Text) -> Answer:
 
     The pipeline is a list of sccp, dce, simplify-cfg, cse, canonicalize, combine and thread-edges, joined by commas; nested(LIST) runs it on
     each operation directly inside the module, and repeat<N>(..) until nothing changes, at most N times, 1 to 64. An empty
-    one runs none.
+    one runs none. With `inline;` before it calls are inlined first.
 
     Raises what `optimise` does; the fault of a module has no length, unless it is too long.
     """

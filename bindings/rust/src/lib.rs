@@ -159,7 +159,7 @@ fn fault_of(place: PlirPlace, expected: String) -> Option<Fault> {
 ///
 /// The pipeline is a list of `sccp`, `dce`, `simplify-cfg`, `cse`, `canonicalize`, `combine` and `thread-edges`, joined by commas; `nested(LIST)` runs
 /// it on each operation directly inside the module, and `repeat<N>(..)` until nothing changes, at most N times, 1 to 64. An
-/// empty one runs no pass.
+/// empty one runs no pass. With `inline;` before it calls are inlined first.
 ///
 /// # Errors
 ///

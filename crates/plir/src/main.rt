@@ -55,13 +55,14 @@ impl Program for Plir {
          with `.mlir`"
     }
 
-    fn data_help() -> (&'static str, &'static str) {
-        (
-            "A value for the text's operation; once for each, in order. For a function of MLIR with its type, as \
-             `-1:i8`, `7:index` or `true`; 64 bits without one",
-            "What the world answers to an effect; once for each, in order. For MLIR as for `--input`, with commas \
-             between several",
-        )
+    fn input_help() -> &'static str {
+        "A value for the text's operation; once for each, in order. For a function of MLIR with its type, as \
+         `-1:i8`, `7:index` or `true`; 64 bits without one"
+    }
+
+    fn world_help() -> &'static str {
+        "What the world answers to an effect; once for each, in order. For MLIR as for `--input`, with commas \
+         between several"
     }
 
     fn takes_other_data(run: &ArgMatches) -> bool {

@@ -12,16 +12,20 @@ ghost use Rattle.pliron_driver.specs.Closed.{closed_reads, closed_prints};
 ghost use Rattle.pliron_driver_buffers.specs.Faults.{no_place, IsFaultPlace};
 ghost use Rattle.pliron_driver_buffers.specs.Fills.{FillsBy};
 ghost use Rattle.pliron_driver_buffers.specs.Optimises.{Optimises, IsListedPipeline, Explains};
-ghost use Rattle.pliron_driver_buffers.specs.Modules.{IsWord, OptimisesModule};
+ghost use Rattle.pliron_driver_buffers.specs.Modules.{IsWord, OptimisesModule, OptimisesBehindStage};
+ghost use Rattle.pliron_driver_buffers.specs.Stages.{ByStage};
+ghost use Rattle.pliron_driver_inlining.specs.Reads.{ReadsInlined};
 
 use pliron_bench_rules::BenchRules;
 use pliron_dialect_bench::Bench;
+use pliron_dialect_calls::InliningDialect;
 use pliron_dialect_mlir::{AnyMeaning, Mlir};
 use pliron_driver::{ClosedNotation, PassPipeline};
 use pliron_driver_buffers::{
     BenchNotation, CallFailure, ModulePass, ModulePipeline, Place, describe_graph_into,
     find_fault_into, find_module_fault_into, optimise_into, optimise_module_into,
 };
+use pliron_driver_inlining::InlinedForm;
 use pliron_driver_mlir::ClosedForm;
 use pliron_laws::HasMeaning;
 use pliron_pass::{BenchFactKind, BenchFacts, Pass};
@@ -107,7 +111,7 @@ pub extern "C" fn plir_find_fault(
 
 /// Runs the passes of a list on a module in MLIR's generic form, and puts the module that they leave into the buffer,
 /// and nothing else: what `plir_mlir` writes for the word and the input. Answers a status and reports a length as
-/// `plir_optimise` does, and reports in `changed` 1 where the passes changed the module, and else 0.
+/// `plir_optimise` does, and reports in `changed` 1 where the module changed, and else 0. Before the list `inline;` may stand.
 ///
 /// Nothing is written to the buffer unless the whole answer fits. Cost: linear in the texts, and that of the passes.
 #[unsafe(no_mangle)]
@@ -119,15 +123,25 @@ pub extern "C" fn plir_optimise_mlir(
     needed: &mut usize,
     changed: &mut u32,
 ) -> u32
-    ensures { FillsBy (OptimisesModule ⟦<ModulePass<Form> as Pass>⟧.name
+    ensures { FillsBy (λ answer. ByStage pipeline.now
+        (λ word. OptimisesModule ⟦<ModulePass<Form> as Pass>⟧.name
         (closed_reads (ReadsModule ⟦<Mlir<AnyMeaning> as HasMeaning>⟧.meaning)) (closed_prints PrintsKinds)
         ⟦<Mlir<AnyMeaning> as HasMeaning>⟧.meaning
         (RunsAlone ⟦<BenchFactKind as PartialEq>⟧.eq ⟦<ModulePipeline<Form> as Pass>⟧.outcome)
-        pipeline.now text.now changed.new) (λ failure. Explains (IsWord ⟦<ModulePass<Form> as Pass>⟧.name
-        (RunsAlone ⟦<BenchFactKind as PartialEq>⟧.eq ⟦<ModulePipeline<Form> as Pass>⟧.outcome) pipeline.now) failure
+        word text.now changed.new answer)
+        (λ word. OptimisesBehindStage ⟦<ModulePass<InlinedForm<Form>> as Pass>⟧.name
+        (ReadsInlined (closed_reads (ReadsModule ⟦<Mlir<AnyMeaning> as HasMeaning>⟧.meaning))
+        ⟦<Mlir<AnyMeaning> as HasMeaning>⟧.meaning ⟦<Mlir<AnyMeaning> as InliningDialect>⟧.convention)
+        (closed_prints PrintsKinds) ⟦<Mlir<AnyMeaning> as HasMeaning>⟧.meaning
+        (RunsAlone ⟦<BenchFactKind as PartialEq>⟧.eq ⟦<ModulePipeline<InlinedForm<Form>> as Pass>⟧.outcome)
+        word text.now changed.new answer))
+        (λ failure. Explains (ByStage pipeline.now (IsWord ⟦<ModulePass<Form> as Pass>⟧.name
+        (RunsAlone ⟦<BenchFactKind as PartialEq>⟧.eq ⟦<ModulePipeline<Form> as Pass>⟧.outcome))
+        (IsWord ⟦<ModulePass<InlinedForm<Form>> as Pass>⟧.name
+        (RunsAlone ⟦<BenchFactKind as PartialEq>⟧.eq ⟦<ModulePipeline<InlinedForm<Form>> as Pass>⟧.outcome))) failure
         × (changed.new ≡ 0)) output.old output.new needed.new result }
 {
-    let status = optimise_module_into::<Form>(alloc, pipeline, text, output, needed, changed);
+    let status = optimise_module_into::<_, Form>(alloc, pipeline, text, output, needed, changed);
     status.number()
 }
 

@@ -13,7 +13,8 @@ mod target;
 
 use clap::{ArgMatches, Error};
 use command::parse_arguments;
-use pliron_driver_inlining::{InlinedForm, split_stage};
+use pliron_driver::without_blanks;
+use pliron_driver_inlining::{INLINING_STAGE, InlinedForm, split_stage};
 use pliron_driver_instrument::{InstrumentedPipeline, InstrumentedStep, Progress};
 use pliron_driver_mlir::{ClosedForm, MAX_TEXT, ModuleNotation, ModuleOptions, Request, run_on};
 use pliron_pass::{BenchFactKind, Pass};
@@ -50,7 +51,7 @@ impl Progress for ProcessClock<'_> {
 // What the words ask for.
 //
 // No clause speaks of what words were parsed to: this is read.
-fn request_of<'w>(matches: &ArgMatches<'w>, pipeline: &'w str) -> Request<'w> {
+fn request_of<'p, 'w: 'p>(matches: &ArgMatches<'w>, pipeline: &'p str) -> Request<'p> {
     let name = matches.get_str("file").unwrap_or("-");
     Request {
         pipeline,
@@ -91,11 +92,7 @@ fn run_to<'r, N: ModuleNotation, R: Read>(
 }
 
 // Opens the input, of which no more is read than a byte past the longest text, and runs the program on it in this notation.
-fn act_in<'w, N: ModuleNotation>(
-    rt: &HostRuntime,
-    matches: &ArgMatches<'w>,
-    pipeline: &'w str,
-) -> u8 {
+fn act_in<N: ModuleNotation>(rt: &HostRuntime, matches: &ArgMatches<'_>, pipeline: &str) -> u8 {
     let request = request_of(matches, pipeline);
     let most = MAX_TEXT as u64 + 1;
     let file = matches.get_str("output");
@@ -108,9 +105,13 @@ fn act_in<'w, N: ModuleNotation>(
     }
 }
 
-// Runs the program on what the words ask for, with calls inlined first where they do.
-fn act<'w>(rt: &HostRuntime, matches: &ArgMatches<'w>) -> u8 {
-    match split_stage(matches.get_str("pipeline").unwrap_or("")) {
+// Runs the program on what the words ask for, with calls inlined first where they do; blanks beside commas, brackets and colons
+// say nothing.
+fn act(rt: &HostRuntime, matches: &ArgMatches<'_>) -> u8 {
+    let Ok(word) = without_blanks(rt.alloc(), matches.get_str("pipeline").unwrap_or("")) else {
+        return refused_status(rt);
+    };
+    match split_stage(word.as_str(), INLINING_STAGE) {
         (true, pipeline) => act_in::<InlinedForm<Form>>(rt, matches, pipeline),
         (false, pipeline) => act_in::<Form>(rt, matches, pipeline),
     }

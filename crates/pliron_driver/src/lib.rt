@@ -39,7 +39,7 @@ use pliron_pass::{BenchFactKind, BenchFacts, Pass};
 pub use pliron_pass_pipeline::{
     DCEPass, PassPipeline, PassStep, Pipeline, SCCPPass, SimplifyCFGPass, run_pipeline,
 };
-pub use program::{MAX_TEXT, PipelineText, PlanError, WordFault, write_bytes};
+pub use program::{MAX_TEXT, PipelineText, PlanError, WordFault, without_blanks, write_bytes};
 use program::{Failure, read_input, write_answer};
 use std::alloc::Global;
 use std::io::{Read, Write};

@@ -54,3 +54,10 @@ explains_text Memory is other = tt
 pub optimises : {D L B T E : Type 0} (reads : Reads) (prints : Prints) (m : Meaning) (ran : PassPipelineOf D BenchFacts L B BenchFactKind → ℕ → Tree → Tree → IRStatus → Type 0) (bytes : T → List ℕ) (list text : List ℕ) (pipeline : PassPipelineOf D BenchFacts L B BenchFactKind) → IsPlanned list pipeline → (r : Result T E) → IfOk r (λ answer. IsOptimised reads prints m (ran pipeline) text (bytes answer)) → IfOk r (λ answer. Optimises reads prints m ran list text (bytes answer))
 optimises reads prints m ran bytes list text pipeline plan (Ok answer) made = record { pipeline = pipeline; planned = plan; optimised = made }
 optimises reads prints m ran bytes list text pipeline plan (Err e) made = tt
+
+-- a reason of one list is one of another that is a list where the first is
+pub explains_as : {P Q : Type 0} (failure : CallFailure) → (P → Q) → Explains P failure → Explains Q failure
+explains_as Arguments h e = tt
+explains_as Text h e = h e
+explains_as Refused h e = h e
+explains_as Memory h e = tt

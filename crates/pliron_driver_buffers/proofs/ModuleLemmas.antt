@@ -1,12 +1,12 @@
 -- What is known of answers to modules.
-use Rattle.std.proofs.Common.{◌≡◌, ℕ, Bool, List, ◌++◌, Option, Result, Ok, Err, IfOk, refl, sym, subst}
+use Rattle.std.proofs.Common.{◌≡◌, ◌≤◌, ℕ, Bool, List, ◌++◌, Option, Result, Ok, Err, IfOk, refl, sym, subst}
 use Rattle.pliron_core.specs.Tree.{Tree}
 use Rattle.pliron_core.specs.declared.attrs.IRStatus.{IRStatus}
 use Rattle.pliron_laws.specs.Datum.{Meaning}
 use Rattle.pliron_driver.specs.Answered.{Reads, Prints, IsOptimised, status_line}
 use Rattle.pliron_pass_pipeline.specs.Pipelines.{PipelineOf, IsPipelineOf}
 use Rattle.pliron_driver_mlir.specs.Outcomes.{AsksFor}
-use Rattle.pliron_driver_buffers.specs.Modules.{IsWord, IsAsked, OptimisesModule, number_of_change}
+use Rattle.pliron_driver_buffers.specs.Modules.{IsWord, IsAsked, OptimisesModule, OptimisesBehindStage, number_of_change}
 
 -- the word that is read is this text
 pub asks_same : (word text : List ℕ) (runs : Option ℕ) (nested : Bool) (names : List (List ℕ)) → text ≡ word → AsksFor text runs nested names → AsksFor word runs nested names
@@ -29,3 +29,13 @@ optimises_module name reads prints m ran bytes status word text pipeline asked (
 pub told_so : {P D E B K : Type 0} (name : P → List ℕ) (reads : Reads) (prints : Prints) (m : Meaning) (ran : PipelineOf P D E B K → ℕ → Tree → Tree → IRStatus → Type 0) (word text printed : List ℕ) (changed number : ℕ) → OptimisesModule name reads prints m ran word text number printed → changed ≡ number → (answer : List ℕ) → answer ≡ printed → OptimisesModule name reads prints m ran word text changed answer
 told_so name reads prints m ran word text printed changed number made e answer is =
     subst (λ n. OptimisesModule name reads prints m ran word text n answer) (sym e) (subst (λ a. OptimisesModule name reads prints m ran word text number a) (sym is) made)
+
+-- and with a number that is told where calls were inlined before
+pub told_behind : {P D E B K : Type 0} (name : P → List ℕ) (reads : Reads) (prints : Prints) (m : Meaning) (ran : PipelineOf P D E B K → ℕ → Tree → Tree → IRStatus → Type 0) (word text printed : List ℕ) (changed : ℕ) (status : IRStatus) → OptimisesModule name reads prints m ran word text (number_of_change status) printed → (number_of_change status ≤ changed) → (answer : List ℕ) → answer ≡ printed → OptimisesBehindStage name reads prints m ran word text changed answer
+told_behind name reads prints m ran word text printed changed status made least answer is = record {
+  pipeline = made.pipeline;
+  asked = made.asked;
+  status = made.status;
+  reported = subst (λ n. n ≤ changed) made.reported least;
+  optimised = subst (λ a. IsOptimised reads prints m (ran made.pipeline) text (a ++ status_line made.status)) (sym is) made.optimised;
+}

@@ -3,3 +3,4 @@ pub mod Fills
 pub mod Optimises
 pub mod Modules
 pub mod Faults
+pub mod Stages

@@ -1,5 +1,5 @@
 -- What is answered to a word and a module of MLIR.
-use Rattle.std.specs.Prelude.{◌≡◌, ℕ, Bool, List, ◌++◌, Option}
+use Rattle.std.specs.Prelude.{◌≡◌, ◌≤◌, ℕ, Bool, List, ◌++◌, Option}
 use Rattle.pliron_core.specs.Tree.{Tree}
 use Rattle.pliron_core.specs.declared.attrs.IRStatus.{IRStatus}
 use Rattle.pliron_core.specs.declared.attrs.IRStatus.TheVariants.{Changed, Unchanged}
@@ -33,4 +33,13 @@ pub record OptimisesModule {P D E B K : Type 0} (name : P → List ℕ) (reads :
   pub asked : IsAsked name word pipeline
   pub status : IRStatus
   pub reported : changed ≡ number_of_change status
+  pub optimised : IsOptimised reads prints m (ran pipeline) text (answer ++ status_line status)
+
+-- the same where calls were inlined in the module before the passes: the number is that of a change where a pass changed it, and
+-- may be where none did
+pub record OptimisesBehindStage {P D E B K : Type 0} (name : P → List ℕ) (reads : Reads) (prints : Prints) (m : Meaning) (ran : PipelineOf P D E B K → ℕ → Tree → Tree → IRStatus → Type 0) (word text : List ℕ) (changed : ℕ) (answer : List ℕ) : Type 0 where
+  pub pipeline : PipelineOf P D E B K
+  pub asked : IsAsked name word pipeline
+  pub status : IRStatus
+  pub reported : number_of_change status ≤ changed
   pub optimised : IsOptimised reads prints m (ran pipeline) text (answer ++ status_line status)

@@ -9,5 +9,5 @@ mod stage;
 mod types;
 
 pub use document::{INLINING, inline_document};
-pub use notation::InlinedForm;
+pub use notation::{INLINING_STAGE, InlinedForm};
 pub use stage::split_stage;

@@ -13,6 +13,9 @@ use pliron_text_mlir_syntax::Sheet;
 use std::alloc::Global;
 use std::marker::PhantomData;
 
+/// The name of the stage of this notation, in words that ask for passes.
+pub const INLINING_STAGE: &str = "inline";
+
 /// The notation, but that calls of a module are inlined once it is read: passes begin with what inlining leaves.
 ///
 /// What a text says is then a tree that inlining made of the one that the notation reads of it: in each program that has the

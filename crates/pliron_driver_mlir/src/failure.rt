@@ -1,6 +1,7 @@
 //! Why a module isn't answered.
 ghost use Rattle.std.specs.Prelude.{◌≤◌};
 
+use crate::other_form::other_form;
 use pliron_driver::TextFailure;
 use pliron_laws::OptError;
 use pliron_text_mlir_reader::{Expectation, Fault, position_of};
@@ -40,8 +41,8 @@ pub fn failure_status(failure: ModuleFailure) -> u8
     }
 }
 
-/// A line that says why a text that is called so isn't answered. Errors: allocation failure. Cost: linear in the text
-/// before the place.
+/// A line that says why a text that is called so isn't answered; of LLVM IR, bitcode and bytecode, what makes the generic form of
+/// it. Errors: allocation failure. Cost: linear in the text before the place.
 pub fn failure_message(
     alloc: Global,
     failure: ModuleFailure,
@@ -49,11 +50,14 @@ pub fn failure_message(
     text: &[u8],
 ) -> Result<String, AllocError> {
     match failure {
-        TextFailure::Text(fault) => {
-            let position = position_of(text, fault.place);
-            let (line, column, expected) = (position.line, position.column, fault.expected);
-            format!(in alloc; "{name}:{line}:{column}: error: expected {expected}\n")
-        }
+        TextFailure::Text(fault) => match other_form(text) {
+            Some(hint) => format!(in alloc; "{name}: error: {hint}\n"),
+            None => {
+                let position = position_of(text, fault.place);
+                let (line, column, expected) = (position.line, position.column, fault.expected);
+                format!(in alloc; "{name}:{line}:{column}: error: expected {expected}\n")
+            }
+        },
         TextFailure::Refused(error) => format!(in alloc; "error: refused: {error}\n"),
     }
 }

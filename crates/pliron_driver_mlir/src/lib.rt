@@ -9,6 +9,7 @@ mod failure;
 mod fitness;
 mod module_observer;
 mod notation;
+mod other_form;
 mod outcome;
 mod plans;
 mod program;

@@ -6,7 +6,7 @@ use crate::lines::{in_one_line, with_lines};
 use pliron_core::Context;
 use pliron_dialect_mlir::{AnyMeaning, Mlir};
 use pliron_driver::Notation;
-use pliron_driver_inlining::{InlinedForm, split_stage};
+use pliron_driver_inlining::{INLINING_STAGE, InlinedForm, split_stage};
 use pliron_driver_instrument::{PlanError, Timeless};
 use pliron_driver_mlir::{GenericForm, ModuleOptions, ModuleSource, read_plan, run_passes};
 use std::alloc::Global;
@@ -107,7 +107,7 @@ fn ending(rt: &impl Abort, alloc: Global, word: &str, text: &str) -> String {
         name: "t",
         text: lines.as_bytes(),
     };
-    match read_plan(alloc, split_stage(word).1) {
+    match read_plan(alloc, split_stage(word, INLINING_STAGE).1) {
         Ok(plan) => {
             let outcome = run_passes::<Form, Timeless>(alloc, &source, &OPTIONS, &plan, Timeless);
             let outcome = outcome.expect(rt, "memory");
@@ -176,7 +176,7 @@ fn splits_words(rt: HostRuntime) {
         let Some((word, wanted)) = line.split_once(" => ") else {
             panic!(rt; "{line}");
         };
-        let (inlines, passes) = split_stage(word);
+        let (inlines, passes) = split_stage(word, INLINING_STAGE);
         let answer = if inlines { "yes" } else { "no" };
         let found = format!(in rt.alloc(); "{answer}:{passes}").expect(&rt, "memory");
         assert!(&rt; found.as_str() == wanted, "{word}: {found}");

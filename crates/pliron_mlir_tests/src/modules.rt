@@ -32,10 +32,14 @@ the other spelling of lists -- repeat<2>(nested(sccp,cse,canonicalize)) :: \"m\"
 an empty text -- dce ::  :: 3 => 0 2 0 ...
 a word -- dce :: m :: 3 => 0 2 0 ...
 a region that does not end -- dce :: \"m\"() ({ :: 3 => 0 2 0 ...
+calls first, of which there are none -- inline ; dce :: \"m\"() : () -> () :: 17 => 0 0 17 \"m\"() : () -> ()|
+the stage alone -- inline :: \"m\"() : () -> () :: 17 => 0 0 17 \"m\"() : () -> ()|
+a stage among passes -- inline,dce :: m :: 3 => 0 3 0 ...
+a stage twice -- inline;inline;dce :: m :: 3 => 0 3 0 ...
 no such pass -- licm :: m :: 3 => 0 3 0 ...
 too many rounds -- repeat:65:dce :: m :: 3 => 0 3 0 ...";
 
-// Whether the passes changed the text, and what the call answered and left.
+// Whether the module changed, and what the call answered and left.
 fn module_left_of(
     rt: &impl Abort,
     alloc: Global,
@@ -45,7 +49,7 @@ fn module_left_of(
 ) -> String {
     let mut buffer = dots(rt, alloc, capacity);
     let (mut needed, mut changed) = (7, 7);
-    let status = optimise_module_into::<GenericForm<Mlir<AnyMeaning>>>(
+    let status = optimise_module_into::<_, GenericForm<Mlir<AnyMeaning>>>(
         alloc,
         list.as_bytes(),
         text,
@@ -85,7 +89,7 @@ fn changed_modules(rt: HostRuntime) {
 #[test]
 fn lists_that_are_no_text(rt: HostRuntime) {
     let (mut needed, mut changed) = (7, 7);
-    let status = optimise_module_into::<GenericForm<Mlir<AnyMeaning>>>(
+    let status = optimise_module_into::<_, GenericForm<Mlir<AnyMeaning>>>(
         rt.alloc(),
         &[0xff, 0xfe],
         b"\"m\"() : () -> ()",

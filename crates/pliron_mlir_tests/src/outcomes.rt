@@ -54,6 +54,10 @@ an unused constant -- dce :: \"m\"() ({|  %0 = \"arith.constant\"() <{value = 1 
 no passes --  :: \"m\"()  : ()->() => 0 \"m\"() : () -> ()| => unchanged|
 a word -- dce :: m => 2  => t:1:1: error: expected the name of an operation in quotes; \
     print with --mlir-print-op-generic|
+LLVM IR -- dce :: ; ModuleID = 'a.c'|source_filename = \"a.c\" => 2  => t: error: this is LLVM IR: \
+    `mlir-translate-22 --import-llvm --mlir-print-op-generic`|
+a function of LLVM IR -- dce :: define void @f() {|  ret void|} => 2  => t: error: this is LLVM IR: \
+    `mlir-translate-22 --import-llvm --mlir-print-op-generic`|
 a block that the region lacks -- dce :: \"m\"() ({|  \"a\"()[^b] : () -> ()|}) : () -> () => 2  => t:2:9: error: \
     expected a block of this region|
 no such pass -- dce,licm :: \"m\"() : () -> () => 2  => error: no such passes: dce,licm: at byte 5: expected \

@@ -1,5 +1,5 @@
 //! Copies of blocks, in a region.
-ghost use Rattle.std.specs.Prelude.{◌≡◌, ◌++◌, ◌+◌, ◌<◌, [], None, Some, ℕ, List, OnOk, OnErr, IsOkUnless, IfOk, length, map, take};
+ghost use Rattle.std.specs.Prelude.{◌≡◌, ◌++◌, ◌+◌, ◌<◌, ◌≤◌, [], None, Some, ℕ, List, OnOk, OnErr, IsOkUnless, IfOk, length, map, take};
 ghost use Rattle.std.specs.List.{flat_map, range_with_len};
 ghost use Rattle.pliron_core.specs.declared.attrs.Head.{Head as HeadOf};
 ghost use Rattle.pliron_core.specs.Tree.{In, IsBlock, IsLive, IsRegion, IsDefined, IsDistinct, head_of, operands_of, successors_of, results_of, body_of, arguments_of, layout_of, last_of};
@@ -396,6 +396,7 @@ pub(crate) fn copy_within_room<R: Rewriter + Room>(
     ensures copies { IfOk result (λ copies. KnowsCopies x.tree ctx.new.tree x.blocks copies) }
     ensures grown { OnOk result (IsGrownIn x.tree ctx.new.tree x.region) }
     ensures refused { OnErr result (IsSameTree x.tree ctx.new.tree) }
+    ensures longer { length ctx.old.tree.operations ≤ length ctx.new.tree.operations }
     ensures memory { IsOkUnless result OptError.Memory }
     ensures point { R.point rewriter.new ≡ R.point rewriter.old }
 {
@@ -430,6 +431,7 @@ pub fn copy_blocks<R: Rewriter + Room>(
     ensures ok { OnOk result (AreCopiedInto ctx.old.tree ctx.new.tree region blocks.now) }
     ensures copies { IfOk result (λ copies. KnowsCopies ctx.old.tree ctx.new.tree blocks.now copies) }
     ensures refused { OnErr result (IsSameTree ctx.old.tree ctx.new.tree) }
+    ensures longer { length ctx.old.tree.operations ≤ length ctx.new.tree.operations }
     ensures memory { IsOkUnless result OptError.Memory }
     ensures point { R.point rewriter.new ≡ R.point rewriter.old }
 {

@@ -8,7 +8,7 @@ use Rattle.pliron_core.specs.declared.context.Def.{Def}
 use Rattle.pliron_core.specs.declared.context.Def.TheVariants.{Result, Argument}
 use Rattle.pliron_core.specs.Changes.{IsDefiningOperationInside}
 use Rattle.pliron_core.specs.Edges.{succs_of, succs_from}
-use Rattle.pliron_core.specs.Tree.{Tree, In, IsBlock, IsDefined, IsInside, first_of, last_of, head_of, operands_of, successors_of, results_of, parent_of, body_of, arguments_of, block_parent_of, layout_of, slot_of, definition_of, up_from}
+use Rattle.pliron_core.specs.Tree.{Tree, In, IsBlock, IsDefined, IsInside, first_of, last_of, row_of, head_of, operands_of, successors_of, results_of, parent_of, body_of, arguments_of, block_parent_of, layout_of, slot_of, definition_of, up_from}
 use Rattle.pliron_core.specs.Invariant.{IsTree}
 use Rattle.pliron_core.specs.Writes.{argument_pushed}
 use Rattle.pliron_core.proofs.HoldingLemmas.{some_is, some_of, slice_in, maker_is}
@@ -17,6 +17,7 @@ use Rattle.pliron_laws.specs.Datum.{Head, Shape, Meaning}
 use Rattle.pliron_laws.specs.Tree.{Operation, op_at, shape_of}
 use Rattle.pliron_laws.specs.Laws.{Admitted, ForwardsOperands}
 use Rattle.pliron_laws.specs.Answers.{HeadPasses}
+use Rattle.pliron_laws.specs.Linked.{IsAdmitted}
 use Rattle.pliron_laws.specs.Paths.{Path}
 use Rattle.pliron_laws.specs.Root.{defining_block, HasPassed, IsDominated}
 use Rattle.pliron_laws.proofs.Records.{op_shows, operation_of, make_op}
@@ -36,6 +37,7 @@ use Rattle.pliron_rewrite_loops.specs.OneMore.{IsForwardedMore, ForwardedLaw}
 use Rattle.pliron_rewrite_loops.specs.Lengthening.{EdgeLengthened, EdgesLengthened, LengtheningLaw}
 use Rattle.pliron_rewrite_loops.specs.Added.{IsArgumentAdded}
 use Rattle.pliron_rewrite_loops.proofs.Forwarded.{shape_closed, forwarded_keeps}
+use Rattle.pliron_rewrite_loops.proofs.Forwards.{untouched, untouched_row}
 use Rattle.pliron_rewrite_loops.proofs.LengthenedBack.{lengthening}
 use Rattle.pliron_rewrite_loops.proofs.Longer.{IsFramed, same_successors, same_arguments, same_block_parents, same_definitions, framed, named, branches, branch_before, IsLonger, is_longer}
 
@@ -265,52 +267,61 @@ module _ (m : Meaning) (can_fold : Head → Bool) (SameTests : Head → Head →
     may_name : (root k : ℕ) → (d : Def) → definition_of t value ≡ Some d → MayUse t root k value → MayNameMore t u root k
     may_name root k d e a y i absent = ⊎_elim (λ j. absurd (absent j)) (λ q. subst (MayUse u root k) (sym q) (usable_forth t u value (ways value d e) root k a)) (named_more k y i)
 
-    -- a branch that leads to the block fits with the value that it forwards more
+    -- a branch that leads to the block is admitted with the value that it forwards more
+    module _ (k : ℕ) (a : IsAdmitted m t k) (i : In block (successors_of t k)) where
+      live : (h : Head) × (head_of t k ≡ Some h)
+      live = some_of (head_of t k) (go (head_of t k) refl)
+        where
+          go : (h : Option Head) → head_of t k ≡ h → IsSome (head_of t k)
+          go None e = absurd (subst (In block) (w.joined.erased k e).1 i)
+          go (Some h) e = subst IsSome (sym e) refl
+
+      is_branch : HeadPasses m.is_branch t k
+      is_branch = let a = among k i in branch_before m can_fold SameTests shortened law index value x.edges t x.longer x.lengthened k (branches m can_fold SameTests shortened law index value x.edges t x.longer x.lengthened k a.0 a.1)
+
+      abbrev o : Operation
+      o = operation_of t k live.0
+
+      oe : op_at t k ≡ Some o
+      oe = make_op t k live.0 live.1
+
+      y : IsLonger m can_fold SameTests shortened law index value t x.longer k o x.edges
+      y = is_longer m can_fold SameTests shortened law index value block x.edges t x.longer x.to.listed x.lengthened k o oe (admitted_shape m t k o oe a) (is_branch live.0 live.1)
+
+      none : y.now.regions ≡ []
+      none = childless m x.longer y.now (law.alone (shape_of m x.longer y.now) y.admitted (subst (λ z. IsTrue (m.is_branch z)) (sym (shape_head m x.longer y.now)) y.branch)).1
+
+      same_shape : shape_of m x.longer y.now ≡ shape_of m u y.now
+      same_shape = shape_closed m x.longer u y.now none y.branch
+
+      stands_now : op_at u k ≡ Some y.now
+      stands_now = ap (λ z. op_at z k) x.pushed ∙ op_pushed x.longer block k ∙ y.liveness
+
+      pub leading_admitted : IsAdmitted m u k
+      leading_admitted = shape_admitted m u k y.now stands_now (subst (Admitted m) same_shape y.admitted)
+
+    -- what doesn't lead to the block is as it was
+    pub not_leading : (k : ℕ) → (In block (successors_of t k) → ⊥) → (row_of u k ≡ row_of t k) × (operands_of u k ≡ operands_of t k)
+    not_leading k out = (
+      ap (λ z. row_of z k) x.pushed ∙ untouched_row m can_fold SameTests shortened law index value block x.edges t x.longer x.to.listed x.lengthened k out,
+      ap (λ z. operands_of z k) x.pushed ∙ untouched m can_fold SameTests shortened law index value block x.edges t x.longer x.to.listed x.lengthened k out,
+    )
+
+    -- and fits
     fits : (root k : ℕ) → IsFit m t root → IsInside t root k → In block (successors_of t k) → FitsInPlace m u k
-    fits root k f inside i = record {
-      admitted = shape_admitted m u k y.now stands_now (subst (Admitted m) same_shape y.admitted);
-      forwards = forwards;
-    }
+    fits root k f inside i = record { admitted = leading_admitted k a i; forwards = forwards }
       where
-        live : (h : Head) × (head_of t k ≡ Some h)
-        live = some_of (head_of t k) (go (head_of t k) refl)
-          where
-            go : (h : Option Head) → head_of t k ≡ h → IsSome (head_of t k)
-            go None e = absurd (subst (In block) (w.joined.erased k e).1 i)
-            go (Some h) e = subst IsSome (sym e) refl
+        a : IsAdmitted m t k
+        a = f.linked.admitted k (inr inside)
 
-        is_branch : HeadPasses m.is_branch t k
-        is_branch = let a = among k i in branch_before m can_fold SameTests shortened law index value x.edges t x.longer x.lengthened k (branches m can_fold SameTests shortened law index value x.edges t x.longer x.lengthened k a.0 a.1)
-
-        o : Operation
-        o = operation_of t k live.0
-
-        oe : op_at t k ≡ Some o
-        oe = make_op t k live.0 live.1
-
-        admitted : Admitted m (shape_of m t o)
-        admitted = admitted_shape m t k o oe (f.linked.admitted k (inr inside))
-
-        y : IsLonger m can_fold SameTests shortened law index value t x.longer k o x.edges
-        y = is_longer m can_fold SameTests shortened law index value block x.edges t x.longer x.to.listed x.lengthened k o oe admitted (is_branch live.0 live.1)
-
-        none : y.now.regions ≡ []
-        none = childless m x.longer y.now (law.alone (shape_of m x.longer y.now) y.admitted (subst (λ z. IsTrue (m.is_branch z)) (sym (shape_head m x.longer y.now)) y.branch)).1
-
-        same_shape : shape_of m x.longer y.now ≡ shape_of m u y.now
-        same_shape = shape_closed m x.longer u y.now none y.branch
-
-        stands_now : op_at u k ≡ Some y.now
-        stands_now = ap (λ z. op_at z k) x.pushed ∙ op_pushed x.longer block k ∙ y.liveness
-
-        led : (j c : ℕ) → slice_get (successors_of t k) j ≡ Some c → (c ≡ block) ⊎ (c ≢ block) → length (m.forwarded (shape_of m x.longer y.now) j) ≡ length (arguments_of u c)
-        led j c q (inl e) = y.longer j (x.to.complete k j (q ∙ ap Some e)) ∙ sym (ap (λ b. length (arguments_of u b)) e ∙ ap length own ∙ length-append (arguments_of t block) (fresh ∷ []))
-        led j c q (inr ne) = y.same j (λ a. ne (some_is (sym q ∙ x.to.listed a.0 _ a.1))) ∙ f.defined.forwards k j c o inside oe (is_branch live.0 live.1) q ∙ sym (ap length (other c ne))
+        led : (j c : ℕ) → slice_get (successors_of t k) j ≡ Some c → (c ≡ block) ⊎ (c ≢ block) → length (m.forwarded (shape_of m x.longer (y k a i).now) j) ≡ length (arguments_of u c)
+        led j c q (inl e) = (y k a i).longer j (x.to.complete k j (q ∙ ap Some e)) ∙ sym (ap (λ b. length (arguments_of u b)) e ∙ ap length own ∙ length-append (arguments_of t block) (fresh ∷ []))
+        led j c q (inr ne) = (y k a i).same j (λ p. ne (some_is (sym q ∙ x.to.listed p.0 _ p.1))) ∙ f.defined.forwards k j c (o k a i) inside (oe k a i) (is_branch k a i (live k a i).0 (live k a i).1) q ∙ sym (ap length (other c ne))
 
         forwards : (z : Operation) (j c : ℕ) → op_at u k ≡ Some z → IsTrue (m.is_branch z.head) → slice_get z.successors j ≡ Some c → length (m.forwarded (shape_of m u z) j) ≡ length (arguments_of u c)
         forwards z j c e b q =
-            let is_now : y.now ≡ z = some_is (sym stands_now ∙ e) in
-            ap (λ a. length (m.forwarded (shape_of m u a) j)) (sym is_now) ∙ ap (λ a. length (m.forwarded a j)) (sym same_shape) ∙ led j c (ap (λ a. slice_get a j) (sym (successors k) ∙ (op_shows u k z e).successors) ∙ q) (cases_eq c block)
+            let is_now : (y k a i).now ≡ z = some_is (sym (stands_now k a i) ∙ e) in
+            ap (λ a. length (m.forwarded (shape_of m u a) j)) (sym is_now) ∙ ap (λ a. length (m.forwarded a j)) (sym (same_shape k a i)) ∙ led j c (ap (λ a. slice_get a j) (sym (successors k) ∙ (op_shows u k z e).successors) ∙ q) (cases_eq c block)
 
     pub keeps : IsTree u → ForwardedLaw m shortened → ((root k : ℕ) → IsFit m t root → In block (successors_of t k) → MayUse t root k value) → (d : Def) → definition_of t value ≡ Some d → KeepsRuns m t u × KeepsRuns m u t
     keeps w' added usable d e = added t u block index fresh w w' forwarded_more (λ root f k i. may_name root k d e (usable root k f i)) (λ root f k inside i. fits root k f inside i)

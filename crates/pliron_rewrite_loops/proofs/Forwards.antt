@@ -5,7 +5,7 @@ use Rattle.std.specs.Option.{option_map}
 use Rattle.std.proofs.lemmas.Bool.{cases_eq}
 use Rattle.std.proofs.lemmas.Option.{slice_get-map}
 use Rattle.pliron_core.specs.declared.uses.Use.{Use}
-use Rattle.pliron_core.specs.Tree.{Tree, In, operands_of, successors_of}
+use Rattle.pliron_core.specs.Tree.{Tree, In, row_of, operands_of, successors_of}
 use Rattle.pliron_core.proofs.HoldingLemmas.{some_is, not_none, in_slice}
 use Rattle.pliron_core.proofs.TreeLemmas.{cases_lt}
 use Rattle.pliron_laws.specs.Datum.{Head, Shape, Meaning}
@@ -18,7 +18,7 @@ use Rattle.pliron_theory.proofs.ShortenedBranches.{Among}
 use Rattle.pliron_dialect_edges.specs.Lengthened.{one_more}
 use Rattle.pliron_rewrite_loops.specs.Lengthening.{EdgeLengthened, EdgesLengthened}
 use Rattle.pliron_rewrite_loops.proofs.LengthenedBack.{insert_there}
-use Rattle.pliron_rewrite_loops.proofs.Longer.{same_successors, framed, operands_there, stands_there, shape_there, op_other, shape_other, le, places_other, operands_other}
+use Rattle.pliron_rewrite_loops.proofs.Longer.{same_successors, framed, operands_there, stands_there, shape_there, op_other, shape_other, le, places_other, operands_other, row_other}
 
 -- what stood behind the place stands one further, what stood before it stays
 behind_inserted : {A : Type 0} (xs : List A) (i : ℕ) (y : A) (p : ℕ) → i ≤ length xs → i ≤ p → slice_get (insert xs i y) (suc p) ≡ slice_get xs p
@@ -134,3 +134,9 @@ module _ (m : Meaning) (can_fold : Head → Bool) (SameTests : Head → Head →
   untouched block (e ∷ es) t u listed x k out =
       operands_other m can_fold SameTests shortened law index value e x.0 u x.2 k (λ q. out (subst (λ z. In block (successors_of t z)) (sym q) (in_slice (successors_of t e.user) e.place block (listed zero e refl))))
       ∙ untouched block es t x.0 (λ n. listed (suc n)) x.1 k out
+
+  pub untouched_row : (block : ℕ) (edges : List Use) (t u : Tree) → ((n : ℕ) (e : Use) → slice_get edges n ≡ Some e → slice_get (successors_of t e.user) e.place ≡ Some block) → EdgesLengthened m shortened index value edges t u → (k : ℕ) → (In block (successors_of t k) → ⊥) → row_of u k ≡ row_of t k
+  untouched_row block [] t u listed x k out = ap (λ z. row_of z k) x
+  untouched_row block (e ∷ es) t u listed x k out =
+      row_other m can_fold SameTests shortened law index value e x.0 u x.2 k (λ q. out (subst (λ z. In block (successors_of t z)) (sym q) (in_slice (successors_of t e.user) e.place block (listed zero e refl))))
+      ∙ untouched_row block es t x.0 (λ n. listed (suc n)) x.1 k out

@@ -9,4 +9,5 @@ pub mod Forwards
 pub mod PassingSteps
 pub mod Passed
 pub mod PassedInTurn
+pub mod Besides
 pub mod Closed

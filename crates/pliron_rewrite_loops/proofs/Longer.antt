@@ -96,7 +96,7 @@ module _ (m : Meaning) (can_fold : Head → Bool) (SameTests : Head → Head →
     row_there : row_of u e.user ≡ record (row_of t e.user) { head = Some x.head }
     row_there = ap (λ z. row_of z e.user) x.is ∙ row_at t e.user x.place value x.head lt lt' le
 
-    row_other : (k : ℕ) → k ≢ e.user → row_of u k ≡ row_of t k
+    pub row_other : (k : ℕ) → k ≢ e.user → row_of u k ≡ row_of t k
     row_other k ne = ap (λ z. row_of z k) x.is ∙ get_or-set_other t.operations e.user k _ no_entry ne
 
     pub operands_there : operands_of u e.user ≡ insert (operands_of t e.user) x.place value

@@ -1,12 +1,13 @@
 -- Runs are kept where a value is passed to a block, and operations behind the block use the argument.
 use Rattle.std.proofs.Common.{◌≡◌, ◌≢◌, ◌⊎◌, inl, inr, ⊎_elim, ℕ, if◌then◌else◌, Bool, List, length, map, Option, Some, None, IsSome, slice_get, refl, sym, ap, ◌∙◌, subst, arith}
 use Rattle.std.proofs.lemmas.Bool.{cases_eq, ne_eqb}
+use Rattle.std.proofs.lemmas.List.{length-map}
 use Rattle.std.proofs.lemmas.Option.{slice_get_within}
 use Rattle.pliron_core.specs.declared.context.Def.{Def}
 use Rattle.pliron_core.specs.declared.context.Def.TheVariants.{Result, Argument}
 use Rattle.pliron_core.specs.Changes.{IsDefiningOperationInside}
 use Rattle.pliron_core.specs.Invariant.{IsTree}
-use Rattle.pliron_core.specs.Tree.{Tree, In, IsBlock, IsDefined, IsLive, IsMadeBy, HoldsBlock, first_of, head_of, operands_of, successors_of, results_of, arguments_of, block_parent_of, layout_of, definition_of, up_from}
+use Rattle.pliron_core.specs.Tree.{Tree, In, IsBlock, IsDefined, IsLive, IsMadeBy, HoldsBlock, first_of, row_of, head_of, operands_of, successors_of, results_of, regions_of, arguments_of, block_parent_of, layout_of, definition_of, up_from}
 use Rattle.pliron_core.specs.Uses.{replace_target}
 use Rattle.pliron_core.specs.Writes.{argument_pushed}
 use Rattle.pliron_core.proofs.ListLemmas.{decide_in}
@@ -15,6 +16,7 @@ use Rattle.pliron_laws.specs.Datum.{Head, Shape, Meaning}
 use Rattle.pliron_laws.specs.Tree.{Operation, op_at, shape_of}
 use Rattle.pliron_laws.specs.Answers.{IsForwardedAt}
 use Rattle.pliron_laws.specs.Laws.{ForwardsOperands}
+use Rattle.pliron_laws.specs.Linked.{IsAdmitted}
 use Rattle.pliron_laws.specs.Root.{defining_block, HasPassed, IsDominated}
 use Rattle.pliron_laws.proofs.Records.{operation_of, make_op}
 use Rattle.pliron_theory.specs.Keeps.{IsFit, KeepsRuns, KeepsAllRuns, with_roots}
@@ -23,16 +25,18 @@ use Rattle.pliron_theory.proofs.Keeping.{keeps_trans}
 use Rattle.pliron_theory.proofs.KeptPlaces.{KeepsPlaces, same_block_holder, inside_back, within_forth, within_back}
 use Rattle.pliron_theory.proofs.Renamed.{op_renamed, shape_renamed}
 use Rattle.pliron_theory.proofs.ReplacedKeeps.{replaced_renamed}
+use Rattle.pliron_theory.proofs.SweptStays.{admitted_same}
 use Rattle.pliron_rewrite_copies.proofs.Maps.{in_map}
 use Rattle.pliron_rewrite_arguments.specs.OneValue.{IsForwardedThere, IsOneValue}
 use Rattle.pliron_rewrite_loops.specs.Lengthening.{EdgesLengthened}
 use Rattle.pliron_rewrite_loops.specs.OneMore.{IsForwardedMore}
 use Rattle.pliron_rewrite_loops.specs.Added.{IsArgumentAdded}
 use Rattle.pliron_rewrite_loops.specs.Pushing.{PushingLaw}
-use Rattle.pliron_rewrite_loops.specs.Passing.{StandsBehind, MayUseArguments, UsesArgument, MayPass}
+use Rattle.pliron_rewrite_loops.specs.Passing.{StandsBehind, MayUseArguments, UsesArgument, MayPass, KeepsBesides}
 use Rattle.pliron_rewrite_loops.proofs.LengthenedBack.{lengthening}
-use Rattle.pliron_rewrite_loops.proofs.Added.{front_there, KeepsWays, places, path_back, usable_forth, lengthened_pushed, frame, own, other, new_unused, forwarded_more, named_more, ways}
+use Rattle.pliron_rewrite_loops.proofs.Added.{front_there, KeepsWays, places, path_back, usable_forth, lengthened_pushed, frame, own, other, new_unused, forwarded_more, named_more, ways, leading_admitted, not_leading}
 use Rattle.pliron_rewrite_loops.proofs.Forwards.{ForwardsThere, forwarded_at, mapped_from, each_forwards, untouched}
+use Rattle.pliron_rewrite_loops.proofs.PassingSteps.{unused_items}
 
 -- what leads somewhere is live
 leader_live : (t : Tree) → IsTree t → (k b : ℕ) → In b (successors_of t k) → (h : Head) × (head_of t k ≡ Some h)
@@ -279,6 +283,81 @@ module _ (m : Meaning) (can_fold : Head → Bool) (SameTests : Head → Head →
         (λ leads. ⊎_elim (λ j. inl j) (λ q. inr (q, leads)) (named_still k v ne i))
         (λ out. inl (subst (In v) (untouched m can_fold SameTests shortened law index value block x.edges t x.longer x.to.listed x.lengthened k out) (subst (λ z. In v (operands_of z k)) x.pushed (named_before k v ne i))))
         (decide_in block (successors_of t k))
+
+    -- all else is as it was
+    row_before : (k : ℕ) → (In block (successors_of t k) → ⊥) → row_of u k ≡ row_of t k
+    row_before k out = sym (r.rows k) ∙ (not_leading m can_fold SameTests shortened law block (lengthening m can_fold SameTests shortened law) t s value argument w is entry x k out).0
+
+    operands_before : (k : ℕ) → (In block (successors_of t k) → ⊥) → map rename (operands_of u k) ≡ operands_of t k
+    operands_before k out = sym (r.operands k) ∙ (not_leading m can_fold SameTests shortened law block (lengthening m can_fold SameTests shortened law) t s value argument w is entry x k out).1
+
+    regions_same : (k : ℕ) → regions_of u k ≡ regions_of t k
+    regions_same k = sym (ap (λ z. z.regions) (r.rows k)) ∙ ap (λ z. regions_of z k) x.pushed ∙ (frame m can_fold SameTests shortened law block (lengthening m can_fold SameTests shortened law) t s value argument w is entry x).regions k
+
+    counted : length u.operations ≡ length t.operations
+    counted = sym (ap (λ z. length z.operations) y.back) ∙ ap (λ z. length z.operations) x.pushed ∙ (frame m can_fold SameTests shortened law block (lengthening m can_fold SameTests shortened law) t s value argument w is entry x).count
+
+    live_before : (k : ℕ) → IsLive u k → IsLive t k
+    live_before k l = go (head_of t k) refl
+      where
+        go : (o : Option Head) → head_of t k ≡ o → IsLive t k
+        go (Some h) e = subst IsSome (sym e) refl
+        go None e = subst (λ z. IsSome z.head) (row_before k (λ i. subst (In block) (w.joined.erased k e).1 i)) l
+
+    arguments_same : (b : ℕ) → b ≢ block → arguments_of u b ≡ arguments_of t b
+    arguments_same b ne = sym (r.arguments b) ∙ other m can_fold SameTests shortened law block (lengthening m can_fold SameTests shortened law) t s value argument w is entry x b ne
+
+    new_value : (v : ℕ) → IsDefined u v → IsDefined t v ⊎ ((i : ℕ) × (definition_of u v ≡ Some (Argument block i)))
+    new_value v h = let d = maker_is u v h in go d.0 d.1 d.2
+      where
+        go : (d : Def) → definition_of u v ≡ Some d → IsMadeBy u v (Some d) → IsDefined t v ⊎ ((i : ℕ) × (definition_of u v ≡ Some (Argument block i)))
+        go (Result k i) e j =
+            let there : slice_get (results_of t k) i ≡ Some v = ap (λ z. slice_get z i) (sym (stay.results k)) ∙ j in
+            inl (subst (IsMadeBy t v) (sym (w.joined.results k i v there)) there)
+        go (Argument b i) e j = ⊎_elim
+            (λ q. inr (i, e ∙ ap (λ z. Some (Argument z i)) q))
+            (λ ne.
+            let there : slice_get (arguments_of t b) i ≡ Some v = ap (λ z. slice_get z i) (sym (arguments_same b ne)) ∙ j in
+            inl (subst (IsMadeBy t v) (sym (w.joined.arguments b i v there)) there))
+            (cases_eq b block)
+
+    admitted_renamed : (k : ℕ) → IsAdmitted m s k → IsAdmitted m u k
+    admitted_renamed k a = admitted_same m s u k
+        (sym (ap (λ z. z.head) (r.rows k)))
+        (sym (length-map (operands_of u k) rename) ∙ sym (ap length (r.operands k)))
+        (sym (ap (λ z. length z.results) (r.rows k)))
+        (sym (ap length (r.successors k)))
+        (sym (ap (λ z. length z.regions) (r.rows k)))
+        a
+
+    pub besides : KeepsBesides m t u block users
+    besides = record {
+      count = counted;
+      live = λ k. (live_before k, λ l. subst (λ z. IsSome z.head) (r.rows k) (live_still k l));
+      results = stay.results;
+      regions = regions_same;
+      successors = stay.successors;
+      parents = stay.parents;
+      bodies = stay.bodies;
+      block_parents = stay.block_parents;
+      layouts = stay.layouts;
+      slots = stay.slots;
+      arguments = arguments_same;
+      rows = row_before;
+      operands = λ k out free. unused_items argument value (operands_of u k) (λ i. free (y.alone k i)) ∙ operands_before k out;
+      defined = defined_still;
+      definitions = λ v h. (keeps_ways v h).definition;
+      new = new_value;
+      admitted = λ k a. ⊎_elim
+          (λ i. admitted_renamed k (leading_admitted m can_fold SameTests shortened law block (lengthening m can_fold SameTests shortened law) t s value argument w is entry x k a i))
+          (λ out.
+          let n = not_leading m can_fold SameTests shortened law block (lengthening m can_fold SameTests shortened law) t s value argument w is entry x k out in
+          admitted_renamed k (admitted_same m t s k (ap (λ z. z.head) n.0) (ap length n.1) (ap (λ z. length z.results) n.0) (ap length (successors_added k)) (ap (λ z. length z.regions) n.0) a))
+          (decide_in block (successors_of t k));
+    }
+      where
+        successors_added : (k : ℕ) → successors_of s k ≡ successors_of t k
+        successors_added k = r.successors k ∙ stay.successors k
 
     module _ (b : ℕ) (values others : List ℕ) (may : MayPass m t b values others) (forth : KeepsAllRuns m t u) (back : KeepsAllRuns m u t) where
       before : (chosen : Head → Bool) (root : ℕ) → IsFit (with_roots m chosen) u root → IsFit (with_roots m chosen) t root

@@ -84,7 +84,7 @@ kept_done xs i x value at ne before j h e = ⊎_elim
     same q = cc
 
 -- where nothing uses the argument, nothing changes where its uses become those of the value
-unused_items : (argument value : ℕ) (xs : List ℕ) → (In argument xs → ⊥) → xs ≡ map (replace_target argument value) xs
+pub unused_items : (argument value : ℕ) (xs : List ℕ) → (In argument xs → ⊥) → xs ≡ map (replace_target argument value) xs
 unused_items argument value [] free = refl
 unused_items argument value (x ∷ xs) free = ap₂ (λ a b. a ∷ b) (⊎_elim (λ y. absurd (free (inl (sym y.1)))) (λ n. sym (ap (λ b. if b then value else x) n.0)) (eqb_tells x argument)) (unused_items argument value xs (λ i. free (inr i)))
 

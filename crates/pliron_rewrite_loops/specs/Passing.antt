@@ -2,10 +2,12 @@
 --
 --     before:   ^a: x = .. ; branch ^b       ^b: use x
 --     after:    ^a: x = .. ; branch ^b(x)    ^b(q): use q
-use Rattle.std.specs.Prelude.{◌≡◌, ◌⊎◌, ℕ, Bool, List, [], ◌∷◌, Some, None, take, slice_get, slice_set}
-use Rattle.pliron_core.specs.Tree.{Tree, In, IsInside, IsWithin, HoldsBlock, first_of, IsLive, IsBlock, IsDefined, operands_of, successors_of, parent_of, block_parent_of, layout_of}
+use Rattle.std.specs.Prelude.{◌≡◌, ◌≢◌, ◌⊎◌, ◌↔◌, ℕ, Bool, List, [], ◌∷◌, Some, None, length, take, slice_get, slice_set}
+use Rattle.pliron_core.specs.declared.context.Def.TheVariants.{Argument}
+use Rattle.pliron_core.specs.Tree.{Tree, In, IsInside, IsWithin, HoldsBlock, first_of, IsLive, IsBlock, IsDefined, row_of, operands_of, successors_of, results_of, regions_of, parent_of, body_of, arguments_of, block_parent_of, layout_of, slot_of, definition_of}
 use Rattle.pliron_core.specs.Writes.{after_replacing}
 use Rattle.pliron_laws.specs.Datum.{Head, Shape, Meaning}
+use Rattle.pliron_laws.specs.Linked.{IsAdmitted}
 use Rattle.pliron_laws.specs.Paths.{Path}
 use Rattle.pliron_theory.specs.Keeps.{IsFit, with_roots}
 use Rattle.pliron_theory.specs.Renaming.{MayUse}
@@ -80,3 +82,24 @@ pub record KeepsPassing (m : Meaning) (t u : Tree) (block : ℕ) (values : List 
   pub successors : (k : ℕ) → successors_of u k ≡ successors_of t k
   pub named : (k v : ℕ) → IsDefined t v → In v (operands_of u k) → In v (operands_of t k) ⊎ (In v values × In block (successors_of t k))
   pub may_pass : (b : ℕ) (others users : List ℕ) → MayPass m t b others users → MayPass m u b others users
+
+-- whatever was passed to the block for these users, all else is as before: places, edges, what is not forwarded there, and what
+-- other operations have; new values are arguments of the block; and what the dialect admitted it admits still
+pub record KeepsBesides (m : Meaning) (t u : Tree) (block : ℕ) (users : List ℕ) : Type 0 where
+  pub count : length u.operations ≡ length t.operations
+  pub live : (k : ℕ) → IsLive u k ↔ IsLive t k
+  pub results : (k : ℕ) → results_of u k ≡ results_of t k
+  pub regions : (k : ℕ) → regions_of u k ≡ regions_of t k
+  pub successors : (k : ℕ) → successors_of u k ≡ successors_of t k
+  pub parents : (k : ℕ) → parent_of u k ≡ parent_of t k
+  pub bodies : (b : ℕ) → body_of u b ≡ body_of t b
+  pub block_parents : (b : ℕ) → block_parent_of u b ≡ block_parent_of t b
+  pub layouts : (r : ℕ) → layout_of u r ≡ layout_of t r
+  pub slots : (r : ℕ) → slot_of u r ≡ slot_of t r
+  pub arguments : (b : ℕ) → b ≢ block → arguments_of u b ≡ arguments_of t b
+  pub rows : (k : ℕ) → (In block (successors_of t k) → ⊥) → row_of u k ≡ row_of t k
+  pub operands : (k : ℕ) → (In block (successors_of t k) → ⊥) → (In k users → ⊥) → operands_of u k ≡ operands_of t k
+  pub defined : (v : ℕ) → IsDefined t v → IsDefined u v
+  pub definitions : (v : ℕ) → IsDefined t v → definition_of u v ≡ definition_of t v
+  pub new : (v : ℕ) → IsDefined u v → IsDefined t v ⊎ ((i : ℕ) × (definition_of u v ≡ Some (Argument block i)))
+  pub admitted : (k : ℕ) → IsAdmitted m t k → IsAdmitted m u k

@@ -17,9 +17,11 @@ ghost use Rattle.pliron_rewrite_loops.specs.Pushing.{PushingLaw};
 ghost use Rattle.pliron_rewrite_loops.specs.Closing.{ClosingLaw};
 
 mod adding;
+mod closing;
 mod passing;
 
 pub use adding::add_argument;
+pub use closing::{Gate, close_header};
 pub use passing::{pass_value, pass_values};
 use pliron_laws::Dialect;
 use pliron_rewrite_arguments::one_value_replaces_argument;

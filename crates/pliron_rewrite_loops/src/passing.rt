@@ -5,7 +5,7 @@ ghost use Rattle.pliron_laws.specs.Datum.{Head};
 ghost use Rattle.pliron_theory.specs.Keeps.{IsFit, KeepsAllRuns, with_roots};
 ghost use Rattle.pliron_theory.specs.Renaming.{MayUse};
 ghost use Rattle.pliron_rewrite_arguments.specs.Finding.{IsEntry};
-ghost use Rattle.pliron_rewrite_loops.specs.Passing.{MayUseArguments, UsesArgument, operand_put, IsValuePassed, IsPassedInPart, MayPass, AreValuesPassed, AreSomePassed, KeepsPassing};
+ghost use Rattle.pliron_rewrite_loops.specs.Passing.{MayUseArguments, UsesArgument, operand_put, IsValuePassed, IsPassedInPart, MayPass, AreValuesPassed, AreSomePassed, KeepsPassing, KeepsBesides};
 
 use crate::adding::add_argument;
 use crate::arguments_are_pushed;
@@ -111,6 +111,7 @@ pub fn pass_value<D: LengthensEdges>(
     ensures none { IfOk result (λ o. IfNone o (ctx.new.tree ≡ ctx.old.tree)) }
     ensures refused { OnErr result ((ctx.new.tree ≡ ctx.old.tree) ⊎ ((argument : ℕ) × IsPassedInPart D.meaning
         D.shortened ctx.old.tree ctx.new.tree block value argument users.now)) }
+    ensures besides { KeepsBesides D.meaning ctx.old.tree ctx.new.tree block users.now }
     ensures memory { IsOkUnless result OptError.Memory }
     ensures runs { KeepsAllRuns D.meaning ctx.old.tree ctx.new.tree }
     ensures runs_back { KeepsAllRuns D.meaning ctx.new.tree ctx.old.tree }
@@ -147,6 +148,7 @@ pub fn pass_values<D: LengthensEdges>(
     ensures keeps { IfOk result (λ all. IsTrue all → KeepsPassing D.meaning ctx.old.tree ctx.new.tree block
         values.now) }
     ensures some { AreSomePassed D.meaning D.shortened ctx.old.tree ctx.new.tree block values.now users.now }
+    ensures besides { KeepsBesides D.meaning ctx.old.tree ctx.new.tree block users.now }
     ensures memory { IsOkUnless result OptError.Memory }
     ensures runs { KeepsAllRuns D.meaning ctx.old.tree ctx.new.tree }
     ensures runs_back { KeepsAllRuns D.meaning ctx.new.tree ctx.old.tree }

@@ -108,14 +108,13 @@ static RUN_STATUSES: &str =
      same is seen; 3 where one is cut off or something differs.";
 
 fn run<'a, P: Program>(alloc: Global, words: DataWords) -> Result<Command<'a>, AllocError> {
-    let (input, world) = P::data_help();
     let run = Command::new(alloc, "run")
         .about("Runs a text, and writes its effects as they come and how it ends")
         .after_help(RUN_STATUSES)
         .arg(file(alloc))?
         .arg(output(alloc))?
-        .arg(data(alloc, "input", input, words))?
-        .arg(data(alloc, "world", world, words))?
+        .arg(data(alloc, "input", P::input_help(), words))?
+        .arg(data(alloc, "world", P::world_help(), words))?
         .arg(steps(alloc))?
         .arg(flag(
             alloc,

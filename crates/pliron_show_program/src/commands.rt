@@ -4,9 +4,10 @@ use crate::inner::{inner_failure, lines_inside, operation_path};
 use crate::input::{CommandInput, input_name, read_graph_input, read_input};
 use crate::optimise::opt_as_asked;
 use crate::output::write_lines;
-use crate::pipeline::{pipeline_and_file, without_blanks};
+use crate::pipeline::pipeline_and_file;
 use crate::program::Program;
 use clap::ArgMatches;
+use pliron_driver::without_blanks;
 use pliron_show_commands::{
     CompareOptions, Datum, EffectSink, ExplainOptions, FlowOptions, JsonObject, Outcome,
     RunOptions, Runnable, ShownNotation, Source, TextRange, check, compare, draw_flow, draw_graph,

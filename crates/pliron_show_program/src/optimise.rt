@@ -1,8 +1,9 @@
 //! The command `opt`.
 use crate::format::TextFormat;
 use crate::input::CommandInput;
-use crate::pipeline::{first_passes, without_blanks};
+use crate::pipeline::first_passes;
 use clap::ArgMatches;
+use pliron_driver::without_blanks;
 use pliron_show_changes::{
     StageOptions, StageReport, run_stages, write_named_answer, write_renamed_answer,
 };

@@ -43,12 +43,14 @@ pub trait Program {
         ""
     }
 
-    /// What its help says of the options `--input` and `--world` of `run`, in turn. Cost: constant.
-    fn data_help() -> (&'static str, &'static str) {
-        (
-            "A value for the text's operation; once for each, in order",
-            "What the world answers to an effect; once for each, in order",
-        )
+    /// What its help says of the option `--input` of `run`. Cost: constant.
+    fn input_help() -> &'static str {
+        "A value for the text's operation; once for each, in order"
+    }
+
+    /// What its help says of the option `--world` of `run`. Cost: constant.
+    fn world_help() -> &'static str {
+        "What the world answers to an effect; once for each, in order"
     }
 
     /// Whether `run` takes other data by these words than numbers of 64 signed bits. Cost: constant.

@@ -7,6 +7,7 @@ use Rattle.pliron_theory.specs.Keeps.{with_roots}
 use Rattle.pliron_theory.proofs.Keeping.{keeps_refl, keeps_trans}
 use Rattle.pliron_rewrite_loops.specs.Passing.{IsValuePassed, AreValuesPassed}
 use Rattle.pliron_rewrite_loops.proofs.Passed.{apart_from, defined_still, successors_still, named_leading, may_still}
+use Rattle.pliron_rewrite_loops.proofs.Besides.{besides_refl, besides_trans}
 use Rattle.pliron_rewrite_loops.proofs.PassedInTurn.{take_past, one_more_passed}
 use Rattle.pliron_rewrite_loops.proofs.passing.pass_values.Goals as goal
 
@@ -15,6 +16,7 @@ loop-i-init g c =
     record {
       tree = c.well_formed-2.ensures.tree;
       keeps = record { successors = λ k. refl; named = λ k y d i. inl i; may_pass = λ b others users q. q };
+      besides = besides_refl g.D.HasMeaning.meaning c.args.ctx.now.tree c.args.block c.args.users.now;
       defined = λ y d. d;
       forth = λ chosen. keeps_refl (with_roots g.D.HasMeaning.meaning chosen) c.args.ctx.now.tree;
       back = λ chosen. keeps_refl (with_roots g.D.HasMeaning.meaning chosen) c.args.ctx.now.tree;
@@ -101,6 +103,7 @@ loop-i-preserved g c =
             (named_leading m _ _ sh law c.loop-i.ctx.tree p.passed.middle c.args.block v _ c.loop-i.invariant.tree (c.loop-i.invariant.keeps.may_pass c.args.block c.args.values.now c.args.users.now c.requires).stands d entry p.passed.added c.pass_value.new.ctx.tree c.args.users.now w' p.passed.used k y (apart_from m _ _ sh law c.loop-i.ctx.tree p.passed.middle c.args.block v _ c.loop-i.invariant.tree (c.loop-i.invariant.keeps.may_pass c.args.block c.args.values.now c.args.users.now c.requires).stands d entry p.passed.added y (c.loop-i.invariant.defined y q)) j);
         may_pass = λ b others users q. may_still m _ _ sh law c.loop-i.ctx.tree p.passed.middle c.args.block v _ c.loop-i.invariant.tree (c.loop-i.invariant.keeps.may_pass c.args.block c.args.values.now c.args.users.now c.requires).stands d entry p.passed.added c.pass_value.new.ctx.tree c.args.users.now w' p.passed.used b others users (c.loop-i.invariant.keeps.may_pass b others users q) c.in_ok-pass_value.ensures.runs c.in_ok-pass_value.ensures.runs_back;
       };
+      besides = besides_trans g.D.HasMeaning.meaning c.args.ctx.now.tree c.loop-i.ctx.tree c.pass_value.new.ctx.tree c.args.block c.args.users.now c.loop-i.invariant.besides c.in_ok-pass_value.ensures.besides;
       defined = λ y q. defined_still m _ _ sh law c.loop-i.ctx.tree p.passed.middle c.args.block v _ c.loop-i.invariant.tree (c.loop-i.invariant.keeps.may_pass c.args.block c.args.values.now c.args.users.now c.requires).stands d entry p.passed.added c.pass_value.new.ctx.tree c.args.users.now w' p.passed.used y (c.loop-i.invariant.defined y q);
       forth = λ chosen. keeps_trans (with_roots g.D.HasMeaning.meaning chosen) c.args.ctx.now.tree c.loop-i.ctx.tree c.pass_value.new.ctx.tree (c.loop-i.invariant.forth chosen) (c.in_ok-pass_value.ensures.runs chosen);
       back = λ chosen. keeps_trans (with_roots g.D.HasMeaning.meaning chosen) c.pass_value.new.ctx.tree c.loop-i.ctx.tree c.args.ctx.now.tree (c.in_ok-pass_value.ensures.runs_back chosen) (c.loop-i.invariant.back chosen);
@@ -142,3 +145,14 @@ returns-clause-runs g c =
 pub returns-clause-runs_back : goal.returns-clause-runs_back
 returns-clause-runs_back g c =
     c.loop-i.invariant.back
+
+pub returns-in_err-pass_value-clause-besides : goal.returns-in_err-pass_value-clause-besides
+returns-in_err-pass_value-clause-besides g c =
+    besides_trans g.D.HasMeaning.meaning c.args.ctx.now.tree c.loop-i.ctx.tree c.pass_value.new.ctx.tree c.args.block c.args.users.now c.loop-i.invariant.besides c.in_err-pass_value.ensures.besides
+
+pub returns-in_default-clause-besides : goal.returns-in_default-clause-besides
+returns-in_default-clause-besides g c =
+    besides_trans g.D.HasMeaning.meaning c.args.ctx.now.tree c.loop-i.ctx.tree c.pass_value.new.ctx.tree c.args.block c.args.users.now c.loop-i.invariant.besides c.in_ok-pass_value.ensures.besides
+
+pub returns-clause-besides : goal.returns-clause-besides
+returns-clause-besides g c = c.loop-i.invariant.besides

@@ -1,0 +1,2 @@
+pub mod ShownEffects
+pub mod ErasedFunctions

@@ -1,0 +1,3 @@
+pub mod ErasedFunctions
+pub mod Callers
+pub mod CallersByRole
