@@ -1,0 +1,9 @@
+//! Tests of modules of LLVM's textual IR through passes. It has no function of its own.
+#![tactic(auto)]
+
+#[cfg(test)]
+mod endings;
+#[cfg(test)]
+mod lines;
+#[cfg(test)]
+mod rows;
