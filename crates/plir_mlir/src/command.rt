@@ -21,7 +21,9 @@ go to what results and arguments are), `combine` (rewrite rules),
 runs them until nothing changes, at most N times, from 1 to 64,
 `nested:LIST` on each operation directly inside:
 `repeat:8:sccp,cse,simplify-cfg,dce`. An empty word, `''`, runs none.
-Before them `inline;` inlines calls of the module's functions";
+Before them, in this order, `inline;` inlines calls of the module's
+functions, `rotate;` moves the tests of loops to their ends, and
+`symbol-dce;` erases private functions that nothing names any more";
 
 /// The help of the program. Cost: constant.
 pub fn help() -> ProgramHelp<'static> {

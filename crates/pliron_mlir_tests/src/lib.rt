@@ -13,6 +13,8 @@ mod combined;
 #[cfg(test)]
 mod edges;
 #[cfg(test)]
+mod erased;
+#[cfg(test)]
 mod function_tables;
 #[cfg(test)]
 mod functions;
@@ -36,6 +38,8 @@ mod outcomes;
 mod printed;
 #[cfg(test)]
 mod properties;
+#[cfg(test)]
+mod rotated;
 #[cfg(test)]
 mod rows;
 #[cfg(test)]
