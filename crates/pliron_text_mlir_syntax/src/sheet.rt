@@ -103,6 +103,10 @@ pub struct Sheet {
     behind: Vec<u8>,
     /// How many calls were inlined in the tree since its text was read.
     pub inlined: usize,
+    /// How many loops were rotated.
+    pub rotated: usize,
+    /// How many functions were erased, since nothing named them.
+    pub erased: usize,
 }
 
 impl Sheet {
@@ -120,6 +124,8 @@ impl Sheet {
             before: Vec::new(alloc),
             behind: Vec::new(alloc),
             inlined: 0,
+            rotated: 0,
+            erased: 0,
         }
     }
 
