@@ -46,7 +46,7 @@ impl PlannedConstants {
 }
 
 // The constant of this text made anew.
-#[tactic(auto, using(pliron_text_llvm_sheets::proofs::KeepingLemmas::sheet_steps))]
+#[tactic(auto, using(crate::proofs::ValueLemmas::planned_kept, crate::proofs::ValueLemmas::planned_anew, pliron_text_llvm_sheets::proofs::KeepingLemmas::sheet_steps))]
 fn plan_undefined(
     text: &[u8],
     sheet: &mut LlvmSheet,
@@ -63,7 +63,7 @@ fn plan_undefined(
 }
 
 // The constant of this text, of a type with this width, which gets a number where it is new.
-#[tactic(auto, using(pliron_text_llvm_sheets::proofs::KeepingLemmas::sheet_steps))]
+#[tactic(auto, using(crate::proofs::ValueLemmas::planned_kept, crate::proofs::ValueLemmas::planned_shared, pliron_text_llvm_sheets::proofs::KeepingLemmas::sheet_steps))]
 fn plan_constant(
     text: &[u8],
     width: u32,
@@ -82,7 +82,7 @@ fn plan_constant(
 /// What is in the hole, whose type has this width: a value of the function; a constant, which gets a number where it is
 /// new; or one that is made anew, since it may be another value each time. Errors: allocation failure. Cost: linear in
 /// its text.
-#[tactic(auto, using(pliron_text_llvm_sheets::proofs::KeepingLemmas::sheet_steps))]
+#[tactic(auto, using(crate::proofs::ValueLemmas::planned_kept, pliron_text_llvm_sheets::proofs::KeepingLemmas::sheet_steps))]
 pub fn plan_value(
     alloc: Global,
     source: FunctionSource<'_>,
