@@ -42,6 +42,42 @@ fn position_behind(text: &[u8], found: FoundPlace, place: usize) -> LineAndColum
     }
 }
 
+// Writes a line on a function that is kept, whose place is found by one that was found. Answers its place.
+fn write_part(
+    notes: &mut String,
+    source: &ModuleSource,
+    found: FoundPlace,
+    part: &KeptPart,
+) -> Result<FoundPlace, AllocError> {
+    let before = if part.place < found.place {
+        START
+    } else {
+        found
+    };
+    let position = position_behind(source.text, before, part.place);
+    let (name, line, column, reason) = (source.name, position.line, position.column, part.reason);
+    write!(notes, "{name}:{line}:{column}: kept for {reason}\n")?;
+    Ok(FoundPlace {
+        place: part.place,
+        position,
+    })
+}
+
+// Writes how many functions are kept, and a line on each.
+fn write_parts(
+    notes: &mut String,
+    kept: &[KeptPart],
+    source: &ModuleSource,
+) -> Result<(), AllocError> {
+    let count = kept.len();
+    write!(notes, "functions kept as they are written: {count}\n")?;
+    let mut found = START;
+    for part in kept {
+        found = write_part(notes, source, found, part)?;
+    }
+    Ok(())
+}
+
 /// Lines on the functions that are kept as they are written, in the order of the text. Errors: allocation failure. Cost: linear in
 /// the text and in them.
 pub(crate) fn kept_notes(
@@ -49,20 +85,9 @@ pub(crate) fn kept_notes(
     kept: &[KeptPart],
     source: &ModuleSource,
 ) -> Result<String, AllocError> {
-    let (count, name) = (kept.len(), source.name);
-    let mut notes = format!(in alloc; "functions kept as they are written: {count}\n")?;
-    let mut found = START;
-    for part in kept {
-        if part.place < found.place {
-            found = START;
-        }
-        let position = position_behind(source.text, found, part.place);
-        let (line, column, reason) = (position.line, position.column, part.reason);
-        write!(notes, "{name}:{line}:{column}: kept for {reason}\n")?;
-        found = FoundPlace {
-            place: part.place,
-            position,
-        };
+    let mut notes = String::new(alloc);
+    match write_parts(&mut notes, kept, source) {
+        Ok(()) => Ok(notes),
+        Err(error) => Err(error),
     }
-    Ok(notes)
 }

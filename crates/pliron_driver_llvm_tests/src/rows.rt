@@ -1,5 +1,6 @@
 //! Functions that passes optimise, each alone in a module, worked by hand. `|` stands for the end of a line, and `same` in
 //! the place of an answer for the text itself.
+use crate::lines::with_lines;
 use pliron_dialect_mlir::{AnyMeaning, Mlir};
 use pliron_driver_instrument::Timeless;
 use pliron_driver_llvm::LlvmText;
@@ -46,17 +47,6 @@ static NOTHING: ModuleOptions = ModuleOptions {
     checks: false,
 };
 
-// The text with an end of a line for each `|`.
-fn with_lines(rt: &impl Abort, alloc: Global, text: &str) -> String {
-    let mut lines = String::new(alloc);
-    for letter in text.chars() {
-        lines
-            .push(if letter == '|' { '\n' } else { letter })
-            .expect(rt, "memory");
-    }
-    lines
-}
-
 // What the passes of the word leave of the text, or what is reported.
 fn optimised(rt: &impl Abort, alloc: Global, word: &str, text: &str) -> String {
     let Ok(plan) = read_plan(alloc, word) else {
@@ -80,9 +70,9 @@ fn optimises_functions(rt: HostRuntime) {
     for case in ROWS.lines() {
         let (name, row) = case.split_once(" -- ").expect(&rt, "a name");
         let (text, answer) = row.split_once(" => ").expect(&rt, "an answer");
-        let before = with_lines(&rt, rt.alloc(), text);
+        let before = with_lines(rt.alloc(), text).expect(&rt, "memory");
         let wanted = if answer == "same" { text } else { answer };
-        let after = with_lines(&rt, rt.alloc(), wanted);
+        let after = with_lines(rt.alloc(), wanted).expect(&rt, "memory");
         let found = optimised(&rt, rt.alloc(), PIPELINE, before.as_str());
         assert!(rt; found.as_str() == after.as_str(), "{name}: {found}");
     }
@@ -92,7 +82,7 @@ fn optimises_functions(rt: HostRuntime) {
 fn prints_modules_as_they_are(rt: HostRuntime) {
     for case in MODULES.lines() {
         let (name, row) = case.split_once(" -- ").expect(&rt, "a name");
-        let text = with_lines(&rt, rt.alloc(), row);
+        let text = with_lines(rt.alloc(), row).expect(&rt, "memory");
         let found = optimised(&rt, rt.alloc(), "", text.as_str());
         assert!(rt; found.as_str() == text.as_str(), "{name}: {found}");
     }

@@ -105,6 +105,15 @@ fn write_fitness(
     Ok(())
 }
 
+// Lines on how many functions are fit to run, and on each other one.
+fn notes_on(alloc: Global, fitness: &Fitness, source: &ModuleSource) -> Result<String, AllocError> {
+    let mut notes = String::new(alloc);
+    match write_fitness(&mut notes, fitness, source) {
+        Ok(()) => Ok(notes),
+        Err(error) => Err(error),
+    }
+}
+
 /// Lines on which functions of the module are fit to run. Asks that the module's operation is live (`is_live` tests it). Errors:
 /// allocation failure. Cost: that of `find_violation` for each function, and linear in the text, once for each function that isn't fit.
 pub(crate) fn fitness_notes<D: Dialect>(
@@ -115,8 +124,8 @@ pub(crate) fn fitness_notes<D: Dialect>(
 ) -> Result<String, OptError>
     requires { IsLive ctx.now.tree loaded.now.root }
 {
-    let fitness = fitness_of::<D>(alloc, loaded, ctx)?;
-    let mut notes = String::new(alloc);
-    write_fitness(&mut notes, &fitness, source)?;
-    Ok(notes)
+    match fitness_of::<D>(alloc, loaded, ctx) {
+        Ok(fitness) => Ok(notes_on(alloc, &fitness, source)?),
+        Err(error) => Err(error),
+    }
 }

@@ -34,8 +34,7 @@ fn check_through(rt: &impl Abort, alloc: Global, ctx: &mut Context, case: &Case)
     let mut rewriter = CountingListener::new();
     assert!(rt; root.is_live(ctx));
     assert!(rt; is_well_linked::<Bench>(root, ctx));
-    let loops =
-        rotate_loops_through::<Bench, CountingListener>(alloc, root, ctx, &mut rewriter);
+    let loops = rotate_loops_through::<Bench, CountingListener>(alloc, root, ctx, &mut rewriter);
     assert_eq!(rt; letter(&loops), case.answer, "{}", case.name);
     assert!(rt; rewriter.had_room(), "{}", case.name);
 }
