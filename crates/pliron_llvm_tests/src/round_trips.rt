@@ -27,6 +27,12 @@ a switch with two equal edges -- define i32 @f(i32 %x, i32 %v) {|  switch i32 %x
 flags and attachments of a phi -- define float @f(i1 %c, float %a) {|e:|  br i1 %c, label %t, label %d||t:|  br label %d||d:|  %z = phi nnan float [ %a, %e ], [ 1.0, %t ], !dbg !7|  ret float %z|}
 an invoke -- define void @f() personality ptr @p {|  invoke void @g()|          to label %n unwind label %u||n:|  ret void||u:|  %l = landingpad { ptr, i32 }|          cleanup|  resume { ptr, i32 } %l|}
 undef -- define i32 @f(i32 %x) {|  %y = add i32 undef, %x|  ret i32 undef|}
+an invoke that gives a value -- define i32 @f(ptr %p) personality ptr @q {|  %r = invoke i32 @g(ptr %p)|          to label %n unwind label %u||n:|  %s = add i32 %r, 1|  br label %m||m:|  %x = phi i32 [ %r, %n ]|  %y = add i32 %x, %s|  ret i32 %y||u:|  %l = landingpad { ptr, i32 }|          cleanup|  resume { ptr, i32 } %l|}
+numbers of what invokes give -- define i32 @f() personality ptr @q {|  %1 = invoke i32 @g()|          to label %2 unwind label %6||2:|  %3 = invoke i32 @h(i32 %1)|          to label %4 unwind label %6||4:|  %5 = sub i32 %3, %1|  ret i32 %5||6:|  %7 = phi i32 [ 1, %0 ], [ 2, %2 ]|  %8 = landingpad { ptr, i32 }|          cleanup|  call void @k(i32 %7)|  resume { ptr, i32 } %8|}
+an invoke that gives what nothing reads -- define void @f() personality ptr @q {|  %r = invoke i32 @g()|          to label %n unwind label %u||n:|  ret void||u:|  %l = landingpad { ptr, i32 }|          cleanup|  resume { ptr, i32 } %l|}
+undef and poison on edges -- define i32 @f(i1 %c, i1 %d) {|a:|  br i1 %c, label %b, label %e||b:|  br i1 %d, label %e, label %k||k:|  br label %e||e:|  %x = phi i32 [ undef, %a ], [ undef, %b ], [ 1, %k ]|  %y = phi i32 [ poison, %a ], [ 2, %b ], [ poison, %k ]|  %z = phi <2 x i32> [ <i32 undef, i32 1>, %a ], [ undef, %b ], [ zeroinitializer, %k ]|  %s = add i32 %x, %y|  call void @h(<2 x i32> %z)|  ret i32 %s|}
+undef around a loop -- define i32 @f(i32 %n) {|e:|  br label %h||h:|  %i = phi i32 [ 0, %e ], [ %j, %h ]|  %v = phi i32 [ undef, %e ], [ undef, %h ]|  %j = add nsw i32 %i, 1|  %c = icmp slt i32 %j, %n|  br i1 %c, label %h, label %x||x:|  ret i32 %v|}
+undef on two edges from one block -- define i32 @f(i1 %c) {|  br i1 %c, label %d, label %d||d:|  %y = phi i32 [ undef, %0 ], [ undef, %0 ]|  ret i32 %y|}
 what can't be reached -- define void @f() {|  unreachable||b:|  ret void|}";
 
 /// Functions, and how they are printed.
@@ -34,6 +40,7 @@ static OTHER: &str = "\
 numbers that skip -- define i32 @f(i32 %x) {|  %7 = add i32 %x, 1|  %\"9\" = add i32 %7, 2|  ret i32 %\"9\"|} => define i32 @f(i32 %x) {|  %1 = add i32 %x, 1|  %\"9\" = add i32 %1, 2|  ret i32 %\"9\"|}
 a comment is dropped between statements -- define void @f() {|  ; a|  call void @g() ; b|  ret void|} => define void @f() {|  call void @g()|  ret void|}
 entries in another order -- define i32 @f(i1 %c) {|a:|  br i1 %c, label %b, label %d|b:|  br label %d|d:|  %y = phi i32 [ 2, %b ], [ 1, %a ]|  ret i32 %y|} => define i32 @f(i1 %c) {|a:|  br i1 %c, label %b, label %d||b:|  br label %d||d:|  %y = phi i32 [ 1, %a ], [ 2, %b ]|  ret i32 %y|}
+an invoke that gives a value to a block with another edge -- define i32 @f(i1 %c) personality ptr @q {|  br i1 %c, label %a, label %n|a:|  %r = invoke i32 @g() to label %n unwind label %u|n:|  %x = phi i32 [ 0, %0 ], [ %r, %a ]|  ret i32 %x|u:|  %l = landingpad { ptr, i32 } cleanup|  resume { ptr, i32 } %l|} => kept at 78: a value that an invoke gives to a block to which other edges lead
 truths and signs -- define i1 @f(i8 %x) {|  %c = icmp eq i8 %x, 200|  %d = xor i1 %c, -1|  ret i1 %d|} => define i1 @f(i8 %x) {|  %c = icmp eq i8 %x, -56|  %d = xor i1 %c, true|  ret i1 %d|}";
 
 // The function, printed from its tree.

@@ -178,7 +178,7 @@ fn constant_head(
 ) -> Result<Head, BuildStop>
     ensures { IfOk result (λ head. IsTextHead head) }
 {
-    match plan.constants.get(number) {
+    match plan.constants.table.get(number) {
         Some(constant) if constant.width <= 65 => {
             let text = sheet.text(constant.text);
             Ok(head_of_constant(alloc, constant.width, text, constant.text)?)
@@ -219,8 +219,63 @@ pub fn add_constants(
     ensures added { AddsText ctx.old.tree ctx.new.tree }
     ensures sheet { KeepsSheet sheet.old sheet.new }
 {
-    for number in 0..plan.constants.num_constant() {
+    for number in 0..plan.constants.table.num_constant() {
         add_constant(plan, number, ctx, sheet, built)?;
+    }
+    Ok(())
+}
+
+// The head of the constant of this number that is made anew.
+fn undefined_head(
+    alloc: Global,
+    plan: &FunctionPlan,
+    number: usize,
+    sheet: &LlvmSheet,
+) -> Result<Head, BuildStop>
+    ensures { IfOk result (λ head. IsTextHead head) }
+{
+    match plan.constants.undefined.get(number) {
+        Some(text) => Ok(head_of_constant(alloc, 0, sheet.text(*text), *text)?),
+        None => Err(no_value(0)),
+    }
+}
+
+// Makes the constant of this number that is made anew, last in the block of this number.
+#[tactic(auto, using(crate::proofs::AdditionLemmas::addition_steps, pliron_text_llvm_sheets::proofs::KeepingLemmas::sheet_steps))]
+fn add_undefined(
+    plan: &FunctionPlan,
+    number: usize,
+    block: usize,
+    ctx: &mut Context,
+    sheet: &mut LlvmSheet,
+    built: &mut BuiltParts,
+) -> Result<(), BuildStop>
+    ensures added { AddsText ctx.old.tree ctx.new.tree }
+    ensures sheet { KeepsSheet sheet.old sheet.new }
+{
+    let head = undefined_head(built.alloc, plan, number, sheet)?;
+    let op = make_operation(head, 1, built.block(block), 0, ctx)?;
+    match first_result(op, ctx) {
+        Some(value) => built.push_undefined(value, sheet),
+        None => Err(no_value(0)),
+    }
+}
+
+// Makes the constants that the planned operation reads and that are made anew, last in its block.
+#[tactic(auto, using(crate::proofs::AdditionLemmas::addition_steps, pliron_text_llvm_sheets::proofs::KeepingLemmas::sheet_steps))]
+fn add_undefined_of(
+    plan: &FunctionPlan,
+    planned: &OperationPlan,
+    ctx: &mut Context,
+    sheet: &mut LlvmSheet,
+    built: &mut BuiltParts,
+) -> Result<(), BuildStop>
+    ensures added { AddsText ctx.old.tree ctx.new.tree }
+    ensures sheet { KeepsSheet sheet.old sheet.new }
+{
+    let (first, count) = planned.undefined;
+    for number in first..first.saturating_add(count) {
+        add_undefined(plan, number, planned.block, ctx, sheet, built)?;
     }
     Ok(())
 }
@@ -260,7 +315,7 @@ fn define_result(
     }
 }
 
-// Makes the planned operation.
+// Makes the planned operation, behind the constants that are made anew for it.
 #[tactic(auto, using(crate::proofs::AdditionLemmas::addition_steps, pliron_text_llvm_sheets::proofs::KeepingLemmas::sheet_steps))]
 fn add_operation(
     plan: &FunctionPlan,
@@ -272,6 +327,7 @@ fn add_operation(
     ensures added { AddsText ctx.old.tree ctx.new.tree }
     ensures sheet { KeepsSheet sheet.old sheet.new }
 {
+    add_undefined_of(plan, planned, ctx, sheet, built)?;
     let head = operation_head(built.alloc, plan, planned, sheet)?;
     let results = if planned.result.is_some() { 1 } else { 0 };
     let block = built.block(planned.block);

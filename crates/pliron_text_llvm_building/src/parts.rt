@@ -18,8 +18,22 @@ pub struct BuiltParts {
     values: Vec<Option<Value>>,
     /// By the numbers of constants.
     constants: Vec<Value>,
+    /// By the numbers of constants that are made anew.
+    undefined: Vec<Value>,
     /// By the numbers of planned operations.
     pub operations: Vec<Ptr<Operation>>,
+}
+
+// Notes that the value is a constant.
+#[tactic(auto, using(pliron_text_llvm_sheets::proofs::KeepingLemmas::sheet_steps))]
+fn note_constant(value: Value, sheet: &mut LlvmSheet) -> Result<(), BuildStop>
+    ensures { KeepsSheet sheet.old sheet.new }
+{
+    let note = ValueNote {
+        origin: ValueOrigin::Constant,
+        name: None,
+    };
+    Ok(sheet.note_value(value.key() as usize, note)?)
 }
 
 impl BuiltParts {
@@ -30,6 +44,7 @@ impl BuiltParts {
             blocks: Vec::new(alloc),
             values: Vec::new(alloc),
             constants: Vec::new(alloc),
+            undefined: Vec::new(alloc),
             operations: Vec::new(alloc),
         }
     }
@@ -65,12 +80,18 @@ impl BuiltParts {
     pub fn push_constant(&mut self, value: Value, sheet: &mut LlvmSheet) -> Result<(), BuildStop>
         ensures { KeepsSheet sheet.old sheet.new }
     {
-        let note = ValueNote {
-            origin: ValueOrigin::Constant,
-            name: None,
-        };
         self.constants.push(value)?;
-        Ok(sheet.note_value(value.key() as usize, note)?)
+        note_constant(value, sheet)
+    }
+
+    /// The next constant that is made anew is the value, which the sheet notes. Errors: allocation failure. Cost:
+    /// constant, amortised.
+    #[tactic(auto, using(pliron_text_llvm_sheets::proofs::KeepingLemmas::sheet_steps))]
+    pub fn push_undefined(&mut self, value: Value, sheet: &mut LlvmSheet) -> Result<(), BuildStop>
+        ensures { KeepsSheet sheet.old sheet.new }
+    {
+        self.undefined.push(value)?;
+        note_constant(value, sheet)
     }
 
     /// The block of this number, if it is made. Cost: constant.
@@ -91,6 +112,7 @@ impl BuiltParts {
                 None => None,
             },
             PlannedValue::Constant(number) => self.constants.get(number).copied(),
+            PlannedValue::Undefined(number) => self.undefined.get(number).copied(),
         }
     }
 }

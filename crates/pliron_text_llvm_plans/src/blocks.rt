@@ -1,7 +1,8 @@
 //! Plans of blocks and their arguments.
 ghost use Rattle.pliron_text_llvm_sheets.specs.Sheets.{KeepsSheet};
 
-use crate::names::{name_of, name_of_block, name_of_parameter};
+use crate::given::plan_definition;
+use crate::names::{name_of_block, name_of_parameter};
 use crate::plan::{FunctionPlan, FunctionSource, PlannedArgument, PlannedBlock, PlannedDefinition};
 use crate::statements::{read_form, statement_at};
 use crate::stop::{KeptForPlan, PlanStop};
@@ -71,13 +72,8 @@ fn argument_with_form(
 {
     let widths = operand_widths_of_form(alloc, form)?;
     let origin = ValueOrigin::Phi(sheet.number(form)?);
-    let number = argument.definition;
-    let name = name_of(source.text, source.reading.definitions.get(number), sheet)?;
     Ok(PlannedArgument {
-        definition: PlannedDefinition {
-            number,
-            note: ValueNote { origin, name },
-        },
+        definition: plan_definition(source, argument.definition, origin, sheet)?,
         width: widths.first().copied().unwrap_or(0),
     })
 }
@@ -160,12 +156,34 @@ fn plan_arguments(
     }
 }
 
-// Plans the block of this number, and its arguments.
+// Plans the last argument of the block, if an invoke gives this definition to it.
+#[tactic(auto, using(pliron_text_llvm_sheets::proofs::KeepingLemmas::sheet_steps))]
+fn plan_given(
+    source: FunctionSource<'_>,
+    given: Option<usize>,
+    sheet: &mut LlvmSheet,
+    plan: &mut FunctionPlan,
+) -> Result<(), PlanStop>
+    ensures { KeepsSheet sheet.old sheet.new }
+{
+    let Some(number) = given else {
+        return Ok(());
+    };
+    let definition = plan_definition(source, number, ValueOrigin::Given, sheet)?;
+    plan.arguments.push(PlannedArgument {
+        definition,
+        width: 0,
+    })?;
+    Ok(())
+}
+
+// Plans the block of this number, and its arguments, of which an invoke may give the last one.
 #[tactic(auto, using(pliron_text_llvm_sheets::proofs::KeepingLemmas::sheet_steps))]
 fn plan_block(
     alloc: Global,
     source: FunctionSource<'_>,
     number: usize,
+    given: Option<usize>,
     sheet: &mut LlvmSheet,
     plan: &mut FunctionPlan,
 ) -> Result<(), PlanStop>
@@ -176,6 +194,7 @@ fn plan_block(
     let name = name_of_block(source.text, body, line, sheet)?;
     let first = plan.arguments.len();
     plan_arguments(alloc, source, number, sheet, plan)?;
+    plan_given(source, given, sheet, plan)?;
     let count = plan.arguments.len().saturating_sub(first);
     plan.blocks.push(PlannedBlock {
         name,
@@ -184,19 +203,22 @@ fn plan_block(
     Ok(())
 }
 
-/// Plans the blocks of a function, each with its arguments. Errors: a phi has no form, or a comment or a string in it, and
+/// Plans the blocks of a function, each with its arguments, of which an invoke gives the last one where there is a
+/// definition that is `given` to the block. Errors: a phi has no form, or a comment or a string in it, and
 /// so the function is kept as it is written; allocation failure. Cost: linear in the blocks and the phis.
 #[tactic(auto, using(pliron_text_llvm_sheets::proofs::KeepingLemmas::sheet_steps))]
 pub fn plan_blocks(
     alloc: Global,
     source: FunctionSource<'_>,
+    given: &[Option<usize>],
     sheet: &mut LlvmSheet,
     plan: &mut FunctionPlan,
 ) -> Result<(), PlanStop>
     ensures { KeepsSheet sheet.old sheet.new }
 {
     for number in 0..source.reading.body.blocks.len() {
-        plan_block(alloc, source, number, sheet, plan)?;
+        let given = given.get(number).copied().unwrap_or(None);
+        plan_block(alloc, source, number, given, sheet, plan)?;
     }
     Ok(())
 }

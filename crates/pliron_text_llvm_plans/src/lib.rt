@@ -1,8 +1,10 @@
 //! What is to be built of functions in LLVM's textual IR, by numbers: operations with their forms and operands, edges with
-//! what they pass, and a constant for each type and text; and what a sheet notes of values and blocks.
+//! what they pass, and constants, of which those that are the same each time are shared; and what a sheet notes of values and
+//! blocks.
 #![tactic(auto)]
 
 mod blocks;
+mod given;
 mod names;
 mod operations;
 mod plan;
@@ -16,4 +18,4 @@ pub use plan::{
 };
 pub use statements::read_form;
 pub use stop::{KeptForPlan, PlanStop};
-pub use values::{PlannedValue, plan_value};
+pub use values::{PlannedConstants, PlannedValue, plan_value};

@@ -2,19 +2,20 @@
 ghost use Rattle.pliron_text_llvm_sheets.specs.Sheets.{KeepsSheet};
 
 use crate::blocks::plan_blocks;
-use crate::names::name_of;
+use crate::given::{given_by_block, plan_definition};
 use crate::plan::{FunctionPlan, FunctionSource, OperationPlan, PlannedDefinition};
 use crate::statements::{read_form, statement_at};
 use crate::stop::PlanStop;
 use crate::values::plan_value;
 use pliron_text_llvm_classes::{FormCounts, operand_widths_of_form};
-use pliron_text_llvm_sheets::{LlvmSheet, ValueNote, ValueOrigin};
+use pliron_text_llvm_sheets::{LlvmSheet, ValueOrigin};
 use pliron_text_llvm_trees::{TreeEdge, TreeStatement};
 use std::alloc::{AllocError, Global};
 
 // Adds the operand that is in the hole, whose type has this width.
 #[tactic(auto, using(pliron_text_llvm_sheets::proofs::KeepingLemmas::sheet_steps))]
 fn push_operand(
+    alloc: Global,
     source: FunctionSource<'_>,
     width: u32,
     hole: usize,
@@ -23,14 +24,7 @@ fn push_operand(
 ) -> Result<(), PlanStop>
     ensures { KeepsSheet sheet.old sheet.new }
 {
-    let value = plan_value(
-        source.text,
-        source.reading,
-        width,
-        hole,
-        sheet,
-        &mut plan.constants,
-    )?;
+    let value = plan_value(alloc, source, width, hole, sheet, &mut plan.constants)?;
     plan.operands.push(value)?;
     Ok(())
 }
@@ -38,6 +32,7 @@ fn push_operand(
 // Adds the operands in the holes, whose types have these widths.
 #[tactic(auto, using(pliron_text_llvm_sheets::proofs::KeepingLemmas::sheet_steps))]
 fn push_operands(
+    alloc: Global,
     source: FunctionSource<'_>,
     widths: &[u32],
     holes: &[usize],
@@ -48,7 +43,7 @@ fn push_operands(
 {
     for i in 0..holes.len() {
         let width = widths.get(i).copied().unwrap_or(0);
-        push_operand(source, width, holes[i], sheet, plan)?;
+        push_operand(alloc, source, width, holes[i], sheet, plan)?;
     }
     Ok(())
 }
@@ -56,6 +51,7 @@ fn push_operands(
 // Adds the edge, and what it passes.
 #[tactic(auto, using(pliron_text_llvm_sheets::proofs::KeepingLemmas::sheet_steps))]
 fn push_edge(
+    alloc: Global,
     source: FunctionSource<'_>,
     edge: &TreeEdge,
     sheet: &mut LlvmSheet,
@@ -67,7 +63,7 @@ fn push_edge(
         let width = plan
             .argument(edge.edge.to, i)
             .map_or(0, |argument| argument.width);
-        push_operand(source, width, edge.passed[i], sheet, plan)?;
+        push_operand(alloc, source, width, edge.passed[i], sheet, plan)?;
     }
     plan.successors.push(edge.edge.to)?;
     plan.passed.push(edge.passed.len())?;
@@ -77,6 +73,7 @@ fn push_edge(
 // Adds the edges from the block that come next, from as many as there are already on.
 #[tactic(auto, using(pliron_text_llvm_sheets::proofs::KeepingLemmas::sheet_steps))]
 fn push_edges_from(
+    alloc: Global,
     source: FunctionSource<'_>,
     block: usize,
     sheet: &mut LlvmSheet,
@@ -86,31 +83,30 @@ fn push_edges_from(
 {
     for number in plan.successors.len()..source.tree.edges.len() {
         match source.tree.edges.get(number) {
-            Some(edge) if edge.edge.from == block => push_edge(source, edge, sheet, plan)?,
+            Some(edge) if edge.edge.from == block => push_edge(alloc, source, edge, sheet, plan)?,
             _ => break,
         }
     }
     Ok(())
 }
 
-// What the statement gives, if something.
+// What the operation gives, if something: of what ends a block it is an argument of the next one.
 #[tactic(auto, using(pliron_text_llvm_sheets::proofs::KeepingLemmas::sheet_steps))]
 fn plan_result(
     source: FunctionSource<'_>,
+    is_end: bool,
     given: Option<usize>,
     sheet: &mut LlvmSheet,
 ) -> Result<Option<PlannedDefinition>, AllocError>
     ensures { KeepsSheet sheet.old sheet.new }
 {
-    let Some(number) = given else {
-        return Ok(None);
-    };
-    let name = name_of(source.text, source.reading.definitions.get(number), sheet)?;
-    let note = ValueNote {
-        origin: ValueOrigin::Result,
-        name,
-    };
-    Ok(Some(PlannedDefinition { number, note }))
+    match given {
+        Some(number) if !is_end => {
+            let definition = plan_definition(source, number, ValueOrigin::Result, sheet)?;
+            Ok(Some(definition))
+        }
+        _ => Ok(None),
+    }
 }
 
 // Adds the operands of the statement, its own and those that its edges pass, and its edges.
@@ -127,9 +123,9 @@ fn push_uses(
 {
     let line = statement_at(source, statement.line)?;
     let widths = operand_widths_of_form(alloc, form)?;
-    push_operands(source, &widths, &statement.operands, sheet, plan)?;
+    push_operands(alloc, source, &widths, &statement.operands, sheet, plan)?;
     if line.statement.row.is_terminator {
-        push_edges_from(source, statement.block, sheet, plan)
+        push_edges_from(alloc, source, statement.block, sheet, plan)
     } else {
         Ok(())
     }
@@ -149,9 +145,11 @@ fn plan_with_form(
 {
     let line = statement_at(source, statement.line)?;
     let number = sheet.number(form)?;
-    let result = plan_result(source, statement.result, sheet)?;
+    let is_end = line.statement.row.is_terminator;
+    let result = plan_result(source, is_end, statement.result, sheet)?;
     let first = plan.operands.len();
     let first_edge = plan.successors.len();
+    let first_undefined = plan.constants.undefined.len();
     push_uses(alloc, source, statement, form, sheet, plan)?;
     let successors = plan.successors.len().saturating_sub(first_edge);
     plan.operations.push(OperationPlan {
@@ -161,10 +159,17 @@ fn plan_with_form(
         counts: FormCounts {
             operands: statement.operands.len(),
             successors,
-            is_end: line.statement.row.is_terminator,
+            is_end,
         },
         operands: (first, plan.operands.len().saturating_sub(first)),
         edges: (first_edge, successors),
+        undefined: (
+            first_undefined,
+            plan.constants
+                .undefined
+                .len()
+                .saturating_sub(first_undefined),
+        ),
         result,
     })?;
     Ok(())
@@ -205,7 +210,9 @@ fn plan_statements(
 /// Plans a function: adds what is to be built of it to nothing, and its forms, names and the texts of its constants to the
 /// sheet.
 ///
-/// Errors: something of it has no form, and so it is kept as it is written; allocation failure. Cost: linear in it.
+/// Errors: something of it has no form, or an invoke gives a value to a block to which other edges lead, and so it is kept
+/// as it is written; allocation failure. Cost: linear in it, and a search among the edges for each invoke that gives a
+/// value.
 #[doc(hidden)]
 #[tactic(auto, using(pliron_text_llvm_sheets::proofs::KeepingLemmas::sheet_steps))]
 pub fn plan_function(
@@ -216,6 +223,9 @@ pub fn plan_function(
 ) -> Result<(), PlanStop>
     ensures { KeepsSheet sheet.old sheet.new }
 {
-    plan_blocks(alloc, source, sheet, plan)?;
-    plan_statements(alloc, source, sheet, plan)
+    let given = given_by_block(alloc, source)?;
+    match plan_blocks(alloc, source, &given, sheet, plan) {
+        Ok(()) => plan_statements(alloc, source, sheet, plan),
+        Err(stop) => Err(stop),
+    }
 }

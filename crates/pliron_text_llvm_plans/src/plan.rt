@@ -1,8 +1,8 @@
 //! What is to be built, by numbers.
-use crate::values::PlannedValue;
+use crate::values::{PlannedConstants, PlannedValue};
 use pliron_text_llvm_classes::FormCounts;
 use pliron_text_llvm_functions::FunctionReading;
-use pliron_text_llvm_sheets::{ConstantTable, ValueNote};
+use pliron_text_llvm_sheets::ValueNote;
 use pliron_text_llvm_trees::FunctionTree;
 use std::alloc::Global;
 
@@ -59,6 +59,8 @@ pub struct OperationPlan {
     pub operands: (usize, usize),
     /// The first of its edges, and how many.
     pub edges: (usize, usize),
+    /// The first of the constants that are made anew before it, and how many.
+    pub undefined: (usize, usize),
     /// What it gives.
     pub result: Option<PlannedDefinition>,
 }
@@ -67,10 +69,10 @@ pub struct OperationPlan {
 #[doc(hidden)]
 #[derive(Drop)]
 pub struct FunctionPlan {
-    pub constants: ConstantTable,
+    pub constants: PlannedConstants,
     /// In the order of the text.
     pub blocks: Vec<PlannedBlock>,
-    /// The arguments of all blocks: parameters, and phis.
+    /// The arguments of all blocks: parameters, or phis and behind them what an invoke gives.
     pub arguments: Vec<PlannedArgument>,
     /// In the order of the text.
     pub operations: Vec<OperationPlan>,
@@ -86,7 +88,7 @@ impl FunctionPlan {
     /// Nothing yet. Takes no memory. Cost: constant.
     pub fn new(alloc: Global) -> FunctionPlan {
         FunctionPlan {
-            constants: ConstantTable::new(alloc),
+            constants: PlannedConstants::new(alloc),
             blocks: Vec::new(alloc),
             arguments: Vec::new(alloc),
             operations: Vec::new(alloc),

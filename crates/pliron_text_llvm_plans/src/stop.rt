@@ -15,6 +15,8 @@ pub enum KeptForPlan {
     Phi,
     #[error("a block without its arguments")]
     Arguments,
+    #[error("a value that an invoke gives to a block to which other edges lead")]
+    Given,
 }
 
 /// What stops planning a function.

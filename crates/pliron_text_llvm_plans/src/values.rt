@@ -1,13 +1,14 @@
 //! Operands, by what they are.
-ghost use Rattle.std.specs.Prelude.{◌≡◌, IfOk};
-ghost use Rattle.pliron_text_llvm_sheets.specs.Constants.{KeepsTextConstants};
+ghost use Rattle.std.specs.Prelude.{◌≡◌, ℕ, None, [], IfOk};
+ghost use Rattle.pliron_text_llvm_sheets.specs.Constants.{constant_at};
 ghost use Rattle.pliron_text_llvm_sheets.specs.Sheets.{KeepsSheet};
-ghost use Rattle.pliron_text_llvm_plans.specs.Values.{IsPlannedValue};
+ghost use Rattle.pliron_text_llvm_plans.specs.Values.{KeepsPlannedConstants, IsMadeAnew, IsSharedConstant, IsPlannedValue};
 
+use crate::plan::FunctionSource;
+use pliron_text_llvm_classes::names_undef;
 use pliron_text_llvm_edges::{bytes_at, target_at};
-use pliron_text_llvm_functions::FunctionReading;
 use pliron_text_llvm_sheets::{ConstantTable, LlvmSheet, TextConstant};
-use std::alloc::AllocError;
+use std::alloc::{AllocError, Global};
 
 /// What an operand of an operation is.
 #[doc(hidden)]
@@ -17,30 +18,91 @@ pub enum PlannedValue {
     Defined(usize),
     /// The constant of this number.
     Constant(usize),
+    /// The constant of this number that is made anew, since it may be another value each time.
+    Undefined(usize),
 }
 
-/// What is in the hole, whose type has this width: a value of the function, or a constant, which gets a number where it
-/// is new. Errors: allocation failure. Cost: linear in its text.
-#[tactic(auto, using(pliron_text_llvm_sheets::proofs::KeepingLemmas::sheet_steps))]
-pub fn plan_value(
+/// The constants of a function.
+#[doc(hidden)]
+#[derive(Drop)]
+pub struct PlannedConstants {
+    /// Those that are the same value each time.
+    pub table: ConstantTable,
+    /// Of those that may be another value each time the numbers of their texts: one for each place where one is read.
+    pub undefined: Vec<usize>,
+}
+
+impl PlannedConstants {
+    /// None yet. Takes no memory. Cost: constant.
+    pub fn new(alloc: Global) -> PlannedConstants
+        ensures table { (number : ℕ) → constant_at result.table number ≡ None }
+        ensures undefined { result.undefined.items ≡ [] }
+    {
+        PlannedConstants {
+            table: ConstantTable::new(alloc),
+            undefined: Vec::new(alloc),
+        }
+    }
+}
+
+// The constant of this text made anew.
+#[tactic(auto, using(crate::proofs::ValueLemmas::planned_kept, crate::proofs::ValueLemmas::planned_anew, pliron_text_llvm_sheets::proofs::KeepingLemmas::sheet_steps))]
+fn plan_undefined(
     text: &[u8],
-    reading: &FunctionReading,
+    sheet: &mut LlvmSheet,
+    constants: &mut PlannedConstants,
+) -> Result<PlannedValue, AllocError>
+    ensures value { IfOk result (λ value. IsMadeAnew text.now sheet.new constants.old constants.new value) }
+    ensures sheet { KeepsSheet sheet.old sheet.new }
+    ensures constants { KeepsPlannedConstants constants.old constants.new }
+{
+    let text = sheet.number(text)?;
+    let number = constants.undefined.len();
+    constants.undefined.push(text)?;
+    Ok(PlannedValue::Undefined(number))
+}
+
+// The constant of this text, of a type with this width, which gets a number where it is new.
+#[tactic(auto, using(crate::proofs::ValueLemmas::planned_kept, crate::proofs::ValueLemmas::planned_shared, pliron_text_llvm_sheets::proofs::KeepingLemmas::sheet_steps))]
+fn plan_constant(
+    text: &[u8],
+    width: u32,
+    sheet: &mut LlvmSheet,
+    constants: &mut PlannedConstants,
+) -> Result<PlannedValue, AllocError>
+    ensures value { IfOk result (λ value. IsSharedConstant width text.now sheet.new constants.new value) }
+    ensures sheet { KeepsSheet sheet.old sheet.new }
+    ensures constants { KeepsPlannedConstants constants.old constants.new }
+{
+    let text = sheet.number(text)?;
+    let number = constants.table.number(TextConstant { width, text })?;
+    Ok(PlannedValue::Constant(number))
+}
+
+/// What is in the hole, whose type has this width: a value of the function; a constant, which gets a number where it is
+/// new; or one that is made anew, since it may be another value each time. Errors: allocation failure. Cost: linear in
+/// its text.
+#[tactic(auto, using(crate::proofs::ValueLemmas::planned_kept, pliron_text_llvm_sheets::proofs::KeepingLemmas::sheet_steps))]
+pub fn plan_value(
+    alloc: Global,
+    source: FunctionSource<'_>,
     width: u32,
     hole: usize,
     sheet: &mut LlvmSheet,
-    constants: &mut ConstantTable,
+    constants: &mut PlannedConstants,
 ) -> Result<PlannedValue, AllocError>
-    ensures value { IfOk result (λ value.
-        IsPlannedValue text.now reading.now sheet.new constants.new width hole value) }
+    ensures value { IfOk result (λ value. IsPlannedValue source.entry.text.now source.entry.reading.now
+        sheet.new constants.old constants.new width hole value) }
     ensures sheet { KeepsSheet sheet.old sheet.new }
-    ensures constants { KeepsTextConstants constants.old constants.new }
+    ensures constants { KeepsPlannedConstants constants.old constants.new }
 {
-    match target_at(reading, hole) {
-        Some(number) => Ok(PlannedValue::Defined(number)),
-        None => {
-            let text = sheet.number(bytes_at(text, &reading.body.holes, hole))?;
-            let number = constants.number(TextConstant { width, text })?;
-            Ok(PlannedValue::Constant(number))
-        }
+    if let Some(number) = target_at(source.reading, hole) {
+        return Ok(PlannedValue::Defined(number));
+    }
+    let text = bytes_at(source.text, &source.reading.body.holes, hole);
+    if names_undef(alloc, text)? {
+        plan_undefined(text, sheet, constants)
+    } else {
+        plan_constant(text, width, sheet, constants)
     }
 }

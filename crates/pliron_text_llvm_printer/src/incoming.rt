@@ -2,8 +2,9 @@
 ghost use Rattle.std.specs.Prelude.{IfSome};
 ghost use Rattle.pliron_text_llvm_printer.specs.PrintedFunctions.{HasFormText};
 
+use crate::names::num_phi;
 use crate::stop::PrintStop;
-use crate::walk::{last_operation, num_argument};
+use crate::walk::last_operation;
 use pliron_core::{BasicBlock, Context, Operation, Ptr};
 use pliron_dialect_mlir::form_of;
 use pliron_text_llvm_sheets::LlvmSheet;
@@ -70,7 +71,7 @@ fn push_edges_of(
             op,
             first,
         })?;
-        first = first.saturating_add(num_argument(to, ctx));
+        first = first.saturating_add(num_phi(to, sheet, ctx));
     }
     Ok(())
 }

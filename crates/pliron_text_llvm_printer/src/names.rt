@@ -65,6 +65,55 @@ pub fn result_of(op: Ptr<Operation>, ctx: &Context) -> Option<Value> {
     }
 }
 
+/// Whether the value is what an invoke gives: an argument of the block to which it goes on. Cost: constant.
+pub fn is_given(value: Value, sheet: &LlvmSheet) -> bool {
+    match note_of(value, sheet) {
+        Some(note) => note.origin == ValueOrigin::Given,
+        None => false,
+    }
+}
+
+// The last argument of the block, if it has one.
+fn last_argument(block: Ptr<BasicBlock>, ctx: &Context) -> Option<Value> {
+    if !block.is_live(ctx) {
+        return None;
+    }
+    let last = block.num_argument(ctx).checked_sub(1)?;
+    Some(block.get_argument(ctx, last))
+}
+
+// What the operation gives to the block to which it leads first, if it is an invoke that gives something.
+fn given_to_block(op: Ptr<Operation>, sheet: &LlvmSheet, ctx: &Context) -> Option<Value> {
+    if !op.is_live(ctx) || op.num_successor(ctx) == 0 {
+        return None;
+    }
+    let value = last_argument(op.get_successor(ctx, 0), ctx)?;
+    if is_given(value, sheet) {
+        Some(value)
+    } else {
+        None
+    }
+}
+
+/// The value whose name stands before the operation, if it gives one: its only result, or of an invoke an argument of the
+/// block to which it goes on. Cost: constant.
+pub fn given_by(op: Ptr<Operation>, sheet: &LlvmSheet, ctx: &Context) -> Option<Value> {
+    match result_of(op, ctx) {
+        Some(value) => Some(value),
+        None => given_to_block(op, sheet, ctx),
+    }
+}
+
+/// How many arguments of the block are phis, if it isn't the first one: all but what an invoke gives, which comes last.
+/// Cost: constant.
+pub fn num_phi(block: Ptr<BasicBlock>, sheet: &LlvmSheet, ctx: &Context) -> usize {
+    let count = num_argument(block, ctx);
+    match last_argument(block, ctx) {
+        Some(value) if is_given(value, sheet) => count.saturating_sub(1),
+        _ => count,
+    }
+}
+
 /// Whether the operation is a constant, which stands where it is read. Cost: constant.
 pub fn is_constant(op: Ptr<Operation>, sheet: &LlvmSheet, ctx: &Context) -> bool {
     if op.is_live(ctx) && class_of_head(op.head(ctx)) == Some(Class::Constant) {
@@ -184,7 +233,17 @@ impl LocalNumbers {
         self.number_block(block)
     }
 
-    // Gives the arguments of the block numbers.
+    // Gives the argument a number, if its name stands in the block.
+    fn add_argument(&mut self, value: Value, sheet: &LlvmSheet) -> Result<(), PrintStop>
+        ensures { OnOk result (self.old.next ≤ self.new.next) }
+    {
+        if is_given(value, sheet) {
+            return Ok(());
+        }
+        self.add_value(value, sheet)
+    }
+
+    // Gives the arguments of the block numbers, but for what an invoke gives, which has its name there.
     fn add_arguments(
         &mut self,
         block: Ptr<BasicBlock>,
@@ -193,20 +252,20 @@ impl LocalNumbers {
     ) -> Result<(), PrintStop> {
         for i in 0..num_argument(block, ctx) {
             if block.is_live(ctx) && i < block.num_argument(ctx) {
-                self.add_value(block.get_argument(ctx, i), sheet)?;
+                self.add_argument(block.get_argument(ctx, i), sheet)?;
             }
         }
         Ok(())
     }
 
-    // Gives the result of the operation a number, if it is printed.
+    // Gives what the operation gives a number, if it is printed.
     fn add_result(
         &mut self,
         op: Ptr<Operation>,
         sheet: &LlvmSheet,
         ctx: &Context,
     ) -> Result<(), PrintStop> {
-        match result_of(op, ctx) {
+        match given_by(op, sheet, ctx) {
             Some(value) if !is_constant(op, sheet, ctx) => self.add_value(value, sheet),
             _ => Ok(()),
         }

@@ -5,7 +5,7 @@ ghost use Rattle.pliron_text_llvm_printer.specs.PrintedFunctions.{AppendsFunctio
 use crate::forms::{before_entries, behind_entries};
 use crate::incoming::{PassingEdge, edges_between, edges_to, form_text};
 use crate::integers::IntegerText;
-use crate::names::{LocalNumbers, is_constant, maker, note_of, result_of, write_number};
+use crate::names::{LocalNumbers, given_by, is_constant, maker, note_of, num_phi, write_number};
 use crate::stop::PrintStop;
 use crate::walk::{blocks_of, first_operation, next_operation, num_argument};
 use pliron_core::{AttrObj, BasicBlock, Context, Head, Operation, Ptr, Value};
@@ -185,9 +185,9 @@ impl FunctionView<'_> {
         self.write_successor(op, 0, out)
     }
 
-    // Appends the name of the result and `=`, if the operation gives one.
+    // Appends the name of what the operation gives and `=`, if it gives something.
     fn write_result(self, op: Ptr<Operation>, out: &mut Vec<u8>) -> Result<(), PrintStop> {
-        match result_of(op, self.ctx) {
+        match given_by(op, self.sheet, self.ctx) {
             Some(value) => {
                 self.numbers.write_value(value, self.sheet, out)?;
                 Ok(out.extend_from_slice(b" = ")?)
@@ -288,12 +288,17 @@ impl FunctionView<'_> {
         Ok(())
     }
 
-    // Appends a block that isn't the first one.
+    // Appends a block that isn't the first one. What an invoke gives is named there, so no other edge may lead to a block
+    // that has it.
     fn write_block(self, block: Ptr<BasicBlock>, out: &mut Vec<u8>) -> Result<(), PrintStop> {
         out.push(b'\n')?;
         self.numbers.write_block(block, self.sheet, out)?;
         out.extend_from_slice(b":\n")?;
-        for i in 0..num_argument(block, self.ctx) {
+        let phis = num_phi(block, self.sheet, self.ctx);
+        if phis < num_argument(block, self.ctx) && edges_to(self.edges, block).len() != 1 {
+            return Err(PrintStop::Textless);
+        }
+        for i in 0..phis {
             self.write_phi(block, i, out)?;
         }
         self.write_operations(block, out)

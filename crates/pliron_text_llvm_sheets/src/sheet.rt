@@ -14,6 +14,8 @@ pub enum ValueOrigin {
     Phi(usize),
     /// What a statement gives.
     Result,
+    /// What an invoke gives, which is an argument of the block to which it goes on.
+    Given,
     /// A constant, which has no statement.
     Constant,
 }

@@ -1,17 +1,15 @@
 -- Values that edges pass, added one after another.
 use Rattle.std.proofs.Common.{◌≡◌, ℕ, suc, ◌+◌, ◌<◌, ◌≤◌, List, [], ◌∷◌, ◌++◌, length, map, get_or, take, refl, sym, ap, ◌∙◌, subst, arith}
-use Rattle.std.specs.Prelude.{false, slice_get, Option, Some, None, IfSome}
+use Rattle.std.specs.Prelude.{slice_get, Option, Some, None, IfSome}
 use Rattle.std.specs.List.{All}
 use Rattle.std.specs.Option.{option_map, unwrap_or}
 use Rattle.std.proofs.lemmas.Option.{slice_get-get_or, slice_get-map, unwrap_or-slice_get}
 use Rattle.std.proofs.lemmas.List.{map-append, take_all, take_more}
-use Rattle.std.proofs.lemmas.List.Elements.{All-nil, All-push, All-more}
-use Rattle.pliron_text_llvm_functions.specs.declared.function.FunctionReading.{FunctionReading}
+use Rattle.std.proofs.lemmas.List.Elements.{All-nil, All-push}
 use Rattle.pliron_text_llvm_edges.specs.declared.edges.BlockEdge.{BlockEdge}
 use Rattle.pliron_text_llvm_edges.specs.declared.phis.BlockPhi.{BlockPhi}
 use Rattle.pliron_text_llvm_trees.specs.declared.passed.TreeEdge.{TreeEdge}
-use Rattle.pliron_text_llvm_trees.specs.Operands.{is_undefined_at}
-use Rattle.pliron_text_llvm_trees.specs.Passed.{IsPassedTo, IsPassedToNumber, ArePassed, AreSame, IsTreeEdge, AreTreeEdges}
+use Rattle.pliron_text_llvm_trees.specs.Passed.{IsPassedTo, IsPassedToNumber, ArePassed, IsTreeEdge, AreTreeEdges}
 
 -- ---- values
 
@@ -39,18 +37,6 @@ passed_more phis edge numbers i d holes after hole less h one grown =
 pub passed_all : (phis : List BlockPhi) (edge : BlockEdge) (numbers : List ℕ) (i : ℕ) (holes : List ℕ) → length numbers ≤ i → ArePassed phis edge (take i numbers) holes → ArePassed phis edge numbers holes
 passed_all phis edge numbers i holes past h = subst (λ ns. ArePassed phis edge ns holes) (take_all i numbers past) h
 
--- ---- the same value each time
-
-pub same_none : (text : List ℕ) (reading : FunctionReading) (holes : List ℕ) → AreSame text reading (take 0 holes)
-same_none text reading holes = All-nil (λ hole. is_undefined_at text reading hole ≡ false)
-
-pub same_more : (text : List ℕ) (reading : FunctionReading) (holes : List ℕ) (i d : ℕ) → i < length holes → AreSame text reading (take i holes) → is_undefined_at text reading (get_or holes i d) ≡ false
-    → AreSame text reading (take (i + 1) holes)
-same_more text reading holes i d less h one = All-more (λ hole. is_undefined_at text reading hole ≡ false) holes i d less h one
-
-pub same_all : (text : List ℕ) (reading : FunctionReading) (holes : List ℕ) (i : ℕ) → length holes ≤ i → AreSame text reading (take i holes) → AreSame text reading holes
-same_all text reading holes i past h = subst (AreSame text reading) (take_all i holes past) h
-
 -- ---- the phis of a block
 
 pub into_some : {A : Type 0} (f : A → List ℕ) (lists : List A) (number : ℕ) (list : A) → slice_get lists number ≡ Some list → f list ≡ get_or (map f lists) number []
@@ -63,21 +49,21 @@ into_none f lists number e =
 
 -- ---- edges
 
-pub edges_none : (text : List ℕ) (reading : FunctionReading) (phis : List BlockPhi) (lists : List (List ℕ)) (edges : List BlockEdge) (found : List TreeEdge) → found ≡ [] → AreTreeEdges text reading phis lists (take 0 edges) found
-edges_none text reading phis lists edges found e = (ap (map (λ edge. edge.edge)) e, subst (All (IsTreeEdge text reading phis lists)) (sym e) (All-nil (IsTreeEdge text reading phis lists)))
+pub edges_none : (phis : List BlockPhi) (lists : List (List ℕ)) (edges : List BlockEdge) (found : List TreeEdge) → found ≡ [] → AreTreeEdges phis lists (take 0 edges) found
+edges_none phis lists edges found e = (ap (map (λ edge. edge.edge)) e, subst (All (IsTreeEdge phis lists)) (sym e) (All-nil (IsTreeEdge phis lists)))
 
-pub edges_more : (text : List ℕ) (reading : FunctionReading) (phis : List BlockPhi) (lists : List (List ℕ)) (edges : List BlockEdge) (i : ℕ) (d : BlockEdge) (edge : TreeEdge) (found after : List TreeEdge) → i < length edges
-    → AreTreeEdges text reading phis lists (take i edges) found → edge.edge ≡ get_or edges i d → IsTreeEdge text reading phis lists edge → after ≡ found ++ edge ∷ []
-    → AreTreeEdges text reading phis lists (take (i + 1) edges) after
-edges_more text reading phis lists edges i d edge found after less h at one grown = (
+pub edges_more : (phis : List BlockPhi) (lists : List (List ℕ)) (edges : List BlockEdge) (i : ℕ) (d : BlockEdge) (edge : TreeEdge) (found after : List TreeEdge) → i < length edges
+    → AreTreeEdges phis lists (take i edges) found → edge.edge ≡ get_or edges i d → IsTreeEdge phis lists edge → after ≡ found ++ edge ∷ []
+    → AreTreeEdges phis lists (take (i + 1) edges) after
+edges_more phis lists edges i d edge found after less h at one grown = (
   ap (map (λ edge. edge.edge)) grown
       ∙ map-append (λ edge. edge.edge) found (edge ∷ [])
       ∙ ap (λ xs. xs ++ edge.edge ∷ []) h.0
       ∙ ap (λ x. take i edges ++ x ∷ []) at
       ∙ sym (take_more edges i d less),
-  subst (All (IsTreeEdge text reading phis lists)) (sym grown) (All-push (IsTreeEdge text reading phis lists) found edge h.1 one),
+  subst (All (IsTreeEdge phis lists)) (sym grown) (All-push (IsTreeEdge phis lists) found edge h.1 one),
 )
 
-pub edges_all : (text : List ℕ) (reading : FunctionReading) (phis : List BlockPhi) (lists : List (List ℕ)) (edges : List BlockEdge) (i : ℕ) (found : List TreeEdge) → length edges ≤ i
-    → AreTreeEdges text reading phis lists (take i edges) found → AreTreeEdges text reading phis lists edges found
-edges_all text reading phis lists edges i found past h = subst (λ es. AreTreeEdges text reading phis lists es found) (take_all i edges past) h
+pub edges_all : (phis : List BlockPhi) (lists : List (List ℕ)) (edges : List BlockEdge) (i : ℕ) (found : List TreeEdge) → length edges ≤ i
+    → AreTreeEdges phis lists (take i edges) found → AreTreeEdges phis lists edges found
+edges_all phis lists edges i found past h = subst (λ es. AreTreeEdges phis lists es found) (take_all i edges past) h

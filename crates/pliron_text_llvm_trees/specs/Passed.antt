@@ -1,12 +1,10 @@
 -- The values that edges pass.
-use Rattle.std.specs.Prelude.{◌≡◌, ℕ, false, List, [], ◌∷◌, map, slice_get, slice_index_or, Some, ⊤}
+use Rattle.std.specs.Prelude.{◌≡◌, ℕ, List, [], ◌∷◌, map, slice_get, slice_index_or, Some, ⊤}
 use Rattle.std.specs.List.{All}
-use Rattle.pliron_text_llvm_functions.specs.declared.function.FunctionReading.{FunctionReading}
 use Rattle.pliron_text_llvm_edges.specs.declared.edges.BlockEdge.{BlockEdge}
 use Rattle.pliron_text_llvm_edges.specs.declared.entries.PhiEntry.{PhiEntry}
 use Rattle.pliron_text_llvm_edges.specs.declared.phis.BlockPhi.{BlockPhi}
 use Rattle.pliron_text_llvm_trees.specs.declared.passed.TreeEdge.{TreeEdge}
-use Rattle.pliron_text_llvm_trees.specs.Operands.{is_undefined_at}
 
 -- one of the entries, which is for this block
 abbrev pub IsEntryFor : List PhiEntry → ℕ → PhiEntry → Type 0
@@ -26,17 +24,10 @@ ArePassed phis edge (number ∷ numbers) (hole ∷ holes) =
     IsPassedToNumber phis edge number hole × ArePassed phis edge numbers holes
 ArePassed phis edge _ _ = ⊥
 
--- none of the holes has a constant that may be another value each time
-abbrev pub AreSame : List ℕ → FunctionReading → List ℕ → Type 0
-AreSame text reading holes = All (λ hole. is_undefined_at text reading hole ≡ false) holes
-
 -- an edge passes a value to each phi of the block to which it leads; each block has the phis of these numbers
-abbrev pub IsTreeEdge : List ℕ → FunctionReading → List BlockPhi → List (List ℕ) → TreeEdge → Type 0
-IsTreeEdge text reading phis lists edge =
-    ArePassed phis edge.edge (slice_index_or lists edge.edge.to []) edge.passed.items
-    × AreSame text reading edge.passed.items
+abbrev pub IsTreeEdge : List BlockPhi → List (List ℕ) → TreeEdge → Type 0
+IsTreeEdge phis lists edge = ArePassed phis edge.edge (slice_index_or lists edge.edge.to []) edge.passed.items
 
 -- these edges, in their order, with the values that they pass
-abbrev pub AreTreeEdges : List ℕ → FunctionReading → List BlockPhi → List (List ℕ) → List BlockEdge → List TreeEdge → Type 0
-AreTreeEdges text reading phis lists edges found =
-    (map (λ edge. edge.edge) found ≡ edges) × All (IsTreeEdge text reading phis lists) found
+abbrev pub AreTreeEdges : List BlockPhi → List (List ℕ) → List BlockEdge → List TreeEdge → Type 0
+AreTreeEdges phis lists edges found = (map (λ edge. edge.edge) found ≡ edges) × All (IsTreeEdge phis lists) found

@@ -18,14 +18,14 @@ HasArguments reading found tree =
     × ArePhisByBlock (length reading.body.blocks.items) found.phis.items (map (λ list. list.items) tree.by_block.items)
 
 -- its edges, with what they pass to those arguments
-abbrev pub HasEdges : List ℕ → FunctionReading → FunctionEdges → FunctionTree → Type 0
-HasEdges text reading found tree =
-    AreTreeEdges text reading found.phis.items (map (λ list. list.items) tree.by_block.items) found.edges.items tree.edges.items
+abbrev pub HasEdges : FunctionEdges → FunctionTree → Type 0
+HasEdges found tree =
+    AreTreeEdges found.phis.items (map (λ list. list.items) tree.by_block.items) found.edges.items tree.edges.items
 
 -- a function that was read with its edges, as what a tree is built of
 abbrev pub IsTreeOf : List ℕ → FunctionReading → FunctionEdges → FunctionTree → Type 0
 IsTreeOf text reading found tree =
-    HasArguments reading found tree × AreTreeStatements text reading tree.statements.items × HasEdges text reading found tree
+    HasArguments reading found tree × AreTreeStatements text reading tree.statements.items × HasEdges found tree
 
 -- what is made of a function, where it isn't kept as it is written
 abbrev pub IsTreeForm : List ℕ → FunctionReading → FunctionEdges → TreeForm → Type 0

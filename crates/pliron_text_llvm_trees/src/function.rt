@@ -55,11 +55,11 @@ fn fill_tree(
     ensures arguments { OnOk result
         (AreTreeArguments reading.now.definitions.items found.now.phis.items tree.new.arguments.items) }
     ensures statements { OnOk result (AreTreeStatements text.now reading.now tree.new.statements.items) }
-    ensures edges { OnOk result (HasEdges text.now reading.now found.now tree.new) }
+    ensures edges { OnOk result (HasEdges found.now tree.new) }
 {
     push_arguments(reading, &found.phis, &mut tree.arguments)?;
     push_statements(alloc, text, reading, &mut tree.statements)?;
-    push_tree_edges(alloc, text, reading, found, &tree.by_block, &mut tree.edges)
+    push_tree_edges(alloc, reading, found, &tree.by_block, &mut tree.edges)
 }
 
 // Makes the tree, or says what stops it.
@@ -87,7 +87,7 @@ fn read_all(
 
 /// What the tree of a function is built of, by numbers: the arguments of its blocks, its operations with the values that
 /// they read and give, and its edges with the values that they pass. The function is kept as it is written where it has
-/// a debug record, what ends a block gives a value, or an edge passes `undef`.
+/// a debug record, or what ends a block gives a value and is no invoke.
 ///
 /// Asks for the edges that were read of it. Errors: allocation failure. Cost: linear in the function, with a search
 /// among the definitions for each value that is given, and one among the entries of a phi for each that is passed.

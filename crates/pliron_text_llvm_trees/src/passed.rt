@@ -1,10 +1,7 @@
 //! The values that edges pass.
-ghost use Rattle.std.specs.Prelude.{◌≡◌, [], false, map, slice_get, slice_index_or, IfOk, IfSome, OnOk};
-ghost use Rattle.std.specs.List.{All};
-ghost use Rattle.pliron_text_llvm_trees.specs.Operands.{is_undefined_at};
-ghost use Rattle.pliron_text_llvm_trees.specs.Passed.{IsEntryFor, IsPassedTo, IsPassedToNumber, ArePassed, AreSame, IsTreeEdge, AreTreeEdges};
+ghost use Rattle.std.specs.Prelude.{◌≡◌, [], map, slice_get, slice_index_or, IfOk, IfSome, OnOk};
+ghost use Rattle.pliron_text_llvm_trees.specs.Passed.{IsEntryFor, IsPassedTo, IsPassedToNumber, ArePassed, IsTreeEdge, AreTreeEdges};
 
-use crate::operands::is_undefined_at;
 use crate::stop::{KeptForTree, TreeStop};
 use pliron_text_llvm_edges::{BlockEdge, BlockPhi, FunctionEdges, PhiEntry, place_of_hole};
 use pliron_text_llvm_functions::FunctionReading;
@@ -77,25 +74,6 @@ fn push_values(
     Ok(())
 }
 
-// That each of the holes has the same value each time.
-#[tactic(auto, using(crate::proofs::PassedLemmas::same_none, crate::proofs::PassedLemmas::same_more, crate::proofs::PassedLemmas::same_all))]
-fn expect_same(
-    alloc: Global,
-    text: &[u8],
-    reading: &FunctionReading,
-    holes: &[usize],
-) -> Result<(), TreeStop>
-    ensures { OnOk result (AreSame text.now reading.now holes.now) }
-{
-    for hole in holes {
-        if is_undefined_at(alloc, text, reading, *hole)? {
-            let at = place_of_hole(reading, *hole);
-            return Err(TreeStop::Keep(at, KeptForTree::Undefined));
-        }
-    }
-    Ok(())
-}
-
 // The numbers of the phis of the block.
 #[tactic(auto, using(crate::proofs::PassedLemmas::into_some, crate::proofs::PassedLemmas::into_none))]
 fn numbers_into(by_block: &[Vec<usize>], block: usize) -> &[usize]
@@ -110,25 +88,17 @@ fn numbers_into(by_block: &[Vec<usize>], block: usize) -> &[usize]
 // The edge with what it passes.
 fn read_edge(
     alloc: Global,
-    text: &[u8],
     reading: &FunctionReading,
     phis: &[BlockPhi],
     by_block: &[Vec<usize>],
     edge: BlockEdge,
 ) -> Result<TreeEdge, TreeStop>
     ensures edge { IfOk result (λ found. found.edge ≡ edge) }
-    ensures tree { IfOk result (λ found.
-        IsTreeEdge text.now reading.now phis.now (map (λ list. list.items) by_block.now) found) }
+    ensures tree { IfOk result (λ found. IsTreeEdge phis.now (map (λ list. list.items) by_block.now) found) }
 {
     let mut passed = Vec::new(alloc);
-    push_values(
-        reading,
-        phis,
-        edge,
-        numbers_into(by_block, edge.to),
-        &mut passed,
-    )?;
-    match expect_same(alloc, text, reading, &passed) {
+    let numbers = numbers_into(by_block, edge.to);
+    match push_values(reading, phis, edge, numbers, &mut passed) {
         Ok(()) => Ok(TreeEdge { edge, passed }),
         Err(stop) => Err(stop),
     }
@@ -138,24 +108,23 @@ fn read_edge(
 /// the block to which it leads the value that the phi has for the block from which it comes. The phis of each block
 /// have the numbers `by_block`.
 ///
-/// Asks that there is no edge yet. Errors: an edge passes `undef`, or a phi has no value for it, and so the function is
-/// kept as it is written; allocation failure. Cost: a search among the entries of a phi for each value that is passed.
+/// Asks that there is no edge yet. Errors: a phi has no value for an edge, and so the function is kept as it is written;
+/// allocation failure. Cost: a search among the entries of a phi for each value that is passed.
 #[doc(hidden)]
 #[tactic(auto, using(crate::proofs::PassedLemmas::edges_none, crate::proofs::PassedLemmas::edges_more, crate::proofs::PassedLemmas::edges_all))]
 pub fn push_tree_edges(
     alloc: Global,
-    text: &[u8],
     reading: &FunctionReading,
     found: &FunctionEdges,
     by_block: &[Vec<usize>],
     edges: &mut Vec<TreeEdge>,
 ) -> Result<(), TreeStop>
     requires { edges.old.items ≡ [] }
-    ensures { OnOk result (AreTreeEdges text.now reading.now found.now.phis.items
+    ensures { OnOk result (AreTreeEdges found.now.phis.items
         (map (λ list. list.items) by_block.now) found.now.edges.items edges.new.items) }
 {
     for edge in &found.edges {
-        let read = read_edge(alloc, text, reading, &found.phis, by_block, *edge)?;
+        let read = read_edge(alloc, reading, &found.phis, by_block, *edge)?;
         edges.push(read)?;
     }
     Ok(())

@@ -56,12 +56,13 @@ fn operation_at(lines: &[BodyLine], line: usize) -> Option<&BodyStatement>
 fn expect_served(line: &BodyStatement) -> Result<(), TreeStop>
     ensures { OnOk result (IsServed line.now.statement) }
 {
-    if matches!(line.statement.row.layout, StatementLayout::Record) {
-        Err(TreeStop::Keep(line.span.start, KeptForTree::Record))
-    } else if line.statement.row.is_terminator && line.statement.gives {
-        Err(TreeStop::Keep(line.span.start, KeptForTree::EndGives))
-    } else {
-        Ok(())
+    match line.statement.row.layout {
+        StatementLayout::Record => Err(TreeStop::Keep(line.span.start, KeptForTree::Record)),
+        StatementLayout::Invoke => Ok(()),
+        _ if line.statement.row.is_terminator && line.statement.gives => {
+            Err(TreeStop::Keep(line.span.start, KeptForTree::EndGives))
+        }
+        _ => Ok(()),
     }
 }
 
@@ -174,8 +175,8 @@ fn push_operations_of_block(
 /// Adds the statements of a function that are operations of its tree to none, in the order of the text: all but its
 /// phis, each with its operands and with the definition of what it gives.
 ///
-/// Asks that there is no statement yet. Errors: a debug record, or what ends a block gives a value, and so the function
-/// is kept as it is written; allocation failure. Cost: linear in the function, and a search among the definitions for
+/// Asks that there is no statement yet. Errors: a debug record, or what ends a block gives a value and is no invoke, and
+/// so the function is kept as it is written; allocation failure. Cost: linear in the function, and a search among the definitions for
 /// each value.
 #[doc(hidden)]
 #[tactic(auto, using(pliron_text_llvm_edges::proofs::NumberLemmas::blocks_all, crate::proofs::StatementLemmas::statements_begun, crate::proofs::StatementLemmas::statements_none))]

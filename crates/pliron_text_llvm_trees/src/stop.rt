@@ -13,8 +13,6 @@ pub enum KeptForTree {
     Record,
     #[error("a value that is given by what ends a block")]
     EndGives,
-    #[error("`undef` that an edge passes")]
-    Undefined,
     #[error("a value that nothing defines")]
     Unnumbered,
     #[error("an edge for which a phi has no value")]

@@ -5,4 +5,4 @@ use Rattle.pliron_text_llvm_trees.proofs.passed.push_tree_edges.Given as goal
 
 abbrev pub invariant-loop-edge : goal.invariant-loop-edge
 invariant-loop-edge l =
-    AreTreeEdges l.text l.reading l.found.phis.items (map (λ list. list.items) l.by_block) (take l.edge-index l.found.edges.items) l.edges.items
+    AreTreeEdges l.found.phis.items (map (λ list. list.items) l.by_block) (take l.edge-index l.found.edges.items) l.edges.items
