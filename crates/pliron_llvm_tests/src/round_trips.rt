@@ -33,6 +33,8 @@ an invoke that gives what nothing reads -- define void @f() personality ptr @q {
 undef and poison on edges -- define i32 @f(i1 %c, i1 %d) {|a:|  br i1 %c, label %b, label %e||b:|  br i1 %d, label %e, label %k||k:|  br label %e||e:|  %x = phi i32 [ undef, %a ], [ undef, %b ], [ 1, %k ]|  %y = phi i32 [ poison, %a ], [ 2, %b ], [ poison, %k ]|  %z = phi <2 x i32> [ <i32 undef, i32 1>, %a ], [ undef, %b ], [ zeroinitializer, %k ]|  %s = add i32 %x, %y|  call void @h(<2 x i32> %z)|  ret i32 %s|}
 undef around a loop -- define i32 @f(i32 %n) {|e:|  br label %h||h:|  %i = phi i32 [ 0, %e ], [ %j, %h ]|  %v = phi i32 [ undef, %e ], [ undef, %h ]|  %j = add nsw i32 %i, 1|  %c = icmp slt i32 %j, %n|  br i1 %c, label %h, label %x||x:|  ret i32 %v|}
 undef on two edges from one block -- define i32 @f(i1 %c) {|  br i1 %c, label %d, label %d||d:|  %y = phi i32 [ undef, %0 ], [ undef, %0 ]|  ret i32 %y|}
+debug records and locations -- define i32 @f(i32 %x) !dbg !4 {|    #dbg_value(i32 %x, !9, !DIExpression(), !8)|  %y = add nsw i32 %x, 1, !dbg !8|    #dbg_value(i32 %y, !10, !DIExpression(), !8)|    #dbg_value(!DIArgList(i32 %y, i32 1), !10, !DIExpression(), !8)|  %z = load i32, ptr @g, align 4, !dbg !8, !tbaa !11|    #dbg_value(i32 0, !10, !DIExpression(), !8)|  ret i32 %y, !dbg !12|}
+records behind phis -- define i32 @f(i1 %c) {|  br i1 %c, label %a, label %b, !dbg !3||a:|    #dbg_declare(ptr @p, !9, !DIExpression(), !8)|  br label %b, !dbg !3||b:|  %x = phi i32 [ 1, %0 ], [ 2, %a ], !dbg !4|    #dbg_value(i32 %x, !9, !DIExpression(), !8)|  ret i32 %x|}
 what can't be reached -- define void @f() {|  unreachable||b:|  ret void|}";
 
 /// Functions, and how they are printed.

@@ -10,6 +10,7 @@ ghost use Rattle.pliron_text_llvm_building.specs.Functions.{header_of, IsFunctio
 
 use crate::build::{add_blocks, add_constants, add_operations};
 use crate::connect::connect_all;
+use crate::debug::note_debug;
 use crate::parts::BuiltParts;
 use crate::stop::{BuildStop, KeptForBuilding};
 use pliron_core::{Context, Operation, Ptr};
@@ -63,6 +64,7 @@ fn build_inside(
     add_blocks(plan, root, ctx, sheet, built)?;
     add_constants(plan, ctx, sheet, built)?;
     add_operations(plan, ctx, sheet, built)?;
+    note_debug(plan, sheet, built)?;
     connect_all(plan, ctx, built)
 }
 

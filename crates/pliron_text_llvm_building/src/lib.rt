@@ -4,6 +4,7 @@
 
 mod build;
 mod connect;
+mod debug;
 mod function;
 mod parts;
 mod stop;

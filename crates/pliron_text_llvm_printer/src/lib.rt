@@ -2,6 +2,7 @@
 //! numbers, arguments of blocks as phis, and constants where they are read.
 #![tactic(auto)]
 
+mod debug;
 mod forms;
 mod incoming;
 mod integers;

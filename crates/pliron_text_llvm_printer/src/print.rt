@@ -3,7 +3,7 @@ ghost use Rattle.std.specs.Prelude.{OnOk};
 ghost use Rattle.pliron_text_llvm_printer.specs.PrintedFunctions.{AppendsFunction};
 
 use crate::forms::{before_entries, behind_entries};
-use crate::incoming::{PassingEdge, edges_between, edges_to, form_text};
+use crate::incoming::{PassingEdge, edges_between, edges_to, form_number, form_text};
 use crate::integers::IntegerText;
 use crate::names::{LocalNumbers, given_by, is_constant, maker, note_of, num_phi, write_number};
 use crate::stop::PrintStop;
@@ -16,11 +16,17 @@ use std::alloc::{AllocError, Global};
 
 /// What printing a function reads.
 #[derive(Clone, Copy)]
-struct FunctionView<'s> {
-    sheet: &'s LlvmSheet,
-    numbers: &'s LocalNumbers,
+pub struct FunctionView<'s> {
+    pub sheet: &'s LlvmSheet,
+    pub numbers: &'s LocalNumbers,
     edges: &'s [PassingEdge],
-    ctx: &'s Context,
+    pub ctx: &'s Context,
+}
+
+/// How many marks of a form are written.
+struct WrittenMarks {
+    operands: usize,
+    successors: usize,
 }
 
 // The datum of a constant with this head; none of any other operation.
@@ -85,8 +91,9 @@ impl FunctionView<'_> {
         }
     }
 
-    // Appends what stands where the value is read: its name, or the text of the constant that it is.
-    fn write_value(self, value: Value, out: &mut Vec<u8>) -> Result<(), PrintStop> {
+    /// Appends what stands where the value is read: its name, or the text of the constant that it is. Errors: it has none;
+    /// allocation failure. Cost: its length.
+    pub fn write_value(self, value: Value, out: &mut Vec<u8>) -> Result<(), PrintStop> {
         match maker(value, self.ctx) {
             Some(op) if is_constant(op, self.sheet, self.ctx) => self.write_constant(op, out),
             _ => self.numbers.write_value(value, self.sheet, out),
@@ -125,27 +132,52 @@ impl FunctionView<'_> {
         self.write_label(op.get_successor(self.ctx, i), out)
     }
 
-    // Appends the form with what stands for its marks.
+    // Appends the part of a form with what stands for its marks.
+    fn write_marked(
+        self,
+        op: Ptr<Operation>,
+        form: &[u8],
+        written: &mut WrittenMarks,
+        out: &mut Vec<u8>,
+    ) -> Result<(), PrintStop> {
+        for byte in form {
+            if !is_mark(*byte) {
+                out.push(*byte)?;
+            } else if *byte == HoleKind::Operand.mark() {
+                self.write_operand(op, written.operands, out)?;
+                written.operands = written.operands.saturating_add(1);
+            } else {
+                self.write_successor(op, written.successors, out)?;
+                written.successors = written.successors.saturating_add(1);
+            }
+        }
+        Ok(())
+    }
+
+    // Appends the form with what stands for its marks, and with the location of the operation.
     fn write_form(
         self,
         op: Ptr<Operation>,
         form: &[u8],
         out: &mut Vec<u8>,
     ) -> Result<(), PrintStop> {
-        let mut operand: usize = 0;
-        let mut successor: usize = 0;
-        for byte in form {
-            if !is_mark(*byte) {
-                out.push(*byte)?;
-            } else if *byte == HoleKind::Operand.mark() {
-                self.write_operand(op, operand, out)?;
-                operand = operand.saturating_add(1);
-            } else {
-                self.write_successor(op, successor, out)?;
-                successor = successor.saturating_add(1);
-            }
-        }
-        Ok(())
+        let mut written = WrittenMarks {
+            operands: 0,
+            successors: 0,
+        };
+        let (at, location) = self.location_of(op, form_number(op, self.ctx), form.len());
+        let before = form.get(..at).unwrap_or(form);
+        self.write_marked(op, before, &mut written, out)?;
+        out.extend_from_slice(location)?;
+        let behind = form.get(before.len()..).unwrap_or(&[]);
+        self.write_marked(op, behind, &mut written, out)
+    }
+
+    // Appends an operation that a pass made, with the location that it had before.
+    fn write_changed(self, op: Ptr<Operation>, out: &mut Vec<u8>) -> Result<(), PrintStop> {
+        self.write_made(op, out)?;
+        let (_, location) = self.location_of(op, None, 0);
+        Ok(out.extend_from_slice(location)?)
     }
 
     // Appends an operation on integers that a pass made.
@@ -205,7 +237,7 @@ impl FunctionView<'_> {
         self.write_result(op, out)?;
         match form_text(op, self.sheet, self.ctx) {
             Some(form) => self.write_form(op, form, out)?,
-            None => self.write_made(op, out)?,
+            None => self.write_changed(op, out)?,
         }
         Ok(out.push(b'\n')?)
     }
@@ -274,14 +306,16 @@ impl FunctionView<'_> {
         Ok(out.push(b'\n')?)
     }
 
-    // Appends the lines of the block's operations.
+    // Appends the lines of the block's operations, and of the debug records between them.
     fn write_operations(self, block: Ptr<BasicBlock>, out: &mut Vec<u8>) -> Result<(), PrintStop> {
+        let mut last = None;
         let mut next = first_operation(block, self.ctx);
         // Each turn takes an operation, or is the last.
         for _ in 0..u64::MAX {
             let Some(op) = next else {
                 break;
             };
+            last = self.write_records(op, last, out)?;
             self.write_operation(op, out)?;
             next = next_operation(op, self.ctx);
         }

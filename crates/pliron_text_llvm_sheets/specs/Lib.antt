@@ -1,3 +1,4 @@
 pub mod Constants
+pub mod Debug
 pub mod Notes
 pub mod Sheets
