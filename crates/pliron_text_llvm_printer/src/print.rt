@@ -24,6 +24,7 @@ pub struct FunctionView<'s> {
 }
 
 /// How many marks of a form are written.
+#[derive(Drop)]
 struct WrittenMarks {
     operands: usize,
     successors: usize,
