@@ -12,7 +12,7 @@
 PREFIX ?= /usr/local
 DESTDIR ?=
 VERSION := $(shell cat VERSION)
-PROGRAMS := plir plir_opt plir_mlir
+PROGRAMS := plir plir_opt plir_mlir plir_llvm
 AT := $(DESTDIR)$(PREFIX)
 LIBEXEC := $(AT)/libexec/rachonpas
 DOC := $(AT)/share/doc/rachonpas
@@ -39,7 +39,8 @@ install-programs:
 		tools/people/program.py tools/people/reduce.py tools/people/report.py "$(LIBEXEC)/people"
 	install -m 755 tools/run_program "$(LIBEXEC)/run_program"
 	install -m 755 tools/rachonpas-cc tools/rachonpas-c++ "$(AT)/bin"
-	made=$$(mktemp -d) && PLIR_PROGRAM="$(LIBEXEC)/plir" PLIR_MLIR_PROGRAM="$(LIBEXEC)/plir_mlir" python3 tools/people/completions.py "$$made" && \
+	made=$$(mktemp -d) && PLIR_PROGRAM="$(LIBEXEC)/plir" PLIR_MLIR_PROGRAM="$(LIBEXEC)/plir_mlir" PLIR_LLVM_PROGRAM="$(LIBEXEC)/plir_llvm" \
+		python3 tools/people/completions.py "$$made" && \
 		install -m 644 "$$made"/*.1 "$(AT)/share/man/man1" && \
 		install -m 644 "$$made/plir.bash" "$(AT)/share/bash-completion/completions/plir" && \
 		install -m 644 "$$made/_plir" "$(AT)/share/zsh/site-functions/_plir" && \

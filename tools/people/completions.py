@@ -3,8 +3,8 @@
 
     tools/people/completions.py FOLDER
 
-writes plir.bash, _plir, plir.fish, plir.1 and plir_opt.1 into the folder, and plir_mlir.1 where the environment names that program by
-PLIR_MLIR_PROGRAM.
+writes plir.bash, _plir, plir.fish, plir.1 and plir_opt.1 into the folder, and plir_mlir.1 and plir_llvm.1 where the environment names these programs
+by PLIR_MLIR_PROGRAM, PLIR_LLVM_PROGRAM.
 """
 import argparse
 import os
@@ -239,7 +239,7 @@ def manual(about, commands):
         lines += [f".B plir {roff(name)}", f"[\\fIOPTION\\fR]..{used(command)}", ".br"]
     for name, command in commands.items():
         lines += [f".SH {name.upper()}", roff(command.about.rstrip(".")) + ".", *page_of(command)]
-    lines += [".SH EXIT STATUS", STATUSES, ".SH SEE ALSO", ".BR plir_opt (1),", ".BR plir_mlir (1)", ".br", "docs/USING.md of the sources"]
+    lines += [".SH EXIT STATUS", STATUSES, ".SH SEE ALSO", ".BR plir_opt (1),", ".BR plir_mlir (1),", ".BR plir_llvm (1)", ".br", "docs/USING.md of the sources"]
     return "\n".join(lines) + "\n"
 
 
@@ -249,11 +249,19 @@ STATUSES = (
 )
 
 
-def manual_of_mlir(text):
+# The programs for modules: what each optimises, and its page.
+OF_MODULES = {
+    "plir_mlir": ("a module of MLIR in the generic form", "docs/MLIR.md"),
+    "plir_llvm": ("a module in LLVM's textual IR", "docs/LLVM.md"),
+}
+
+
+def manual_of_modules(name, text):
+    about, page = OF_MODULES[name]
     command = command_of_help("", text)
-    lines = [".TH PLIR_MLIR 1", ".SH NAME", "plir_mlir \\- optimises a module of MLIR in the generic form", ".SH SYNOPSIS", ".B plir_mlir"]
+    lines = [f".TH {name.upper()} 1", ".SH NAME", f"{name} \\- optimises {about}", ".SH SYNOPSIS", f".B {name}"]
     lines += [f"[\\fIOPTION\\fR]..{used(command)}", ".SH DESCRIPTION", *page_of(command)]
-    return "\n".join([*lines, ".SH SEE ALSO", ".BR plir (1)", ".br", "docs/MLIR.md of the sources"]) + "\n"
+    return "\n".join([*lines, ".SH SEE ALSO", ".BR plir (1)", ".br", f"{page} of the sources"]) + "\n"
 
 
 def main():
@@ -274,8 +282,9 @@ def main():
         "plir.1": manual(top.split("\n")[0], commands),
         "plir_opt.1": PLIR_OPT,
     }
-    if os.path.exists(os.environ.get("PLIR_MLIR_PROGRAM", "")):
-        made["plir_mlir.1"] = manual_of_mlir(program.Plir("plir_mlir").run("--help", env=wide)[1])
+    for name in OF_MODULES:
+        if os.path.exists(os.environ.get(f"{name.upper()}_PROGRAM", "")):
+            made[f"{name}.1"] = manual_of_modules(name, program.Plir(name).run("--help", env=wide)[1])
     for name, text in made.items():
         (folder / name).write_text(text)
 

@@ -7,7 +7,7 @@ ghost use Rattle.std.specs.Prelude.{◌≡◌, ◌≢◌, ⊤, []};
 ghost use Rattle.pliron_dialect_bench.specs.BenchMoves.{bench};
 ghost use Rattle.pliron_driver.specs.Ran.{RunsAlone};
 ghost use Rattle.pliron_driver.specs.Read.{ReadsBench, PrintsBench, PrintsKinds};
-ghost use Rattle.pliron_driver_mlir.specs.Modules.{ReadsModule};
+ghost use Rattle.pliron_driver_modules.specs.Modules.{ReadsModule};
 ghost use Rattle.pliron_driver.specs.Closed.{closed_reads, closed_prints};
 ghost use Rattle.pliron_driver_buffers.specs.Faults.{no_place, IsFaultPlace};
 ghost use Rattle.pliron_driver_buffers.specs.Fills.{FillsBy};

@@ -5,7 +5,7 @@ use Rattle.pliron_core.specs.declared.attrs.IRStatus.{IRStatus}
 use Rattle.pliron_laws.specs.Datum.{Meaning}
 use Rattle.pliron_driver.specs.Answered.{Reads, Prints, IsOptimised, status_line}
 use Rattle.pliron_pass_pipeline.specs.Pipelines.{PipelineOf, IsPipelineOf}
-use Rattle.pliron_driver_mlir.specs.Outcomes.{AsksFor}
+use Rattle.pliron_driver_modules.specs.Outcomes.{AsksFor}
 use Rattle.pliron_driver_buffers.specs.Modules.{IsWord, IsAsked, OptimisesModule, number_of_change}
 
 -- the word that is read is this text

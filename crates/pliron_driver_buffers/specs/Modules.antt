@@ -6,7 +6,7 @@ use Rattle.pliron_core.specs.declared.attrs.IRStatus.TheVariants.{Changed, Uncha
 use Rattle.pliron_laws.specs.Datum.{Meaning}
 use Rattle.pliron_driver.specs.Answered.{Reads, Prints, IsOptimised, status_line}
 use Rattle.pliron_pass_pipeline.specs.Pipelines.{PipelineOf, IsPipelineOf}
-use Rattle.pliron_driver_mlir.specs.Outcomes.{AsksFor}
+use Rattle.pliron_driver_modules.specs.Outcomes.{AsksFor}
 
 -- the word asks for what the pipeline runs
 pub record IsAsked {P D E B K : Type 0} (name : P → List ℕ) (word : List ℕ) (pipeline : PipelineOf P D E B K) : Type 0 where

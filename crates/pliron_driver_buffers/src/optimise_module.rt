@@ -5,7 +5,7 @@ ghost use Rattle.pliron_driver.specs.Ran.{RunsAlone};
 ghost use Rattle.pliron_driver_buffers.specs.Fills.{Fills};
 ghost use Rattle.pliron_driver_buffers.specs.Optimises.{Explains};
 ghost use Rattle.pliron_driver_buffers.specs.Modules.{IsWord, IsAsked, OptimisesModule, number_of_change};
-ghost use Rattle.pliron_driver_mlir.specs.Outcomes.{AsksFor};
+ghost use Rattle.pliron_driver_modules.specs.Outcomes.{AsksFor};
 
 use crate::buffer::{put, put_nothing};
 use crate::status::{CallFailure, Status};
@@ -15,7 +15,7 @@ use pliron_driver_instrument::{
     InstrumentationOptions, InstrumentedPipeline, InstrumentedStep, PipelineText, PlanError,
     Timeless, instrumented_pipeline, is_short,
 };
-use pliron_driver_mlir::{ModuleNotation, read_plan};
+use pliron_driver_modules::{ModuleNotation, read_plan};
 use pliron_pass::{BenchFactKind, Pass};
 use std::alloc::Global;
 

@@ -7,10 +7,11 @@ use pliron_core::Context;
 use pliron_dialect_calls::InliningDialect;
 use pliron_dialect_edges::BranchesAtOnce;
 use pliron_driver::Notation;
-use pliron_driver_mlir::{ModuleDocument, ModuleFailure, ModuleFault, ModuleNotation};
+use pliron_driver_mlir::{ModuleDocument, ModuleFailure, ModuleFault};
+use pliron_driver_modules::{DocumentView, ModuleNotation, ModuleSource, StageCounts};
 use pliron_laws::{Dialect, OptError};
 use pliron_text_mlir_syntax::Sheet;
-use std::alloc::Global;
+use std::alloc::{AllocError, Global};
 use std::marker::PhantomData;
 
 /// The name of the stage of this notation, in words that ask for passes.
@@ -22,8 +23,10 @@ pub const INLINING_STAGE: &str = "inline";
 /// module, linked runs are the same.
 pub struct InlinedForm<N>(PhantomData<(N, Sheet)>);
 
-impl<D: Dialect + BranchesAtOnce + InliningDialect, N: ModuleNotation<D = D>> Notation
-    for InlinedForm<N> {
+impl<
+    D: Dialect + BranchesAtOnce + InliningDialect,
+    N: ModuleNotation<D = D, Sheet = Sheet, Fault = ModuleFault>,
+> Notation for InlinedForm<N> {
     type D = D;
 
     type Rules = N::Rules;
@@ -59,7 +62,42 @@ impl<D: Dialect + BranchesAtOnce + InliningDialect, N: ModuleNotation<D = D>> No
     }
 }
 
-impl<D: Dialect + BranchesAtOnce + InliningDialect, N: ModuleNotation<D = D>> ModuleNotation
-    for InlinedForm<N> {
+impl<
+    D: Dialect + BranchesAtOnce + InliningDialect,
+    N: ModuleNotation<D = D, Sheet = Sheet, Fault = ModuleFault>,
+> ModuleNotation for InlinedForm<N> {
     type Plain = N::Plain;
+
+    fn comment_start() -> &'static str {
+        N::comment_start()
+    }
+
+    fn failure_message(
+        alloc: Global,
+        failure: ModuleFailure,
+        source: &ModuleSource,
+    ) -> Result<String, AllocError> {
+        N::failure_message(alloc, failure, source)
+    }
+
+    fn stages_of(sheet: &Sheet) -> StageCounts {
+        N::stages_of(sheet)
+    }
+
+    fn notes_of(
+        alloc: Global,
+        document: &ModuleDocument,
+        source: &ModuleSource,
+        ctx: &Context,
+    ) -> Result<String, OptError> {
+        N::notes_of(alloc, document, source, ctx)
+    }
+
+    fn is_same(
+        alloc: Global,
+        first: &DocumentView<Sheet>,
+        second: &DocumentView<Sheet>,
+    ) -> Result<bool, OptError> {
+        N::is_same(alloc, first, second)
+    }
 }

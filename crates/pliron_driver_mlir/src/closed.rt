@@ -1,17 +1,18 @@
 //! Modules of MLIR in notations whose texts proofs know by name alone.
 ghost use Rattle.pliron_driver.specs.Read.{PrintsKinds};
-ghost use Rattle.pliron_driver_mlir.specs.Modules.{ReadsModule};
+ghost use Rattle.pliron_driver_modules.specs.Modules.{ReadsModule};
 ghost use Rattle.pliron_driver.specs.Closed.{closed_reads, closed_prints};
 
 use crate::failure::{ModuleFailure, ModuleFault};
-use crate::notation::{GenericForm, ModuleDocument, ModuleNotation};
+use crate::notation::{GenericForm, ModuleDocument};
 use pliron_core::Context;
 use pliron_dialect_mlir::{AnyMeaning, Mlir};
 use pliron_driver::{ClosedNotation, Notation};
+use pliron_driver_modules::{DocumentView, ModuleNotation, ModuleSource, StageCounts};
 use pliron_laws::{HasMeaning, OptError};
 use pliron_mlir_rules::MlirRules;
 use pliron_text_mlir_reader::Sheet;
-use std::alloc::Global;
+use std::alloc::{AllocError, Global};
 use std::marker::PhantomData;
 
 /// The generic form of MLIR under [`AnyMeaning`].
@@ -57,4 +58,37 @@ impl Notation for ClosedForm {
 
 impl ModuleNotation for ClosedForm {
     type Plain = ClosedForm;
+
+    fn comment_start() -> &'static str {
+        MlirForm::comment_start()
+    }
+
+    fn failure_message(
+        alloc: Global,
+        failure: ModuleFailure,
+        source: &ModuleSource,
+    ) -> Result<String, AllocError> {
+        MlirForm::failure_message(alloc, failure, source)
+    }
+
+    fn stages_of(sheet: &Sheet) -> StageCounts {
+        MlirForm::stages_of(sheet)
+    }
+
+    fn notes_of(
+        alloc: Global,
+        document: &ModuleDocument,
+        source: &ModuleSource,
+        ctx: &Context,
+    ) -> Result<String, OptError> {
+        MlirForm::notes_of(alloc, document, source, ctx)
+    }
+
+    fn is_same(
+        alloc: Global,
+        first: &DocumentView<Sheet>,
+        second: &DocumentView<Sheet>,
+    ) -> Result<bool, OptError> {
+        MlirForm::is_same(alloc, first, second)
+    }
 }

@@ -1,8 +1,7 @@
 //! Why a module isn't answered.
-ghost use Rattle.std.specs.Prelude.{◌≤◌};
-
 use crate::other_form::other_form;
 use pliron_driver::TextFailure;
+use pliron_driver_modules::ModuleSource;
 use pliron_laws::OptError;
 use pliron_text_mlir_reader::{Expectation, Fault, position_of};
 use std::alloc::{AllocError, Global};
@@ -30,25 +29,14 @@ pub fn failure_of(fault: Fault) -> ModuleFailure {
     }
 }
 
-/// The status that a program ends with: 1 where something was refused, 2 where the text can't be used. Cost: constant.
-pub fn failure_status(failure: ModuleFailure) -> u8
-    ensures least { 1 ≤ result }
-    ensures most { result ≤ 2 }
-{
-    match failure {
-        TextFailure::Refused(_) => 1,
-        TextFailure::Text(_) => 2,
-    }
-}
-
-/// A line that says why a text that is called so isn't answered; of LLVM IR, bitcode and bytecode, what makes the generic form of
+/// A line that says why the text isn't answered; of LLVM IR, bitcode and bytecode, what makes the generic form of
 /// it. Errors: allocation failure. Cost: linear in the text before the place.
-pub fn failure_message(
+pub(crate) fn failure_message(
     alloc: Global,
     failure: ModuleFailure,
-    name: &str,
-    text: &[u8],
+    source: &ModuleSource,
 ) -> Result<String, AllocError> {
+    let (name, text) = (source.name, source.text);
     match failure {
         TextFailure::Text(fault) => match other_form(text) {
             Some(hint) => format!(in alloc; "{name}: error: {hint}\n"),

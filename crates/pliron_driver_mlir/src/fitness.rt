@@ -4,6 +4,7 @@ ghost use Rattle.pliron_core.specs.Tree.{IsLive};
 use crate::notation::ModuleDocument;
 use pliron_core::{Contents, Context, Operation, Ptr};
 use pliron_dialect_mlir::{Class, class_of_head};
+use pliron_driver_modules::ModuleSource;
 use pliron_laws::{Dialect, OptError};
 use pliron_pass_fit::{Violation, find_violation};
 use pliron_text_mlir_reader::position_of;
@@ -54,10 +55,8 @@ fn add<D: Dialect>(
     Ok(())
 }
 
-/// Which functions of the module are fit to run: after the passes they behave as before. Asks that the module's
-/// operation is live (`is_live` tests it). Errors: allocation failure. Cost: that of `find_violation` for each
-/// function.
-pub fn fitness_of<D: Dialect>(
+// Which functions of the module are fit to run: after the passes they behave as before.
+fn fitness_of<D: Dialect>(
     alloc: Global,
     loaded: &ModuleDocument,
     ctx: &Context,
@@ -90,20 +89,34 @@ fn add_all<D: Dialect>(
     Ok(())
 }
 
-/// Writes how many functions are fit to run, and a line for each other one. Errors: allocation failure. Cost: linear in
-/// the text, once for each line.
-pub fn write_fitness(
+// Writes how many functions are fit to run, and a line for each other one.
+fn write_fitness(
     report: &mut String,
     fitness: &Fitness,
-    name: &str,
-    text: &[u8],
+    source: &ModuleSource,
 ) -> Result<(), AllocError> {
     let (fit, unfit) = (fitness.fit, fitness.unfit.len());
     write!(report, "functions fit to run: {fit}, not: {unfit}\n")?;
     for function in &fitness.unfit {
-        let line = position_of(text, function.place).line;
+        let (name, line) = (source.name, position_of(source.text, function.place).line);
         let violation = function.violation;
         write!(report, "{name}:{line}: {violation}\n")?;
     }
     Ok(())
+}
+
+/// Lines on which functions of the module are fit to run. Asks that the module's operation is live (`is_live` tests it). Errors:
+/// allocation failure. Cost: that of `find_violation` for each function, and linear in the text, once for each function that isn't fit.
+pub(crate) fn fitness_notes<D: Dialect>(
+    alloc: Global,
+    loaded: &ModuleDocument,
+    source: &ModuleSource,
+    ctx: &Context,
+) -> Result<String, OptError>
+    requires { IsLive ctx.now.tree loaded.now.root }
+{
+    let fitness = fitness_of::<D>(alloc, loaded, ctx)?;
+    let mut notes = String::new(alloc);
+    write_fitness(&mut notes, &fitness, source)?;
+    Ok(notes)
 }

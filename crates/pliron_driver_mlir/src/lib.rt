@@ -1,28 +1,20 @@
-//! Modules of MLIR through passes: what the program `plir_mlir` does with texts.
+//! Modules of MLIR through passes: the generic form as a notation of modules.
 //!
-//! It knows texts, passes, what is reported about them, and streams; of words and files it knows nothing.
+//! It knows how modules of MLIR are read and printed, and what is told of them; what programs do with modules of any notation
+//! is in `pliron_driver_modules`, whose names it passes on.
 #![tactic(auto)]
 
 mod closed;
-mod each_pass;
 mod failure;
 mod fitness;
-mod module_observer;
 mod notation;
 mod other_form;
-mod outcome;
-mod plans;
-mod program;
-mod report;
-mod tally;
 
 pub use closed::ClosedForm;
-pub use each_pass::print_after_each;
-pub use failure::{ModuleFailure, ModuleFault, failure_message, failure_of, failure_status};
+pub use failure::{ModuleFailure, ModuleFault, failure_of};
 pub use fitness::{Fitness, Unfit};
-pub use module_observer::{ModuleCounts, ModuleObserver, ModuleOptions};
-pub use notation::{GenericForm, ModuleDocument, ModuleNotation};
-pub use outcome::{ModuleOutcome, ModuleSource, misspelling_outcome, run_passes};
-pub use plans::read_plan;
-pub use program::{MAX_TEXT, Request, run_on};
-pub use tally::ClassTally;
+pub use notation::{GenericForm, ModuleDocument};
+pub use pliron_driver_modules::{
+    MAX_TEXT, ModuleNotation, ModuleOptions, ModuleOutcome, ModuleSource, Request,
+    misspelling_outcome, print_after_each, read_plan, run_on, run_passes,
+};

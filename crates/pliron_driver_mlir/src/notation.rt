@@ -1,16 +1,18 @@
 //! Texts in MLIR's generic form, as passes know texts.
 ghost use Rattle.pliron_driver.specs.Read.{PrintsKinds};
-ghost use Rattle.pliron_driver_mlir.specs.Modules.{ReadsModule};
+ghost use Rattle.pliron_driver_modules.specs.Modules.{ReadsModule};
 
-use crate::failure::{ModuleFailure, ModuleFault, failure_of};
+use crate::failure::{ModuleFailure, ModuleFault, failure_message, failure_of};
+use crate::fitness::fitness_notes;
 use pliron_core::Context;
 use pliron_dialect_edges::BranchesAtOnce;
-use pliron_driver::{ClosedNotation, Document, Notation};
+use pliron_driver::{Document, Notation};
+use pliron_driver_modules::{DocumentView, ModuleNotation, ModuleSource, StageCounts};
 use pliron_laws::{Dialect, OptError};
 use pliron_pass_pipeline::NoRules;
-use pliron_text_mlir_printer::print_module;
+use pliron_text_mlir_printer::{ModuleView, is_same_module, print_module};
 use pliron_text_mlir_reader::{Sheet, read_module};
-use std::alloc::Global;
+use std::alloc::{AllocError, Global};
 use std::marker::PhantomData;
 
 /// A module that was read, with the sheet of what its text says beside the tree.
@@ -60,16 +62,51 @@ impl<D: Dialect + BranchesAtOnce> Notation for GenericForm<D> {
     }
 }
 
-/// A notation of modules.
-pub trait ModuleNotation: Notation<Sheet = Sheet, Fault = ModuleFault> {
-    /// The notation of the same texts in which a module is read as it is written.
-    type Plain: Notation<Sheet = Sheet, Fault = ModuleFault>;
-}
-
 impl<D: Dialect + BranchesAtOnce> ModuleNotation for GenericForm<D> {
     type Plain = GenericForm<D>;
+
+    fn comment_start() -> &'static str {
+        "//"
+    }
+
+    fn failure_message(
+        alloc: Global,
+        failure: ModuleFailure,
+        source: &ModuleSource,
+    ) -> Result<String, AllocError> {
+        failure_message(alloc, failure, source)
+    }
+
+    fn stages_of(sheet: &Sheet) -> StageCounts {
+        StageCounts {
+            inlined: sheet.inlined,
+            rotated: sheet.rotated,
+            erased: sheet.erased,
+        }
+    }
+
+    fn notes_of(
+        alloc: Global,
+        document: &ModuleDocument,
+        source: &ModuleSource,
+        ctx: &Context,
+    ) -> Result<String, OptError> {
+        fitness_notes::<D>(alloc, document, source, ctx)
+    }
+
+    fn is_same(
+        alloc: Global,
+        first: &DocumentView<Sheet>,
+        second: &DocumentView<Sheet>,
+    ) -> Result<bool, OptError> {
+        Ok(is_same_module(alloc, &view_of(first), &view_of(second))?)
+    }
 }
 
-impl<N: ModuleNotation> ModuleNotation for ClosedNotation<N> {
-    type Plain = ClosedNotation<N::Plain>;
+fn view_of<'m>(module: &DocumentView<'m, Sheet>) -> ModuleView<'m> {
+    ModuleView {
+        root: module.document.root,
+        sheet: &module.document.sheet,
+        ctx: module.ctx,
+    }
 }

@@ -42,7 +42,7 @@ static OTHER: &str = "\
 numbers that skip -- define i32 @f(i32 %x) {|  %7 = add i32 %x, 1|  %\"9\" = add i32 %7, 2|  ret i32 %\"9\"|} => define i32 @f(i32 %x) {|  %1 = add i32 %x, 1|  %\"9\" = add i32 %1, 2|  ret i32 %\"9\"|}
 a comment is dropped between statements -- define void @f() {|  ; a|  call void @g() ; b|  ret void|} => define void @f() {|  call void @g()|  ret void|}
 entries in another order -- define i32 @f(i1 %c) {|a:|  br i1 %c, label %b, label %d|b:|  br label %d|d:|  %y = phi i32 [ 2, %b ], [ 1, %a ]|  ret i32 %y|} => define i32 @f(i1 %c) {|a:|  br i1 %c, label %b, label %d||b:|  br label %d||d:|  %y = phi i32 [ 1, %a ], [ 2, %b ]|  ret i32 %y|}
-an invoke that gives a value to a block with another edge -- define i32 @f(i1 %c) personality ptr @q {|  br i1 %c, label %a, label %n|a:|  %r = invoke i32 @g() to label %n unwind label %u|n:|  %x = phi i32 [ 0, %0 ], [ %r, %a ]|  ret i32 %x|u:|  %l = landingpad { ptr, i32 } cleanup|  resume { ptr, i32 } %l|} => kept at 101: a value that an invoke gives to a block to which other edges lead
+an invoke that gives a value to a block with another edge -- define i32 @f(i1 %c) personality ptr @q {|  br i1 %c, label %a, label %n|a:|  %r = invoke i32 @g() to label %n unwind label %u|n:|  %x = phi i32 [ 0, %0 ], [ %r, %a ]|  ret i32 %x|u:|  %l = landingpad { ptr, i32 } cleanup|  resume { ptr, i32 } %l|} => kept at 78: a value that an invoke gives to a block to which other edges lead
 truths and signs -- define i1 @f(i8 %x) {|  %c = icmp eq i8 %x, 200|  %d = xor i1 %c, -1|  ret i1 %d|} => define i1 @f(i8 %x) {|  %c = icmp eq i8 %x, -56|  %d = xor i1 %c, true|  ret i1 %d|}";
 
 // The function, printed from its tree.

@@ -1,0 +1,99 @@
+//! Functions that passes optimise, each alone in a module, worked by hand. `|` stands for the end of a line, and `same` in
+//! the place of an answer for the text itself.
+use pliron_dialect_mlir::{AnyMeaning, Mlir};
+use pliron_driver_instrument::Timeless;
+use pliron_driver_llvm::LlvmText;
+use pliron_driver_modules::{ModuleOptions, ModuleSource, read_plan, run_passes};
+use std::alloc::Global;
+use std::process::Abort;
+
+type Text = LlvmText<Mlir<AnyMeaning>>;
+
+static PIPELINE: &str = "repeat:8:sccp,cse,canonicalize,simplify-cfg,dce";
+
+static ROWS: &str = "\
+a sum -- define i32 @f() {|  %1 = add i32 2, 3|  ret i32 %1|} => define i32 @f() {|  ret i32 5|}
+a sum that wraps where that is poison -- define i8 @f() {|  %1 = add nsw i8 127, 1|  ret i8 %1|} => same
+a branch that is known -- define i32 @f(i32 %0) {|  br i1 true, label %2, label %4||2:|  %3 = mul i32 %0, 1|  br label %5||4:|  br label %5||5:|  %6 = phi i32 [ %3, %2 ], [ 9, %4 ]|  %7 = add i32 %6, 1|  ret i32 %7|} => define i32 @f(i32 %0) {|  %2 = add i32 %0, 1|  ret i32 %2|}
+two edges of a switch -- define i32 @f(i32 %0, i32 %1) {|  switch i32 %0, label %3 [|    i32 0, label %4|    i32 1, label %4|  ]||3:|  br label %4||4:|  %5 = phi i32 [ %1, %2 ], [ %1, %2 ], [ 7, %3 ]|  ret i32 %5|} => same
+phis that are one constant -- define i32 @f(i1 %c) {|  br i1 %c, label %a, label %b||a:|  br label %d||b:|  br label %d||d:|  %p = phi ptr [ @g, %a ], [ @g, %b ]|  %q = phi i32 [ poison, %b ], [ poison, %a ]|  %r = call i32 %p(i32 %q)|  ret i32 %r|} => define i32 @f(i1 %c) {|  br i1 %c, label %a, label %b||a:|  br label %d||b:|  br label %d||d:|  %r = call i32 @g(i32 poison)|  ret i32 %r|}
+each undef is its own, so what reads it stays -- define i32 @f(i32 %x) {|  %a = add i32 undef, 0|  %b = add i32 %a, %x|  ret i32 %b|} => same
+equal addresses -- define ptr @f(i64 %i) {|  %p = getelementptr [4 x i32], ptr @t, i64 0, i64 %i|  %q = getelementptr [4 x i32], ptr @t, i64 0, i64 %i|  %r = select i1 true, ptr %q, ptr null|  store i32 1, ptr %p, align 4|  ret ptr %r|} => define ptr @f(i64 %i) {|  %p = getelementptr [4 x i32], ptr @t, i64 0, i64 %i|  store i32 1, ptr %p, align 4|  ret ptr %p|}
+flags and casts -- define i32 @f(i32 %0) {|  %2 = and i32 7, 3|  %3 = zext nneg i32 %2 to i64|  %4 = trunc nuw i64 %3 to i32|  %5 = icmp ult i32 %4, 4|  br i1 %5, label %6, label %7||6:|  ret i32 %4||7:|  unreachable|} => define i32 @f(i32 %0) {|  ret i32 3|}
+a loop without an end -- define void @f() {|  br label %1||1:|  %2 = call i1 @g()|  br i1 true, label %1, label %3||3:|  ret void|} => define void @f() {|  br label %1||1:|  %2 = call i1 @g()|  br label %1|}
+an invoke that gives -- define i32 @f() personality ptr @p {|  %r = invoke i32 @g()|          to label %n unwind label %u||n:|  ret i32 %r||u:|  %l = landingpad { ptr, i32 }|          cleanup|  resume { ptr, i32 } %l|} => same
+a loop with arguments that are one value -- define i32 @f(i32 %n) {|e:|  br label %h||h:|  %i = phi i32 [ 0, %e ], [ %j, %l ]|  %k = phi i32 [ 3, %e ], [ %k, %l ]|  %d = phi i32 [ 1, %e ], [ %i, %l ]|  %c = icmp slt i32 %i, %n|  br i1 %c, label %l, label %x||l:|  %j = add nsw i32 %i, 1|  br label %h||x:|  ret i32 %k|} => define i32 @f(i32 %n) {|e:|  br label %h||h:|  %i = phi i32 [ 0, %e ], [ %j, %l ]|  %c = icmp slt i32 %i, %n|  br i1 %c, label %l, label %x||l:|  %j = add nsw i32 %i, 1|  br label %h||x:|  ret i32 3|}
+names in quotes -- define i32 @\"odd name\"(i32 %\"a b\", i32 %\"5\") {|  %x = add i32 %\"a b\", 0|  %y = xor i32 %x, %x|  %z = or i32 %y, %\"5\"|  ret i32 %z|} => define i32 @\"odd name\"(i32 %\"a b\", i32 %\"5\") {|  ret i32 %\"5\"|}
+floats that are one -- define float @f(float %a, i1 %c) {|  %x = fadd fast float %a, 0.0|  %y = select i1 %c, float %x, float 0x7FF8000000000000|  br i1 %c, label %t, label %e||t:|  br label %e||e:|  %z = phi nnan float [ 1.0, %t ], [ 1.0, %0 ]|  ret float %z|} => define float @f(float %a, i1 %c) {|  br i1 %c, label %t, label %e||t:|  br label %e||e:|  ret float 1.0|}
+a switch on a number without its sign -- define void @f(i8 %x) {|  switch i8 200, label %d [|    i8 -56, label %m|    i8 100, label %d|  ]||m:|  call void @g()|  br label %d||d:|  ret void|} => define void @f(i8 %x) {|  call void @g()|  ret void|}";
+
+/// Modules that are printed as they are written where no pass runs.
+static MODULES: &str = "\
+an empty text -- 
+raw text alone -- ; a comment|@g = global i32 1|declare void @h()|
+text around functions -- @g = global i32 1||define i32 @f(i32 %x) {|  %y = add i32 %x, 1|  ret i32 %y|}| ; between|define void @h() {|  ret void|}|!0 = !{i32 1}|
+two functions on a line -- define void @f() {|  ret void|} define void @g() {|  ret void|}
+a function that isn't understood -- define void @f() {|  %x =   frobnicate i32 1, 2|  ret void|}||define void @g() {|  ret void|}|
+a debug record -- define void @f(i32 %x) {|    #dbg_value(i32 %x, !1, !DIExpression(), !2)|  ret void|}|
+an address of a block -- @t = global ptr blockaddress(@f, %a)|define void @f() {|  br label   %a|a:|  ret void|}|
+attributes and metadata -- define dso_local noundef i32 @f(ptr noundef %0) local_unnamed_addr #0 !dbg !3 {|  %2 = load i32, ptr %0, align 4, !tbaa !5|  ret i32 %2|}||attributes #0 = { nounwind }|!5 = !{!6, !6, i64 0}|";
+
+/// What is looked at around passes: nothing.
+static NOTHING: ModuleOptions = ModuleOptions {
+    counts: false,
+    verifies: false,
+    times: false,
+    checks: false,
+};
+
+// The text with an end of a line for each `|`.
+fn with_lines(rt: &impl Abort, alloc: Global, text: &str) -> String {
+    let mut lines = String::new(alloc);
+    for letter in text.chars() {
+        lines
+            .push(if letter == '|' { '\n' } else { letter })
+            .expect(rt, "memory");
+    }
+    lines
+}
+
+// What the passes of the word leave of the text, or what is reported.
+fn optimised(rt: &impl Abort, alloc: Global, word: &str, text: &str) -> String {
+    let Ok(plan) = read_plan(alloc, word) else {
+        return String::from_str(alloc, "no passes").expect(rt, "memory");
+    };
+    let source = ModuleSource {
+        name: "row",
+        text: text.as_bytes(),
+    };
+    let made = run_passes::<Text, Timeless>(alloc, &source, &NOTHING, &plan, Timeless);
+    let outcome = made.expect(rt, "memory");
+    if outcome.status != 0 {
+        return outcome.report;
+    }
+    let output = std::str::from_utf8(&outcome.output).unwrap_or("no text");
+    String::from_str(alloc, output).expect(rt, "memory")
+}
+
+#[test]
+fn optimises_functions(rt: HostRuntime) {
+    for case in ROWS.lines() {
+        let (name, row) = case.split_once(" -- ").expect(&rt, "a name");
+        let (text, answer) = row.split_once(" => ").expect(&rt, "an answer");
+        let before = with_lines(&rt, rt.alloc(), text);
+        let wanted = if answer == "same" { text } else { answer };
+        let after = with_lines(&rt, rt.alloc(), wanted);
+        let found = optimised(&rt, rt.alloc(), PIPELINE, before.as_str());
+        assert!(rt; found.as_str() == after.as_str(), "{name}: {found}");
+    }
+}
+
+#[test]
+fn prints_modules_as_they_are(rt: HostRuntime) {
+    for case in MODULES.lines() {
+        let (name, row) = case.split_once(" -- ").expect(&rt, "a name");
+        let text = with_lines(&rt, rt.alloc(), row);
+        let found = optimised(&rt, rt.alloc(), "", text.as_str());
+        assert!(rt; found.as_str() == text.as_str(), "{name}: {found}");
+    }
+}

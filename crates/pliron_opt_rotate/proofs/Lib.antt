@@ -1,0 +1,5 @@
+mod Walks
+mod Loops
+mod Rotatable
+mod Whole
+mod Edges

@@ -1,0 +1,6 @@
+use Rattle.std.proofs.Common.{ℕ}
+use Rattle.pliron_core.specs.Tree.{In}
+use Rattle.pliron_opt_rotate.proofs.covering.set_of_values.Given as goal
+
+abbrev pub invariant-loop-i : goal.invariant-loop-i
+invariant-loop-i l = (v : ℕ) → In v l.set.keys → In v l.values

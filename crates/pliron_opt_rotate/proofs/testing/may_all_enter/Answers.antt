@@ -1,0 +1,21 @@
+use Rattle.std.proofs.Common.{◌≤◌, length, refl, arith}
+use Rattle.std.proofs.lemmas.Option.{slice_get_read}
+use Rattle.pliron_core.proofs.ContainedLemmas.{passed-more, passed-all}
+use Rattle.pliron_rewrite_rotation.specs.Entering.{EndsBeside}
+use Rattle.pliron_opt_rotate.proofs.Loops.{none_passed}
+use Rattle.pliron_opt_rotate.proofs.testing.may_all_enter.Goals as goal
+
+pub loop-i-init : goal.loop-i-init
+loop-i-init c = none_passed _ _
+
+pub loop-i-preserved : goal.loop-i-preserved
+loop-i-preserved c =
+    let h = c.loop-i-test.true in
+    let at = slice_get_read c.args.ops.now (length c.args.ops.now) c.loop-i.i c.index-ops-i.result refl (omega (arith, h)) c.index-ops-i.is in
+    passed-more _ _ c.loop-i.i c.index-ops-i.result c.loop-i.invariant at (c.may_enter.ensures c.if-not-may_enter.false)
+
+pub returns : goal.returns
+returns c = λ e.
+    let past = c.loop-i-test.false in
+    let whole : length c.args.ops.now ≤ c.loop-i.i = omega (arith, past) in
+    passed-all (λ k. EndsBeside c.args.ctx.now.tree c.args.header k) c.args.ops.now c.loop-i.i c.loop-i.invariant whole
