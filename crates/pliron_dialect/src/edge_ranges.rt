@@ -125,7 +125,9 @@ pub fn edge_near<K: Roles>(op: Ptr<Operation>, ctx: &Context, place: usize) -> u
     }
 }
 
-// The places of the operands that an edge of a branch with so many edges and operands forwards.
+// The places of the operands that an edge of a branch with so many edges and operands forwards. An edge that forwards none
+// costs no look at those before it.
+#[tactic(auto, using(crate::specs::Counted::capped_empty))]
 fn branch_places(attrs: &Attrs, operands: usize, edges: usize, i: usize) -> EdgeRange
     ensures places { capped_places operands (edge_counts_in edges attrs.now) i ≡ range_with_len result.first
         result.count }
@@ -133,6 +135,9 @@ fn branch_places(attrs: &Attrs, operands: usize, edges: usize, i: usize) -> Edge
     ensures fits { result.first + result.count ≤ 18446744073709551615 }
 {
     let count = count_at(attrs, edges, i, operands);
+    if operands != 0 && count == 0 {
+        return EdgeRange { first: 0, count: 0 };
+    }
     let start = start_at(attrs, edges, i, operands);
     if count < operands - start {
         EdgeRange {
