@@ -8,7 +8,9 @@ mod closed;
 mod failure;
 mod kept;
 mod notation;
+mod other_form;
 
 pub use closed::ClosedText;
 pub use failure::{ExpectedInModule, LlvmFailure, LlvmTextFault};
 pub use notation::{LlvmDocument, LlvmText, ModuleNotes};
+pub use other_form::OtherForm;
