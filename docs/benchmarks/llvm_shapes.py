@@ -17,6 +17,7 @@ import tempfile
 
 HEAD = "define i32 @f(i1 %c, i32 %a, ptr %p) personality ptr @h {\n"
 END = "  ret i32 %a\n}\n"
+DECLARED = "declare void @g(i32)\ndeclare i32 @k()\ndeclare i32 @h(...)\n"
 
 
 def lines(pattern, n):
@@ -111,7 +112,7 @@ def constants(n):
 
 def metadata(n):
     """n lines of metadata."""
-    return HEAD + END + lines("!{i} = !{{!{j}, i32 {i}}}\n", n)
+    return HEAD + END + lines("!{i} = !{{!{j}, i32 {i}}}\n", n) + f"!{n} = !{{}}\n"
 
 
 def functions(n):
@@ -190,7 +191,7 @@ SHAPES = {
 def counted(program, passes, text):
     """The instructions that the program executes on the text, in millions."""
     with tempfile.NamedTemporaryFile("w", suffix=".ll") as file:
-        file.write(text)
+        file.write(text + DECLARED)
         file.flush()
         words = ["valgrind", "--tool=cachegrind", "--cache-sim=no", "--cachegrind-out-file=/dev/null", program, passes, file.name]
         ran = subprocess.run(words, capture_output=True, text=True, errors="replace")
@@ -217,7 +218,7 @@ def growth(program, chosen):
 def main():
     words = sys.argv[1:]
     if len(words) == 2 and words[0] in SHAPES and words[1].isdigit():
-        sys.stdout.write(SHAPES[words[0]][0](int(words[1])))
+        sys.stdout.write(SHAPES[words[0]][0](int(words[1])) + DECLARED)
     elif len(words) >= 2 and words[0] == "growth" and all(it in SHAPES for it in words[2:]):
         sys.exit(1 if growth(words[1], words[2:]) else 0)
     else:
