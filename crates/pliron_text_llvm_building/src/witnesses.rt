@@ -7,22 +7,46 @@ use std::alloc::AllocError;
 /// For each definition that operations read where one does: as an operand of its own, or else on an edge.
 #[derive(Drop)]
 pub struct Witnesses {
-    by_definition: Vec<Option<WitnessNote>>,
+    operands: Vec<Option<WitnessNote>>,
+    passed: Vec<Option<WitnessNote>>,
 }
 
 /// So many edges of an operation are looked at, so that what one passes is found by the count of those before it.
 const MOST_EDGES: usize = 2;
 
+// At this number there is this witness from now on, or the one that there was.
+fn put_first<T: Copy + Drop>(
+    witnesses: &mut Vec<Option<T>>,
+    number: usize,
+    witness: T,
+) -> Result<(), AllocError> {
+    if number >= witnesses.len() {
+        witnesses.resize(number, None)?;
+        witnesses.push(Some(witness))?;
+    } else if witnesses[number].is_none() {
+        witnesses[number] = Some(witness);
+    }
+    Ok(())
+}
+
+// The witness at this number, if there is one.
+fn witness_at(witnesses: &[Option<WitnessNote>], number: usize) -> Option<WitnessNote> {
+    match witnesses.get(number) {
+        Some(witness) => *witness,
+        None => None,
+    }
+}
+
 impl Witnesses {
     /// Where the definition of this number is read, if that is known. Cost: constant.
     pub fn of_definition(&self, number: usize) -> Option<WitnessNote> {
-        match self.by_definition.get(number) {
-            Some(witness) => *witness,
-            None => None,
+        match witness_at(&self.operands, number) {
+            Some(witness) => Some(witness),
+            None => witness_at(&self.passed, number),
         }
     }
 
-    // The planned value is read there. An operand is the better witness, and the first one of each kind counts.
+    // The planned value is read there.
     fn put(
         &mut self,
         planned: Option<PlannedValue>,
@@ -31,18 +55,11 @@ impl Witnesses {
         let Some(PlannedValue::Defined(number)) = planned else {
             return Ok(());
         };
-        if number >= self.by_definition.len() {
-            self.by_definition.resize(number, None)?;
-            return Ok(self.by_definition.push(Some(witness))?);
+        if witness.argument.is_none() {
+            put_first(&mut self.operands, number, witness)
+        } else {
+            put_first(&mut self.passed, number, witness)
         }
-        let is_better = match self.by_definition[number] {
-            Some(found) => found.argument.is_some() && witness.argument.is_none(),
-            None => true,
-        };
-        if is_better {
-            self.by_definition[number] = Some(witness);
-        }
-        Ok(())
     }
 
     // What the operation of this number reads itself.
@@ -137,7 +154,8 @@ impl Witnesses {
     /// linear in its operands.
     pub fn of_plan(plan: &FunctionPlan, built: &BuiltParts) -> Result<Witnesses, AllocError> {
         let mut witnesses = Witnesses {
-            by_definition: Vec::new(built.alloc),
+            operands: Vec::new(built.alloc),
+            passed: Vec::new(built.alloc),
         };
         if plan.named.is_empty() {
             return Ok(witnesses);

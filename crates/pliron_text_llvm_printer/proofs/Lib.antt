@@ -1,2 +1,3 @@
+pub mod DebugLemmas
 pub mod FunctionLemmas
 pub mod ModuleLemmas

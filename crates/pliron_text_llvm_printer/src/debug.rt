@@ -21,6 +21,7 @@ const CALL_WORDS: [&[u8]; 5] = [
 ];
 
 // Appends a location at no line of the scope.
+#[tactic(auto, using(crate::proofs::DebugLemmas::line_zero_put))]
 fn write_line_zero(scope: &[u8], out: &mut Vec<u8>) -> Result<(), AllocError>
     ensures { OnOk result (out.new.items ≡ out.old.items ++ line_zero scope.now) }
 {
@@ -29,12 +30,12 @@ fn write_line_zero(scope: &[u8], out: &mut Vec<u8>) -> Result<(), AllocError>
     out.extend_from_slice(b")")
 }
 
-/// The notes of operations that are gone.
+/// The records before operations that are gone.
 #[derive(Drop)]
-struct GoneNotes {
-    /// The last one first.
-    notes: Vec<OperationNote>,
-    /// Whether the first one is that up to which all is printed.
+struct GoneRecords {
+    /// Of each operation the first of its records, and how many: those of the last operation first.
+    ranges: Vec<(usize, usize)>,
+    /// Whether the first operation is the one up to which all is printed.
     has_left: bool,
 }
 
@@ -86,9 +87,9 @@ impl FunctionView<'_> {
         }
     }
 
-    // Appends the lines of the records before the operation with this note.
-    fn write_own(self, note: OperationNote, out: &mut Vec<u8>) -> Result<(), PrintStop> {
-        let (first, count) = note.records;
+    // Appends the lines of so many records from the first one on.
+    fn write_range(self, range: (usize, usize), out: &mut Vec<u8>) -> Result<(), PrintStop> {
+        let (first, count) = range;
         for number in first..first.saturating_add(count) {
             self.write_record_at(number, out)?;
         }
@@ -103,12 +104,13 @@ impl FunctionView<'_> {
         }
     }
 
-    // Adds the notes of the operations that are gone from `last` back, as far as the one that is `left`.
+    // Adds the records before the operations that are gone from `last` back, as far as the one that is `left`. Answers
+    // whether that one is reached.
     fn push_gone(
         self,
         last: Option<Ptr<Operation>>,
         left: Option<Ptr<Operation>>,
-        notes: &mut Vec<OperationNote>,
+        ranges: &mut Vec<(usize, usize)>,
     ) -> Result<bool, AllocError> {
         let mut at = last;
         // Each turn goes to the operation before.
@@ -116,7 +118,7 @@ impl FunctionView<'_> {
             let Some(gone) = self.note_of_gone(at) else {
                 return Ok(false);
             };
-            notes.push(gone)?;
+            ranges.push(gone.records)?;
             if at == left {
                 return Ok(true);
             }
@@ -125,23 +127,23 @@ impl FunctionView<'_> {
         Ok(false)
     }
 
-    // The operations that are gone directly before the one with this note.
+    // The records before the operations that are gone directly before the one with this note.
     fn gone_before(
         self,
         note: OperationNote,
         left: Option<Ptr<Operation>>,
-    ) -> Result<GoneNotes, AllocError> {
-        let mut notes = Vec::new(self.alloc);
-        match self.push_gone(note.before, left, &mut notes) {
-            Ok(has_left) => Ok(GoneNotes { notes, has_left }),
+    ) -> Result<GoneRecords, AllocError> {
+        let mut ranges = Vec::new(self.alloc);
+        match self.push_gone(note.before, left, &mut ranges) {
+            Ok(has_left) => Ok(GoneRecords { ranges, has_left }),
             Err(refused) => Err(refused),
         }
     }
 
-    // Appends the lines of the records before these operations.
-    fn write_notes(self, notes: &[OperationNote], out: &mut Vec<u8>) -> Result<(), PrintStop> {
-        for i in 0..notes.len() {
-            self.write_own(notes[notes.len() - 1 - i], out)?;
+    // Appends the lines of these records, the last ones first.
+    fn write_ranges(self, ranges: &[(usize, usize)], out: &mut Vec<u8>) -> Result<(), PrintStop> {
+        for range in ranges.iter().rev() {
+            self.write_range(*range, out)?;
         }
         Ok(())
     }
@@ -170,7 +172,7 @@ impl FunctionView<'_> {
             let Some(gone) = self.note_of_gone(at) else {
                 break;
             };
-            self.write_own(gone, out)?;
+            self.write_range(gone.records, out)?;
             at = gone.behind;
         }
         Ok(())
@@ -190,7 +192,7 @@ impl FunctionView<'_> {
             self.write_left(left, out)
         };
         match written {
-            Ok(()) => self.write_notes(&gone.notes, out),
+            Ok(()) => self.write_ranges(&gone.ranges, out),
             Err(stop) => Err(stop),
         }
     }
@@ -219,7 +221,7 @@ impl FunctionView<'_> {
                 if left != Some(op) {
                     self.write_before(note, left, out)?;
                 }
-                self.write_own(note, out)?;
+                self.write_range(note.records, out)?;
                 Ok(note.behind)
             }
             None => {

@@ -408,6 +408,17 @@ impl FunctionView<'_> {
         }
         Ok(())
     }
+
+    // Appends the blocks, and those whose addresses are taken and that are gone.
+    fn write_body(
+        self,
+        blocks: &[Ptr<BasicBlock>],
+        taken: &[TakenBlock],
+        out: &mut Vec<u8>,
+    ) -> Result<(), PrintStop> {
+        self.write_blocks(blocks, out)?;
+        self.write_all_gone(taken, out)
+    }
 }
 
 // Appends a function with this body, behind the text that was before its body.
@@ -430,25 +441,19 @@ fn write_function(
     Ok(out.push(b'}')?)
 }
 
-/// The blocks of a function, and those whose addresses are taken.
-#[derive(Clone, Copy)]
-struct PrintedBlocks<'b> {
-    live: &'b [Ptr<BasicBlock>],
-    taken: &'b [TakenBlock],
-}
-
 // The text of the blocks of the function, by new numbers, and of those that are gone.
 fn text_of_blocks(
     alloc: Global,
     root: Ptr<Operation>,
-    blocks: PrintedBlocks<'_>,
+    taken: &[TakenBlock],
     sheet: &LlvmSheet,
     ctx: &Context,
     body: &mut Vec<u8>,
 ) -> Result<(), PrintStop> {
-    let edges = edges_between(alloc, blocks.live, sheet, ctx)?;
+    let blocks = blocks_of(alloc, root, ctx)?;
+    let edges = edges_between(alloc, &blocks, sheet, ctx)?;
     let mut numbers = LocalNumbers::new(alloc);
-    match numbers.add_all(blocks.live, sheet, ctx) {
+    match numbers.add_all(&blocks, sheet, ctx) {
         Ok(()) => {
             let header = form_text(root, sheet, ctx).unwrap_or(&[]);
             let view = FunctionView {
@@ -459,8 +464,7 @@ fn text_of_blocks(
                 scope: scope_of_header(header),
                 ctx,
             };
-            view.write_blocks(blocks.live, body)?;
-            view.write_all_gone(blocks.taken, body)
+            view.write_body(&blocks, taken, body)
         }
         Err(stop) => Err(stop),
     }
@@ -483,10 +487,8 @@ pub fn print_function(
 ) -> Result<(), PrintStop>
     ensures { OnOk result (AppendsFunction sheet.now ctx.now.tree root out.old.items out.new.items) }
 {
-    let live = blocks_of(alloc, root, ctx)?;
-    let blocks = PrintedBlocks { live: &live, taken };
     let mut body = Vec::new(alloc);
-    match text_of_blocks(alloc, root, blocks, sheet, ctx, &mut body) {
+    match text_of_blocks(alloc, root, taken, sheet, ctx, &mut body) {
         Ok(()) => write_function(root, &body, sheet, ctx, out),
         Err(stop) => Err(stop),
     }

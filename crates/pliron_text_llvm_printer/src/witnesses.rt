@@ -42,15 +42,18 @@ fn place_passed(op: Ptr<Operation>, edge: usize, argument: Value, ctx: &Context)
 }
 
 // What stands where the value was read.
+#[tactic(auto, using(crate::proofs::DebugLemmas::own_operand, crate::proofs::DebugLemmas::passed_operand))]
 fn value_at(witness: WitnessNote, sheet: &LlvmSheet, ctx: &Context) -> Option<Value>
     ensures { IfSome result (λ value. IsOperandOf ctx.now.tree witness value) }
 {
     let Some(argument) = witness.argument else {
-        return operand_at(witness.op, witness.index, ctx);
+        let value = operand_at(witness.op, witness.index, ctx)?;
+        return Some(value);
     };
     let i = place_passed(witness.op, witness.index, argument, ctx)?;
     let first = first_passed(witness.op, witness.index, sheet, ctx);
-    operand_at(witness.op, first.saturating_add(i), ctx)
+    let value = operand_at(witness.op, first.saturating_add(i), ctx)?;
+    Some(value)
 }
 
 /// What stands for a value that a debug record names: the value while it lives, and else what stands now where the text reads
