@@ -127,14 +127,14 @@ impl FunctionView<'_> {
         Ok(false)
     }
 
-    // The records before the operations that are gone directly before the one with this note.
+    // The records before the operations that are gone from `last` back.
     fn gone_before(
         self,
-        note: OperationNote,
+        last: Option<Ptr<Operation>>,
         left: Option<Ptr<Operation>>,
     ) -> Result<GoneRecords, AllocError> {
         let mut ranges = Vec::new(self.alloc);
-        match self.push_gone(note.before, left, &mut ranges) {
+        match self.push_gone(last, left, &mut ranges) {
             Ok(has_left) => Ok(GoneRecords { ranges, has_left }),
             Err(refused) => Err(refused),
         }
@@ -178,23 +178,61 @@ impl FunctionView<'_> {
         Ok(())
     }
 
-    // Appends the lines of the records before the operation with this note that `left` doesn't begin.
-    fn write_before(
+    // Appends the lines of the records from `left` on, where those of the operations that are gone don't begin there, and of
+    // these.
+    fn write_gone(
         self,
-        note: OperationNote,
+        gone: &GoneRecords,
         left: Option<Ptr<Operation>>,
         out: &mut Vec<u8>,
     ) -> Result<(), PrintStop> {
-        let gone = self.gone_before(note, left)?;
-        let written = if gone.has_left {
-            Ok(())
-        } else {
-            self.write_left(left, out)
-        };
-        match written {
-            Ok(()) => self.write_ranges(&gone.ranges, out),
-            Err(stop) => Err(stop),
+        if !gone.has_left {
+            self.write_left(left, out)?;
         }
+        self.write_ranges(&gone.ranges, out)
+    }
+
+    // Appends the lines of the records between `left` and the operation, of which `last` is the one before in the text.
+    fn write_before(
+        self,
+        op: Ptr<Operation>,
+        last: Option<Ptr<Operation>>,
+        left: Option<Ptr<Operation>>,
+        out: &mut Vec<u8>,
+    ) -> Result<(), PrintStop> {
+        if left == Some(op) {
+            return Ok(());
+        }
+        let gone = self.gone_before(last, left)?;
+        self.write_gone(&gone, left, out)
+    }
+
+    // Appends the lines of the records before the operation with this note.
+    fn write_noted(
+        self,
+        op: Ptr<Operation>,
+        note: OperationNote,
+        left: Option<Ptr<Operation>>,
+        out: &mut Vec<u8>,
+    ) -> Result<Option<Ptr<Operation>>, PrintStop> {
+        let (last, records, behind) = (note.before, note.records, note.behind);
+        self.write_before(op, last, left, out)?;
+        self.write_range(records, out)?;
+        Ok(behind)
+    }
+
+    // Appends the lines of the records that are left before the operation of which the text says nothing, if it is the last
+    // one of its block.
+    fn write_unnoted(
+        self,
+        op: Ptr<Operation>,
+        left: Option<Ptr<Operation>>,
+        out: &mut Vec<u8>,
+    ) -> Result<(), PrintStop> {
+        if next_operation(op, self.ctx).is_some() {
+            return Ok(());
+        }
+        self.write_left(left, out)
     }
 
     /// The operation of the text with which the block began. Cost: constant.
@@ -217,17 +255,9 @@ impl FunctionView<'_> {
         out: &mut Vec<u8>,
     ) -> Result<Option<Ptr<Operation>>, PrintStop> {
         match self.note_of_operation(op) {
-            Some(note) => {
-                if left != Some(op) {
-                    self.write_before(note, left, out)?;
-                }
-                self.write_range(note.records, out)?;
-                Ok(note.behind)
-            }
+            Some(note) => self.write_noted(op, note, left, out),
             None => {
-                if next_operation(op, self.ctx).is_none() {
-                    self.write_left(left, out)?;
-                }
+                self.write_unnoted(op, left, out)?;
                 Ok(left)
             }
         }
