@@ -180,7 +180,7 @@ impl FunctionView<'_> {
 
     // Appends the lines of the records from `left` on, where those of the operations that are gone don't begin there, and of
     // these.
-    fn write_gone(
+    fn write_skipped(
         self,
         gone: &GoneRecords,
         left: Option<Ptr<Operation>>,
@@ -204,7 +204,7 @@ impl FunctionView<'_> {
             return Ok(());
         }
         let gone = self.gone_before(last, left)?;
-        self.write_gone(&gone, left, out)
+        self.write_skipped(&gone, left, out)
     }
 
     // Appends the lines of the records before the operation with this note.
