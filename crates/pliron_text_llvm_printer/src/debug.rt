@@ -161,6 +161,22 @@ impl FunctionView<'_> {
         at.is_none()
     }
 
+    // Appends the lines of the records before the operation, if it is gone, and answers the one behind it.
+    fn write_one_left(
+        self,
+        at: Option<Ptr<Operation>>,
+        out: &mut Vec<u8>,
+    ) -> Result<Option<Ptr<Operation>>, PrintStop> {
+        match self.note_of_gone(at) {
+            Some(gone) => {
+                let (records, behind) = (gone.records, gone.behind);
+                self.write_range(records, out)?;
+                Ok(behind)
+            }
+            None => Ok(None),
+        }
+    }
+
     // Appends the lines of the records before the operations from this one on, where all of them are gone.
     fn write_left(self, left: Option<Ptr<Operation>>, out: &mut Vec<u8>) -> Result<(), PrintStop> {
         if !self.is_all_gone(left) {
@@ -169,11 +185,10 @@ impl FunctionView<'_> {
         let mut at = left;
         // Each turn goes to the next operation, or is the last.
         for _ in 0..u64::MAX {
-            let Some(gone) = self.note_of_gone(at) else {
+            if at.is_none() {
                 break;
-            };
-            self.write_range(gone.records, out)?;
-            at = gone.behind;
+            }
+            at = self.write_one_left(at, out)?;
         }
         Ok(())
     }
@@ -222,17 +237,18 @@ impl FunctionView<'_> {
     }
 
     // Appends the lines of the records that are left before the operation of which the text says nothing, if it is the last
-    // one of its block.
+    // one of its block. Answers what is left then.
     fn write_unnoted(
         self,
         op: Ptr<Operation>,
         left: Option<Ptr<Operation>>,
         out: &mut Vec<u8>,
-    ) -> Result<(), PrintStop> {
+    ) -> Result<Option<Ptr<Operation>>, PrintStop> {
         if next_operation(op, self.ctx).is_some() {
-            return Ok(());
+            return Ok(left);
         }
-        self.write_left(left, out)
+        self.write_left(left, out)?;
+        Ok(None)
     }
 
     /// The operation of the text with which the block began. Cost: constant.
@@ -256,10 +272,7 @@ impl FunctionView<'_> {
     ) -> Result<Option<Ptr<Operation>>, PrintStop> {
         match self.note_of_operation(op) {
             Some(note) => self.write_noted(op, note, left, out),
-            None => {
-                self.write_unnoted(op, left, out)?;
-                Ok(left)
-            }
+            None => self.write_unnoted(op, left, out),
         }
     }
 
