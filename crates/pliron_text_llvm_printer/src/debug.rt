@@ -21,13 +21,13 @@ const CALL_WORDS: [&[u8]; 5] = [
 ];
 
 // Appends a location at no line of the scope.
-#[tactic(auto, using(crate::proofs::DebugLemmas::line_zero_put))]
 fn write_line_zero(scope: &[u8], out: &mut Vec<u8>) -> Result<(), AllocError>
     ensures { OnOk result (out.new.items ≡ out.old.items ++ line_zero scope.now) }
 {
     out.extend_from_slice(b", !dbg !DILocation(line: 0, scope: !")?;
     out.extend_from_slice(scope)?;
-    out.extend_from_slice(b")")
+    out.extend_from_slice(b")")?;
+    Ok(())
 }
 
 /// The records before operations that are gone.

@@ -30,14 +30,27 @@ fn first_passed(op: Ptr<Operation>, edge: usize, sheet: &LlvmSheet, ctx: &Contex
     first
 }
 
-// Which of the operands that the edge with this index passes is for the argument, if it still leads there.
-fn place_passed(op: Ptr<Operation>, edge: usize, argument: Value, ctx: &Context) -> Option<usize> {
-    if !op.is_live(ctx) || edge >= op.num_successor(ctx) || !argument.is_live(ctx) {
+// The key of the block whose argument the value is, and its index there.
+fn place_of_argument(argument: Value, ctx: &Context) -> Option<(u64, usize)> {
+    if !argument.is_live(ctx) {
         return None;
     }
     match argument.def(ctx) {
-        Def::Argument(block, i) if block == op.get_successor(ctx, edge) => Some(i),
+        Def::Argument(block, i) => Some((block.key(), i)),
         _ => None,
+    }
+}
+
+// Which of the operands that the edge with this index passes is for the argument, if it still leads there.
+fn place_passed(op: Ptr<Operation>, edge: usize, argument: Value, ctx: &Context) -> Option<usize> {
+    let (block, i) = place_of_argument(argument, ctx)?;
+    if !op.is_live(ctx) || edge >= op.num_successor(ctx) {
+        return None;
+    }
+    if op.get_successor(ctx, edge).key() == block {
+        Some(i)
+    } else {
+        None
     }
 }
 
