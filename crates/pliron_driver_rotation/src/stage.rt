@@ -15,8 +15,8 @@ use std::alloc::Global;
 pub const ROTATION_STAGE: &str = "rotate";
 
 /// The stage that rotates the loops of a module. The sheet gets the types of what was made, and counts the headers that were
-/// copied. Where it can't say the type of a value that one block uses and another one defines, the module stays as it is, and
-/// the sheet notes that.
+/// copied. Where it can't say the type of a value that a block uses and another one defines to which several edges lead, the
+/// module stays as it is, and the sheet notes that.
 ///
 /// The module's operation stays live and well linked, nothing outside it changes, and each root that is fit to run does the same.
 pub struct RotatingStage;

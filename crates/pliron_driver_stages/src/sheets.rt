@@ -7,8 +7,7 @@ use std::alloc::Global;
 /// The sheet of a module's text, as stages know it: what it says of the values that they make, and what they did.
 pub trait StageSheet {
     /// Learns the types of the values in the module, before a stage changes it. Answers whether the type of each value is
-    /// known that a block uses and another one defines, but for values of the first block of a function. Errors: allocation
-    /// failure.
+    /// known that a block uses and another one defines to which several edges lead. Errors: allocation failure.
     fn learn_types(
         &mut self,
         alloc: Global,

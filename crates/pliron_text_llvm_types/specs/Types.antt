@@ -138,10 +138,13 @@ abbrev pub IsVectorLike : List ℕ → List ℕ → List ℕ → Type 0
 IsVectorLike vector element made =
     (end : ℕ) × (made ≡ (60 ∷ []) ++ take end (inside_of_type vector) ++ (32 ∷ []) ++ element ++ 62 ∷ [])
 
+abbrev pub IsElementOrVector : Bool → List ℕ → List ℕ → List ℕ → Type 0
+IsElementOrVector false many element made = made ≡ element
+IsElementOrVector true many element made = IsVectorLike many element made
+
 -- this type, or a vector of such elements where the other type is a vector
 abbrev pub IsAsMany : List ℕ → List ℕ → List ℕ → Type 0
-IsAsMany many element made =
-    if is_angle many && not (is_angle element) then IsVectorLike many element made else made ≡ element
+IsAsMany many element made = IsElementOrVector (is_angle many && not (is_angle element)) many element made
 
 -- a pointer to the address space in this bracket, or to none
 abbrev pub pointer_to : List ℕ → List ℕ

@@ -66,7 +66,7 @@ struct TypeLearning {
     named: NamedTypes,
     /// By the numbers of forms: the numbers of the types of what statements give, which are looked for once.
     forms: IndexMap<usize, Option<usize>>,
-    /// Whether a type isn't known of a value that another block uses.
+    /// Whether a type isn't known of a value of a block to which several edges lead, and that another block uses.
     lacks: bool,
 }
 
@@ -111,15 +111,9 @@ fn only_leader(block: Ptr<BasicBlock>, ctx: &Context) -> Option<Ptr<Operation>> 
     }
 }
 
-// Whether the block is the first one of its region.
-fn is_first(block: Ptr<BasicBlock>, ctx: &Context) -> bool {
-    if !block.is_live(ctx) {
-        return false;
-    }
-    match block.get_parent_region(ctx) {
-        Some(region) if region.is_live(ctx) => region.get_head(ctx) == Some(block),
-        _ => false,
-    }
+// Whether the block may be the header of a loop: an edge enters the loop, and another one leads back.
+fn may_be_header(block: Ptr<BasicBlock>, ctx: &Context) -> bool {
+    block.is_live(ctx) && block.num_use(ctx) > 1
 }
 
 // Whether an operation of another block uses the value, which this block defines.
@@ -185,12 +179,15 @@ impl TypeLearning {
     ) -> Result<Option<usize>, AllocError>
         ensures { KeepsSheet sheet.old sheet.new }
     {
-        if !op.is_live(ctx) || origin_of(value, sheet) == Some(ValueOrigin::Constant) {
+        if !op.is_live(ctx) {
             return Ok(None);
         }
         if let Some(width) = width_of(op.head(ctx)) {
             let kind = format!(in self.alloc; "i{width}")?;
             return Ok(Some(sheet.number(kind.as_bytes())?));
+        }
+        if origin_of(value, sheet) == Some(ValueOrigin::Constant) {
+            return Ok(None);
         }
         self.type_of_operation(op, sheet, ctx)
     }
@@ -229,7 +226,7 @@ impl TypeLearning {
             return types.set(value.key() as usize, number);
         }
         if let Some(block) = block {
-            self.lacks |= !is_first(block, ctx) && is_used_elsewhere(value, block, ctx);
+            self.lacks |= may_be_header(block, ctx) && is_used_elsewhere(value, block, ctx);
         }
         Ok(())
     }
@@ -434,7 +431,7 @@ impl TypeLearning {
 }
 
 /// Learns the types of the values in the functions of a module with this text, as far as it says them. Answers whether the
-/// type of each value is known that one block uses and another one defines, but for values of the first block of a function.
+/// type of each value is known that one block uses and another one defines to which several edges lead.
 ///
 /// Errors: allocation failure. Cost: linear in the module: the text, the forms, and the uses of values of which no type is known.
 #[tactic(auto, using(pliron_text_llvm_sheets::proofs::KeepingLemmas::sheet_steps))]

@@ -1,6 +1,6 @@
 //! The types of what statements give.
-ghost use Rattle.std.specs.Prelude.{◌≡◌, ◌++◌, [], length, codes, IfOk, OnOk};
-ghost use Rattle.pliron_text_llvm_types.specs.Trees.{behind_comma, AreTrees};
+ghost use Rattle.std.specs.Prelude.{◌≡◌, ◌++◌, ℕ, List, [], Some, codes, IfOk, OnOk};
+ghost use Rattle.pliron_text_llvm_types.specs.Trees.{behind_comma};
 ghost use Rattle.pliron_text_llvm_types.specs.Types.{is_word_of, first_words, read_words, second_words, cast_words, other_rule, rule_of, first_type, type_in, pointer_to};
 ghost use Rattle.pliron_text_llvm_types.specs.Types.{IsAsMany, IsVectorLike, IsPiece, inside_of_type, IsTypeBy, opcode_of, IsStatementType, IsTypeOfText};
 
