@@ -1,5 +1,5 @@
 -- Types of parameters that are read one after another.
-use Rattle.std.proofs.Common.{◌≡◌, ℕ, ◌+◌, ◌<◌, ◌≤◌, Bool, true, false, List, [], ◌∷◌, ◌++◌, length, map, get_or, drop, refl, sym, ap, ◌∙◌, append_assoc}
+use Rattle.std.proofs.Common.{◌≡◌, ℕ, ◌+◌, ◌<◌, ◌≤◌, Bool, true, false, List, [], ◌∷◌, ◌++◌, length, map, get_or, drop, refl, sym, ap, ◌∙◌, append_assoc, arith}
 use Rattle.std.specs.Prelude.{Option, Some}
 use Rattle.std.specs.Global.{Vec}
 use Rattle.std.proofs.lemmas.List.{drop_all, drop_more, map-append, append-nil}
@@ -13,9 +13,9 @@ use Rattle.pliron_text_llvm_types.specs.Parameters.{bracket_in, starts_with_comm
 pub types_none : (text : List ℕ) (trees : List LlvmToken) (found : List (List ℕ)) → found ≡ [] → found ++ types_from true text (drop 0 trees) ≡ types_from true text trees
 types_none text trees found e = ap (λ types. types ++ types_from true text trees) e
 
-pub types_more : (text : List ℕ) (trees : List LlvmToken) (i : ℕ) (d : LlvmToken) (begins next : Bool) (found after whole : List (List ℕ)) → i < length trees → found ++ types_from begins text (drop i trees) ≡ whole
+one_more : (text : List ℕ) (trees : List LlvmToken) (i : ℕ) (d : LlvmToken) (begins next : Bool) (found after whole : List (List ℕ)) → i < length trees → found ++ types_from begins text (drop i trees) ≡ whole
     → after ≡ found ++ types_at begins text (drop i trees) → next ≡ starts_with_comma text (drop i trees) → after ++ types_from next text (drop (i + 1) trees) ≡ whole
-types_more text trees i d begins next found after whole less h after-is next-is =
+one_more text trees i d begins next found after whole less h after-is next-is =
     let tree = get_or trees i d in
     let rest = drop (i + 1) trees in
     let here : drop i trees ≡ tree ∷ rest = drop_more trees i d less in
@@ -26,6 +26,11 @@ types_more text trees i d begins next found after whole less h after-is next-is 
     ∙ append_assoc found (types_at begins text (tree ∷ rest)) (types_from (is_comma_tree text tree) text rest)
     ∙ ap (λ ts. found ++ types_from begins text ts) (sym here)
     ∙ h
+
+pub types_more : (text : List ℕ) (trees : List LlvmToken) (i : ℕ) (begins next : Bool) (found after whole : List (List ℕ)) → i < length trees → found ++ types_from begins text (drop i trees) ≡ whole
+    → after ≡ found ++ types_at begins text (drop i trees) → next ≡ starts_with_comma text (drop i trees) → after ++ types_from next text (drop (i + 1) trees) ≡ whole
+types_more text [] i begins next found after whole less h after-is next-is = let no : ⊥ = omega (arith, less) in absurd no
+types_more text (d ∷ trees) i begins next found after whole less h after-is next-is = one_more text (d ∷ trees) i d begins next found after whole less h after-is next-is
 
 pub types_end : (text : List ℕ) (trees : List LlvmToken) (i : ℕ) (begins : Bool) (found whole : List (List ℕ)) → length trees ≤ i → found ++ types_from begins text (drop i trees) ≡ whole → found ≡ whole
 types_end text trees i begins found whole past h = sym (append-nil found) ∙ sym (ap (λ ts. found ++ types_from begins text ts) (drop_all i trees past)) ∙ h

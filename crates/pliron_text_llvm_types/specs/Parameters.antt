@@ -21,9 +21,13 @@ abbrev pub first_round : List LlvmToken → Option ByteSpan
 first_round [] = None
 first_round (tree ∷ trees) = if is_round_kind tree.kind then Some tree.span else None
 
+-- the tokens behind the first name with `@`
+abbrev pub behind_global : List ℕ → List LlvmToken → List LlvmToken
+behind_global text trees = drop (suc (length (take_while (λ tree. not (is_global text tree)) trees))) trees
+
 -- the place of the bracket behind the first name with `@`
 abbrev pub bracket_in : List ℕ → List LlvmToken → Option ByteSpan
-bracket_in text trees = first_round (drop (suc (length (take_while (λ tree. not (is_global text tree)) trees))) trees)
+bracket_in text trees = first_round (behind_global text trees)
 
 -- a comma comes first
 abbrev pub starts_with_comma : List ℕ → List LlvmToken → Bool

@@ -218,26 +218,25 @@ impl TypeLearning {
         &mut self,
         value: Value,
         number: Option<usize>,
-        block: Option<Ptr<BasicBlock>>,
+        block: Ptr<BasicBlock>,
         types: &mut ValueTypes,
         ctx: &Context,
     ) -> Result<(), AllocError> {
         if let Some(number) = number {
             return types.set(value.key() as usize, number);
         }
-        if let Some(block) = block {
-            self.lacks |= may_be_header(block, ctx) && is_used_elsewhere(value, block, ctx);
-        }
+        self.lacks |= may_be_header(block, ctx) && is_used_elsewhere(value, block, ctx);
         Ok(())
     }
 }
 
 impl TypeLearning {
-    // Learns the types of the results of the operation.
+    // Learns the types of the results of the operation of the block.
     #[tactic(auto, using(pliron_text_llvm_sheets::proofs::KeepingLemmas::sheet_steps))]
     fn learn_operation(
         &mut self,
         op: Ptr<Operation>,
+        block: Ptr<BasicBlock>,
         types: &mut ValueTypes,
         sheet: &mut LlvmSheet,
         ctx: &Context,
@@ -249,7 +248,7 @@ impl TypeLearning {
         }
         let value = op.get_result(ctx, 0);
         let number = self.type_of_result(op, value, sheet, ctx)?;
-        self.note(value, number, op.get_parent_block(ctx), types, ctx)
+        self.note(value, number, block, types, ctx)
     }
 
     // Learns the types of the results of the block's operations.
@@ -269,7 +268,7 @@ impl TypeLearning {
             let Some(op) = next else {
                 break;
             };
-            self.learn_operation(op, types, sheet, ctx)?;
+            self.learn_operation(op, block, types, sheet, ctx)?;
             next = next_operation(op, ctx);
         }
         Ok(())
@@ -288,7 +287,7 @@ impl TypeLearning {
         ensures { KeepsSheet sheet.old sheet.new }
     {
         let number = self.type_of_argument(value, block, sheet, ctx)?;
-        self.note(value, number, Some(block), types, ctx)
+        self.note(value, number, block, types, ctx)
     }
 
     // Learns the types of the arguments of the block.
@@ -311,11 +310,12 @@ impl TypeLearning {
         Ok(())
     }
 
-    // The value is a parameter of this type, where it has some bytes.
+    // The argument of the block with this index is a parameter of this type, where it has some bytes.
     #[tactic(auto, using(pliron_text_llvm_sheets::proofs::KeepingLemmas::sheet_steps))]
     fn learn_parameter(
         &mut self,
-        value: Value,
+        block: Ptr<BasicBlock>,
+        i: usize,
         kind: &[u8],
         types: &mut ValueTypes,
         sheet: &mut LlvmSheet,
@@ -323,12 +323,11 @@ impl TypeLearning {
     ) -> Result<(), AllocError>
         ensures { KeepsSheet sheet.old sheet.new }
     {
-        let number = if kind.is_empty() {
-            None
-        } else {
-            Some(sheet.number(kind)?)
-        };
-        self.note(value, number, None, types, ctx)
+        if kind.is_empty() || !block.is_live(ctx) || i >= block.num_argument(ctx) {
+            return Ok(());
+        }
+        let number = sheet.number(kind)?;
+        types.set(block.get_argument(ctx, i).key() as usize, number)
     }
 
     // Learns the types of the parameters, which are the arguments of the function's first block.
@@ -344,10 +343,7 @@ impl TypeLearning {
         ensures { KeepsSheet sheet.old sheet.new }
     {
         for i in 0..parameters.len() {
-            if block.is_live(ctx) && i < block.num_argument(ctx) {
-                let value = block.get_argument(ctx, i);
-                self.learn_parameter(value, &parameters[i], types, sheet, ctx)?;
-            }
+            self.learn_parameter(block, i, &parameters[i], types, sheet, ctx)?;
         }
         Ok(())
     }

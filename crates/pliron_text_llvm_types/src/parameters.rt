@@ -1,6 +1,6 @@
 //! The types of the parameters of a function.
 ghost use Rattle.std.specs.Prelude.{◌≡◌, ◌++◌, [], true, map, IfOk, OnOk};
-ghost use Rattle.pliron_text_llvm_types.specs.Parameters.{is_name_kind, is_global, first_round, bracket_in, starts_with_comma, types_at, types_from, AreTypesIn, AreParameterTypes};
+ghost use Rattle.pliron_text_llvm_types.specs.Parameters.{is_name_kind, is_global, first_round, behind_global, bracket_in, starts_with_comma, types_at, types_from, AreTypesIn, AreParameterTypes};
 
 use crate::aggregates::inside_of;
 use crate::stop::TypeStop;
@@ -34,15 +34,22 @@ fn first_round(trees: &[LlvmToken]) -> Option<ByteSpan>
     }
 }
 
-// The place of the bracket behind the name of the function, which is the first one with an `@`.
-fn bracket_in(text: &[u8], trees: &[LlvmToken]) -> Option<ByteSpan>
-    ensures { result ≡ bracket_in text.now trees.now }
+// The tokens behind the first name with `@`, none where there is none.
+fn behind_global<'t>(text: &[u8], trees: &'t [LlvmToken]) -> &'t [LlvmToken]
+    ensures { result.now ≡ behind_global text.now trees.now }
 {
     let before = trees
         .iter()
         .take_while(|tree| !is_global(text, tree))
         .count();
-    first_round(behind(trees, before.saturating_add(1)))
+    behind(trees, before.saturating_add(1))
+}
+
+// The place of the bracket behind the name of the function, which is the first one with an `@`.
+fn bracket_in(text: &[u8], trees: &[LlvmToken]) -> Option<ByteSpan>
+    ensures { result ≡ bracket_in text.now trees.now }
+{
+    first_round(behind_global(text, trees))
 }
 
 // Whether a comma comes first.
