@@ -230,6 +230,25 @@ impl TypeLearning {
     }
 }
 
+// The argument of the block with this index is a parameter of this type, where it has some bytes.
+#[tactic(auto, using(pliron_text_llvm_sheets::proofs::KeepingLemmas::sheet_steps))]
+fn learn_parameter(
+    block: Ptr<BasicBlock>,
+    i: usize,
+    kind: &[u8],
+    types: &mut ValueTypes,
+    sheet: &mut LlvmSheet,
+    ctx: &Context,
+) -> Result<(), AllocError>
+    ensures { KeepsSheet sheet.old sheet.new }
+{
+    if kind.is_empty() || !block.is_live(ctx) || i >= block.num_argument(ctx) {
+        return Ok(());
+    }
+    let number = sheet.number(kind)?;
+    types.set(block.get_argument(ctx, i).key() as usize, number)
+}
+
 impl TypeLearning {
     // Learns the types of the results of the operation of the block.
     #[tactic(auto, using(pliron_text_llvm_sheets::proofs::KeepingLemmas::sheet_steps))]
@@ -310,26 +329,6 @@ impl TypeLearning {
         Ok(())
     }
 
-    // The argument of the block with this index is a parameter of this type, where it has some bytes.
-    #[tactic(auto, using(pliron_text_llvm_sheets::proofs::KeepingLemmas::sheet_steps))]
-    fn learn_parameter(
-        &mut self,
-        block: Ptr<BasicBlock>,
-        i: usize,
-        kind: &[u8],
-        types: &mut ValueTypes,
-        sheet: &mut LlvmSheet,
-        ctx: &Context,
-    ) -> Result<(), AllocError>
-        ensures { KeepsSheet sheet.old sheet.new }
-    {
-        if kind.is_empty() || !block.is_live(ctx) || i >= block.num_argument(ctx) {
-            return Ok(());
-        }
-        let number = sheet.number(kind)?;
-        types.set(block.get_argument(ctx, i).key() as usize, number)
-    }
-
     // Learns the types of the parameters, which are the arguments of the function's first block.
     #[tactic(auto, using(pliron_text_llvm_sheets::proofs::KeepingLemmas::sheet_steps))]
     fn learn_parameters(
@@ -343,7 +342,7 @@ impl TypeLearning {
         ensures { KeepsSheet sheet.old sheet.new }
     {
         for i in 0..parameters.len() {
-            self.learn_parameter(block, i, &parameters[i], types, sheet, ctx)?;
+            learn_parameter(block, i, &parameters[i], types, sheet, ctx)?;
         }
         Ok(())
     }
