@@ -1,5 +1,5 @@
 -- Types of parameters that are read one after another.
-use Rattle.std.proofs.Common.{◌≡◌, ℕ, ◌+◌, ◌<◌, ◌≤◌, Bool, true, false, List, [], ◌∷◌, ◌++◌, length, map, get_or, drop, refl, sym, ap, ◌∙◌, append_assoc, arith}
+use Rattle.std.proofs.Common.{◌≡◌, ℕ, ◌+◌, ◌<◌, ◌≤◌, if◌then◌else◌, Bool, true, false, List, [], ◌∷◌, ◌++◌, length, map, get_or, drop, refl, sym, ap, ◌∙◌, append_assoc, arith}
 use Rattle.std.specs.Prelude.{Option, Some}
 use Rattle.std.specs.Global.{Vec}
 use Rattle.std.proofs.lemmas.List.{drop_all, drop_more, map-append, append-nil}
@@ -8,7 +8,7 @@ use Rattle.pliron_text_llvm_syntax.specs.declared.tokens.ByteSpan.{ByteSpan}
 use Rattle.pliron_text_llvm_syntax.specs.declared.tokens.LlvmToken.{LlvmToken}
 use Rattle.pliron_text_llvm_types.specs.Trees.{AreTrees, is_comma_tree}
 use Rattle.pliron_text_llvm_types.specs.Types.{type_in, inside_of_type}
-use Rattle.pliron_text_llvm_types.specs.Parameters.{bracket_in, starts_with_comma, types_at, types_from, AreTypesIn, AreParameterTypes}
+use Rattle.pliron_text_llvm_types.specs.Parameters.{is_global, behind_global, bracket_in, starts_with_comma, types_at, types_from, AreTypesIn, AreParameterTypes}
 
 pub types_none : (text : List ℕ) (trees : List LlvmToken) (found : List (List ℕ)) → found ≡ [] → found ++ types_from true text (drop 0 trees) ≡ types_from true text trees
 types_none text trees found e = ap (λ types. types ++ types_from true text trees) e
@@ -59,3 +59,22 @@ pub type_left_out : (text : List ℕ) (trees : List LlvmToken) (begins : Bool) (
 type_left_out text trees begins types is = sym (append-nil types) ∙ sym (ap (λ b. types ++ types_at b text trees) is)
 
 pub ruleset type_pushed = (type_added, type_left_out)
+
+-- ---- behind_global
+
+pub global_more : (text : List ℕ) (trees whole : List LlvmToken) (i : ℕ) (d : LlvmToken) → i < length trees → is_global text (get_or trees i d) ≡ false → behind_global text (drop i trees) ≡ whole
+    → behind_global text (drop (i + 1) trees) ≡ whole
+global_more text trees whole i d less other h =
+    let rest = drop (i + 1) trees in
+    sym (ap (λ b. if b then rest else behind_global text rest) other) ∙ sym (ap (behind_global text) (drop_more trees i d less)) ∙ h
+
+pub global_found : (text : List ℕ) (trees whole : List LlvmToken) (i : ℕ) (d : LlvmToken) → i < length trees → is_global text (get_or trees i d) ≡ true → behind_global text (drop i trees) ≡ whole
+    → drop (i + 1) trees ≡ whole
+global_found text trees whole i d less is h =
+    let rest = drop (i + 1) trees in
+    sym (ap (λ b. if b then rest else behind_global text rest) is) ∙ sym (ap (behind_global text) (drop_more trees i d less)) ∙ h
+
+pub global_end : (text : List ℕ) (trees whole : List LlvmToken) (i : ℕ) → length trees ≤ i → behind_global text (drop i trees) ≡ whole → [] ≡ whole
+global_end text trees whole i past h = sym (ap (behind_global text) (drop_all i trees past)) ∙ h
+
+pub ruleset global_steps = (global_more, global_found, global_end)

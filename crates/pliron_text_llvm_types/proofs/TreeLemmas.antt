@@ -1,11 +1,11 @@
 -- Tokens in their order.
-use Rattle.std.proofs.Common.{◌≡◌, ℕ, ◌≤◌, List, [], ◌∷◌, ◌++◌, length, drop, sym, subst, arith}
+use Rattle.std.proofs.Common.{◌≡◌, ℕ, ◌+◌, ◌<◌, ◌≤◌, if◌then◌else◌, List, [], ◌∷◌, ◌++◌, length, get_or, drop, sym, ap, ◌∙◌, subst, arith}
 use Rattle.std.specs.Prelude.{false, true}
-use Rattle.std.proofs.lemmas.List.{drop_all}
+use Rattle.std.proofs.lemmas.List.{drop_all, drop_more}
 use Rattle.pliron_text_llvm_syntax.specs.declared.tokens.LlvmToken.{LlvmToken}
 use Rattle.pliron_text_llvm_syntax.specs.Lexing.{is_trivia}
 use Rattle.pliron_text_llvm_syntax.specs.Brackets.{IsTreeAt}
-use Rattle.pliron_text_llvm_types.specs.Trees.{AreTrees}
+use Rattle.pliron_text_llvm_types.specs.Trees.{AreTrees, is_word_tree, is_comma_tree, behind_comma, behind_word}
 use Rattle.pliron_text_llvm_types.specs.Trees.AreTrees.{Nothing, Blank, Next}
 
 pub trees_none : (text : List ℕ) (trees : List LlvmToken) → trees ≡ [] → AreTrees text 0 trees
@@ -26,3 +26,41 @@ pub ruleset tree_steps = (trees_none, trees_blank, trees_next, trees_end)
 -- so many that none is left
 pub dropped_all : (trees : List LlvmToken) (count : ℕ) → length trees ≤ count → [] ≡ drop count trees
 dropped_all trees count past = sym (drop_all count trees past)
+
+-- ---- behind_comma
+
+pub comma_more : (text : List ℕ) (trees whole : List LlvmToken) (i : ℕ) (d : LlvmToken) → i < length trees → is_comma_tree text (get_or trees i d) ≡ false → behind_comma text (drop i trees) ≡ whole
+    → behind_comma text (drop (i + 1) trees) ≡ whole
+comma_more text trees whole i d less other h =
+    let rest = drop (i + 1) trees in
+    sym (ap (λ b. if b then rest else behind_comma text rest) other) ∙ sym (ap (behind_comma text) (drop_more trees i d less)) ∙ h
+
+pub comma_found : (text : List ℕ) (trees whole : List LlvmToken) (i : ℕ) (d : LlvmToken) → i < length trees → is_comma_tree text (get_or trees i d) ≡ true → behind_comma text (drop i trees) ≡ whole
+    → drop (i + 1) trees ≡ whole
+comma_found text trees whole i d less is h =
+    let rest = drop (i + 1) trees in
+    sym (ap (λ b. if b then rest else behind_comma text rest) is) ∙ sym (ap (behind_comma text) (drop_more trees i d less)) ∙ h
+
+pub comma_end : (text : List ℕ) (trees whole : List LlvmToken) (i : ℕ) → length trees ≤ i → behind_comma text (drop i trees) ≡ whole → [] ≡ whole
+comma_end text trees whole i past h = sym (ap (behind_comma text) (drop_all i trees past)) ∙ h
+
+pub ruleset comma_steps = (comma_more, comma_found, comma_end)
+
+-- ---- behind_word
+
+pub word_more : (text word : List ℕ) (trees whole : List LlvmToken) (i : ℕ) (d : LlvmToken) → i < length trees → is_word_tree text (get_or trees i d) word ≡ false → behind_word text word (drop i trees) ≡ whole
+    → behind_word text word (drop (i + 1) trees) ≡ whole
+word_more text word trees whole i d less other h =
+    let rest = drop (i + 1) trees in
+    sym (ap (λ b. if b then rest else behind_word text word rest) other) ∙ sym (ap (behind_word text word) (drop_more trees i d less)) ∙ h
+
+pub word_found : (text word : List ℕ) (trees whole : List LlvmToken) (i : ℕ) (d : LlvmToken) → i < length trees → is_word_tree text (get_or trees i d) word ≡ true → behind_word text word (drop i trees) ≡ whole
+    → drop (i + 1) trees ≡ whole
+word_found text word trees whole i d less is h =
+    let rest = drop (i + 1) trees in
+    sym (ap (λ b. if b then rest else behind_word text word rest) is) ∙ sym (ap (behind_word text word) (drop_more trees i d less)) ∙ h
+
+pub word_end : (text word : List ℕ) (trees whole : List LlvmToken) (i : ℕ) → length trees ≤ i → behind_word text word (drop i trees) ≡ whole → [] ≡ whole
+word_end text word trees whole i past h = sym (ap (behind_word text word) (drop_all i trees past)) ∙ h
+
+pub ruleset word_steps = (word_more, word_found, word_end)

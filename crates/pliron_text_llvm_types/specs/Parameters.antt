@@ -1,5 +1,5 @@
 -- The types of parameters.
-use Rattle.std.specs.Prelude.{◌&&◌, ◌≡◌, ℕ, suc, Bool, false, true, not, List, [], ◌∷◌, ◌++◌, length, drop, take_while, Option, Some, None, if◌then◌else◌}
+use Rattle.std.specs.Prelude.{◌&&◌, ◌≡◌, ℕ, Bool, false, true, List, [], ◌∷◌, ◌++◌, length, Option, Some, None, if◌then◌else◌}
 use Rattle.pliron_text_llvm_syntax.specs.Tokens.{bytes_of_span}
 use Rattle.pliron_text_llvm_syntax.specs.declared.tokens.ByteSpan.{ByteSpan}
 use Rattle.pliron_text_llvm_syntax.specs.declared.tokens.LlvmToken.{LlvmToken}
@@ -23,7 +23,8 @@ first_round (tree ∷ trees) = if is_round_kind tree.kind then Some tree.span el
 
 -- the tokens behind the first name with `@`
 abbrev pub behind_global : List ℕ → List LlvmToken → List LlvmToken
-behind_global text trees = drop (suc (length (take_while (λ tree. not (is_global text tree)) trees))) trees
+behind_global text [] = []
+behind_global text (tree ∷ trees) = if is_global text tree then trees else behind_global text trees
 
 -- the place of the bracket behind the first name with `@`
 abbrev pub bracket_in : List ℕ → List LlvmToken → Option ByteSpan

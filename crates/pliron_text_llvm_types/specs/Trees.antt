@@ -1,5 +1,5 @@
 -- Tokens of a text, each bracket with all that is in it.
-use Rattle.std.specs.Prelude.{◌==◌, ◌&&◌, ◌≡◌, ℕ, suc, Bool, false, true, not, List, [], ◌∷◌, ◌++◌, length, drop, take_while, slice_get, Option, Some, None, bytes_eq, if◌then◌else◌}
+use Rattle.std.specs.Prelude.{◌==◌, ◌&&◌, ◌≡◌, ℕ, Bool, false, true, List, [], ◌∷◌, ◌++◌, slice_get, Option, Some, None, bytes_eq, if◌then◌else◌}
 use Rattle.pliron_text_llvm_syntax.specs.Forms.{is_hole_byte}
 use Rattle.pliron_text_llvm_syntax.specs.Tokens.{bytes_of_span}
 use Rattle.pliron_text_llvm_syntax.specs.Lexing.{is_trivia}
@@ -50,8 +50,10 @@ is_comma_tree text tree = is_tree_of_mark tree.kind && tree_begins_with text tre
 
 -- the tokens behind the first comma
 abbrev pub behind_comma : List ℕ → List LlvmToken → List LlvmToken
-behind_comma text trees = drop (suc (length (take_while (λ tree. not (is_comma_tree text tree)) trees))) trees
+behind_comma text [] = []
+behind_comma text (tree ∷ trees) = if is_comma_tree text tree then trees else behind_comma text trees
 
 -- the tokens behind the first one that is this word
 abbrev pub behind_word : List ℕ → List ℕ → List LlvmToken → List LlvmToken
-behind_word text word trees = drop (suc (length (take_while (λ tree. not (is_word_tree text tree word)) trees))) trees
+behind_word text word [] = []
+behind_word text word (tree ∷ trees) = if is_word_tree text tree word then trees else behind_word text word trees

@@ -1,5 +1,5 @@
 -- Types among tokens, and the types of what statements give.
-use Rattle.std.specs.Prelude.{◌==◌, ◌&&◌, ◌||◌, ◌≡◌, ◌≢◌, ◌-◌, ℕ, Bool, false, true, not, List, [], ◌∷◌, ◌++◌, length, drop, take, take_while, map, slice_range, Option, Some, None, ⊤, codes, bytes_eq, if◌then◌else◌}
+use Rattle.std.specs.Prelude.{◌==◌, ◌&&◌, ◌||◌, ◌≡◌, ◌-◌, ℕ, Bool, false, true, not, List, [], ◌∷◌, ◌++◌, length, take, map, slice_range, Option, Some, None, ⊤, codes, bytes_eq, if◌then◌else◌}
 use Rattle.std.specs.List.{list_all}
 use Rattle.std.specs.Char.{is_ascii_digit}
 use Rattle.pliron_text_llvm_syntax.specs.Tokens.{bytes_of_span}
@@ -77,7 +77,8 @@ is_flag text tree = is_flag_by text tree tree.kind
 
 -- the tokens behind the opcode and its flags
 abbrev pub behind_flags : List ℕ → List LlvmToken → List LlvmToken
-behind_flags text trees = drop (length (take_while (is_flag text) trees)) trees
+behind_flags text [] = []
+behind_flags text (tree ∷ trees) = if is_flag text tree then behind_flags text trees else tree ∷ trees
 
 -- the first type of a statement
 abbrev pub first_type : List ℕ → List LlvmToken → List ℕ

@@ -35,14 +35,16 @@ fn first_round(trees: &[LlvmToken]) -> Option<ByteSpan>
 }
 
 // The tokens behind the first name with `@`, none where there is none.
+#[tactic(auto, using(crate::proofs::ParameterLemmas::global_steps))]
 fn behind_global<'t>(text: &[u8], trees: &'t [LlvmToken]) -> &'t [LlvmToken]
     ensures { result.now ≡ behind_global text.now trees.now }
 {
-    let before = trees
-        .iter()
-        .take_while(|tree| !is_global(text, tree))
-        .count();
-    behind(trees, before.saturating_add(1))
+    for at in 0..trees.len() {
+        if is_global(text, &trees[at]) {
+            return behind(trees, at + 1);
+        }
+    }
+    &[]
 }
 
 // The place of the bracket behind the name of the function, which is the first one with an `@`.

@@ -109,23 +109,27 @@ pub fn is_comma(text: &[u8], tree: &LlvmToken) -> bool
 }
 
 /// The tokens behind the first comma, none where there is none. Cost: linear in them.
+#[tactic(auto, using(crate::proofs::TreeLemmas::comma_steps))]
 pub fn behind_comma<'t>(text: &[u8], trees: &'t [LlvmToken]) -> &'t [LlvmToken]
     ensures { result.now ≡ behind_comma text.now trees.now }
 {
-    let before = trees
-        .iter()
-        .take_while(|tree| !is_comma(text, tree))
-        .count();
-    behind(trees, before.saturating_add(1))
+    for at in 0..trees.len() {
+        if is_comma(text, &trees[at]) {
+            return behind(trees, at + 1);
+        }
+    }
+    &[]
 }
 
 /// The tokens behind the first one that is this word, none where there is none. Cost: linear in them.
+#[tactic(auto, using(crate::proofs::TreeLemmas::word_steps))]
 pub fn behind_word<'t>(text: &[u8], word: &[u8], trees: &'t [LlvmToken]) -> &'t [LlvmToken]
     ensures { result.now ≡ behind_word text.now word.now trees.now }
 {
-    let before = trees
-        .iter()
-        .take_while(|tree| !is_word(text, tree, word))
-        .count();
-    behind(trees, before.saturating_add(1))
+    for at in 0..trees.len() {
+        if is_word(text, &trees[at], word) {
+            return behind(trees, at + 1);
+        }
+    }
+    &[]
 }

@@ -122,9 +122,14 @@ fn is_flag(text: &[u8], tree: &LlvmToken) -> bool
 }
 
 /// The tokens behind the opcode and its flags. Cost: linear in these.
+#[tactic(auto, using(crate::proofs::TypeLemmas::flag_steps))]
 pub fn behind_flags<'t>(text: &[u8], trees: &'t [LlvmToken]) -> &'t [LlvmToken]
     ensures { result.now ≡ behind_flags text.now trees.now }
 {
-    let flags = trees.iter().take_while(|tree| is_flag(text, tree)).count();
-    behind(trees, flags)
+    for at in 0..trees.len() {
+        if !is_flag(text, &trees[at]) {
+            return behind(trees, at);
+        }
+    }
+    &[]
 }
