@@ -62,17 +62,26 @@ pub ruleset type_pushed = (type_added, type_left_out)
 
 -- ---- behind_global
 
-pub global_more : (text : List ℕ) (trees whole : List LlvmToken) (i : ℕ) (d : LlvmToken) → i < length trees → is_global text (get_or trees i d) ≡ false → behind_global text (drop i trees) ≡ whole
-    → behind_global text (drop (i + 1) trees) ≡ whole
-global_more text trees whole i d less other h =
+global_first : (text : List ℕ) (trees whole : List LlvmToken) (i : ℕ) (d tree : LlvmToken) (is : Bool) → i < length trees → tree ≡ get_or trees i d → is ≡ is_global text tree → behind_global text (drop i trees) ≡ whole
+    → (if is then drop (i + 1) trees else behind_global text (drop (i + 1) trees)) ≡ whole
+global_first text trees whole i d tree is less tree-is is-is h =
     let rest = drop (i + 1) trees in
-    sym (ap (λ b. if b then rest else behind_global text rest) other) ∙ sym (ap (behind_global text) (drop_more trees i d less)) ∙ h
+    ap (λ b. if b then rest else behind_global text rest) is-is
+    ∙ ap (λ t. behind_global text (t ∷ rest)) tree-is
+    ∙ sym (ap (behind_global text) (drop_more trees i d less))
+    ∙ h
 
-pub global_found : (text : List ℕ) (trees whole : List LlvmToken) (i : ℕ) (d : LlvmToken) → i < length trees → is_global text (get_or trees i d) ≡ true → behind_global text (drop i trees) ≡ whole
-    → drop (i + 1) trees ≡ whole
-global_found text trees whole i d less is h =
+pub global_more : (text : List ℕ) (trees whole : List LlvmToken) (i : ℕ) (d tree : LlvmToken) (is : Bool) → i < length trees → tree ≡ get_or trees i d → is ≡ is_global text tree → is ≡ false → behind_global text (drop i trees) ≡ whole
+    → behind_global text (drop (i + 1) trees) ≡ whole
+global_more text trees whole i d tree is less tree-is is-is other h =
     let rest = drop (i + 1) trees in
-    sym (ap (λ b. if b then rest else behind_global text rest) is) ∙ sym (ap (behind_global text) (drop_more trees i d less)) ∙ h
+    sym (ap (λ b. if b then rest else behind_global text rest) other) ∙ global_first text trees whole i d tree is less tree-is is-is h
+
+pub global_found : (text : List ℕ) (trees whole found : List LlvmToken) (i : ℕ) (d tree : LlvmToken) (is : Bool) → i < length trees → tree ≡ get_or trees i d → is ≡ is_global text tree → is ≡ true → behind_global text (drop i trees) ≡ whole
+    → found ≡ drop (i + 1) trees → found ≡ whole
+global_found text trees whole found i d tree is less tree-is is-is passes h found-is =
+    let rest = drop (i + 1) trees in
+    found-is ∙ sym (ap (λ b. if b then rest else behind_global text rest) passes) ∙ global_first text trees whole i d tree is less tree-is is-is h
 
 pub global_end : (text : List ℕ) (trees whole : List LlvmToken) (i : ℕ) → length trees ≤ i → behind_global text (drop i trees) ≡ whole → [] ≡ whole
 global_end text trees whole i past h = sym (ap (behind_global text) (drop_all i trees past)) ∙ h

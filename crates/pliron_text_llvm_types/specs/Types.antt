@@ -75,10 +75,14 @@ is_flag_by text tree _ = false
 abbrev pub is_flag : List ℕ → LlvmToken → Bool
 is_flag text tree = is_flag_by text tree tree.kind
 
+-- something else
+abbrev pub ends_flags : List ℕ → LlvmToken → Bool
+ends_flags text tree = not (is_flag text tree)
+
 -- the tokens behind the opcode and its flags
 abbrev pub behind_flags : List ℕ → List LlvmToken → List LlvmToken
 behind_flags text [] = []
-behind_flags text (tree ∷ trees) = if is_flag text tree then behind_flags text trees else tree ∷ trees
+behind_flags text (tree ∷ trees) = if ends_flags text tree then tree ∷ trees else behind_flags text trees
 
 -- the first type of a statement
 abbrev pub first_type : List ℕ → List LlvmToken → List ℕ

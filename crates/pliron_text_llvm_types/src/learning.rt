@@ -230,23 +230,49 @@ impl TypeLearning {
     }
 }
 
-// The argument of the block with this index is a parameter of this type, where it has some bytes.
+// The type with this index, none of bytes where there are fewer.
+fn type_at(types: &[Vec<u8>], i: usize) -> &[u8] {
+    match types.get(i) {
+        Some(kind) => kind.as_slice(),
+        None => &[],
+    }
+}
+
+// The argument of the block with this index is the parameter with it, whose type is known where it has some bytes.
 #[tactic(auto, using(pliron_text_llvm_sheets::proofs::KeepingLemmas::sheet_steps))]
 fn learn_parameter(
     block: Ptr<BasicBlock>,
     i: usize,
-    kind: &[u8],
+    parameters: &[Vec<u8>],
     types: &mut ValueTypes,
     sheet: &mut LlvmSheet,
     ctx: &Context,
 ) -> Result<(), AllocError>
     ensures { KeepsSheet sheet.old sheet.new }
 {
+    let kind = type_at(parameters, i);
     if kind.is_empty() || !block.is_live(ctx) || i >= block.num_argument(ctx) {
         return Ok(());
     }
     let number = sheet.number(kind)?;
     types.set(block.get_argument(ctx, i).key() as usize, number)
+}
+
+// Learns the types of the parameters, which are the arguments of the function's first block.
+#[tactic(auto, using(pliron_text_llvm_sheets::proofs::KeepingLemmas::sheet_steps))]
+fn learn_parameters(
+    block: Ptr<BasicBlock>,
+    parameters: &[Vec<u8>],
+    types: &mut ValueTypes,
+    sheet: &mut LlvmSheet,
+    ctx: &Context,
+) -> Result<(), AllocError>
+    ensures { KeepsSheet sheet.old sheet.new }
+{
+    for i in 0..parameters.len() {
+        learn_parameter(block, i, parameters, types, sheet, ctx)?;
+    }
+    Ok(())
 }
 
 impl TypeLearning {
@@ -329,24 +355,6 @@ impl TypeLearning {
         Ok(())
     }
 
-    // Learns the types of the parameters, which are the arguments of the function's first block.
-    #[tactic(auto, using(pliron_text_llvm_sheets::proofs::KeepingLemmas::sheet_steps))]
-    fn learn_parameters(
-        &mut self,
-        block: Ptr<BasicBlock>,
-        parameters: &[Vec<u8>],
-        types: &mut ValueTypes,
-        sheet: &mut LlvmSheet,
-        ctx: &Context,
-    ) -> Result<(), AllocError>
-        ensures { KeepsSheet sheet.old sheet.new }
-    {
-        for i in 0..parameters.len() {
-            learn_parameter(block, i, &parameters[i], types, sheet, ctx)?;
-        }
-        Ok(())
-    }
-
     // Learns the types of the parameters of the function with this first block.
     #[tactic(auto, using(pliron_text_llvm_sheets::proofs::KeepingLemmas::sheet_steps))]
     fn learn_header(
@@ -363,7 +371,7 @@ impl TypeLearning {
             return Ok(());
         };
         match types_of_parameters(self.alloc, sheet.text(form)) {
-            Ok(parameters) => self.learn_parameters(block, &parameters, types, sheet, ctx),
+            Ok(parameters) => learn_parameters(block, &parameters, types, sheet, ctx),
             Err(TypeStop::Unknown) => Ok(()),
             Err(TypeStop::NoMemory) => Err(AllocError),
         }

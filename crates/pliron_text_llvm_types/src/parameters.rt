@@ -40,7 +40,9 @@ fn behind_global<'t>(text: &[u8], trees: &'t [LlvmToken]) -> &'t [LlvmToken]
     ensures { result.now ≡ behind_global text.now trees.now }
 {
     for at in 0..trees.len() {
-        if is_global(text, &trees[at]) {
+        let tree = &trees[at];
+        let is_found = is_global(text, tree);
+        if is_found {
             return behind(trees, at + 1);
         }
     }

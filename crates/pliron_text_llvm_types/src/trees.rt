@@ -114,7 +114,9 @@ pub fn behind_comma<'t>(text: &[u8], trees: &'t [LlvmToken]) -> &'t [LlvmToken]
     ensures { result.now ≡ behind_comma text.now trees.now }
 {
     for at in 0..trees.len() {
-        if is_comma(text, &trees[at]) {
+        let tree = &trees[at];
+        let is_found = is_comma(text, tree);
+        if is_found {
             return behind(trees, at + 1);
         }
     }
@@ -127,7 +129,9 @@ pub fn behind_word<'t>(text: &[u8], word: &[u8], trees: &'t [LlvmToken]) -> &'t 
     ensures { result.now ≡ behind_word text.now word.now trees.now }
 {
     for at in 0..trees.len() {
-        if is_word(text, &trees[at], word) {
+        let tree = &trees[at];
+        let is_found = is_word(text, tree, word);
+        if is_found {
             return behind(trees, at + 1);
         }
     }

@@ -3,7 +3,7 @@ ghost use Rattle.std.specs.Prelude.{◌≡◌};
 ghost use Rattle.std.specs.List.{list_all};
 ghost use Rattle.std.specs.Char.{is_ascii_digit};
 ghost use Rattle.pliron_text_llvm_types.specs.Trees.{is_round_kind};
-ghost use Rattle.pliron_text_llvm_types.specs.Types.{is_word_of, is_integer_word, passed_words, begins_type, end_of_round, end_of_type, type_in, is_flag, behind_flags};
+ghost use Rattle.pliron_text_llvm_types.specs.Types.{is_word_of, is_integer_word, passed_words, begins_type, end_of_round, end_of_type, type_in, is_flag, ends_flags, behind_flags};
 
 use crate::trees::{begins_with, behind, is_word};
 use pliron_text_llvm_names::bytes_in;
@@ -121,13 +121,22 @@ fn is_flag(text: &[u8], tree: &LlvmToken) -> bool
     }
 }
 
+// Whether the token is something else.
+fn ends_flags(text: &[u8], tree: &LlvmToken) -> bool
+    ensures { result ≡ ends_flags text.now tree.now }
+{
+    !is_flag(text, tree)
+}
+
 /// The tokens behind the opcode and its flags. Cost: linear in these.
 #[tactic(auto, using(crate::proofs::TypeLemmas::flag_steps))]
 pub fn behind_flags<'t>(text: &[u8], trees: &'t [LlvmToken]) -> &'t [LlvmToken]
     ensures { result.now ≡ behind_flags text.now trees.now }
 {
     for at in 0..trees.len() {
-        if !is_flag(text, &trees[at]) {
+        let tree = &trees[at];
+        let is_found = ends_flags(text, tree);
+        if is_found {
             return behind(trees, at);
         }
     }

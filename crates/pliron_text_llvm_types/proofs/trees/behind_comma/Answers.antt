@@ -1,0 +1,6 @@
+use Rattle.std.proofs.Common.{refl}
+use Rattle.pliron_text_llvm_types.proofs.TreeLemmas.{comma_found}
+use Rattle.pliron_text_llvm_types.proofs.trees.behind_comma.Goals as goal
+
+pub returns-then-is_found : goal.returns-then-is_found
+returns-then-is_found c = comma_found _ _ _ _ c.loop-at.at _ _ _ c.loop-at-test.true refl c.is_comma-is_found.ensures c.if-is_found.true c.loop-at.invariant c.behind.ensures
