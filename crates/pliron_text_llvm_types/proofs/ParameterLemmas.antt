@@ -32,6 +32,12 @@ pub types_more : (text : List ℕ) (trees : List LlvmToken) (i : ℕ) (begins ne
 types_more text [] i begins next found after whole less h after-is next-is = let no : ⊥ = omega (arith, less) in absurd no
 types_more text (d ∷ trees) i begins next found after whole less h after-is next-is = one_more text (d ∷ trees) i d begins next found after whole less h after-is next-is
 
+-- the same with what is left under a name
+pub types_pushed : (text : List ℕ) (trees rest : List LlvmToken) (i : ℕ) (begins next : Bool) (found after whole : List (List ℕ)) → i < length trees → rest ≡ drop i trees → found ++ types_from begins text (drop i trees) ≡ whole
+    → after ≡ found ++ types_at begins text rest → next ≡ starts_with_comma text rest → after ++ types_from next text (drop (i + 1) trees) ≡ whole
+types_pushed text trees rest i begins next found after whole less rest-is h after-is next-is =
+    types_more text trees i begins next found after whole less h (after-is ∙ ap (λ ts. found ++ types_at begins text ts) rest-is) (next-is ∙ ap (starts_with_comma text) rest-is)
+
 pub types_end : (text : List ℕ) (trees : List LlvmToken) (i : ℕ) (begins : Bool) (found whole : List (List ℕ)) → length trees ≤ i → found ++ types_from begins text (drop i trees) ≡ whole → found ≡ whole
 types_end text trees i begins found whole past h = sym (append-nil found) ∙ sym (ap (λ ts. found ++ types_from begins text ts) (drop_all i trees past)) ∙ h
 
