@@ -5,6 +5,7 @@ use crate::blocks::plan_blocks;
 use crate::given::{given_by_block, plan_definition};
 use crate::plan::{FunctionPlan, FunctionSource, OperationPlan, PlannedDefinition};
 use crate::statements::{read_form, statement_at};
+use crate::symbols::symbol_of_form;
 use crate::stop::PlanStop;
 use crate::values::plan_value;
 use pliron_text_llvm_classes::{FormCounts, operand_widths_of_form};
@@ -145,6 +146,7 @@ fn plan_with_form(
 {
     let line = statement_at(source, statement.line)?;
     let number = sheet.number(form)?;
+    let symbol = symbol_of_form(form, sheet)?;
     let is_end = line.statement.row.is_terminator;
     let result = plan_result(source, is_end, statement.result, sheet)?;
     let first = plan.operands.len();
@@ -156,6 +158,7 @@ fn plan_with_form(
         place: line.span.start,
         block: statement.block,
         form: number,
+        symbol,
         counts: FormCounts {
             operands: statement.operands.len(),
             successors,
