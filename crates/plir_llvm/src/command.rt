@@ -20,7 +20,8 @@ go to what results and arguments are), `combine` (rewrite rules),
 `thread-edges` (edges go past blocks that only jump); `repeat:N:LIST`
 runs them until nothing changes, at most N times, from 1 to 64,
 `nested:LIST` on each function:
-`repeat:8:sccp,cse,simplify-cfg,dce`. An empty word, `''`, runs none";
+`repeat:8:sccp,cse,simplify-cfg,dce`. An empty word, `''`, runs none.
+Before them `rotate;` moves the tests of loops to their ends";
 
 /// The help of the program. Cost: constant.
 pub fn help() -> ProgramHelp<'static> {

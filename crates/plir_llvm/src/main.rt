@@ -1,7 +1,7 @@
 //! `plir_llvm`: optimises a module of LLVM's textual IR.
 //!
-//! It knows its notation and its help. Words, files and streams are in `pliron_driver_host`, and what it does with texts in
-//! `pliron_driver_modules`.
+//! It knows its notation, its help, and the stages before passes. Words, files and streams are in `pliron_driver_host`, and what it
+//! does with texts in `pliron_driver_modules`.
 #![tactic(auto)]
 
 mod command;
@@ -9,6 +9,9 @@ mod command;
 use clap::ArgMatches;
 use pliron_driver_host::{ModuleProgram, ProgramHelp, run_module_program, run_on_words};
 use pliron_driver_llvm::ClosedText;
+use pliron_driver_modules::ModuleNotation;
+use pliron_driver_rotation::{ROTATION_STAGE, RotatingStage};
+use pliron_driver_stages::{ModuleStage, StagedForm, split_stage};
 use std::process::ExitCode;
 
 /// The program on modules of LLVM's textual IR.
@@ -20,7 +23,18 @@ impl ModuleProgram for LlvmProgram {
     }
 
     fn run(rt: &HostRuntime, matches: &ArgMatches<'_>, word: &str) -> u8 {
-        run_on_words::<ClosedText>(rt, matches, word)
+        run_rotating::<ClosedText>(rt, matches, word)
+    }
+}
+
+// Runs the passes on modules of the notation, with loops rotated first where the word asks for it.
+fn run_rotating<N: ModuleNotation>(rt: &HostRuntime, matches: &ArgMatches<'_>, word: &str) -> u8
+where
+    RotatingStage: ModuleStage<N::D, N::Sheet>,
+{
+    match split_stage(word, ROTATION_STAGE) {
+        (true, rest) => run_on_words::<StagedForm<RotatingStage, N>>(rt, matches, rest),
+        (false, rest) => run_on_words::<N>(rt, matches, rest),
     }
 }
 

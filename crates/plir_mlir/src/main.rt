@@ -8,11 +8,11 @@ mod command;
 
 use clap::ArgMatches;
 use pliron_driver_host::{ModuleProgram, ProgramHelp, run_module_program, run_on_words};
-use pliron_driver_inlining::{INLINING_STAGE, InlinedForm, split_stage};
+use pliron_driver_inlining::{INLINING_STAGE, InlinedForm};
 use pliron_driver_mlir::ClosedForm;
 use pliron_driver_modules::ModuleNotation;
 use pliron_driver_rotation::{ROTATION_STAGE, RotatingStage};
-use pliron_driver_stages::{ModuleStage, StagedForm};
+use pliron_driver_stages::{ModuleStage, StagedForm, split_stage};
 use pliron_driver_symbols::{ErasingStage, SYMBOL_STAGE};
 use std::process::ExitCode;
 

@@ -5,9 +5,7 @@
 
 mod document;
 mod notation;
-mod stage;
 mod types;
 
 pub use document::{INLINING, inline_document};
 pub use notation::{INLINING_STAGE, InlinedForm};
-pub use stage::split_stage;

@@ -1,4 +1,5 @@
 //! What is told of functions that are kept as they are written.
+use crate::notation::ModuleNotes;
 use pliron_driver_modules::ModuleSource;
 use pliron_text_llvm_documents::KeptPart;
 use pliron_text_positions::{LineAndColumn, position_of};
@@ -78,15 +79,28 @@ fn write_parts(
     Ok(())
 }
 
-/// Lines on the functions that are kept as they are written, in the order of the text. Errors: allocation failure. Cost: linear in
-/// the text and in them.
-pub(crate) fn kept_notes(
+// Writes the lines on a module.
+fn write_notes(
+    notes: &mut String,
+    module: &ModuleNotes,
+    source: &ModuleSource,
+) -> Result<(), AllocError> {
+    write_parts(notes, &module.kept, source)?;
+    if module.untyped {
+        notes.push_str("left as it was read: the type of a value isn't known\n")?;
+    }
+    Ok(())
+}
+
+/// Lines on the functions that are kept as they are written, in the order of the text, and on a stage that left the module as it
+/// was. Errors: allocation failure. Cost: linear in the text and in them.
+pub(crate) fn notes_on(
     alloc: Global,
-    kept: &[KeptPart],
+    module: &ModuleNotes,
     source: &ModuleSource,
 ) -> Result<String, AllocError> {
     let mut notes = String::new(alloc);
-    match write_parts(&mut notes, kept, source) {
+    match write_notes(&mut notes, module, source) {
         Ok(()) => Ok(notes),
         Err(error) => Err(error),
     }

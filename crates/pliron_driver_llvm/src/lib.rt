@@ -8,6 +8,7 @@ mod closed;
 mod failure;
 mod kept;
 mod notation;
+mod sheets;
 
 pub use closed::ClosedText;
 pub use failure::{ExpectedInModule, LlvmFailure, LlvmTextFault};

@@ -3,7 +3,7 @@ ghost use Rattle.pliron_driver.specs.Read.{PrintsKinds};
 ghost use Rattle.pliron_driver_modules.specs.Modules.{ReadsModule};
 
 use crate::failure::{LlvmFailure, LlvmTextFault, error_of, failure_message, failure_of};
-use crate::kept::kept_notes;
+use crate::kept::notes_on;
 use pliron_core::Context;
 use pliron_dialect_edges::BranchesAtOnce;
 use pliron_driver::{Document, Notation};
@@ -13,14 +13,34 @@ use pliron_pass_pipeline::NoRules;
 use pliron_text_llvm_documents::{KeptPart, read_module};
 use pliron_text_llvm_parts::ModuleSheet;
 use pliron_text_llvm_printer::print_module;
+use pliron_text_llvm_types::ValueTypes;
 use std::alloc::{AllocError, Global};
 use std::marker::PhantomData;
 
-/// What the text of a module says beside its tree, and which of its functions are kept as they are written.
+/// What the text of a module says beside its tree, which of its functions are kept as they are written, and what stages before
+/// passes did.
 #[derive(Drop)]
 pub struct ModuleNotes {
     pub sheet: ModuleSheet,
     pub kept: Vec<KeptPart>,
+    /// The types of values, where a stage asked for them.
+    pub types: ValueTypes,
+    pub stages: StageCounts,
+    /// Whether a stage left the module as it was, since the text doesn't say the type of some value.
+    pub untyped: bool,
+}
+
+impl ModuleNotes {
+    /// Those of a module that no stage has changed. Takes no memory. Cost: constant.
+    pub fn new(alloc: Global, sheet: ModuleSheet, kept: Vec<KeptPart>) -> ModuleNotes {
+        ModuleNotes {
+            sheet,
+            kept,
+            types: ValueTypes::new(alloc),
+            stages: StageCounts::default(),
+            untyped: false,
+        }
+    }
 }
 
 /// A module that was read.
@@ -59,10 +79,7 @@ impl<D: Dialect + BranchesAtOnce> Notation for LlvmText<D> {
         match read_module::<D>(alloc, text, ctx) {
             Ok(module) => Ok(Document {
                 root: module.root,
-                sheet: ModuleNotes {
-                    sheet: module.sheet,
-                    kept: module.kept,
-                },
+                sheet: ModuleNotes::new(alloc, module.sheet, module.kept),
             }),
             Err(fault) => Err(failure_of(fault)),
         }
@@ -77,10 +94,7 @@ impl<D: Dialect + BranchesAtOnce> Notation for LlvmText<D> {
     }
 
     fn empty_sheet(alloc: Global) -> ModuleNotes {
-        ModuleNotes {
-            sheet: ModuleSheet::new(alloc),
-            kept: Vec::new(alloc),
-        }
+        ModuleNotes::new(alloc, ModuleSheet::new(alloc), Vec::new(alloc))
     }
 }
 
@@ -99,8 +113,8 @@ impl<D: Dialect + BranchesAtOnce> ModuleNotation for LlvmText<D> {
         failure_message(alloc, failure, source)
     }
 
-    fn stages_of(_: &ModuleNotes) -> StageCounts {
-        StageCounts::default()
+    fn stages_of(sheet: &ModuleNotes) -> StageCounts {
+        sheet.stages
     }
 
     fn notes_of(
@@ -109,7 +123,7 @@ impl<D: Dialect + BranchesAtOnce> ModuleNotation for LlvmText<D> {
         source: &ModuleSource,
         _: &Context,
     ) -> Result<String, OptError> {
-        Ok(kept_notes(alloc, &document.sheet.kept, source)?)
+        Ok(notes_on(alloc, &document.sheet, source)?)
     }
 
     fn is_same(

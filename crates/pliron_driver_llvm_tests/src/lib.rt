@@ -6,4 +6,6 @@ mod endings;
 #[cfg(test)]
 mod lines;
 #[cfg(test)]
+mod rotated;
+#[cfg(test)]
 mod rows;

@@ -1,6 +1,6 @@
-//! The stage that rotates the loops of a module of MLIR.
+//! The stage that rotates the loops of a module.
 //!
-//! It knows the rotation of loops and the types in a module's sheet; of notations, passes, words and streams it knows nothing.
+//! It knows the rotation of loops and what stages ask of sheets; of notations, passes, words and streams it knows nothing.
 #![tactic(auto)]
 
 mod stage;

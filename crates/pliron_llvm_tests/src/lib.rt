@@ -41,3 +41,5 @@ mod statements;
 mod tokens;
 #[cfg(test)]
 mod trees;
+#[cfg(test)]
+mod types;

@@ -1,11 +1,11 @@
 //! Which functions of modules go, by what their texts say of names. `|` stands for the end of a line.
 use crate::lines::{in_one_line, with_lines};
 use pliron_dialect_mlir::{AnyMeaning, Mlir};
-use pliron_driver_inlining::{INLINING_STAGE, InlinedForm, split_stage};
+use pliron_driver_inlining::{INLINING_STAGE, InlinedForm};
 use pliron_driver_instrument::{PlanError, Timeless};
 use pliron_driver_mlir::GenericForm;
 use pliron_driver_modules::{ModuleNotation, ModuleOptions, ModuleSource, read_plan, run_passes};
-use pliron_driver_stages::StagedForm;
+use pliron_driver_stages::{StagedForm, split_stage};
 use pliron_driver_symbols::{ErasingStage, SYMBOL_STAGE};
 use std::alloc::Global;
 use std::process::Abort;

@@ -6,9 +6,10 @@ use crate::lines::{in_one_line, with_lines};
 use pliron_core::Context;
 use pliron_dialect_mlir::{AnyMeaning, Mlir};
 use pliron_driver::Notation;
-use pliron_driver_inlining::{INLINING_STAGE, InlinedForm, split_stage};
+use pliron_driver_inlining::{INLINING_STAGE, InlinedForm};
 use pliron_driver_instrument::{PlanError, Timeless};
 use pliron_driver_mlir::{GenericForm, ModuleOptions, ModuleSource, read_plan, run_passes};
+use pliron_driver_stages::split_stage;
 use std::alloc::Global;
 use std::process::Abort;
 

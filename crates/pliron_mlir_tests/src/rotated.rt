@@ -1,12 +1,11 @@
 //! Modules whose loops are rotated as they are read. `|` stands for the end of a line.
 use crate::lines::{in_one_line, with_lines};
 use pliron_dialect_mlir::{AnyMeaning, Mlir};
-use pliron_driver_inlining::split_stage;
 use pliron_driver_instrument::{PlanError, Timeless};
 use pliron_driver_mlir::GenericForm;
 use pliron_driver_modules::{ModuleOptions, ModuleSource, read_plan, run_passes};
 use pliron_driver_rotation::{ROTATION_STAGE, RotatingStage};
-use pliron_driver_stages::StagedForm;
+use pliron_driver_stages::{StagedForm, split_stage};
 use std::alloc::Global;
 use std::process::Abort;
 

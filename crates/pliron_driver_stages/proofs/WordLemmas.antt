@@ -3,7 +3,7 @@ use Rattle.std.proofs.Common.{◌≡◌, ◌≢◌, List, ℕ, ◌++◌, None, c
 use Rattle.std.specs.Str.{trim}
 use Rattle.std.specs.Str.Pattern.{FindsTextPrefix, StripsPrefix}
 use Rattle.std.proofs.lemmas.List.{append_cancel_left}
-use Rattle.pliron_driver_inlining.specs.Stages.{AsksBehind, AsksBehind.Passes, IsStaged}
+use Rattle.pliron_driver_stages.specs.Words.{AsksBehind, AsksBehind.Passes, IsStaged}
 
 pub behind : (start text rest : List ℕ) → StripsPrefix (FindsTextPrefix start) text rest → text ≡ start ++ rest
 behind start text rest (n, (long, split, boundary), after, short) = split ∙ ap (λ l. start ++ l) (sym after)

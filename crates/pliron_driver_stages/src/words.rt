@@ -1,9 +1,9 @@
 //! Words that ask for a stage before passes.
 ghost use Rattle.std.specs.Prelude.{◌≡◌, ◌≢◌, ◌++◌, List, ℕ, codes, IsTrue, IsFalse, MatchOption};
-ghost use Rattle.pliron_driver_inlining.specs.Stages.{IsStaged, AsksBehind};
+ghost use Rattle.pliron_driver_stages.specs.Words.{IsStaged, AsksBehind};
 
 // What follows this start in the text, if the text begins with it.
-#[tactic(auto, using(crate::proofs::StageLemmas::behind, crate::proofs::StageLemmas::begins_otherwise))]
+#[tactic(auto, using(crate::proofs::WordLemmas::behind, crate::proofs::WordLemmas::begins_otherwise))]
 fn text_behind<'w>(text: &'w str, start: &str) -> Option<&'w str>
     ensures { MatchOption result ((rest : List ℕ) → text.now ≢ start.now ++ rest)
         (λ rest. text.now ≡ start.now ++ rest.now) }
