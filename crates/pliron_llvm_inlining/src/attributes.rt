@@ -41,8 +41,8 @@ impl AttributeMarks {
             return Ok(());
         }
         self.shared.extend_from_slice(written)?;
-        self.shared.push(b' ')
-            .map_err(|_| AllocError)
+        self.shared.push(b' ')?;
+        Ok(())
     }
 
     /// Adds what other attributes say. Errors: allocation failure. Cost: linear in them.

@@ -1,4 +1,8 @@
 //! What may be copied from one function to another.
+ghost use Rattle.std.specs.Prelude.{◌≡◌};
+ghost use Rattle.std.specs.List.{take_while};
+ghost use Rattle.pliron_text_llvm_syntax.specs.Tokens.{is_word_byte};
+
 use crate::words::{OWN_METADATA, is_one_of};
 use pliron_text_llvm_syntax::is_word_byte;
 
@@ -6,7 +10,9 @@ use pliron_text_llvm_syntax::is_word_byte;
 static FRAME_CALLS: [&str; 3] = ["tail", "musttail", "notail"];
 
 /// The word with which the text begins. Cost: its length.
-pub(crate) fn first_word(text: &[u8]) -> &[u8] {
+pub(crate) fn first_word(text: &[u8]) -> &[u8]
+    ensures { result.now ≡ take_while is_word_byte text.now }
+{
     let len = text.iter().take_while(|byte| is_word_byte(**byte)).count();
     &text[..len]
 }

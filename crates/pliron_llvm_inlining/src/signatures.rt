@@ -37,7 +37,8 @@ fn push_text(
     out: &mut Vec<u8>,
 ) -> Result<(), AllocError> {
     out.extend_from_slice(tokens.text_between(first, end))?;
-    out.push(b' ').map_err(|_| AllocError)
+    out.push(b' ')?;
+    Ok(())
 }
 
 // Appends what is before the type and of the convention. Answers the number of the token with which the type begins.
