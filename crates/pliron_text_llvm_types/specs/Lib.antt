@@ -1,1 +1,5 @@
+pub mod Notes
+pub mod Parameters
 pub mod Stops
+pub mod Trees
+pub mod Types

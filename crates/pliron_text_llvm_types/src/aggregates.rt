@@ -1,25 +1,46 @@
 //! Types inside types.
+ghost use Rattle.std.specs.Prelude.{◌≡◌, ◌++◌, [], take, OnOk};
+ghost use Rattle.pliron_text_llvm_types.specs.Types.{is_angle, inside_of, IsPiece, IsVectorLike};
+
 use crate::named::NamedTypes;
 use crate::stop::TypeStop;
-use crate::trees::{behind_comma, behind_word, bytes_at, is_word, trees_of};
-use crate::types::type_at;
+use crate::trees::{behind_comma, behind_word, is_word, trees_of};
+use crate::types::type_in;
 use pliron_text_llvm_syntax::LlvmToken;
 use std::alloc::Global;
 
 /// What is inside the bracket that the text is. Cost: constant.
-pub fn inside_of(text: &[u8]) -> &[u8] {
-    match text {
-        [_, inside @ .., _] => inside,
-        _ => &[],
+#[tactic(auto, using(crate::proofs::TypeLemmas::inside_none))]
+pub fn inside_of(text: &[u8]) -> &[u8]
+    ensures { result.now ≡ inside_of text.now }
+{
+    if text.len() < 2 {
+        return &[];
     }
+    &text[1..text.len() - 1]
 }
 
 /// Whether the type is a vector, or a packed structure. Cost: constant.
-pub fn is_angle(kind: &[u8]) -> bool {
-    matches!(kind, [b'<', ..])
+pub fn is_angle(kind: &[u8]) -> bool
+    ensures { result ≡ is_angle kind.now }
+{
+    match kind {
+        [first, ..] => *first == b'<',
+        [] => false,
+    }
 }
 
-// Where the last `x` ends that stands behind a number of elements.
+/// Appends the type, if there is one. Errors: there is none; allocation failure. Cost: linear in it.
+pub fn write_some(kind: &[u8], out: &mut Vec<u8>) -> Result<(), TypeStop>
+    ensures { OnOk result (out.new.items ≡ out.old.items ++ kind.now) }
+{
+    if kind.is_empty() {
+        return Err(TypeStop::Unknown);
+    }
+    Ok(out.extend_from_slice(kind)?)
+}
+
+// Where the last `x` ends, which stands behind a number of elements; none where there is none.
 fn end_of_count(text: &[u8], trees: &[LlvmToken]) -> Option<usize> {
     let mut end = None;
     for tree in trees {
@@ -30,6 +51,14 @@ fn end_of_count(text: &[u8], trees: &[LlvmToken]) -> Option<usize> {
     end
 }
 
+// The text up to this byte, or all of it.
+#[tactic(auto, using(crate::proofs::TypeLemmas::taken_all))]
+fn up_to(text: &[u8], end: usize) -> &[u8]
+    ensures { result.now ≡ take end text.now }
+{
+    if end >= text.len() { text } else { &text[..end] }
+}
+
 /// Appends the type of vectors with as many elements as this one, of this type. Errors: it is no vector; allocation failure.
 /// Cost: linear in the types.
 pub fn write_vector(
@@ -37,60 +66,53 @@ pub fn write_vector(
     vector: &[u8],
     element: &[u8],
     out: &mut Vec<u8>,
-) -> Result<(), TypeStop> {
+) -> Result<(), TypeStop>
+    requires { out.old.items ≡ [] }
+    ensures { OnOk result (IsVectorLike vector.now element.now out.new.items) }
+{
     let inside = inside_of(vector);
     let trees = trees_of(alloc, inside)?;
     let Some(end) = end_of_count(inside, &trees) else {
         return Err(TypeStop::Unknown);
     };
     out.push(b'<')?;
-    out.extend_from_slice(inside.get(..end).unwrap_or(&[]))?;
+    out.extend_from_slice(up_to(inside, end))?;
     out.push(b' ')?;
     out.extend_from_slice(element)?;
     out.push(b'>')?;
     Ok(())
 }
 
-// Appends the type that these tokens begin with.
-fn write_type_at(text: &[u8], trees: &[LlvmToken], out: &mut Vec<u8>) -> Result<(), TypeStop> {
-    match type_at(text, trees) {
-        Some(span) => Ok(out.extend_from_slice(bytes_at(text, span))?),
-        None => Err(TypeStop::Unknown),
-    }
-}
-
-// Appends the type of the elements, behind the number of them.
-fn write_behind_counts(
-    text: &[u8],
-    trees: &[LlvmToken],
-    out: &mut Vec<u8>,
-) -> Result<(), TypeStop> {
-    let behind = behind_word(text, trees, b"x");
-    match behind_word(text, behind, b"x") {
-        [] => write_type_at(text, behind, out),
-        scaled => write_type_at(text, scaled, out),
+// The type of the elements, behind the number of them.
+fn behind_counts<'t>(text: &'t [u8], trees: &[LlvmToken]) -> &'t [u8]
+    ensures { IsPiece text.now result.now }
+{
+    let scaled = behind_word(text, b"x", trees);
+    match behind_word(text, b"x", scaled) {
+        [] => type_in(text, scaled),
+        trees => type_in(text, trees),
     }
 }
 
 /// Appends the type of the elements of an array or a vector. Errors: it is neither; allocation failure. Cost: linear in it.
-pub fn write_element(alloc: Global, list: &[u8], out: &mut Vec<u8>) -> Result<(), TypeStop> {
+pub fn write_element(alloc: Global, list: &[u8], out: &mut Vec<u8>) -> Result<(), TypeStop>
+    requires { out.old.items ≡ [] }
+    ensures { OnOk result (IsPiece (inside_of list.now) out.new.items) }
+{
     let inside = inside_of(list);
     let trees = trees_of(alloc, inside)?;
-    write_behind_counts(inside, &trees, out)
+    write_some(behind_counts(inside, &trees), out)
 }
 
-// Appends the type of the field with this index, of those between commas.
-fn write_field_of(
-    text: &[u8],
-    trees: &[LlvmToken],
-    index: usize,
-    out: &mut Vec<u8>,
-) -> Result<(), TypeStop> {
+// The type of the field with this index, of those between commas.
+fn field_of<'t>(text: &'t [u8], trees: &[LlvmToken], index: usize) -> &'t [u8]
+    ensures { IsPiece text.now result.now }
+{
     let mut fields = trees;
     for _ in 0..index {
         fields = behind_comma(text, fields);
     }
-    write_type_at(text, fields, out)
+    type_in(text, fields)
 }
 
 // Appends the type of the field with this index of a structure with this inside its braces.
@@ -99,9 +121,12 @@ fn write_field(
     inside: &[u8],
     index: usize,
     out: &mut Vec<u8>,
-) -> Result<(), TypeStop> {
+) -> Result<(), TypeStop>
+    requires { out.old.items ≡ [] }
+    ensures { OnOk result (IsPiece inside.now out.new.items) }
+{
     let trees = trees_of(alloc, inside)?;
-    write_field_of(inside, &trees, index, out)
+    write_some(field_of(inside, &trees, index), out)
 }
 
 /// Appends the type of the member with this index of an array or a structure, which may be named. Errors: it has no such one;
@@ -112,7 +137,9 @@ pub fn write_member(
     index: usize,
     named: &NamedTypes,
     out: &mut Vec<u8>,
-) -> Result<(), TypeStop> {
+) -> Result<(), TypeStop>
+    requires { out.old.items ≡ [] }
+{
     let aggregate = named.definition(aggregate);
     match aggregate {
         [b'{', ..] => write_field(alloc, inside_of(aggregate), index, out),

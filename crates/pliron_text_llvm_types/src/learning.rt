@@ -1,4 +1,7 @@
 //! Learning the types of the values of a module.
+ghost use Rattle.std.specs.Prelude.{◌≡◌, ◌≢◌, ℕ, None, Some, OnOk};
+ghost use Rattle.pliron_text_llvm_sheets.specs.Sheets.{KeepsSheet};
+
 use crate::named::NamedTypes;
 use crate::parameters::types_of_parameters;
 use crate::statements::type_of_statement;
@@ -18,15 +21,21 @@ pub struct ValueTypes {
 }
 
 impl ValueTypes {
+    ghost use Rattle.pliron_text_llvm_types.specs.Notes.{known_type};
+
     /// No type yet. Takes no memory. Cost: constant.
-    pub fn new(alloc: Global) -> ValueTypes {
+    pub fn new(alloc: Global) -> ValueTypes
+        ensures { (value : ℕ) → known_type result value ≡ None }
+    {
         ValueTypes {
             numbers: Vec::new(alloc),
         }
     }
 
     /// The number of the text of the type of the value with this handle, if it is known. Cost: constant.
-    pub fn get(&self, value: usize) -> Option<usize> {
+    pub fn get(&self, value: usize) -> Option<usize>
+        ensures { result ≡ known_type self.now value }
+    {
         match self.numbers.get(value) {
             Some(number) => *number,
             None => None,
@@ -35,7 +44,11 @@ impl ValueTypes {
 
     /// The value of this handle has a type whose text has this number. Errors: allocation failure. Cost: constant, amortised,
     /// where handles rise; else the number of handles that are passed over.
-    pub fn set(&mut self, value: usize, number: usize) -> Result<(), AllocError> {
+    pub fn set(&mut self, value: usize, number: usize) -> Result<(), AllocError>
+        ensures set { OnOk result (known_type self.new value ≡ Some number) }
+        ensures others { OnOk result ((other : ℕ) → other ≢ value
+            → known_type self.new other ≡ known_type self.old other) }
+    {
         if value >= self.numbers.len() {
             self.numbers.resize(value, None)?;
             self.numbers.push(Some(number))?;
@@ -126,11 +139,14 @@ fn is_used_elsewhere(value: Value, block: Ptr<BasicBlock>, ctx: &Context) -> boo
 
 impl TypeLearning {
     // The number of the type of what a statement with the form of this number gives, if it is known.
+    #[tactic(auto, using(pliron_text_llvm_sheets::proofs::KeepingLemmas::sheet_steps))]
     fn type_of_form(
         &mut self,
         form: usize,
         sheet: &mut LlvmSheet,
-    ) -> Result<Option<usize>, AllocError> {
+    ) -> Result<Option<usize>, AllocError>
+        ensures { KeepsSheet sheet.old sheet.new }
+    {
         if let Some(known) = self.forms.get(&form) {
             return Ok(*known);
         }
@@ -144,12 +160,15 @@ impl TypeLearning {
     }
 
     // The number of the type of what the operation gives, if it is known.
+    #[tactic(auto, using(pliron_text_llvm_sheets::proofs::KeepingLemmas::sheet_steps))]
     fn type_of_operation(
         &mut self,
         op: Ptr<Operation>,
         sheet: &mut LlvmSheet,
         ctx: &Context,
-    ) -> Result<Option<usize>, AllocError> {
+    ) -> Result<Option<usize>, AllocError>
+        ensures { KeepsSheet sheet.old sheet.new }
+    {
         match form_number(op, ctx) {
             Some(form) => self.type_of_form(form, sheet),
             None => Ok(None),
@@ -157,13 +176,16 @@ impl TypeLearning {
     }
 
     // The number of the type of the result of the operation, if it is known.
+    #[tactic(auto, using(pliron_text_llvm_sheets::proofs::KeepingLemmas::sheet_steps))]
     fn type_of_result(
         &mut self,
         op: Ptr<Operation>,
         value: Value,
         sheet: &mut LlvmSheet,
         ctx: &Context,
-    ) -> Result<Option<usize>, AllocError> {
+    ) -> Result<Option<usize>, AllocError>
+        ensures { KeepsSheet sheet.old sheet.new }
+    {
         if !op.is_live(ctx) || origin_of(value, sheet) == Some(ValueOrigin::Constant) {
             return Ok(None);
         }
@@ -175,13 +197,16 @@ impl TypeLearning {
     }
 
     // The number of the type of an argument of a block that isn't the first one, if it is known.
+    #[tactic(auto, using(pliron_text_llvm_sheets::proofs::KeepingLemmas::sheet_steps))]
     fn type_of_argument(
         &mut self,
         value: Value,
         block: Ptr<BasicBlock>,
         sheet: &mut LlvmSheet,
         ctx: &Context,
-    ) -> Result<Option<usize>, AllocError> {
+    ) -> Result<Option<usize>, AllocError>
+        ensures { KeepsSheet sheet.old sheet.new }
+    {
         match origin_of(value, sheet) {
             Some(ValueOrigin::Phi(form)) => self.type_of_form(form, sheet),
             Some(ValueOrigin::Given) => match only_leader(block, ctx) {
@@ -216,13 +241,16 @@ impl TypeLearning {
 
 impl TypeLearning {
     // Learns the types of the results of the operation.
+    #[tactic(auto, using(pliron_text_llvm_sheets::proofs::KeepingLemmas::sheet_steps))]
     fn learn_operation(
         &mut self,
         op: Ptr<Operation>,
         types: &mut ValueTypes,
         sheet: &mut LlvmSheet,
         ctx: &Context,
-    ) -> Result<(), AllocError> {
+    ) -> Result<(), AllocError>
+        ensures { KeepsSheet sheet.old sheet.new }
+    {
         if !op.is_live(ctx) || op.num_result(ctx) == 0 {
             return Ok(());
         }
@@ -232,13 +260,16 @@ impl TypeLearning {
     }
 
     // Learns the types of the results of the block's operations.
+    #[tactic(auto, using(pliron_text_llvm_sheets::proofs::KeepingLemmas::sheet_steps))]
     fn learn_operations(
         &mut self,
         block: Ptr<BasicBlock>,
         types: &mut ValueTypes,
         sheet: &mut LlvmSheet,
         ctx: &Context,
-    ) -> Result<(), AllocError> {
+    ) -> Result<(), AllocError>
+        ensures { KeepsSheet sheet.old sheet.new }
+    {
         let mut next = first_operation(block, ctx);
         // Each turn takes an operation, or is the last.
         for _ in 0..u64::MAX {
@@ -252,6 +283,7 @@ impl TypeLearning {
     }
 
     // Learns the type of an argument of the block.
+    #[tactic(auto, using(pliron_text_llvm_sheets::proofs::KeepingLemmas::sheet_steps))]
     fn learn_argument(
         &mut self,
         block: Ptr<BasicBlock>,
@@ -259,19 +291,24 @@ impl TypeLearning {
         types: &mut ValueTypes,
         sheet: &mut LlvmSheet,
         ctx: &Context,
-    ) -> Result<(), AllocError> {
+    ) -> Result<(), AllocError>
+        ensures { KeepsSheet sheet.old sheet.new }
+    {
         let number = self.type_of_argument(value, block, sheet, ctx)?;
         self.note(value, number, Some(block), types, ctx)
     }
 
     // Learns the types of the arguments of the block.
+    #[tactic(auto, using(pliron_text_llvm_sheets::proofs::KeepingLemmas::sheet_steps))]
     fn learn_arguments(
         &mut self,
         block: Ptr<BasicBlock>,
         types: &mut ValueTypes,
         sheet: &mut LlvmSheet,
         ctx: &Context,
-    ) -> Result<(), AllocError> {
+    ) -> Result<(), AllocError>
+        ensures { KeepsSheet sheet.old sheet.new }
+    {
         for i in 0..num_argument(block, ctx) {
             if block.is_live(ctx) && i < block.num_argument(ctx) {
                 let value = block.get_argument(ctx, i);
@@ -282,6 +319,7 @@ impl TypeLearning {
     }
 
     // The value is a parameter of this type, where it has some bytes.
+    #[tactic(auto, using(pliron_text_llvm_sheets::proofs::KeepingLemmas::sheet_steps))]
     fn learn_parameter(
         &mut self,
         value: Value,
@@ -289,7 +327,9 @@ impl TypeLearning {
         types: &mut ValueTypes,
         sheet: &mut LlvmSheet,
         ctx: &Context,
-    ) -> Result<(), AllocError> {
+    ) -> Result<(), AllocError>
+        ensures { KeepsSheet sheet.old sheet.new }
+    {
         let number = if kind.is_empty() {
             None
         } else {
@@ -299,6 +339,7 @@ impl TypeLearning {
     }
 
     // Learns the types of the parameters, which are the arguments of the function's first block.
+    #[tactic(auto, using(pliron_text_llvm_sheets::proofs::KeepingLemmas::sheet_steps))]
     fn learn_parameters(
         &mut self,
         block: Ptr<BasicBlock>,
@@ -306,7 +347,9 @@ impl TypeLearning {
         types: &mut ValueTypes,
         sheet: &mut LlvmSheet,
         ctx: &Context,
-    ) -> Result<(), AllocError> {
+    ) -> Result<(), AllocError>
+        ensures { KeepsSheet sheet.old sheet.new }
+    {
         for i in 0..parameters.len() {
             if block.is_live(ctx) && i < block.num_argument(ctx) {
                 let value = block.get_argument(ctx, i);
@@ -317,6 +360,7 @@ impl TypeLearning {
     }
 
     // Learns the types of the parameters of the function with this first block.
+    #[tactic(auto, using(pliron_text_llvm_sheets::proofs::KeepingLemmas::sheet_steps))]
     fn learn_header(
         &mut self,
         function: Ptr<Operation>,
@@ -324,7 +368,9 @@ impl TypeLearning {
         types: &mut ValueTypes,
         sheet: &mut LlvmSheet,
         ctx: &Context,
-    ) -> Result<(), AllocError> {
+    ) -> Result<(), AllocError>
+        ensures { KeepsSheet sheet.old sheet.new }
+    {
         let Some(form) = form_number(function, ctx) else {
             return Ok(());
         };
@@ -336,13 +382,16 @@ impl TypeLearning {
     }
 
     // Learns the types of the values of a function.
+    #[tactic(auto, using(pliron_text_llvm_sheets::proofs::KeepingLemmas::sheet_steps))]
     fn learn_function(
         &mut self,
         function: Ptr<Operation>,
         types: &mut ValueTypes,
         sheet: &mut LlvmSheet,
         ctx: &Context,
-    ) -> Result<(), AllocError> {
+    ) -> Result<(), AllocError>
+        ensures { KeepsSheet sheet.old sheet.new }
+    {
         let Some(first) = first_block(function, ctx) else {
             return Ok(());
         };
@@ -362,13 +411,16 @@ impl TypeLearning {
     }
 
     // Learns the types of the values of the functions of a module.
+    #[tactic(auto, using(pliron_text_llvm_sheets::proofs::KeepingLemmas::sheet_steps))]
     fn learn_module(
         &mut self,
         root: Ptr<Operation>,
         types: &mut ValueTypes,
         sheet: &mut LlvmSheet,
         ctx: &Context,
-    ) -> Result<(), AllocError> {
+    ) -> Result<(), AllocError>
+        ensures { KeepsSheet sheet.old sheet.new }
+    {
         let mut next = match first_block(root, ctx) {
             Some(block) => first_operation(block, ctx),
             None => None,
@@ -389,6 +441,7 @@ impl TypeLearning {
 /// type of each value is known that one block uses and another one defines, but for values of the first block of a function.
 ///
 /// Errors: allocation failure. Cost: linear in the module: the text, the forms, and the uses of values of which no type is known.
+#[tactic(auto, using(pliron_text_llvm_sheets::proofs::KeepingLemmas::sheet_steps))]
 pub fn learn_types(
     alloc: Global,
     root: Ptr<Operation>,
@@ -396,7 +449,9 @@ pub fn learn_types(
     types: &mut ValueTypes,
     sheet: &mut LlvmSheet,
     ctx: &Context,
-) -> Result<bool, AllocError> {
+) -> Result<bool, AllocError>
+    ensures { KeepsSheet sheet.old sheet.new }
+{
     let mut learning = TypeLearning {
         alloc,
         named: NamedTypes::of(alloc, text)?,

@@ -1,8 +1,9 @@
 //! Named types of a module.
 use crate::stop::TypeStop;
-use crate::trees::{begins_with, bytes_at, is_word, span_of, trees_of};
+use crate::trees::{begins_with, is_word, trees_of};
 use indexmap::IndexMap;
-use pliron_text_llvm_syntax::LlvmToken;
+use pliron_text_llvm_names::bytes_in;
+use pliron_text_llvm_syntax::{ByteSpan, LlvmToken};
 use std::alloc::{AllocError, Global};
 
 /// The types that a module names, and what they are.
@@ -13,7 +14,7 @@ pub struct NamedTypes {
 
 // The name and the definition on a line with these tokens, if it defines a type.
 fn definition_in<'t>(text: &'t [u8], trees: &[LlvmToken]) -> Option<(&'t [u8], &'t [u8])> {
-    let [name, equals, word, definition @ ..] = trees else {
+    let [name, equals, word, ..] = trees else {
         return None;
     };
     if !begins_with(text, name, b'%')
@@ -22,8 +23,11 @@ fn definition_in<'t>(text: &'t [u8], trees: &[LlvmToken]) -> Option<(&'t [u8], &
     {
         return None;
     }
-    let definition = span_of(definition)?;
-    Some((bytes_at(text, name.span), bytes_at(text, definition)))
+    let definition = ByteSpan {
+        start: word.span.end,
+        end: text.len(),
+    };
+    Some((bytes_in(text, name.span), bytes_in(text, definition).trim_ascii_start()))
 }
 
 impl NamedTypes {

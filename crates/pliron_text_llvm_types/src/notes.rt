@@ -1,11 +1,20 @@
 //! What is noted of values that are made for others.
+ghost use Rattle.std.specs.Prelude.{◌≡◌, ◌≢◌, [], None, Some, unwrap_or, IfOk, IfSome, OnOk, IsTrue};
+ghost use Rattle.pliron_core.specs.Tree.{definition_of};
+ghost use Rattle.pliron_core.specs.declared.context.Def.TheVariants.{Argument};
+ghost use Rattle.pliron_text_llvm_sheets.specs.Notes.{note_at};
+ghost use Rattle.pliron_text_llvm_sheets.specs.Sheets.{sheet_text, value_notes, KeepsSheet};
+ghost use Rattle.pliron_text_llvm_types.specs.Notes.{known_type, phi_of};
+
 use crate::learning::{ValueTypes, origin_of};
 use pliron_core::{Context, Def, Value};
 use pliron_text_llvm_sheets::{LlvmSheet, ValueNote, ValueOrigin};
 use std::alloc::{AllocError, Global};
 
 // The form of a phi of this type.
-fn phi_form(alloc: Global, kind: &[u8]) -> Result<Vec<u8>, AllocError> {
+fn phi_form(alloc: Global, kind: &[u8]) -> Result<Vec<u8>, AllocError>
+    ensures { IfOk result (λ form. form.items ≡ phi_of kind.now) }
+{
     let mut form = Vec::from_slice(alloc, b"phi ")?;
     form.extend_from_slice(kind)?;
     form.extend_from_slice(b" [ \0, \x01 ]")?;

@@ -1,11 +1,15 @@
 //! The types of what statements give.
-use crate::aggregates::{is_angle, write_element, write_member, write_vector};
+ghost use Rattle.std.specs.Prelude.{◌≡◌, ◌++◌, [], length, codes, IfOk, OnOk};
+ghost use Rattle.pliron_text_llvm_types.specs.Trees.{behind_comma, AreTrees};
+ghost use Rattle.pliron_text_llvm_types.specs.Types.{is_one_of, first_words, read_words, second_words, cast_words, other_rule, rule_of, first_type, type_in, pointer_to};
+ghost use Rattle.pliron_text_llvm_types.specs.Types.{IsAsMany, IsVectorLike, IsPiece, inside_of, IsTypeBy, opcode_of, IsStatementType, IsTypeOfText};
+
+use crate::aggregates::{is_angle, write_element, write_member, write_some, write_vector};
 use crate::named::NamedTypes;
 use crate::stop::TypeStop;
-use crate::trees::{
-    behind_comma, behind_word, bytes_at, is_comma, is_word, trees_of, without_marks,
-};
-use crate::types::{behind_flags, type_at};
+use crate::trees::{behind, behind_comma, behind_word, is_comma, is_word, trees_of, without_marks};
+use crate::types::{behind_flags, type_in};
+use pliron_text_llvm_names::bytes_in;
 use pliron_text_llvm_syntax::{LlvmToken, TokenKind};
 use std::alloc::Global;
 
@@ -34,14 +38,10 @@ pub enum TypeRule {
     Member,
 }
 
-/// A text, and its tokens.
-#[derive(Clone, Copy)]
-struct StatementText<'t> {
-    text: &'t [u8],
-    trees: &'t [LlvmToken],
-}
-
-fn gives_first_operator(opcode: &[u8]) -> bool {
+// Whether the statement is an operator of two operands, or changes a sign.
+fn is_operator(opcode: &[u8]) -> bool
+    ensures { result ≡ is_one_of first_words opcode.now }
+{
     opcode == b"add".as_slice()
         || opcode == b"sub".as_slice()
         || opcode == b"mul".as_slice()
@@ -63,8 +63,10 @@ fn gives_first_operator(opcode: &[u8]) -> bool {
         || opcode == b"fneg".as_slice()
 }
 
-// Whether the statement gives a value of the first type in it.
-fn gives_first(opcode: &[u8]) -> bool {
+// Whether the statement gives a value of the first type in it, and is no operator.
+fn gives_first(opcode: &[u8]) -> bool
+    ensures { result ≡ is_one_of read_words opcode.now }
+{
     opcode == b"load".as_slice()
         || opcode == b"call".as_slice()
         || opcode == b"tail".as_slice()
@@ -76,17 +78,20 @@ fn gives_first(opcode: &[u8]) -> bool {
         || opcode == b"landingpad".as_slice()
         || opcode == b"insertelement".as_slice()
         || opcode == b"insertvalue".as_slice()
-        || gives_first_operator(opcode)
 }
 
 // Whether the statement gives a value of the type behind its first comma.
-fn gives_second(opcode: &[u8]) -> bool {
+fn gives_second(opcode: &[u8]) -> bool
+    ensures { result ≡ is_one_of second_words opcode.now }
+{
     opcode == b"select".as_slice()
         || opcode == b"atomicrmw".as_slice()
         || opcode == b"va_arg".as_slice()
 }
 
-fn is_cast(opcode: &[u8]) -> bool {
+fn is_cast(opcode: &[u8]) -> bool
+    ensures { result ≡ is_one_of cast_words opcode.now }
+{
     opcode == b"trunc".as_slice()
         || opcode == b"zext".as_slice()
         || opcode == b"sext".as_slice()
@@ -104,7 +109,9 @@ fn is_cast(opcode: &[u8]) -> bool {
 }
 
 // How the type follows that a statement gives which is none of the above.
-fn other_rule(opcode: &[u8]) -> Option<TypeRule> {
+fn other_rule(opcode: &[u8]) -> Option<TypeRule>
+    ensures { result ≡ other_rule opcode.now }
+{
     if opcode == b"icmp".as_slice() || opcode == b"fcmp".as_slice() {
         Some(TypeRule::Truth)
     } else if opcode == b"getelementptr".as_slice() {
@@ -125,8 +132,10 @@ fn other_rule(opcode: &[u8]) -> Option<TypeRule> {
 }
 
 // How the type follows that a statement with this opcode gives, if the table has it.
-fn rule_of(opcode: &[u8]) -> Option<TypeRule> {
-    if gives_first(opcode) {
+fn rule_of(opcode: &[u8]) -> Option<TypeRule>
+    ensures { result ≡ rule_of opcode.now }
+{
+    if is_operator(opcode) || gives_first(opcode) {
         Some(TypeRule::First)
     } else if gives_second(opcode) {
         Some(TypeRule::BehindComma)
@@ -137,71 +146,62 @@ fn rule_of(opcode: &[u8]) -> Option<TypeRule> {
     }
 }
 
-impl<'t> StatementText<'t> {
-    // The type that these tokens begin with, none where they begin with something else.
-    fn type_in(self, trees: &[LlvmToken]) -> &'t [u8] {
-        match type_at(self.text, trees) {
-            Some(span) => bytes_at(self.text, span),
-            None => &[],
-        }
-    }
-
-    // The first type behind the opcode.
-    fn first_type(self) -> &'t [u8] {
-        self.type_in(behind_flags(self.text, self.trees))
-    }
-
-    // The tokens behind the first comma.
-    fn behind_first(self) -> &'t [LlvmToken] {
-        behind_comma(self.text, self.trees)
-    }
-
-    // The tokens behind the second comma.
-    fn behind_second(self) -> &'t [LlvmToken] {
-        behind_comma(self.text, self.behind_first())
-    }
-
-    // The type of which vectors are compared or made, the first one behind the commas that is a vector.
-    fn vector_behind(self) -> &'t [u8] {
-        let mut trees = self.behind_second();
-        for _ in 0..self.trees.len() {
-            let operand = self.type_in(trees);
-            if is_angle(operand) {
-                return operand;
-            }
-            trees = behind_comma(self.text, trees);
-        }
-        &[]
-    }
-
-    // The bracket behind `addrspace` behind a comma.
-    fn address_space(self) -> &'t [u8] {
-        for at in 0..self.trees.len() {
-            if let [comma, space, bracket, ..] = self.trees.get(at..).unwrap_or(&[]) {
-                if is_comma(self.text, comma) && is_word(self.text, space, b"addrspace") {
-                    return bytes_at(self.text, bracket.span);
-                }
-            }
-        }
-        &[]
-    }
+// The first type behind the opcode.
+fn first_type<'t>(text: &'t [u8], trees: &[LlvmToken]) -> &'t [u8]
+    ensures { result.now ≡ first_type text.now trees.now }
+{
+    type_in(text, behind_flags(text, trees))
 }
 
-// Appends the type, if there is one.
-fn write_some(kind: &[u8], out: &mut Vec<u8>) -> Result<(), TypeStop> {
-    if kind.is_empty() {
-        return Err(TypeStop::Unknown);
-    }
-    Ok(out.extend_from_slice(kind)?)
+// The type behind the first comma.
+fn second_type<'t>(text: &'t [u8], trees: &[LlvmToken]) -> &'t [u8]
+    ensures { result.now ≡ type_in text.now (behind_comma text.now trees.now) }
+{
+    type_in(text, behind_comma(text, trees))
 }
 
-// Appends this type, or a vector of as many as this one.
+// The type behind the second comma.
+fn third_type<'t>(text: &'t [u8], trees: &[LlvmToken]) -> &'t [u8]
+    ensures { result.now ≡ type_in text.now (behind_comma text.now (behind_comma text.now trees.now)) }
+{
+    type_in(text, behind_comma(text, behind_comma(text, trees)))
+}
+
+// The first type behind the second comma and later ones that is a vector, none where there is none.
+fn vector_behind<'t>(text: &'t [u8], trees: &[LlvmToken]) -> &'t [u8] {
+    let mut rest = behind_comma(text, trees);
+    for _ in 0..trees.len() {
+        rest = behind_comma(text, rest);
+        let operand = type_in(text, rest);
+        if is_angle(operand) {
+            return operand;
+        }
+    }
+    &[]
+}
+
+// The bracket behind `addrspace` behind a comma, none where there is none.
+fn address_space<'t>(text: &'t [u8], trees: &[LlvmToken]) -> &'t [u8] {
+    for at in 0..trees.len() {
+        if let [comma, space, bracket, ..] = behind(trees, at) {
+            if is_comma(text, comma) && is_word(text, space, b"addrspace") {
+                return bytes_in(text, bracket.span);
+            }
+        }
+    }
+    &[]
+}
+
+// Appends this type, or a vector of as many of it as this one has.
 fn write_as_many(
     alloc: Global,
     many: &[u8],
     element: &[u8],
     out: &mut Vec<u8>,
-) -> Result<(), TypeStop> {
+) -> Result<(), TypeStop>
+    requires { out.old.items ≡ [] }
+    ensures { OnOk result (IsAsMany many.now element.now out.new.items) }
+{
     if is_angle(many) && !is_angle(element) {
         write_vector(alloc, many, element, out)
     } else {
@@ -209,8 +209,11 @@ fn write_as_many(
     }
 }
 
-// Appends what a comparison gives.
-fn write_truth(alloc: Global, compared: &[u8], out: &mut Vec<u8>) -> Result<(), TypeStop> {
+// Appends what a comparison of values of this type gives.
+fn write_truth(alloc: Global, compared: &[u8], out: &mut Vec<u8>) -> Result<(), TypeStop>
+    requires { out.old.items ≡ [] }
+    ensures { OnOk result (IsAsMany compared.now (codes "i1") out.new.items) }
+{
     if compared.is_empty() {
         return Err(TypeStop::Unknown);
     }
@@ -218,7 +221,10 @@ fn write_truth(alloc: Global, compared: &[u8], out: &mut Vec<u8>) -> Result<(), 
 }
 
 // Appends the type of a pointer to the address space in this bracket, or to none.
-fn write_pointer(space: &[u8], out: &mut Vec<u8>) -> Result<(), TypeStop> {
+fn write_pointer(space: &[u8], out: &mut Vec<u8>) -> Result<(), TypeStop>
+    requires { out.old.items ≡ [] }
+    ensures { OnOk result (out.new.items ≡ pointer_to space.now) }
+{
     out.extend_from_slice(b"ptr")?;
     if !space.is_empty() {
         out.extend_from_slice(b" addrspace")?;
@@ -228,19 +234,26 @@ fn write_pointer(space: &[u8], out: &mut Vec<u8>) -> Result<(), TypeStop> {
 }
 
 // Appends what an exchange of such values gives.
-fn write_exchange(kind: &[u8], out: &mut Vec<u8>) -> Result<(), TypeStop> {
+fn write_exchange(kind: &[u8], out: &mut Vec<u8>) -> Result<(), TypeStop>
+    requires { out.old.items ≡ [] }
+    ensures { OnOk result (out.new.items ≡ codes "{ " ++ kind.now ++ codes ", i1 }") }
+{
     out.extend_from_slice(b"{ ")?;
     write_some(kind, out)?;
     Ok(out.extend_from_slice(b", i1 }")?)
 }
 
-// Appends what a shuffle gives of vectors of the first type by a mask of the second one.
+// Appends what a shuffle gives of vectors of this type by a mask of this one.
 fn write_shuffled(
     alloc: Global,
     vector: &[u8],
     mask: &[u8],
     out: &mut Vec<u8>,
-) -> Result<(), TypeStop> {
+) -> Result<(), TypeStop>
+    requires { out.old.items ≡ [] }
+    ensures { OnOk result ((element : List ℕ) × IsPiece (inside_of vector.now) element
+        × IsVectorLike mask.now element out.new.items) }
+{
     let mut element = Vec::new(alloc);
     match write_element(alloc, vector, &mut element) {
         Ok(()) => write_vector(alloc, mask, &element, out),
@@ -273,114 +286,107 @@ fn step_into(
     }
 }
 
-impl StatementText<'_> {
-    // The aggregate becomes its member with the indices that the tokens begin with.
-    fn step_into_all(
-        self,
-        alloc: Global,
-        indices: &[LlvmToken],
-        named: &NamedTypes,
-        aggregate: &mut Vec<u8>,
-    ) -> Result<(), TypeStop> {
-        for tree in indices {
-            match tree.kind {
-                TokenKind::Mark => {}
-                TokenKind::Word => match number_of(bytes_at(self.text, tree.span)) {
-                    Some(index) => step_into(alloc, index, named, aggregate)?,
-                    None => return Err(TypeStop::Unknown),
-                },
-                _ => return Ok(()),
-            }
-        }
-        Ok(())
-    }
-
-    // Appends the type of the member that the statement takes out.
-    fn write_taken(
-        self,
-        alloc: Global,
-        named: &NamedTypes,
-        out: &mut Vec<u8>,
-    ) -> Result<(), TypeStop> {
-        out.clear();
-        write_some(self.first_type(), out)?;
-        self.step_into_all(alloc, self.behind_first(), named, out)
-    }
-
-    // Appends the type that follows by the rule.
-    fn write_by(
-        self,
-        alloc: Global,
-        rule: TypeRule,
-        named: &NamedTypes,
-        out: &mut Vec<u8>,
-    ) -> Result<(), TypeStop> {
-        match rule {
-            TypeRule::First => write_some(self.first_type(), out),
-            TypeRule::BehindComma => write_some(self.type_in(self.behind_first()), out),
-            TypeRule::BehindTo => {
-                write_some(self.type_in(behind_word(self.text, self.trees, b"to")), out)
-            }
-            TypeRule::Truth => write_truth(alloc, self.first_type(), out),
-            TypeRule::Address => write_as_many(
-                alloc,
-                self.vector_behind(),
-                self.type_in(self.behind_first()),
-                out,
-            ),
-            TypeRule::Allocation => write_pointer(self.address_space(), out),
-            TypeRule::Exchange => write_exchange(self.type_in(self.behind_first()), out),
-            TypeRule::Element => write_element(alloc, self.first_type(), out),
-            TypeRule::Shuffle => write_shuffled(
-                alloc,
-                self.first_type(),
-                self.type_in(self.behind_second()),
-                out,
-            ),
-            TypeRule::Member => self.write_taken(alloc, named, out),
+// The aggregate becomes its member with the indices that the tokens begin with.
+fn step_into_all(
+    alloc: Global,
+    text: &[u8],
+    indices: &[LlvmToken],
+    named: &NamedTypes,
+    aggregate: &mut Vec<u8>,
+) -> Result<(), TypeStop> {
+    for tree in indices {
+        match tree.kind {
+            TokenKind::Mark => {}
+            TokenKind::Word => match number_of(bytes_in(text, tree.span)) {
+                Some(index) => step_into(alloc, index, named, aggregate)?,
+                None => return Err(TypeStop::Unknown),
+            },
+            _ => return Ok(()),
         }
     }
+    Ok(())
+}
 
-    // Appends the type of what the statement gives.
-    fn write_type(
-        self,
-        alloc: Global,
-        named: &NamedTypes,
-        out: &mut Vec<u8>,
-    ) -> Result<(), TypeStop> {
-        let [opcode, ..] = self.trees else {
-            return Err(TypeStop::Unknown);
-        };
-        match rule_of(bytes_at(self.text, opcode.span)) {
-            Some(rule) => self.write_by(alloc, rule, named, out),
-            None => Err(TypeStop::Unknown),
-        }
+// Appends the type of the member that a statement with these tokens takes out.
+fn write_taken(
+    alloc: Global,
+    text: &[u8],
+    trees: &[LlvmToken],
+    named: &NamedTypes,
+    out: &mut Vec<u8>,
+) -> Result<(), TypeStop> {
+    write_some(first_type(text, trees), out)?;
+    step_into_all(alloc, text, behind_comma(text, trees), named, out)
+}
+
+// Appends the type of what a statement with these tokens gives, by its rule, to nothing.
+fn write_by(
+    alloc: Global,
+    rule: TypeRule,
+    text: &[u8],
+    trees: &[LlvmToken],
+    named: &NamedTypes,
+    out: &mut Vec<u8>,
+) -> Result<(), TypeStop>
+    requires { out.old.items ≡ [] }
+    ensures { OnOk result (IsTypeBy text.now trees.now (Some rule) out.new.items) }
+{
+    let first = first_type(text, trees);
+    let second = second_type(text, trees);
+    match rule {
+        TypeRule::First => write_some(first, out),
+        TypeRule::BehindComma => write_some(second, out),
+        TypeRule::BehindTo => write_some(type_in(text, behind_word(text, b"to", trees)), out),
+        TypeRule::Truth => write_truth(alloc, first, out),
+        TypeRule::Address => write_as_many(alloc, vector_behind(text, trees), second, out),
+        TypeRule::Allocation => write_pointer(address_space(text, trees), out),
+        TypeRule::Exchange => write_exchange(second, out),
+        TypeRule::Element => write_element(alloc, first, out),
+        TypeRule::Shuffle => write_shuffled(alloc, first, third_type(text, trees), out),
+        TypeRule::Member => write_taken(alloc, text, trees, named, out),
     }
 }
 
-// Appends the type of what a statement with this text gives.
+// The rule of the opcode that the tokens begin with.
+fn rule_of_trees(text: &[u8], trees: &[LlvmToken]) -> Option<TypeRule>
+    ensures { result ≡ rule_of (opcode_of text.now trees.now) }
+{
+    match trees {
+        [opcode, ..] => rule_of(bytes_in(text, opcode.span)),
+        [] => rule_of(&[]),
+    }
+}
+
+// Appends the type of what a statement with this text gives to nothing.
+#[tactic(auto, using(crate::proofs::TypeLemmas::type_read))]
 fn write_type_of(
     alloc: Global,
     text: &[u8],
     named: &NamedTypes,
     out: &mut Vec<u8>,
-) -> Result<(), TypeStop> {
+) -> Result<(), TypeStop>
+    requires { out.old.items ≡ [] }
+    ensures { OnOk result (IsTypeOfText text.now out.new.items) }
+{
     let trees = trees_of(alloc, text)?;
-    let statement = StatementText {
-        text,
-        trees: &trees,
-    };
-    statement.write_type(alloc, named, out)
+    match rule_of_trees(text, &trees) {
+        Some(rule) => write_by(alloc, rule, text, &trees, named, out),
+        None => Err(TypeStop::Unknown),
+    }
 }
 
-/// The type of what a statement with this form gives, with the types that the module names. Errors: the form doesn't say it, or
-/// in words that aren't in the tables, or it is none of values that edges pass; allocation failure. Cost: linear in the form and in the
-/// types that it names, for each index of an `extractvalue`.
+/// The type of what a statement with this form gives, with the types that the module names: it follows by the rule of its opcode from
+/// the tokens of the form.
+///
+/// Errors: the form doesn't say it, or in words that aren't in the tables, or it is of values that edges don't pass; allocation
+/// failure. Cost: linear in the form, and for each index of an `extractvalue` in the type that it steps into.
 pub fn type_of_statement(
     alloc: Global,
     form: &[u8],
     named: &NamedTypes,
-) -> Result<Vec<u8>, TypeStop> {
+) -> Result<Vec<u8>, TypeStop>
+    ensures { IfOk result (λ kind. IsStatementType form.now kind.items) }
+{
     let mut out = Vec::new(alloc);
     let text = without_marks(alloc, form)?;
     match write_type_of(alloc, &text, named, &mut out) {

@@ -1,25 +1,45 @@
 //! Tokens of a text, each bracket with all that is in it.
+ghost use Rattle.std.specs.Prelude.{◌≡◌, ◌≤◌, [], length, drop, map, IfOk, OnOk};
+ghost use Rattle.pliron_text_llvm_syntax.specs.Lexing.{is_trivia};
+ghost use Rattle.pliron_text_llvm_types.specs.Trees.{without_mark, AreTrees, is_word_kind, is_mark_kind, is_word, begins_with, is_comma, behind_comma, behind_word};
+
 use crate::stop::TypeStop;
-use pliron_text_llvm_syntax::{ByteSpan, LlvmToken, TokenKind, is_mark, token_tree_at};
+use pliron_text_llvm_names::bytes_in;
+use pliron_text_llvm_syntax::{LlvmToken, TokenKind, is_mark, token_tree_at};
 use std::alloc::{AllocError, Global};
 
-// What stands for the byte of a form: a `|` for a mark, which is no token.
-fn without_mark(byte: u8) -> u8 {
+// What stands for the byte of a form: `|` for a mark, which is no token.
+fn without_mark(byte: u8) -> u8
+    ensures { result ≡ without_mark byte }
+{
     if is_mark(byte) { b'|' } else { byte }
 }
 
 /// The form with a `|` for each of its marks. Errors: allocation failure. Cost: linear in it.
-pub fn without_marks(alloc: Global, form: &[u8]) -> Result<Vec<u8>, AllocError> {
+pub fn without_marks(alloc: Global, form: &[u8]) -> Result<Vec<u8>, AllocError>
+    ensures { IfOk result (λ text. text.items ≡ map without_mark form.now) }
+{
     form.iter().map(|byte| without_mark(*byte)).collect(alloc)
 }
 
-// Adds the tokens of the text.
-fn push_trees(alloc: Global, text: &[u8], trees: &mut Vec<LlvmToken>) -> Result<(), TypeStop> {
+// Whether the token is blanks or a comment.
+fn is_trivia(kind: TokenKind) -> bool
+    ensures { result ≡ is_trivia kind }
+{
+    matches!(kind, TokenKind::Trivia)
+}
+
+// Adds the tokens of the text to none.
+#[tactic(auto, using(crate::proofs::TreeLemmas::tree_steps))]
+fn push_trees(alloc: Global, text: &[u8], trees: &mut Vec<LlvmToken>) -> Result<(), TypeStop>
+    requires { trees.old.items ≡ [] }
+    ensures { OnOk result (AreTrees text.now (length text.now) trees.new.items) }
+{
     let mut open = Vec::new(alloc);
     let mut at = 0;
     while at < text.len() {
         let tree = token_tree_at(text, at, &mut open)?;
-        if !matches!(tree.kind, TokenKind::Trivia) {
+        if !is_trivia(tree.kind) {
             trees.push(tree)?;
         }
         at = tree.span.end;
@@ -27,9 +47,11 @@ fn push_trees(alloc: Global, text: &[u8], trees: &mut Vec<LlvmToken>) -> Result<
     Ok(())
 }
 
-/// The tokens of the text that aren't blanks or comments, each bracket with all that is in it. Errors: a token is broken, or a
+/// The tokens of the text but for blanks and comments, each bracket with all that is in it. Errors: a token is broken, or a
 /// bracket isn't closed; allocation failure. Cost: linear in the text.
-pub fn trees_of(alloc: Global, text: &[u8]) -> Result<Vec<LlvmToken>, TypeStop> {
+pub fn trees_of(alloc: Global, text: &[u8]) -> Result<Vec<LlvmToken>, TypeStop>
+    ensures { IfOk result (λ trees. AreTrees text.now (length text.now) trees.items) }
+{
     let mut trees = Vec::new(alloc);
     match push_trees(alloc, text, &mut trees) {
         Ok(()) => Ok(trees),
@@ -37,28 +59,42 @@ pub fn trees_of(alloc: Global, text: &[u8]) -> Result<Vec<LlvmToken>, TypeStop> 
     }
 }
 
-/// The bytes of the span, none where it isn't in the text. Cost: constant.
-pub fn bytes_at(text: &[u8], span: ByteSpan) -> &[u8] {
-    text.get(span.start..span.end).unwrap_or(&[])
+/// The tokens behind so many. Cost: constant.
+#[tactic(auto, using(crate::proofs::TreeLemmas::dropped_all))]
+pub fn behind(trees: &[LlvmToken], count: usize) -> &[LlvmToken]
+    ensures { result.now ≡ drop count trees.now }
+{
+    if count >= trees.len() {
+        return &[];
+    }
+    &trees[count..]
 }
 
-/// The place of these tokens, if there are some. Cost: constant.
-pub fn span_of(trees: &[LlvmToken]) -> Option<ByteSpan> {
-    let first = trees.first()?;
-    let last = trees.last()?;
-    Some(ByteSpan {
-        start: first.span.start,
-        end: last.span.end,
-    })
+// Whether a token is a word.
+fn is_word_kind(kind: TokenKind) -> bool
+    ensures { result ≡ is_word_kind kind }
+{
+    matches!(kind, TokenKind::Word)
+}
+
+// Whether a token is a mark.
+fn is_mark_kind(kind: TokenKind) -> bool
+    ensures { result ≡ is_mark_kind kind }
+{
+    matches!(kind, TokenKind::Mark)
 }
 
 /// Whether the token is this word. Cost: linear in it.
-pub fn is_word(text: &[u8], tree: &LlvmToken, word: &[u8]) -> bool {
-    matches!(tree.kind, TokenKind::Word) && bytes_at(text, tree.span) == word
+pub fn is_word(text: &[u8], tree: &LlvmToken, word: &[u8]) -> bool
+    ensures { result ≡ is_word text.now tree.now word.now }
+{
+    is_word_kind(tree.kind) && bytes_in(text, tree.span) == word
 }
 
 /// Whether the token begins with this byte. Cost: constant.
-pub fn begins_with(text: &[u8], tree: &LlvmToken, byte: u8) -> bool {
+pub fn begins_with(text: &[u8], tree: &LlvmToken, byte: u8) -> bool
+    ensures { result ≡ begins_with text.now tree.now byte }
+{
     match text.get(tree.span.start) {
         Some(first) => *first == byte,
         None => false,
@@ -66,22 +102,30 @@ pub fn begins_with(text: &[u8], tree: &LlvmToken, byte: u8) -> bool {
 }
 
 /// Whether the token is a comma. Cost: constant.
-pub fn is_comma(text: &[u8], tree: &LlvmToken) -> bool {
-    matches!(tree.kind, TokenKind::Mark) && begins_with(text, tree, b',')
+pub fn is_comma(text: &[u8], tree: &LlvmToken) -> bool
+    ensures { result ≡ is_comma text.now tree.now }
+{
+    is_mark_kind(tree.kind) && begins_with(text, tree, b',')
 }
 
 /// The tokens behind the first comma, none where there is none. Cost: linear in them.
-pub fn behind_comma<'t>(text: &[u8], trees: &'t [LlvmToken]) -> &'t [LlvmToken] {
-    match trees.iter().position(|tree| is_comma(text, tree)) {
-        Some(comma) => trees.get(comma.saturating_add(1)..).unwrap_or(&[]),
-        None => &[],
-    }
+pub fn behind_comma<'t>(text: &[u8], trees: &'t [LlvmToken]) -> &'t [LlvmToken]
+    ensures { result.now ≡ behind_comma text.now trees.now }
+{
+    let before = trees
+        .iter()
+        .take_while(|tree| !is_comma(text, tree))
+        .count();
+    behind(trees, before.saturating_add(1))
 }
 
 /// The tokens behind the first one that is this word, none where there is none. Cost: linear in them.
-pub fn behind_word<'t>(text: &[u8], trees: &'t [LlvmToken], word: &[u8]) -> &'t [LlvmToken] {
-    match trees.iter().position(|tree| is_word(text, tree, word)) {
-        Some(at) => trees.get(at.saturating_add(1)..).unwrap_or(&[]),
-        None => &[],
-    }
+pub fn behind_word<'t>(text: &[u8], word: &[u8], trees: &'t [LlvmToken]) -> &'t [LlvmToken]
+    ensures { result.now ≡ behind_word text.now word.now trees.now }
+{
+    let before = trees
+        .iter()
+        .take_while(|tree| !is_word(text, tree, word))
+        .count();
+    behind(trees, before.saturating_add(1))
 }

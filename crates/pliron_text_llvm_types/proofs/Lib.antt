@@ -1,0 +1,3 @@
+mod ParameterLemmas
+mod TreeLemmas
+mod TypeLemmas
