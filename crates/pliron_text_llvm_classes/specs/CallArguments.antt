@@ -16,8 +16,8 @@ plain_len text = length (take_while (λ byte. not (is_separator byte)) text)
 abbrev pub behind_separators : List ℕ → List ℕ
 behind_separators text = drop (separators_len text) text
 
-abbrev pub first_word : List ℕ → List ℕ
-first_word text = take (plain_len (behind_separators text)) (behind_separators text)
+abbrev pub leading_word : List ℕ → List ℕ
+leading_word text = take (plain_len (behind_separators text)) (behind_separators text)
 
 -- what is behind the first `(`
 abbrev pub len_before_bracket : List ℕ → ℕ
@@ -36,7 +36,7 @@ passed_in form = behind_first (from_bracket (from_sign form))
 
 -- each argument begins with its type and ends with its mark; behind the last mark there is one more part
 abbrev pub argument_widths : List ℕ → List ℕ
-argument_widths form = map (λ part. width_written (first_word part)) (slice_split (λ byte. byte == 0) (passed_in form))
+argument_widths form = map (λ part. width_written (leading_word part)) (slice_split (λ byte. byte == 0) (passed_in form))
 
 -- the widths of the types of a form's operands: of a call by name those of its arguments
 abbrev pub widths_in_form : List ℕ → List ℕ

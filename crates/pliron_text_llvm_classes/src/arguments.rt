@@ -1,7 +1,6 @@
 //! The types of what calls pass.
 ghost use Rattle.std.specs.Prelude.{◌≡◌, ◌≤◌, length, IfOk};
-ghost use Rattle.pliron_text_llvm_reader.specs.Callees.{from_sign as from_sign_of};
-ghost use Rattle.pliron_text_llvm_classes.specs.CallArguments.{separators_len, plain_len, behind_separators, first_word, len_before_bracket, from_bracket, behind_first, passed_in, argument_widths};
+ghost use Rattle.pliron_text_llvm_classes.specs.CallArguments.{separators_len, plain_len, behind_separators, leading_word, len_before_bracket, from_bracket, behind_first, passed_in, argument_widths};
 
 use crate::words::is_separator;
 use pliron_text_llvm_reader::from_sign;
@@ -32,8 +31,8 @@ fn behind_separators(text: &[u8]) -> &[u8]
 }
 
 // The word that comes first.
-fn first_word(text: &[u8]) -> &[u8]
-    ensures { result.now ≡ first_word text.now }
+fn leading_word(text: &[u8]) -> &[u8]
+    ensures { result.now ≡ leading_word text.now }
 {
     let behind = behind_separators(text);
     &behind[..plain_len(behind)]
@@ -78,6 +77,6 @@ pub fn argument_widths(alloc: Global, form: &[u8]) -> Result<Vec<u32>, AllocErro
 {
     passed_in(form)
         .split(|byte| *byte == 0)
-        .map(|part| width_of_type(first_word(part)))
+        .map(|part| width_of_type(leading_word(part)))
         .collect(alloc)
 }

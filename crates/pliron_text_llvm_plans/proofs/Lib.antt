@@ -1,2 +1,3 @@
 pub mod FormLemmas
 pub mod ValueLemmas
+pub mod SymbolLemmas

@@ -19,16 +19,13 @@ IsSymbolCalled sheet None symbol = symbol ≡ 0
 abbrev pub is_escape : ℕ → Bool
 is_escape byte = byte == 92
 
-abbrev pub is_quote : ℕ → Bool
-is_quote byte = byte == 34
-
 -- a name in quotes, without them, where nothing in it is escaped; of two bytes at least
-abbrev pub inside_quotes : List ℕ → Option (List ℕ)
-inside_quotes name =
+abbrev pub between_quotes : List ℕ → Option (List ℕ)
+between_quotes name =
     if nat_lt 1 (length name) && not (list_any is_escape name) then Some (take (length name - 2) (drop 1 name)) else None
 
 abbrev pub name_without_quotes : List ℕ → Option (List ℕ)
-name_without_quotes name = if is_byte_at (slice_get name 0) 34 then inside_quotes name else Some name
+name_without_quotes name = if is_byte_at (slice_get name 0) 34 then between_quotes name else Some name
 
 -- the name of a function, as calls write it behind their `@`; none with escapes
 abbrev pub plain_name : List ℕ → Option (List ℕ)

@@ -1,8 +1,9 @@
 //! Names of functions, as calls have them.
-ghost use Rattle.std.specs.Prelude.{◌≡◌, ◌==◌, IfOk, not};
-ghost use Rattle.pliron_text_llvm_reader.specs.Callees.{callee_named, option_now};
+ghost use Rattle.std.specs.Prelude.{◌≡◌, IfOk};
+ghost use Rattle.std.specs.List.{list_any};
+ghost use Rattle.pliron_text_llvm_reader.specs.Callees.{callee_named, bytes_now};
 ghost use Rattle.pliron_text_llvm_sheets.specs.Sheets.{KeepsSheet};
-ghost use Rattle.pliron_text_llvm_plans.specs.Symbols.{is_escape, inside_quotes, name_without_quotes, plain_name, IsSymbolOf, IsSymbolCalled};
+ghost use Rattle.pliron_text_llvm_plans.specs.Symbols.{is_escape, between_quotes, name_without_quotes, plain_name, IsSymbolOf, IsSymbolCalled};
 
 use pliron_text_llvm_reader::callee_named;
 use pliron_text_llvm_sheets::LlvmSheet;
@@ -11,7 +12,7 @@ use std::alloc::AllocError;
 /// The number of the name of the function that a statement with this form calls; 0 where it calls none by its name. Errors:
 /// allocation failure. Cost: linear in the form.
 #[doc(hidden)]
-#[tactic(auto, using(pliron_text_llvm_sheets::proofs::KeepingLemmas::sheet_steps))]
+#[tactic(auto, using(crate::proofs::SymbolLemmas::called_some, crate::proofs::SymbolLemmas::called_none, pliron_text_llvm_sheets::proofs::KeepingLemmas::sheet_steps))]
 pub fn symbol_of_form(form: &[u8], sheet: &mut LlvmSheet) -> Result<usize, AllocError>
     ensures symbol { IfOk result (λ symbol. IsSymbolCalled sheet.new (callee_named form.now) symbol) }
     ensures sheet { KeepsSheet sheet.old sheet.new }
@@ -30,8 +31,8 @@ fn has_escape(name: &[u8]) -> bool
 }
 
 // The name in quotes, without them, where nothing is escaped.
-fn inside_quotes(name: &[u8]) -> Option<&[u8]>
-    ensures { option_now result ≡ inside_quotes name.now }
+fn between_quotes(name: &[u8]) -> Option<&[u8]>
+    ensures { bytes_now result ≡ between_quotes name.now }
 {
     if name.len() > 1 && !has_escape(name) {
         Some(&name[1..name.len() - 1])
@@ -42,17 +43,17 @@ fn inside_quotes(name: &[u8]) -> Option<&[u8]>
 
 // The name without its quotes, if it has some; none with escapes.
 fn name_without_quotes(name: &[u8]) -> Option<&[u8]>
-    ensures { option_now result ≡ name_without_quotes name.now }
+    ensures { bytes_now result ≡ name_without_quotes name.now }
 {
     match name {
-        [b'"', ..] => inside_quotes(name),
+        [b'"', ..] => between_quotes(name),
         _ => Some(name),
     }
 }
 
 // The name of a function, as calls write it behind their sign; none with escapes.
 fn plain_name(name: &[u8]) -> Option<&[u8]>
-    ensures { option_now result ≡ plain_name name.now }
+    ensures { bytes_now result ≡ plain_name name.now }
 {
     match name {
         [_, rest @ ..] => name_without_quotes(rest),
@@ -63,7 +64,7 @@ fn plain_name(name: &[u8]) -> Option<&[u8]>
 /// The number of the name of a function, as calls have it, where it is written so with its sign; none of a name with escapes.
 /// Errors: allocation failure. Cost: its length.
 #[doc(hidden)]
-#[tactic(auto, using(pliron_text_llvm_sheets::proofs::KeepingLemmas::sheet_steps))]
+#[tactic(auto, using(crate::proofs::SymbolLemmas::named_some, crate::proofs::SymbolLemmas::named_none, pliron_text_llvm_sheets::proofs::KeepingLemmas::sheet_steps))]
 pub fn symbol_of_function(name: &[u8], sheet: &mut LlvmSheet) -> Result<Option<usize>, AllocError>
     ensures symbol { IfOk result (λ symbol. IsSymbolOf sheet.new (plain_name name.now) symbol) }
     ensures sheet { KeepsSheet sheet.old sheet.new }

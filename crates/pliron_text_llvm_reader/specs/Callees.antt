@@ -10,9 +10,9 @@ use Rattle.pliron_text_llvm_reader.specs.declared.table.Reads.TheVariants.{Local
 use Rattle.pliron_text_llvm_reader.specs.Words.{is_one_of}
 
 -- what a borrowed text is, where there is one
-abbrev pub option_now : Option (Bor (List ℕ)) → Option (List ℕ)
-option_now None = None
-option_now (Some text) = Some text.now
+abbrev pub bytes_now : Option (Bor (List ℕ)) → Option (List ℕ)
+bytes_now None = None
+bytes_now (Some text) = Some text.now
 
 -- arguments that aren't passed as values, and what is called in another way than by a function's name
 abbrev pub passing_words : List (List ℕ)
@@ -49,14 +49,14 @@ name_before_bracket text =
     if is_byte_at (slice_get text (word_len text)) 40 && is_function_name (take (word_len text) text)
     then Some (take (word_len text) text) else None
 
-abbrev pub name_behind_sign : List ℕ → Option (List ℕ)
-name_behind_sign [] = None
-name_behind_sign (sign ∷ rest) = name_before_bracket rest
+abbrev pub callee_behind_sign : List ℕ → Option (List ℕ)
+callee_behind_sign [] = None
+callee_behind_sign (sign ∷ rest) = name_before_bracket rest
 
 -- the name of the function that a statement calls, where it is a plain `call` of one by its name: the first `@` is before it
 abbrev pub callee_named : List ℕ → Option (List ℕ)
 callee_named text =
-    if starts_with nat_eq text (codes "call ") && passes_values text then name_behind_sign (from_sign text) else None
+    if starts_with nat_eq text (codes "call ") && passes_values text then callee_behind_sign (from_sign text) else None
 
 abbrev pub reads_arguments : Reads → Bool
 reads_arguments ArgumentConstants = true

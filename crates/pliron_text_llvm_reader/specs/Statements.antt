@@ -35,14 +35,14 @@ IsOpcodeOf text opcode row =
     (opcode.start < opcode.end) × (opcode.end ≤ length text) × (row_named (bytes_of_span text opcode) ≡ Some row)
 
 -- the row of a statement that begins with this word
-abbrev pub IsRowOf : List ℕ → ByteSpan → OpcodeRow → Type 0
-IsRowOf text opcode row = (named : OpcodeRow) × IsOpcodeOf text opcode named × (row ≡ row_in (drop opcode.start text) named)
+abbrev pub IsRowInText : List ℕ → ByteSpan → OpcodeRow → Type 0
+IsRowInText text opcode row = (named : OpcodeRow) × IsOpcodeOf text opcode named × (row ≡ row_in (drop opcode.start text) named)
 
 -- a statement of the text from this byte on: the table has its opcode, and says whether it gives a value; the name of
 -- its result is before the opcode
 abbrev pub IsStatementOf : List ℕ → ℕ → Statement → Type 0
 IsStatementOf text start statement =
     (start ≤ statement.opcode.start)
-    × IsRowOf text statement.opcode statement.row
+    × IsRowInText text statement.opcode statement.row
     × IfSome statement.name (IsNameBetween text start statement.opcode.start)
     × MayGive statement.row.gives statement.gives

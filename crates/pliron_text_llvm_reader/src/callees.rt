@@ -3,7 +3,7 @@ ghost use Rattle.std.specs.Prelude.{◌≡◌, ◌≤◌, length};
 ghost use Rattle.std.specs.List.{list_any};
 ghost use Rattle.pliron_text_llvm_syntax.specs.Lexing.{word_len};
 ghost use Rattle.pliron_text_llvm_reader.specs.Words.{is_one_of};
-ghost use Rattle.pliron_text_llvm_reader.specs.Callees.{passing_words, is_quoting_byte, has_passing_word, passes_values, len_before_sign, from_sign, is_function_name, name_before_bracket, name_behind_sign, callee_named, reads_arguments, row_in, option_now};
+ghost use Rattle.pliron_text_llvm_reader.specs.Callees.{passing_words, is_quoting_byte, has_passing_word, passes_values, len_before_sign, from_sign, is_function_name, name_before_bracket, callee_behind_sign, callee_named, reads_arguments, row_in, bytes_now};
 
 use crate::table::{OpcodeRow, Reads};
 use pliron_text_llvm_syntax::is_word_byte;
@@ -87,7 +87,7 @@ fn word_len(text: &[u8]) -> usize
 
 // The word with which the text begins, where it is a function's name and `(` is right behind it.
 fn name_before_bracket(text: &[u8]) -> Option<&[u8]>
-    ensures { option_now result ≡ name_before_bracket text.now }
+    ensures { bytes_now result ≡ name_before_bracket text.now }
 {
     let len = word_len(text);
     if len < text.len() && text[len] == b'(' && is_function_name(&text[..len]) {
@@ -98,8 +98,8 @@ fn name_before_bracket(text: &[u8]) -> Option<&[u8]>
 }
 
 // The same behind the sign with which the text begins.
-fn name_behind_sign(text: &[u8]) -> Option<&[u8]>
-    ensures { option_now result ≡ name_behind_sign text.now }
+fn callee_behind_sign(text: &[u8]) -> Option<&[u8]>
+    ensures { bytes_now result ≡ callee_behind_sign text.now }
 {
     match text {
         [_, rest @ ..] => name_before_bracket(rest),
@@ -112,10 +112,10 @@ fn name_behind_sign(text: &[u8]) -> Option<&[u8]>
 /// begins with the opcode, and may be the form of the statement. Cost: linear in it.
 #[doc(hidden)]
 pub fn callee_named(text: &[u8]) -> Option<&[u8]>
-    ensures { option_now result ≡ callee_named text.now }
+    ensures { bytes_now result ≡ callee_named text.now }
 {
     if text.starts_with(b"call ") && passes_values(text) {
-        name_behind_sign(from_sign(text))
+        callee_behind_sign(from_sign(text))
     } else {
         None
     }
