@@ -3,7 +3,7 @@ ghost use Rattle.std.specs.Prelude.{◌≡◌, ◌<◌, ◌≤◌, [], length, I
 ghost use Rattle.pliron_text_llvm_syntax.specs.Tokens.{IsTokenBehind, IsFaultIn};
 ghost use Rattle.pliron_text_llvm_syntax.specs.Lines.{span_of_line, AreLines, AreGaps};
 
-use crate::brackets::{next_tree, token_tree_at};
+use crate::brackets::{next_token, next_tree, token_tree_at};
 use crate::fault::LlvmFault;
 use crate::tokens::{Bracket, ByteSpan, LlvmToken, TokenKind, bytes_of};
 
@@ -17,17 +17,38 @@ pub enum LineText {
     Statement(ByteSpan),
 }
 
-/// Words with which statements begin.
-static OPENINGS: &str = "\
-    add fadd sub fsub mul fmul udiv sdiv fdiv urem srem frem shl lshr ashr and or xor icmp \
-    fcmp fneg freeze select extractelement insertelement shufflevector extractvalue insertvalue atomicrmw cmpxchg \
-    trunc zext sext fptrunc fpext uitofp sitofp fptoui fptosi inttoptr ptrtoint ptrtoaddr bitcast addrspacecast \
-    load getelementptr alloca store fence va_arg landingpad phi call tail musttail notail invoke callbr ret resume \
-    unreachable br switch indirectbr cleanuppad catchpad catchswitch cleanupret catchret uselistorder";
+// The words with this first byte with which statements begin, those that most begin with first.
+fn openings_with(first: u8) -> &'static str {
+    match first {
+        b'a' => "add and alloca ashr atomicrmw addrspacecast",
+        b'b' => "br bitcast",
+        b'c' => "call callbr cmpxchg cleanuppad cleanupret catchpad catchret catchswitch",
+        b'e' => "extractvalue extractelement",
+        b'f' => "fadd fsub fmul fdiv frem fcmp fneg freeze fptrunc fpext fptoui fptosi fence",
+        b'g' => "getelementptr",
+        b'i' => "icmp invoke inttoptr insertvalue insertelement indirectbr",
+        b'l' => "load lshr landingpad",
+        b'm' => "mul musttail",
+        b'n' => "notail",
+        b'o' => "or",
+        b'p' => "phi ptrtoint ptrtoaddr",
+        b'r' => "ret resume",
+        b's' => "store switch select sub sdiv srem shl sext sitofp shufflevector",
+        b't' => "tail trunc",
+        b'u' => "unreachable udiv urem uitofp uselistorder",
+        b'v' => "va_arg",
+        b'x' => "xor",
+        b'z' => "zext",
+        _ => "",
+    }
+}
 
 // Whether a statement begins with the word, where this begins a line.
 fn is_opening(word: &[u8]) -> bool {
-    for opening in OPENINGS.as_bytes().split(|byte| *byte == b' ') {
+    let [first, ..] = word else {
+        return false;
+    };
+    for opening in openings_with(*first).as_bytes().split(|byte| *byte == b' ') {
         if opening == word {
             return true;
         }
@@ -43,16 +64,12 @@ fn is_name(text: &[u8], token: &LlvmToken, sign: u8) -> bool
 }
 
 // Whether an `=` is next, and where it ends.
-fn end_of_equals(
-    text: &[u8],
-    at: usize,
-    open: &mut Vec<Bracket>,
-) -> Result<Option<usize>, LlvmFault>
+fn end_of_equals(text: &[u8], at: usize) -> Result<Option<usize>, LlvmFault>
     requires { at ≤ length text.now }
     ensures end { IfOk result (λ found. IfSome found (λ end. (at < end) × (end ≤ length text.now))) }
     ensures fault { IfErr result (λ fault. IsFaultIn text.now fault) }
 {
-    match next_tree(text, at, open)? {
+    match next_token(text, at)? {
         Some(token) if token.kind == TokenKind::Mark && text[token.span.start] == b'=' => {
             Ok(Some(token.span.end))
         }
@@ -73,7 +90,7 @@ fn end_of_opcode(
     if !is_name(text, first, b'%') {
         return Ok(first.span.end);
     }
-    match end_of_equals(text, first.span.end, open)? {
+    match end_of_equals(text, first.span.end)? {
         Some(end) => match next_tree(text, end, open)? {
             Some(opcode) => Ok(opcode.span.end),
             None => Ok(end),
@@ -83,19 +100,14 @@ fn end_of_opcode(
 }
 
 // Whether the token begins another line than what ends at this byte.
-fn is_next_line(
-    text: &[u8],
-    end: usize,
-    token: &LlvmToken,
-    open: &mut Vec<Bracket>,
-) -> Result<bool, LlvmFault>
+fn is_next_line(text: &[u8], end: usize, token: &LlvmToken) -> Result<bool, LlvmFault>
     requires { IsTokenBehind text.now end token.now }
     ensures { IfErr result (λ fault. IsFaultIn text.now fault) }
 {
     match token.kind {
         TokenKind::Label => Ok(true),
         TokenKind::Name if text[token.span.start] == b'%' => {
-            Ok(end_of_equals(text, token.span.end, open)?.is_some())
+            Ok(end_of_equals(text, token.span.end)?.is_some())
         }
         TokenKind::Name => Ok(bytes_of(text, token.span).starts_with(b"#dbg_")),
         TokenKind::Word => {
@@ -124,7 +136,7 @@ fn end_of_statement(
         if token.kind == TokenKind::Trivia {
             continue;
         }
-        if is_next_line(text, end, &token, open)? {
+        if is_next_line(text, end, &token)? {
             break;
         }
         end = token.span.end;
