@@ -4,8 +4,9 @@ ghost use Rattle.pliron_text_llvm_sheets.specs.Sheets.{KeepsSheet};
 ghost use Rattle.pliron_text_llvm_modules.specs.Modules.{module_part_of};
 ghost use Rattle.pliron_text_llvm_documents.specs.Documents.{ArePartsOf, IsOneMore, IsMadeOf, KeepsHeads};
 
-use crate::addresses::TakenAddresses;
+use crate::addresses::{TakenAddresses, TakenBlocks};
 use crate::stop::{DocumentFault, KeptForDocument, KeptPart};
+use crate::taken::note_taken;
 use pliron_core::{Context, Operation, Ptr};
 use pliron_laws::Dialect;
 use pliron_text_llvm_building::{BuildStop, build_function};
@@ -92,7 +93,73 @@ fn build_read<D: Dialect>(
     }
 }
 
-// Builds the function, where it was read and no other text names its blocks.
+// Notes which blocks of what is made of the function, whose name has this number, are taken. It is kept where some of them
+// aren't its blocks.
+fn with_taken(
+    text: &[u8],
+    function: &FunctionText,
+    made: DocumentFunction,
+    number: usize,
+    ctx: &Context,
+    document: &mut DocumentParts,
+) -> Result<DocumentFunction, AllocError>
+    requires { IsMadeOf text.now function.now document.old.sheet.functions ctx.now.tree made }
+    ensures made { IfOk result (λ made.
+        IsMadeOf text.now function.now document.new.sheet.functions ctx.now.tree made) }
+    ensures sheet { document.new.sheet.functions ≡ document.old.sheet.functions }
+    ensures parts { document.new.sheet.parts ≡ document.old.sheet.parts }
+    ensures text { document.new.sheet.text ≡ document.old.sheet.text }
+{
+    let DocumentFunction::Tree(root) = made else {
+        return Ok(made);
+    };
+    let sheet = &mut document.sheet;
+    if note_taken(
+        root,
+        number,
+        &sheet.functions,
+        ctx,
+        &mut document.taken,
+        &mut sheet.taken,
+    )? {
+        return Ok(made);
+    }
+    Ok(DocumentFunction::Kept(KeptPart {
+        place: function.span.start,
+        reason: KeptForDocument::Named,
+    }))
+}
+
+// Builds the function that was read, where each of its blocks whose address is taken has a name that is printed.
+#[tactic(auto, using(crate::proofs::PartLemmas::heads_kept, crate::proofs::PartLemmas::heads_added, pliron_text_llvm_sheets::proofs::KeepingLemmas::sheet_kept))]
+fn build_named<D: Dialect>(
+    text: &[u8],
+    function: &FunctionText,
+    read: &ReadFunction,
+    ctx: &mut Context,
+    document: &mut DocumentParts,
+) -> Result<DocumentFunction, AllocError>
+    ensures made { IfOk result (λ made.
+        IsMadeOf text.now function.now document.new.sheet.functions ctx.new.tree made) }
+    ensures heads { KeepsHeads ctx.old.tree ctx.new.tree }
+    ensures sheet { KeepsSheet document.old.sheet.functions document.new.sheet.functions }
+    ensures parts { document.new.sheet.parts ≡ document.old.sheet.parts }
+    ensures text { document.new.sheet.text ≡ document.old.sheet.text }
+{
+    match document.taken.of(bytes_in(text, function.name))? {
+        TakenBlocks::Nothing => build_read::<D>(text, function, read, ctx, document),
+        TakenBlocks::Named(number) => {
+            let made = build_read::<D>(text, function, read, ctx, document)?;
+            with_taken(text, function, made, number, ctx, document)
+        }
+        TakenBlocks::Unknown => Ok(DocumentFunction::Kept(KeptPart {
+            place: function.span.start,
+            reason: KeptForDocument::Named,
+        })),
+    }
+}
+
+// Builds the function, where it was read.
 #[tactic(auto, using(crate::proofs::PartLemmas::heads_kept, crate::proofs::PartLemmas::heads_added, pliron_text_llvm_sheets::proofs::KeepingLemmas::sheet_kept))]
 fn build_function_of<D: Dialect>(
     text: &[u8],
@@ -109,15 +176,7 @@ fn build_function_of<D: Dialect>(
     ensures text { document.new.sheet.text ≡ document.old.sheet.text }
 {
     match read {
-        ModuleFunction::Read(read) => {
-            if document.taken.has(bytes_in(text, function.name))? {
-                return Ok(DocumentFunction::Kept(KeptPart {
-                    place: function.span.start,
-                    reason: KeptForDocument::Named,
-                }));
-            }
-            build_read::<D>(text, function, read, ctx, document)
-        }
+        ModuleFunction::Read(read) => build_named::<D>(text, function, read, ctx, document),
         ModuleFunction::Kept(place, reason) => Ok(DocumentFunction::Kept(KeptPart {
             place: *place,
             reason: KeptForDocument::Reading(*reason),
