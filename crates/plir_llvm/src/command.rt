@@ -21,7 +21,8 @@ go to what results and arguments are), `combine` (rewrite rules),
 runs them until nothing changes, at most N times, from 1 to 64,
 `nested:LIST` on each function:
 `repeat:8:sccp,cse,simplify-cfg,dce`. An empty word, `''`, runs none.
-Before them `rotate;` moves the tests of loops to their ends";
+Before them, in this order, `inline;` inlines calls of the module's
+functions, and `rotate;` moves the tests of loops to their ends";
 
 /// The help of the program. Cost: constant.
 pub fn help() -> ProgramHelp<'static> {

@@ -8,6 +8,7 @@ mod command;
 
 use clap::ArgMatches;
 use pliron_driver_host::{ModuleProgram, ProgramHelp, run_module_program, run_on_words};
+use pliron_driver_inlining::{INLINING_STAGE, InliningStage};
 use pliron_driver_llvm::ClosedText;
 use pliron_driver_modules::ModuleNotation;
 use pliron_driver_rotation::{ROTATION_STAGE, RotatingStage};
@@ -22,8 +23,14 @@ impl ModuleProgram for LlvmProgram {
         command::help()
     }
 
+    // Runs the passes, with calls inlined first where the word asks for it.
     fn run(rt: &HostRuntime, matches: &ArgMatches<'_>, word: &str) -> u8 {
-        run_rotating::<ClosedText>(rt, matches, word)
+        match split_stage(word, INLINING_STAGE) {
+            (true, rest) => {
+                run_rotating::<StagedForm<InliningStage, ClosedText>>(rt, matches, rest)
+            }
+            (false, rest) => run_rotating::<ClosedText>(rt, matches, rest),
+        }
     }
 }
 

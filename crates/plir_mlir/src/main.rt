@@ -8,7 +8,7 @@ mod command;
 
 use clap::ArgMatches;
 use pliron_driver_host::{ModuleProgram, ProgramHelp, run_module_program, run_on_words};
-use pliron_driver_inlining::{INLINING_STAGE, InlinedForm};
+use pliron_driver_inlining::{INLINING_STAGE, InliningStage};
 use pliron_driver_mlir::ClosedForm;
 use pliron_driver_modules::ModuleNotation;
 use pliron_driver_rotation::{ROTATION_STAGE, RotatingStage};
@@ -30,7 +30,7 @@ impl ModuleProgram for MlirProgram {
     // Runs the passes, with calls inlined first where the word asks for it.
     fn run(rt: &HostRuntime, matches: &ArgMatches<'_>, word: &str) -> u8 {
         match split_stage(word, INLINING_STAGE) {
-            (true, rest) => run_rotating::<InlinedForm<Form>>(rt, matches, rest),
+            (true, rest) => { run_rotating::<StagedForm<InliningStage, Form>>(rt, matches, rest) }
             (false, rest) => run_rotating::<Form>(rt, matches, rest),
         }
     }

@@ -1,11 +1,11 @@
-//! Modules of MLIR whose calls are inlined as they are read: the stage in front of passes.
+//! The stage that inlines the calls of a module.
 //!
-//! It knows notations of modules, what they say of inlining, and the inliner; of passes, words and streams it knows nothing.
+//! It knows the inliner, what modules say of inlining, and what stages ask of sheets; of notations, passes, words and streams it knows
+//! nothing.
 #![tactic(auto)]
 
-mod document;
-mod notation;
-mod types;
+mod sheets;
+mod stage;
 
-pub use document::{INLINING, inline_document};
-pub use notation::{INLINING_STAGE, InlinedForm};
+pub use sheets::InliningSheet;
+pub use stage::{INLINING, INLINING_STAGE, InliningStage};

@@ -6,6 +6,7 @@
 
 mod closed;
 mod failure;
+mod inlining;
 mod kept;
 mod notation;
 mod sheets;

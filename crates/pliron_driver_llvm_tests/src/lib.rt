@@ -4,6 +4,8 @@
 #[cfg(test)]
 mod endings;
 #[cfg(test)]
+mod inlined;
+#[cfg(test)]
 mod lines;
 #[cfg(test)]
 mod rotated;

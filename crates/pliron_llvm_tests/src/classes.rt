@@ -32,7 +32,15 @@ a vector with undef in it -- insertelement <2 x i32> <i32 undef, i32 1>, i32 _, 
 a part of poison -- insertvalue { i32, i32 } poison, i32 _, 0 => Opaque
 a load -- load i32, ptr _, align 4 => Effect
 a store -- store i32 0, ptr _, align 4 => Effect
-a call -- tail call i32 @f(i32 _) #4 => Effect
+a call -- call fastcc noundef range(i32 0, 5) i32 @f.1(i32 noundef _, ptr align 8 _) #4, !dbg !7 => Call
+a call of a declared type -- call void (i32) @f(i32 _) => Call
+a call that says more of the frame -- tail call i32 @f(i32 _) #4 => Effect
+a call of a value -- call i32 _(ptr @f) => Effect
+a call with any arguments -- call void (ptr, ...) @printf(ptr @s) => Effect
+a call of an intrinsic -- call void @llvm.assume(i1 true) => Effect
+a call of an expression -- call void bitcast (ptr @f to ptr)() => Effect
+a call that passes memory -- call void @f(ptr byval(%T) _) => Effect
+a call with a name in quotes -- call void @\"a b\"() => Local
 an assembly -- call void asm sideeffect \"nop\", \"r\"(i32 _) => Local
 room -- alloca i32, align 4 => Local
 a comment inside -- add i32 /* i8 */ _, _ => Local
@@ -61,7 +69,8 @@ a choice -- select i1 _, ptr _, i64 _ => 1 0 64
 a phi -- phi i16 [ _, ^ ], [ _, ^ ] => 16 16
 a phi of arrays -- phi [2 x i32] [ _, ^ ] => 0
 an answer -- ret i1 _ => 1
-a cast -- zext i8 _ to i32 => 8";
+a cast -- zext i8 _ to i32 => 8
+a call -- call void @f(i32 noundef range(i32 0, 5) _, { i8, i16 } _, i8 _, ptr _) => 32 0 8 0 0";
 
 /// The bytes of the form.
 pub fn form_of(rt: &impl Abort, alloc: Global, text: &str) -> Vec<u8> {

@@ -71,7 +71,7 @@ fn num_function(rt: &impl Abort, made: &LlvmModule, ctx: &Context) -> usize {
     assert!(rt; made.root.is_live(ctx));
     let mut count: usize = 0;
     for op in Contents::new(made.root, ctx) {
-        if op.is_live(ctx) && class_of_head(op.head(ctx)) == Some(Class::Root) {
+        if op.is_live(ctx) && class_of_head(op.head(ctx)) == Some(Class::Function) {
             count = count.saturating_add(1);
         }
     }

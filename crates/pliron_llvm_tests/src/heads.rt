@@ -5,7 +5,7 @@ use pliron_text_llvm_heads::{head_of_constant, head_of_statement};
 use std::alloc::Global;
 use std::process::Abort;
 
-/// Forms of statements with the number 7, and their heads where each edge passes one operand: the number of the class and the attributes.
+/// Forms of statements with the number 7, and names of what is called with the number 3, and their heads where each edge passes one operand: the number of the class and the attributes.
 static HEADS: &str = "\
 a sum -- add nsw i32 _, _ => 20: 32 1 7
 a quotient -- udiv exact i8 _, _ => 23: 8 4 7
@@ -14,6 +14,8 @@ a cast -- sext i8 _ to i64 => 18: 8 64 0 7
 a choice -- select i1 _, ptr _, ptr _ => 1: 7
 an address -- getelementptr i8, ptr _, i64 1 => 2: 7
 a load -- load i32, ptr _ => 8: 7
+a call of the name with the number 3 -- call i32 @f(i32 _) => 14: 3 7
+a call of a value -- call i32 _(i32 5) => 8: 7
 room -- alloca i32 => 13: 7";
 
 /// The same of statements that end a block.
@@ -55,7 +57,7 @@ fn head_in(rt: &impl Abort, alloc: Global, text: &str, is_end: bool) -> String {
     passed
         .resize(counts.successors, 1usize)
         .expect(rt, "memory");
-    let head = head_of_statement(alloc, &form, counts, &passed, 7)
+    let head = head_of_statement(alloc, &form, counts, &passed, 3, 7)
         .ok()
         .expect(rt, "memory");
     described(rt, alloc, &head)

@@ -12,7 +12,8 @@ use std::process::Abort;
 static FORMS: &str = "\
 a name isn't part of a form -- define i32 @f(i32 %x) {|  %\"a b\" = add nsw i32 %x, 1, !dbg !7|  ret i32 %\"a b\"|} => add nsw i32 _, _, !dbg !7;ret i32 _;
 a type with the name of a value -- define void @f(ptr %p) {|  %a = load %a, ptr %p, align 4|  ret void|} => load %a, ptr _, align 4;ret void;
-constants of a call are -- define void @f(i32 %x) {|  call void @g(i32 5, i32 %x)|  unreachable|} => call void @g(i32 5, i32 _);unreachable;
+constants of a call aren't -- define void @f(i32 %x) {|  call void @g(i32 5, i32 %x)|  unreachable|} => call void @g(i32 _, i32 _);unreachable;
+those of an intrinsic are -- define void @f(i32 %x) {|  call void @llvm.g(i32 5, i32 %x)|  unreachable|} => call void @llvm.g(i32 5, i32 _);unreachable;
 successors -- define void @f(i1 %c) {|a:|  br i1 %c, label %b, label %b|b:|  %x = phi i32 [ 1, %a ], [ 1, %a ]|  br label %d|d:|  ret void|} => br i1 _, label ^, label ^;phi i32 [ _, ^ ], [ _, ^ ];br label ^;ret void;
 cases on lines of their own -- define void @f(i8 %x) {|  switch i8 %x, label %d [|    i8 -56, label %m|  ]|m:|  ret void|d:|  ret void|} => switch i8 _, label ^ [|    i8 -56, label ^|  ];ret void;ret void;
 a comment inside -- define i32 @f(i32 %x) {|  %y = add i32 ; %z|    %x, 2|  ret i32 %y|} => add i32 ; %z|    _, _;ret i32 _;";

@@ -30,6 +30,12 @@ an argument of a list -- %x = va_arg ptr %l, i32 => v va_arg ptr _, i32 : %l
 a phi -- %x = phi i32 [ %a, %b ], [ 1, %\"c d\" ], !dbg !7 => v phi i32 [ _, ^ ], [ _, ^ ], !dbg !7 : %a %b 1 %\"c d\"
 a call -- %x = tail call fastcc noundef i32 @f(i32 noundef %a, ptr align 8 %p, i32 5) #4, !dbg !7 => v tail call \
     fastcc noundef i32 @f(i32 noundef _, ptr align 8 _, i32 5) #4, !dbg !7 : %a %p
+a call by a name -- %x = call i32 @f(i32 noundef %a, i32 5, ptr getelementptr (i8, ptr @g, i64 4), [1 x i8] undef) #4 => v \
+    call i32 @f(i32 noundef _, i32 _, ptr _, [1 x i8] _) #4 : %a 5 getelementptr (i8, ptr @g, i64 4) undef
+a call of an intrinsic -- call void @llvm.memset.p0.i64(ptr %p, i8 0, i64 5, i1 false) => - call void @llvm.memset.p0.i64(ptr _, \
+    i8 0, i64 5, i1 false) : %p
+a call of an expression -- call void bitcast (ptr @f to ptr)(i32 5) => - call void bitcast (ptr @f to ptr)(i32 5) :
+a call of what is like a function -- call void dso_local_equivalent @f(i32 5) => - call void dso_local_equivalent @f(i32 5) :
 a call of nothing -- call void @f() => - call void @f() :
 a call with any arguments -- call void (ptr, ...) @printf(ptr @s, i32 %a) => - call void (ptr, ...) @printf(ptr @s, \
     i32 _) : %a

@@ -13,7 +13,7 @@ use std::process::Abort;
 /// they read and the name of what they give, and their edges with what they pass.
 static MADE: &str = "\
 one block -- define i32 @f(i32 %x) {|  %y = add i32 %x, 1|  ret i32 %y|} => 1 parameters; phis; 0 add(%x 1)%y; 0 ret(%y); edges
-nothing is read of a call but local values -- define void @f(i32 %x, ptr) {|  call void @g(i32 5, i32 %x)|  %2 = load i32, ptr %0|  ret void|} => 2 parameters; phis; 0 call(%x); 0 load(%0)%2; 0 ret(); edges
+what calls pass -- define void @f(i32 %x, ptr) {|  call void @g(i32 5, i32 %x, i32 undef)|  call void @llvm.g(i32 5, i32 %x)|  %2 = load i32, ptr %0|  ret void|} => 2 parameters; phis; 0 call(5 %x undef); 0 call(%x); 0 load(%0)%2; 0 ret(); edges
 a loop -- define i32 @f(i32 %n) {|e:|  br label %h|h:|  %i = phi i32 [ 0, %e ], [ %j, %l ]|  %c = icmp slt i32 %i, %n|  br i1 %c, label %l, label %x|l:|  %j = add nsw i32 %i, 1|  br label %h|x:|  ret i32 %i|} => 1 parameters; phis 1:%i; 0 br(); 1 icmp(%i %n)%c; 1 br(%c); 2 add(%i 1)%j; 2 br(); 3 ret(%i); edges 0>1(0) 1>2() 1>3() 2>1(%j)
 two phis and entries in another order -- define i32 @f(i1 %c) {|  br i1 %c, label %a, label %b|a:|  br label %d|b:|  br label %d|d:|  %y = phi i32 [ 7, %b ], [ 5, %a ]|  %z = phi i1 [ true, %a ], [ %c, %b ]|  ret i32 %y|} => 1 parameters; phis 3:%y 3:%z; 0 br(%c); 1 br(); 2 br(); 3 ret(%y); edges 0>1() 0>2() 1>3(5 true) 2>3(7 %c)
 a switch with two equal edges -- define i32 @f(i32 %x, i32 %v) {|  switch i32 %x, label %a [ i32 0, label %d i32 1, label %d ]|a:|  br label %d|d:|  %y = phi i32 [ %v, %0 ], [ 7, %a ], [ %v, %0 ]|  ret i32 %y|} => 2 parameters; phis 2:%y; 0 switch(%x); 1 br(); 2 ret(%y); edges 0>1() 0>2(%v) 0>2(%v) 1>2(7)

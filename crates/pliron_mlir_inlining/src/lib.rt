@@ -12,4 +12,4 @@ mod policy;
 mod sizes;
 mod words;
 
-pub use policy::{FormFacts, FunctionMarks, ModulePolicy};
+pub use policy::{FormFacts, FunctionMarks, ModulePolicy, NOTHING_ALLOWED};

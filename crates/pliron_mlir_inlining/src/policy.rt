@@ -38,6 +38,8 @@ pub struct FormFacts {
     /// Whether they may be inlined where they are calls.
     pub is_plain_call: bool,
     pub size: u32,
+    /// The number of the types that they write where they are functions or calls, if those of a call and its callee may differ.
+    pub signature: usize,
     /// What they say where they are functions.
     pub function: FunctionMarks,
 }
@@ -56,6 +58,7 @@ const NOTHING_SAID: FormFacts = FormFacts {
     allows_copy: true,
     is_plain_call: false,
     size: 0,
+    signature: 0,
     function: FunctionMarks {
         shared: 0,
         is_inlined: false,
@@ -64,11 +67,12 @@ const NOTHING_SAID: FormFacts = FormFacts {
     },
 };
 
-/// Of a form whose entries are no list.
-const NOTHING_ALLOWED: FormFacts = FormFacts {
+/// Of a form that isn't understood: nothing of it may be copied or inlined.
+pub const NOTHING_ALLOWED: FormFacts = FormFacts {
     allows_copy: false,
     is_plain_call: false,
     size: 1,
+    signature: 0,
     function: FunctionMarks {
         shared: 0,
         is_inlined: false,
@@ -123,6 +127,7 @@ fn form_facts(
         allows_copy: may_be_copied(form, &entries),
         is_plain_call: is_plain_call(&entries),
         size: size_of_name(name),
+        signature: 0,
         function,
     })
 }
@@ -181,11 +186,12 @@ impl<D: InliningDialect> InliningPolicy<D> for ModulePolicy {
         call: Ptr<Operation>,
         ctx: &Context,
     ) -> bool {
-        let (outer, inner) = (
-            self.facts(caller, ctx).function,
-            self.facts(callee, ctx).function,
-        );
-        inner.is_inlined && inner.shared == outer.shared && self.facts(call, ctx).is_plain_call
+        let (outer, inner) = (self.facts(caller, ctx), self.facts(callee, ctx));
+        let said = self.facts(call, ctx);
+        inner.function.is_inlined
+            && inner.function.shared == outer.function.shared
+            && said.is_plain_call
+            && said.signature == inner.signature
     }
 
     fn allows_copy(&self, op: Ptr<Operation>, ctx: &Context) -> bool {

@@ -1,7 +1,7 @@
 //! Which functions of modules go, by what their texts say of names. `|` stands for the end of a line.
 use crate::lines::{in_one_line, with_lines};
 use pliron_dialect_mlir::{AnyMeaning, Mlir};
-use pliron_driver_inlining::{INLINING_STAGE, InlinedForm};
+use pliron_driver_inlining::{INLINING_STAGE, InliningStage};
 use pliron_driver_instrument::{PlanError, Timeless};
 use pliron_driver_mlir::GenericForm;
 use pliron_driver_modules::{ModuleNotation, ModuleOptions, ModuleSource, read_plan, run_passes};
@@ -66,7 +66,9 @@ fn ending_in<N: ModuleNotation>(
 fn ending(rt: &impl Abort, alloc: Global, word: &str, text: &str) -> String {
     let (inlines, rest) = split_stage(word, INLINING_STAGE);
     match (inlines, split_stage(rest, SYMBOL_STAGE)) {
-        (true, (_, passes)) => { ending_in::<Erased<InlinedForm<Plain>>>(rt, alloc, passes, text) }
+        (true, (_, passes)) => {
+            ending_in::<Erased<StagedForm<InliningStage, Plain>>>(rt, alloc, passes, text)
+        }
         (false, (_, passes)) => ending_in::<Erased<Plain>>(rt, alloc, passes, text),
     }
 }

@@ -6,14 +6,14 @@ use crate::lines::{in_one_line, with_lines};
 use pliron_core::Context;
 use pliron_dialect_mlir::{AnyMeaning, Mlir};
 use pliron_driver::Notation;
-use pliron_driver_inlining::{INLINING_STAGE, InlinedForm};
+use pliron_driver_inlining::{INLINING_STAGE, InliningStage};
 use pliron_driver_instrument::{PlanError, Timeless};
 use pliron_driver_mlir::{GenericForm, ModuleOptions, ModuleSource, read_plan, run_passes};
-use pliron_driver_stages::split_stage;
+use pliron_driver_stages::{StagedForm, split_stage};
 use std::alloc::Global;
 use std::process::Abort;
 
-type Form = InlinedForm<GenericForm<Mlir<AnyMeaning>>>;
+type Form = StagedForm<InliningStage, GenericForm<Mlir<AnyMeaning>>>;
 
 static OPTIONS: ModuleOptions = ModuleOptions {
     counts: false,

@@ -6,15 +6,9 @@ use Rattle.pliron_core.specs.declared.attrs.Head.{Head}
 use Rattle.pliron_core.specs.declared.context.OperationEntry.{OperationEntry}
 use Rattle.pliron_core.specs.Tree.{Tree, head_of, no_entry, parent_of}
 use Rattle.pliron_core.specs.Writes.{after_creating, moved_last, taken_from}
-use Rattle.pliron_dialect_mlir.specs.declared.kind.Class.TheVariants.{Root}
-use Rattle.pliron_dialect_mlir.specs.Heads.{plain_class_head}
 use Rattle.pliron_text_llvm_classes.specs.declared.class.FormCounts.{FormCounts}
 use Rattle.pliron_text_llvm_heads.specs.StatementHeads.{head_of_statement, head_of_constant}
-use Rattle.pliron_text_llvm_syntax.specs.declared.functions.FunctionText.{FunctionText}
-use Rattle.pliron_text_llvm_sheets.specs.declared.sheet.LlvmSheet.{LlvmSheet}
-use Rattle.pliron_text_llvm_sheets.specs.Sheets.{sheet_text, KeepsSheet}
-use Rattle.pliron_text_llvm_building.specs.Additions.{IsTextHead, HasTextHead, AddsText}
-use Rattle.pliron_text_llvm_building.specs.Functions.{header_of, IsFunctionOf}
+use Rattle.pliron_text_llvm_building.specs.Additions.{IsTextHead, HasTextHead, AddsText, head_of_function}
 
 pub adds_none : (t u : Tree) → u.operations ≡ t.operations → AddsText t u
 adds_none t u same = record { added = []; grown = same ∙ sym (append-nil t.operations); heads = All-nil HasTextHead }
@@ -46,14 +40,14 @@ moved_from t op (Some block) = refl
 pub moved_keeps : (t : Tree) (op block : ℕ) → (moved_last t op block).operations ≡ t.operations
 moved_keeps t op block = moved_from t op (parent_of t op)
 
-pub statement_head : (head : Head) (form : List ℕ) (counts : FormCounts) (passed : List ℕ) (number : ℕ) → head ≡ head_of_statement form counts passed number → IsTextHead head
-statement_head head form counts passed number e = inl (form, counts, passed, number, e)
+pub statement_head : (head : Head) (form : List ℕ) (counts : FormCounts) (passed : List ℕ) (symbol number : ℕ) → head ≡ head_of_statement form counts passed symbol number → IsTextHead head
+statement_head head form counts passed symbol number e = inl (form, counts, passed, symbol, number, e)
 
 pub constant_text_head : (head : Head) (width : ℕ) (text : List ℕ) (number : ℕ) → head ≡ head_of_constant width text number → IsTextHead head
 constant_text_head head width text number e = inr (inl (width, text, number, e))
 
-pub function_head : (head : Head) (form : ℕ) → head ≡ plain_class_head Root form → IsTextHead head
-function_head head form e = inr (inr (form, e))
+pub function_head : (head : Head) (symbol : Option ℕ) (form : ℕ) → head ≡ head_of_function symbol form → IsTextHead head
+function_head head symbol form e = inr (inr (symbol, form, e))
 
 -- ---- heads that stay
 
@@ -68,9 +62,5 @@ head_within (x ∷ xs) ys (suc op) head is = head_within xs ys op head is
 
 pub adds_keep_head : (t u : Tree) (op : ℕ) (head : Head) → AddsText t u → head_of t op ≡ Some head → head_of u op ≡ Some head
 adds_keep_head t u op head a is = ap (λ xs. (get_or xs op no_entry).head) a.grown ∙ head_within t.operations a.added op head is
-
-pub function_is : (text : List ℕ) (function : FunctionText) (old new : LlvmSheet) (t : Tree) (op number : ℕ) → sheet_text old number ≡ Some (header_of text function) → KeepsSheet old new → head_of t op ≡ Some (plain_class_head Root number)
-    → IsFunctionOf text function new t op
-function_is text function old new t op number named kept is = (number, is, kept.texts number (header_of text function) named)
 
 pub ruleset addition_steps = (adds_none, adds_more, adds_before_none, adds_behind_none, adds_one)

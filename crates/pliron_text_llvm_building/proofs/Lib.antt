@@ -1,1 +1,2 @@
 pub mod AdditionLemmas
+pub mod FunctionLemmas

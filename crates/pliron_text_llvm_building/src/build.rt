@@ -295,7 +295,14 @@ fn operation_head(
         .get(first..first.saturating_add(count))
         .unwrap_or(&[]);
     let form = sheet.text(planned.form);
-    Ok(head_of_statement(alloc, form, planned.counts, passed, planned.form)?)
+    Ok(head_of_statement(
+        alloc,
+        form,
+        planned.counts,
+        passed,
+        planned.symbol,
+        planned.form,
+    )?)
 }
 
 // What the operation gives is what is planned.

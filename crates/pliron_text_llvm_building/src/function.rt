@@ -1,26 +1,33 @@
 //! The tree of a function.
 ghost use Rattle.std.specs.Prelude.{◌≡◌, Some, IfOk};
 ghost use Rattle.pliron_core.specs.Tree.{IsLive, head_of};
-ghost use Rattle.pliron_dialect_mlir.specs.declared.kind.Class.TheVariants.{Root};
-ghost use Rattle.pliron_dialect_mlir.specs.Heads.{plain_class_head};
 ghost use Rattle.pliron_laws.specs.Linked.{IsWellLinked};
 ghost use Rattle.pliron_text_llvm_sheets.specs.Sheets.{sheet_text, KeepsSheet};
-ghost use Rattle.pliron_text_llvm_building.specs.Additions.{AddsText};
-ghost use Rattle.pliron_text_llvm_building.specs.Functions.{header_of, IsFunctionOf};
+ghost use Rattle.pliron_text_llvm_building.specs.Additions.{AddsText, head_of_function};
+ghost use Rattle.pliron_text_llvm_building.specs.Functions.{header_of, AreNumbersOf, IsFunctionOf};
 
 use crate::build::{add_blocks, add_constants, add_operations};
 use crate::connect::connect_all;
 use crate::debug::note_debug;
 use crate::parts::BuiltParts;
 use crate::stop::{BuildStop, KeptForBuilding};
-use pliron_core::{Context, Operation, Ptr};
-use pliron_dialect_mlir::{Class, plain_head};
+use pliron_core::{AttrObj, Context, Head, Operation, Ptr};
+use pliron_dialect_mlir::{Class, named_head, plain_head};
 use pliron_laws::{Dialect, is_well_linked};
 use pliron_text_llvm_names::bytes_in;
-use pliron_text_llvm_plans::{FunctionPlan, FunctionSource, plan_function};
+use pliron_text_llvm_plans::{FunctionPlan, FunctionSource, plan_function, symbol_of_function};
 use pliron_text_llvm_sheets::LlvmSheet;
 use pliron_text_llvm_syntax::{ByteSpan, FunctionText};
-use std::alloc::Global;
+use std::alloc::{AllocFailed, Global};
+
+/// The numbers of what the head of a function says.
+#[derive(Clone, Copy)]
+struct HeadNumbers {
+    /// That of its name, if calls may have it.
+    symbol: Option<usize>,
+    /// That of the text before its body.
+    header: usize,
+}
 
 // The number of the text before the body of the function.
 #[tactic(auto, using(pliron_text_llvm_sheets::proofs::KeepingLemmas::sheet_steps))]
@@ -39,13 +46,43 @@ fn number_of_header(
     Ok(sheet.number(bytes_in(text, header))?)
 }
 
-// Makes the operation of a function whose text before the body has this number, without blocks.
+// The numbers of what the head of the function says.
+#[tactic(auto, using(crate::proofs::FunctionLemmas::numbers_are, pliron_text_llvm_sheets::proofs::KeepingLemmas::sheet_steps))]
+fn numbers_of_head(
+    text: &[u8],
+    function: &FunctionText,
+    sheet: &mut LlvmSheet,
+) -> Result<HeadNumbers, BuildStop>
+    ensures numbers { IfOk result (λ numbers. AreNumbersOf text.now function.now sheet.new numbers) }
+    ensures sheet { KeepsSheet sheet.old sheet.new }
+{
+    let symbol = symbol_of_function(bytes_in(text, function.name), sheet)?;
+    let header = number_of_header(text, function, sheet)?;
+    Ok(HeadNumbers { symbol, header })
+}
+
+// The head of a function with these numbers.
+fn head_of_function(alloc: Global, numbers: HeadNumbers) -> Result<Head, AllocFailed<AttrObj>>
+    ensures { IfOk result (λ head. head ≡ head_of_function numbers.symbol numbers.header) }
+{
+    match numbers.symbol {
+        Some(symbol) => named_head(alloc, Class::Function, symbol, numbers.header),
+        None => plain_head(alloc, Class::Root, numbers.header),
+    }
+}
+
+// Makes the operation of a function whose head has these numbers, without blocks.
 #[tactic(auto, using(crate::proofs::AdditionLemmas::addition_steps, crate::proofs::AdditionLemmas::function_head, crate::proofs::AdditionLemmas::created_head))]
-fn make_root(alloc: Global, header: usize, ctx: &mut Context) -> Result<Ptr<Operation>, BuildStop>
-    ensures head { IfOk result (λ root. head_of ctx.new.tree root ≡ Some (plain_class_head Root header)) }
+fn make_root(
+    alloc: Global,
+    numbers: HeadNumbers,
+    ctx: &mut Context,
+) -> Result<Ptr<Operation>, BuildStop>
+    ensures head { IfOk result (λ root.
+        head_of ctx.new.tree root ≡ Some (head_of_function numbers.symbol numbers.header)) }
     ensures added { AddsText ctx.old.tree ctx.new.tree }
 {
-    let head = plain_head(alloc, Class::Root, header)?;
+    let head = head_of_function(alloc, numbers)?;
     Ok(Operation::create(ctx, head, 0, 1)?)
 }
 
@@ -69,20 +106,21 @@ fn build_inside(
     connect_all(plan, ctx, built)
 }
 
-// Makes the function by its plan, whose text before the body has this number.
+// Makes the function by its plan, whose head has these numbers.
 #[tactic(auto, using(crate::proofs::AdditionLemmas::addition_steps, crate::proofs::AdditionLemmas::adds_keep_head, pliron_text_llvm_sheets::proofs::KeepingLemmas::sheet_steps))]
 fn build_planned(
     alloc: Global,
     plan: &FunctionPlan,
-    header: usize,
+    numbers: HeadNumbers,
     ctx: &mut Context,
     sheet: &mut LlvmSheet,
 ) -> Result<Ptr<Operation>, BuildStop>
-    ensures head { IfOk result (λ root. head_of ctx.new.tree root ≡ Some (plain_class_head Root header)) }
+    ensures head { IfOk result (λ root.
+        head_of ctx.new.tree root ≡ Some (head_of_function numbers.symbol numbers.header)) }
     ensures added { AddsText ctx.old.tree ctx.new.tree }
     ensures sheet { KeepsSheet sheet.old sheet.new }
 {
-    let root = make_root(alloc, header, ctx)?;
+    let root = make_root(alloc, numbers, ctx)?;
     let mut built = BuiltParts::new(alloc);
     match build_inside(plan, header, root, ctx, sheet, &mut built) {
         Ok(()) => Ok(root),
@@ -90,25 +128,25 @@ fn build_planned(
     }
 }
 
-// Plans the function, and answers the number of the text before the body.
+// Plans the function, and answers the numbers of what its head says.
 #[tactic(auto, using(pliron_text_llvm_sheets::proofs::KeepingLemmas::sheet_steps))]
-fn plan_with_header(
+fn plan_with_head(
     alloc: Global,
     source: FunctionSource<'_>,
     function: &FunctionText,
     sheet: &mut LlvmSheet,
     plan: &mut FunctionPlan,
-) -> Result<usize, BuildStop>
-    ensures header { IfOk result (λ number.
-        sheet_text sheet.new number ≡ Some (header_of source.entry.text.now function.now)) }
+) -> Result<HeadNumbers, BuildStop>
+    ensures numbers { IfOk result (λ numbers.
+        AreNumbersOf source.entry.text.now function.now sheet.new numbers) }
     ensures sheet { KeepsSheet sheet.old sheet.new }
 {
     plan_function(alloc, source, sheet, plan)?;
-    number_of_header(source.text, function, sheet)
+    numbers_of_head(source.text, function, sheet)
 }
 
 // Builds the function by a new plan.
-#[tactic(auto, using(crate::proofs::AdditionLemmas::addition_steps, crate::proofs::AdditionLemmas::function_is, pliron_text_llvm_sheets::proofs::KeepingLemmas::sheet_steps))]
+#[tactic(auto, using(crate::proofs::AdditionLemmas::addition_steps, crate::proofs::FunctionLemmas::function_is, pliron_text_llvm_sheets::proofs::KeepingLemmas::sheet_steps))]
 fn build_source(
     alloc: Global,
     source: FunctionSource<'_>,
@@ -122,8 +160,8 @@ fn build_source(
     ensures sheet { KeepsSheet sheet.old sheet.new }
 {
     let mut plan = FunctionPlan::new(alloc);
-    match plan_with_header(alloc, source, function, sheet, &mut plan) {
-        Ok(header) => build_planned(alloc, &plan, header, ctx, sheet),
+    match plan_with_head(alloc, source, function, sheet, &mut plan) {
+        Ok(numbers) => build_planned(alloc, &plan, numbers, ctx, sheet),
         Err(stop) => Err(stop),
     }
 }

@@ -1,3 +1,4 @@
 pub mod FormWords
+pub mod CallArguments
 pub mod Opcodes
 pub mod StatementClasses

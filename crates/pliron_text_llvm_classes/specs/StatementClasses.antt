@@ -1,5 +1,5 @@
 -- What a statement is to the passes, by the words of its form.
-use Rattle.std.specs.Prelude.{◌&&◌, ◌||◌, ◌-◌, ℕ, Bool, false, true, not, nat_eq, nat_lt, min, List, [], ◌∷◌, length, map, slice_index_or, Option, Some, None, option_and_then, if◌then◌else◌, codes, bytes_eq}
+use Rattle.std.specs.Prelude.{◌&&◌, ◌||◌, ◌-◌, ℕ, Bool, false, true, not, nat_eq, nat_lt, min, List, [], ◌∷◌, length, map, slice_index_or, Option, Some, None, is_some, option_and_then, if◌then◌else◌, codes, bytes_eq}
 use Rattle.std.specs.List.{list_any, slice_split}
 use Rattle.pliron_bits.specs.declared.flags.Flags.{Flags}
 use Rattle.pliron_bits.specs.declared.operators.BinaryOperator.{BinaryOperator}
@@ -11,8 +11,9 @@ use Rattle.pliron_text_mlir_syntax.specs.Numbers.{width_written, signed_written,
 use Rattle.pliron_text_llvm_classes.specs.FormWords.{words_of_form, is_plain_form, widths_from, word_behind_to, cases_from}
 use Rattle.pliron_text_llvm_classes.specs.Opcodes.{row_of_word, operators, casts, predicates, is_pure_opcode, effect_opcodes}
 use Rattle.pliron_text_llvm_reader.specs.Words.{is_one_of}
+use Rattle.pliron_text_llvm_reader.specs.Callees.{callee_named}
 use Rattle.pliron_text_llvm_classes.specs.declared.class.StatementClass.{StatementClass}
-use Rattle.pliron_text_llvm_classes.specs.declared.class.StatementClass.TheVariants.{Binary, Compare, Cast as CastClass, Select, Opaque, Effect, Local, Jump, Branch, Switch, Leave, Unreachable, Fork}
+use Rattle.pliron_text_llvm_classes.specs.declared.class.StatementClass.TheVariants.{Binary, Compare, Cast as CastClass, Select, Opaque, Effect, Local, Call, Jump, Branch, Switch, Leave, Unreachable, Fork}
 use Rattle.pliron_text_llvm_classes.specs.declared.class.FormCounts.{FormCounts}
 
 -- ---- what the words say
@@ -129,9 +130,14 @@ abbrev pub unless_undef : Bool → StatementClass → StatementClass
 unless_undef true Opaque = Effect
 unless_undef names class = class
 
+-- it calls a function by its name
+abbrev pub is_call_by_name : List ℕ → FormCounts → Bool
+is_call_by_name form counts = not counts.is_end && is_some (callee_named form)
+
 -- the class of a statement with this form; of one with strings or comments nothing is said
 abbrev pub class_of_form : List ℕ → FormCounts → StatementClass
 class_of_form form counts =
     if not (is_plain_form form) then class_of_unknown counts
+    else if is_call_by_name form counts then Call
     else if counts.is_end then class_of_end (words_of_form form) counts
     else unless_undef (names_undef form) (class_of_value (words_of_form form) counts)

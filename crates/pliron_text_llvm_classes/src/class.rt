@@ -1,17 +1,20 @@
 //! Classes of statements.
 ghost use Rattle.std.specs.Prelude.{◌≡◌, ◌&&◌, ℕ, List, [], None, Some, nat_eq, if◌then◌else◌, slice_index_or, map, IfOk, MatchOption};
 ghost use Rattle.pliron_text_mlir_syntax.specs.Numbers.{all_of};
-ghost use Rattle.pliron_text_llvm_classes.specs.FormWords.{words_of_form, widths_from};
+ghost use Rattle.pliron_text_llvm_classes.specs.FormWords.{words_of_form};
+ghost use Rattle.pliron_text_llvm_classes.specs.CallArguments.{widths_in_form};
 ghost use Rattle.pliron_text_llvm_classes.specs.Opcodes.{row_of_word, operators, casts, predicates};
 ghost use Rattle.pliron_text_llvm_classes.specs.declared.class.StatementClass.TheVariants.{Select, Opaque};
 ghost use Rattle.pliron_text_llvm_classes.specs.StatementClasses.{flags_of_words, first_width, width_behind_to, case_bits, cases_of_words, operator_class, compare_class, cast_class};
-ghost use Rattle.pliron_text_llvm_classes.specs.StatementClasses.{class_of_unknown, pure_or_unknown, cast_or_other, operator_or_other, class_of_value, branch_class, switch_class, class_of_end, unless_undef, class_of_form};
+ghost use Rattle.pliron_text_llvm_classes.specs.StatementClasses.{class_of_unknown, pure_or_unknown, cast_or_other, operator_or_other, class_of_value, branch_class, switch_class, class_of_end, unless_undef, is_call_by_name, class_of_form};
 
+use crate::arguments::argument_widths;
 use crate::opcodes::{cast_named, is_effect, is_pure, operator_named, predicate_named};
 use crate::words::{
     case_words, has_word, is_plain, names_undef, operand_widths, word_at, word_behind_to, words_of,
 };
 use pliron_bits::{BinaryOperator, Cast, Flags, Predicate};
+use pliron_text_llvm_reader::callee_named;
 use pliron_text_mlir_syntax::{bits_of, number_of, width_of_type};
 use std::alloc::{AllocError, Global};
 
@@ -33,6 +36,8 @@ pub enum StatementClass {
     Effect,
     /// It asks the world, and belongs to the function that it stands in.
     Local,
+    /// It calls a function by its name.
+    Call,
     /// It jumps to its one successor.
     Jump,
     /// It jumps to its first successor where its operand, of one bit, is 1, else to its second.
@@ -259,6 +264,13 @@ fn unless_undef(names: bool, class: StatementClass) -> StatementClass
     }
 }
 
+// Whether a statement with the form calls a function by its name, and ends no block.
+fn is_call_by_name(form: &[u8], counts: FormCounts) -> bool
+    ensures { result ≡ is_call_by_name form.now counts }
+{
+    !counts.is_end && callee_named(form).is_some()
+}
+
 /// What a statement with this form is to the passes. Errors: allocation failure. Cost: linear in the form.
 #[doc(hidden)]
 pub fn class_of_form(
@@ -271,6 +283,9 @@ pub fn class_of_form(
     if !is_plain(form) {
         return Ok(class_of_unknown(counts));
     }
+    if is_call_by_name(form, counts) {
+        return Ok(StatementClass::Call);
+    }
     let words = words_of(alloc, form)?;
     let width = first_width(alloc, &words)?;
     if counts.is_end {
@@ -280,14 +295,18 @@ pub fn class_of_form(
     Ok(unless_undef(names, class_of_value(&words, width, counts)))
 }
 
-/// The width of the type of each operand of a form without strings and comments: 0 of what is no integer of at most 64
-/// bits. Errors: allocation failure. Cost: linear in the form.
+/// The width of the type of each operand of a form without strings and comments, and perhaps one number more: 0 of what is
+/// no integer of at most 64 bits. Errors: allocation failure. Cost: linear in the form.
 #[doc(hidden)]
 pub fn operand_widths_of_form(alloc: Global, form: &[u8]) -> Result<Vec<u32>, AllocError>
-    ensures { IfOk result (λ widths. widths.items ≡ widths_from 0 (words_of_form form.now)) }
+    ensures { IfOk result (λ widths. widths.items ≡ widths_in_form form.now) }
 {
-    let words = words_of(alloc, form)?;
-    operand_widths(alloc, &words)
+    if callee_named(form).is_some() {
+        argument_widths(alloc, form)
+    } else {
+        let words = words_of(alloc, form)?;
+        operand_widths(alloc, &words)
+    }
 }
 
 // The bits that the word of a case is at this width.

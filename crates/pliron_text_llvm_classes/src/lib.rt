@@ -2,6 +2,7 @@
 //! answers them. All is said by the words of a statement's form and by how many operands and successors it has.
 #![tactic(auto)]
 
+mod arguments;
 mod class;
 mod opcodes;
 mod words;

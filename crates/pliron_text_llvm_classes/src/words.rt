@@ -10,8 +10,8 @@ use pliron_text_llvm_syntax::is_word_byte;
 use pliron_text_mlir_syntax::width_of_type;
 use std::alloc::{AllocError, Global};
 
-// Whether the byte is between words.
-fn is_separator(byte: u8) -> bool
+/// Whether the byte is between words. Cost: constant.
+pub fn is_separator(byte: u8) -> bool
     ensures { result ≡ is_separator byte }
 {
     byte == b' ' || byte == b'\t' || byte == b'\n' || byte == b'\r' || byte == b','

@@ -13,8 +13,9 @@ use Rattle.pliron_text_llvm_modules.specs.Modules.{module_part_of}
 use Rattle.pliron_text_llvm_parts.specs.declared.parts.SheetPart.{SheetPart}
 use Rattle.pliron_text_llvm_parts.specs.declared.parts.SheetPart.TheVariants.{Raw, Function}
 use Rattle.pliron_text_llvm_building.specs.Additions.{AddsText}
-use Rattle.pliron_text_llvm_building.specs.Functions.{header_of, IsFunctionOf}
+use Rattle.pliron_text_llvm_building.specs.Functions.{IsFunctionOf}
 use Rattle.pliron_text_llvm_building.proofs.AdditionLemmas.{adds_keep_head}
+use Rattle.pliron_text_llvm_building.proofs.FunctionLemmas.{numbers_kept}
 use Rattle.pliron_text_llvm_documents.specs.Documents.{IsSheetPartOf, ArePartsOf, IsOneMore, KeepsHeads}
 
 -- ---- heads that stay
@@ -28,7 +29,7 @@ heads_added t u added = record { heads = λ op head is. adds_keep_head t u op he
 -- ---- parts in a later tree, with a later sheet
 
 function_kept : (text : List ℕ) (function : FunctionText) (a b : LlvmSheet) (t u : Tree) (op : ℕ) → KeepsSheet a b → KeepsHeads t u → IsFunctionOf text function a t op → IsFunctionOf text function b u op
-function_kept text function a b t u op sheet heads (number, is, named) = (number, heads.heads op _ is, sheet.texts number (header_of text function) named)
+function_kept text function a b t u op sheet heads (numbers, is, are) = (numbers, heads.heads op _ is, numbers_kept text function a b numbers sheet are)
 
 part_kept : (text : List ℕ) (a b : LlvmSheet) (t u : Tree) (part : ModulePart) (found : SheetPart) → KeepsSheet a b → KeepsHeads t u → IsSheetPartOf text a t part found → IsSheetPartOf text b u part found
 part_kept text a b t u part (Raw span) sheet heads is = is

@@ -3,12 +3,12 @@ use Rattle.std.specs.Prelude.{◌&&◌, ℕ, Bool, nat_lt, List, [], ◌∷◌, 
 use Rattle.std.specs.List.{list_any}
 use Rattle.pliron_core.specs.declared.attrs.Head.{Head}
 use Rattle.pliron_dialect_mlir.specs.declared.kind.Class.{Class}
-use Rattle.pliron_dialect_mlir.specs.declared.kind.Class.TheVariants.{Select as SelectClass, Opaque as OpaqueClass, Effect as EffectClass, Local as LocalClass, Jump as JumpClass, Leave as LeaveClass, Unreachable as UnreachableClass, Fork as ForkClass}
+use Rattle.pliron_dialect_mlir.specs.declared.kind.Class.TheVariants.{Select as SelectClass, Opaque as OpaqueClass, Effect as EffectClass, Local as LocalClass, Call as CallClass, Jump as JumpClass, Leave as LeaveClass, Unreachable as UnreachableClass, Fork as ForkClass}
 use Rattle.pliron_dialect_mlir.specs.Data.{number, other_constant}
-use Rattle.pliron_dialect_mlir.specs.Heads.{constant_head, plain_class_head, binary_head, compare_head, cast_head, branch_head, switch_head}
+use Rattle.pliron_dialect_mlir.specs.Heads.{constant_head, plain_class_head, named_head, binary_head, compare_head, cast_head, branch_head, switch_head}
 use Rattle.pliron_text_mlir_syntax.specs.Numbers.{signed_written, bits_written}
 use Rattle.pliron_text_llvm_classes.specs.declared.class.StatementClass.{StatementClass}
-use Rattle.pliron_text_llvm_classes.specs.declared.class.StatementClass.TheVariants.{Binary, Compare, Cast, Select, Opaque, Effect, Local, Jump, Branch, Switch, Leave, Unreachable, Fork}
+use Rattle.pliron_text_llvm_classes.specs.declared.class.StatementClass.TheVariants.{Binary, Compare, Cast, Select, Opaque, Effect, Local, Call, Jump, Branch, Switch, Leave, Unreachable, Fork}
 use Rattle.pliron_text_llvm_classes.specs.declared.class.FormCounts.{FormCounts}
 use Rattle.pliron_text_llvm_classes.specs.FormWords.{words_of_form}
 use Rattle.pliron_text_llvm_classes.specs.StatementClasses.{class_of_form, cases_of_words, names_undef}
@@ -34,21 +34,23 @@ abbrev pub switch_of : ℕ → List ℕ → Option (List ℕ) → ℕ → Head
 switch_of width passed cases form =
     if pass_too_much passed then plain_class_head ForkClass form else switch_by width passed cases form
 
--- the head of a statement of this class: its edges pass so many operands each, it has these cases, and its form this number
-abbrev pub head_by_class : StatementClass → List ℕ → Option (List ℕ) → ℕ → Head
-head_by_class (Binary operator width flags) passed cases form = binary_head operator width flags form
-head_by_class (Compare predicate width) passed cases form = compare_head width predicate form
-head_by_class (Cast cast from to flags) passed cases form = cast_head cast from to flags form
-head_by_class Select passed cases form = plain_class_head SelectClass form
-head_by_class Opaque passed cases form = plain_class_head OpaqueClass form
-head_by_class Effect passed cases form = plain_class_head EffectClass form
-head_by_class Local passed cases form = plain_class_head LocalClass form
-head_by_class Jump passed cases form = plain_class_head JumpClass form
-head_by_class Branch passed cases form = branch_of passed form
-head_by_class (Switch width) passed cases form = switch_of width passed cases form
-head_by_class Leave passed cases form = plain_class_head LeaveClass form
-head_by_class Unreachable passed cases form = plain_class_head UnreachableClass form
-head_by_class Fork passed cases form = plain_class_head ForkClass form
+-- the head of a statement of this class: its edges pass so many operands each, it has these cases, the function that it calls
+-- has a name of this number, and its form has this number
+abbrev pub head_by_class : StatementClass → List ℕ → Option (List ℕ) → (symbol form : ℕ) → Head
+head_by_class (Binary operator width flags) passed cases symbol form = binary_head operator width flags form
+head_by_class (Compare predicate width) passed cases symbol form = compare_head width predicate form
+head_by_class (Cast cast from to flags) passed cases symbol form = cast_head cast from to flags form
+head_by_class Select passed cases symbol form = plain_class_head SelectClass form
+head_by_class Opaque passed cases symbol form = plain_class_head OpaqueClass form
+head_by_class Effect passed cases symbol form = plain_class_head EffectClass form
+head_by_class Local passed cases symbol form = plain_class_head LocalClass form
+head_by_class Call passed cases symbol form = named_head CallClass symbol form
+head_by_class Jump passed cases symbol form = plain_class_head JumpClass form
+head_by_class Branch passed cases symbol form = branch_of passed form
+head_by_class (Switch width) passed cases symbol form = switch_of width passed cases form
+head_by_class Leave passed cases symbol form = plain_class_head LeaveClass form
+head_by_class Unreachable passed cases symbol form = plain_class_head UnreachableClass form
+head_by_class Fork passed cases symbol form = plain_class_head ForkClass form
 
 -- the cases that the form of a switch says
 abbrev pub cases_of_class : StatementClass → List ℕ → ℕ → Option (List ℕ)
@@ -56,9 +58,9 @@ cases_of_class (Switch width) text successors = cases_of_words width successors 
 cases_of_class _ text successors = None
 
 -- the head of a statement whose form is this text and has this number
-abbrev pub head_of_statement : List ℕ → FormCounts → List ℕ → ℕ → Head
-head_of_statement text counts passed form =
-    head_by_class (class_of_form text counts) passed (cases_of_class (class_of_form text counts) text counts.successors) form
+abbrev pub head_of_statement : List ℕ → FormCounts → List ℕ → (symbol form : ℕ) → Head
+head_of_statement text counts passed symbol form =
+    head_by_class (class_of_form text counts) passed (cases_of_class (class_of_form text counts) text counts.successors) symbol form
 
 -- ---- constants
 

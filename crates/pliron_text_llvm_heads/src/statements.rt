@@ -5,7 +5,7 @@ ghost use Rattle.pliron_text_llvm_heads.specs.StatementHeads.{pass_too_much, bra
 
 use pliron_core::{AttrObj, Head};
 use pliron_dialect_mlir::{
-    Class, binary_head, branch_head, cast_head, compare_head, plain_head, switch_head,
+    Class, binary_head, branch_head, cast_head, compare_head, named_head, plain_head, switch_head,
 };
 use pliron_text_llvm_classes::{FormCounts, StatementClass, class_of_form, switch_cases};
 use pliron_text_llvm_syntax::LlvmFault;
@@ -64,10 +64,11 @@ fn head_by_class(
     class: StatementClass,
     passed: &[usize],
     cases: Option<&[u64]>,
+    symbol: usize,
     form: usize,
 ) -> Result<Head, AllocFailed<AttrObj>>
     ensures { IfOk result (λ head.
-        head ≡ head_by_class class passed.now (option_map (λ cases. cases.now) cases.entry) form) }
+        head ≡ head_by_class class passed.now (option_map (λ cases. cases.now) cases.entry) symbol form) }
 {
     match class {
         StatementClass::Binary(operator, width, flags) => {
@@ -81,6 +82,7 @@ fn head_by_class(
         StatementClass::Opaque => plain_head(alloc, Class::Opaque, form),
         StatementClass::Effect => plain_head(alloc, Class::Effect, form),
         StatementClass::Local => plain_head(alloc, Class::Local, form),
+        StatementClass::Call => named_head(alloc, Class::Call, symbol, form),
         StatementClass::Jump => plain_head(alloc, Class::Jump, form),
         StatementClass::Branch => branch_of(alloc, passed, form),
         StatementClass::Switch(width) => switch_of(alloc, width, passed, cases, form),
@@ -107,7 +109,8 @@ fn cases_of_class(
     }
 }
 
-/// The head of a statement whose form is this text and has this number, and whose edges pass so many operands each.
+/// The head of a statement whose form is this text and has this number, and whose edges pass so many operands each. Where it
+/// calls a function by its name, that has the number `symbol`.
 ///
 /// Errors: allocation failure. Cost: linear in the form and the edges.
 #[doc(hidden)]
@@ -116,13 +119,14 @@ pub fn head_of_statement(
     text: &[u8],
     counts: FormCounts,
     passed: &[usize],
+    symbol: usize,
     form: usize,
 ) -> Result<Head, LlvmFault>
-    ensures { IfOk result (λ head. head ≡ head_of_statement text.now counts passed.now form) }
+    ensures { IfOk result (λ head. head ≡ head_of_statement text.now counts passed.now symbol form) }
 {
     let class = class_of_form(alloc, text, counts)?;
     match cases_of_class(alloc, class, text, counts.successors)? {
-        Some(cases) => Ok(head_by_class(alloc, class, passed, Some(&cases), form)?),
-        None => Ok(head_by_class(alloc, class, passed, None, form)?),
+        Some(cases) => Ok(head_by_class(alloc, class, passed, Some(&cases), symbol, form)?),
+        None => Ok(head_by_class(alloc, class, passed, None, symbol, form)?),
     }
 }

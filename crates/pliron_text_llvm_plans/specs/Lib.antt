@@ -1,3 +1,4 @@
 pub mod Forms
 pub mod Names
 pub mod Values
+pub mod Symbols

@@ -11,6 +11,7 @@ mod operations;
 mod plan;
 mod statements;
 mod stop;
+mod symbols;
 mod values;
 
 pub use operations::plan_function;
@@ -20,4 +21,5 @@ pub use plan::{
 };
 pub use statements::read_form;
 pub use stop::{KeptForPlan, PlanStop};
+pub use symbols::{symbol_of_form, symbol_of_function};
 pub use values::{PlannedConstants, PlannedValue, plan_value};

@@ -8,6 +8,7 @@ use crate::debug::{
 use crate::given::{given_by_block, plan_definition};
 use crate::plan::{FunctionPlan, FunctionSource, OperationPlan, PlannedDefinition};
 use crate::statements::{read_form, statement_at};
+use crate::symbols::symbol_of_form;
 use crate::stop::PlanStop;
 use crate::values::plan_value;
 use pliron_text_llvm_classes::{FormCounts, operand_widths_of_form};
@@ -156,6 +157,7 @@ fn plan_with_form(
 {
     let line = statement_at(source, statement.line)?;
     let number = sheet.number(form.text)?;
+    let symbol = symbol_of_form(form.text, sheet)?;
     let is_end = line.statement.row.is_terminator;
     let result = plan_result(source, is_end, statement.result, sheet)?;
     let first = plan.operands.len();
@@ -167,6 +169,7 @@ fn plan_with_form(
         place: line.span.start,
         block: statement.block,
         form: number,
+        symbol,
         counts: FormCounts {
             operands: statement.operands.len(),
             successors,

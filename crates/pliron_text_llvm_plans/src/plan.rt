@@ -56,6 +56,8 @@ pub struct OperationPlan {
     pub block: usize,
     /// The number of its form.
     pub form: usize,
+    /// The number of the name of the function that it calls, 0 where it calls none by its name.
+    pub symbol: usize,
     pub counts: FormCounts,
     /// The first of its operands, and how many: its own, and behind them those that its edges pass.
     pub operands: (usize, usize),

@@ -9,9 +9,9 @@ use crate::stop::{KeptForPlan, PlanStop};
 use pliron_text_llvm_edges::is_successor_at;
 use pliron_text_llvm_forms::form_of_statement;
 use pliron_text_llvm_functions::FunctionReading;
-use pliron_text_llvm_reader::{BodyLine, BodyStatement};
+use pliron_text_llvm_reader::{BodyLine, BodyStatement, Reads};
 use pliron_text_llvm_syntax::Hole;
-use pliron_text_llvm_trees::is_undefined_at;
+use pliron_text_llvm_trees::stays_in_form_at;
 use std::alloc::{AllocError, Global};
 
 /// The statement that is the line of this number. Errors: there is none. Cost: constant.
@@ -25,20 +25,21 @@ pub fn statement_at<'t>(
     }
 }
 
-// Whether the tree has what is in the hole.
+// Whether the tree has what is in the hole of a statement that reads so.
 fn is_tree_hole_at(
     alloc: Global,
     text: &[u8],
     reading: &FunctionReading,
+    reads: Reads,
     number: usize,
 ) -> Result<bool, AllocError>
-    ensures { IfOk result (λ is_tree_hole. is_tree_hole ≡ is_tree_hole_at text.now reading.now number) }
+    ensures { IfOk result (λ is_tree_hole. is_tree_hole ≡ is_tree_hole_at text.now reading.now reads number) }
 {
     if is_successor_at(&reading.body.holes, number) {
         return Ok(true);
     }
-    let is_undefined = is_undefined_at(alloc, text, reading, number)?;
-    Ok(!is_undefined)
+    let stays = stays_in_form_at(alloc, text, reading, reads, number)?;
+    Ok(!stays)
 }
 
 // The hole of this number, if there is one.
@@ -54,13 +55,14 @@ fn push_hole(
     alloc: Global,
     text: &[u8],
     reading: &FunctionReading,
+    reads: Reads,
     number: usize,
     holes: &mut Vec<Hole>,
 ) -> Result<(), AllocError>
     ensures { OnOk result (holes.new.items ≡ holes.old.items ++ holes_numbered reading.now.body.holes.items
-        (numbers_passing (is_tree_hole_at text.now reading.now) number 1)) }
+        (numbers_passing (is_tree_hole_at text.now reading.now reads) number 1)) }
 {
-    if !is_tree_hole_at(alloc, text, reading, number)? {
+    if !is_tree_hole_at(alloc, text, reading, reads, number)? {
         return Ok(());
     }
     match hole_at(&reading.body.holes, number) {
@@ -85,7 +87,7 @@ fn push_holes(
     ensures { OnOk result (holes.new.items ≡ tree_holes_of text.now reading.now line.now) }
 {
     for number in line.first_hole..line.end_hole {
-        push_hole(alloc, text, reading, number, holes)?;
+        push_hole(alloc, text, reading, line.statement.row.reads, number, holes)?;
     }
     Ok(())
 }
@@ -111,7 +113,7 @@ fn form_with(
 }
 
 /// The form of a statement: its text from its opcode on, with a mark for each operand and each successor that the tree
-/// has. A constant that names `undef` stays in it.
+/// has. A constant that names `undef` stays in it, unless it is passed to a function by its name.
 ///
 /// Errors: it has none, and so the function is kept as it is written; allocation failure. Cost: linear in it.
 #[doc(hidden)]

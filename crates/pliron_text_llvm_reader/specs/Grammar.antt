@@ -11,9 +11,9 @@ use Rattle.pliron_text_llvm_reader.specs.declared.rules.Rule.{Rule}
 use Rattle.pliron_text_llvm_reader.specs.declared.rules.Rule.TheVariants.{Skip, Take}
 use Rattle.pliron_text_llvm_reader.specs.declared.rules.TakenStep.{TakenStep}
 use Rattle.pliron_text_llvm_reader.specs.declared.table.Reads.{Reads}
-use Rattle.pliron_text_llvm_reader.specs.declared.table.Reads.TheVariants.{Constants, Locals}
+use Rattle.pliron_text_llvm_reader.specs.declared.table.Reads.TheVariants.{Constants, Locals, ArgumentConstants}
 use Rattle.pliron_text_llvm_reader.specs.declared.table.GrammarStep.{GrammarStep}
-use Rattle.pliron_text_llvm_reader.specs.declared.table.GrammarStep.TheVariants.{Flags, TypeName, Value, TypedValue, MoreTypedValues, Comma, To, Unwind, Label, Block, Labels, Cases, Entries, Arguments, CallAttributes, Clauses, Branch, BranchLabels, ReturnValue, Rest, Part, InList}
+use Rattle.pliron_text_llvm_reader.specs.declared.table.GrammarStep.TheVariants.{Flags, TypeName, Value, Callee, TypedValue, MoreTypedValues, Comma, To, Unwind, Label, Block, Labels, Cases, Entries, Arguments, CallAttributes, Clauses, Branch, BranchLabels, ReturnValue, Rest, Part, InList}
 use Rattle.pliron_text_llvm_reader.specs.declared.table.Piece.{Piece}
 use Rattle.pliron_text_llvm_reader.specs.declared.table.Piece.TheVariants.{PairValue, RoundBracket, Tree, Suffixes, Attributes, AlignNumber, Expression, Assembly, AssemblyText, Reference}
 use Rattle.pliron_text_llvm_reader.specs.declared.table.ListStep.{ListStep}
@@ -60,11 +60,13 @@ with_last steps (Some last) = steps ++ last ∷ []
 abbrev pub role_of_constant : Reads → Role
 role_of_constant Constants = Operand
 role_of_constant Locals = Plain
+role_of_constant ArgumentConstants = Operand
 
 -- so is what is behind its first token
 abbrev pub role_of_more : Reads → Role
 role_of_more Constants = More
 role_of_more Locals = Plain
+role_of_more ArgumentConstants = More
 
 abbrev pub word_value_move : List ℕ → Role → Option GrammarMove
 word_value_move word role =
@@ -181,6 +183,7 @@ abbrev pub move_of_step : List ℕ → Reads → GrammarStep → List LlvmToken 
 move_of_step text reads Flags tokens = optional (is_flag_next text tokens) (token (Part PairValue ∷ Part RoundBracket ∷ Flags ∷ []))
 move_of_step text reads TypeName tokens = if_next (is_type_next text tokens) (tree (Part Suffixes ∷ []))
 move_of_step text reads Value tokens = value_move text reads tokens
+move_of_step text reads Callee tokens = value_move text Locals tokens
 move_of_step text reads TypedValue tokens = typed_value_move text None tokens
 move_of_step text reads MoreTypedValues tokens =
     optional (is_mark_next text tokens 44 && is_type_next text (drop 1 tokens)) (token (TypedValue ∷ MoreTypedValues ∷ []))

@@ -4,6 +4,7 @@ pub mod Cursors
 pub mod Holes
 pub mod Stops
 pub mod Table
+pub mod Callees
 pub mod Grammar
 pub mod Readings
 pub mod Rows

@@ -9,6 +9,7 @@ use Rattle.pliron_text_llvm_reader.specs.declared.table.Gives.{Gives}
 use Rattle.pliron_text_llvm_reader.specs.declared.table.Reads.{Reads}
 use Rattle.pliron_text_llvm_reader.specs.declared.table.OpcodeRow.{OpcodeRow}
 use Rattle.pliron_text_llvm_reader.specs.declared.table.GrammarStep.TheVariants.{Flags}
+use Rattle.pliron_text_llvm_reader.specs.Callees.{row_in}
 use Rattle.pliron_text_llvm_reader.specs.Cursors.{first_start, first_end, first_bytes, span_between, is_mark_next, is_name_next, is_word_next}
 use Rattle.pliron_text_llvm_reader.specs.Readings.{LeadsBySteps}
 use Rattle.pliron_text_llvm_reader.specs.Table.{steps_of, row_named}
@@ -58,11 +59,16 @@ GivesBy text tokens row gives = of_row row.gives
 abbrev pub HasHoles : List ℕ → OpcodeRow → List LlvmToken → List Hole → Type 0
 HasHoles text row tokens holes = LeadsBySteps text row.reads (steps_of row.layout) tokens [] [] [] holes
 
+-- the row of the first word, for a statement that begins with it
+abbrev pub HasRow : List ℕ → List LlvmToken → ByteSpan → OpcodeRow → Type 0
+HasRow text tokens opcode row =
+    (named : OpcodeRow) × (row_named (first_bytes text tokens) ≡ Some named) × (row ≡ row_in (drop opcode.start text) named)
+
 -- the tokens are this statement
 pub record AreTokensRead (text : List ℕ) (tokens : List LlvmToken) (statement : Statement) (holes : List Hole) : Type 0 where
   pub name : statement.name ≡ result_name text tokens
   pub opcode : statement.opcode ≡ first_span text (behind_name text tokens)
-  pub row : row_named (first_bytes text (behind_name text tokens)) ≡ Some statement.row
+  pub row : HasRow text (behind_name text tokens) statement.opcode statement.row
   pub gives : GivesBy text (behind_opcode text tokens) statement.row statement.gives
   pub listed : HasHoles text statement.row (behind_opcode text tokens) holes
 

@@ -1,5 +1,5 @@
 -- Statements.
-use Rattle.std.specs.Prelude.{◌≡◌, ℕ, ◌<◌, ◌≤◌, Bool, false, true, List, [], ◌∷◌, length, Some, IfSome, ⊤, codes}
+use Rattle.std.specs.Prelude.{◌≡◌, ℕ, ◌<◌, ◌≤◌, Bool, false, true, List, [], ◌∷◌, length, drop, Some, IfSome, ⊤, codes}
 use Rattle.pliron_text_llvm_syntax.specs.Tokens.{bytes_of_span}
 use Rattle.pliron_text_llvm_syntax.specs.declared.tokens.ByteSpan.{ByteSpan}
 use Rattle.pliron_text_llvm_reader.specs.declared.statement.Statement.{Statement}
@@ -7,6 +7,7 @@ use Rattle.pliron_text_llvm_reader.specs.declared.table.Gives.{Gives}
 use Rattle.pliron_text_llvm_reader.specs.declared.table.Gives.TheVariants.{Always, Never, UnlessVoid}
 use Rattle.pliron_text_llvm_reader.specs.declared.table.OpcodeRow.{OpcodeRow}
 use Rattle.pliron_text_llvm_reader.specs.Holes.{IsLocalAt}
+use Rattle.pliron_text_llvm_reader.specs.Callees.{row_in}
 use Rattle.pliron_text_llvm_reader.specs.Table.{row_named}
 use Rattle.pliron_text_llvm_reader.specs.Words.{is_one_of}
 
@@ -33,11 +34,15 @@ abbrev pub IsOpcodeOf : List ℕ → ByteSpan → OpcodeRow → Type 0
 IsOpcodeOf text opcode row =
     (opcode.start < opcode.end) × (opcode.end ≤ length text) × (row_named (bytes_of_span text opcode) ≡ Some row)
 
+-- the row of a statement that begins with this word
+abbrev pub IsRowOf : List ℕ → ByteSpan → OpcodeRow → Type 0
+IsRowOf text opcode row = (named : OpcodeRow) × IsOpcodeOf text opcode named × (row ≡ row_in (drop opcode.start text) named)
+
 -- a statement of the text from this byte on: the table has its opcode, and says whether it gives a value; the name of
 -- its result is before the opcode
 abbrev pub IsStatementOf : List ℕ → ℕ → Statement → Type 0
 IsStatementOf text start statement =
     (start ≤ statement.opcode.start)
-    × IsOpcodeOf text statement.opcode statement.row
+    × IsRowOf text statement.opcode statement.row
     × IfSome statement.name (IsNameBetween text start statement.opcode.start)
     × MayGive statement.row.gives statement.gives

@@ -4,10 +4,10 @@ use Rattle.pliron_text_llvm_reader.specs.declared.table.OpcodeRow.{OpcodeRow}
 use Rattle.pliron_text_llvm_reader.specs.declared.table.StatementLayout.{StatementLayout}
 use Rattle.pliron_text_llvm_reader.specs.declared.table.StatementLayout.TheVariants.{Binary, Values, Cast, Access, Allocation, Fence, Variadic, Pad, Phi, Call, Invoke, CallBranch, Return, Resume, Nothing, Branch, Switch, Indirect, Record}
 use Rattle.pliron_text_llvm_reader.specs.declared.table.GrammarStep.{GrammarStep}
-use Rattle.pliron_text_llvm_reader.specs.declared.table.GrammarStep.TheVariants.{Flags, TypeName, Value, TypedValue, MoreTypedValues, Comma, To, Unwind, Label, Labels, Cases, Entries, Arguments, CallAttributes, Clauses, Branch as BranchStep, ReturnValue, Rest}
+use Rattle.pliron_text_llvm_reader.specs.declared.table.GrammarStep.TheVariants.{Flags, TypeName, Value, Callee, TypedValue, MoreTypedValues, Comma, To, Unwind, Label, Labels, Cases, Entries, Arguments, CallAttributes, Clauses, Branch as BranchStep, ReturnValue, Rest}
 use Rattle.pliron_text_llvm_reader.specs.declared.table.Gives.TheVariants.{Always, Never, UnlessVoid}
 use Rattle.pliron_text_llvm_reader.specs.declared.table.Reads.{Reads}
-use Rattle.pliron_text_llvm_reader.specs.declared.table.Reads.TheVariants.{Constants, Locals}
+use Rattle.pliron_text_llvm_reader.specs.declared.table.Reads.TheVariants.{Constants, Locals, ArgumentConstants}
 use Rattle.pliron_text_llvm_reader.specs.Words.{is_one_of}
 
 -- ---- what stands behind an opcode
@@ -22,7 +22,7 @@ steps_of Fence = Flags ∷ Rest ∷ []
 steps_of Variadic = TypedValue ∷ Comma ∷ TypeName ∷ Rest ∷ []
 steps_of Pad = TypeName ∷ Clauses ∷ Rest ∷ []
 steps_of Phi = Flags ∷ TypeName ∷ Entries ∷ Rest ∷ []
-steps_of Call = Flags ∷ TypeName ∷ Value ∷ Arguments ∷ CallAttributes ∷ Rest ∷ []
+steps_of Call = Flags ∷ TypeName ∷ Callee ∷ Arguments ∷ CallAttributes ∷ Rest ∷ []
 steps_of Invoke =
     Flags ∷ TypeName ∷ Value ∷ Arguments ∷ CallAttributes ∷ To ∷ Label ∷ Unwind ∷ Label ∷ Rest ∷ []
 steps_of CallBranch =
@@ -46,8 +46,8 @@ effect_row layout = record { layout = layout; reads = Locals; gives = Never; is_
 abbrev pub terminator_row : StatementLayout → Reads → OpcodeRow
 terminator_row layout reads = record { layout = layout; reads = reads; gives = Never; is_terminator = true }
 
-abbrev pub call_row : StatementLayout → Bool → OpcodeRow
-call_row layout is_terminator = record { layout = layout; reads = Locals; gives = UnlessVoid; is_terminator = is_terminator }
+abbrev pub call_row : StatementLayout → Reads → Bool → OpcodeRow
+call_row layout reads is_terminator = record { layout = layout; reads = reads; gives = UnlessVoid; is_terminator = is_terminator }
 
 -- ---- opcodes with the same behind them
 
@@ -72,8 +72,9 @@ element_opcodes =
     codes "fneg" ∷ codes "freeze" ∷ codes "extractelement" ∷ codes "insertelement" ∷ codes "shufflevector" ∷
     codes "extractvalue" ∷ codes "insertvalue" ∷ codes "atomicrmw" ∷ codes "cmpxchg" ∷ []
 
+-- calls that say more of the frame than a plain one
 abbrev pub call_opcodes : List (List ℕ)
-call_opcodes = codes "call" ∷ codes "tail" ∷ codes "musttail" ∷ codes "notail" ∷ []
+call_opcodes = codes "tail" ∷ codes "musttail" ∷ codes "notail" ∷ []
 
 abbrev pub records : List (List ℕ)
 records =
@@ -111,14 +112,15 @@ row_of_end opcode =
     else if bytes_eq opcode (codes "resume") then Some (terminator_row Resume Locals)
     else if bytes_eq opcode (codes "unreachable") then Some (terminator_row Nothing Locals)
     else if bytes_eq opcode (codes "indirectbr") then Some (terminator_row Indirect Locals)
-    else if bytes_eq opcode (codes "invoke") then Some (call_row Invoke true)
-    else if bytes_eq opcode (codes "callbr") then Some (call_row CallBranch true)
+    else if bytes_eq opcode (codes "invoke") then Some (call_row Invoke Locals true)
+    else if bytes_eq opcode (codes "callbr") then Some (call_row CallBranch Locals true)
     else None
 
 -- others
 abbrev pub row_of_effect : List ℕ → Option OpcodeRow
 row_of_effect opcode =
-    if is_one_of call_opcodes opcode then Some (call_row Call false)
+    if bytes_eq opcode (codes "call") then Some (call_row Call ArgumentConstants false)
+    else if is_one_of call_opcodes opcode then Some (call_row Call Locals false)
     else if is_one_of records opcode then Some (effect_row Record)
     else if bytes_eq opcode (codes "store") then Some (effect_row Values)
     else if bytes_eq opcode (codes "fence") then Some (effect_row Fence)

@@ -4,6 +4,7 @@
 
 mod blocks;
 mod body;
+mod callees;
 mod cursor;
 mod rules;
 mod statement;
@@ -15,7 +16,9 @@ mod words;
 
 pub use blocks::{BlockFault, BlockLines, LineRole, split_blocks};
 pub use body::{BodyLine, BodyStatement, BodyStop, FunctionBody, read_body};
+pub use callees::{callee_named, from_sign, reads_arguments};
 pub use statement::{Statement, StatementRoom, read_statement};
 pub use stop::{KeptReason, StatementStop};
 pub use table::{Gives, GrammarStep, ListStep, OpcodeRow, Piece, Reads, StatementLayout};
 pub use tokens::push_tokens;
+pub use words::is_type_word;

@@ -206,7 +206,9 @@ impl StatementCursor<'_> {
         ensures fits { IfSome result (λ rule. FitsRule self.now rule) }
     {
         match reads {
-            Reads::Constants => self.role_if(is_next, amount, Role::Operand, behind),
+            Reads::Constants | Reads::ArgumentConstants => {
+                self.role_if(is_next, amount, Role::Operand, behind)
+            }
             Reads::Locals => self.role_if(is_next, amount, Role::Plain, behind),
         }
     }
@@ -218,7 +220,9 @@ impl StatementCursor<'_> {
         ensures fits { IfSome result (λ rule. FitsRule self.now rule) }
     {
         match reads {
-            Reads::Constants => self.role_if(is_next, amount, Role::More, &[]),
+            Reads::Constants | Reads::ArgumentConstants => {
+                self.role_if(is_next, amount, Role::More, &[])
+            }
             Reads::Locals => self.role_if(is_next, amount, Role::Plain, &[]),
         }
     }
@@ -575,6 +579,7 @@ impl StatementCursor<'_> {
                 &[GrammarStep::Part(Piece::Suffixes)],
             ),
             GrammarStep::Value => self.value(reads),
+            GrammarStep::Callee => self.value(Reads::Locals),
             GrammarStep::TypedValue => self.typed_value(None),
             GrammarStep::MoreTypedValues => self.or_nothing(self.token_if(
                 self.at_more_values(),

@@ -11,6 +11,7 @@ ghost use Rattle.pliron_text_llvm_reader.specs.Rows.{result_name, behind_name, f
 ghost use Rattle.pliron_text_llvm_reader.specs.Table.{row_named as row_named_in};
 ghost use Rattle.pliron_text_llvm_reader.specs.Stops.{IsUnread, IsStopIn};
 
+use crate::callees::row_in;
 use crate::cursor::StatementCursor;
 use crate::steps::push_steps;
 use crate::stop::{KeptReason, StatementStop, unless};
@@ -181,6 +182,14 @@ impl StatementRoom {
     }
 }
 
+// The text from this byte on.
+fn text_from(text: &[u8], start: usize) -> &[u8]
+    requires { start ≤ length text.now }
+    ensures { result.now ≡ drop start text.now }
+{
+    &text[start..]
+}
+
 // Reads the statement that has these tokens from this byte on, and leaves its holes.
 fn read_tokens(
     text: &[u8],
@@ -199,19 +208,20 @@ fn read_tokens(
     let mut cursor = StatementCursor::new(text, tokens, start);
     let name = cursor.result_name();
     let opcode = cursor.opcode()?;
-    let gives = cursor.gives(opcode.row, steps, holes)?;
-    cursor.read_row(opcode.row, steps, holes)?;
+    let row = row_in(text_from(text, opcode.span.start), opcode.row);
+    let gives = cursor.gives(row, steps, holes)?;
+    cursor.read_row(row, steps, holes)?;
     Ok(Statement {
         name,
         opcode: opcode.span,
-        row: opcode.row,
+        row,
         gives,
     })
 }
 
 /// Reads a statement: a line of a body that begins at this byte, and ends with the text. `holes` is left with its
 /// operands and successors, in order, all behind its opcode: local values, constants where what the statement gives
-/// follows from its operands, and blocks. `room` is room for what is read.
+/// follows from its operands or where they are passed to a function by its name, and blocks. `room` is room for what is read.
 ///
 /// Asks that the byte is in the text, or its end. Errors: `Kept`, where the table doesn't have the opcode, or where
 /// something else is behind it than its row says; a token is broken; allocation failure. Cost: linear in the statement.

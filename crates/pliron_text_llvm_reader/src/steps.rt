@@ -45,7 +45,7 @@ impl GrammarStep {
             | GrammarStep::TypeName
             | GrammarStep::TypedValue
             | GrammarStep::MoreTypedValues => KeptReason::Type,
-            GrammarStep::Value => KeptReason::Value,
+            GrammarStep::Value | GrammarStep::Callee => KeptReason::Value,
             GrammarStep::Comma | GrammarStep::BranchLabels => KeptReason::Comma,
             GrammarStep::To => KeptReason::To,
             GrammarStep::Unwind => KeptReason::Unwind,

@@ -14,6 +14,8 @@ pub enum Reads {
     Constants,
     /// Local values alone: constants are part of the form.
     Locals,
+    /// Constants too, but for what is called, since a function's parameters may become what is passed.
+    ArgumentConstants,
 }
 
 /// A part of a type or a value, or what may stand around one.
@@ -69,6 +71,8 @@ pub enum GrammarStep {
     TypeName,
     /// A value whose type was before it.
     Value,
+    /// What is called: a value whose constants are part of the form.
+    Callee,
     /// A type, attributes and a value; or metadata.
     TypedValue,
     /// Typed values, with a comma before each.
@@ -218,7 +222,7 @@ static PHI: [GrammarStep; 4] = [
 static CALL: [GrammarStep; 6] = [
     GrammarStep::Flags,
     GrammarStep::TypeName,
-    GrammarStep::Value,
+    GrammarStep::Callee,
     GrammarStep::Arguments,
     GrammarStep::CallAttributes,
     GrammarStep::Rest,
@@ -341,12 +345,12 @@ impl OpcodeRow {
     }
 
     // A call, which ends a block or not.
-    fn call(layout: StatementLayout, is_terminator: bool) -> Self
-        ensures { result ≡ call_row layout is_terminator }
+    fn call(layout: StatementLayout, reads: Reads, is_terminator: bool) -> Self
+        ensures { result ≡ call_row layout reads is_terminator }
     {
         OpcodeRow {
             layout,
-            reads: Reads::Locals,
+            reads,
             gives: Gives::UnlessVoid,
             is_terminator,
         }
@@ -421,11 +425,11 @@ fn is_of_elements(opcode: &[u8]) -> bool
         || opcode == b"cmpxchg".as_slice()
 }
 
-fn is_call(opcode: &[u8]) -> bool
+// Whether it is a call that says more of the frame than a plain one.
+fn is_other_call(opcode: &[u8]) -> bool
     ensures { result ≡ is_one_of call_opcodes opcode.now }
 {
-    opcode == b"call".as_slice()
-        || opcode == b"tail".as_slice()
+    opcode == b"tail".as_slice()
         || opcode == b"musttail".as_slice()
         || opcode == b"notail".as_slice()
 }
@@ -497,9 +501,9 @@ fn row_of_end(opcode: &[u8]) -> Option<OpcodeRow>
     } else if opcode == b"indirectbr".as_slice() {
         Some(OpcodeRow::terminator(StatementLayout::Indirect, Reads::Locals))
     } else if opcode == b"invoke".as_slice() {
-        Some(OpcodeRow::call(StatementLayout::Invoke, true))
+        Some(OpcodeRow::call(StatementLayout::Invoke, Reads::Locals, true))
     } else if opcode == b"callbr".as_slice() {
-        Some(OpcodeRow::call(StatementLayout::CallBranch, true))
+        Some(OpcodeRow::call(StatementLayout::CallBranch, Reads::Locals, true))
     } else {
         None
     }
@@ -509,8 +513,10 @@ fn row_of_end(opcode: &[u8]) -> Option<OpcodeRow>
 fn row_of_effect(opcode: &[u8]) -> Option<OpcodeRow>
     ensures { result ≡ row_of_effect opcode.now }
 {
-    if is_call(opcode) {
-        Some(OpcodeRow::call(StatementLayout::Call, false))
+    if opcode == b"call".as_slice() {
+        Some(OpcodeRow::call(StatementLayout::Call, Reads::ArgumentConstants, false))
+    } else if is_other_call(opcode) {
+        Some(OpcodeRow::call(StatementLayout::Call, Reads::Locals, false))
     } else if is_record(opcode) {
         Some(OpcodeRow::effect(StatementLayout::Record))
     } else if opcode == b"store".as_slice() {

@@ -78,6 +78,11 @@ impl LlvmSheet {
         self.texts.get(number)
     }
 
+    /// How many texts have numbers. Cost: constant.
+    pub fn num_text(&self) -> usize {
+        self.texts.len()
+    }
+
     /// The value of this handle has this note, or the one that it has already. Others keep theirs. Errors: allocation
     /// failure. Cost: constant, amortised, where handles rise; else the number of handles that are passed over.
     pub fn note_value(&mut self, value: usize, note: ValueNote) -> Result<(), AllocError>

@@ -13,7 +13,7 @@ mod stop;
 
 pub use arguments::{TreeArgument, phis_by_block, push_arguments};
 pub use function::{FunctionTree, TreeForm, read_tree};
-pub use operands::{is_undefined_at, push_operands};
+pub use operands::{is_undefined_at, push_operands, stays_in_form_at};
 pub use passed::{TreeEdge, push_tree_edges};
 pub use results::{num_parameter, result_at};
 pub use statements::{TreeStatement, push_statements};

@@ -1,12 +1,12 @@
 //! The values that statements read.
 ghost use Rattle.std.specs.Prelude.{◌≡◌, ◌++◌, [], IfOk, OnOk};
 ghost use Rattle.pliron_text_llvm_edges.specs.Numbers.{numbers_passing};
-ghost use Rattle.pliron_text_llvm_trees.specs.Operands.{is_undefined_at, is_operand_at, statement_operands};
+ghost use Rattle.pliron_text_llvm_trees.specs.Operands.{is_undefined_at, stays_in_form_at, is_operand_at, statement_operands};
 
 use pliron_text_llvm_classes::names_undef;
 use pliron_text_llvm_edges::{bytes_at, is_successor_at, target_at};
 use pliron_text_llvm_functions::FunctionReading;
-use pliron_text_llvm_reader::BodyStatement;
+use pliron_text_llvm_reader::{BodyStatement, Reads, reads_arguments};
 use std::alloc::{AllocError, Global};
 
 /// Whether a constant is in the hole that may be another value each time. Errors: allocation failure. Cost: linear in
@@ -25,20 +25,38 @@ pub fn is_undefined_at(
     }
 }
 
-// Whether an operand of the tree is in the hole.
+/// Whether a constant is in the hole of a statement that reads so, and stays in its form: one that may be another value each
+/// time, and isn't passed to a function by its name. Errors: allocation failure. Cost: linear in its text.
+pub fn stays_in_form_at(
+    alloc: Global,
+    text: &[u8],
+    reading: &FunctionReading,
+    reads: Reads,
+    hole: usize,
+) -> Result<bool, AllocError>
+    ensures { IfOk result (λ stays. stays ≡ stays_in_form_at text.now reading.now reads hole) }
+{
+    if reads_arguments(reads) {
+        return Ok(false);
+    }
+    is_undefined_at(alloc, text, reading, hole)
+}
+
+// Whether an operand of the tree is in the hole of a statement that reads so.
 fn is_operand_at(
     alloc: Global,
     text: &[u8],
     reading: &FunctionReading,
+    reads: Reads,
     hole: usize,
 ) -> Result<bool, AllocError>
-    ensures { IfOk result (λ is_operand. is_operand ≡ is_operand_at text.now reading.now hole) }
+    ensures { IfOk result (λ is_operand. is_operand ≡ is_operand_at text.now reading.now reads hole) }
 {
     if is_successor_at(&reading.body.holes, hole) {
         return Ok(false);
     }
-    let is_undefined = is_undefined_at(alloc, text, reading, hole)?;
-    Ok(!is_undefined)
+    let stays = stays_in_form_at(alloc, text, reading, reads, hole)?;
+    Ok(!stays)
 }
 
 // Adds the hole, if an operand is in it.
@@ -47,20 +65,22 @@ fn push_operand(
     alloc: Global,
     text: &[u8],
     reading: &FunctionReading,
+    reads: Reads,
     hole: usize,
     operands: &mut Vec<usize>,
 ) -> Result<(), AllocError>
     ensures { OnOk result (operands.new.items
-        ≡ operands.old.items ++ numbers_passing (is_operand_at text.now reading.now) hole 1) }
+        ≡ operands.old.items ++ numbers_passing (is_operand_at text.now reading.now reads) hole 1) }
 {
-    if is_operand_at(alloc, text, reading, hole)? {
+    if is_operand_at(alloc, text, reading, reads, hole)? {
         operands.push(hole)?;
     }
     Ok(())
 }
 
 /// Adds the operands of a statement to none, by the numbers of their holes, in the order of the text: local values, and
-/// constants that are the same value each time. `undef` stays in the statement's form.
+/// constants that are the same value each time. `undef` stays in the statement's form, unless it is passed to a function by its
+/// name.
 ///
 /// Asks that there is no operand yet. Errors: allocation failure. Cost: linear in the statement.
 #[doc(hidden)]
@@ -76,7 +96,7 @@ pub fn push_operands(
     ensures { OnOk result (operands.new.items ≡ statement_operands text.now reading.now line.now) }
 {
     for hole in line.first_hole..line.end_hole {
-        push_operand(alloc, text, reading, hole, operands)?;
+        push_operand(alloc, text, reading, line.statement.row.reads, hole, operands)?;
     }
     Ok(())
 }
