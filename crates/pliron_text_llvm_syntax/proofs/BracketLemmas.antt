@@ -1,9 +1,11 @@
 -- Brackets that are closed in turn.
-use Rattle.std.proofs.Common.{◌≡◌, ℕ, ◌<◌, List, [], length, true, sym, refl, subst}
+use Rattle.std.proofs.Common.{◌≡◌, ℕ, ◌<◌, List, [], length, true, false, sym, refl, subst}
 use Rattle.pliron_text_llvm_syntax.specs.declared.tokens.Bracket.{Bracket}
 use Rattle.pliron_text_llvm_syntax.specs.declared.tokens.LlvmToken.{LlvmToken}
 use Rattle.pliron_text_llvm_syntax.specs.Lexing.{IsLexedAt}
-use Rattle.pliron_text_llvm_syntax.specs.Brackets.{TakesBracket, AreBracketsClosed, IsTreeAt}
+use Rattle.pliron_text_llvm_syntax.specs.declared.tokens.TokenKind.{TokenKind}
+use Rattle.pliron_text_llvm_syntax.specs.declared.tokens.TokenKind.TheVariants.{Trivia, Word, Label, Name, Text, Open, Close, Mark}
+use Rattle.pliron_text_llvm_syntax.specs.Brackets.{is_bracket, TakesBracket, AreBracketsClosed, IsTreeAt}
 use Rattle.pliron_text_llvm_syntax.specs.Brackets.AreBracketsClosed.{Nothing, More}
 use Rattle.pliron_text_llvm_syntax.specs.Functions.{is_open_brace, HasBraces}
 
@@ -20,10 +22,24 @@ closes_more text first before behind start at token h some lexed takes end close
 pub closes_all : (text : List ℕ) (first opened : List Bracket) (start end : ℕ) → Closes text first start opened end → opened ≡ [] → AreBracketsClosed text end first start
 closes_all text first opened start end h none = h end (subst (λ xs. AreBracketsClosed text end xs end) (sym none) Nothing)
 
+takes_none : (kind : TokenKind) → is_bracket kind ≡ false → TakesBracket kind [] []
+takes_none Trivia plain = refl
+takes_none Word plain = refl
+takes_none Label plain = refl
+takes_none Name plain = refl
+takes_none Text plain = refl
+takes_none (Open bracket) plain = cc
+takes_none (Close bracket) plain = cc
+takes_none Mark plain = refl
+
 -- a token with all that is in it
 pub tree_read : (text : List ℕ) (token tree : LlvmToken) (opened : List Bracket) → IsLexedAt text token.span.start token → tree.kind ≡ token.kind → tree.span.start ≡ token.span.start
     → TakesBracket token.kind [] opened → AreBracketsClosed text tree.span.end opened token.span.end → IsTreeAt text token.span.start tree
 tree_read text token tree opened lexed kind start takes closed = (token, lexed, kind, start, opened, takes, closed)
+
+-- a token that is no bracket is all of it
+pub plain_tree : (text : List ℕ) (token : LlvmToken) → IsLexedAt text token.span.start token → is_bracket token.kind ≡ false → IsTreeAt text token.span.start token
+plain_tree text token lexed plain = (token, lexed, refl, refl, [], takes_none token.kind plain, Nothing)
 
 -- from one brace to the other
 pub braces_read : (text : List ℕ) (at : ℕ) (tree : LlvmToken) → IsTreeAt text at tree → is_open_brace tree.kind ≡ true → HasBraces text tree.span

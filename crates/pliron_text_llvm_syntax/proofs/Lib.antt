@@ -5,3 +5,4 @@ pub mod BlankLemmas
 pub mod LineLemmas
 pub mod FaultLemmas
 pub mod LexLemmas
+pub mod FirstLemmas

@@ -1,10 +1,15 @@
 -- Brackets with all that is in them.
-use Rattle.std.specs.Prelude.{◌≡◌, ◌<◌, ℕ, List, [], ◌∷◌, ◌++◌, length}
+use Rattle.std.specs.Prelude.{◌≡◌, ◌<◌, ℕ, Bool, false, true, List, [], ◌∷◌, ◌++◌, length}
 use Rattle.pliron_text_llvm_syntax.specs.declared.tokens.Bracket.{Bracket}
 use Rattle.pliron_text_llvm_syntax.specs.declared.tokens.LlvmToken.{LlvmToken}
 use Rattle.pliron_text_llvm_syntax.specs.declared.tokens.TokenKind.{TokenKind}
 use Rattle.pliron_text_llvm_syntax.specs.declared.tokens.TokenKind.TheVariants.{Open, Close}
 use Rattle.pliron_text_llvm_syntax.specs.Lexing.{IsLexedAt}
+
+abbrev pub is_bracket : TokenKind → Bool
+is_bracket (Open bracket) = true
+is_bracket (Close bracket) = true
+is_bracket _ = false
 
 -- the brackets that are open before a token and behind it: it opens one more, closes the last one, or leaves them
 abbrev pub TakesBracket : TokenKind → List Bracket → List Bracket → Type 0

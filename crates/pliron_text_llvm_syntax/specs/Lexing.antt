@@ -157,6 +157,10 @@ kind_of_byte byte =
 abbrev pub is_sign_of_name : ℕ → Bool
 is_sign_of_name byte = byte == 37 || byte == 64 || byte == 36 || byte == 33 || byte == 35 || byte == 94
 
+-- what begins with this byte is a word or a label: no string, as with `c`, and no name, as with `$`
+abbrev pub begins_word : ℕ → Bool
+begins_word byte = is_word_byte byte && (not (byte == 99) && not (byte == 36))
+
 -- the token that begins with this byte
 abbrev pub longer_token : ℕ → List ℕ → Option First
 longer_token first behind =

@@ -3,7 +3,7 @@ ghost use Rattle.std.specs.Prelude.{◌≡◌, ◌<◌, ◌≤◌, [], length, I
 ghost use Rattle.pliron_text_llvm_syntax.specs.Tokens.{IsTokenBehind, IsFaultIn};
 ghost use Rattle.pliron_text_llvm_syntax.specs.Lines.{span_of_line, AreLines, AreGaps};
 
-use crate::brackets::{next_tree, token_tree_at};
+use crate::brackets::{next_token, next_tree, token_tree_at};
 use crate::fault::LlvmFault;
 use crate::tokens::{Bracket, ByteSpan, LlvmToken, TokenKind, bytes_of};
 
@@ -17,22 +17,30 @@ pub enum LineText {
     Statement(ByteSpan),
 }
 
-/// Words with which statements begin.
-static OPENINGS: &str = "\
-    add fadd sub fsub mul fmul udiv sdiv fdiv urem srem frem shl lshr ashr and or xor icmp \
-    fcmp fneg freeze select extractelement insertelement shufflevector extractvalue insertvalue atomicrmw cmpxchg \
-    trunc zext sext fptrunc fpext uitofp sitofp fptoui fptosi inttoptr ptrtoint ptrtoaddr bitcast addrspacecast \
-    load getelementptr alloca store fence va_arg landingpad phi call tail musttail notail invoke callbr ret resume \
-    unreachable br switch indirectbr cleanuppad catchpad catchswitch cleanupret catchret uselistorder";
-
 // Whether a statement begins with the word, where this begins a line.
 fn is_opening(word: &[u8]) -> bool {
-    for opening in OPENINGS.as_bytes().split(|byte| *byte == b' ') {
-        if opening == word {
-            return true;
-        }
+    match word {
+        [b'a', ..] => matches!(word, b"add" | b"ashr" | b"and" | b"atomicrmw" | b"addrspacecast" | b"alloca"),
+        [b'f', ..] => matches!(word, b"fadd" | b"fsub" | b"fmul" | b"fdiv" | b"frem" | b"fcmp" | b"fneg" | b"freeze" | b"fptrunc" | b"fpext" | b"fptoui" | b"fptosi" | b"fence"),
+        [b's', ..] => matches!(word, b"sub" | b"sdiv" | b"srem" | b"shl" | b"select" | b"shufflevector" | b"sext" | b"sitofp" | b"store" | b"switch"),
+        [b'm', ..] => matches!(word, b"mul" | b"musttail"),
+        [b'u', ..] => matches!(word, b"udiv" | b"urem" | b"uitofp" | b"unreachable" | b"uselistorder"),
+        [b'l', ..] => matches!(word, b"lshr" | b"load" | b"landingpad"),
+        [b'o', ..] => matches!(word, b"or"),
+        [b'x', ..] => matches!(word, b"xor"),
+        [b'i', ..] => matches!(word, b"icmp" | b"insertelement" | b"insertvalue" | b"inttoptr" | b"invoke" | b"indirectbr"),
+        [b'e', ..] => matches!(word, b"extractelement" | b"extractvalue"),
+        [b'c', ..] => matches!(word, b"cmpxchg" | b"call" | b"callbr" | b"cleanuppad" | b"catchpad" | b"catchswitch" | b"cleanupret" | b"catchret"),
+        [b't', ..] => matches!(word, b"trunc" | b"tail"),
+        [b'z', ..] => matches!(word, b"zext"),
+        [b'p', ..] => matches!(word, b"ptrtoint" | b"ptrtoaddr" | b"phi"),
+        [b'b', ..] => matches!(word, b"bitcast" | b"br"),
+        [b'g', ..] => matches!(word, b"getelementptr"),
+        [b'v', ..] => matches!(word, b"va_arg"),
+        [b'n', ..] => matches!(word, b"notail"),
+        [b'r', ..] => matches!(word, b"ret" | b"resume"),
+        _ => false,
     }
-    false
 }
 
 // Whether the token begins with this byte and is a name.
@@ -43,16 +51,12 @@ fn is_name(text: &[u8], token: &LlvmToken, sign: u8) -> bool
 }
 
 // Whether an `=` is next, and where it ends.
-fn end_of_equals(
-    text: &[u8],
-    at: usize,
-    open: &mut Vec<Bracket>,
-) -> Result<Option<usize>, LlvmFault>
+fn end_of_equals(text: &[u8], at: usize) -> Result<Option<usize>, LlvmFault>
     requires { at ≤ length text.now }
     ensures end { IfOk result (λ found. IfSome found (λ end. (at < end) × (end ≤ length text.now))) }
     ensures fault { IfErr result (λ fault. IsFaultIn text.now fault) }
 {
-    match next_tree(text, at, open)? {
+    match next_token(text, at)? {
         Some(token) if token.kind == TokenKind::Mark && text[token.span.start] == b'=' => {
             Ok(Some(token.span.end))
         }
@@ -73,7 +77,7 @@ fn end_of_opcode(
     if !is_name(text, first, b'%') {
         return Ok(first.span.end);
     }
-    match end_of_equals(text, first.span.end, open)? {
+    match end_of_equals(text, first.span.end)? {
         Some(end) => match next_tree(text, end, open)? {
             Some(opcode) => Ok(opcode.span.end),
             None => Ok(end),
@@ -83,19 +87,14 @@ fn end_of_opcode(
 }
 
 // Whether the token begins another line than what ends at this byte.
-fn is_next_line(
-    text: &[u8],
-    end: usize,
-    token: &LlvmToken,
-    open: &mut Vec<Bracket>,
-) -> Result<bool, LlvmFault>
+fn is_next_line(text: &[u8], end: usize, token: &LlvmToken) -> Result<bool, LlvmFault>
     requires { IsTokenBehind text.now end token.now }
     ensures { IfErr result (λ fault. IsFaultIn text.now fault) }
 {
     match token.kind {
         TokenKind::Label => Ok(true),
         TokenKind::Name if text[token.span.start] == b'%' => {
-            Ok(end_of_equals(text, token.span.end, open)?.is_some())
+            Ok(end_of_equals(text, token.span.end)?.is_some())
         }
         TokenKind::Name => Ok(bytes_of(text, token.span).starts_with(b"#dbg_")),
         TokenKind::Word => {
@@ -124,7 +123,7 @@ fn end_of_statement(
         if token.kind == TokenKind::Trivia {
             continue;
         }
-        if is_next_line(text, end, &token, open)? {
+        if is_next_line(text, end, &token)? {
             break;
         }
         end = token.span.end;

@@ -2,7 +2,7 @@
 ghost use Rattle.std.specs.Prelude.{◌≡◌, ◌<◌, ◌≤◌, ◌+◌, ◌∷◌, length, drop, Some, None, IfOk, IfErr, IfSome};
 ghost use Rattle.pliron_text_llvm_syntax.specs.Tokens.{bytes_of_span, is_word_byte, is_blank_byte, is_end_of_line, IsFirstToken, IsTokenAt, IsFaultIn};
 ghost use Rattle.pliron_text_llvm_syntax.specs.Lexing.{word_len, blank_len, line_len, quoted_len, string_len, closing_len, comment_len};
-ghost use Rattle.pliron_text_llvm_syntax.specs.Lexing.{begins_with_digit, begins_number, is_exponent, is_before_sign, whole_word_len};
+ghost use Rattle.pliron_text_llvm_syntax.specs.Lexing.{begins_word, begins_with_digit, begins_number, is_exponent, is_before_sign, whole_word_len};
 ghost use Rattle.pliron_text_llvm_syntax.specs.Lexing.{is_byte_at, with_colon, first_byte_string, first_plain_word, first_word, first_string};
 ghost use Rattle.pliron_text_llvm_syntax.specs.Lexing.{first_comment, metadata_name_len, name_len, first_name, first_signed_number, kind_of_open};
 ghost use Rattle.pliron_text_llvm_syntax.specs.Lexing.{kind_of_close, is_mark_byte, kind_of_byte, is_sign_of_name, longer_token, first_token, IsLexedAt};
@@ -70,12 +70,23 @@ pub fn is_blank(byte: u8) -> bool
     byte == b' ' || byte == b'\t' || byte == b'\n' || byte == b'\r' || byte == 0
 }
 
+// Each byte that a word may contain stands at its own place, and a comma at every other place.
+static WORD_BYTES: [u8; 256] = *b"\
+    ,,,,,,,,,,,,,,,,,,,,,,,,,,,,,,,,\
+    ,,,,$,,,,,,,,-.,0123456789,,,,,,\
+    ,ABCDEFGHIJKLMNOPQRSTUVWXYZ,,,,_\
+    ,abcdefghijklmnopqrstuvwxyz,,,,,\
+    ,,,,,,,,,,,,,,,,,,,,,,,,,,,,,,,,\
+    ,,,,,,,,,,,,,,,,,,,,,,,,,,,,,,,,\
+    ,,,,,,,,,,,,,,,,,,,,,,,,,,,,,,,,\
+    ,,,,,,,,,,,,,,,,,,,,,,,,,,,,,,,,";
+
 /// Whether a word may contain the byte. Cost: constant.
 #[doc(hidden)]
 pub fn is_word_byte(byte: u8) -> bool
     ensures { result ≡ is_word_byte byte }
 {
-    byte.is_ascii_alphanumeric() || byte == b'-' || byte == b'$' || byte == b'.' || byte == b'_'
+    WORD_BYTES[usize::from(byte)] != b','
 }
 
 // Whether a comment to the end of the line ends before the byte.
@@ -446,7 +457,15 @@ fn longer_token(text: &[u8], first: u8, behind: &[u8]) -> Option<First>
     }
 }
 
-// The token that the text begins with.
+// Whether the byte can begin nothing but a word or a label.
+fn begins_word(byte: u8) -> bool
+    ensures { result ≡ begins_word byte }
+{
+    is_word_byte(byte) && byte != b'c' && byte != b'$'
+}
+
+// The token that the text begins with. Words and blanks, the most of all tokens, are looked for first.
+#[tactic(auto, using(crate::proofs::FirstLemmas::word_first, crate::proofs::FirstLemmas::blank_first))]
 fn first_token(text: &[u8]) -> Option<First>
     ensures exact { result ≡ first_token text.now }
     ensures first { IfSome result (λ first. IsFirstToken text.now first) }
@@ -454,6 +473,12 @@ fn first_token(text: &[u8]) -> Option<First>
     let [first, behind @ ..] = text else {
         return None;
     };
+    if begins_word(*first) {
+        return first_plain_word(text);
+    }
+    if is_blank(*first) {
+        return Some(First::new(TokenKind::Trivia, blank_len(text)));
+    }
     match kind_of_byte(*first) {
         Some(kind) => Some(First::new(kind, 1)),
         None => longer_token(text, *first, behind),
