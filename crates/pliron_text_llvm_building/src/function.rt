@@ -122,7 +122,7 @@ fn build_planned(
 {
     let root = make_root(alloc, numbers, ctx)?;
     let mut built = BuiltParts::new(alloc);
-    match build_inside(plan, header, root, ctx, sheet, &mut built) {
+    match build_inside(plan, numbers.header, root, ctx, sheet, &mut built) {
         Ok(()) => Ok(root),
         Err(stop) => Err(stop),
     }

@@ -20,17 +20,63 @@ pub enum LineText {
 // Whether a statement begins with the word, where this begins a line.
 fn is_opening(word: &[u8]) -> bool {
     match word {
-        [b'a', ..] => matches!(word, b"add" | b"ashr" | b"and" | b"atomicrmw" | b"addrspacecast" | b"alloca"),
-        [b'f', ..] => matches!(word, b"fadd" | b"fsub" | b"fmul" | b"fdiv" | b"frem" | b"fcmp" | b"fneg" | b"freeze" | b"fptrunc" | b"fpext" | b"fptoui" | b"fptosi" | b"fence"),
-        [b's', ..] => matches!(word, b"sub" | b"sdiv" | b"srem" | b"shl" | b"select" | b"shufflevector" | b"sext" | b"sitofp" | b"store" | b"switch"),
+        [b'a', ..] => matches!(
+            word,
+            b"add" | b"ashr" | b"and" | b"atomicrmw" | b"addrspacecast" | b"alloca"
+        ),
+        [b'f', ..] => matches!(
+            word,
+            b"fadd"
+                | b"fsub"
+                | b"fmul"
+                | b"fdiv"
+                | b"frem"
+                | b"fcmp"
+                | b"fneg"
+                | b"freeze"
+                | b"fptrunc"
+                | b"fpext"
+                | b"fptoui"
+                | b"fptosi"
+                | b"fence"
+        ),
+        [b's', ..] => matches!(
+            word,
+            b"sub"
+                | b"sdiv"
+                | b"srem"
+                | b"shl"
+                | b"select"
+                | b"shufflevector"
+                | b"sext"
+                | b"sitofp"
+                | b"store"
+                | b"switch"
+        ),
         [b'm', ..] => matches!(word, b"mul" | b"musttail"),
-        [b'u', ..] => matches!(word, b"udiv" | b"urem" | b"uitofp" | b"unreachable" | b"uselistorder"),
+        [b'u', ..] => matches!(
+            word,
+            b"udiv" | b"urem" | b"uitofp" | b"unreachable" | b"uselistorder"
+        ),
         [b'l', ..] => matches!(word, b"lshr" | b"load" | b"landingpad"),
         [b'o', ..] => matches!(word, b"or"),
         [b'x', ..] => matches!(word, b"xor"),
-        [b'i', ..] => matches!(word, b"icmp" | b"insertelement" | b"insertvalue" | b"inttoptr" | b"invoke" | b"indirectbr"),
+        [b'i', ..] => matches!(
+            word,
+            b"icmp" | b"insertelement" | b"insertvalue" | b"inttoptr" | b"invoke" | b"indirectbr"
+        ),
         [b'e', ..] => matches!(word, b"extractelement" | b"extractvalue"),
-        [b'c', ..] => matches!(word, b"cmpxchg" | b"call" | b"callbr" | b"cleanuppad" | b"catchpad" | b"catchswitch" | b"cleanupret" | b"catchret"),
+        [b'c', ..] => matches!(
+            word,
+            b"cmpxchg"
+                | b"call"
+                | b"callbr"
+                | b"cleanuppad"
+                | b"catchpad"
+                | b"catchswitch"
+                | b"cleanupret"
+                | b"catchret"
+        ),
         [b't', ..] => matches!(word, b"trunc" | b"tail"),
         [b'z', ..] => matches!(word, b"zext"),
         [b'p', ..] => matches!(word, b"ptrtoint" | b"ptrtoaddr" | b"phi"),
