@@ -34,14 +34,7 @@ impl StageSheet for ModuleNotes {
         ctx: &Context,
     ) -> Result<(), OptError> {
         let functions = &mut self.sheet.functions;
-        Ok(note_made_value(
-            alloc,
-            value,
-            original,
-            &mut self.types,
-            functions,
-            ctx,
-        )?)
+        Ok(note_made_value(alloc, value, original, &mut self.types, functions, ctx)?)
     }
 
     fn note_untyped(&mut self) {

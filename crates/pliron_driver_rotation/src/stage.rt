@@ -46,11 +46,7 @@ fn counts_of(copies: usize) -> StageCounts {
 impl<D: LengthensEdges, S: StageSheet> ModuleStage<D, S> for RotatingStage {
     ghost makes = { λ t u root. IsWholeChange D.meaning t u root };
 
-    fn apply(
-        alloc: Global,
-        document: &mut Document<S>,
-        ctx: &mut Context,
-    ) -> Result<(), OptError> {
+    fn apply(alloc: Global, document: &mut Document<S>, ctx: &mut Context) -> Result<(), OptError> {
         if !is_well_linked::<D>(document.root, ctx) {
             return Err(OptError::VerifyBefore);
         }

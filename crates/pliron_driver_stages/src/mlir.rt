@@ -7,12 +7,7 @@ use pliron_text_mlir_syntax::Sheet;
 use std::alloc::Global;
 
 impl StageSheet for Sheet {
-    fn learn_types(
-        &mut self,
-        _: Global,
-        _: Ptr<Operation>,
-        _: &Context,
-    ) -> Result<bool, OptError> {
+    fn learn_types(&mut self, _: Global, _: Ptr<Operation>, _: &Context) -> Result<bool, OptError> {
         Ok(true)
     }
 

@@ -95,7 +95,6 @@ fn form_of(alloc: Global, text: &str) -> Result<Vec<u8>, std::alloc::AllocError>
         .collect(alloc)
 }
 
-
 #[test]
 fn types_of_statements(rt: HostRuntime) {
     let named = NamedTypes::of(rt.alloc(), NAMED.as_bytes()).expect(&rt, "memory");

@@ -6,8 +6,8 @@ use Rattle.std.proofs.lemmas.List.{drop_all, drop_more, map-append, append-nil}
 use Rattle.pliron_text_llvm_syntax.specs.Tokens.{bytes_of_span}
 use Rattle.pliron_text_llvm_syntax.specs.declared.tokens.ByteSpan.{ByteSpan}
 use Rattle.pliron_text_llvm_syntax.specs.declared.tokens.LlvmToken.{LlvmToken}
-use Rattle.pliron_text_llvm_types.specs.Trees.{AreTrees, is_comma}
-use Rattle.pliron_text_llvm_types.specs.Types.{type_in, inside_of}
+use Rattle.pliron_text_llvm_types.specs.Trees.{AreTrees, is_comma_tree}
+use Rattle.pliron_text_llvm_types.specs.Types.{type_in, inside_of_type}
 use Rattle.pliron_text_llvm_types.specs.Parameters.{bracket_in, starts_with_comma, types_at, types_from, AreTypesIn, AreParameterTypes}
 
 pub types_none : (text : List ℕ) (trees : List LlvmToken) (found : List (List ℕ)) → found ≡ [] → found ++ types_from true text (drop 0 trees) ≡ types_from true text trees
@@ -21,9 +21,9 @@ types_more text trees i d begins next found after whole less h after-is next-is 
     let here : drop i trees ≡ tree ∷ rest = drop_more trees i d less in
     ap (λ b. after ++ types_from b text rest) next-is
     ∙ ap (λ ts. after ++ types_from (starts_with_comma text ts) text rest) here
-    ∙ ap (λ types. types ++ types_from (is_comma text tree) text rest) after-is
-    ∙ ap (λ ts. (found ++ types_at begins text ts) ++ types_from (is_comma text tree) text rest) here
-    ∙ append_assoc found (types_at begins text (tree ∷ rest)) (types_from (is_comma text tree) text rest)
+    ∙ ap (λ types. types ++ types_from (is_comma_tree text tree) text rest) after-is
+    ∙ ap (λ ts. (found ++ types_at begins text ts) ++ types_from (is_comma_tree text tree) text rest) here
+    ∙ append_assoc found (types_at begins text (tree ∷ rest)) (types_from (is_comma_tree text tree) text rest)
     ∙ ap (λ ts. found ++ types_from begins text ts) (sym here)
     ∙ h
 
@@ -34,7 +34,7 @@ pub ruleset type_steps = (types_none, types_more, types_end)
 
 -- the parameters of a header
 pub header_read : (header : List ℕ) (trees : List LlvmToken) (bracket : ByteSpan) (types : List (List ℕ)) → AreTrees header (length header) trees → Some bracket ≡ bracket_in header trees
-    → AreTypesIn (inside_of (bytes_of_span header bracket)) types → AreParameterTypes header types
+    → AreTypesIn (inside_of_type (bytes_of_span header bracket)) types → AreParameterTypes header types
 header_read header trees bracket types lexed found inside = record { trees = trees; bracket = bracket; lexed = lexed; found = sym found; inside = inside }
 
 -- ---- one more type, where a parameter begins

@@ -5,10 +5,10 @@ use Rattle.std.specs.Prelude.{Option, Some}
 use Rattle.pliron_text_llvm_syntax.specs.declared.tokens.LlvmToken.{LlvmToken}
 use Rattle.pliron_text_llvm_types.specs.declared.statements.TypeRule.{TypeRule}
 use Rattle.pliron_text_llvm_types.specs.Trees.{AreTrees}
-use Rattle.pliron_text_llvm_types.specs.Types.{inside_of, IsTypeBy, rule_of, opcode_of, IsTypeOfText}
+use Rattle.pliron_text_llvm_types.specs.Types.{inside_of_type, IsTypeBy, rule_of, opcode_of, IsTypeOfText}
 
 -- nothing is inside of fewer than two bytes
-pub inside_none : (text : List ℕ) → length text < 2 → [] ≡ inside_of text
+pub inside_none : (text : List ℕ) → length text < 2 → [] ≡ inside_of_type text
 inside_none [] short = refl
 inside_none (only ∷ []) short = refl
 inside_none (first ∷ second ∷ rest) short = absurd (omega (arith, short))

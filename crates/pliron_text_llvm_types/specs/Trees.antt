@@ -21,37 +21,37 @@ pub data AreTrees (text : List ℕ) : ℕ → List LlvmToken → Type 0 where
   Next : {at : ℕ} {trees : List LlvmToken} (tree : LlvmToken)
       → AreTrees text at trees → IsTreeAt text at tree → is_trivia tree.kind ≡ false → AreTrees text tree.span.end (trees ++ tree ∷ [])
 
-abbrev pub is_word_kind : TokenKind → Bool
-is_word_kind Word = true
-is_word_kind _ = false
+abbrev pub is_tree_of_word : TokenKind → Bool
+is_tree_of_word Word = true
+is_tree_of_word _ = false
 
-abbrev pub is_mark_kind : TokenKind → Bool
-is_mark_kind Mark = true
-is_mark_kind _ = false
+abbrev pub is_tree_of_mark : TokenKind → Bool
+is_tree_of_mark Mark = true
+is_tree_of_mark _ = false
 
 abbrev pub is_round_kind : TokenKind → Bool
 is_round_kind (Open Round) = true
 is_round_kind _ = false
 
-abbrev pub is_byte : Option ℕ → ℕ → Bool
-is_byte None byte = false
-is_byte (Some found) byte = found == byte
+abbrev pub is_found_byte : Option ℕ → ℕ → Bool
+is_found_byte None byte = false
+is_found_byte (Some found) byte = found == byte
 
 -- the token is this word
-abbrev pub is_word : List ℕ → LlvmToken → List ℕ → Bool
-is_word text tree word = is_word_kind tree.kind && bytes_eq (bytes_of_span text tree.span) word
+abbrev pub is_word_tree : List ℕ → LlvmToken → List ℕ → Bool
+is_word_tree text tree word = is_tree_of_word tree.kind && bytes_eq (bytes_of_span text tree.span) word
 
 -- the token begins with this byte
-abbrev pub begins_with : List ℕ → LlvmToken → ℕ → Bool
-begins_with text tree byte = is_byte (slice_get text tree.span.start) byte
+abbrev pub tree_begins_with : List ℕ → LlvmToken → ℕ → Bool
+tree_begins_with text tree byte = is_found_byte (slice_get text tree.span.start) byte
 
-abbrev pub is_comma : List ℕ → LlvmToken → Bool
-is_comma text tree = is_mark_kind tree.kind && begins_with text tree 44
+abbrev pub is_comma_tree : List ℕ → LlvmToken → Bool
+is_comma_tree text tree = is_tree_of_mark tree.kind && tree_begins_with text tree 44
 
 -- the tokens behind the first comma
 abbrev pub behind_comma : List ℕ → List LlvmToken → List LlvmToken
-behind_comma text trees = drop (suc (length (take_while (λ tree. not (is_comma text tree)) trees))) trees
+behind_comma text trees = drop (suc (length (take_while (λ tree. not (is_comma_tree text tree)) trees))) trees
 
 -- the tokens behind the first one that is this word
 abbrev pub behind_word : List ℕ → List ℕ → List LlvmToken → List LlvmToken
-behind_word text word trees = drop (suc (length (take_while (λ tree. not (is_word text tree word)) trees))) trees
+behind_word text word trees = drop (suc (length (take_while (λ tree. not (is_word_tree text tree word)) trees))) trees

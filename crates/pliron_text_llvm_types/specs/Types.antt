@@ -9,34 +9,34 @@ use Rattle.pliron_text_llvm_syntax.specs.declared.tokens.TokenKind.{TokenKind}
 use Rattle.pliron_text_llvm_syntax.specs.declared.tokens.TokenKind.TheVariants.{Word, Name, Text, Mark, Open}
 use Rattle.pliron_text_llvm_syntax.specs.declared.tokens.Bracket.{Bracket}
 use Rattle.pliron_text_llvm_syntax.specs.declared.tokens.Bracket.TheVariants.{Round}
-use Rattle.pliron_text_llvm_types.specs.Trees.{without_mark, AreTrees, is_round_kind, is_word, begins_with, behind_comma, behind_word}
+use Rattle.pliron_text_llvm_types.specs.Trees.{without_mark, AreTrees, is_round_kind, is_word_tree, tree_begins_with, behind_comma, behind_word}
 use Rattle.pliron_text_llvm_types.specs.declared.statements.TypeRule.{TypeRule}
 use Rattle.pliron_text_llvm_types.specs.declared.statements.TypeRule.TheVariants.{First, BehindComma, BehindTo, Truth, Address, Allocation, Exchange, Element, Shuffle, Member}
 
 -- one of the words is the name
-abbrev pub is_one_of : List (List ℕ) → List ℕ → Bool
-is_one_of [] name = false
-is_one_of (known ∷ names) name = bytes_eq name known || is_one_of names name
+abbrev pub is_word_of : List (List ℕ) → List ℕ → Bool
+is_word_of [] name = false
+is_word_of (known ∷ names) name = bytes_eq name known || is_word_of names name
 
 -- ---- types
 
 -- `i` and digits
-abbrev pub is_integer_type : List ℕ → Bool
-is_integer_type [] = false
-is_integer_type (first ∷ width) = first == 105 && not (length width == 0) && list_all is_ascii_digit width
+abbrev pub is_integer_word : List ℕ → Bool
+is_integer_word [] = false
+is_integer_word (first ∷ width) = first == 105 && not (length width == 0) && list_all is_ascii_digit width
 
 -- types of values that edges may pass; `target` has a bracket behind it
-abbrev pub type_words : List (List ℕ)
-type_words =
+abbrev pub passed_words : List (List ℕ)
+passed_words =
     codes "ptr" ∷ codes "double" ∷ codes "float" ∷ codes "half" ∷ codes "bfloat" ∷ codes "fp128" ∷ codes "x86_fp80" ∷
     codes "ppc_fp128" ∷ codes "x86_amx" ∷ codes "target" ∷ []
 
-abbrev pub is_type_word : List ℕ → Bool
-is_type_word word = is_integer_type word || is_one_of type_words word
+abbrev pub is_passed_word : List ℕ → Bool
+is_passed_word word = is_integer_word word || is_word_of passed_words word
 
 abbrev pub begins_type_by : List ℕ → LlvmToken → TokenKind → Bool
-begins_type_by text tree Word = is_type_word (bytes_of_span text tree.span)
-begins_type_by text tree Name = begins_with text tree 37
+begins_type_by text tree Word = is_passed_word (bytes_of_span text tree.span)
+begins_type_by text tree Name = tree_begins_with text tree 37
 begins_type_by text tree (Open Round) = false
 begins_type_by text tree (Open _) = true
 begins_type_by text tree _ = false
@@ -54,9 +54,9 @@ end_of_round (bracket ∷ trees) end = if is_round_kind bracket.kind then bracke
 abbrev pub end_of_type : List ℕ → LlvmToken → List LlvmToken → ℕ
 end_of_type text first [] = first.span.end
 end_of_type text first (next ∷ behind) =
-    if is_word text first (codes "ptr") && is_word text next (codes "addrspace")
+    if is_word_tree text first (codes "ptr") && is_word_tree text next (codes "addrspace")
     then end_of_round behind first.span.end
-    else if is_word text first (codes "target") then end_of_round (next ∷ behind) first.span.end else first.span.end
+    else if is_word_tree text first (codes "target") then end_of_round (next ∷ behind) first.span.end else first.span.end
 
 -- the type that the tokens begin with, none of bytes where they begin with something else
 abbrev pub type_in : List ℕ → List LlvmToken → List ℕ
@@ -67,7 +67,7 @@ type_in text (first ∷ behind) =
 abbrev pub is_flag_by : List ℕ → LlvmToken → TokenKind → Bool
 is_flag_by text tree Word = not (begins_type text tree)
 is_flag_by text tree Text = true
-is_flag_by text tree Mark = begins_with text tree 61
+is_flag_by text tree Mark = tree_begins_with text tree 61
 is_flag_by text tree (Open Round) = true
 is_flag_by text tree _ = false
 
@@ -119,9 +119,9 @@ other_rule opcode =
 
 abbrev pub rule_of : List ℕ → Option TypeRule
 rule_of opcode =
-    if is_one_of first_words opcode || is_one_of read_words opcode then Some First
-    else if is_one_of second_words opcode then Some BehindComma
-    else if is_one_of cast_words opcode then Some BehindTo
+    if is_word_of first_words opcode || is_word_of read_words opcode then Some First
+    else if is_word_of second_words opcode then Some BehindComma
+    else if is_word_of cast_words opcode then Some BehindTo
     else other_rule opcode
 
 -- the text is a bracket with `<`
@@ -130,13 +130,13 @@ is_angle [] = false
 is_angle (first ∷ rest) = first == 60
 
 -- what is between the first byte and the last one
-abbrev pub inside_of : List ℕ → List ℕ
-inside_of text = slice_range text 1 (length text - 1)
+abbrev pub inside_of_type : List ℕ → List ℕ
+inside_of_type text = slice_range text 1 (length text - 1)
 
 -- a vector of such elements, with as many as that one has: their number stands before an `x` inside it
 abbrev pub IsVectorLike : List ℕ → List ℕ → List ℕ → Type 0
 IsVectorLike vector element made =
-    (end : ℕ) × (made ≡ (60 ∷ []) ++ take end (inside_of vector) ++ (32 ∷ []) ++ element ++ 62 ∷ [])
+    (end : ℕ) × (made ≡ (60 ∷ []) ++ take end (inside_of_type vector) ++ (32 ∷ []) ++ element ++ 62 ∷ [])
 
 -- this type, or a vector of such elements where the other type is a vector
 abbrev pub IsAsMany : List ℕ → List ℕ → List ℕ → Type 0
@@ -163,9 +163,9 @@ IsTypeBy text trees (Some Address) made =
     (many : List ℕ) × IsAsMany many (type_in text (behind_comma text trees)) made
 IsTypeBy text trees (Some Allocation) made = (space : List ℕ) × (made ≡ pointer_to space)
 IsTypeBy text trees (Some Exchange) made = made ≡ codes "{ " ++ type_in text (behind_comma text trees) ++ codes ", i1 }"
-IsTypeBy text trees (Some Element) made = IsPiece (inside_of (first_type text trees)) made
+IsTypeBy text trees (Some Element) made = IsPiece (inside_of_type (first_type text trees)) made
 IsTypeBy text trees (Some Shuffle) made =
-    (element : List ℕ) × IsPiece (inside_of (first_type text trees)) element
+    (element : List ℕ) × IsPiece (inside_of_type (first_type text trees)) element
     × IsVectorLike (type_in text (behind_comma text (behind_comma text trees))) element made
 IsTypeBy text trees (Some Member) made = ⊤
 

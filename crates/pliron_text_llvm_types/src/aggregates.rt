@@ -1,6 +1,6 @@
 //! Types inside types.
 ghost use Rattle.std.specs.Prelude.{◌≡◌, ◌++◌, [], take, OnOk};
-ghost use Rattle.pliron_text_llvm_types.specs.Types.{is_angle, inside_of, IsPiece, IsVectorLike};
+ghost use Rattle.pliron_text_llvm_types.specs.Types.{is_angle, inside_of_type, IsPiece, IsVectorLike};
 
 use crate::named::NamedTypes;
 use crate::stop::TypeStop;
@@ -12,7 +12,7 @@ use std::alloc::Global;
 /// What is inside the bracket that the text is. Cost: constant.
 #[tactic(auto, using(crate::proofs::TypeLemmas::inside_none))]
 pub fn inside_of(text: &[u8]) -> &[u8]
-    ensures { result.now ≡ inside_of text.now }
+    ensures { result.now ≡ inside_of_type text.now }
 {
     if text.len() < 2 {
         return &[];
@@ -56,10 +56,15 @@ fn end_of_count(text: &[u8], trees: &[LlvmToken]) -> Option<usize> {
 fn up_to(text: &[u8], end: usize) -> &[u8]
     ensures { result.now ≡ take end text.now }
 {
-    if end >= text.len() { text } else { &text[..end] }
+    if end >= text.len() {
+        text
+    } else {
+        &text[..end]
+    }
 }
 
-/// Appends the type of vectors with as many elements as this one, of this type. Errors: it is no vector; allocation failure.
+/// Appends the type of vectors with as many elements as this one, of this type, to nothing. Asks that nothing is there yet.
+/// Errors: it is no vector; allocation failure.
 /// Cost: linear in the types.
 pub fn write_vector(
     alloc: Global,
@@ -94,10 +99,10 @@ fn behind_counts<'t>(text: &'t [u8], trees: &[LlvmToken]) -> &'t [u8]
     }
 }
 
-/// Appends the type of the elements of an array or a vector. Errors: it is neither; allocation failure. Cost: linear in it.
+/// Appends the type of the elements of an array or a vector. Asks that nothing is there yet. Errors: it is neither; allocation failure. Cost: linear in it.
 pub fn write_element(alloc: Global, list: &[u8], out: &mut Vec<u8>) -> Result<(), TypeStop>
     requires { out.old.items ≡ [] }
-    ensures { OnOk result (IsPiece (inside_of list.now) out.new.items) }
+    ensures { OnOk result (IsPiece (inside_of_type list.now) out.new.items) }
 {
     let inside = inside_of(list);
     let trees = trees_of(alloc, inside)?;
@@ -129,7 +134,8 @@ fn write_field(
     write_some(field_of(inside, &trees, index), out)
 }
 
-/// Appends the type of the member with this index of an array or a structure, which may be named. Errors: it has no such one;
+/// Appends the type of the member with this index of an array or a structure, which may be named. Asks that nothing is there
+/// yet. Errors: it has no such one;
 /// allocation failure. Cost: linear in it.
 pub fn write_member(
     alloc: Global,

@@ -6,8 +6,8 @@ use crate::named::NamedTypes;
 use crate::parameters::types_of_parameters;
 use crate::statements::type_of_statement;
 use crate::stop::TypeStop;
-use indexmap::IndexMap;
 use crate::walk::{first_block, first_operation, next_block, next_operation, num_argument};
+use indexmap::IndexMap;
 use pliron_core::{AttrObj, BasicBlock, Context, Head, Operation, Ptr, Value};
 use pliron_dialect_mlir::{Class, class_of_head, form_of, integer_of};
 use pliron_text_llvm_sheets::{LlvmSheet, ValueOrigin};
@@ -95,8 +95,7 @@ fn width_of(head: &Head) -> Option<u32> {
 
 /// What the sheet notes of the value. Cost: constant.
 pub(crate) fn origin_of(value: Value, sheet: &LlvmSheet) -> Option<ValueOrigin> {
-    let key = usize::try_from(value.key()).ok()?;
-    match sheet.value(key) {
+    match sheet.value(value.key() as usize) {
         Some(note) => Some(note.origin),
         None => None,
     }
@@ -226,14 +225,11 @@ impl TypeLearning {
         types: &mut ValueTypes,
         ctx: &Context,
     ) -> Result<(), AllocError> {
-        match (number, usize::try_from(value.key()), block) {
-            (Some(number), Ok(key), _) => types.set(key, number)?,
-            (_, _, Some(block)) => {
-                if !is_first(block, ctx) && is_used_elsewhere(value, block, ctx) {
-                    self.lacks = true;
-                }
-            }
-            _ => {}
+        if let Some(number) = number {
+            return types.set(value.key() as usize, number);
+        }
+        if let Some(block) = block {
+            self.lacks |= !is_first(block, ctx) && is_used_elsewhere(value, block, ctx);
         }
         Ok(())
     }

@@ -27,7 +27,10 @@ fn definition_in<'t>(text: &'t [u8], trees: &[LlvmToken]) -> Option<(&'t [u8], &
         start: word.span.end,
         end: text.len(),
     };
-    Some((bytes_in(text, name.span), bytes_in(text, definition).trim_ascii_start()))
+    Some((
+        bytes_in(text, name.span),
+        bytes_in(text, definition).trim_ascii_start(),
+    ))
 }
 
 impl NamedTypes {

@@ -1,8 +1,8 @@
 //! The types of what statements give.
 ghost use Rattle.std.specs.Prelude.{◌≡◌, ◌++◌, [], length, codes, IfOk, OnOk};
 ghost use Rattle.pliron_text_llvm_types.specs.Trees.{behind_comma, AreTrees};
-ghost use Rattle.pliron_text_llvm_types.specs.Types.{is_one_of, first_words, read_words, second_words, cast_words, other_rule, rule_of, first_type, type_in, pointer_to};
-ghost use Rattle.pliron_text_llvm_types.specs.Types.{IsAsMany, IsVectorLike, IsPiece, inside_of, IsTypeBy, opcode_of, IsStatementType, IsTypeOfText};
+ghost use Rattle.pliron_text_llvm_types.specs.Types.{is_word_of, first_words, read_words, second_words, cast_words, other_rule, rule_of, first_type, type_in, pointer_to};
+ghost use Rattle.pliron_text_llvm_types.specs.Types.{IsAsMany, IsVectorLike, IsPiece, inside_of_type, IsTypeBy, opcode_of, IsStatementType, IsTypeOfText};
 
 use crate::aggregates::{is_angle, write_element, write_member, write_some, write_vector};
 use crate::named::NamedTypes;
@@ -40,7 +40,7 @@ pub enum TypeRule {
 
 // Whether the statement is an operator of two operands, or changes a sign.
 fn is_operator(opcode: &[u8]) -> bool
-    ensures { result ≡ is_one_of first_words opcode.now }
+    ensures { result ≡ is_word_of first_words opcode.now }
 {
     opcode == b"add".as_slice()
         || opcode == b"sub".as_slice()
@@ -65,7 +65,7 @@ fn is_operator(opcode: &[u8]) -> bool
 
 // Whether the statement gives a value of the first type in it, and is no operator.
 fn gives_first(opcode: &[u8]) -> bool
-    ensures { result ≡ is_one_of read_words opcode.now }
+    ensures { result ≡ is_word_of read_words opcode.now }
 {
     opcode == b"load".as_slice()
         || opcode == b"call".as_slice()
@@ -82,7 +82,7 @@ fn gives_first(opcode: &[u8]) -> bool
 
 // Whether the statement gives a value of the type behind its first comma.
 fn gives_second(opcode: &[u8]) -> bool
-    ensures { result ≡ is_one_of second_words opcode.now }
+    ensures { result ≡ is_word_of second_words opcode.now }
 {
     opcode == b"select".as_slice()
         || opcode == b"atomicrmw".as_slice()
@@ -90,7 +90,7 @@ fn gives_second(opcode: &[u8]) -> bool
 }
 
 fn is_cast(opcode: &[u8]) -> bool
-    ensures { result ≡ is_one_of cast_words opcode.now }
+    ensures { result ≡ is_word_of cast_words opcode.now }
 {
     opcode == b"trunc".as_slice()
         || opcode == b"zext".as_slice()
@@ -251,7 +251,7 @@ fn write_shuffled(
     out: &mut Vec<u8>,
 ) -> Result<(), TypeStop>
     requires { out.old.items ≡ [] }
-    ensures { OnOk result ((element : List ℕ) × IsPiece (inside_of vector.now) element
+    ensures { OnOk result ((element : List ℕ) × IsPiece (inside_of_type vector.now) element
         × IsVectorLike mask.now element out.new.items) }
 {
     let mut element = Vec::new(alloc);

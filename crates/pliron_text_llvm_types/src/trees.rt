@@ -1,7 +1,7 @@
 //! Tokens of a text, each bracket with all that is in it.
 ghost use Rattle.std.specs.Prelude.{◌≡◌, ◌≤◌, [], length, drop, map, IfOk, OnOk};
 ghost use Rattle.pliron_text_llvm_syntax.specs.Lexing.{is_trivia};
-ghost use Rattle.pliron_text_llvm_types.specs.Trees.{without_mark, AreTrees, is_word_kind, is_mark_kind, is_word, begins_with, is_comma, behind_comma, behind_word};
+ghost use Rattle.pliron_text_llvm_types.specs.Trees.{without_mark, AreTrees, is_tree_of_word, is_tree_of_mark, is_word_tree, tree_begins_with, is_comma_tree, behind_comma, behind_word};
 
 use crate::stop::TypeStop;
 use pliron_text_llvm_names::bytes_in;
@@ -72,28 +72,28 @@ pub fn behind(trees: &[LlvmToken], count: usize) -> &[LlvmToken]
 
 // Whether a token is a word.
 fn is_word_kind(kind: TokenKind) -> bool
-    ensures { result ≡ is_word_kind kind }
+    ensures { result ≡ is_tree_of_word kind }
 {
     matches!(kind, TokenKind::Word)
 }
 
 // Whether a token is a mark.
 fn is_mark_kind(kind: TokenKind) -> bool
-    ensures { result ≡ is_mark_kind kind }
+    ensures { result ≡ is_tree_of_mark kind }
 {
     matches!(kind, TokenKind::Mark)
 }
 
 /// Whether the token is this word. Cost: linear in it.
 pub fn is_word(text: &[u8], tree: &LlvmToken, word: &[u8]) -> bool
-    ensures { result ≡ is_word text.now tree.now word.now }
+    ensures { result ≡ is_word_tree text.now tree.now word.now }
 {
     is_word_kind(tree.kind) && bytes_in(text, tree.span) == word
 }
 
 /// Whether the token begins with this byte. Cost: constant.
 pub fn begins_with(text: &[u8], tree: &LlvmToken, byte: u8) -> bool
-    ensures { result ≡ begins_with text.now tree.now byte }
+    ensures { result ≡ tree_begins_with text.now tree.now byte }
 {
     match text.get(tree.span.start) {
         Some(first) => *first == byte,
@@ -103,7 +103,7 @@ pub fn begins_with(text: &[u8], tree: &LlvmToken, byte: u8) -> bool
 
 /// Whether the token is a comma. Cost: constant.
 pub fn is_comma(text: &[u8], tree: &LlvmToken) -> bool
-    ensures { result ≡ is_comma text.now tree.now }
+    ensures { result ≡ is_comma_tree text.now tree.now }
 {
     is_mark_kind(tree.kind) && begins_with(text, tree, b',')
 }

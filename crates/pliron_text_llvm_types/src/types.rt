@@ -3,7 +3,7 @@ ghost use Rattle.std.specs.Prelude.{◌≡◌};
 ghost use Rattle.std.specs.List.{list_all};
 ghost use Rattle.std.specs.Char.{is_ascii_digit};
 ghost use Rattle.pliron_text_llvm_types.specs.Trees.{is_round_kind};
-ghost use Rattle.pliron_text_llvm_types.specs.Types.{is_one_of, is_integer_type, type_words, begins_type, end_of_round, end_of_type, type_in, is_flag, behind_flags};
+ghost use Rattle.pliron_text_llvm_types.specs.Types.{is_word_of, is_integer_word, passed_words, begins_type, end_of_round, end_of_type, type_in, is_flag, behind_flags};
 
 use crate::trees::{begins_with, behind, is_word};
 use pliron_text_llvm_names::bytes_in;
@@ -18,7 +18,7 @@ fn are_digits(bytes: &[u8]) -> bool
 
 // Whether the word is `i` and a number.
 fn is_integer_type(word: &[u8]) -> bool
-    ensures { result ≡ is_integer_type word.now }
+    ensures { result ≡ is_integer_word word.now }
 {
     match word {
         [first, width @ ..] => *first == b'i' && !width.is_empty() && are_digits(width),
@@ -28,7 +28,7 @@ fn is_integer_type(word: &[u8]) -> bool
 
 // Whether the word is a type of values that isn't an integer, or begins one.
 fn is_other_type(word: &[u8]) -> bool
-    ensures { result ≡ is_one_of type_words word.now }
+    ensures { result ≡ is_word_of passed_words word.now }
 {
     word == b"ptr".as_slice()
         || word == b"double".as_slice()
