@@ -46,8 +46,7 @@ fn note_values<S: StageSheet>(
 }
 
 impl<D: Dialect + InliningDialect, S: StageSheet + InliningSheet> ModuleStage<D, S>
-    for InliningStage
-{
+    for InliningStage {
     ghost makes = { λ t u root. (callees : List ℕ) × AreInlined D.meaning D.convention t u callees };
 
     fn apply(alloc: Global, document: &mut Document<S>, ctx: &mut Context) -> Result<(), OptError> {

@@ -1,7 +1,6 @@
 //! What may be copied from one function to another.
-ghost use Rattle.std.specs.Prelude.{◌≡◌};
-ghost use Rattle.std.specs.List.{take_while};
-ghost use Rattle.pliron_text_llvm_syntax.specs.Tokens.{is_word_byte};
+ghost use Rattle.std.specs.Prelude.{◌≡◌, ◌≤◌, length, take};
+ghost use Rattle.pliron_text_llvm_syntax.specs.Lexing.{word_len};
 
 use crate::words::{OWN_METADATA, is_one_of};
 use pliron_text_llvm_syntax::is_word_byte;
@@ -9,12 +8,19 @@ use pliron_text_llvm_syntax::is_word_byte;
 // Calls that say more of their function's frame than plain ones begin so.
 static FRAME_CALLS: [&str; 3] = ["tail", "musttail", "notail"];
 
+// How many bytes of words the text begins with.
+fn word_len(text: &[u8]) -> usize
+    ensures exact { result ≡ word_len text.now }
+    ensures within { result ≤ length text.now }
+{
+    text.iter().take_while(|byte| is_word_byte(**byte)).count()
+}
+
 /// The word with which the text begins. Cost: its length.
 pub(crate) fn first_word(text: &[u8]) -> &[u8]
-    ensures { result.now ≡ take_while is_word_byte text.now }
+    ensures { result.now ≡ take (word_len text.now) text.now }
 {
-    let len = text.iter().take_while(|byte| is_word_byte(**byte)).count();
-    &text[..len]
+    &text[..word_len(text)]
 }
 
 // The name of metadata with its `!` with which the bytes begin.

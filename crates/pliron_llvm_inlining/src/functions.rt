@@ -32,8 +32,9 @@ pub(crate) fn function_marks(
     let mut marks = AttributeMarks::new(alloc);
     marks.add_all_behind(tokens, parts.behind, groups)?;
     let is_private = has_word_of(tokens, 1, parts.name, &PRIVATE);
-    let is_kept =
-        is_private || !may_be_replaced || has_word_of(tokens, 1, parts.name, &["dso_local"]);
+    let is_kept = is_private
+        || !may_be_replaced
+        || has_word_of(tokens, 1, parts.name, &["dso_local"]);
     let is_other = has_word_of(tokens, 1, parts.name, &INEXACT)
         || has_word_of(tokens, parts.open, parts.behind, &PASSED_OTHERWISE);
     Ok(FunctionMarks {

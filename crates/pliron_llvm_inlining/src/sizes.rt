@@ -33,10 +33,7 @@ fn size_of_call(text: &[u8]) -> u32 {
         Some(name)
             if FREE_INTRINSICS
                 .iter()
-                .any(|it| name.starts_with(it.as_bytes())) =>
-        {
-            0
-        }
+                .any(|it| name.starts_with(it.as_bytes())) => { 0 }
         Some(_) => 1,
         None => CALL_SIZE,
     }

@@ -45,7 +45,10 @@ impl<'t> TokenList<'t> {
 
     /// The bytes from the first of these tokens on, up to the one that is no more of them. Cost: constant.
     pub fn text_between(&self, first: usize, end: usize) -> &'t [u8] {
-        match (self.tokens.get(first), self.tokens.get(end.saturating_sub(1))) {
+        match (
+            self.tokens.get(first),
+            self.tokens.get(end.saturating_sub(1)),
+        ) {
             (Some(from), Some(last)) if first < end => {
                 let span = ByteSpan {
                     start: from.span.start,

@@ -1,20 +1,34 @@
 //! The types of what calls pass.
-ghost use Rattle.std.specs.Prelude.{◌≡◌, ◌==◌, map, IfOk};
-ghost use Rattle.std.specs.List.{slice_split};
+ghost use Rattle.std.specs.Prelude.{◌≡◌, ◌≤◌, length, IfOk};
 ghost use Rattle.pliron_text_llvm_reader.specs.Callees.{from_sign as from_sign_of};
-ghost use Rattle.pliron_text_llvm_classes.specs.CallArguments.{behind_separators, first_word, from_bracket, behind_first, passed_in, argument_widths};
+ghost use Rattle.pliron_text_llvm_classes.specs.CallArguments.{separators_len, plain_len, behind_separators, first_word, len_before_bracket, from_bracket, behind_first, passed_in, argument_widths};
 
 use crate::words::is_separator;
 use pliron_text_llvm_reader::from_sign;
 use pliron_text_mlir_syntax::width_of_type;
 use std::alloc::{AllocError, Global};
 
+// How many blanks and commas the text begins with.
+fn separators_len(text: &[u8]) -> usize
+    ensures exact { result ≡ separators_len text.now }
+    ensures within { result ≤ length text.now }
+{
+    text.iter().take_while(|byte| is_separator(**byte)).count()
+}
+
+// How many bytes are before the first blank or comma.
+fn plain_len(text: &[u8]) -> usize
+    ensures exact { result ≡ plain_len text.now }
+    ensures within { result ≤ length text.now }
+{
+    text.iter().take_while(|byte| !is_separator(**byte)).count()
+}
+
 // What is behind the blanks and commas with which the text begins.
 fn behind_separators(text: &[u8]) -> &[u8]
     ensures { result.now ≡ behind_separators text.now }
 {
-    let before = text.iter().take_while(|byte| is_separator(**byte)).count();
-    &text[before..]
+    &text[separators_len(text)..]
 }
 
 // The word that comes first.
@@ -22,16 +36,22 @@ fn first_word(text: &[u8]) -> &[u8]
     ensures { result.now ≡ first_word text.now }
 {
     let behind = behind_separators(text);
-    let len = behind.iter().take_while(|byte| !is_separator(**byte)).count();
-    &behind[..len]
+    &behind[..plain_len(behind)]
+}
+
+// How many bytes are before the first `(`.
+fn len_before_bracket(text: &[u8]) -> usize
+    ensures exact { result ≡ len_before_bracket text.now }
+    ensures within { result ≤ length text.now }
+{
+    text.iter().take_while(|byte| **byte != b'(').count()
 }
 
 // The text from its first `(` on.
 fn from_bracket(text: &[u8]) -> &[u8]
     ensures { result.now ≡ from_bracket text.now }
 {
-    let before = text.iter().take_while(|byte| **byte != b'(').count();
-    &text[before..]
+    &text[len_before_bracket(text)..]
 }
 
 // What is behind the first byte.

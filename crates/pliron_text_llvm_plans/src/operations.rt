@@ -8,8 +8,8 @@ use crate::debug::{
 use crate::given::{given_by_block, plan_definition};
 use crate::plan::{FunctionPlan, FunctionSource, OperationPlan, PlannedDefinition};
 use crate::statements::{read_form, statement_at};
-use crate::symbols::symbol_of_form;
 use crate::stop::PlanStop;
+use crate::symbols::symbol_of_form;
 use crate::values::plan_value;
 use pliron_text_llvm_classes::{FormCounts, operand_widths_of_form};
 use pliron_text_llvm_reader::StatementLayout;

@@ -87,7 +87,14 @@ fn push_holes(
     ensures { OnOk result (holes.new.items ≡ tree_holes_of text.now reading.now line.now) }
 {
     for number in line.first_hole..line.end_hole {
-        push_hole(alloc, text, reading, line.statement.row.reads, number, holes)?;
+        push_hole(
+            alloc,
+            text,
+            reading,
+            line.statement.row.reads,
+            number,
+            holes,
+        )?;
     }
     Ok(())
 }

@@ -24,15 +24,20 @@ passing_words =
 abbrev pub is_quoting_byte : ℕ → Bool
 is_quoting_byte byte = byte == 34 || byte == 59 || byte == 47
 
+-- one of those words is in the text
+abbrev pub has_passing_word : List ℕ → Bool
+has_passing_word text = list_any (λ word. is_one_of passing_words word) (slice_split (λ byte. not (is_word_byte byte)) text)
+
 -- no string and no comment is in the text, and none of those words
 abbrev pub passes_values : List ℕ → Bool
-passes_values text =
-    not (list_any is_quoting_byte text)
-    && not (list_any (λ word. is_one_of passing_words word) (slice_split (λ byte. not (is_word_byte byte)) text))
+passes_values text = not (list_any is_quoting_byte text) && not (has_passing_word text)
 
 -- the text from its first `@` on
+abbrev pub len_before_sign : List ℕ → ℕ
+len_before_sign text = length (take_while (λ byte. not (byte == 64)) text)
+
 abbrev pub from_sign : List ℕ → List ℕ
-from_sign text = drop (length (take_while (λ byte. not (byte == 64)) text)) text
+from_sign text = drop (len_before_sign text) text
 
 -- the name is that of a function, and no intrinsic
 abbrev pub is_function_name : List ℕ → Bool

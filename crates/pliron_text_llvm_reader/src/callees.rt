@@ -1,9 +1,9 @@
 //! What calls call.
-ghost use Rattle.std.specs.Prelude.{◌≡◌, ◌==◌, ◌<◌, not, slice_get};
+ghost use Rattle.std.specs.Prelude.{◌≡◌, ◌≤◌, length};
 ghost use Rattle.std.specs.List.{list_any};
 ghost use Rattle.pliron_text_llvm_syntax.specs.Lexing.{word_len};
 ghost use Rattle.pliron_text_llvm_reader.specs.Words.{is_one_of};
-ghost use Rattle.pliron_text_llvm_reader.specs.Callees.{passing_words, is_quoting_byte, passes_values, from_sign, is_function_name, name_before_bracket, name_behind_sign, callee_named, reads_arguments, row_in, option_now};
+ghost use Rattle.pliron_text_llvm_reader.specs.Callees.{passing_words, is_quoting_byte, has_passing_word, passes_values, len_before_sign, from_sign, is_function_name, name_before_bracket, name_behind_sign, callee_named, reads_arguments, row_in, option_now};
 
 use crate::table::{OpcodeRow, Reads};
 use pliron_text_llvm_syntax::is_word_byte;
@@ -33,14 +33,34 @@ fn is_quoting_byte(byte: u8) -> bool
     byte == b'"' || byte == b';' || byte == b'/'
 }
 
+// Whether the text has a string or a comment.
+fn has_quoting_byte(text: &[u8]) -> bool
+    ensures { result ≡ list_any is_quoting_byte text.now }
+{
+    text.iter().any(|byte| is_quoting_byte(*byte))
+}
+
+// Whether the text has one of those words.
+fn has_passing_word(text: &[u8]) -> bool
+    ensures { result ≡ has_passing_word text.now }
+{
+    text.split(|byte| !is_word_byte(*byte))
+        .any(|word| is_passing_word(word))
+}
+
 // Whether the text has no string, no comment, and none of those words.
 fn passes_values(text: &[u8]) -> bool
     ensures { result ≡ passes_values text.now }
 {
-    !text.iter().any(|byte| is_quoting_byte(*byte))
-        && !text
-            .split(|byte| !is_word_byte(*byte))
-            .any(|word| is_passing_word(word))
+    !has_quoting_byte(text) && !has_passing_word(text)
+}
+
+// How many bytes are before the first `@`.
+fn len_before_sign(text: &[u8]) -> usize
+    ensures exact { result ≡ len_before_sign text.now }
+    ensures within { result ≤ length text.now }
+{
+    text.iter().take_while(|byte| **byte != b'@').count()
 }
 
 /// The text from its first `@` on. Cost: linear in it.
@@ -48,8 +68,7 @@ fn passes_values(text: &[u8]) -> bool
 pub fn from_sign(text: &[u8]) -> &[u8]
     ensures { result.now ≡ from_sign text.now }
 {
-    let before = text.iter().take_while(|byte| **byte != b'@').count();
-    &text[before..]
+    &text[len_before_sign(text)..]
 }
 
 // Whether the name is that of a function, and no intrinsic.

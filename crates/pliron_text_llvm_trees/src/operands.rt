@@ -96,7 +96,14 @@ pub fn push_operands(
     ensures { OnOk result (operands.new.items ≡ statement_operands text.now reading.now line.now) }
 {
     for hole in line.first_hole..line.end_hole {
-        push_operand(alloc, text, reading, line.statement.row.reads, hole, operands)?;
+        push_operand(
+            alloc,
+            text,
+            reading,
+            line.statement.row.reads,
+            hole,
+            operands,
+        )?;
     }
     Ok(())
 }
