@@ -12,7 +12,7 @@ use pliron_laws::Dialect;
 use pliron_text_llvm_building::{BuildStop, build_function};
 use pliron_text_llvm_modules::{ModuleFunction, ReadFunction, ReadPart};
 use pliron_text_llvm_names::bytes_in;
-use pliron_text_llvm_parts::{ModuleSheet, SheetPart};
+use pliron_text_llvm_parts::{ModuleSheet, SheetPart, TakenBlock};
 use pliron_text_llvm_plans::FunctionSource;
 use pliron_text_llvm_sheets::LlvmSheet;
 use pliron_text_llvm_syntax::FunctionText;
@@ -93,41 +93,27 @@ fn build_read<D: Dialect>(
     }
 }
 
-// Notes which blocks of what is made of the function, whose name has this number, are taken. It is kept where some of them
-// aren't its blocks.
-fn with_taken(
-    text: &[u8],
-    function: &FunctionText,
-    made: DocumentFunction,
-    number: usize,
-    ctx: &Context,
-    document: &mut DocumentParts,
-) -> Result<DocumentFunction, AllocError>
-    requires { IsMadeOf text.now function.now document.old.sheet.functions ctx.now.tree made }
-    ensures made { IfOk result (λ made.
-        IsMadeOf text.now function.now document.new.sheet.functions ctx.now.tree made) }
-    ensures sheet { document.new.sheet.functions ≡ document.old.sheet.functions }
-    ensures parts { document.new.sheet.parts ≡ document.old.sheet.parts }
-    ensures text { document.new.sheet.text ≡ document.old.sheet.text }
-{
-    let DocumentFunction::Tree(root) = made else {
-        return Ok(made);
-    };
-    let sheet = &mut document.sheet;
-    if note_taken(
-        root,
-        number,
-        &sheet.functions,
-        ctx,
-        &mut document.taken,
-        &mut sheet.taken,
-    )? {
-        return Ok(made);
-    }
-    Ok(DocumentFunction::Kept(KeptPart {
+// A function is kept of which blocks are taken that aren't known.
+fn kept_for_blocks(function: &FunctionText) -> KeptPart {
+    KeptPart {
         place: function.span.start,
         reason: KeptForDocument::Named,
-    }))
+    }
+}
+
+// Notes which blocks of what is made of a function, whose name has this number, are taken; whether all of them are noted.
+fn note_made(
+    made: DocumentFunction,
+    number: usize,
+    sheet: &LlvmSheet,
+    ctx: &Context,
+    taken: &mut TakenAddresses,
+    noted: &mut Vec<TakenBlock>,
+) -> Result<bool, AllocError> {
+    match made {
+        DocumentFunction::Tree(root) => note_taken(root, number, sheet, ctx, taken, noted),
+        DocumentFunction::Kept(_) => Ok(true),
+    }
 }
 
 // Builds the function that was read, where each of its blocks whose address is taken has a name that is printed.
@@ -150,12 +136,15 @@ fn build_named<D: Dialect>(
         TakenBlocks::Nothing => build_read::<D>(text, function, read, ctx, document),
         TakenBlocks::Named(number) => {
             let made = build_read::<D>(text, function, read, ctx, document)?;
-            with_taken(text, function, made, number, ctx, document)
+            let sheet = &mut document.sheet;
+            let taken = &mut document.taken;
+            if note_made(made, number, &sheet.functions, ctx, taken, &mut sheet.taken)? {
+                Ok(made)
+            } else {
+                Ok(DocumentFunction::Kept(kept_for_blocks(function)))
+            }
         }
-        TakenBlocks::Unknown => Ok(DocumentFunction::Kept(KeptPart {
-            place: function.span.start,
-            reason: KeptForDocument::Named,
-        })),
+        TakenBlocks::Unknown => Ok(DocumentFunction::Kept(kept_for_blocks(function))),
     }
 }
 
