@@ -5,7 +5,8 @@ use pliron_driver_host::ProgramHelp;
 static AFTER: &str = "\
 The text is a module in LLVM's textual IR. Standard output is a module and
 nothing else; whether it changed stands on standard error. A function that
-isn't understood is written as it was.
+isn't understood is written as it was. Where llvm-dis-22 and llvm-as-22 are
+there, FILE may be bitcode, and `-o FILE.bc` is written as bitcode.
 
 Statuses: 0 where the answer is written; 1 where memory or the passes were
 refused; 2 for words, files and texts that can't be used, or where writing

@@ -1,4 +1,5 @@
 //! Why a module isn't answered.
+use crate::other_form::OtherForm;
 use pliron_driver::TextFailure;
 use pliron_driver_modules::ModuleSource;
 use pliron_laws::OptError;
@@ -16,6 +17,8 @@ pub enum ExpectedInModule {
     Syntax(ExpectedSyntax),
     /// Of a function.
     Function(ModuleRefusal),
+    /// Of a file that isn't in this notation.
+    Form(OtherForm),
 }
 
 /// Where a text is no module of LLVM's, and what was expected there.
@@ -57,6 +60,14 @@ pub(crate) fn failure_of(fault: DocumentFault) -> LlvmFailure {
     }
 }
 
+/// Why a file isn't answered that isn't in this notation. Cost: constant.
+pub(crate) fn failure_of_form(form: OtherForm) -> LlvmFailure {
+    TextFailure::Text(LlvmTextFault {
+        place: 0,
+        expected: ExpectedInModule::Form(form),
+    })
+}
+
 /// Why a module isn't printed. Cost: constant.
 pub(crate) fn error_of(stop: PrintStop) -> OptError {
     match stop {
@@ -68,8 +79,9 @@ pub(crate) fn error_of(stop: PrintStop) -> OptError {
 // What was expected, in words.
 fn write_expected(expected: ExpectedInModule, message: &mut String) -> Result<(), AllocError> {
     match expected {
-        ExpectedInModule::Syntax(expected) => write!(message, "{expected}"),
-        ExpectedInModule::Function(refusal) => write!(message, "{refusal}"),
+        ExpectedInModule::Syntax(expected) => write!(message, "expected {expected}"),
+        ExpectedInModule::Function(refusal) => write!(message, "expected {refusal}"),
+        ExpectedInModule::Form(form) => write!(message, "{form}"),
     }
 }
 
@@ -81,7 +93,7 @@ fn fault_message(
 ) -> Result<String, AllocError> {
     let position = position_of(source.text, fault.place);
     let (name, line, column) = (source.name, position.line, position.column);
-    let mut message = format!(in alloc; "{name}:{line}:{column}: error: expected ")?;
+    let mut message = format!(in alloc; "{name}:{line}:{column}: error: ")?;
     write_expected(fault.expected, &mut message)?;
     message.push_str("\n")?;
     Ok(message)

@@ -9,7 +9,9 @@ mod failure;
 mod kept;
 mod notation;
 mod sheets;
+mod other_form;
 
 pub use closed::ClosedText;
 pub use failure::{ExpectedInModule, LlvmFailure, LlvmTextFault};
 pub use notation::{LlvmDocument, LlvmText, ModuleNotes};
+pub use other_form::OtherForm;

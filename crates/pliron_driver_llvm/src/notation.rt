@@ -2,8 +2,11 @@
 ghost use Rattle.pliron_driver.specs.Read.{PrintsKinds};
 ghost use Rattle.pliron_driver_modules.specs.Modules.{ReadsModule};
 
-use crate::failure::{LlvmFailure, LlvmTextFault, error_of, failure_message, failure_of};
+use crate::failure::{
+    LlvmFailure, LlvmTextFault, error_of, failure_message, failure_of, failure_of_form,
+};
 use crate::kept::notes_on;
+use crate::other_form::other_form;
 use pliron_core::Context;
 use pliron_dialect_edges::BranchesAtOnce;
 use pliron_driver::{Document, Notation};
@@ -76,6 +79,9 @@ impl<D: Dialect + BranchesAtOnce> Notation for LlvmText<D> {
         text: &[u8],
         ctx: &mut Context,
     ) -> Result<LlvmDocument, LlvmFailure> {
+        if let Some(form) = other_form(text) {
+            return Err(failure_of_form(form));
+        }
         match read_module::<D>(alloc, text, ctx) {
             Ok(module) => Ok(Document {
                 root: module.root,

@@ -1,7 +1,9 @@
 //! Modules that aren't written in the generic form of MLIR, by their first bytes.
 
-/// The bytes with which a file of LLVM's bitcode begins, and a file of MLIR's bytecode.
+/// The bytes with which a file of LLVM's bitcode begins; one with a header before it; and a file of MLIR's bytecode.
 const BITCODE: &[u8] = b"BC\xC0\xDE";
+
+const WRAPPED_BITCODE: &[u8] = b"\xDE\xC0\x17\x0B";
 
 const BYTECODE: &[u8] = b"ML\xEFR";
 
@@ -25,9 +27,10 @@ fn begins_with(text: &[u8], start: &[u8]) -> bool {
 /// What a module is written in that the reader can't take, and which command of LLVM's makes the generic form of it; `None` of what
 /// begins as none of these. Cost: constant.
 pub(crate) fn other_form(text: &[u8]) -> Option<&'static str> {
-    if begins_with(text, BITCODE) {
+    if begins_with(text, BITCODE) || begins_with(text, WRAPPED_BITCODE) {
         return Some(
-            "this is LLVM's bitcode: `llvm-dis-22`, then `mlir-translate-22 --import-llvm --mlir-print-op-generic`",
+            "this is LLVM's bitcode: `plir_llvm` takes what `llvm-dis-22` makes of it, as does `mlir-translate-22 --import-llvm \
+             --mlir-print-op-generic`",
         );
     }
     if begins_with(text, BYTECODE) {
@@ -37,7 +40,9 @@ pub(crate) fn other_form(text: &[u8]) -> Option<&'static str> {
         .iter()
         .any(|start| begins_with(text, start.as_bytes()))
     {
-        return Some("this is LLVM IR: `mlir-translate-22 --import-llvm --mlir-print-op-generic`");
+        return Some(
+            "this is LLVM IR: `plir_llvm` takes it, or `mlir-translate-22 --import-llvm --mlir-print-op-generic` first",
+        );
     }
     None
 }

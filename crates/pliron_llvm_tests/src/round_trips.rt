@@ -56,7 +56,7 @@ fn printed_of_tree(
     match built {
         Ok(root) => {
             let mut out = Vec::new(alloc);
-            print_function(alloc, root, &sheet, ctx, &mut out)
+            print_function(alloc, root, &[], &sheet, ctx, &mut out)
                 .ok()
                 .expect(rt, "a text");
             in_one_line(alloc, &out).expect(rt, "memory")

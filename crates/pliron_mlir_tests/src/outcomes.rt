@@ -55,9 +55,9 @@ no passes --  :: \"m\"()  : ()->() => 0 \"m\"() : () -> ()| => unchanged|
 a word -- dce :: m => 2  => t:1:1: error: expected the name of an operation in quotes; \
     print with --mlir-print-op-generic|
 LLVM IR -- dce :: ; ModuleID = 'a.c'|source_filename = \"a.c\" => 2  => t: error: this is LLVM IR: \
-    `mlir-translate-22 --import-llvm --mlir-print-op-generic`|
+    `plir_llvm` takes it, or `mlir-translate-22 --import-llvm --mlir-print-op-generic` first|
 a function of LLVM IR -- dce :: define void @f() {|  ret void|} => 2  => t: error: this is LLVM IR: \
-    `mlir-translate-22 --import-llvm --mlir-print-op-generic`|
+    `plir_llvm` takes it, or `mlir-translate-22 --import-llvm --mlir-print-op-generic` first|
 a block that the region lacks -- dce :: \"m\"() ({|  \"a\"()[^b] : () -> ()|}) : () -> () => 2  => t:2:9: error: \
     expected a block of this region|
 no such pass -- dce,licm :: \"m\"() : () -> () => 2  => error: no such passes: dce,licm: at byte 5: expected \
@@ -116,6 +116,27 @@ static NOTHING: ModuleOptions = ModuleOptions {
     times: false,
     checks: false,
 };
+
+// What is said of a file in another notation, before what makes the generic form of it.
+fn said_of(rt: &impl Abort, alloc: Global, file: &[u8]) -> String {
+    let outcome = outcome_of(rt, alloc, "dce", file, &NOTHING);
+    let (said, _) = outcome
+        .report
+        .as_str()
+        .split_once(": `")
+        .expect(rt, "a hint");
+    String::from_str(alloc, said).expect(rt, "memory")
+}
+
+#[test]
+fn says_what_another_file_is(rt: HostRuntime) {
+    let said = said_of(&rt, rt.alloc(), b"BC\xC0\xDE\x35");
+    assert_eq!(rt; said.as_str(), "t: error: this is LLVM's bitcode");
+    let said = said_of(&rt, rt.alloc(), b"\xDE\xC0\x17\x0B\x00");
+    assert_eq!(rt; said.as_str(), "t: error: this is LLVM's bitcode");
+    let said = said_of(&rt, rt.alloc(), b"ML\xEFR\x0D");
+    assert_eq!(rt; said.as_str(), "t: error: this is MLIR's bytecode");
+}
 
 #[test]
 fn ends(rt: HostRuntime) {

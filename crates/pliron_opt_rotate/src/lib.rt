@@ -1,7 +1,7 @@
 //! Loops whose tests are moved to their ends: the header of a loop is copied for the edges that enter.
 //!
 //! A loop is one by dominance: its header dominates its latches, which lead back to the header. It is rotated if its header
-//! is left along two edges, one of them out of the loop, has few operations, and the latches only jump. What the header
+//! is left along two edges, one of them out of the loop, has few operations, branches enter, and the latches only jump. What the header
 //! defines and other blocks use is passed to the two blocks to which it leads, where those dominate the uses; else the loop
 //! stays. Afterwards the header is entered from the latches alone.
 //!
@@ -135,7 +135,7 @@ fn rotate_at<D: LengthensEdges, R: Rewriter + Room>(
     if !header.block.is_live(ctx) {
         return Ok(IRStatus::Unchanged);
     }
-    let planned = plan_rotation(alloc, header, ctx)?;
+    let planned = plan_rotation::<D>(alloc, header, ctx)?;
     match planned {
         Some(rotation) => rotate_so::<D, R>(alloc, op, &rotation, loops, ctx, rewriter),
         None => Ok(IRStatus::Unchanged),

@@ -7,7 +7,7 @@ use crate::headers::LoopHeader;
 use crate::walking::walk_back;
 use indexmap::IndexSet;
 use pliron_core::{BasicBlock, Context, Operation, Ptr, Value};
-use pliron_laws::OptError;
+use pliron_laws::{Dialect, OptError};
 use pliron_rewrite_loops::Gate;
 use pliron_rewrite_rotation::Rotation;
 use std::alloc::Global;
@@ -184,6 +184,19 @@ fn entering(
     Ok(entering)
 }
 
+// Whether each of them is a branch. Another operation's edges stay: to where an address leads the text may say by a name.
+fn are_branches<D: Dialect>(ops: &[Ptr<Operation>], ctx: &Context) -> bool {
+    for op in ops {
+        if !op.is_live(ctx) {
+            return false;
+        }
+        if !D::is_branch(*op, ctx) {
+            return false;
+        }
+    }
+    true
+}
+
 // What is passed to the gates, and for whom: these values of the loop with these blocks.
 fn fill(
     values: &[Value],
@@ -213,7 +226,7 @@ fn fill(
 }
 
 // How the loop is to be rotated, if it has the form of one that is.
-pub(crate) fn plan_rotation(
+pub(crate) fn plan_rotation<D: Dialect>(
     alloc: Global,
     header: &LoopHeader,
     ctx: &Context,
@@ -234,7 +247,7 @@ pub(crate) fn plan_rotation(
     };
     let values = values_made_in(alloc, block, ctx)?;
     let mut rotation = rotation_of(alloc, block, body, exit, entering);
-    if rotation.entering.is_empty() {
+    if rotation.entering.is_empty() || !are_branches::<D>(&rotation.entering, ctx) {
         return Ok(None);
     }
     if !fill(values.as_slice(), &inside, &mut rotation, ctx)? {

@@ -1,4 +1,5 @@
-//! Functions that other text names by their blocks.
+//! Blocks that text elsewhere names.
+use indexmap::IndexSet;
 use memchr::memmem;
 use pliron_text_mlir_syntax::Texts;
 use std::alloc::{AllocError, Global};
@@ -9,27 +10,82 @@ const ADDRESS_WORD: &[u8] = b"blockaddress";
 // Lines that begin so count uses.
 const ORDER_WORD: &[u8] = b"uselistorder";
 
-/// The functions of a text that are kept for what names their blocks.
+/// A block of a function, by the numbers of their names.
+#[derive(Clone, Copy, Debug, Drop, PartialEq, Eq, Hash)]
+struct TakenLabel {
+    function: usize,
+    label: usize,
+}
+
+/// Which blocks of a function have an address that is taken.
+#[derive(Clone, Copy, Debug, Drop, PartialEq, Eq)]
+pub enum TakenBlocks {
+    Nothing,
+    /// Some, all with names, of the function with this number.
+    Named(usize),
+    /// Some that aren't known.
+    Unknown,
+}
+
+/// The blocks of a text whose addresses are taken.
 #[derive(Drop)]
 pub struct TakenAddresses {
-    /// All are.
+    /// Whether they may be those of any function.
     all: bool,
-    /// The names of those that are, without `@` and quotes.
-    names: Texts,
+    /// The names of functions, without `@` and quotes.
+    functions: Texts,
+    /// By the numbers of these: how many blocks; none where some aren't known.
+    counts: Vec<Option<usize>>,
+    /// The names of blocks, without `%`.
+    labels: Texts,
+    blocks: IndexSet<TakenLabel>,
 }
 
 impl TakenAddresses {
-    /// Whether the function of this name, with its `@`, is one of them. Errors: allocation failure. Cost: its length.
-    pub fn has(&mut self, name: &[u8]) -> Result<bool, AllocError> {
+    // None yet.
+    fn new(alloc: Global) -> TakenAddresses {
+        TakenAddresses {
+            all: false,
+            functions: Texts::new(alloc),
+            counts: Vec::new(alloc),
+            labels: Texts::new(alloc),
+            blocks: IndexSet::new(alloc),
+        }
+    }
+
+    /// Which blocks of the function of this name, with its `@`, are among them. Errors: allocation failure. Cost: its length.
+    pub fn of(&mut self, name: &[u8]) -> Result<TakenBlocks, AllocError> {
         if self.all {
-            return Ok(true);
+            return Ok(TakenBlocks::Unknown);
         }
         let Some(plain) = plain_name(name) else {
-            return Ok(!self.names.is_empty());
+            return Ok(if self.functions.is_empty() {
+                TakenBlocks::Nothing
+            } else {
+                TakenBlocks::Unknown
+            });
         };
-        let known = self.names.len();
-        let number = self.names.number(plain)?;
-        Ok(number < known)
+        let number = self.functions.number(plain)?;
+        Ok(match self.counts.get(number) {
+            Some(Some(_)) => TakenBlocks::Named(number),
+            Some(None) => TakenBlocks::Unknown,
+            None => TakenBlocks::Nothing,
+        })
+    }
+
+    /// How many blocks of the function of this number are among them. Cost: constant.
+    pub fn num_block(&self, function: usize) -> usize {
+        match self.counts.get(function) {
+            Some(Some(count)) => *count,
+            _ => 0,
+        }
+    }
+
+    /// Whether the block with this name of the function of this number is among them. Errors: allocation failure. Cost: its
+    /// length.
+    pub fn has_block(&mut self, function: usize, name: &[u8]) -> Result<bool, AllocError> {
+        let label = self.labels.number(name)?;
+        Ok(self.blocks.contains(&TakenLabel { function, label }))
     }
 }
 
@@ -80,8 +136,8 @@ fn length_of_name(bytes: &[u8]) -> Option<usize> {
 enum Behind<'t> {
     /// No bracket: it isn't that word.
     Nothing,
-    /// A function of this name, with its `@`.
-    Name(&'t [u8]),
+    /// A function of this name, with its `@`, and what is behind it.
+    Name(&'t [u8], &'t [u8]),
     /// Something else.
     Other,
 }
@@ -94,7 +150,8 @@ fn name_before(bytes: &[u8]) -> Behind<'_> {
     };
     match length {
         Some(length) if length.saturating_add(1) < bytes.len() => {
-            Behind::Name(bytes.get(..length.saturating_add(1)).unwrap_or(&[]))
+            let (name, behind) = bytes.split_at(length.saturating_add(1));
+            Behind::Name(name, behind)
         }
         _ => Behind::Other,
     }
@@ -109,14 +166,52 @@ fn behind_word(bytes: &[u8]) -> Behind<'_> {
     }
 }
 
+// The name of a block, without its `%`, that stands before `)` behind a comma; none of one in quotes, and of a number.
+fn label_before(bytes: &[u8]) -> Option<&[u8]> {
+    let behind = behind_blanks(bytes).strip_prefix(b",".as_slice())?;
+    let label = behind_blanks(behind).strip_prefix(b"%".as_slice())?;
+    let length = label.iter().position(|byte| !is_name_byte(*byte))?;
+    let name = label.get(..length)?;
+    match behind_blanks(label.get(length..)?) {
+        [b')', ..] if name.iter().any(|byte| !byte.is_ascii_digit()) => Some(name),
+        _ => None,
+    }
+}
+
 impl TakenAddresses {
+    // The number of a function of which a block is taken.
+    fn number_of(&mut self, function: &[u8]) -> Result<usize, AllocError> {
+        let number = self.functions.number(function)?;
+        if number >= self.counts.len() {
+            self.counts.push(Some(0))?;
+        }
+        Ok(number)
+    }
+
+    // Adds a block of the function of this number: the one with this name, or one that isn't known.
+    fn add_block(&mut self, function: usize, name: Option<&[u8]>) -> Result<(), AllocError> {
+        let Some(name) = name else {
+            if function < self.counts.len() {
+                self.counts[function] = None;
+            }
+            return Ok(());
+        };
+        let label = self.labels.number(name)?;
+        let (_, is_new) = self.blocks.insert_full(TakenLabel { function, label })?;
+        if is_new && function < self.counts.len() {
+            self.counts[function] = self.counts[function].map(|count| count.saturating_add(1));
+        }
+        Ok(())
+    }
+
     // Adds what stands behind the word.
     fn add(&mut self, bytes: &[u8]) -> Result<(), AllocError> {
         match behind_word(bytes) {
             Behind::Nothing => {}
-            Behind::Name(name) => match plain_name(name) {
+            Behind::Name(name, behind) => match plain_name(name) {
                 Some(plain) => {
-                    self.names.number(plain)?;
+                    let function = self.number_of(plain)?;
+                    self.add_block(function, label_before(behind))?;
                 }
                 None => self.all = true,
             },
@@ -135,13 +230,11 @@ impl TakenAddresses {
     }
 }
 
-/// The functions of a text that are kept for what names their blocks: those that stand behind `blockaddress`, and where the
-/// text counts uses, or names one in another way, all. Errors: allocation failure. Cost: linear in the text.
+/// The blocks whose addresses are taken: those that stand behind `blockaddress`. Where the text counts uses, or names one
+/// in another way, those of any function may be. Errors: allocation failure. Cost: linear in the text.
 pub fn taken_addresses(alloc: Global, text: &[u8]) -> Result<TakenAddresses, AllocError> {
-    let mut taken = TakenAddresses {
-        all: memmem::find(text, ORDER_WORD).is_some(),
-        names: Texts::new(alloc),
-    };
+    let mut taken = TakenAddresses::new(alloc);
+    taken.all = memmem::find(text, ORDER_WORD).is_some();
     match taken.add_all(text) {
         Ok(()) => Ok(taken),
         Err(refused) => Err(refused),

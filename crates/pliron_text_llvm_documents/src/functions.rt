@@ -4,14 +4,15 @@ ghost use Rattle.pliron_text_llvm_sheets.specs.Sheets.{KeepsSheet};
 ghost use Rattle.pliron_text_llvm_modules.specs.Modules.{module_part_of};
 ghost use Rattle.pliron_text_llvm_documents.specs.Documents.{ArePartsOf, IsOneMore, IsMadeOf, KeepsHeads};
 
-use crate::addresses::TakenAddresses;
+use crate::addresses::{TakenAddresses, TakenBlocks};
 use crate::stop::{DocumentFault, KeptForDocument, KeptPart};
+use crate::taken::note_taken;
 use pliron_core::{Context, Operation, Ptr};
 use pliron_laws::Dialect;
 use pliron_text_llvm_building::{BuildStop, build_function};
 use pliron_text_llvm_modules::{ModuleFunction, ReadFunction, ReadPart};
 use pliron_text_llvm_names::bytes_in;
-use pliron_text_llvm_parts::{ModuleSheet, SheetPart};
+use pliron_text_llvm_parts::{ModuleSheet, SheetPart, TakenBlock};
 use pliron_text_llvm_plans::FunctionSource;
 use pliron_text_llvm_sheets::LlvmSheet;
 use pliron_text_llvm_syntax::FunctionText;
@@ -92,7 +93,62 @@ fn build_read<D: Dialect>(
     }
 }
 
-// Builds the function, where it was read and no other text names its blocks.
+// A function is kept of which blocks are taken that aren't known.
+fn kept_for_blocks(function: &FunctionText) -> KeptPart {
+    KeptPart {
+        place: function.span.start,
+        reason: KeptForDocument::Named,
+    }
+}
+
+// Notes which blocks of what is made of a function, whose name has this number, are taken; whether all of them are noted.
+fn note_made(
+    made: DocumentFunction,
+    number: usize,
+    sheet: &LlvmSheet,
+    ctx: &Context,
+    taken: &mut TakenAddresses,
+    noted: &mut Vec<TakenBlock>,
+) -> Result<bool, AllocError> {
+    match made {
+        DocumentFunction::Tree(root) => note_taken(root, number, sheet, ctx, taken, noted),
+        DocumentFunction::Kept(_) => Ok(true),
+    }
+}
+
+// Builds the function that was read, where each of its blocks whose address is taken has a name that is printed.
+#[tactic(auto, using(crate::proofs::PartLemmas::heads_kept, crate::proofs::PartLemmas::heads_added, pliron_text_llvm_sheets::proofs::KeepingLemmas::sheet_kept))]
+fn build_named<D: Dialect>(
+    text: &[u8],
+    function: &FunctionText,
+    read: &ReadFunction,
+    ctx: &mut Context,
+    document: &mut DocumentParts,
+) -> Result<DocumentFunction, AllocError>
+    ensures made { IfOk result (λ made.
+        IsMadeOf text.now function.now document.new.sheet.functions ctx.new.tree made) }
+    ensures heads { KeepsHeads ctx.old.tree ctx.new.tree }
+    ensures sheet { KeepsSheet document.old.sheet.functions document.new.sheet.functions }
+    ensures parts { document.new.sheet.parts ≡ document.old.sheet.parts }
+    ensures text { document.new.sheet.text ≡ document.old.sheet.text }
+{
+    match document.taken.of(bytes_in(text, function.name))? {
+        TakenBlocks::Nothing => build_read::<D>(text, function, read, ctx, document),
+        TakenBlocks::Named(number) => {
+            let made = build_read::<D>(text, function, read, ctx, document)?;
+            let sheet = &mut document.sheet;
+            let taken = &mut document.taken;
+            if note_made(made, number, &sheet.functions, ctx, taken, &mut sheet.taken)? {
+                Ok(made)
+            } else {
+                Ok(DocumentFunction::Kept(kept_for_blocks(function)))
+            }
+        }
+        TakenBlocks::Unknown => Ok(DocumentFunction::Kept(kept_for_blocks(function))),
+    }
+}
+
+// Builds the function, where it was read.
 #[tactic(auto, using(crate::proofs::PartLemmas::heads_kept, crate::proofs::PartLemmas::heads_added, pliron_text_llvm_sheets::proofs::KeepingLemmas::sheet_kept))]
 fn build_function_of<D: Dialect>(
     text: &[u8],
@@ -109,15 +165,7 @@ fn build_function_of<D: Dialect>(
     ensures text { document.new.sheet.text ≡ document.old.sheet.text }
 {
     match read {
-        ModuleFunction::Read(read) => {
-            if document.taken.has(bytes_in(text, function.name))? {
-                return Ok(DocumentFunction::Kept(KeptPart {
-                    place: function.span.start,
-                    reason: KeptForDocument::Named,
-                }));
-            }
-            build_read::<D>(text, function, read, ctx, document)
-        }
+        ModuleFunction::Read(read) => build_named::<D>(text, function, read, ctx, document),
         ModuleFunction::Kept(place, reason) => Ok(DocumentFunction::Kept(KeptPart {
             place: *place,
             reason: KeptForDocument::Reading(*reason),

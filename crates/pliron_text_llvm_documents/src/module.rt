@@ -141,6 +141,10 @@ fn build_module<D: Dialect>(
     ensures text { document.new.sheet.text ≡ document.old.sheet.text }
 {
     build_parts::<D>(text, read, ctx, document)?;
+    document
+        .sheet
+        .taken
+        .sort_by_key(|named| named.function.key())?;
     linked_root::<D>(document.alloc, &document.sheet.parts, ctx)
 }
 

@@ -22,7 +22,7 @@ pub enum KeptForDocument {
     Tree(KeptForTree),
     #[error("{0}")]
     Building(KeptForBuilding),
-    #[error("a block whose address is taken, or whose uses are counted")]
+    #[error("a block without a plain name whose address is taken, or one whose uses are counted")]
     Named,
 }
 

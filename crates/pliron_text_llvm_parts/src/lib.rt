@@ -3,4 +3,4 @@
 
 mod parts;
 
-pub use parts::{ModuleSheet, SheetPart};
+pub use parts::{ModuleSheet, SheetPart, TakenBlock};

@@ -1,5 +1,5 @@
 //! The parts of a module, and the sheet of its functions.
-use pliron_core::{Operation, Ptr};
+use pliron_core::{BasicBlock, Operation, Ptr};
 use pliron_text_llvm_sheets::LlvmSheet;
 use pliron_text_llvm_syntax::ByteSpan;
 use std::alloc::Global;
@@ -13,6 +13,14 @@ pub enum SheetPart {
     Function(Ptr<Operation>),
 }
 
+/// A block whose address is taken by its name.
+#[derive(Clone, Copy, Debug, Drop)]
+pub struct TakenBlock {
+    /// The function that it is read of.
+    pub function: Ptr<Operation>,
+    pub block: Ptr<BasicBlock>,
+}
+
 /// What the text of a module says beside its tree.
 #[derive(Drop)]
 pub struct ModuleSheet {
@@ -22,6 +30,8 @@ pub struct ModuleSheet {
     pub functions: LlvmSheet,
     /// In the order of the text.
     pub parts: Vec<SheetPart>,
+    /// In the order of the handles of functions.
+    pub taken: Vec<TakenBlock>,
 }
 
 impl ModuleSheet {
@@ -36,6 +46,7 @@ impl ModuleSheet {
             text: Vec::new(alloc),
             functions: LlvmSheet::new(alloc),
             parts: Vec::new(alloc),
+            taken: Vec::new(alloc),
         }
     }
 }

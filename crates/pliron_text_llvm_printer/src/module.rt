@@ -6,10 +6,37 @@ ghost use Rattle.pliron_text_llvm_printer.specs.PrintedModules.{AppendsPart, IsM
 
 use crate::print::print_function;
 use crate::stop::PrintStop;
-use pliron_core::Context;
+use pliron_core::{Context, Operation, Ptr};
 use pliron_text_llvm_names::bytes_in;
-use pliron_text_llvm_parts::{ModuleSheet, SheetPart};
+use pliron_text_llvm_parts::{ModuleSheet, SheetPart, TakenBlock};
 use std::alloc::Global;
+use std::cmp::Ordering;
+
+// Where the first block is that is in no function before the one with this key.
+fn first_taken_from(taken: &[TakenBlock], key: u64) -> usize {
+    match taken.binary_search_by(|named| {
+        if named.function.key() < key {
+            Ordering::Less
+        } else {
+            Ordering::Greater
+        }
+    }) {
+        Ok(at) => at,
+        Err(at) => at,
+    }
+}
+
+// The blocks of the function, of those that are sorted by functions.
+fn taken_of(taken: &[TakenBlock], root: Ptr<Operation>) -> &[TakenBlock] {
+    let behind = taken
+        .get(first_taken_from(taken, root.key())..)
+        .unwrap_or(&[]);
+    let count = behind
+        .iter()
+        .take_while(|named| named.function == root)
+        .count();
+    behind.get(..count).unwrap_or(&[])
+}
 
 // Appends the part.
 fn write_part(
@@ -23,7 +50,10 @@ fn write_part(
 {
     match part {
         SheetPart::Raw(span) => Ok(out.extend_from_slice(bytes_in(&sheet.text, span))?),
-        SheetPart::Function(root) => print_function(alloc, root, &sheet.functions, ctx, out),
+        SheetPart::Function(root) => {
+            let taken = taken_of(&sheet.taken, root);
+            print_function(alloc, root, taken, &sheet.functions, ctx, out)
+        }
     }
 }
 

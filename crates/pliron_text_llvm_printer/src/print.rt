@@ -10,6 +10,7 @@ use crate::stop::PrintStop;
 use crate::walk::{blocks_of, first_operation, next_operation, num_argument};
 use pliron_core::{AttrObj, BasicBlock, Context, Head, Operation, Ptr, Value};
 use pliron_dialect_mlir::{Class, class_of_head, form_of_constant, integer_of};
+use pliron_text_llvm_parts::TakenBlock;
 use pliron_text_llvm_sheets::{LlvmSheet, ValueOrigin};
 use pliron_text_llvm_syntax::{HoleKind, is_mark};
 use std::alloc::{AllocError, Global};
@@ -313,6 +314,23 @@ impl FunctionView<'_> {
         self.write_operations(block, out)
     }
 
+    // Appends a block of which the name is left.
+    fn write_gone(self, block: Ptr<BasicBlock>, out: &mut Vec<u8>) -> Result<(), PrintStop> {
+        out.push(b'\n')?;
+        self.numbers.write_block(block, self.sheet, out)?;
+        Ok(out.extend_from_slice(b":\n  unreachable\n")?)
+    }
+
+    // Appends those blocks that are gone.
+    fn write_all_gone(self, taken: &[TakenBlock], out: &mut Vec<u8>) -> Result<(), PrintStop> {
+        for named in taken {
+            if !named.block.is_live(self.ctx) {
+                self.write_gone(named.block, out)?;
+            }
+        }
+        Ok(())
+    }
+
     // Appends the blocks.
     fn write_blocks(self, blocks: &[Ptr<BasicBlock>], out: &mut Vec<u8>) -> Result<(), PrintStop> {
         for i in 0..blocks.len() {
@@ -346,10 +364,11 @@ fn write_function(
     Ok(out.push(b'}')?)
 }
 
-// The text of the blocks, by new numbers.
+// The text of the blocks, by new numbers, and of those that are gone.
 fn text_of_blocks(
     alloc: Global,
     blocks: &[Ptr<BasicBlock>],
+    taken: &[TakenBlock],
     sheet: &LlvmSheet,
     ctx: &Context,
     body: &mut Vec<u8>,
@@ -364,7 +383,8 @@ fn text_of_blocks(
                 edges: &edges,
                 ctx,
             };
-            view.write_blocks(blocks, body)
+            view.write_blocks(blocks, body)?;
+            view.write_all_gone(taken, body)
         }
         Err(stop) => Err(stop),
     }
@@ -372,13 +392,15 @@ fn text_of_blocks(
 
 /// Appends the text of a function: what was before its body, and its blocks. A statement has its form, with what stands
 /// for its operands and successors: a name that the text had, a new number, or the text of a constant. An argument of
-/// each block but the first is a phi.
+/// each block but the first is a phi. Of the blocks whose addresses are taken those that are gone, which no edge names any
+/// more, keep their names, so that text elsewhere still may name them: each is `unreachable` alone.
 ///
 /// Errors: a pass made something of it for which no text is known; allocation failure. A part of the text may be
 /// appended then. Cost: linear in what is printed, and a sort of the edges.
 pub fn print_function(
     alloc: Global,
     root: Ptr<Operation>,
+    taken: &[TakenBlock],
     sheet: &LlvmSheet,
     ctx: &Context,
     out: &mut Vec<u8>,
@@ -387,7 +409,7 @@ pub fn print_function(
 {
     let blocks = blocks_of(alloc, root, ctx)?;
     let mut body = Vec::new(alloc);
-    match text_of_blocks(alloc, &blocks, sheet, ctx, &mut body) {
+    match text_of_blocks(alloc, &blocks, taken, sheet, ctx, &mut body) {
         Ok(()) => write_function(root, &body, sheet, ctx, out),
         Err(stop) => Err(stop),
     }
